@@ -1,0 +1,11 @@
+pub mod Number
+pub mod Header
+pub mod Segment
+pub mod Dynamic
+pub mod Loads
+pub mod Address
+pub mod Relocation
+pub mod Table
+pub mod Place
+pub mod Refusal
+pub mod Object

@@ -1,0 +1,20 @@
+//! Which sectors of a disk are free, and which ones a file gets, exact to the sector.
+//!
+//! A `Layout` is the set of claimed sectors of a disk. Who opens a disk claims the sectors in use,
+//! and from then on takes free ones for each new file and releases those of old ones.
+//! The sectors 0 and 1 hold the roots: they are never given out.
+#![tactic(auto)]
+
+mod extent;
+mod extents;
+mod flags;
+mod layout;
+mod refusal;
+mod runs;
+#[cfg(test)]
+mod tests;
+
+pub use extent::Extent;
+pub use extents::Extents;
+pub use layout::Layout;
+pub use refusal::{ClaimRefusal, TakeRefusal};

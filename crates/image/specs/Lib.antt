@@ -1,0 +1,9 @@
+pub mod Permissions
+pub mod Placement
+pub mod Byte
+pub mod Image
+pub mod Refusal
+pub mod Text
+pub mod Page
+pub mod Layout
+pub mod View

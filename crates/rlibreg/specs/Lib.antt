@@ -1,0 +1,3 @@
+pub mod Base
+pub mod Refusal
+pub mod RunImage

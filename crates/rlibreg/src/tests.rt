@@ -1,0 +1,5 @@
+mod changes;
+mod linked;
+mod rows;
+mod sample;
+mod words;

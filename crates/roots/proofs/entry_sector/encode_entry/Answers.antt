@@ -1,0 +1,24 @@
+use Rattle.std.proofs.Common.{◌≡◌, ◌∙◌, length, ap, arith}
+use Rattle.std.proofs.lemmas.List.{append-nil}
+use Rattle.roots.specs.Entry.{entry_bytes}
+use Rattle.roots.proofs.Entries.{one_entry}
+use Rattle.roots.proofs.Written.{then_put, then_spelt, then_finish}
+use Rattle.roots.proofs.entry_sector.encode_entry.Goals as goal
+
+pub returns-clause-spelling : goal.returns-clause-spelling
+unfolding entry_bytes
+returns-clause-spelling c =
+    let none : length c.new-sector.result ≡ 0 = ap length c.new-sector.ensures in
+    then_finish _ _ _ 0 c.finish.ensures (omega (arith, c.requires.name.listed.size, c.requires.extents.listed.size)) (omega arith)
+    (then_put _ _ _ _ c.put_extents.ensures.fields
+    (then_put _ _ _ _ c.put-6.ensures.fields
+    (then_put _ _ _ _ c.put-5.ensures.fields
+    (then_spelt _ _ _ _ _ c.put-4.ensures.fields c.to_le_bytes-3.ensures
+    (then_spelt _ _ _ _ _ c.put-3.ensures.fields c.to_le_bytes-2.ensures
+    (then_spelt _ _ _ _ _ c.put-2.ensures.fields c.to_le_bytes.ensures
+    (then_put _ _ _ _ c.put.ensures.fields c.new-sector.ensures)))))))
+    ∙ append-nil _
+
+pub returns-clause-alone : goal.returns-clause-alone
+returns-clause-alone c other spells =
+    one_entry c.finish.result other c.args.entry.now spells (record { has_spelling = c.requires; spelling = returns-clause-spelling c })

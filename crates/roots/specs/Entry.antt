@@ -1,0 +1,58 @@
+-- An entry: which entries have a spelling, and the sector that spells one.
+use Rattle.std.specs.Prelude.{◌≡◌, ◌≢◌, ℕ, ◌+◌, ◌≤◌, List, ◌++◌, take, codes, sum_by}
+use Rattle.std.specs.List.{flat_map}
+use Rattle.std.specs.Int.{w16, w32, to_le_bytes, IsInRange, div_ceil}
+use Rattle.extents.specs.declared.extent.Extent.{Extent}
+use Rattle.roots.specs.declared.entry.Entry.{Entry}
+use Rattle.roots.specs.Fields.{zeros, UsesFirst}
+
+-- a byte of a name: 0x21 to 0x7e, and no `/`
+abbrev pub IsNameByte : ℕ → Type 0
+IsNameByte byte = IsInRange 0x21 0x7e byte × (byte ≢ 0x2f)
+
+-- a run of sectors that may hold a file's bytes, on the largest disk
+pub record IsDataExtent (extent : Extent) : Type 0 where
+  pub low : 2 ≤ extent.start
+  pub filled : 1 ≤ extent.count
+  pub high : extent.start + extent.count ≤ 4194304
+
+-- what an unused place for an extent holds
+abbrev pub no_extent : Extent
+no_extent = record { start = 0; count = 0 }
+
+-- an extent as two numbers
+abbrev pub extent_bytes : Extent → List ℕ
+extent_bytes extent = to_le_bytes w32 extent.start ++ to_le_bytes w32 extent.count
+
+-- the sector of an entry, field by field
+unfoldable pub entry_bytes : Entry → List ℕ
+entry_bytes entry =
+    codes "LIBE"  -- at byte 0
+    ++ to_le_bytes w32 entry.file_length  -- 4
+    ++ to_le_bytes w16 entry.name_length  -- 8
+    ++ to_le_bytes w16 entry.extent_count  -- 10
+    ++ zeros 4  -- 12
+    ++ entry.name  -- 16
+    ++ flat_map extent_bytes entry.extents  -- 256
+
+-- 240 places for the bytes of a name, which isn't empty
+pub record NameFits (entry : Entry) : Type 0 where
+  pub some : 1 ≤ entry.name_length
+  pub listed : UsesFirst 240 entry.name_length IsNameByte 0 entry.name
+
+-- 32 places for the extents, which have the sectors of the file: 512 bytes each, the last one perhaps in part
+pub record ExtentsFit (entry : Entry) : Type 0 where
+  pub some : 1 ≤ entry.extent_count
+  pub listed : UsesFirst 32 entry.extent_count IsDataExtent no_extent entry.extents
+  pub sum : sum_by (λ extent. extent.count) (take entry.extent_count entry.extents) ≡ div_ceil entry.file_length 512
+
+-- The limits of the fields: an entry has a spelling exactly where it keeps to them.
+pub record EntryHasSpelling (entry : Entry) : Type 0 where
+  pub file_length : IsInRange 64 16777216 entry.file_length
+  pub name : NameFits entry
+  pub extents : ExtentsFit entry
+
+-- a sector spells an entry
+pub record SpellsEntry (bytes : List ℕ) (entry : Entry) : Type 0 where
+  pub has_spelling : EntryHasSpelling entry
+  pub spelling : bytes ≡ entry_bytes entry

@@ -1,0 +1,6 @@
+pub mod Fields
+pub mod Root
+pub mod Slot
+pub mod Choice
+pub mod Entry
+pub mod Reading

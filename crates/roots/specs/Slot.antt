@@ -1,0 +1,12 @@
+-- What one of the two root sectors holds.
+use Rattle.std.specs.Prelude.{List, ℕ}
+use Rattle.roots.specs.declared.root.Root.{Root}
+use Rattle.roots.specs.declared.slot.Slot.{Slot}
+use Rattle.roots.specs.declared.slot.Slot.TheVariants.{Empty, Good, Bad}
+use Rattle.roots.specs.Root.{HasMagic, LacksMagic, SpellsRoot}
+
+-- Without the magic a sector is Empty; with it, Good where it spells a root, and else Bad.
+abbrev pub IsSlotOf : List ℕ → Slot → Type 0
+IsSlotOf bytes Empty = LacksMagic bytes
+IsSlotOf bytes (Good root) = SpellsRoot bytes root
+IsSlotOf bytes Bad = HasMagic bytes × ((root : Root) → SpellsRoot bytes root → ⊥)

@@ -1,0 +1,63 @@
+//! Which of two roots is current.
+
+ghost use Rattle.std.specs.Prelude.{◌≡◌, ◌↔◌, ℕ, List, Ok, Err};
+ghost use Rattle.roots.specs.declared.root.Root.{Root};
+ghost use Rattle.roots.specs.Root.{LacksMagic};
+ghost use Rattle.roots.specs.Slot.{IsSlotOf};
+ghost use Rattle.roots.specs.Choice.{chosen, IsCurrent};
+
+use crate::root::Root;
+use crate::slot::Slot;
+
+/// Why no root is current.
+#[derive(Clone, Copy, Debug, PartialEq, Eq)]
+pub enum ChooseRefusal {
+    /// Both slots are empty.
+    NotFormatted,
+    /// No stop of a registry leaves these slots.
+    Damaged,
+}
+
+/// The current root. Slot 0 is for even generations and slot 1 for odd ones.
+pub fn choose(slot0: Slot, slot1: Slot) -> Result<Root, ChooseRefusal>
+    ensures table { result ≡ chosen slot0 slot1 }
+
+    // Of any two sectors that these slots were read from, the answer is the current root,
+    ensures ok { (sector0 sector1 : List ℕ) → IsSlotOf sector0 slot0 → IsSlotOf sector1 slot1
+        → (root : Root) → (result ≡ Ok root) ↔ IsCurrent sector0 sector1 root }
+
+    // and NotFormatted where neither has the magic.
+    ensures refused { (sector0 sector1 : List ℕ) → IsSlotOf sector0 slot0 → IsSlotOf sector1 slot1
+        → (result ≡ Err ChooseRefusal.NotFormatted) ↔ (LacksMagic sector0 × LacksMagic sector1) }
+{
+    by_table(slot0, slot1)
+}
+
+// The answer by the table. What it means for the sectors follows from this.
+fn by_table(slot0: Slot, slot1: Slot) -> Result<Root, ChooseRefusal>
+    ensures { result ≡ chosen slot0 slot1 }
+{
+    match (slot0, slot1) {
+        (Slot::Good(even), Slot::Good(odd)) => later(even, odd),
+        (Slot::Good(root), Slot::Empty) if root.generation == 0 => Ok(root),
+        (Slot::Empty, Slot::Empty) => Err(ChooseRefusal::NotFormatted),
+        _ => Err(ChooseRefusal::Damaged),
+    }
+}
+
+// The later of two roots, where each stands in its slot and they differ by one commit.
+fn later(even: Root, odd: Root) -> Result<Root, ChooseRefusal>
+    ensures { result ≡ chosen (Slot.Good even) (Slot.Good odd) }
+{
+    if even.generation % 2 != 0
+        || odd.generation % 2 != 1
+        || even.generation.abs_diff(odd.generation) != 1
+    {
+        return Err(ChooseRefusal::Damaged);
+    }
+    if even.generation < odd.generation {
+        Ok(odd)
+    } else {
+        Ok(even)
+    }
+}

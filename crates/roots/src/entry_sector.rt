@@ -1,0 +1,66 @@
+//! An entry as a sector.
+
+ghost use Rattle.std.specs.Prelude.{◌≡◌, ◌↔◌, IsTrue, IfSome, Some};
+ghost use Rattle.roots.specs.declared.entry.Entry.{Entry};
+ghost use Rattle.roots.specs.Entry.{EntryHasSpelling, SpellsEntry, entry_bytes};
+ghost use Rattle.roots.specs.Reading.{entry_of};
+
+use crate::entry::{Entry, LONGEST_NAME};
+use crate::reading::{extents_at, u16_at, u32_at};
+use crate::writer::SectorWriter;
+
+const MAGIC: [u8; 4] = *b"LIBE";
+
+/// The sector that spells the entry. `Entry::has_spelling` tests its condition.
+pub fn encode_entry(entry: &Entry) -> [u8; 512]
+    requires { EntryHasSpelling entry.now }
+    ensures spelling { result ≡ entry_bytes entry.now }
+
+    // No other entry has this spelling.
+    ensures alone { (other : Entry) → SpellsEntry result other → other ≡ entry.now }
+{
+    let mut sector = SectorWriter::new();
+    sector.put(&MAGIC);
+    sector.put(&entry.file_length.to_le_bytes());
+    sector.put(&entry.name_length.to_le_bytes());
+    sector.put(&entry.extent_count.to_le_bytes());
+    sector.put(&[0; 4]);
+    sector.put(&entry.name);
+    sector.put_extents(&entry.extents);
+    sector.finish()
+}
+
+/// The entry that a sector spells; None where it spells none.
+pub fn decode_entry(bytes: &[u8; 512]) -> Option<Entry>
+    // What is read is spelt so.
+    ensures read { IfSome result (λ entry. SpellsEntry bytes.now entry) }
+
+    // What is spelt is read so.
+    ensures spelt { (entry : Entry) → SpellsEntry bytes.now entry → result ≡ Some entry }
+{
+    let entry = entry_fields(bytes);
+    spells(bytes, &entry).then_some(entry)
+}
+
+// Whether the sector is the entry's spelling.
+fn spells(bytes: &[u8; 512], entry: &Entry) -> bool
+    ensures { IsTrue result ↔ SpellsEntry bytes.now entry.now }
+{
+    entry.has_spelling() && *bytes == encode_entry(entry)
+}
+
+// What the fields say, within their limits or not.
+#[tactic(auto, unfolding(crate::specs::Reading::entry_of))]
+fn entry_fields(bytes: &[u8; 512]) -> Entry
+    ensures { result ≡ entry_of bytes.now }
+{
+    let mut name = [0; LONGEST_NAME];
+    name.copy_from_slice(&bytes[16..16 + LONGEST_NAME]);
+    Entry {
+        file_length: u32_at(bytes, 4),
+        name_length: u16_at(bytes, 8),
+        extent_count: u16_at(bytes, 10),
+        name,
+        extents: extents_at(bytes, 256),
+    }
+}

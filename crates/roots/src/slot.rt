@@ -1,0 +1,12 @@
+use crate::root::Root;
+
+/// What one of the two root sectors holds.
+#[derive(Clone, Copy, Debug, PartialEq, Eq)]
+pub enum Slot {
+    /// No root was written here: the magic is missing.
+    Empty,
+    /// The sector spells this root.
+    Good(Root),
+    /// The magic stands, and what follows it is no root.
+    Bad,
+}

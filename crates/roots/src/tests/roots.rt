@@ -1,0 +1,202 @@
+use super::changed;
+use crate::{Root, Slot, decode_root, encode_root};
+
+const FORMATTED: Root = Root {
+    generation: 0,
+    sectors: 8,
+    library_count: 0,
+    preload_count: 0,
+    preloads: [0; 16],
+    entry_sectors: [0; 100],
+};
+
+// A disk of 8 sectors: formatted, then a library is installed (data 2, entry 3), and replaced (data 4, entry 5).
+#[test]
+fn the_roots_of_a_young_registry_are_spelt_as_written_down(rt: HostRuntime) {
+    let mut formatted = [0; 512];
+    formatted[..24].copy_from_slice(&[
+        0x52, 0x4c, 0x49, 0x42, 0x52, 0x45, 0x47, 0x31, 0, 0, 0, 0, 0, 0, 0, 0, 8, 0, 0, 0, 0, 0,
+        0, 0,
+    ]);
+    let mut installed = formatted;
+    installed[8] = 1;
+    installed[20] = 1;
+    installed[64..68].copy_from_slice(&[3, 0, 0, 0]);
+    let mut replaced = installed;
+    replaced[8] = 2;
+    replaced[64] = 5;
+    for (sector, generation, library_count, entry_sector) in [
+        (formatted, 0, 0, 0),
+        (installed, 1, 1, 3),
+        (replaced, 2, 1, 5),
+    ] {
+        let mut root = Root {
+            generation,
+            library_count,
+            ..FORMATTED
+        };
+        root.entry_sectors[0] = entry_sector;
+        assert!(rt; root.has_spelling());
+        assert_eq!(rt; encode_root(&root), sector, "generation {generation}");
+        assert_eq!(rt;
+            decode_root(&sector),
+            Slot::Good(root),
+            "generation {generation}"
+        );
+    }
+}
+
+// Three libraries on 16 sectors, of which the first two are preloads.
+fn some_root() -> Root {
+    let mut root = Root {
+        generation: 2,
+        sectors: 16,
+        library_count: 3,
+        preload_count: 2,
+        ..FORMATTED
+    };
+    root.preloads[1] = 1;
+    root.entry_sectors[0] = 3;
+    root.entry_sectors[1] = 5;
+    root.entry_sectors[2] = 4;
+    root
+}
+
+fn some_sector() -> [u8; 512] {
+    let mut sector = [0; 512];
+    sector[..8].copy_from_slice(b"RLIBREG1");
+    sector[8] = 2;
+    sector[16] = 16;
+    sector[20] = 3;
+    sector[22] = 2;
+    sector[26] = 1;
+    sector[64] = 3;
+    sector[68] = 5;
+    sector[72] = 4;
+    sector
+}
+
+#[test]
+fn a_changed_byte_is_read_as_the_format_says(rt: HostRuntime) {
+    let sector = some_sector();
+    let root = some_root();
+    assert_eq!(rt; decode_root(&sector), Slot::Good(root));
+    for at in 0..8 {
+        assert_eq!(rt;
+            decode_root(&changed(&rt, &sector, at, 0)),
+            Slot::Empty,
+            "magic, byte {at}"
+        );
+    }
+    for at in (28..64).chain(76..512) {
+        assert_eq!(rt;
+            decode_root(&changed(&rt, &sector, at, 1)),
+            Slot::Bad,
+            "unused byte {at}"
+        );
+    }
+    for (what, at, byte) in [
+        ("7 sectors", 16, 7),
+        ("more than 4,194,304 sectors", 18, 0x40),
+        ("an entry sector past the count", 20, 2),
+        ("an empty place for an entry sector that counts", 20, 4),
+        ("259 libraries", 21, 1),
+        ("a preload past the count", 22, 1),
+        ("an empty place for a preload that counts", 22, 3),
+        ("258 preloads", 23, 1),
+        ("a preload that is listed twice", 24, 1),
+        ("a preload at the library count", 24, 3),
+        ("a preload far past the library count", 25, 1),
+        ("an entry in sector 0", 64, 0),
+        ("an entry in sector 1", 64, 1),
+        ("an entry sector that is listed twice", 64, 5),
+        ("the first and the last entry in one sector", 72, 3),
+        ("an entry in the sector past the disk's last", 68, 16),
+        ("an entry sector far past the disk", 71, 0x80),
+    ] {
+        assert_eq!(rt;
+            decode_root(&changed(&rt, &sector, at, byte)),
+            Slot::Bad,
+            "{what}"
+        );
+    }
+    let other = Root {
+        generation: 4,
+        ..root
+    };
+    assert_eq!(rt;
+        decode_root(&changed(&rt, &sector, 8, 4)),
+        Slot::Good(other)
+    );
+    let other = Root { sectors: 8, ..root };
+    assert_eq!(rt;
+        decode_root(&changed(&rt, &sector, 16, 8)),
+        Slot::Good(other)
+    );
+    for entry_sector in [2, 15] {
+        let mut other = root;
+        other.entry_sectors[0] = u32::from(entry_sector);
+        assert_eq!(rt;
+            decode_root(&changed(&rt, &sector, 64, entry_sector)),
+            Slot::Good(other)
+        );
+    }
+}
+
+// A hundred libraries and sixteen preloads, on the smallest disk that has room for their entries.
+#[test]
+fn a_full_root_is_read_and_no_larger_one(rt: HostRuntime) {
+    let mut root = Root {
+        generation: u64::MAX,
+        sectors: 102,
+        library_count: 100,
+        preload_count: 16,
+        ..FORMATTED
+    };
+    let mut sector = [0; 512];
+    sector[..24].copy_from_slice(&[
+        0x52, 0x4c, 0x49, 0x42, 0x52, 0x45, 0x47, 0x31, 255, 255, 255, 255, 255, 255, 255, 255,
+        102, 0, 0, 0, 100, 0, 16, 0,
+    ]);
+    for i in 0..16u8 {
+        root.preloads[usize::from(i)] = u16::from(i);
+        sector[24 + 2 * usize::from(i)] = i;
+    }
+    for i in 0..100u8 {
+        root.entry_sectors[usize::from(i)] = 2 + u32::from(i);
+        sector[64 + 4 * usize::from(i)] = 2 + i;
+    }
+    assert!(rt; root.has_spelling());
+    assert_eq!(rt; encode_root(&root), sector);
+    assert_eq!(rt; decode_root(&sector), Slot::Good(root));
+    assert_eq!(rt;
+        decode_root(&changed(&rt, &sector, 16, 101)),
+        Slot::Bad,
+        "one sector less"
+    );
+    assert_eq!(rt;
+        decode_root(&changed(&rt, &sector, 20, 101)),
+        Slot::Bad,
+        "101 libraries"
+    );
+    assert_eq!(rt;
+        decode_root(&changed(&rt, &sector, 22, 17)),
+        Slot::Bad,
+        "17 preloads"
+    );
+}
+
+#[test]
+fn a_disk_has_8_to_4194304_sectors(rt: HostRuntime) {
+    for (sectors, spelt) in [(7, false), (8, true), (4_194_304, true), (4_194_305, false)] {
+        assert_eq!(rt;
+            Root {
+                sectors,
+                ..FORMATTED
+            }
+            .has_spelling(),
+            spelt,
+            "{sectors} sectors"
+        );
+    }
+}

@@ -1,0 +1,8 @@
+mod Contents
+mod Fused
+mod Kept
+pub mod Mixtures
+pub mod Moments
+mod Settling
+mod Walks
+pub mod Writes

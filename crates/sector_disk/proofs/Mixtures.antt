@@ -1,0 +1,107 @@
+-- What one call does to the mixtures.
+use Rattle.std.proofs.Common.{◌≡◌, inl, inr, ⊎_elim, ℕ, ◌<◌, List, [], length, set, Result, OnOk, refl, sym, ◌∙◌, ap, subst}
+use Rattle.std.proofs.lemmas.Bool.{cases_eq}
+use Rattle.std.proofs.lemmas.List.{length-set, get_or-set_same, get_or-set_other, set-get_or, set-set, ext_get_or}
+use Rattle.std.proofs.lemmas.Result.{on_ok_weaker}
+use Rattle.sector_disk.specs.Disk.{Sector, sector, DiskFacts, Mixture, HoldsNow, IsRead, IsWrite, IsSync, LeavesNowAlone, IsSynced, SameBut, IsMixtureBut, IsOldOrSet, StartsWith}
+
+-- the same in all sectors is the same but for some
+pub same_itself : (places : ℕ → Type 0) (l : List Sector) → SameBut places l l
+same_itself places l = record { size = refl; others = λ k not. refl }
+
+-- the same but for some sectors, and again the same but for some
+pub same_more : {places more : ℕ → Type 0} {old mid new : List Sector} → ((k : ℕ) → places k → more k) → SameBut more old mid → SameBut places mid new → SameBut more old new
+same_more among first second = record { size = second.size ∙ first.size; others = λ k not. second.others k (λ here. not (among k here)) ∙ first.others k not }
+
+-- a sector is written, and the others stay
+pub same_set : (l : List Sector) (at : ℕ) (content : Sector) → SameBut (λ k. k ≡ at) l (set l at content)
+same_set l at content = record { size = length-set l at content; others = λ k other. get_or-set_other l at k content [] other }
+
+-- any mixture is one but for some sectors
+pub mixture_itself : {disk : DiskFacts} (places : ℕ → Type 0) (m : List Sector) → Mixture disk m → IsMixtureBut places disk m
+mixture_itself places m mixture = (m, mixture, same_itself places m)
+
+-- a mixture but for some sectors, of a disk whose mixtures are those of an older one but for more sectors
+pub mixture_but : {first old : DiskFacts} (places more : ℕ → Type 0) → ((k : ℕ) → places k → more k) → ((m : List Sector) → Mixture old m → IsMixtureBut more first m) → (m : List Sector) → IsMixtureBut places old m → IsMixtureBut more first m
+mixture_but places more among so_far m but = let was = so_far but.0 but.1 in (was.0, was.1, same_more among was.2 but.2)
+
+module _ {old new : DiskFacts} {at : ℕ} {content : Sector} {T E : Type 0} {result : Result T E} (holds : HoldsNow old) (write : IsWrite old new at content result) (m : List Sector) (mixture : Mixture new m) where
+  -- the mixture with the sector's old content put back
+  abbrev before : List Sector
+  before = set m at (sector old.now at)
+
+  lt_new : (k : ℕ) → k < old.sectors → k < new.sectors
+  lt_new k lt = subst (λ n. k < n) (sym write.past.sectors) lt
+
+  -- what the write didn't make was left before it
+  older : (k : ℕ) → k < old.sectors → ((k ≡ at) × (sector m k ≡ content) → old.may_leave old.time k (sector m k)) → old.may_leave old.time k (sector m k)
+  older k lt newer = ⊎_elim (λ was. was) newer (write.stop.each k (sector m k) (mixture.each k (lt_new k lt)))
+
+  before_left : (k : ℕ) → k < old.sectors → old.may_leave old.time k (sector before k)
+  before_left k lt =
+      let in_m : k < length m = subst (λ n. k < n) (sym mixture.size) (lt_new k lt) in
+      ⊎_elim
+      (λ same.
+      let is : sector before k ≡ sector old.now k = rw same (get_or-set_same m at (sector old.now at) [] (subst (λ j. j < length m) same in_m)) in
+      subst (λ c. old.may_leave old.time k c) (sym is) (holds.each k lt))
+      (λ other. subst (λ c. old.may_leave old.time k c) (sym (get_or-set_other m at k (sector old.now at) [] other)) (older k lt (λ this. absurd (other this.0))))
+      (cases_eq k at)
+
+  before_mixture : Mixture old before
+  before_mixture = record { size = length-set m at (sector old.now at) ∙ mixture.size ∙ write.past.sectors; each = before_left }
+
+  -- a mixture after a write is one from before it, but for that sector
+  pub after_write : IsMixtureBut (λ k. k ≡ at) old m
+  after_write = (before, before_mixture, record { size = sym (length-set m at (sector old.now at)); others = λ k other. sym (get_or-set_other m at k (sector old.now at) [] other) })
+
+  -- one write into a synced disk leaves the old sectors, or the new ones
+  pub one_write : at < old.sectors → IsSynced old → IsOldOrSet old.now at content m
+  one_write in_old is_synced = ⊎_elim was_old was_new (write.stop.each at (sector m at) (mixture.each at (lt_new at in_old)))
+    where
+      was_old : old.may_leave old.time at (sector m at) → IsOldOrSet old.now at content m
+      was_old left = inl (is_synced.each m (record {
+        size = mixture.size ∙ write.past.sectors;
+        each = λ k lt. older k lt (λ this. subst (λ j. old.may_leave old.time j (sector m j)) (sym this.0) left);
+      }))
+
+      was_new : (at ≡ at) × (sector m at ≡ content) → IsOldOrSet old.now at content m
+      was_new this = inr (
+          sym (set-get_or m at [])
+          ∙ ap (λ c. set m at c) this.1
+          ∙ sym (set-set m at (sector old.now at) content)
+          ∙ ap (λ l. set l at content) (is_synced.each before before_mixture)
+          )
+
+-- Where no set grows, there is no new mixture.
+pub after_sync : {old new : DiskFacts} {T E : Type 0} {result : Result T E} → IsSync old new result → (m : List Sector) → Mixture new m → Mixture old m
+after_sync sync m mixture = record {
+  size = mixture.size ∙ sync.past.sectors;
+  each = λ k lt. sync.stop.each k (sector m k) (mixture.each k (subst (λ n. k < n) (sym sync.past.sectors) lt));
+}
+
+-- a read makes no new mixture
+pub after_read : {old new : DiskFacts} {at : ℕ} {content : Sector} {T E : Type 0} {result : Result T E} → IsRead old new at content result → (m : List Sector) → Mixture new m → Mixture old m
+after_read read m mixture = record {
+  size = mixture.size ∙ read.past.sectors;
+  each = λ k lt. (read.same.stop k (sector m k)).0 (mixture.each k (subst (λ n. k < n) (sym read.past.sectors) lt));
+}
+
+-- Where each set holds what reads give alone, that is the one mixture.
+pub synced : {disk : DiskFacts} → HoldsNow disk → LeavesNowAlone disk → IsSynced disk
+synced {disk = disk} holds alone = record {
+  each = λ m mixture.
+      let lt_sectors = λ (k : ℕ) (lt : k < length m). subst (λ n. k < n) mixture.size lt in
+      ext_get_or [] m disk.now (mixture.size ∙ sym holds.size) (λ k lt. (alone.each k (sector m k) (lt_sectors k lt)).0 (mixture.each k (lt_sectors k lt)));
+}
+
+-- a sync that succeeds leaves what reads give alone
+pub synced_at_ok : {old new : DiskFacts} {T E : Type 0} {result : Result T E} → HoldsNow new → IsSync old new result → OnOk result (IsSynced new)
+synced_at_ok {result = result} holds sync = on_ok_weaker result (synced holds) sync.stop_ok
+
+-- a disk as it starts is synced
+pub starts_synced : {disk : DiskFacts} {contents : List Sector} → HoldsNow disk → StartsWith disk contents → IsSynced disk
+starts_synced holds starts = synced holds starts.alone
+
+-- a read leaves a synced disk so
+pub still_synced : {old new : DiskFacts} {at : ℕ} {content : Sector} {T E : Type 0} {result : Result T E} → IsRead old new at content result → IsSynced old → IsSynced new
+still_synced read is_synced = record { each = λ m mixture. is_synced.each m (after_read read m mixture) ∙ sym read.same.now }

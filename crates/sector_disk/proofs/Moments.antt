@@ -1,0 +1,77 @@
+-- How what a stop leaves goes on from call to call.
+use Rattle.std.proofs.Common.{◌≡◌, ⊎_elim, ℕ, ◌+◌, ◌<◌, ◌≤◌, List, Result, OnOk, OnErr, Ok, Err, refl, sym, ◌∙◌, subst, arith}
+use Rattle.std.proofs.lemmas.Bool.{cases_lt}
+use Rattle.sector_disk.specs.Disk.{Sector, DiskFacts, MixtureAt, Mixture, KeepsPast, IsCall, AreCalls, LeavesOnly}
+
+-- a mixture of a past moment was one then
+pub past_mixture : {old new : DiskFacts} → KeepsPast old new → (u : ℕ) → u ≤ old.time → (m : List Sector) → MixtureAt new u m → MixtureAt old u m
+past_mixture keeps u le m mixture = record {
+  size = mixture.size ∙ keeps.sectors;
+  each = λ k lt. (keeps.past u k _ le).0 (mixture.each k (subst (λ n. k < n) (sym keeps.sectors) lt));
+}
+
+-- the past stays over two calls
+pub keeps_past : {old mid new : DiskFacts} → KeepsPast old mid → KeepsPast mid new → KeepsPast old new
+keeps_past {mid = mid} first second = record {
+  sectors = second.sectors ∙ first.sectors;
+  later = omega (arith, first.later, second.later);
+  past = λ u k c le.
+      let le' : u ≤ mid.time = omega (arith, le, first.later) in
+      (λ now. (first.past u k c le).0 ((second.past u k c le').0 now), λ was. (second.past u k c le').1 ((first.past u k c le).1 was));
+}
+
+-- from old to new there is one call
+pub one_call : {old new : DiskFacts} {T E : Type 0} {result : Result T E} (P : List Sector → Type 0) → IsCall old new result → KeepsPast old new → ((m : List Sector) → Mixture old m → P m) → ((m : List Sector) → Mixture new m → P m) → LeavesOnly old new P
+one_call {old = old} {new = new} P call keeps before after = record {
+  past = keeps;
+  each = λ m left. ⊎_elim
+      (λ lt. let same : left.0 ≡ new.time = omega (arith, lt, left.2, call.time) in after m (subst (λ u. MixtureAt new u m) same left.3))
+      (λ le. let same : left.0 ≡ old.time = omega (arith, le, left.1) in before m (subst (λ u. MixtureAt old u m) same (past_mixture keeps left.0 le m left.3)))
+      (cases_lt old.time left.0);
+}
+
+-- and then there are more calls
+pub goes_on : {old mid new : DiskFacts} (P : List Sector → Type 0) → LeavesOnly old mid P → LeavesOnly mid new P → LeavesOnly old new P
+goes_on {mid = mid} P first second = record {
+  past = keeps_past first.past second.past;
+  each = λ m left. ⊎_elim
+      (λ lt. let le : mid.time ≤ left.0 = omega (arith, lt) in second.each m (left.0, le, left.2, left.3))
+      (λ le. first.each m (left.0, left.1, le, past_mixture second.past left.0 le m left.3))
+      (cases_lt mid.time left.0);
+}
+
+-- what is left has a weaker property too
+pub weaken : {old new : DiskFacts} (P Q : List Sector → Type 0) → ((m : List Sector) → P m → Q m) → LeavesOnly old new P → LeavesOnly old new Q
+weaken P Q to leaves = record { past = leaves.past; each = λ m left. to m (leaves.each m left) }
+
+-- there is no call
+pub at_rest : (disk : DiskFacts) (P : List Sector → Type 0) → ((m : List Sector) → Mixture disk m → P m) → LeavesOnly disk disk P
+at_rest disk P now = record {
+  past = record { sectors = refl; later = omega arith; past = λ u k c le. (λ x. x, λ x. x) };
+  each = λ m left. let same : left.0 ≡ disk.time = omega (arith, left.1, left.2) in now m (subst (λ u. MixtureAt disk u m) same left.3);
+}
+
+-- what is left since old at the present moment
+pub left_now : {old new : DiskFacts} (P : List Sector → Type 0) → LeavesOnly old new P → (m : List Sector) → Mixture new m → P m
+left_now {new = new} P leaves m mixture = leaves.each m (new.time, leaves.past.later, omega arith, mixture)
+
+-- no call is some calls
+pub no_calls : (disk : DiskFacts) → AreCalls disk disk
+no_calls disk = record { honest = refl; sectors = refl; later = omega arith; failures = omega arith }
+
+-- and so is one
+pub a_call : {old new : DiskFacts} {T E : Type 0} {result : Result T E} → IsCall old new result → AreCalls old new
+a_call {old = old} {new = new} {result = result} call = record { honest = call.honest; sectors = call.sectors; later = omega (arith, call.time); failures = counted result call.ok call.err }
+  where
+    counted : {T E : Type 0} → (result : Result T E) → OnOk result (new.failures ≡ old.failures) → OnErr result (new.failures ≡ old.failures + 1) → old.failures ≤ new.failures
+    counted (Ok x) ok err = omega (arith, ok)
+    counted (Err e) ok err = omega (arith, err)
+
+-- some calls, and then more
+pub more_calls : {old mid new : DiskFacts} → AreCalls old mid → AreCalls mid new → AreCalls old new
+more_calls first second = record {
+  honest = second.honest ∙ first.honest;
+  sectors = second.sectors ∙ first.sectors;
+  later = omega (arith, first.later, second.later);
+  failures = omega (arith, first.failures, second.failures);
+}

@@ -1,0 +1,76 @@
+-- One write on, where of the writes to each sector the one with some number is made.
+use Rattle.std.proofs.Common.{◌≡◌, ◌≢◌, ⊎_elim, ℕ, zero, suc, ◌-◌, ◌<◌, ◌≤◌, List, [], ◌∷◌, length, get_or, set, refl, sym, ◌∙◌, ap, subst, arith}
+use Rattle.std.proofs.lemmas.Bool.{cases_eq}
+use Rattle.std.proofs.lemmas.List.{get_or-set_same, get_or-set_other}
+use Rattle.sector_disk.specs.declared.written.Written.{Written}
+use Rattle.sector_disk.specs.Disk.{Sector, sector}
+use Rattle.sector_disk.specs.Written.{written_to}
+use Rattle.sector_disk.specs.WrittenLaws.{written_to_same, written_to_other}
+
+-- what a sector comes to hold: with number 0 what it holds, else the write of that number
+abbrev pub settled : List Sector → List ℕ → List Written → ℕ → Sector
+settled sectors numbers writes k = sector (sector sectors k ∷ written_to k writes) (get_or numbers k 0)
+
+-- the write is passed by, and the number counts down
+countdown : (c x : Sector) (cs : List Sector) (r : ℕ) → r ≢ 1 → sector (c ∷ cs) (r - 1) ≡ sector (c ∷ x ∷ cs) r
+countdown c x cs zero not = refl
+countdown c x cs (suc zero) not = absurd (not refl)
+countdown c x cs (suc (suc j)) not = let e : suc (suc j) - 1 ≡ suc j = omega arith in rw e refl
+
+module _ (sectors : List Sector) (numbers : List ℕ) (w : Written) (writes : List Written) (in_range : w.at < length sectors) (numbered : length numbers ≡ length sectors) where
+  abbrev number : ℕ
+  number = get_or numbers w.at 0
+
+  abbrev less : List ℕ
+  less = set numbers w.at (number - 1)
+
+  less_here : get_or less w.at 0 ≡ number - 1
+  less_here = get_or-set_same numbers w.at (number - 1) 0 (omega (arith, in_range, numbered))
+
+  less_there : (k : ℕ) → w.at ≢ k → get_or less k 0 ≡ get_or numbers k 0
+  less_there k other = get_or-set_other numbers w.at k (number - 1) 0 (λ e. other (sym e))
+
+  pub settled_made : number ≡ 1 → (k : ℕ) → settled (set sectors w.at w.content) less writes k ≡ settled sectors numbers (w ∷ writes) k
+  settled_made is k = ⊎_elim
+      (λ same. subst (λ j. settled (set sectors w.at w.content) less writes j ≡ settled sectors numbers (w ∷ writes) j) same here)
+      there
+      (cases_eq w.at k)
+    where
+      none : get_or less w.at 0 ≡ 0
+      none = less_here ∙ omega (arith, is)
+
+      here : settled (set sectors w.at w.content) less writes w.at ≡ settled sectors numbers (w ∷ writes) w.at
+      here =
+          ap (λ r. sector (sector (set sectors w.at w.content) w.at ∷ written_to w.at writes) r) none
+          ∙ get_or-set_same sectors w.at w.content [] in_range
+          ∙ sym (ap (λ cs. sector (sector sectors w.at ∷ cs) number) (written_to_same w.at w writes refl) ∙ ap (λ r. sector (sector sectors w.at ∷ w.content ∷ written_to w.at writes) r) is)
+
+      there : (w.at ≡ k → ⊥) → settled (set sectors w.at w.content) less writes k ≡ settled sectors numbers (w ∷ writes) k
+      there other =
+          ap (λ r. sector (sector (set sectors w.at w.content) k ∷ written_to k writes) r) (less_there k other)
+          ∙ ap (λ c. sector (c ∷ written_to k writes) (get_or numbers k 0)) (get_or-set_other sectors w.at k w.content [] (λ e. other (sym e)))
+          ∙ ap (λ cs. sector (sector sectors k ∷ cs) (get_or numbers k 0)) (sym (written_to_other k w writes other))
+
+  pub settled_passed : number ≢ 1 → (k : ℕ) → settled sectors less writes k ≡ settled sectors numbers (w ∷ writes) k
+  settled_passed not k = ⊎_elim
+      (λ same. subst (λ j. settled sectors less writes j ≡ settled sectors numbers (w ∷ writes) j) same here)
+      there
+      (cases_eq w.at k)
+    where
+      here : settled sectors less writes w.at ≡ settled sectors numbers (w ∷ writes) w.at
+      here =
+          ap (λ r. sector (sector sectors w.at ∷ written_to w.at writes) r) less_here
+          ∙ countdown (sector sectors w.at) w.content (written_to w.at writes) number not
+          ∙ ap (λ cs. sector (sector sectors w.at ∷ cs) number) (sym (written_to_same w.at w writes refl))
+
+      there : (w.at ≡ k → ⊥) → settled sectors less writes k ≡ settled sectors numbers (w ∷ writes) k
+      there other =
+          ap (λ r. sector (sector sectors k ∷ written_to k writes) r) (less_there k other)
+          ∙ ap (λ cs. sector (sector sectors k ∷ cs) (get_or numbers k 0)) (sym (written_to_other k w writes other))
+
+  -- no number is greater than there are writes
+  pub less_made : (k : ℕ) → get_or numbers k 0 ≤ length (written_to k (w ∷ writes)) → get_or less k 0 ≤ length (written_to k writes)
+  less_made k le = ⊎_elim
+      (λ same. omega (arith, le, less_here, ap (λ j. get_or less j 0) same, ap (λ j. get_or numbers j 0) same, ap length (written_to_same k w writes same)))
+      (λ other. omega (arith, le, less_there k other, ap length (written_to_other k w writes other)))
+      (cases_eq w.at k)

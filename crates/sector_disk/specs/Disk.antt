@@ -1,0 +1,158 @@
+-- The disk model: what contracts say of a disk, what a stop may leave of it, and what each call does to it.
+use Rattle.std.specs.Prelude.{◌≡◌, ◌<◌, ◌≤◌, ◌+◌, ◌↔◌, ◌⊎◌, ℕ, Bool, IsTrue, List, [], length, set, get_or, Result, OnOk, OnErr}
+
+-- what a sector holds: the list of its 512 bytes
+abbrev pub Sector : Type 0
+Sector = List ℕ
+
+-- the content of sector k in a list of sectors
+abbrev pub sector : List Sector → ℕ → Sector
+sector sectors k = get_or sectors k []
+
+-- What is said of a disk. Its moments are 0 to `time`, and each call makes one more.
+pub record DiskFacts : Type 1 where
+  -- whether it follows the table of steps below
+  pub honest : Bool
+  pub sectors : ℕ
+  pub time : ℕ
+  -- how many calls have failed
+  pub failures : ℕ
+  -- what reads give
+  pub now : List Sector
+  -- at this moment a stop may leave this sector with this content
+  pub may_leave : ℕ → ℕ → Sector → Type 0
+
+-- a stop now may leave sector k with this content: it is in the sector's set
+abbrev pub MayLeave : DiskFacts → ℕ → Sector → Type 0
+MayLeave disk k c = disk.may_leave disk.time k c
+
+-- A mixture of a moment: every sector with one of the contents that a stop then may leave, each picked by itself.
+pub record MixtureAt (disk : DiskFacts) (moment : ℕ) (m : List Sector) : Type 0 where
+  pub size : length m ≡ disk.sectors
+  pub each : (k : ℕ) → k < disk.sectors → disk.may_leave moment k (sector m k)
+
+-- a mixture of this moment: what a stop now may leave
+abbrev pub Mixture : DiskFacts → List Sector → Type 0
+Mixture disk m = MixtureAt disk disk.time m
+
+-- left since a time: a mixture of some moment from then up to the present
+abbrev pub LeftSince : DiskFacts → ℕ → List Sector → Type 0
+LeftSince disk since m = (u : ℕ) × (since ≤ u) × (u ≤ disk.time) × MixtureAt disk u m
+
+-- what reads give is one of the mixtures
+abbrev pub HoldsNow : DiskFacts → Type 0
+HoldsNow disk = Mixture disk disk.now
+
+-- synced: a stop now leaves what reads give, and nothing else
+pub record IsSynced (disk : DiskFacts) : Type 0 where
+  pub each : (m : List Sector) → Mixture disk m → m ≡ disk.now
+
+-- what might have been left at the moments of old stays as it was
+pub record KeepsPast (old new : DiskFacts) : Type 0 where
+  pub sectors : new.sectors ≡ old.sectors
+  pub later : old.time ≤ new.time
+  pub past : (u k : ℕ) (c : Sector) → u ≤ old.time → new.may_leave u k c ↔ old.may_leave u k c
+
+-- reads give the same, and a stop may leave the same
+pub record IsUnchanged (old new : DiskFacts) : Type 0 where
+  pub now : new.now ≡ old.now
+  pub stop : (k : ℕ) (c : Sector) → MayLeave new k c ↔ MayLeave old k c
+
+-- no set grows
+pub record LeavesNoMore (old new : DiskFacts) : Type 0 where
+  pub each : (k : ℕ) (c : Sector) → MayLeave new k c → MayLeave old k c
+
+-- the set of sector `at` grows by this content, and no other set changes
+pub record GrowsBy (old new : DiskFacts) (at : ℕ) (content : Sector) : Type 0 where
+  pub each : (k : ℕ) (c : Sector) → MayLeave new k c ↔ (MayLeave old k c ⊎ (k ≡ at) × (c ≡ content))
+
+-- the set of sector `at` grows by at most this content, and no other set grows
+pub record GrowsByAtMost (old new : DiskFacts) (at : ℕ) (content : Sector) : Type 0 where
+  pub each : (k : ℕ) (c : Sector) → MayLeave new k c → MayLeave old k c ⊎ (k ≡ at) × (c ≡ content)
+
+-- each sector's set holds what reads give alone
+pub record LeavesNowAlone (disk : DiskFacts) : Type 0 where
+  pub each : (k : ℕ) (c : Sector) → k < disk.sectors → MayLeave disk k c ↔ (c ≡ sector disk.now k)
+
+-- the old sectors, or with this content in sector `at`
+abbrev pub IsOldOrSet : List Sector → ℕ → Sector → List Sector → Type 0
+IsOldOrSet old at content m = (m ≡ old) ⊎ (m ≡ set old at content)
+
+-- One call, on any disk: time goes on by one, and a failure is counted. Size and honesty stay.
+pub record IsCall {T E : Type 0} (old new : DiskFacts) (result : Result T E) : Type 0 where
+  pub honest : new.honest ≡ old.honest
+  pub sectors : new.sectors ≡ old.sectors
+  pub time : new.time ≡ old.time + 1
+  pub ok : OnOk result (new.failures ≡ old.failures)
+  pub err : OnErr result (new.failures ≡ old.failures + 1)
+
+-- A read of an honest disk changes nothing, and where it succeeds it gives the latest content.
+pub record IsRead {T E : Type 0} (old new : DiskFacts) (at : ℕ) (content : Sector) (result : Result T E) : Type 0 where
+  pub past : KeepsPast old new
+  pub same : IsUnchanged old new
+  pub ok : OnOk result (content ≡ sector old.now at)
+
+-- A write to an honest disk: reads give the new content and the set grows by it; where it fails they may give the old one, and the set may stay.
+pub record IsWrite {T E : Type 0} (old new : DiskFacts) (at : ℕ) (content : Sector) (result : Result T E) : Type 0 where
+  pub past : KeepsPast old new
+  pub ok : OnOk result (new.now ≡ set old.now at content)
+  pub err : OnErr result (IsOldOrSet old.now at content new.now)
+  pub stop : GrowsByAtMost old new at content
+  pub stop_ok : OnOk result (GrowsBy old new at content)
+
+-- A sync of an honest disk: reads give the same and no set grows, and where it succeeds each set holds the latest content alone.
+pub record IsSync {T E : Type 0} (old new : DiskFacts) (result : Result T E) : Type 0 where
+  pub past : KeepsPast old new
+  pub now : new.now ≡ old.now
+  pub stop : LeavesNoMore old new
+  pub stop_ok : OnOk result (LeavesNowAlone new)
+
+-- some calls, on any disk
+pub record AreCalls (old new : DiskFacts) : Type 0 where
+  pub honest : new.honest ≡ old.honest
+  pub sectors : new.sectors ≡ old.sectors
+  pub later : old.time ≤ new.time
+  pub failures : old.failures ≤ new.failures
+
+-- From old to new, a stop at any moment leaves a list of sectors that has P.
+pub record LeavesOnly (old new : DiskFacts) (P : List Sector → Type 0) : Type 0 where
+  pub past : KeepsPast old new
+  pub each : (m : List Sector) → LeftSince new old.time m → P m
+
+-- the same in every sector but these
+pub record SameBut (places : ℕ → Type 0) (old new : List Sector) : Type 0 where
+  pub size : length new ≡ length old
+  pub others : (k : ℕ) → (places k → ⊥) → sector new k ≡ sector old k
+
+-- a mixture of the disk, but for these sectors
+abbrev pub IsMixtureBut : (ℕ → Type 0) → DiskFacts → List Sector → Type 0
+IsMixtureBut places disk m = (m' : List Sector) × Mixture disk m' × SameBut places m' m
+
+-- the same disk by another clock
+pub record IsSameDisk (old new : DiskFacts) : Type 0 where
+  pub honest : new.honest ≡ old.honest
+  pub sectors : new.sectors ≡ old.sectors
+  pub same : IsUnchanged old new
+
+-- nothing tells the one from the other: what is true of old at each of its moments is true of new
+pub record IsCopy (old new : DiskFacts) : Type 0 where
+  pub honest : new.honest ≡ old.honest
+  pub sectors : new.sectors ≡ old.sectors
+  pub time : new.time ≡ old.time
+  pub failures : new.failures ≡ old.failures
+  pub now : new.now ≡ old.now
+  pub past : (u k : ℕ) (c : Sector) → new.may_leave u k c ↔ old.may_leave u k c
+
+-- an honest disk as it starts: it holds these sectors, all synced, and no call was made
+pub record StartsWith (disk : DiskFacts) (contents : List Sector) : Type 0 where
+  pub honest : IsTrue disk.honest
+  pub sectors : disk.sectors ≡ length contents
+  pub now : disk.now ≡ contents
+  pub alone : LeavesNowAlone disk
+  pub time : disk.time ≡ 0
+  pub failures : disk.failures ≡ 0
+
+-- a disk after a stop: it starts with one of the mixtures
+pub record IsStopped (old new : DiskFacts) : Type 0 where
+  pub mixture : Mixture old new.now
+  pub starts : StartsWith new new.now

@@ -1,0 +1,89 @@
+-- What is said of a disk behind a fuse, and what the fuse makes of each call.
+use Rattle.std.specs.Prelude.{◌≡◌, ◌==◌, ◌-◌, ◌+◌, ◌&&◌, ℕ, nat_lt, if◌then◌else◌, IsTrue, List, length, drop, filter, Result, Err}
+use Rattle.std.proofs.Common.{sym, subst, ap, ◌∙◌, arith}
+use Rattle.std.proofs.lemmas.List.{drop_all}
+use Rattle.sector_disk.specs.declared.disk.DiskFault.{DiskFault}
+use Rattle.sector_disk.specs.declared.disk.DiskFault.TheVariants.{Failed}
+use Rattle.sector_disk.specs.declared.fuse.Fuse.{Fuse}
+use Rattle.sector_disk.specs.declared.fuse.Plan.{Plan}
+use Rattle.sector_disk.specs.declared.fuse.Step.{Step}
+use Rattle.sector_disk.specs.declared.fuse.Turn.{Turn}
+use Rattle.sector_disk.specs.declared.fuse.Turn.TheVariants.{Pass, Early, Late}
+use Rattle.sector_disk.specs.Disk.{Sector, sector, DiskFacts, HoldsNow, IsCall, IsRead, IsWrite, IsSync}
+
+-- What becomes of call number n, counted from 1: the planned one fails, early or late; with `forever` all later ones fail early; others pass.
+abbrev pub turn : Plan → ℕ → Turn
+turn plan n =
+    if n == plan.call
+    then (if plan.late then Late else Early)
+    else (if plan.forever && nat_lt 0 plan.call && nat_lt plan.call n then Early else Pass)
+
+-- how many of these calls reached the inner disk
+abbrev pub reached : List Step → ℕ
+reached steps = length (filter (λ step. step.reached) steps)
+
+-- the inner disk's moment at moment u of the fuse: before all calls since then that reached it
+abbrev pub inner_moment : ℕ → List Step → ℕ → ℕ
+inner_moment time past u = time - reached (drop u past)
+
+-- What is said of the inner disk, but by the fuse's own clock and its own count of failures.
+abbrev pub fused : DiskFacts → List Step → DiskFacts
+fused inner past = record {
+  honest = inner.honest;
+  sectors = inner.sectors;
+  time = length past;
+  failures = length (filter (λ step. step.failed) past);
+  now = inner.now;
+  may_leave = λ u. inner.may_leave (inner_moment inner.time past u);
+}
+
+-- what is said of a fuse
+abbrev pub fuse_facts : {D : Type 0} → (D → DiskFacts) → Fuse D → DiskFacts
+fuse_facts facts fuse = fused (facts fuse.inner) fuse.past.items
+
+-- the disk behind a fuse
+abbrev pub inner_of : {D : Type 0} → Fuse D → D
+inner_of fuse = fuse.inner
+
+-- which calls fail
+abbrev pub plan_of : {D : Type 0} → Fuse D → Plan
+plan_of fuse = fuse.plan
+
+-- what becomes of the next call
+abbrev pub next_turn : {D : Type 0} → Fuse D → Turn
+next_turn fuse = turn fuse.plan (length fuse.past.items + 1)
+
+-- the inner disk was asked to read, and gave this reply
+abbrev pub WasRead : {D : Type 0} → (D → DiskFacts) → Fuse D → Fuse D → ℕ → Sector → Result (Unit {0}) DiskFault → Type 0
+WasRead facts old new at content reply =
+    IsCall (facts old.inner) (facts new.inner) reply
+    × (IsTrue (facts old.inner).honest → IsRead (facts old.inner) (facts new.inner) at content reply)
+
+-- the inner disk was asked to write, and gave this reply
+abbrev pub WasWritten : {D : Type 0} → (D → DiskFacts) → Fuse D → Fuse D → ℕ → Sector → Result (Unit {0}) DiskFault → Type 0
+WasWritten facts old new at content reply =
+    IsCall (facts old.inner) (facts new.inner) reply
+    × (IsTrue (facts old.inner).honest → IsWrite (facts old.inner) (facts new.inner) at content reply)
+
+-- the inner disk was asked to sync, and gave this reply
+abbrev pub WasSynced : {D : Type 0} → (D → DiskFacts) → Fuse D → Fuse D → Result (Unit {0}) DiskFault → Type 0
+WasSynced facts old new reply =
+    IsCall (facts old.inner) (facts new.inner) reply
+    × (IsTrue (facts old.inner).honest → IsSync (facts old.inner) (facts new.inner) reply)
+
+-- By its turn a call gives the inner disk's reply; fails, and the inner disk stays as it is; or fails, and the inner disk was asked.
+abbrev pub TakesTurn : {D : Type 0} → Turn → Fuse D → Fuse D → (Result (Unit {0}) DiskFault → Type 0) → Result (Unit {0}) DiskFault → Type 0
+TakesTurn Pass old new WasAsked result = WasAsked result
+TakesTurn Early old new WasAsked result = (new.inner ≡ old.inner) × (result ≡ Err Failed)
+TakesTurn Late old new WasAsked result = ((reply : Result (Unit {0}) DiskFault) × WasAsked reply) × (result ≡ Err Failed)
+
+-- at this moment the inner disk is at its own
+pub inner_now : (time : ℕ) (past : List Step) → inner_moment time past (length past) ≡ time
+inner_now time past = ap (λ steps. time - reached steps) (drop_all (length past) past (omega arith)) ∙ omega arith
+
+-- What reads give is one of the mixtures.
+pub fused_holds : (inner : DiskFacts) (past : List Step) → HoldsNow inner → HoldsNow (fused inner past)
+fused_holds inner past holds = record {
+  size = holds.size;
+  each = λ k lt. subst (λ u. inner.may_leave u k (sector inner.now k)) (sym (inner_now inner.time past)) (holds.each k lt);
+}

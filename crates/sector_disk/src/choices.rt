@@ -1,0 +1,87 @@
+// What a stop picks: for each sector its synced content, or one of the writes to it since.
+ghost use Rattle.std.specs.Prelude.{◌≡◌, ◌<◌, ◌≤◌, ◌+◌, ◌%◌, ◌^◌, ◌∷◌, ℕ, length, slice_index, All, drop};
+ghost use Rattle.sector_disk.specs.Disk.{sector};
+ghost use Rattle.sector_disk.specs.Written.{written_to, choices, IsPicked};
+
+use crate::written::{Written, apply};
+
+/// Makes of contents and all writes to them the mixture that `pick` names: in each sector `at`,
+/// with `n` choices, choice `pick(at, n) % n`. The counts are those of the writes to each sector
+/// from `synced` on, and end at 0. Linear in the sectors and the writes.
+pub(crate) fn mix<F: Fn(u32, usize) -> usize>(
+    sectors: &mut [[u8; 512]],
+    counts: &mut [usize],
+    writes: &[Written],
+    synced: usize,
+    pick: F,
+)
+    requires made { synced ≤ length writes.now }
+    requires in_range { All (λ write. write.at < length sectors.old) writes.now }
+    requires few_sectors { length sectors.old ≤ 2 ^ 32 }
+    requires few_writes { length writes.now + 1 < 2 ^ 64 }
+    requires one_count_each { length counts.old ≡ length sectors.old }
+    requires counted { (k : ℕ) → k < length sectors.old
+        → slice_index counts.old k ≡ length (written_to k (drop synced writes.now)) }
+    requires callable { (at : ℕ) → at < length sectors.old
+        → F.pre pick at (length (choices sectors.old writes.now synced at)) }
+    ensures picked { (at : ℕ) → at < length sectors.old
+        → IsPicked (F.post pick at (length (choices sectors.old writes.now synced at)))
+        (choices sectors.old writes.now synced at) (sector sectors.new at) }
+    ensures zero { (k : ℕ) → k < length sectors.old → slice_index counts.new k ≡ 0 }
+{
+    let (kept, loose) = writes.split_at(synced);
+    apply(sectors, kept);
+    choose(counts, pick);
+    settle(sectors, counts, loose);
+}
+
+/// Replaces the count of writes to each sector `at` by `pick(at, n) % n`, where n is one more
+/// than the count: by 0, or by the number of one of these writes, counted from 1.
+fn choose<F: Fn(u32, usize) -> usize>(counts: &mut [usize], pick: F)
+    requires few { length counts.old ≤ 2 ^ 32 }
+    requires fits { (at : ℕ) → at < length counts.old → slice_index counts.old at + 1 < 2 ^ 64 }
+    requires callable { (at : ℕ) → at < length counts.old
+        → F.pre pick at (slice_index counts.old at + 1) }
+    ensures { (at : ℕ) → at < length counts.old
+        → (named : ℕ) × F.post pick at (slice_index counts.old at + 1) named
+        × (slice_index counts.new at ≡ named % (slice_index counts.old at + 1)) }
+{
+    for (at, count) in counts.iter_mut().enumerate() {
+        let choices = *count + 1;
+        *count = pick(at as u32, choices) % choices;
+    }
+}
+
+/// Makes of the writes to each sector the one with this number, counted from 1; with 0 none.
+/// Leaves all numbers at 0.
+fn settle(sectors: &mut [[u8; 512]], numbers: &mut [usize], writes: &[Written])
+    requires in_range { All (λ write. write.at < length sectors.old) writes.now }
+    requires numbered { length numbers.old ≡ length sectors.old }
+    requires made { (k : ℕ) → k < length numbers.old
+        → slice_index numbers.old k ≤ length (written_to k writes.now) }
+    ensures settled { (k : ℕ) → k < length sectors.old
+        → sector sectors.new k
+        ≡ sector (sector sectors.old k ∷ written_to k writes.now) (slice_index numbers.old k) }
+    ensures zero { (k : ℕ) → k < length numbers.old → slice_index numbers.new k ≡ 0 }
+{
+    for write in writes {
+        let at = write.at as usize;
+        if numbers[at] == 1 {
+            sectors[at] = write.content;
+        }
+        numbers[at] = numbers[at].saturating_sub(1);
+    }
+}
+
+/// Takes the writes from `start` on off the counts of writes to each sector.
+pub(crate) fn uncount(counts: &mut [usize], writes: &[Written], start: usize)
+    requires made { start ≤ length writes.now }
+    requires in_range { All (λ write. write.at < length counts.old) writes.now }
+    requires counted { (k : ℕ) → k < length counts.old
+        → slice_index counts.old k ≡ length (written_to k (drop start writes.now)) }
+    ensures zero { (k : ℕ) → k < length counts.old → slice_index counts.new k ≡ 0 }
+{
+    for write in &writes[start..] {
+        counts[write.at as usize] -= 1;
+    }
+}

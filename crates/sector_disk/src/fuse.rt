@@ -1,0 +1,190 @@
+// A disk that fails at a call of its caller's choice.
+ghost use Rattle.std.specs.Prelude.{◌≡◌, ◌-◌, length};
+
+use crate::disk::{Disk, DiskFault};
+use crate::past::Past;
+
+/// Which calls fail: number `call`, counted from 1, and with `forever` all later ones. With
+/// `late` that call reaches the inner disk before it fails.
+#[derive(Clone, Copy)]
+pub(crate) struct Plan {
+    pub call: u64,
+    pub forever: bool,
+    pub late: bool,
+}
+
+/// What becomes of a call: it passes, or fails before or after it reached the inner disk.
+#[derive(Clone, Copy)]
+pub(crate) enum Turn {
+    Pass,
+    Early,
+    Late,
+}
+
+/// A call that was made.
+#[derive(Clone, Copy)]
+pub(crate) struct Step {
+    pub reached: bool,
+    pub failed: bool,
+}
+
+/// A disk that passes its calls on to an inner one, up to a call that fails. What reads give and
+/// what a stop may leave is what the inner disk gives and leaves.
+#[derive(Drop)]
+pub struct Fuse<D> {
+    inner: D,
+    plan: Plan,
+    // How many calls there are up to the planned one, 0 after it.
+    wait: u64,
+    past: Past<Step>,
+    ghost waits: { wait ≡ plan.call - length past.items },
+}
+
+impl<D: Disk> Fuse<D> {
+    ghost use Rattle.std.specs.Prelude.{◌++◌, ◌∷◌, [], is_err};
+    ghost use Rattle.sector_disk.specs.Disk.{IsSameDisk};
+    ghost use Rattle.sector_disk.specs.Fuse.{fuse_facts, inner_of, plan_of, next_turn};
+
+    /// The k-th read, write or sync fails, counted from 1, and with `forever` all later ones fail
+    /// too, without reaching `inner`. With `late` the k-th reaches `inner` first. With k 0 none
+    /// fails but where `inner` does.
+    pub fn new(inner: D, k: u64, forever: bool, late: bool) -> Fuse<D>
+        ensures inner { inner_of result ≡ inner }
+        ensures plan { plan_of result ≡ record { call = k; forever = forever; late = late } }
+        ensures same { IsSameDisk (D.facts inner) (fuse_facts D.facts result) }
+        ensures time { (fuse_facts D.facts result).time ≡ 0 }
+        ensures failures { (fuse_facts D.facts result).failures ≡ 0 }
+    {
+        Fuse {
+            inner,
+            plan: Plan {
+                call: k,
+                forever,
+                late,
+            },
+            wait: k,
+            past: Past::new(),
+        }
+    }
+
+    /// The inner disk, as the calls that reached it left it.
+    pub fn into_inner(self) -> D
+        ensures inner { result ≡ inner_of self }
+        ensures same { IsSameDisk (fuse_facts D.facts self) (D.facts result) }
+    {
+        let Fuse { inner, .. } = self;
+        inner
+    }
+
+    // What becomes of the next call.
+    fn next_turn(&self) -> Turn
+        ensures { result ≡ next_turn self.now }
+    {
+        if self.wait == 1 {
+            if self.plan.late {
+                Turn::Late
+            } else {
+                Turn::Early
+            }
+        } else if self.wait == 0 && self.plan.call > 0 && self.plan.forever {
+            Turn::Early
+        } else {
+            Turn::Pass
+        }
+    }
+
+    // Ends a call with this reply.
+    fn end_call(&mut self, reached: bool, reply: Result<(), DiskFault>) -> Result<(), DiskFault>
+        ensures reply { result ≡ reply }
+        ensures inner { self.new.inner ≡ self.old.inner }
+        ensures plan { self.new.plan ≡ self.old.plan }
+        ensures past { self.new.past.items
+            ≡ self.old.past.items ++ record { reached = reached; failed = is_err reply } ∷ [] }
+    {
+        self.past = self.past.and(&Step {
+            reached,
+            failed: reply.is_err(),
+        });
+        self.wait = self.wait.saturating_sub(1);
+        reply
+    }
+}
+
+impl<D: Disk> Disk for Fuse<D> {
+    ghost use Rattle.std.specs.Prelude.{◌<◌, IsTrue};
+    ghost use Rattle.sector_disk.specs.Disk.{IsCall, IsRead, IsWrite, IsSync};
+    ghost use Rattle.sector_disk.specs.Fuse.{fuse_facts, fused_holds, plan_of, next_turn, WasRead, WasWritten, WasSynced, TakesTurn};
+
+    ghost facts = { fuse_facts D.facts };
+
+    ghost holds_now = { λ fuse honest. fused_holds (D.facts fuse.inner) fuse.past.items (D.holds_now fuse.inner honest) };
+
+    fn sectors(&self) -> u32 {
+        self.inner.sectors()
+    }
+
+    fn read(&mut self, at: u32, into: &mut [u8; 512]) -> Result<(), DiskFault>
+        requires { at < (fuse_facts D.facts self.old).sectors }
+        ensures calls { IsCall (fuse_facts D.facts self.old) (fuse_facts D.facts self.new) result }
+        ensures honest { IsTrue (fuse_facts D.facts self.old).honest
+            → IsRead (fuse_facts D.facts self.old) (fuse_facts D.facts self.new) at into.new result }
+        ensures turn { TakesTurn (next_turn self.old) self.old self.new
+            (WasRead D.facts self.old self.new at into.new) result }
+        ensures plan { plan_of self.new ≡ plan_of self.old }
+    {
+        match self.next_turn() {
+            Turn::Pass => {
+                let reply = self.inner.read(at, into);
+                self.end_call(true, reply)
+            }
+            Turn::Early => self.end_call(false, Err(DiskFault::Failed)),
+            Turn::Late => {
+                let _ = self.inner.read(at, into);
+                self.end_call(true, Err(DiskFault::Failed))
+            }
+        }
+    }
+
+    fn write(&mut self, at: u32, from: &[u8; 512]) -> Result<(), DiskFault>
+        requires { at < (fuse_facts D.facts self.old).sectors }
+        ensures calls { IsCall (fuse_facts D.facts self.old) (fuse_facts D.facts self.new) result }
+        ensures honest { IsTrue (fuse_facts D.facts self.old).honest
+            → IsWrite (fuse_facts D.facts self.old) (fuse_facts D.facts self.new) at from.now result }
+        ensures turn { TakesTurn (next_turn self.old) self.old self.new
+            (WasWritten D.facts self.old self.new at from.now) result }
+        ensures plan { plan_of self.new ≡ plan_of self.old }
+    {
+        match self.next_turn() {
+            Turn::Pass => {
+                let reply = self.inner.write(at, from);
+                self.end_call(true, reply)
+            }
+            Turn::Early => self.end_call(false, Err(DiskFault::Failed)),
+            Turn::Late => {
+                let _ = self.inner.write(at, from);
+                self.end_call(true, Err(DiskFault::Failed))
+            }
+        }
+    }
+
+    fn sync(&mut self) -> Result<(), DiskFault>
+        ensures calls { IsCall (fuse_facts D.facts self.old) (fuse_facts D.facts self.new) result }
+        ensures honest { IsTrue (fuse_facts D.facts self.old).honest
+            → IsSync (fuse_facts D.facts self.old) (fuse_facts D.facts self.new) result }
+        ensures turn { TakesTurn (next_turn self.old) self.old self.new
+            (WasSynced D.facts self.old self.new) result }
+        ensures plan { plan_of self.new ≡ plan_of self.old }
+    {
+        match self.next_turn() {
+            Turn::Pass => {
+                let reply = self.inner.sync();
+                self.end_call(true, reply)
+            }
+            Turn::Early => self.end_call(false, Err(DiskFault::Failed)),
+            Turn::Late => {
+                let _ = self.inner.sync();
+                self.end_call(true, Err(DiskFault::Failed))
+            }
+        }
+    }
+}

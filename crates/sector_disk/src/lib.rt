@@ -1,0 +1,22 @@
+//! A disk of sectors, and what a power cut may leave of it.
+//!
+//! `Disk` is the one contract that everything above stands on: until a sync succeeds a stop may
+//! leave each sector with its synced content, or with any content that was written to it since.
+//! `Memory` is such a disk in memory, which can be stopped at any moment; `Fuse` is a disk that
+//! fails at a planned call.
+#![tactic(auto)]
+
+mod choices;
+mod disk;
+mod fuse;
+mod memory;
+mod moment;
+mod past;
+mod written;
+
+pub use disk::{Disk, DiskFault};
+pub use fuse::Fuse;
+pub use memory::Memory;
+
+#[cfg(test)]
+mod tests;

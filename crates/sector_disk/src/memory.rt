@@ -1,0 +1,212 @@
+// A disk in memory. It keeps every write until it is stopped.
+ghost use Rattle.std.specs.Prelude.{◌≡◌, ◌<◌, ◌≤◌, ◌^◌, ℕ, length, All, drop, slice_index, IfOk, replicate};
+ghost use Rattle.sector_disk.specs.Written.{contents, written_to};
+
+use crate::choices::{mix, uncount};
+use crate::disk::{Disk, DiskFault};
+use crate::moment::Moment;
+use crate::past::Past;
+use crate::written::Written;
+use std::alloc::{AllocError, Global};
+
+/// An honest disk in memory, which can be stopped at any moment. It keeps every write until then,
+/// so its memory grows with each. A read, a write and `choices` take constant time, a sync is
+/// linear in the writes that it syncs.
+#[derive(Drop)]
+pub struct Memory {
+    start: Vec<[u8; 512]>,
+    writes: Vec<Written>,
+    synced: usize,
+    // What `start` and `writes` come to, so that a read needn't go through them.
+    latest: Vec<[u8; 512]>,
+    // For each sector, how many of its writes aren't synced.
+    unsynced: Vec<usize>,
+    past: Past<Moment>,
+    ghost few: { length start.items < 2 ^ 32 },
+    ghost written_in_range: { All (λ write. write.at < length start.items) writes.items },
+    ghost synced_writes: { synced ≤ length writes.items },
+    ghost is_latest: { latest.items ≡ contents start.items writes.items },
+    ghost one_count_each: { length unsynced.items ≡ length start.items },
+    ghost counted: { (k : ℕ) → k < length start.items
+        → slice_index unsynced.items k ≡ length (written_to k (drop synced writes.items)) },
+    ghost no_later: { All (λ moment. moment.writes ≤ length writes.items) past.items },
+}
+
+impl Memory {
+    ghost use Rattle.std.specs.Prelude.{◌↔◌, Contains, false};
+    ghost use Rattle.sector_disk.specs.Disk.{Sector, MayLeave, StartsWith, IsCopy, IsStopped, sector};
+    ghost use Rattle.sector_disk.specs.Memory.{memory_facts, memory_choices};
+    ghost use Rattle.sector_disk.specs.Written.{IsPicked};
+
+    /// A disk of so many sectors of zeros, all synced.
+    pub fn new(alloc: Global, sectors: u32) -> Result<Memory, AllocError>
+        ensures ok { IfOk result (λ disk.
+            StartsWith (memory_facts disk) (replicate sectors (replicate 512 0))) }
+    {
+        Ok(Memory {
+            start: filled(alloc, sectors, [0; 512])?,
+            writes: Vec::new(alloc),
+            synced: 0,
+            latest: filled(alloc, sectors, [0; 512])?,
+            unsynced: filled(alloc, sectors, 0)?,
+            past: Past::new(),
+        })
+    }
+
+    /// A second disk with the same contents, choices and past. Linear in the sectors and in all
+    /// writes that were made.
+    pub fn copy(&self) -> Result<Memory, AllocError>
+        ensures ok { IfOk result (λ disk. IsCopy (memory_facts self.now) (memory_facts disk)) }
+        ensures choices { IfOk result (λ disk.
+            (at : ℕ) → memory_choices disk at ≡ memory_choices self.now at) }
+    {
+        let alloc = *self.writes.allocator();
+        Ok(Memory {
+            start: Vec::from_slice(alloc, &self.start)?,
+            writes: Vec::from_slice(alloc, &self.writes)?,
+            synced: self.synced,
+            latest: Vec::from_slice(alloc, &self.latest)?,
+            unsynced: Vec::from_slice(alloc, &self.unsynced)?,
+            past: self.past.copy(),
+        })
+    }
+
+    /// How many choices a stop has for this sector: its synced content, and each content that was
+    /// written to it since.
+    pub fn choices(&self, at: u32) -> usize
+        requires { at < (memory_facts self.now).sectors }
+        ensures count { result ≡ length (memory_choices self.now at) }
+
+        // They are what a stop now may leave.
+        ensures left { (c : Sector)
+            → MayLeave (memory_facts self.now) at c ↔ Contains (memory_choices self.now at) c }
+    {
+        self.unsynced[at as usize] + 1
+    }
+
+    /// The disk after a stop. For each sector `at` of `n` choices it holds choice
+    /// `pick(at, n) % n`: 0 is the synced content, and k the k-th that was written since. Linear
+    /// in the sectors and in all writes that were made.
+    pub fn stop<F: Fn(u32, usize) -> usize>(self, pick: F) -> Memory
+        requires { (at : ℕ) → at < (memory_facts self).sectors
+            → F.pre pick at (length (memory_choices self at)) }
+        ensures picked { (at : ℕ) → at < (memory_facts self).sectors
+            → IsPicked (F.post pick at (length (memory_choices self at)))
+            (memory_choices self at) (sector (memory_facts result).now at) }
+        ensures stopped { IsStopped (memory_facts self) (memory_facts result) }
+    {
+        let Memory {
+            mut start,
+            mut writes,
+            synced,
+            mut latest,
+            mut unsynced,
+            past: _,
+        } = self;
+        mix(&mut start, &mut unsynced, &writes, synced, pick);
+        latest.copy_from_slice(&start);
+        writes.clear();
+        Memory {
+            start,
+            writes,
+            synced: 0,
+            latest,
+            unsynced,
+            past: Past::new(),
+        }
+    }
+
+    // The present moment, as a call that succeeds ends it.
+    fn moment(&self) -> Moment
+        ensures { result ≡ record {
+          writes = length self.now.writes.items;
+          synced = self.now.synced;
+          failed = false;
+        } }
+    {
+        Moment {
+            writes: self.writes.len(),
+            synced: self.synced,
+            failed: false,
+        }
+    }
+}
+
+impl Disk for Memory {
+    ghost use Rattle.std.specs.Prelude.{IsTrue, IsOk, OnErr};
+    ghost use Rattle.sector_disk.specs.Disk.{IsCall, IsRead, IsWrite, IsSync, IsUnchanged};
+    ghost use Rattle.sector_disk.specs.Memory.{memory_facts, memory_holds};
+
+    ghost facts = { memory_facts };
+
+    ghost holds_now = { λ disk honest. memory_holds disk };
+
+    fn sectors(&self) -> u32 {
+        self.start.len() as u32
+    }
+
+    /// Never fails.
+    fn read(&mut self, at: u32, into: &mut [u8; 512]) -> Result<(), DiskFault>
+        requires { at < (memory_facts self.old).sectors }
+        ensures calls { IsCall (memory_facts self.old) (memory_facts self.new) result }
+        ensures honest { IsTrue (memory_facts self.old).honest
+            → IsRead (memory_facts self.old) (memory_facts self.new) at into.new result }
+        ensures ok { IsOk result }
+    {
+        let moment = self.moment();
+        self.past = self.past.and(&moment);
+        *into = self.latest[at as usize];
+        Ok(())
+    }
+
+    /// Fails where it finds no memory, and then changes nothing.
+    fn write(&mut self, at: u32, from: &[u8; 512]) -> Result<(), DiskFault>
+        requires { at < (memory_facts self.old).sectors }
+        ensures calls { IsCall (memory_facts self.old) (memory_facts self.new) result }
+        ensures honest { IsTrue (memory_facts self.old).honest
+            → IsWrite (memory_facts self.old) (memory_facts self.new) at from.now result }
+        ensures err { OnErr result (IsUnchanged (memory_facts self.old) (memory_facts self.new)) }
+    {
+        let moment = self.moment();
+        match self.writes.push(Written { at, content: *from }) {
+            Ok(()) => {
+                self.latest[at as usize] = *from;
+                self.unsynced[at as usize] += 1;
+                self.past = self.past.and(&moment);
+                Ok(())
+            }
+            Err(_) => {
+                self.past = self.past.and(&Moment {
+                    failed: true,
+                    ..moment
+                });
+                Err(DiskFault::Failed)
+            }
+        }
+    }
+
+    /// Never fails.
+    fn sync(&mut self) -> Result<(), DiskFault>
+        ensures calls { IsCall (memory_facts self.old) (memory_facts self.new) result }
+        ensures honest { IsTrue (memory_facts self.old).honest
+            → IsSync (memory_facts self.old) (memory_facts self.new) result }
+        ensures ok { IsOk result }
+    {
+        let moment = self.moment();
+        self.past = self.past.and(&moment);
+        uncount(&mut self.unsynced, &self.writes, self.synced);
+        self.synced = self.writes.len();
+        Ok(())
+    }
+}
+
+// So many of the same item.
+fn filled<T: Copy>(alloc: Global, count: u32, item: T) -> Result<Vec<T>, AllocError>
+    ensures { IfOk result (λ items. items.items ≡ replicate count item) }
+{
+    let mut items = Vec::with_capacity(alloc, count as usize)?;
+    for place in 0..count {
+        items.push(item)?;
+    }
+    Ok(items)
+}

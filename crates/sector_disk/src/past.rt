@@ -1,0 +1,39 @@
+// A list that only clauses read. It has no bytes.
+ghost use Rattle.std.specs.Prelude.{◌≡◌, List, [], ◌∷◌, ◌++◌};
+ghost use Rattle.std.specs.Borrow.{ftrue};
+
+use std::marker::{Model, PhantomData};
+
+/// What is past, oldest first.
+#[derive(Drop)]
+pub(crate) struct Past<A> {
+    of: PhantomData<A>,
+    pub ghost items: { List A },
+}
+
+impl<A> Model for Past<A> {
+    ghost also_owns = { λ _. ftrue };
+}
+
+impl<A> Past<A> {
+    /// Nothing is past.
+    pub(crate) fn new() -> Past<A>
+        ensures { result.items ≡ [] }
+    {
+        Past { of: PhantomData }
+    }
+
+    /// The same, and then this.
+    pub(crate) fn and(&self, item: &A) -> Past<A>
+        ensures { result.items ≡ self.now.items ++ item.now ∷ [] }
+    {
+        Past { of: PhantomData }
+    }
+
+    /// The same.
+    pub(crate) fn copy(&self) -> Past<A>
+        ensures { result.items ≡ self.now.items }
+    {
+        Past { of: PhantomData }
+    }
+}

@@ -1,0 +1,20 @@
+// Writes to sectors, and what they make of the contents.
+ghost use Rattle.std.specs.Prelude.{◌≡◌, ◌<◌, length, All};
+ghost use Rattle.sector_disk.specs.Written.{contents};
+
+/// A write of a sector.
+#[derive(Clone, Copy)]
+pub(crate) struct Written {
+    pub at: u32,
+    pub content: [u8; 512],
+}
+
+/// Makes all of these writes.
+pub(crate) fn apply(sectors: &mut [[u8; 512]], writes: &[Written])
+    requires { All (λ write. write.at < length sectors.old) writes.now }
+    ensures { sectors.new ≡ contents sectors.old writes.now }
+{
+    for write in writes {
+        sectors[write.at as usize] = write.content;
+    }
+}
