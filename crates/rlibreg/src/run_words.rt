@@ -1,6 +1,8 @@
 // The command line.
 
-ghost use Rattle.std.specs.Prelude.{◌≤◌};
+ghost use Rattle.std.specs.Prelude.{◌≡◌, ◌≤◌, ◌==◌, true, false, not, map, is_none, string_bytes};
+ghost use Rattle.rlibreg.specs.Base.{base_of};
+ghost use Rattle.rlibreg.specs.Words.{is_command, is_bad_words};
 
 use crate::base::parse_base;
 use crate::fault::ScriptFault;
@@ -29,7 +31,9 @@ enum Status {
 }
 
 /// What showing an image ends with.
-fn status_of(shown: Result<Shown, ScriptFault>) -> Status {
+fn status_of(shown: Result<Shown, ScriptFault>) -> Status
+    ensures { is_bad_words result ≡ false }
+{
     match shown {
         Ok(Shown::Image) => Status::Done,
         Ok(Shown::Refused) => Status::Refused,
@@ -39,13 +43,17 @@ fn status_of(shown: Result<Shown, ScriptFault>) -> Status {
 }
 
 /// Says on standard error that a file can't be read.
-fn cannot_read<E: Write>(errors: &mut E, path: &str) -> Status {
+fn cannot_read<E: Write>(errors: &mut E, path: &str) -> Status
+    ensures { result ≡ Status.Failed }
+{
     let _ = writeln!(errors, "rlibreg: cannot read {path}");
     Status::Failed
 }
 
 /// Says that memory was refused.
-fn no_memory<O: Write>(output: &mut O) -> Status {
+fn no_memory<O: Write>(output: &mut O) -> Status
+    ensures { is_bad_words result ≡ false }
+{
     match write_refusal(output, BindRefusal::OutOfMemory) {
         Ok(()) => Status::NoMemory,
         Err(_) => Status::Failed,
@@ -53,7 +61,9 @@ fn no_memory<O: Write>(output: &mut O) -> Status {
 }
 
 /// Says on standard error that the words aren't a command.
-fn bad_command_line<E: Write>(errors: &mut E) -> Status {
+fn bad_command_line<E: Write>(errors: &mut E) -> Status
+    ensures { result ≡ Status.BadWords }
+{
     let _ = errors.write_all(b"rlibreg: bad command line\n");
     Status::BadWords
 }
@@ -66,7 +76,10 @@ fn image<R: Files, O: Write, E: Write>(
     base: &str,
     output: &mut O,
     errors: &mut E,
-) -> Status {
+) -> Status
+    ensures words { is_bad_words result ≡ is_none (base_of base.now) }
+    ensures same { is_bad_words result ≡ true → O.contents output.new ≡ O.contents output.old }
+{
     let Some(base) = parse_base(base) else {
         let _ = errors.write_all(b"rlibreg: bad base\n");
         return Status::BadWords;
@@ -89,7 +102,13 @@ pub fn run_words<R: Files, I: Read, O: Write, E: Write>(
     output: &mut O,
     errors: &mut E,
 ) -> u8
-    ensures { result ≤ 4 }
+    ensures most { result ≤ 4 }
+
+    // 2 exactly where the words are no command, or BASE isn't read.
+    ensures bad_words { (result == 2) ≡ not (is_command (map (λ word. string_bytes word) words.now)) }
+
+    // Then nothing was given to the output.
+    ensures same { result ≡ 2 → O.contents output.new ≡ O.contents output.old }
 {
     let status = match words {
         [command, program, base] if command.as_str() == "image" => image(
