@@ -1,5 +1,6 @@
 #!/usr/bin/env python3
 """Makes the large and hostile programs that docs/PERFORMANCE.md measures, in the folder that is named."""
+import random
 import struct
 import sys
 from pathlib import Path
@@ -12,34 +13,68 @@ def header(kind, flags, offset, address, file_size, memory_size, alignment):
     return struct.pack('<IIQQQQQQ', kind, flags, offset, address, address, file_size, memory_size, alignment)
 
 
-def program(relocations, memory, loads=0, data=0):
+# The tables that an object has to have: a hash table of one bucket, symbol 0, and eight bytes of strings.
+TABLES = struct.pack('<4I', 1, 1, 0, 0) + bytes(24 + 8)
+
+
+def tags_of(address):
+    """The dynamic entries that say where these tables stand."""
+    return [(4, address), (6, address + 16), (5, address + 40), (10, 1), (11, 24)]
+
+
+def program(relocations, memory, loads=0, data=0, notes=1):
     """A program: one PT_LOAD over the whole file with some memory behind it, `loads` more PT_LOADs of 16 bytes of
-    memory with a PT_NOTE before each, the relocations as (place behind the file, addend), and `data` bytes at the end."""
-    count = 2 + 2 * loads
+    memory with `notes` PT_NOTEs before each, the relocations as (place behind the file, addend), and `data` bytes at
+    the end."""
+    count = 2 + (1 + notes) * loads
     table = 64 + 56 * count
-    dynamic = table + 24 * len(relocations)
-    size = dynamic + 4 * 16 + data
+    tables = table + 24 * len(relocations)
+    dynamic = tables + len(TABLES)
+    size = dynamic + 9 * 16 + data
     end = size + memory
     base = (size + 7) // 8 * 8
     headers = [header(1, 6, 0, 0, size, end, PAGE)]
     for i in range(loads):
-        headers.append(header(4, 4, 0, 0, 0, 0, 1))
+        headers += [header(4, 4, 0, 0, 0, 0, 1)] * notes
         headers.append(header(1, 6, 0, (end + 15) // 16 * 16 + 16 * i, 0, 16, 1))
-    headers.append(header(2, 6, dynamic, dynamic, 64, 64, 8))
-    entries = [(7, table), (8, 24 * len(relocations)), (9, 24), (0, 0)]
+    headers.append(header(2, 6, dynamic, dynamic, 144, 144, 8))
+    entries = tags_of(tables) + [(7, table), (8, 24 * len(relocations)), (9, 24), (0, 0)]
     file = HEADER + struct.pack('<HHIQQQIHHHHHH', 3, 62, 1, 0, 64, 0, 0, 64, 56, count, 0, 0, 0)
     file += b''.join(headers)
     file += b''.join(struct.pack('<QQQ', base + place, 8, addend) for place, addend in relocations)
-    file += b''.join(struct.pack('<QQ', *entry) for entry in entries)
+    file += TABLES + b''.join(struct.pack('<QQ', *entry) for entry in entries)
     return file + bytes(i * 7 % 251 for i in range(min(data, 251))) * (data // 251) + bytes(data % 251)
 
 
-def empty_segment(memory):
-    """A program with one PT_LOAD of so many bytes of memory and none of the file, and without relocations."""
-    dynamic = 64 + 56 * 2
+def two_headers(load, dynamic):
+    """A file header and two program headers."""
     file = HEADER + struct.pack('<HHIQQQIHHHHHH', 3, 62, 1, 0, 64, 0, 0, 64, 56, 2, 0, 0, 0)
-    file += header(1, 6, 0, 0, 0, memory, PAGE) + header(2, 6, dynamic, dynamic, 16, 16, 8)
-    return file + struct.pack('<QQ', 0, 0)
+    return file + header(1, 6, *load) + header(2, 6, *dynamic)
+
+
+def empty_segment(memory):
+    """A program with one PT_LOAD of so many bytes of memory, of which the file has its tables, and no relocations."""
+    tables = 64 + 56 * 2
+    dynamic = tables + len(TABLES)
+    file = two_headers((tables, 0, len(TABLES), memory, 1), (dynamic, 0, 96, 96, 8))
+    return file + TABLES + b''.join(struct.pack('<QQ', *entry) for entry in tags_of(0) + [(0, 0)])
+
+
+def long_dynamic(count):
+    """A program whose dynamic section has so many entries of a tag that isn't read, and then its tables'."""
+    tables = 64 + 56 * 2
+    dynamic, size = tables + len(TABLES), 16 * (count + 6)
+    file = two_headers((tables, 0, len(TABLES), len(TABLES), 1), (dynamic, 0, size, size, 8))
+    return file + TABLES + struct.pack('<QQ', 0x6ffffef5, 0) * count + b''.join(
+        struct.pack('<QQ', *entry) for entry in tags_of(0) + [(0, 0)])
+
+
+def scattered(loads, count):
+    """A program of so many PT_LOADs with a PT_NOTE before each, and so many relocations into them in random order."""
+    first = program([(0, 0)] * count, 16, loads)
+    start = (len(first) + 16 + 15) // 16 * 16 - (len(first) + 7) // 8 * 8
+    numbers = random.Random(1)
+    return program([(start + 16 * numbers.randrange(loads), i) for i in range(count)], 16, loads)
 
 
 def main():
@@ -49,6 +84,9 @@ def main():
         'relocations.so': program([(8 * i, i) for i in range(600_000)], 8 * 600_000 + 8),
         'segment.so': program([(0, 0)], 16, data=15 * 1024 * 1024),
         'memory.so': empty_segment(64 * 1024 * 1024),
+        'many_headers.so': program([(0, 0)], 16, 60_000, notes=0),
+        'scattered.so': scattered(32_499, 540_000),
+        'dynamic.so': long_dynamic(1_000_000),
     }
     loads = 32_499
     first = program([(0, 0)] * 100_000, 16, loads)

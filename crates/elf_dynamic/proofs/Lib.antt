@@ -1,6 +1,6 @@
-pub mod Spans
 pub mod Accepted
-pub mod Order
-pub mod Places
-pub mod TableEntries
-pub mod LoadNumbers
+mod TableEntries
+mod Misplaced
+mod SymbolNumbers
+mod StringEnds
+mod SignedSum

@@ -1,11 +1,8 @@
-pub mod Number
-pub mod Header
-pub mod Segment
-pub mod Dynamic
-pub mod Loads
-pub mod Address
+pub mod Constant
+pub mod HashTable
+pub mod Symbol
+pub mod Strings
 pub mod Relocation
 pub mod Table
-pub mod Place
 pub mod Refusal
-pub mod Object
+pub mod inside

@@ -1,27 +1,30 @@
-//! A borrowed view of an ELF-64 shared object for x86-64 (System V gABI chapters 4 and 5, elf(5), psABI).
+//! A borrowed view of an ELF-64 shared object for x86-64 (System V gABI chapters 4 and 5, elf(5),
+//! psABI).
 //!
-//! `Object::read` accepts a file exactly where none of its tests applies, and else gives the refusal of the
-//! first that does. It takes no memory and copies nothing: what the view gives are parts of the file.
+//! `Object::read` accepts a file exactly where none of its tests applies, and else gives the
+//! refusal of the first that does. It takes no memory and copies nothing: what the view gives are
+//! parts of the file.
 #![tactic(auto)]
 
-mod address;
-mod dynamic;
-mod first_refusal;
-mod header;
-mod loads;
-mod number;
+mod hash_table;
+mod names;
 mod object;
+mod parts;
 mod place;
-mod refusal;
 mod relocation;
-mod segment;
-mod table;
-mod tag;
+mod relocations;
+mod strings;
+mod symbol;
+mod symbols;
+mod tables;
+#[cfg(test)]
+mod tests;
 
+pub use elf_file::{LoadSegments, ObjectRefusal, ProgramHeader};
 pub use object::Object;
-pub use refusal::ObjectRefusal;
 pub use relocation::{
     R_X86_64_64, R_X86_64_GLOB_DAT, R_X86_64_JUMP_SLOT, R_X86_64_NONE, R_X86_64_RELATIVE,
     Relocation,
 };
-pub use segment::ProgramHeader;
+pub use strings::NeededNames;
+pub use symbol::Symbol;

@@ -1,105 +1,207 @@
 // A view of an accepted file.
 
-ghost use Rattle.std.specs.Prelude.{◌≡◌, ◌≤◌, ◌<◌, ◌+◌, length, Some, None, MatchResult, slice_get, slice_index_or};
-ghost use Rattle.elf_dynamic.specs.Segment.{loads, contents};
+ghost use Rattle.std.specs.Prelude.{◌≡◌, ◌<◌, length, Some, None, slice_get};
+ghost use Rattle.std.specs.Prelude.{MatchOption, MatchResult};
+ghost use Rattle.elf_file.specs.Segment.{loads, contents};
 ghost use Rattle.elf_dynamic.specs.Relocation.{relocations};
+ghost use Rattle.elf_dynamic.specs.HashTable.{buckets, chains};
+ghost use Rattle.elf_dynamic.specs.Strings.{string_table, needed, soname, name_of};
+ghost use Rattle.elf_dynamic.specs.Symbol.{symbols};
 ghost use Rattle.elf_dynamic.specs.Refusal.{first_refusal};
-ghost use Rattle.elf_dynamic.specs.declared.segment.ProgramHeader.{ProgramHeader};
 
-use crate::ObjectRefusal;
-use crate::first_refusal::{test_dynamic, test_header, test_relocations, test_segments};
-use crate::loads::LoadIndex;
 use crate::relocation::Relocation;
-use crate::segment::ProgramHeader;
-use crate::table::{Tables, find_tables};
+use crate::strings::NeededNames;
+use crate::symbol::Symbol;
+use crate::tables::Tables;
+use elf_file::{Dynamic, LoadSegments, ObjectRefusal, ProgramHeader};
 use std::marker::Model;
-
-/// The bytes of the file that are loaded to the front of a PT_LOAD.
-fn contents(file: &[u8], h: ProgramHeader) -> &[u8]
-    requires { 0 < h.file_size → h.offset + h.file_size ≤ length file.now }
-    ensures { result.now ≡ contents file.now h }
-{
-    if h.file_size == 0 {
-        return &[];
-    }
-    let start = h.offset as usize;
-    &file[start..start + h.file_size as usize]
-}
 
 /// A shared object that no test refuses. Contracts see the bytes of its file.
 #[derive(Drop)]
 pub struct Object<'a> {
-    file: &'a [u8],
-    loads: LoadIndex,
-    tables: Tables,
+    tables: Tables<'a>,
 }
 
 impl<'a> Model for Object<'a> {
-    ghost use Rattle.std.specs.Prelude.{List, ℕ};
-    ghost use Rattle.elf_dynamic.specs.Object.{IsObject};
+    ghost use Rattle.std.specs.Prelude.{List, ℕ, ◌≡◌, None};
+    ghost use Rattle.elf_dynamic.specs.Refusal.{first_refusal};
 
     ghost Value = { List ℕ };
 
-    ghost view = { λ o. o.file.now };
+    ghost view = { λ o. o.tables };
 
-    ghost invariant = { λ o. IsObject o.file.now o.loads o.tables };
+    ghost invariant = { λ o. first_refusal o.tables ≡ None };
 }
 
 impl<'a> Object<'a> {
-    /// Reads a file, or gives the refusal of the first test that applies. A few passes over the program headers, the
-    /// dynamic section and the relocations; it takes no memory and copies nothing.
+    /// Reads a file, or gives the refusal of the first test that applies. A few passes over the
+    /// program headers and the relocations, and one over the dynamic section; it takes no memory
+    /// and copies nothing.
     #[tactic(auto, unfolding(crate::specs::Refusal::first_refusal))]
     pub fn read(file: &'a [u8]) -> Result<Object<'a>, ObjectRefusal>
-        ensures { MatchResult result (λ object. (first_refusal file.now ≡ None) × (object ≡ file.now)) (λ refusal. first_refusal file.now ≡ Some refusal) }
+        ensures { MatchResult result
+            (λ object. (first_refusal file.now ≡ None) × (object ≡ file.now))
+            (λ refusal. first_refusal file.now ≡ Some refusal) }
     {
-        test_header(file)?;
-        test_segments(file)?;
-        test_dynamic(file)?;
-        let loads = LoadIndex::new(file);
-        let tables = find_tables(file);
-        test_relocations(file, &loads, &tables)?;
-        Ok(Object {
-            file,
-            loads,
-            tables,
-        })
+        let dynamic = Dynamic::read(file)?;
+        let tables = Tables::read(dynamic)?;
+        tables.test_symbols()?;
+        tables.test_relocations()?;
+        Ok(Object { tables })
     }
 
     /// How many PT_LOADs there are.
     pub fn segment_count(&self) -> usize
-        ensures { result ≡ length (loads self.now) }
+        ensures count { result ≡ length (loads self.now) }
+
+        // A file that is held as an object is refused by no test.
+        ensures accepted { first_refusal self.now ≡ None }
     {
-        self.loads.count
+        self.tables.segments().count()
     }
 
-    /// The PT_LOAD number `i`, in the order of the program headers, which is that of their addresses.
+    /// The PT_LOAD number `i`, in the order of the program headers, which is that of their
+    /// addresses. A halving; where all are wanted, `segments` gives them in one pass.
     pub fn segment(&self, i: usize) -> ProgramHeader
         requires { i < length (loads self.now) }
-        ensures { slice_get (loads self.now) i ≡ Some result }
+        ensures segment { slice_get (loads self.now) i ≡ Some result }
+        ensures accepted { first_refusal self.now ≡ None }
     {
-        self.loads.nth(self.file, i)
+        self.tables.segments().nth(i)
     }
 
-    /// The bytes of the file that are loaded to the front of the PT_LOAD number `i`, `p_filesz` of them.
-    pub fn contents(&self, i: usize) -> &'a [u8]
-        requires { i < length (loads self.now) }
-        ensures { (d : ProgramHeader) → result.now ≡ contents self.now (slice_index_or (loads self.now) i d) }
+    /// The PT_LOADs in their order: one pass over the program headers.
+    pub fn segments(&self) -> LoadSegments<'a>
+        ensures segments { result ≡ loads self.now }
+        ensures accepted { first_refusal self.now ≡ None }
     {
-        contents(self.file, self.segment(i))
+        self.tables.segments().iter()
+    }
+
+    /// The bytes of the file that are loaded to the front of a PT_LOAD, `p_filesz` of them. Of
+    /// another segment, as many of its bytes as the file has.
+    pub fn contents(&self, segment: ProgramHeader) -> &'a [u8]
+        ensures contents { result.now ≡ contents self.now segment }
+        ensures accepted { first_refusal self.now ≡ None }
+    {
+        let file = self.tables.file();
+        let length = file.len() as u64;
+        let start = segment.offset.min(length);
+        let size = segment.file_size.min(length - start);
+        &file[start as usize..(start + size) as usize]
     }
 
     /// How many relocations there are.
     pub fn rela_count(&self) -> usize
-        ensures { result ≡ length (relocations self.now) }
+        ensures count { result ≡ length (relocations self.now) }
+        ensures accepted { first_refusal self.now ≡ None }
     {
-        self.tables.count(self.file)
+        self.tables.relocation_count()
     }
 
     /// The relocation number `i`: those of `DT_RELA` come first, then those of `DT_JMPREL`.
     pub fn rela(&self, i: usize) -> Relocation
         requires { i < length (relocations self.now) }
-        ensures { slice_get (relocations self.now) i ≡ Some result }
+        ensures relocation { slice_get (relocations self.now) i ≡ Some result }
+        ensures accepted { first_refusal self.now ≡ None }
     {
-        self.tables.nth(self.file, i)
+        self.tables.relocation(i)
+    }
+
+    /// How many libraries the object needs.
+    pub fn needed_count(&self) -> usize
+        ensures count { result ≡ length (needed self.now) }
+        ensures accepted { first_refusal self.now ≡ None }
+    {
+        self.tables.needed_count()
+    }
+
+    /// The name of the needed library number `i`, in the order of the dynamic section. A pass over
+    /// that section up to it; where all are wanted, `needed_names` gives them in one pass.
+    pub fn needed(&self, i: usize) -> &'a [u8]
+        requires { i < length (needed self.now) }
+        ensures name { slice_get (needed self.now) i ≡ Some result.now }
+        ensures accepted { first_refusal self.now ≡ None }
+    {
+        self.tables.needed(i)
+    }
+
+    /// The names of the needed libraries in the order of the dynamic section: one pass over it.
+    pub fn needed_names(&self) -> NeededNames<'a>
+        ensures names { result ≡ needed self.now }
+        ensures accepted { first_refusal self.now ≡ None }
+    {
+        self.tables.needed_names()
+    }
+
+    /// The object's own name, where it has one.
+    pub fn soname(&self) -> Option<&'a [u8]>
+        ensures name { MatchOption result (soname self.now ≡ None)
+            (λ name. soname self.now ≡ Some name.now) }
+        ensures accepted { first_refusal self.now ≡ None }
+    {
+        self.tables.soname()
+    }
+
+    /// The string table, in which the names of symbols stand at their offsets.
+    pub fn string_table(&self) -> &'a [u8]
+        ensures table { result.now ≡ string_table self.now }
+        ensures accepted { first_refusal self.now ≡ None }
+    {
+        self.tables.string_table()
+    }
+
+    /// How many symbols there are, that of index 0 too, and how many chain words.
+    pub fn symbol_count(&self) -> u32
+        ensures count { result ≡ length (symbols self.now) }
+        ensures chains { result ≡ length (chains self.now) }
+        ensures accepted { first_refusal self.now ≡ None }
+    {
+        self.tables.symbol_count()
+    }
+
+    /// The symbol of an index.
+    pub fn symbol(&self, i: u32) -> Symbol
+        requires { i < length (symbols self.now) }
+        ensures symbol { slice_get (symbols self.now) i ≡ Some result }
+        ensures accepted { first_refusal self.now ≡ None }
+    {
+        self.tables.symbol(i)
+    }
+
+    /// The name of the symbol of an index, which is empty at index 0. As long as the name, whose
+    /// end is looked for.
+    pub fn name_of(&self, i: u32) -> &'a [u8]
+        requires { i < length (symbols self.now) }
+        ensures name { result.now ≡ name_of self.now i }
+        ensures accepted { first_refusal self.now ≡ None }
+    {
+        self.tables.name_of(i)
+    }
+
+    /// How many buckets the hash table has.
+    pub fn bucket_count(&self) -> u32
+        ensures count { result ≡ length (buckets self.now) }
+        ensures accepted { first_refusal self.now ≡ None }
+    {
+        self.tables.bucket_count()
+    }
+
+    /// The word of a bucket: the index of the first symbol of its chain.
+    pub fn bucket(&self, i: u32) -> u32
+        requires { i < length (buckets self.now) }
+        ensures word { slice_get (buckets self.now) i ≡ Some result }
+        ensures accepted { first_refusal self.now ≡ None }
+    {
+        self.tables.bucket(i)
+    }
+
+    /// The chain word of a symbol: the index of the next symbol of its chain, or 0 at the end.
+    pub fn chain(&self, i: u32) -> u32
+        requires { i < length (chains self.now) }
+        ensures word { slice_get (chains self.now) i ≡ Some result }
+        ensures accepted { first_refusal self.now ≡ None }
+    {
+        self.tables.chain(i)
     }
 }

@@ -45,11 +45,11 @@ apart_from s [] from = refl
 apart_from s (run ∷ runs) from = added s run runs (λ at. absurd (omega (arith, from, at)))
 
 -- one claimed sector on
-past_claimed : (s : ℕ) (flags : List Bool) → s < length flags → ((d : Bool) → get_or flags s d ≡ true) → runs_from s (drop s flags) ≡ runs_from (s + 1) (drop (s + 1) flags)
+pub past_claimed : (s : ℕ) (flags : List Bool) → s < length flags → ((d : Bool) → get_or flags s d ≡ true) → runs_from s (drop s flags) ≡ runs_from (s + 1) (drop (s + 1) flags)
 past_claimed s flags lt claimed = at_drop_more (runs_from s) flags s true lt ∙ ap (λ b. runs_from s (b ∷ drop (s + 1) flags)) (claimed true)
 
 -- one free sector on
-past_free : (s : ℕ) (flags : List Bool) → s < length flags → ((d : Bool) → get_or flags s d ≡ false) → runs_from s (drop s flags) ≡ with_free s (runs_from (s + 1) (drop (s + 1) flags))
+pub past_free : (s : ℕ) (flags : List Bool) → s < length flags → ((d : Bool) → get_or flags s d ≡ false) → runs_from s (drop s flags) ≡ with_free s (runs_from (s + 1) (drop (s + 1) flags))
 past_free s flags lt free = at_drop_more (runs_from s) flags s true lt ∙ ap (λ b. runs_from s (b ∷ drop (s + 1) flags)) (free true)
 
 -- some claimed sectors on
@@ -73,7 +73,7 @@ behind_run s flags end = ⊎_elim
     (cases_lt s (length flags))
 
 -- free sectors up to a claimed one or the end are the first run
-whole_run : (n s : ℕ) (flags : List Bool) → s + suc n ≤ length flags → ((k : ℕ) (d : Bool) → s ≤ k → k < s + suc n → get_or flags k d ≡ false) → ((d : Bool) → s + suc n < length flags → get_or flags (s + suc n) d ≡ true) → runs_from s (drop s flags) ≡ record { start = s; count = suc n } ∷ runs_from (s + suc n) (drop (s + suc n) flags)
+pub whole_run : (n s : ℕ) (flags : List Bool) → s + suc n ≤ length flags → ((k : ℕ) (d : Bool) → s ≤ k → k < s + suc n → get_or flags k d ≡ false) → ((d : Bool) → s + suc n < length flags → get_or flags (s + suc n) d ≡ true) → runs_from s (drop s flags) ≡ record { start = s; count = suc n } ∷ runs_from (s + suc n) (drop (s + suc n) flags)
 whole_run zero s flags fits free end =
     let one : s + suc zero ≡ s + 1 = refl in
     past_free s flags (omega arith) (λ d. free s d (omega arith) (omega arith))

@@ -1,10 +1,16 @@
 mod Free
 mod Front
 mod Given
-pub mod LayoutLemmas
 mod Marks
 mod Pairs
 mod Places
-pub mod Sectors
+mod Sectors
 mod Several
 mod Sorting
+mod WholeRuns
+pub mod LayoutLemmas
+pub mod LongestLemmas
+pub mod PlacesLemmas
+pub mod RunsLemmas
+pub mod TakenLemmas
+pub mod UsedLemmas

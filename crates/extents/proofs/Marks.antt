@@ -6,7 +6,7 @@ use Rattle.std.proofs.lemmas.List.Sums.{sum_by-append, sum_by-cons, count_by-le-
 use Rattle.extents.specs.declared.extent.Extent.{Extent}
 use Rattle.extents.specs.Extent.{Has, one_sector}
 use Rattle.extents.specs.Layout.{IsFree, AllFree, AllClaimed, IsInside, IsLowestFree, free_count, with_flag}
-use Rattle.extents.specs.Kept.{IsKept}
+use Rattle.extents.specs.inside.Kept.{IsKept}
 
 -- a sector is one of the extent's, or not
 pub is_of : (e : Extent) (s : ℕ) → Has e s ⊎ ((s < e.start) ⊎ (e.start + e.count ≤ s))

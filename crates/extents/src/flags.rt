@@ -4,9 +4,6 @@ ghost use Rattle.extents.specs.Layout.{AllFree, Overlaps, IsInside, with_flag};
 
 use crate::extent::Extent;
 
-/// How many sectors at the front of a disk hold its roots. They are never given out.
-pub(crate) const ROOT_SECTORS: u32 = 2;
-
 /// Whether all of the extent's sectors are free. One pass over them.
 pub(crate) fn are_free(claimed: &[bool], extent: Extent) -> bool
     requires { IsInside claimed.now extent }
@@ -28,11 +25,13 @@ pub(crate) fn set_flags(claimed: &mut [bool], extent: Extent, flag: bool)
     claimed[start..end].fill(flag);
 }
 
-/// The first sector from `from` on with this flag, or the number of sectors where there is none.
+/// The first sector from `from` on with this flag, or the number of sectors where there is
+/// none. One pass over the sectors up to it.
 pub(crate) fn first_with(claimed: &[bool], from: usize, flag: bool) -> usize
     ensures within { result ≤ length claimed.now }
     ensures found { result < length claimed.now → from ≤ result }
-    ensures flag { (d : Bool) → result < length claimed.now → slice_index_or claimed.now result d ≡ flag }
+    ensures flag { (d : Bool) → result < length claimed.now
+        → slice_index_or claimed.now result d ≡ flag }
     ensures before { (sector : ℕ) (d : Bool) → from ≤ sector → sector < result
         → slice_index_or claimed.now sector d ≡ not flag }
 {

@@ -1,8 +1,11 @@
-ghost use Rattle.std.specs.Prelude.{◌≡◌, ℕ, ◌+◌, ◌-◌, ◌^◌, ◌<◌, ◌≤◌, ◌↔◌, true, false, replicate, All, AllPairs, IsTrue, IsErr, IsNone, IfSome, IfOk, IfErr, OnOk, OnErr};
+ghost use Rattle.std.specs.Prelude.{◌≡◌, ℕ, ◌+◌, ◌-◌, ◌^◌, ◌<◌, ◌≤◌, ◌↔◌, true, false};
+ghost use Rattle.std.specs.Prelude.{IsTrue, IsErr, IsNone, IfSome, IfOk, IfErr, OnOk, OnErr};
+ghost use Rattle.std.specs.Prelude.{replicate, All, AllPairs};
 
 use crate::extent::Extent;
 use crate::extents::Extents;
-use crate::flags::{ROOT_SECTORS, are_free, first_with, set_flags};
+use crate::flags::{are_free, first_with, set_flags};
+use crate::limits::ROOT_SECTORS;
 use crate::refusal::{ClaimRefusal, TakeRefusal};
 use crate::runs::longest_runs;
 use std::alloc::{AllocError, Global};
@@ -23,7 +26,7 @@ pub struct Layout {
 
 impl Model for Layout {
     ghost use Rattle.std.specs.Prelude.{Bool, List};
-    ghost use Rattle.extents.specs.Kept.{IsKept};
+    ghost use Rattle.extents.specs.inside.Kept.{IsKept};
 
     ghost Value = { List Bool };
 
@@ -34,19 +37,23 @@ impl Model for Layout {
 
 impl Layout {
     ghost use Rattle.extents.specs.Extent.{IsApart, one_sector, sector_count};
-    ghost use Rattle.extents.specs.Layout.{IsFree, AllFree, AllClaimed, Overlaps, IsInside, IsLowestFree, free_count, with_flag, with_flags};
-    ghost use Rattle.extents.specs.Longest.{IsBefore, longest_runs};
+    ghost use Rattle.extents.specs.Limits.{root_sectors};
+    ghost use Rattle.extents.specs.Layout.{IsFree, AllFree, AllClaimed, Overlaps, IsInside};
+    ghost use Rattle.extents.specs.Layout.{IsClaim, IsLowestFree, free_count};
+    ghost use Rattle.extents.specs.Layout.{with_flag, with_flags};
+    ghost use Rattle.extents.specs.Longest.{longest_runs};
     ghost use Rattle.extents.specs.Runs.{free_runs};
-    ghost use Rattle.extents.specs.Taken.{taken};
+    ghost use Rattle.extents.specs.Taken.{IsGiven, taken};
 
     /// A layout of a disk of this many sectors, none of which is claimed. It takes one byte a
     /// sector, and no other call here takes memory.
     pub fn new(alloc: Global, sectors: u32) -> Result<Layout, AllocError>
         ensures ok { IfOk result (λ layout. layout ≡ replicate sectors false) }
 
-        // So the sectors from 2 on are free.
-        ensures free { IfOk result (λ layout. (sector : ℕ) → 2 ≤ sector → sector < sectors → IsFree layout sector) }
-        ensures count { IfOk result (λ layout. free_count layout ≡ sectors - 2) }
+        // So the sectors behind the roots are free.
+        ensures free { IfOk result (λ layout. (sector : ℕ) → root_sectors ≤ sector
+            → sector < sectors → IsFree layout sector) }
+        ensures count { IfOk result (λ layout. free_count layout ≡ sectors - root_sectors) }
     {
         Ok(Layout {
             claimed: vec![in alloc; false; sectors as usize]?,
@@ -68,17 +75,13 @@ impl Layout {
     /// Claims the sectors of an extent that is in use already, as when a disk is opened.
     pub fn claim(&mut self, extent: Extent) -> Result<(), ClaimRefusal>
         ensures ok { OnOk result (self.new ≡ with_flag true extent self.old) }
-        ensures out_of_range { (result ≡ Err ClaimRefusal.OutOfRange) ↔ (¬ IsInside self.old extent) }
+        ensures out_of_range { (result ≡ Err ClaimRefusal.OutOfRange)
+            ↔ (¬ IsInside self.old extent) }
         ensures overlap { (result ≡ Err ClaimRefusal.Overlap)
             ↔ (IsInside self.old extent × Overlaps self.old extent) }
         ensures err { OnErr result (self.new ≡ self.old) }
 
-        // What is claimed was free, and to release it undoes the claim.
-        ensures inside { OnOk result (IsInside self.old extent) }
-        ensures free { OnOk result (AllFree self.old extent) }
-        ensures claimed { OnOk result (AllClaimed self.new extent) }
-        ensures count { OnOk result (free_count self.new + extent.count ≡ free_count self.old) }
-        ensures undone { OnOk result (with_flag false extent self.new ≡ self.old) }
+        ensures claimed { OnOk result (IsClaim self.old self.new extent) }
     {
         if !self.is_inside(extent) {
             return Err(ClaimRefusal::OutOfRange);
@@ -114,17 +117,7 @@ impl Layout {
             ↔ ((need ≤ free_count self.old) × (sector_count (longest_runs self.old) < need)) }
         ensures err { OnErr result (self.new ≡ self.old) }
 
-        // What is given was free, has `need` sectors and none of them twice, longer extents first.
-        ensures inside { IfOk result (λ extents. All (IsInside self.old) extents) }
-        ensures free { IfOk result (λ extents. All (AllFree self.old) extents) }
-        ensures claimed { IfOk result (λ extents. All (AllClaimed self.new) extents) }
-        ensures apart { IfOk result (λ extents. AllPairs IsApart extents) }
-        ensures sorted { IfOk result (λ extents. AllPairs IsBefore extents) }
-        ensures need { IfOk result (λ extents. sector_count extents ≡ need) }
-        ensures count { OnOk result (free_count self.new + need ≡ free_count self.old) }
-
-        // To release the extents undoes it.
-        ensures undone { IfOk result (λ extents. with_flags false extents self.new ≡ self.old) }
+        ensures given { IfOk result (IsGiven need self.old self.new) }
     {
         if self.free < need {
             return Err(TakeRefusal::Full);
@@ -140,16 +133,13 @@ impl Layout {
     /// one ended, or at the lowest sector released since.
     pub fn take_one(&mut self) -> Result<u32, TakeRefusal>
         ensures ok { IfOk result (IsLowestFree self.old) }
-        ensures now { IfOk result (λ sector. self.new ≡ with_flag true (one_sector sector) self.old) }
+        ensures now { IfOk result (λ sector.
+            self.new ≡ with_flag true (one_sector sector) self.old) }
         ensures full { IsErr result ↔ (free_count self.old ≡ 0) }
         ensures refused { IfErr result (λ refusal. refusal ≡ TakeRefusal.Full) }
         ensures err { OnErr result (self.new ≡ self.old) }
 
-        // To release the sector undoes it.
-        ensures inside { IfOk result (λ sector. IsInside self.old (one_sector sector)) }
-        ensures claimed { IfOk result (λ sector. AllClaimed self.new (one_sector sector)) }
-        ensures count { OnOk result (free_count self.new + 1 ≡ free_count self.old) }
-        ensures undone { IfOk result (λ sector. with_flag false (one_sector sector) self.new ≡ self.old) }
+        ensures claimed { IfOk result (λ sector. IsClaim self.old self.new (one_sector sector)) }
     {
         let sector = self.lowest_free().ok_or(TakeRefusal::Full)?;
         self.claim_free(Extent {
@@ -192,9 +182,7 @@ impl Layout {
         requires inside { IsInside self.old extent }
         requires free { AllFree self.old extent }
         ensures now { self.new ≡ with_flag true extent self.old }
-        ensures claimed { AllClaimed self.new extent }
-        ensures count { free_count self.new + extent.count ≡ free_count self.old }
-        ensures undone { with_flag false extent self.new ≡ self.old }
+        ensures claimed { IsClaim self.old self.new extent }
     {
         set_flags(&mut self.claimed, extent, true);
         self.free -= extent.count;

@@ -2,13 +2,14 @@
 //!
 //! A `Layout` is the set of claimed sectors of a disk. Who opens a disk claims the sectors in use,
 //! and from then on takes free ones for each new file and releases those of old ones.
-//! The sectors 0 and 1 hold the roots: they are never given out.
+//! The first `ROOT_SECTORS` sectors hold the roots: they are never given out.
 #![tactic(auto)]
 
 mod extent;
 mod extents;
 mod flags;
 mod layout;
+mod limits;
 mod refusal;
 mod runs;
 #[cfg(test)]
@@ -17,4 +18,5 @@ mod tests;
 pub use extent::Extent;
 pub use extents::Extents;
 pub use layout::Layout;
+pub use limits::{MOST_EXTENTS, MOST_SECTORS, ROOT_SECTORS};
 pub use refusal::{ClaimRefusal, TakeRefusal};

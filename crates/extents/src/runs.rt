@@ -4,7 +4,8 @@ ghost use Rattle.extents.specs.Longest.{longest_runs};
 
 use crate::extent::Extent;
 use crate::extents::Extents;
-use crate::flags::{ROOT_SECTORS, first_with};
+use crate::flags::first_with;
+use crate::limits::ROOT_SECTORS;
 
 /// The first free run of the sectors from `from` on.
 fn next_run(claimed: &[bool], from: usize) -> Option<Extent>
@@ -26,7 +27,8 @@ fn next_run(claimed: &[bool], from: usize) -> Option<Extent>
     })
 }
 
-/// The 32 longest free runs, longest first. One pass over the flags.
+/// As many of the longest free runs as a file may have extents, longest first. One pass over the
+/// flags; each run is compared with a few of those that are kept, since their number is bounded.
 pub(crate) fn longest_runs(claimed: &[bool]) -> Extents
     requires { length claimed.now < 2 ^ 32 }
     ensures { result ≡ longest_runs claimed.now }

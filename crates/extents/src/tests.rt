@@ -39,8 +39,8 @@ fn takes_at_most_thirty_two_runs(rt: HostRuntime) -> Result<(), Fail> {
     }
     assert_eq!(rt; layout.take(34).err(), Some(TakeRefusal::Full));
     assert_eq!(rt; layout.take(33).err(), Some(TakeRefusal::Fragmented));
-    let mut even = [extent(0, 1); 32];
-    for i in 0..32 {
+    let mut even = [extent(0, 1); MOST_EXTENTS];
+    for i in 0..MOST_EXTENTS {
         even[i].start = 2 * i as u32 + 2;
     }
     assert_eq!(rt; layout.take(32)?.as_slice(), even.as_slice());
@@ -109,5 +109,28 @@ fn gives_released_sectors_again(rt: HostRuntime) -> Result<(), Fail> {
         layout.take(7)?.as_slice(),
         [extent(12, 4), extent(5, 3)].as_slice()
     );
+    Ok(())
+}
+
+// The largest layout: as one run, and with every second sector claimed.
+#[test]
+fn lays_out_the_largest_disk(rt: HostRuntime) -> Result<(), Fail> {
+    assert_eq!(rt; MOST_SECTORS, 4_194_304);
+    let mut layout = Layout::new(rt.alloc(), MOST_SECTORS)?;
+    let behind_roots = MOST_SECTORS - ROOT_SECTORS;
+    assert_eq!(rt; layout.free_count(), behind_roots);
+    assert_eq!(rt;
+        layout.take(behind_roots)?.as_slice(),
+        [extent(2, 4_194_302)].as_slice()
+    );
+    assert_eq!(rt; layout.take_one(), Err(TakeRefusal::Full));
+    let mut layout = Layout::new(rt.alloc(), MOST_SECTORS)?;
+    for odd in (3..MOST_SECTORS).step_by(2) {
+        layout.claim(extent(odd, 1))?;
+    }
+    assert_eq!(rt; layout.free_count(), 2_097_151);
+    assert_eq!(rt; layout.take(33).err(), Some(TakeRefusal::Fragmented));
+    assert_eq!(rt; layout.take(32)?.len(), MOST_EXTENTS);
+    assert_eq!(rt; layout.take_one(), Ok(66));
     Ok(())
 }

@@ -1,9 +1,11 @@
+pub mod Constant
 pub mod Permissions
+pub mod Heading
 pub mod Placement
+pub mod Loading
+pub mod Relocating
 pub mod Byte
 pub mod Image
 pub mod Refusal
 pub mod Text
-pub mod Page
-pub mod Layout
-pub mod View
+pub mod inside

@@ -1,16 +1,78 @@
 // Why a program isn't bound.
 
-use elf_dynamic::ObjectRefusal;
+ghost use Rattle.std.specs.Prelude.{◌≡◌, IfOk};
+ghost use Rattle.image.specs.Refusal.{IsOrWantsMemory};
+ghost use Rattle.image.specs.declared.refusal.BindRefusal.TheVariants.{Missing, Undefined};
+
+use hash_check::FileRefusal;
+use names::Name;
+use std::alloc::{AllocError, Global};
 
 /// Why a program isn't bound at a base, in the order in which the tests are made.
 #[derive(Debug, Drop, PartialEq, Eq)]
 pub enum BindRefusal {
-    /// B1: the file isn't accepted, for this reason.
-    Program(ObjectRefusal),
+    /// B1: the file isn't taken, for this reason.
+    Program(FileRefusal),
     /// B2: the base is no multiple of the program's unit.
     BadBase,
+    /// B3: an object needs a library that isn't there.
+    Missing {
+        /// The name of the object that needs it.
+        needer: Name,
+        /// The name that it needs.
+        name: Name,
+    },
     /// B4: the program's memory would end above 2^47 - 4,096.
     NoRoom,
+    /// B5: an object's relocation names a symbol that no object defines.
+    Undefined {
+        /// The name of the object.
+        object: Name,
+        /// The symbol's name.
+        symbol: Name,
+    },
     /// A growth of memory was refused.
     OutOfMemory,
+}
+
+/// `Missing` with names of its own.
+fn named_missing(alloc: Global, needer: &[u8], name: &[u8]) -> Result<BindRefusal, AllocError>
+    ensures { IfOk result (λ e. e ≡ Missing needer.now name.now) }
+{
+    Ok(BindRefusal::Missing {
+        needer: Name::copy_of(alloc, needer)?,
+        name: Name::copy_of(alloc, name)?,
+    })
+}
+
+/// `Undefined` with names of its own.
+fn named_undefined(alloc: Global, object: &[u8], symbol: &[u8]) -> Result<BindRefusal, AllocError>
+    ensures { IfOk result (λ e. e ≡ Undefined object.now symbol.now) }
+{
+    Ok(BindRefusal::Undefined {
+        object: Name::copy_of(alloc, object)?,
+        symbol: Name::copy_of(alloc, symbol)?,
+    })
+}
+
+impl BindRefusal {
+    /// `Missing` with copies of the names, or `OutOfMemory` where they aren't copied.
+    pub fn missing(alloc: Global, needer: &[u8], name: &[u8]) -> BindRefusal
+        ensures { IsOrWantsMemory (Missing needer.now name.now) result }
+    {
+        match named_missing(alloc, needer, name) {
+            Ok(refusal) => refusal,
+            Err(_) => BindRefusal::OutOfMemory,
+        }
+    }
+
+    /// `Undefined` with copies of the names, or `OutOfMemory` where they aren't copied.
+    pub fn undefined(alloc: Global, object: &[u8], symbol: &[u8]) -> BindRefusal
+        ensures { IsOrWantsMemory (Undefined object.now symbol.now) result }
+    {
+        match named_undefined(alloc, object, symbol) {
+            Ok(refusal) => refusal,
+            Err(_) => BindRefusal::OutOfMemory,
+        }
+    }
 }

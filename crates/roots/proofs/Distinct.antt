@@ -2,7 +2,7 @@
 use Rattle.std.proofs.Common.{◌≡◌, ℕ, List, false, eqb, take, ◌∙◌, ap, subst}
 use Rattle.std.specs.Prelude.{AllPairs}
 use Rattle.std.proofs.lemmas.Bool.{eqb-false}
-use Rattle.roots.specs.Fields.{AreDistinct}
+use Rattle.extents.specs.Extent.{AreDistinct}
 
 -- the used numbers of a list, which a split gave
 pub distinct_front : (ns used : List ℕ) (n count : ℕ) → used ≡ take n ns → n ≡ count → AllPairs (λ a b. eqb a b ≡ false) used → AreDistinct (take count ns)

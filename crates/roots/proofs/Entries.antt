@@ -9,7 +9,7 @@ use Rattle.extents.specs.declared.extent.Extent.{Extent}
 use Rattle.roots.specs.declared.entry.Entry.{Entry}
 use Rattle.roots.specs.Fields.{zeros}
 use Rattle.roots.specs.Entry.{IsDataExtent, no_extent, extent_bytes, entry_bytes, EntryHasSpelling, SpellsEntry}
-use Rattle.roots.specs.Reading.{number_at, values_at, extent_of, entry_of}
+use Rattle.roots.specs.inside.Reading.{number_at, values_at, extent_of, entry_of}
 use Rattle.roots.proofs.Pieces.{IsReadAgain, values_at-pieces, All-uses_first}
 
 -- an extent of numbers of 32 bits

@@ -1,8 +1,11 @@
-pub mod Choices
-pub mod Distinct
+mod Choices
+mod Distinct
+mod Listed
+mod Pieces
+mod Placed
+mod Written
+pub mod ChoiceLemmas
 pub mod Entries
-pub mod Extents
-pub mod Pieces
+pub mod EntryLemmas
+pub mod RootLemmas
 pub mod Roots
-pub mod Sectors
-pub mod Written

@@ -6,7 +6,7 @@ use Rattle.std.proofs.lemmas.List.{drop-drop, drop_at, drop_more, take-append-dr
 use Rattle.std.proofs.lemmas.List.Elements.{All-append, All-weaker, All-get_or}
 use Rattle.std.proofs.lemmas.List.FromFn.{fill_by_all}
 use Rattle.roots.specs.Fields.{UsesFirst}
-use Rattle.roots.specs.Reading.{values_at}
+use Rattle.roots.specs.inside.Reading.{values_at}
 
 -- each value that fits is spelt in so many bytes, and read again from the front of any bytes
 pub record IsReadAgain {A : Type 0} (read : List ℕ → A) (spell : A → List ℕ) (step : ℕ) (Fits : A → Type 0) : Type 0 where

@@ -1,6 +1,7 @@
 -- Which root is current: the choice between the two slots, and what it means for the two sectors.
 use Rattle.std.specs.Prelude.{◌≡◌, ◌⊎◌, ℕ, ◌+◌, ◌%◌, List, Bool, Result, Ok, Err, ◌&&◌, ◌==◌, nat_lt, if◌then◌else◌}
 use Rattle.std.specs.Int.{abs_diff}
+use Rattle.extents.specs.Limits.{root_sectors}
 use Rattle.roots.specs.declared.root.Root.{Root}
 use Rattle.roots.specs.declared.slot.Slot.{Slot}
 use Rattle.roots.specs.declared.slot.Slot.TheVariants.{Empty, Good}
@@ -8,9 +9,13 @@ use Rattle.roots.specs.declared.choice.ChooseRefusal.{ChooseRefusal}
 use Rattle.roots.specs.declared.choice.ChooseRefusal.TheVariants.{NotFormatted, Damaged}
 use Rattle.roots.specs.Root.{LacksMagic, SpellsRoot}
 
+-- the sector that holds the root of a generation: 0 for even ones, 1 for odd ones
+abbrev pub slot_of : ℕ → ℕ
+slot_of generation = generation % root_sectors
+
 -- slot 0 has an even generation and slot 1 an odd one, and they differ by one
 abbrev pub are_neighbours : ℕ → ℕ → Bool
-are_neighbours even odd = even % 2 == 0 && odd % 2 == 1 && abs_diff even odd == 1
+are_neighbours even odd = slot_of even == 0 && slot_of odd == 1 && abs_diff even odd == 1
 
 -- the root of the greater generation
 abbrev pub later : Root → Root → Root
@@ -25,8 +30,8 @@ chosen slot0 slot1 = Err Damaged
 
 -- an even and an odd generation, one commit apart
 pub record AreSuccessive (even odd : ℕ) : Type 0 where
-  pub parity0 : even % 2 ≡ 0
-  pub parity1 : odd % 2 ≡ 1
+  pub parity0 : slot_of even ≡ 0
+  pub parity1 : slot_of odd ≡ 1
   pub apart : (odd ≡ even + 1) ⊎ (even ≡ odd + 1)
 
 -- A root is current in sectors 0 and 1: generation 0 alone, or the greater of two that follow each other.

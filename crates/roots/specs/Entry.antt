@@ -1,9 +1,12 @@
 -- An entry: which entries have a spelling, and the sector that spells one.
-use Rattle.std.specs.Prelude.{◌≡◌, ◌≢◌, ℕ, ◌+◌, ◌≤◌, List, ◌++◌, take, codes, sum_by}
+use Rattle.std.specs.Prelude.{◌≡◌, ◌≢◌, ℕ, ◌+◌, ◌-◌, ◌≤◌, List, ◌++◌, length, take, replicate, codes, sum_by, All}
 use Rattle.std.specs.List.{flat_map}
 use Rattle.std.specs.Int.{w16, w32, to_le_bytes, IsInRange, div_ceil}
 use Rattle.extents.specs.declared.extent.Extent.{Extent}
+use Rattle.sector_disk.specs.Disk.{sector_bytes}
+use Rattle.extents.specs.Limits.{root_sectors, most_extents, most_sectors}
 use Rattle.roots.specs.declared.entry.Entry.{Entry}
+use Rattle.roots.specs.Limits.{least_file_bytes, most_file_bytes, most_name_bytes}
 use Rattle.roots.specs.Fields.{zeros, UsesFirst}
 
 -- a byte of a name: 0x21 to 0x7e, and no `/`
@@ -12,9 +15,9 @@ IsNameByte byte = IsInRange 0x21 0x7e byte × (byte ≢ 0x2f)
 
 -- a run of sectors that may hold a file's bytes, on the largest disk
 pub record IsDataExtent (extent : Extent) : Type 0 where
-  pub low : 2 ≤ extent.start
+  pub low : root_sectors ≤ extent.start
   pub filled : 1 ≤ extent.count
-  pub high : extent.start + extent.count ≤ 4194304
+  pub high : extent.start + extent.count ≤ most_sectors
 
 -- what an unused place for an extent holds
 abbrev pub no_extent : Extent
@@ -35,20 +38,20 @@ entry_bytes entry =
     ++ entry.name  -- 16
     ++ flat_map extent_bytes entry.extents  -- 256
 
--- 240 places for the bytes of a name, which isn't empty
+-- places for the bytes of a name, which isn't empty
 pub record NameFits (entry : Entry) : Type 0 where
   pub some : 1 ≤ entry.name_length
-  pub listed : UsesFirst 240 entry.name_length IsNameByte 0 entry.name
+  pub listed : UsesFirst most_name_bytes entry.name_length IsNameByte 0 entry.name
 
--- 32 places for the extents, which have the sectors of the file: 512 bytes each, the last one perhaps in part
+-- places for the extents, which have the sectors of the file, the last one perhaps in part
 pub record ExtentsFit (entry : Entry) : Type 0 where
   pub some : 1 ≤ entry.extent_count
-  pub listed : UsesFirst 32 entry.extent_count IsDataExtent no_extent entry.extents
-  pub sum : sum_by (λ extent. extent.count) (take entry.extent_count entry.extents) ≡ div_ceil entry.file_length 512
+  pub listed : UsesFirst most_extents entry.extent_count IsDataExtent no_extent entry.extents
+  pub sum : sum_by (λ extent. extent.count) (take entry.extent_count entry.extents) ≡ div_ceil entry.file_length sector_bytes
 
 -- The limits of the fields: an entry has a spelling exactly where it keeps to them.
 pub record EntryHasSpelling (entry : Entry) : Type 0 where
-  pub file_length : IsInRange 64 16777216 entry.file_length
+  pub file_length : IsInRange least_file_bytes most_file_bytes entry.file_length
   pub name : NameFits entry
   pub extents : ExtentsFit entry
 
@@ -56,3 +59,31 @@ pub record EntryHasSpelling (entry : Entry) : Type 0 where
 pub record SpellsEntry (bytes : List ℕ) (entry : Entry) : Type 0 where
   pub has_spelling : EntryHasSpelling entry
   pub spelling : bytes ≡ entry_bytes entry
+
+-- what an entry says: the bytes of the name, and the extents of the file
+abbrev pub listed_name : Entry → List ℕ
+listed_name entry = take entry.name_length entry.name
+
+abbrev pub listed_extents : Entry → List Extent
+listed_extents entry = take entry.extent_count entry.extents
+
+-- the entry of a file, with zeros in the places behind the name and the extents
+abbrev pub entry_of_file : List ℕ → ℕ → List Extent → Entry
+entry_of_file name file_length extents = record {
+  file_length = file_length;
+  name_length = length name;
+  extent_count = length extents;
+  name = name ++ zeros (most_name_bytes - length name);
+  extents = extents ++ replicate (most_extents - length extents) no_extent;
+}
+
+-- What a file's name, length and extents have to keep to, so that its entry has a spelling.
+pub record FileFits (name : List ℕ) (file_length : ℕ) (extents : List Extent) : Type 0 where
+  pub length_fits : IsInRange least_file_bytes most_file_bytes file_length
+  pub some_name : 1 ≤ length name
+  pub short_name : length name ≤ most_name_bytes
+  pub name_fits : All IsNameByte name
+  pub some_extents : 1 ≤ length extents
+  pub few_extents : length extents ≤ most_extents
+  pub extents_fit : All IsDataExtent extents
+  pub sectors : sum_by (λ extent. extent.count) extents ≡ div_ceil file_length sector_bytes

@@ -1,5 +1,5 @@
 -- What sectors are made of: numbers, zeros, and lists in a fixed number of places.
-use Rattle.std.specs.Prelude.{◌≡◌, ◌≢◌, ℕ, ◌≤◌, List, length, take, drop, replicate, All, AllPairs}
+use Rattle.std.specs.Prelude.{◌≡◌, ℕ, ◌≤◌, List, length, take, drop, replicate, All}
 use Rattle.std.specs.List.{flat_map}
 use Rattle.std.specs.Int.{Width, to_le_bytes}
 
@@ -10,10 +10,6 @@ zeros n = replicate n 0
 -- numbers of one width, each little endian, one after the other
 abbrev pub numbers : Width → List ℕ → List ℕ
 numbers w ns = flat_map (to_le_bytes w) ns
-
--- no number stands twice
-abbrev pub AreDistinct : List ℕ → Type 0
-AreDistinct ns = AllPairs (λ a b. a ≢ b) ns
 
 -- Of so many places the first `count` are used, each of them fits, and the others hold `unused`.
 pub record UsesFirst {A : Type 0} (places count : ℕ) (Fits : A → Type 0) (unused : A) (values : List A) : Type 0 where

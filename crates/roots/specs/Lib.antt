@@ -1,6 +1,7 @@
+pub mod Limits
 pub mod Fields
 pub mod Root
 pub mod Slot
 pub mod Choice
 pub mod Entry
-pub mod Reading
+pub mod inside

@@ -1,13 +1,15 @@
 //! Which of two roots is current.
 
-ghost use Rattle.std.specs.Prelude.{◌≡◌, ◌↔◌, ℕ, List, Ok, Err};
+ghost use Rattle.std.specs.Prelude.{◌≡◌, ◌<◌, ◌↔◌, ℕ, List, Ok, Err};
 ghost use Rattle.roots.specs.declared.root.Root.{Root};
 ghost use Rattle.roots.specs.Root.{LacksMagic};
 ghost use Rattle.roots.specs.Slot.{IsSlotOf};
-ghost use Rattle.roots.specs.Choice.{chosen, IsCurrent};
+ghost use Rattle.extents.specs.Limits.{root_sectors};
+ghost use Rattle.roots.specs.Choice.{slot_of, chosen, IsCurrent};
 
 use crate::root::Root;
 use crate::slot::Slot;
+use extents::ROOT_SECTORS;
 
 /// Why no root is current.
 #[derive(Clone, Copy, Debug, PartialEq, Eq)]
@@ -16,6 +18,14 @@ pub enum ChooseRefusal {
     NotFormatted,
     /// No stop of a registry leaves these slots.
     Damaged,
+}
+
+/// The sector that holds the root of a generation: 0 for even generations, 1 for odd ones.
+pub fn slot_of(generation: u64) -> u32
+    ensures value { result ≡ slot_of generation }
+    ensures low { result < root_sectors }
+{
+    (generation % u64::from(ROOT_SECTORS)) as u32
 }
 
 /// The current root. Slot 0 is for even generations and slot 1 for odd ones.
@@ -49,8 +59,8 @@ fn by_table(slot0: Slot, slot1: Slot) -> Result<Root, ChooseRefusal>
 fn later(even: Root, odd: Root) -> Result<Root, ChooseRefusal>
     ensures { result ≡ chosen (Slot.Good even) (Slot.Good odd) }
 {
-    if even.generation % 2 != 0
-        || odd.generation % 2 != 1
+    if slot_of(even.generation) != 0
+        || slot_of(odd.generation) != 1
         || even.generation.abs_diff(odd.generation) != 1
     {
         return Err(ChooseRefusal::Damaged);

@@ -1,24 +1,19 @@
 //! What an entry says.
 
 ghost use Rattle.std.specs.Prelude.{◌≡◌, ◌↔◌, ◌≤◌, IsTrue, length, sum_by};
-ghost use Rattle.roots.specs.Entry.{EntryHasSpelling, NameFits, ExtentsFit, IsNameByte, IsDataExtent};
+ghost use Rattle.extents.specs.Limits.{most_extents};
+ghost use Rattle.roots.specs.Entry.{EntryHasSpelling, NameFits, ExtentsFit};
+ghost use Rattle.roots.specs.Limits.{most_name_bytes};
+ghost use Rattle.roots.specs.Entry.{IsNameByte, IsDataExtent};
+ghost use Rattle.roots.specs.Entry.{entry_of_file, listed_name, listed_extents};
 
-use crate::root::MOST_SECTORS;
-use extents::Extent;
+use crate::limits::{LEAST_FILE_BYTES, MOST_FILE_BYTES, MOST_NAME_BYTES};
+use crate::lists::placed;
+use extents::{Extent, MOST_EXTENTS, MOST_SECTORS, ROOT_SECTORS};
+use sector_disk::SECTOR_BYTES;
 
-/// The length of the shortest file, in bytes.
-pub const SHORTEST_FILE: u32 = 64;
-
-/// The length of the longest file, in bytes.
-pub const LONGEST_FILE: u32 = 16_777_216;
-
-/// The length of the longest name, in bytes.
-pub const LONGEST_NAME: usize = 240;
-
-/// The most extents that a file lies in.
-pub const MOST_EXTENTS: usize = 32;
-
-/// A library's entry: its name, and where its file lies. In a spelling the places past a count are zero.
+/// A library's entry: its name, and where its file lies. In a spelling the places past a count
+/// are zero.
 #[derive(Clone, Copy, Debug, PartialEq, Eq)]
 pub struct Entry {
     /// The length of the file in bytes.
@@ -28,17 +23,50 @@ pub struct Entry {
     /// How many extents the file lies in.
     pub extent_count: u16,
     /// The name, in visible ASCII without `/`.
-    pub name: [u8; LONGEST_NAME],
+    pub name: [u8; MOST_NAME_BYTES],
     /// Where the file's sectors lie, in the order of the file.
     pub extents: [Extent; MOST_EXTENTS],
 }
 
 impl Entry {
+    /// The entry of a file of so many bytes, with this name and in these extents.
+    pub fn new(name: &[u8], file_length: u32, extents: &[Extent]) -> Entry
+        requires short_name { length name.now ≤ most_name_bytes }
+        requires few_extents { length extents.now ≤ most_extents }
+        ensures value { result ≡ entry_of_file name.now file_length extents.now }
+        ensures name { listed_name result ≡ name.now }
+        ensures extents { listed_extents result ≡ extents.now }
+    {
+        Entry {
+            file_length,
+            name_length: name.len() as u16,
+            extent_count: extents.len() as u16,
+            name: placed(name, 0),
+            extents: placed(extents, Extent { start: 0, count: 0 }),
+        }
+    }
+
+    /// The bytes of the name.
+    pub fn name_bytes(&self) -> &[u8]
+        requires { EntryHasSpelling self.now }
+        ensures { result.now ≡ listed_name self.now }
+    {
+        &self.name[..usize::from(self.name_length)]
+    }
+
+    /// The extents of the file, in its order.
+    pub fn file_extents(&self) -> &[Extent]
+        requires { EntryHasSpelling self.now }
+        ensures { result.now ≡ listed_extents self.now }
+    {
+        &self.extents[..usize::from(self.extent_count)]
+    }
+
     /// Whether each field keeps to the format's limits, so that a sector can spell this entry.
     pub fn has_spelling(&self) -> bool
         ensures { IsTrue result ↔ EntryHasSpelling self.now }
     {
-        (SHORTEST_FILE..=LONGEST_FILE).contains(&self.file_length)
+        (LEAST_FILE_BYTES..=MOST_FILE_BYTES).contains(&self.file_length)
             && self.name_fits()
             && self.extents_fit()
     }
@@ -47,7 +75,7 @@ impl Entry {
         ensures { IsTrue result ↔ NameFits self.now }
     {
         let length = usize::from(self.name_length);
-        if length < 1 || length > LONGEST_NAME {
+        if length < 1 || length > MOST_NAME_BYTES {
             return false;
         }
         let (used, rest) = self.name.split_at(length);
@@ -66,7 +94,7 @@ impl Entry {
             && rest
                 .iter()
                 .all(|unused| unused.start == 0 && unused.count == 0)
-            && sector_count(used) == u64::from(self.file_length.div_ceil(512))
+            && sector_count(used) == u64::from(self.file_length.div_ceil(SECTOR_BYTES as u32))
     }
 }
 
@@ -79,13 +107,13 @@ fn is_name_byte(byte: u8) -> bool
 fn is_data_extent(extent: Extent) -> bool
     ensures { IsTrue result ↔ IsDataExtent extent }
 {
-    2 <= extent.start
+    ROOT_SECTORS <= extent.start
         && 1 <= extent.count
         && u64::from(extent.start) + u64::from(extent.count) <= u64::from(MOST_SECTORS)
 }
 
 fn sector_count(extents: &[Extent]) -> u64
-    requires { length extents.now ≤ 32 }
+    requires { length extents.now ≤ most_extents }
     ensures { result ≡ sum_by (λ extent. extent.count) extents.now }
 {
     extents.iter().map(|extent| u64::from(extent.count)).sum()

@@ -3,16 +3,18 @@
 ghost use Rattle.std.specs.Prelude.{◌≡◌, ◌↔◌, IsTrue, IfSome, Some};
 ghost use Rattle.roots.specs.declared.entry.Entry.{Entry};
 ghost use Rattle.roots.specs.Entry.{EntryHasSpelling, SpellsEntry, entry_bytes};
-ghost use Rattle.roots.specs.Reading.{entry_of};
+ghost use Rattle.roots.specs.inside.Reading.{entry_of};
 
-use crate::entry::{Entry, LONGEST_NAME};
-use crate::reading::{extents_at, u16_at, u32_at};
+use crate::entry::Entry;
+use crate::field::{Field, values_at};
+use crate::limits::MOST_NAME_BYTES;
 use crate::writer::SectorWriter;
+use sector_disk::SECTOR_BYTES;
 
 const MAGIC: [u8; 4] = *b"LIBE";
 
 /// The sector that spells the entry. `Entry::has_spelling` tests its condition.
-pub fn encode_entry(entry: &Entry) -> [u8; 512]
+pub fn encode_entry(entry: &Entry) -> [u8; SECTOR_BYTES]
     requires { EntryHasSpelling entry.now }
     ensures spelling { result ≡ entry_bytes entry.now }
 
@@ -26,12 +28,12 @@ pub fn encode_entry(entry: &Entry) -> [u8; 512]
     sector.put(&entry.extent_count.to_le_bytes());
     sector.put(&[0; 4]);
     sector.put(&entry.name);
-    sector.put_extents(&entry.extents);
+    sector.put_all(&entry.extents);
     sector.finish()
 }
 
 /// The entry that a sector spells; None where it spells none.
-pub fn decode_entry(bytes: &[u8; 512]) -> Option<Entry>
+pub fn decode_entry(bytes: &[u8; SECTOR_BYTES]) -> Option<Entry>
     // What is read is spelt so.
     ensures read { IfSome result (λ entry. SpellsEntry bytes.now entry) }
 
@@ -43,24 +45,24 @@ pub fn decode_entry(bytes: &[u8; 512]) -> Option<Entry>
 }
 
 // Whether the sector is the entry's spelling.
-fn spells(bytes: &[u8; 512], entry: &Entry) -> bool
+fn spells(bytes: &[u8; SECTOR_BYTES], entry: &Entry) -> bool
     ensures { IsTrue result ↔ SpellsEntry bytes.now entry.now }
 {
     entry.has_spelling() && *bytes == encode_entry(entry)
 }
 
 // What the fields say, within their limits or not.
-#[tactic(auto, unfolding(crate::specs::Reading::entry_of))]
-fn entry_fields(bytes: &[u8; 512]) -> Entry
+#[tactic(auto, unfolding(crate::specs::inside::Reading::entry_of))]
+fn entry_fields(bytes: &[u8; SECTOR_BYTES]) -> Entry
     ensures { result ≡ entry_of bytes.now }
 {
-    let mut name = [0; LONGEST_NAME];
-    name.copy_from_slice(&bytes[16..16 + LONGEST_NAME]);
+    let mut name = [0; MOST_NAME_BYTES];
+    name.copy_from_slice(&bytes[16..16 + MOST_NAME_BYTES]);
     Entry {
-        file_length: u32_at(bytes, 4),
-        name_length: u16_at(bytes, 8),
-        extent_count: u16_at(bytes, 10),
+        file_length: u32::read_at(bytes, 4),
+        name_length: u16::read_at(bytes, 8),
+        extent_count: u16::read_at(bytes, 10),
         name,
-        extents: extents_at(bytes, 256),
+        extents: values_at(bytes, 256),
     }
 }

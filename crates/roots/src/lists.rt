@@ -1,4 +1,5 @@
-ghost use Rattle.std.specs.Prelude.{◌≡◌, ◌↔◌, IsTrue, AllPairs, false};
+ghost use Rattle.std.specs.Prelude.{◌≡◌, ◌↔◌, ◌-◌, ◌≤◌, ◌++◌, IsTrue, AllPairs, false};
+ghost use Rattle.std.specs.Prelude.{length, replicate};
 
 /// Whether no value stands twice. The number of steps grows as the square of the list's length.
 pub(crate) fn are_distinct<T: PartialEq>(values: &[T]) -> bool
@@ -10,4 +11,14 @@ pub(crate) fn are_distinct<T: PartialEq>(values: &[T]) -> bool
         }
     }
     true
+}
+
+/// The values in the first of `N` places, and this one in the others.
+pub(crate) fn placed<T: Copy, const N: usize>(values: &[T], unused: T) -> [T; N]
+    requires { length values.now ≤ N }
+    ensures { result ≡ values.now ++ replicate (N - length values.now) unused }
+{
+    let mut places = [unused; N];
+    places[..values.len()].copy_from_slice(values);
+    places
 }

@@ -1,23 +1,17 @@
 //! What a root says.
 
-ghost use Rattle.std.specs.Prelude.{◌↔◌, IsTrue};
+ghost use Rattle.std.specs.Prelude.{◌≡◌, ◌≤◌, ◌↔◌, IsTrue, length};
+ghost use Rattle.roots.specs.Limits.{most_libraries, most_preloads};
 ghost use Rattle.roots.specs.Root.{RootHasSpelling, PreloadsFit, EntrySectorsFit};
+ghost use Rattle.roots.specs.Root.{root_of_lists, listed_sectors, listed_preloads};
 
-use crate::lists::are_distinct;
+use crate::entry_list::EntryList;
+use crate::limits::{LEAST_SECTORS, MOST_LIBRARIES, MOST_PRELOADS};
+use crate::lists::{are_distinct, placed};
+use extents::{MOST_SECTORS, ROOT_SECTORS};
 
-/// The fewest sectors that a disk has.
-pub const LEAST_SECTORS: u32 = 8;
-
-/// The most sectors that a disk has.
-pub const MOST_SECTORS: u32 = 4_194_304;
-
-/// The most libraries that a root lists.
-pub const MOST_LIBRARIES: usize = 100;
-
-/// The most preloads that a root lists.
-pub const MOST_PRELOADS: usize = 16;
-
-/// The root of a registry, as one of the two root sectors has it. In a spelling the places past a count are zero.
+/// The root of a registry, as one of the two root sectors has it. In a spelling the places past a
+/// count are zero.
 #[derive(Clone, Copy, Debug, PartialEq, Eq)]
 pub struct Root {
     /// How many commits were made since the disk was formatted.
@@ -31,12 +25,47 @@ pub struct Root {
     /// The preloads in their order, each by its position in the list of libraries.
     pub preloads: [u16; MOST_PRELOADS],
     /// The sectors of the libraries' entries, in the order of installation.
-    pub entry_sectors: [u32; MOST_LIBRARIES],
+    pub list: EntryList,
 }
 
 impl Root {
-    /// Whether each field keeps to the format's limits, so that a sector can spell this root. It compares each
-    /// entry sector with those before it, 4,950 comparisons at most.
+    /// The root of this generation, on a disk of so many sectors, that lists these sectors of
+    /// entries and these positions of preloads.
+    pub fn new(generation: u64, sectors: u32, entries: &[u32], preloads: &[u16]) -> Root
+        requires entries { length entries.now ≤ most_libraries }
+        requires preloads { length preloads.now ≤ most_preloads }
+        ensures value { result ≡ root_of_lists generation sectors entries.now preloads.now }
+        ensures entries { listed_sectors result ≡ entries.now }
+        ensures preloads { listed_preloads result ≡ preloads.now }
+    {
+        Root {
+            generation,
+            sectors,
+            library_count: entries.len() as u16,
+            preload_count: preloads.len() as u16,
+            preloads: placed(preloads, 0),
+            list: EntryList::InRoot(placed(entries, 0)),
+        }
+    }
+
+    /// The sectors of the libraries' entries, in the order of installation.
+    pub fn entry_sectors(&self) -> &[u32]
+        requires { RootHasSpelling self.now }
+        ensures { result.now ≡ listed_sectors self.now }
+    {
+        &self.list.places()[..usize::from(self.library_count)]
+    }
+
+    /// The positions of the preloads in the list of libraries, in their order.
+    pub fn preload_positions(&self) -> &[u16]
+        requires { RootHasSpelling self.now }
+        ensures { result.now ≡ listed_preloads self.now }
+    {
+        &self.preloads[..usize::from(self.preload_count)]
+    }
+
+    /// Whether each field keeps to the format's limits, so that a sector can spell this root. It
+    /// compares each entry sector with those before it, 4,950 comparisons at most.
     pub fn has_spelling(&self) -> bool
         ensures { IsTrue result ↔ RootHasSpelling self.now }
     {
@@ -67,9 +96,10 @@ impl Root {
         if count > MOST_LIBRARIES {
             return false;
         }
-        let (used, rest) = self.entry_sectors.split_at(count);
+        let places = self.list.places();
+        let (used, rest) = places.split_at(count);
         used.iter()
-            .all(|sector| 2 <= *sector && *sector < self.sectors)
+            .all(|sector| ROOT_SECTORS <= *sector && *sector < self.sectors)
             && are_distinct(used)
             && rest.iter().all(|sector| *sector == 0)
     }

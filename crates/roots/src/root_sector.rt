@@ -1,20 +1,27 @@
 //! A root as a sector.
 
-ghost use Rattle.std.specs.Prelude.{◌≡◌, ◌↔◌, IsTrue};
+ghost use Rattle.std.specs.Prelude.{◌≡◌, ◌↔◌, ◌+◌, ◌≤◌, ◌++◌, IsTrue, length};
+ghost use Rattle.sector_disk.specs.Disk.{sector_bytes};
 ghost use Rattle.roots.specs.declared.root.Root.{Root};
-ghost use Rattle.roots.specs.Root.{RootHasSpelling, SpellsRoot, LacksMagic, root_bytes};
+ghost use Rattle.roots.specs.Root.{RootHasSpelling, SpellsRoot, HasMagic, LacksMagic};
+ghost use Rattle.roots.specs.Root.{magic_of, list_bytes, root_bytes};
 ghost use Rattle.roots.specs.Slot.{IsSlotOf};
-ghost use Rattle.roots.specs.Reading.{root_of};
+ghost use Rattle.roots.specs.inside.Reading.{root_of};
 
-use crate::reading::{u16_at, u16s_at, u32_at, u32s_at, u64_at};
+use crate::entry_list::EntryList;
+use crate::field::{Field, values_at};
 use crate::root::Root;
 use crate::slot::Slot;
 use crate::writer::SectorWriter;
+use sector_disk::SECTOR_BYTES;
 
-const MAGIC: [u8; 8] = *b"RLIBREG1";
+// How root sectors begin, by their version.
+const MAGIC_1: [u8; 8] = *b"RLIBREG1";
+
+const MAGICS: [[u8; 8]; 1] = [MAGIC_1];
 
 /// The sector that spells the root. `Root::has_spelling` tests its condition.
-pub fn encode_root(root: &Root) -> [u8; 512]
+pub fn encode_root(root: &Root) -> [u8; SECTOR_BYTES]
     requires { RootHasSpelling root.now }
     ensures spelling { result ≡ root_bytes root.now }
 
@@ -22,19 +29,38 @@ pub fn encode_root(root: &Root) -> [u8; 512]
     ensures alone { (other : Root) → SpellsRoot result other → other ≡ root.now }
 {
     let mut sector = SectorWriter::new();
-    sector.put(&MAGIC);
+    sector.put(&magic_of(&root.list));
     sector.put(&root.generation.to_le_bytes());
     sector.put(&root.sectors.to_le_bytes());
     sector.put(&root.library_count.to_le_bytes());
     sector.put(&root.preload_count.to_le_bytes());
-    sector.put_u16s(&root.preloads);
-    sector.put(&[0; 8]);
-    sector.put_u32s(&root.entry_sectors);
+    sector.put_all(&root.preloads);
+    put_list(&mut sector, &root.list);
     sector.finish()
 }
 
+// How the sector of a root with this list begins.
+fn magic_of(list: &EntryList) -> [u8; 8]
+    ensures { result ≡ magic_of list.now }
+{
+    match list {
+        EntryList::InRoot(_) => MAGIC_1,
+    }
+}
+
+// Writes the list behind the fields that all versions have.
+fn put_list(sector: &mut SectorWriter, list: &EntryList)
+    requires { length sector.old ≡ 56 }
+    ensures fields { sector.new ≡ sector.old ++ list_bytes list.now }
+    ensures len { length sector.new ≡ sector_bytes }
+{
+    sector.put(&[0; 8]);
+    sector.put_all(list.places());
+    sector.put(&[0; 48]);
+}
+
 /// What a root sector holds: a root where it is exactly the root's spelling.
-pub fn decode_root(bytes: &[u8; 512]) -> Slot
+pub fn decode_root(bytes: &[u8; SECTOR_BYTES]) -> Slot
     // What is read is spelt so.
     ensures slot { IsSlotOf bytes.now result }
 
@@ -42,7 +68,7 @@ pub fn decode_root(bytes: &[u8; 512]) -> Slot
     ensures spelt { (root : Root) → SpellsRoot bytes.now root → result ≡ Slot.Good root }
     ensures empty { LacksMagic bytes.now → result ≡ Slot.Empty }
 {
-    if !bytes.starts_with(&MAGIC) {
+    if !has_magic(bytes) {
         return Slot::Empty;
     }
     let root = root_fields(bytes);
@@ -53,24 +79,31 @@ pub fn decode_root(bytes: &[u8; 512]) -> Slot
     }
 }
 
+// Whether the sector begins as a root of some version does.
+fn has_magic(bytes: &[u8; SECTOR_BYTES]) -> bool
+    ensures { IsTrue result ↔ HasMagic bytes.now }
+{
+    MAGICS.iter().any(|magic| bytes.starts_with(magic))
+}
+
 // Whether the sector is the root's spelling.
-fn spells(bytes: &[u8; 512], root: &Root) -> bool
+fn spells(bytes: &[u8; SECTOR_BYTES], root: &Root) -> bool
     ensures { IsTrue result ↔ SpellsRoot bytes.now root.now }
 {
     root.has_spelling() && *bytes == encode_root(root)
 }
 
 // What the fields say, within their limits or not.
-#[tactic(auto, unfolding(crate::specs::Reading::root_of))]
-fn root_fields(bytes: &[u8; 512]) -> Root
+#[tactic(auto, unfolding(crate::specs::inside::Reading::root_of))]
+fn root_fields(bytes: &[u8; SECTOR_BYTES]) -> Root
     ensures { result ≡ root_of bytes.now }
 {
     Root {
-        generation: u64_at(bytes, 8),
-        sectors: u32_at(bytes, 16),
-        library_count: u16_at(bytes, 20),
-        preload_count: u16_at(bytes, 22),
-        preloads: u16s_at(bytes, 24),
-        entry_sectors: u32s_at(bytes, 64),
+        generation: u64::read_at(bytes, 8),
+        sectors: u32::read_at(bytes, 16),
+        library_count: u16::read_at(bytes, 20),
+        preload_count: u16::read_at(bytes, 22),
+        preloads: values_at(bytes, 24),
+        list: EntryList::InRoot(values_at(bytes, 64)),
     }
 }

@@ -2,11 +2,17 @@ mod choices;
 mod entries;
 mod roots;
 
+use sector_disk::SECTOR_BYTES;
 use std::process::Abort;
 
 // The sector with one byte changed.
-fn changed(rt: &impl Abort, sector: &[u8; 512], at: usize, byte: u8) -> [u8; 512] {
-    assert!(rt; at < 512);
+fn changed(
+    rt: &impl Abort,
+    sector: &[u8; SECTOR_BYTES],
+    at: usize,
+    byte: u8,
+) -> [u8; SECTOR_BYTES] {
+    assert!(rt; at < SECTOR_BYTES);
     let mut sector = *sector;
     sector[at] = byte;
     sector

@@ -1,17 +1,18 @@
 //! A sector that is written field after field.
 
 ghost use Rattle.std.specs.Prelude.{◌≡◌, ℕ, List, [], ◌+◌, ◌-◌, ◌*◌, ◌≤◌, ◌++◌, length, take, drop};
-ghost use Rattle.std.specs.Int.{w16, w32};
 ghost use Rattle.std.specs.List.{flat_map};
-ghost use Rattle.roots.specs.Fields.{zeros, numbers};
+ghost use Rattle.sector_disk.specs.Disk.{sector_bytes};
+ghost use Rattle.roots.specs.Fields.{zeros};
 
-use extents::Extent;
+use crate::field::Field;
+use sector_disk::SECTOR_BYTES;
 use std::marker::Model;
 
 /// The fields of a sector that are written so far. What follows them is zero.
 #[derive(Drop)]
 pub(crate) struct SectorWriter {
-    bytes: [u8; 512],
+    bytes: [u8; SECTOR_BYTES],
     len: usize,
 }
 
@@ -20,24 +21,22 @@ impl Model for SectorWriter {
 
     ghost view = { λ writer. take writer.len writer.bytes };
 
-    ghost invariant = { λ writer. (writer.len ≤ 512)
-        × (drop writer.len writer.bytes ≡ zeros (512 - writer.len)) };
+    ghost invariant = { λ writer. (writer.len ≤ sector_bytes)
+        × (drop writer.len writer.bytes ≡ zeros (sector_bytes - writer.len)) };
 }
 
 impl SectorWriter {
-    ghost use Rattle.roots.specs.Entry.{extent_bytes};
-
     pub(crate) fn new() -> Self
         ensures { result ≡ [] }
     {
         SectorWriter {
-            bytes: [0; 512],
+            bytes: [0; SECTOR_BYTES],
             len: 0,
         }
     }
 
     pub(crate) fn put(&mut self, field: &[u8])
-        requires { length self.old + length field.now ≤ 512 }
+        requires { length self.old + length field.now ≤ sector_bytes }
         ensures fields { self.new ≡ self.old ++ field.now }
         ensures len { length self.new ≡ length self.old + length field.now }
     {
@@ -45,40 +44,20 @@ impl SectorWriter {
         self.len += field.len();
     }
 
-    pub(crate) fn put_u16s(&mut self, values: &[u16])
-        requires { length self.old + 2 * length values.now ≤ 512 }
-        ensures fields { self.new ≡ self.old ++ numbers w16 values.now }
-        ensures len { length self.new ≡ length self.old + 2 * length values.now }
+    /// Writes values, one after the other.
+    pub(crate) fn put_all<T: Field>(&mut self, values: &[T])
+        requires { length self.old + T.BYTES * length values.now ≤ sector_bytes }
+        ensures fields { self.new ≡ self.old ++ flat_map T.spell values.now }
+        ensures len { length self.new ≡ length self.old + T.BYTES * length values.now }
     {
         for value in values {
-            self.put(&value.to_le_bytes());
-        }
-    }
-
-    pub(crate) fn put_u32s(&mut self, values: &[u32])
-        requires { length self.old + 4 * length values.now ≤ 512 }
-        ensures fields { self.new ≡ self.old ++ numbers w32 values.now }
-        ensures len { length self.new ≡ length self.old + 4 * length values.now }
-    {
-        for value in values {
-            self.put(&value.to_le_bytes());
-        }
-    }
-
-    pub(crate) fn put_extents(&mut self, extents: &[Extent])
-        requires { length self.old + 8 * length extents.now ≤ 512 }
-        ensures fields { self.new ≡ self.old ++ flat_map extent_bytes extents.now }
-        ensures len { length self.new ≡ length self.old + 8 * length extents.now }
-    {
-        for extent in extents {
-            self.put(&extent.start.to_le_bytes());
-            self.put(&extent.count.to_le_bytes());
+            value.put_to(self);
         }
     }
 
     /// The sector: the fields, and zeros behind them.
-    pub(crate) fn finish(self) -> [u8; 512]
-        ensures { result ≡ self ++ zeros (512 - length self) }
+    pub(crate) fn finish(self) -> [u8; SECTOR_BYTES]
+        ensures { result ≡ self ++ zeros (sector_bytes - length self) }
     {
         self.bytes
     }

@@ -6,7 +6,8 @@ use Rattle.std.proofs.lemmas.Result.{on_ok_weaker}
 use Rattle.std.specs.List.{filter}
 use Rattle.sector_disk.specs.declared.fuse.Step.{Step}
 use Rattle.sector_disk.specs.Disk.{Sector, DiskFacts, MayLeave, KeepsPast, GrowsBy, LeavesNowAlone, IsWrite, IsSync}
-use Rattle.sector_disk.specs.Fuse.{reached, inner_moment, fused, inner_now}
+use Rattle.sector_disk.specs.Fuse.{reached, inner_moment, fused}
+use Rattle.sector_disk.specs.inside.FuseLaws.{inner_now}
 
 -- what a stop of the fuse now may leave is what a stop of the inner disk may
 pub present : (inner : DiskFacts) (past : List Step) (k : ℕ) (c : Sector) → MayLeave (fused inner past) k c ↔ MayLeave inner k c

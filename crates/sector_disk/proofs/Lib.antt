@@ -5,4 +5,5 @@ pub mod Mixtures
 pub mod Moments
 mod Settling
 mod Walks
+mod Whole
 pub mod Writes

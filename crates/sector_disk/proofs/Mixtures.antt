@@ -1,9 +1,10 @@
 -- What one call does to the mixtures.
-use Rattle.std.proofs.Common.{◌≡◌, inl, inr, ⊎_elim, ℕ, ◌<◌, List, [], length, set, Result, OnOk, refl, sym, ◌∙◌, ap, subst}
+use Rattle.std.proofs.Common.{◌≡◌, ◌↔◌, All, ◌≤◌, inl, inr, ⊎_elim, ℕ, ◌<◌, List, [], length, set, Result, OnOk, refl, sym, ◌∙◌, ap, subst}
 use Rattle.std.proofs.lemmas.Bool.{cases_eq}
 use Rattle.std.proofs.lemmas.List.{length-set, get_or-set_same, get_or-set_other, set-get_or, set-set, ext_get_or}
+use Rattle.std.proofs.lemmas.List.Elements.{All-from_get_or}
 use Rattle.std.proofs.lemmas.Result.{on_ok_weaker}
-use Rattle.sector_disk.specs.Disk.{Sector, sector, DiskFacts, Mixture, HoldsNow, IsRead, IsWrite, IsSync, LeavesNowAlone, IsSynced, SameBut, IsMixtureBut, IsOldOrSet, StartsWith}
+use Rattle.sector_disk.specs.Disk.{Sector, sector, IsWhole, DiskFacts, MixtureAt, Mixture, HoldsNow, HasWholeSectors, IsUnchanged, IsRead, IsWrite, IsSync, LeavesNowAlone, IsSynced, SameBut, IsMixtureBut, IsMixtureOrSet, IsOldOrSet, IsSameDisk, IsCopy, StartsWith}
 
 -- the same in all sectors is the same but for some
 pub same_itself : (places : ℕ → Type 0) (l : List Sector) → SameBut places l l
@@ -54,23 +55,25 @@ module _ {old new : DiskFacts} {at : ℕ} {content : Sector} {T E : Type 0} {res
   pub after_write : IsMixtureBut (λ k. k ≡ at) old m
   after_write = (before, before_mixture, record { size = sym (length-set m at (sector old.now at)); others = λ k other. sym (get_or-set_other m at k (sector old.now at) [] other) })
 
-  -- one write into a synced disk leaves the old sectors, or the new ones
-  pub one_write : at < old.sectors → IsSynced old → IsOldOrSet old.now at content m
-  one_write in_old is_synced = ⊎_elim was_old was_new (write.stop.each at (sector m at) (mixture.each at (lt_new at in_old)))
+  -- a mixture after a write is one from before it, or such a one with this content in that sector
+  pub any_write : at < old.sectors → IsMixtureOrSet old at content m
+  any_write in_old = ⊎_elim was_old was_new (write.stop.each at (sector m at) (mixture.each at (lt_new at in_old)))
     where
-      was_old : old.may_leave old.time at (sector m at) → IsOldOrSet old.now at content m
-      was_old left = inl (is_synced.each m (record {
+      was_old : old.may_leave old.time at (sector m at) → IsMixtureOrSet old at content m
+      was_old left = inl (record {
         size = mixture.size ∙ write.past.sectors;
         each = λ k lt. older k lt (λ this. subst (λ j. old.may_leave old.time j (sector m j)) (sym this.0) left);
-      }))
+      })
 
-      was_new : (at ≡ at) × (sector m at ≡ content) → IsOldOrSet old.now at content m
-      was_new this = inr (
-          sym (set-get_or m at [])
-          ∙ ap (λ c. set m at c) this.1
-          ∙ sym (set-set m at (sector old.now at) content)
-          ∙ ap (λ l. set l at content) (is_synced.each before before_mixture)
-          )
+      was_new : (at ≡ at) × (sector m at ≡ content) → IsMixtureOrSet old at content m
+      was_new this = inr (before, before_mixture, sym (set-get_or m at []) ∙ ap (λ c. set m at c) this.1 ∙ sym (set-set m at (sector old.now at) content))
+
+  -- one write into a synced disk leaves the old sectors, or the new ones
+  pub one_write : at < old.sectors → IsSynced old → IsOldOrSet old.now at content m
+  one_write in_old is_synced = ⊎_elim
+      (λ was. inl (is_synced.each m was))
+      (λ newer. inr (newer.2 ∙ ap (λ l. set l at content) (is_synced.each newer.0 newer.1)))
+      (any_write in_old)
 
 -- Where no set grows, there is no new mixture.
 pub after_sync : {old new : DiskFacts} {T E : Type 0} {result : Result T E} → IsSync old new result → (m : List Sector) → Mixture new m → Mixture old m
@@ -79,12 +82,43 @@ after_sync sync m mixture = record {
   each = λ k lt. sync.stop.each k (sector m k) (mixture.each k (subst (λ n. k < n) (sym sync.past.sectors) lt));
 }
 
+-- Where reads give the same and a stop may leave the same, the mixtures are the same.
+pub unchanged_mixture : {old new : DiskFacts} → new.sectors ≡ old.sectors → IsUnchanged old new → (m : List Sector) → Mixture new m ↔ Mixture old m
+unchanged_mixture sectors same m = (
+  λ mixture. record { size = mixture.size ∙ sectors; each = λ k lt. (same.stop k (sector m k)).0 (mixture.each k (subst (λ n. k < n) (sym sectors) lt)) },
+  λ mixture. record { size = mixture.size ∙ sym sectors; each = λ k lt. (same.stop k (sector m k)).1 (mixture.each k (subst (λ n. k < n) sectors lt)) },
+)
+
 -- a read makes no new mixture
 pub after_read : {old new : DiskFacts} {at : ℕ} {content : Sector} {T E : Type 0} {result : Result T E} → IsRead old new at content result → (m : List Sector) → Mixture new m → Mixture old m
-after_read read m mixture = record {
-  size = mixture.size ∙ read.past.sectors;
-  each = λ k lt. (read.same.stop k (sector m k)).0 (mixture.each k (subst (λ n. k < n) (sym read.past.sectors) lt));
-}
+after_read read m = (unchanged_mixture read.past.sectors read.same m).0
+
+-- and it loses none
+pub before_read : {old new : DiskFacts} {at : ℕ} {content : Sector} {T E : Type 0} {result : Result T E} → IsRead old new at content result → (m : List Sector) → Mixture old m → Mixture new m
+before_read read m = (unchanged_mixture read.past.sectors read.same m).1
+
+-- The same disk by another clock has the same mixtures at this moment; of other moments nothing is said.
+pub same_disk_mixture : {old new : DiskFacts} → IsSameDisk old new → (m : List Sector) → Mixture new m ↔ Mixture old m
+same_disk_mixture same = unchanged_mixture same.sectors same.same
+
+-- and so it is synced exactly where the other is
+pub same_disk_synced : {old new : DiskFacts} → IsSameDisk old new → IsSynced new ↔ IsSynced old
+same_disk_synced same = (
+  λ is_synced. record { each = λ m mixture. is_synced.each m ((same_disk_mixture same m).1 mixture) ∙ same.same.now },
+  λ is_synced. record { each = λ m mixture. is_synced.each m ((same_disk_mixture same m).0 mixture) ∙ sym same.same.now },
+)
+
+-- a copy has the same mixtures at every moment
+pub copy_mixture : {old new : DiskFacts} → IsCopy old new → (u : ℕ) (m : List Sector) → MixtureAt new u m ↔ MixtureAt old u m
+copy_mixture copy u m = (
+  λ mixture. record { size = mixture.size ∙ copy.sectors; each = λ k lt. (copy.past u k (sector m k)).0 (mixture.each k (subst (λ n. k < n) (sym copy.sectors) lt)) },
+  λ mixture. record { size = mixture.size ∙ sym copy.sectors; each = λ k lt. (copy.past u k (sector m k)).1 (mixture.each k (subst (λ n. k < n) copy.sectors lt)) },
+)
+
+-- each sector of a mixture has the bytes of a sector
+pub whole_mixture : {disk : DiskFacts} → HasWholeSectors disk → (u : ℕ) → u ≤ disk.time → (m : List Sector) → MixtureAt disk u m → All IsWhole m
+whole_mixture whole u le m mixture =
+    All-from_get_or IsWhole m [] (λ k lt. let in_disk = subst (λ n. k < n) mixture.size lt in whole.left u k (sector m k) le in_disk (mixture.each k in_disk))
 
 -- Where each set holds what reads give alone, that is the one mixture.
 pub synced : {disk : DiskFacts} → HoldsNow disk → LeavesNowAlone disk → IsSynced disk
@@ -93,6 +127,24 @@ synced {disk = disk} holds alone = record {
       let lt_sectors = λ (k : ℕ) (lt : k < length m). subst (λ n. k < n) mixture.size lt in
       ext_get_or [] m disk.now (mixture.size ∙ sym holds.size) (λ k lt. (alone.each k (sector m k) (lt_sectors k lt)).0 (mixture.each k (lt_sectors k lt)));
 }
+
+-- And where that is the one mixture, each set holds what reads give alone: of the mixtures, the one with another content there would be another.
+pub alone : {disk : DiskFacts} → HoldsNow disk → IsSynced disk → LeavesNowAlone disk
+alone {disk = disk} holds is_synced = record {
+  each = λ k c lt. (
+    λ left. sym (get_or-set_same disk.now k c [] (subst (λ n. k < n) (sym holds.size) lt)) ∙ ap (λ l. sector l k) (is_synced.each (set disk.now k c) (with_it k c left)),
+    λ same. subst (λ x. disk.may_leave disk.time k x) (sym same) (holds.each k lt),
+  );
+}
+  where
+    with_it : (k : ℕ) (c : Sector) → disk.may_leave disk.time k c → Mixture disk (set disk.now k c)
+    with_it k c left = record {
+      size = length-set disk.now k c ∙ holds.size;
+      each = λ j lt. ⊎_elim
+          (λ same. subst (λ x. disk.may_leave disk.time x (sector (set disk.now k c) x)) (sym same) (subst (λ x. disk.may_leave disk.time k x) (sym (get_or-set_same disk.now k c [] (subst (λ n. k < n) (sym holds.size) (subst (λ x. x < disk.sectors) same lt)))) left))
+          (λ other. subst (λ x. disk.may_leave disk.time j x) (sym (get_or-set_other disk.now k j c [] other)) (holds.each j lt))
+          (cases_eq j k);
+    }
 
 -- a sync that succeeds leaves what reads give alone
 pub synced_at_ok : {old new : DiskFacts} {T E : Type 0} {result : Result T E} → HoldsNow new → IsSync old new result → OnOk result (IsSynced new)

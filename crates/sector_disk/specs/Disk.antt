@@ -1,13 +1,22 @@
 -- The disk model: what contracts say of a disk, what a stop may leave of it, and what each call does to it.
-use Rattle.std.specs.Prelude.{◌≡◌, ◌<◌, ◌≤◌, ◌+◌, ◌↔◌, ◌⊎◌, ℕ, Bool, IsTrue, List, [], length, set, get_or, Result, OnOk, OnErr}
+use Rattle.std.specs.Prelude.{◌≡◌, ◌<◌, ◌≤◌, ◌+◌, ◌-◌, ◌↔◌, ◌⊎◌, ℕ, Bool, IsTrue, List, [], length, set, slice_index_or, All, Result, OnOk, OnErr}
 
--- what a sector holds: the list of its 512 bytes
+-- the bytes of a sector
+abbrev pub sector_bytes : ℕ
+sector_bytes = 512
+
+-- what a sector holds: the list of its bytes
 abbrev pub Sector : Type 0
 Sector = List ℕ
 
+-- a content is whole: it has the bytes of a sector, each below 256
+pub record IsWhole (content : Sector) : Type 0 where
+  pub size : length content ≡ sector_bytes
+  pub bytes : All (λ byte. byte < 256) content
+
 -- the content of sector k in a list of sectors
 abbrev pub sector : List Sector → ℕ → Sector
-sector sectors k = get_or sectors k []
+sector sectors k = slice_index_or sectors k []
 
 -- What is said of a disk. Its moments are 0 to `time`, and each call makes one more.
 pub record DiskFacts : Type 1 where
@@ -19,7 +28,7 @@ pub record DiskFacts : Type 1 where
   pub failures : ℕ
   -- what reads give
   pub now : List Sector
-  -- at this moment a stop may leave this sector with this content
+  -- the set of a sector at a moment: the contents with which a stop then may leave it
   pub may_leave : ℕ → ℕ → Sector → Type 0
 
 -- a stop now may leave sector k with this content: it is in the sector's set
@@ -43,7 +52,12 @@ LeftSince disk since m = (u : ℕ) × (since ≤ u) × (u ≤ disk.time) × Mixt
 abbrev pub HoldsNow : DiskFacts → Type 0
 HoldsNow disk = Mixture disk disk.now
 
--- synced: a stop now leaves what reads give, and nothing else
+-- Sectors are whole: what reads give, and each content that a stop might have left at some moment up to now.
+pub record HasWholeSectors (disk : DiskFacts) : Type 0 where
+  pub now : (k : ℕ) → k < disk.sectors → IsWhole (sector disk.now k)
+  pub left : (u k : ℕ) (c : Sector) → u ≤ disk.time → k < disk.sectors → disk.may_leave u k c → IsWhole c
+
+-- Synced: a stop now leaves what reads give, and nothing else. It speaks of whole mixtures, `LeavesNowAlone` of each set by itself; where what reads give is a mixture they are the same.
 pub record IsSynced (disk : DiskFacts) : Type 0 where
   pub each : (m : List Sector) → Mixture disk m → m ≡ disk.now
 
@@ -70,7 +84,7 @@ pub record GrowsBy (old new : DiskFacts) (at : ℕ) (content : Sector) : Type 0 
 pub record GrowsByAtMost (old new : DiskFacts) (at : ℕ) (content : Sector) : Type 0 where
   pub each : (k : ℕ) (c : Sector) → MayLeave new k c → MayLeave old k c ⊎ (k ≡ at) × (c ≡ content)
 
--- each sector's set holds what reads give alone
+-- The set of each sector has what reads give there, and no other content.
 pub record LeavesNowAlone (disk : DiskFacts) : Type 0 where
   pub each : (k : ℕ) (c : Sector) → k < disk.sectors → MayLeave disk k c ↔ (c ≡ sector disk.now k)
 
@@ -92,7 +106,7 @@ pub record IsRead {T E : Type 0} (old new : DiskFacts) (at : ℕ) (content : Sec
   pub same : IsUnchanged old new
   pub ok : OnOk result (content ≡ sector old.now at)
 
--- A write to an honest disk: reads give the new content and the set grows by it; where it fails they may give the old one, and the set may stay.
+-- A write to an honest disk: reads give the new content, and the set of its sector grows by it. Where it fails, reads may give the old content; the set grows by at most the new one, and any set may lose contents.
 pub record IsWrite {T E : Type 0} (old new : DiskFacts) (at : ℕ) (content : Sector) (result : Result T E) : Type 0 where
   pub past : KeepsPast old new
   pub ok : OnOk result (new.now ≡ set old.now at content)
@@ -100,19 +114,34 @@ pub record IsWrite {T E : Type 0} (old new : DiskFacts) (at : ℕ) (content : Se
   pub stop : GrowsByAtMost old new at content
   pub stop_ok : OnOk result (GrowsBy old new at content)
 
--- A sync of an honest disk: reads give the same and no set grows, and where it succeeds each set holds the latest content alone.
+-- A sync of an honest disk: reads give the same and no set grows, and where it succeeds each set has the latest content alone. Where it fails, any set may lose contents.
 pub record IsSync {T E : Type 0} (old new : DiskFacts) (result : Result T E) : Type 0 where
   pub past : KeepsPast old new
   pub now : new.now ≡ old.now
   pub stop : LeavesNoMore old new
   pub stop_ok : OnOk result (LeavesNowAlone new)
 
--- some calls, on any disk
+-- how many calls were made from old to new: each of them made one moment
+abbrev pub calls_between : DiskFacts → DiskFacts → ℕ
+calls_between old new = new.time - old.time
+
+-- Some calls, on any disk: size and honesty stay, and no more calls failed than were made.
 pub record AreCalls (old new : DiskFacts) : Type 0 where
   pub honest : new.honest ≡ old.honest
   pub sectors : new.sectors ≡ old.sectors
   pub later : old.time ≤ new.time
   pub failures : old.failures ≤ new.failures
+  pub few_failures : new.failures - old.failures ≤ calls_between old new
+
+-- exactly so many calls
+pub record AreCallsExactly (calls : ℕ) (old new : DiskFacts) : Type 0 where
+  pub some : AreCalls old new
+  pub time : new.time ≡ old.time + calls
+
+-- at most so many calls
+pub record AreCallsAtMost (calls : ℕ) (old new : DiskFacts) : Type 0 where
+  pub some : AreCalls old new
+  pub time : new.time ≤ old.time + calls
 
 -- From old to new, a stop at any moment leaves a list of sectors that has P.
 pub record LeavesOnly (old new : DiskFacts) (P : List Sector → Type 0) : Type 0 where
@@ -124,11 +153,15 @@ pub record SameBut (places : ℕ → Type 0) (old new : List Sector) : Type 0 wh
   pub size : length new ≡ length old
   pub others : (k : ℕ) → (places k → ⊥) → sector new k ≡ sector old k
 
--- a mixture of the disk, but for these sectors
+-- a mixture of this moment, but for these sectors
 abbrev pub IsMixtureBut : (ℕ → Type 0) → DiskFacts → List Sector → Type 0
 IsMixtureBut places disk m = (m' : List Sector) × Mixture disk m' × SameBut places m' m
 
--- the same disk by another clock
+-- a mixture of the disk, or such a one with this content in sector `at`
+abbrev pub IsMixtureOrSet : DiskFacts → ℕ → Sector → List Sector → Type 0
+IsMixtureOrSet disk at content m = Mixture disk m ⊎ ((m' : List Sector) × Mixture disk m' × (m ≡ set m' at content))
+
+-- The same disk by another clock, at this moment: reads give the same, and a stop now may leave the same. Nothing is said of moments before it.
 pub record IsSameDisk (old new : DiskFacts) : Type 0 where
   pub honest : new.honest ≡ old.honest
   pub sectors : new.sectors ≡ old.sectors

@@ -1,7 +1,5 @@
 -- What is said of a disk behind a fuse, and what the fuse makes of each call.
 use Rattle.std.specs.Prelude.{◌≡◌, ◌==◌, ◌-◌, ◌+◌, ◌&&◌, ℕ, nat_lt, if◌then◌else◌, IsTrue, List, length, drop, filter, Result, Err}
-use Rattle.std.proofs.Common.{sym, subst, ap, ◌∙◌, arith}
-use Rattle.std.proofs.lemmas.List.{drop_all}
 use Rattle.sector_disk.specs.declared.disk.DiskFault.{DiskFault}
 use Rattle.sector_disk.specs.declared.disk.DiskFault.TheVariants.{Failed}
 use Rattle.sector_disk.specs.declared.fuse.Fuse.{Fuse}
@@ -9,7 +7,7 @@ use Rattle.sector_disk.specs.declared.fuse.Plan.{Plan}
 use Rattle.sector_disk.specs.declared.fuse.Step.{Step}
 use Rattle.sector_disk.specs.declared.fuse.Turn.{Turn}
 use Rattle.sector_disk.specs.declared.fuse.Turn.TheVariants.{Pass, Early, Late}
-use Rattle.sector_disk.specs.Disk.{Sector, sector, DiskFacts, HoldsNow, IsCall, IsRead, IsWrite, IsSync}
+use Rattle.sector_disk.specs.Disk.{Sector, DiskFacts, IsCall, IsRead, IsWrite, IsSync}
 
 -- What becomes of call number n, counted from 1: the planned one fails, early or late; with `forever` all later ones fail early; others pass.
 abbrev pub turn : Plan → ℕ → Turn
@@ -22,7 +20,7 @@ turn plan n =
 abbrev pub reached : List Step → ℕ
 reached steps = length (filter (λ step. step.reached) steps)
 
--- the inner disk's moment at moment u of the fuse: before all calls since then that reached it
+-- The moment of the inner disk at moment u of the fuse: its present one, less the calls since u that reached it. Each of those made one moment of it, and the others none.
 abbrev pub inner_moment : ℕ → List Step → ℕ → ℕ
 inner_moment time past u = time - reached (drop u past)
 
@@ -53,37 +51,26 @@ plan_of fuse = fuse.plan
 abbrev pub next_turn : {D : Type 0} → Fuse D → Turn
 next_turn fuse = turn fuse.plan (length fuse.past.items + 1)
 
--- the inner disk was asked to read, and gave this reply
+-- The inner disk was asked to read, once, and gave this reply: its facts before and after are those of one read, and this is the content that the caller's buffer has then. What that disk says of its reads beyond `Disk` isn't passed on.
 abbrev pub WasRead : {D : Type 0} → (D → DiskFacts) → Fuse D → Fuse D → ℕ → Sector → Result (Unit {0}) DiskFault → Type 0
 WasRead facts old new at content reply =
     IsCall (facts old.inner) (facts new.inner) reply
     × (IsTrue (facts old.inner).honest → IsRead (facts old.inner) (facts new.inner) at content reply)
 
--- the inner disk was asked to write, and gave this reply
+-- the inner disk was asked to write, once, and gave this reply
 abbrev pub WasWritten : {D : Type 0} → (D → DiskFacts) → Fuse D → Fuse D → ℕ → Sector → Result (Unit {0}) DiskFault → Type 0
 WasWritten facts old new at content reply =
     IsCall (facts old.inner) (facts new.inner) reply
     × (IsTrue (facts old.inner).honest → IsWrite (facts old.inner) (facts new.inner) at content reply)
 
--- the inner disk was asked to sync, and gave this reply
+-- the inner disk was asked to sync, once, and gave this reply
 abbrev pub WasSynced : {D : Type 0} → (D → DiskFacts) → Fuse D → Fuse D → Result (Unit {0}) DiskFault → Type 0
 WasSynced facts old new reply =
     IsCall (facts old.inner) (facts new.inner) reply
     × (IsTrue (facts old.inner).honest → IsSync (facts old.inner) (facts new.inner) reply)
 
--- By its turn a call gives the inner disk's reply; fails, and the inner disk stays as it is; or fails, and the inner disk was asked.
+-- What a call does by its turn. It passes: the inner disk was asked, and its reply is the call's. It fails early: the inner disk stays as it is. It fails late: the inner disk was asked, and its reply, whatever it was, isn't told. At an early failure of a read nothing is said of the buffer.
 abbrev pub TakesTurn : {D : Type 0} → Turn → Fuse D → Fuse D → (Result (Unit {0}) DiskFault → Type 0) → Result (Unit {0}) DiskFault → Type 0
 TakesTurn Pass old new WasAsked result = WasAsked result
 TakesTurn Early old new WasAsked result = (new.inner ≡ old.inner) × (result ≡ Err Failed)
 TakesTurn Late old new WasAsked result = ((reply : Result (Unit {0}) DiskFault) × WasAsked reply) × (result ≡ Err Failed)
-
--- at this moment the inner disk is at its own
-pub inner_now : (time : ℕ) (past : List Step) → inner_moment time past (length past) ≡ time
-inner_now time past = ap (λ steps. time - reached steps) (drop_all (length past) past (omega arith)) ∙ omega arith
-
--- What reads give is one of the mixtures.
-pub fused_holds : (inner : DiskFacts) (past : List Step) → HoldsNow inner → HoldsNow (fused inner past)
-fused_holds inner past holds = record {
-  size = holds.size;
-  each = λ k lt. subst (λ u. inner.may_leave u k (sector inner.now k)) (sym (inner_now inner.time past)) (holds.each k lt);
-}

@@ -1,5 +1,5 @@
+pub mod CallCount
 pub mod Disk
 pub mod Fuse
 pub mod Memory
-pub mod Written
-pub mod WrittenLaws
+pub mod inside

@@ -1,15 +1,18 @@
 // What a stop picks: for each sector its synced content, or one of the writes to it since.
-ghost use Rattle.std.specs.Prelude.{◌≡◌, ◌<◌, ◌≤◌, ◌+◌, ◌%◌, ◌^◌, ◌∷◌, ℕ, length, slice_index, All, drop};
+ghost use Rattle.std.specs.Prelude.{◌≡◌, ◌<◌, ◌≤◌, ◌+◌, ◌%◌, ◌^◌, ◌∷◌, ℕ};
+ghost use Rattle.std.specs.Prelude.{length, slice_index_or, All, drop};
 ghost use Rattle.sector_disk.specs.Disk.{sector};
-ghost use Rattle.sector_disk.specs.Written.{written_to, choices, IsPicked};
+ghost use Rattle.sector_disk.specs.inside.Written.{written_to, choices};
+ghost use Rattle.sector_disk.specs.Memory.{IsPicked};
 
+use crate::disk::SECTOR_BYTES;
 use crate::written::{Written, apply};
 
 /// Makes of contents and all writes to them the mixture that `pick` names: in each sector `at`,
 /// with `n` choices, choice `pick(at, n) % n`. The counts are those of the writes to each sector
 /// from `synced` on, and end at 0. Linear in the sectors and the writes.
 pub(crate) fn mix<F: Fn(u32, usize) -> usize>(
-    sectors: &mut [[u8; 512]],
+    sectors: &mut [[u8; SECTOR_BYTES]],
     counts: &mut [usize],
     writes: &[Written],
     synced: usize,
@@ -17,17 +20,17 @@ pub(crate) fn mix<F: Fn(u32, usize) -> usize>(
 )
     requires made { synced ≤ length writes.now }
     requires in_range { All (λ write. write.at < length sectors.old) writes.now }
-    requires few_sectors { length sectors.old ≤ 2 ^ 32 }
+    requires few_sectors { length sectors.old < 2 ^ 32 }
     requires few_writes { length writes.now + 1 < 2 ^ 64 }
     requires one_count_each { length counts.old ≡ length sectors.old }
     requires counted { (k : ℕ) → k < length sectors.old
-        → slice_index counts.old k ≡ length (written_to k (drop synced writes.now)) }
+        → slice_index_or counts.old k 0 ≡ length (written_to k (drop synced writes.now)) }
     requires callable { (at : ℕ) → at < length sectors.old
         → F.pre pick at (length (choices sectors.old writes.now synced at)) }
     ensures picked { (at : ℕ) → at < length sectors.old
         → IsPicked (F.post pick at (length (choices sectors.old writes.now synced at)))
         (choices sectors.old writes.now synced at) (sector sectors.new at) }
-    ensures zero { (k : ℕ) → k < length sectors.old → slice_index counts.new k ≡ 0 }
+    ensures zero { (k : ℕ) → k < length sectors.old → slice_index_or counts.new k 0 ≡ 0 }
 {
     let (kept, loose) = writes.split_at(synced);
     apply(sectors, kept);
@@ -38,13 +41,14 @@ pub(crate) fn mix<F: Fn(u32, usize) -> usize>(
 /// Replaces the count of writes to each sector `at` by `pick(at, n) % n`, where n is one more
 /// than the count: by 0, or by the number of one of these writes, counted from 1.
 fn choose<F: Fn(u32, usize) -> usize>(counts: &mut [usize], pick: F)
-    requires few { length counts.old ≤ 2 ^ 32 }
-    requires fits { (at : ℕ) → at < length counts.old → slice_index counts.old at + 1 < 2 ^ 64 }
+    requires few { length counts.old < 2 ^ 32 }
+    requires fits { (at : ℕ) → at < length counts.old
+        → slice_index_or counts.old at 0 + 1 < 2 ^ 64 }
     requires callable { (at : ℕ) → at < length counts.old
-        → F.pre pick at (slice_index counts.old at + 1) }
+        → F.pre pick at (slice_index_or counts.old at 0 + 1) }
     ensures { (at : ℕ) → at < length counts.old
-        → (named : ℕ) × F.post pick at (slice_index counts.old at + 1) named
-        × (slice_index counts.new at ≡ named % (slice_index counts.old at + 1)) }
+        → (named : ℕ) × F.post pick at (slice_index_or counts.old at 0 + 1) named
+        × (slice_index_or counts.new at 0 ≡ named % (slice_index_or counts.old at 0 + 1)) }
 {
     for (at, count) in counts.iter_mut().enumerate() {
         let choices = *count + 1;
@@ -54,15 +58,15 @@ fn choose<F: Fn(u32, usize) -> usize>(counts: &mut [usize], pick: F)
 
 /// Makes of the writes to each sector the one with this number, counted from 1; with 0 none.
 /// Leaves all numbers at 0.
-fn settle(sectors: &mut [[u8; 512]], numbers: &mut [usize], writes: &[Written])
+fn settle(sectors: &mut [[u8; SECTOR_BYTES]], numbers: &mut [usize], writes: &[Written])
     requires in_range { All (λ write. write.at < length sectors.old) writes.now }
     requires numbered { length numbers.old ≡ length sectors.old }
     requires made { (k : ℕ) → k < length numbers.old
-        → slice_index numbers.old k ≤ length (written_to k writes.now) }
+        → slice_index_or numbers.old k 0 ≤ length (written_to k writes.now) }
     ensures settled { (k : ℕ) → k < length sectors.old
         → sector sectors.new k
-        ≡ sector (sector sectors.old k ∷ written_to k writes.now) (slice_index numbers.old k) }
-    ensures zero { (k : ℕ) → k < length numbers.old → slice_index numbers.new k ≡ 0 }
+        ≡ sector (sector sectors.old k ∷ written_to k writes.now) (slice_index_or numbers.old k 0) }
+    ensures zero { (k : ℕ) → k < length numbers.old → slice_index_or numbers.new k 0 ≡ 0 }
 {
     for write in writes {
         let at = write.at as usize;
@@ -78,8 +82,8 @@ pub(crate) fn uncount(counts: &mut [usize], writes: &[Written], start: usize)
     requires made { start ≤ length writes.now }
     requires in_range { All (λ write. write.at < length counts.old) writes.now }
     requires counted { (k : ℕ) → k < length counts.old
-        → slice_index counts.old k ≡ length (written_to k (drop start writes.now)) }
-    ensures zero { (k : ℕ) → k < length counts.old → slice_index counts.new k ≡ 0 }
+        → slice_index_or counts.old k 0 ≡ length (written_to k (drop start writes.now)) }
+    ensures zero { (k : ℕ) → k < length counts.old → slice_index_or counts.new k 0 ≡ 0 }
 {
     for write in &writes[start..] {
         counts[write.at as usize] -= 1;

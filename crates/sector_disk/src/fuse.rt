@@ -1,7 +1,7 @@
 // A disk that fails at a call of its caller's choice.
 ghost use Rattle.std.specs.Prelude.{◌≡◌, ◌-◌, length};
 
-use crate::disk::{Disk, DiskFault};
+use crate::disk::{Disk, DiskFault, SECTOR_BYTES};
 use crate::past::Past;
 
 /// Which calls fail: number `call`, counted from 1, and with `forever` all later ones. With
@@ -113,21 +113,28 @@ impl<D: Disk> Fuse<D> {
 impl<D: Disk> Disk for Fuse<D> {
     ghost use Rattle.std.specs.Prelude.{◌<◌, IsTrue};
     ghost use Rattle.sector_disk.specs.Disk.{IsCall, IsRead, IsWrite, IsSync};
-    ghost use Rattle.sector_disk.specs.Fuse.{fuse_facts, fused_holds, plan_of, next_turn, WasRead, WasWritten, WasSynced, TakesTurn};
+    ghost use Rattle.sector_disk.specs.Fuse.{fuse_facts, plan_of, next_turn, TakesTurn};
+    ghost use Rattle.sector_disk.specs.Fuse.{WasRead, WasWritten, WasSynced};
+    ghost use Rattle.sector_disk.specs.inside.FuseLaws.{fused_holds, fused_whole};
 
     ghost facts = { fuse_facts D.facts };
 
-    ghost holds_now = { λ fuse honest. fused_holds (D.facts fuse.inner) fuse.past.items (D.holds_now fuse.inner honest) };
+    ghost holds_now = { λ fuse honest.
+        fused_holds (D.facts fuse.inner) fuse.past.items (D.holds_now fuse.inner honest) };
+
+    ghost whole_sectors = { λ fuse honest.
+        fused_whole (D.facts fuse.inner) fuse.past.items (D.whole_sectors fuse.inner honest) };
 
     fn sectors(&self) -> u32 {
         self.inner.sectors()
     }
 
-    fn read(&mut self, at: u32, into: &mut [u8; 512]) -> Result<(), DiskFault>
+    fn read(&mut self, at: u32, into: &mut [u8; SECTOR_BYTES]) -> Result<(), DiskFault>
         requires { at < (fuse_facts D.facts self.old).sectors }
         ensures calls { IsCall (fuse_facts D.facts self.old) (fuse_facts D.facts self.new) result }
         ensures honest { IsTrue (fuse_facts D.facts self.old).honest
-            → IsRead (fuse_facts D.facts self.old) (fuse_facts D.facts self.new) at into.new result }
+            → IsRead (fuse_facts D.facts self.old) (fuse_facts D.facts self.new)
+            at into.new result }
         ensures turn { TakesTurn (next_turn self.old) self.old self.new
             (WasRead D.facts self.old self.new at into.new) result }
         ensures plan { plan_of self.new ≡ plan_of self.old }
@@ -145,11 +152,12 @@ impl<D: Disk> Disk for Fuse<D> {
         }
     }
 
-    fn write(&mut self, at: u32, from: &[u8; 512]) -> Result<(), DiskFault>
+    fn write(&mut self, at: u32, from: &[u8; SECTOR_BYTES]) -> Result<(), DiskFault>
         requires { at < (fuse_facts D.facts self.old).sectors }
         ensures calls { IsCall (fuse_facts D.facts self.old) (fuse_facts D.facts self.new) result }
         ensures honest { IsTrue (fuse_facts D.facts self.old).honest
-            → IsWrite (fuse_facts D.facts self.old) (fuse_facts D.facts self.new) at from.now result }
+            → IsWrite (fuse_facts D.facts self.old) (fuse_facts D.facts self.new)
+            at from.now result }
         ensures turn { TakesTurn (next_turn self.old) self.old self.new
             (WasWritten D.facts self.old self.new at from.now) result }
         ensures plan { plan_of self.new ≡ plan_of self.old }

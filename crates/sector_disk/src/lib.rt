@@ -6,6 +6,7 @@
 //! fails at a planned call.
 #![tactic(auto)]
 
+mod call_count;
 mod choices;
 mod disk;
 mod fuse;
@@ -14,7 +15,8 @@ mod moment;
 mod past;
 mod written;
 
-pub use disk::{Disk, DiskFault};
+pub use call_count::CallCount;
+pub use disk::{Disk, DiskFault, SECTOR_BYTES};
 pub use fuse::Fuse;
 pub use memory::Memory;
 

@@ -1,9 +1,11 @@
 // A disk in memory. It keeps every write until it is stopped.
-ghost use Rattle.std.specs.Prelude.{◌≡◌, ◌<◌, ◌≤◌, ◌^◌, ℕ, length, All, drop, slice_index, IfOk, replicate};
-ghost use Rattle.sector_disk.specs.Written.{contents, written_to};
+ghost use Rattle.std.specs.Prelude.{◌≡◌, ◌<◌, ◌≤◌, ◌^◌, ℕ};
+ghost use Rattle.std.specs.Prelude.{length, All, drop, slice_index_or, IfOk, replicate};
+ghost use Rattle.sector_disk.specs.Disk.{IsWhole};
+ghost use Rattle.sector_disk.specs.inside.Written.{contents, written_to};
 
 use crate::choices::{mix, uncount};
-use crate::disk::{Disk, DiskFault};
+use crate::disk::{Disk, DiskFault, SECTOR_BYTES};
 use crate::moment::Moment;
 use crate::past::Past;
 use crate::written::Written;
@@ -14,11 +16,11 @@ use std::alloc::{AllocError, Global};
 /// linear in the writes that it syncs.
 #[derive(Drop)]
 pub struct Memory {
-    start: Vec<[u8; 512]>,
+    start: Vec<[u8; SECTOR_BYTES]>,
     writes: Vec<Written>,
     synced: usize,
     // What `start` and `writes` come to, so that a read needn't go through them.
-    latest: Vec<[u8; 512]>,
+    latest: Vec<[u8; SECTOR_BYTES]>,
     // For each sector, how many of its writes aren't synced.
     unsynced: Vec<usize>,
     past: Past<Moment>,
@@ -28,26 +30,30 @@ pub struct Memory {
     ghost is_latest: { latest.items ≡ contents start.items writes.items },
     ghost one_count_each: { length unsynced.items ≡ length start.items },
     ghost counted: { (k : ℕ) → k < length start.items
-        → slice_index unsynced.items k ≡ length (written_to k (drop synced writes.items)) },
+        → slice_index_or unsynced.items k 0 ≡ length (written_to k (drop synced writes.items)) },
+    ghost whole_start: { All IsWhole start.items },
+    ghost whole_writes: { All (λ write. IsWhole write.content) writes.items },
     ghost no_later: { All (λ moment. moment.writes ≤ length writes.items) past.items },
 }
 
 impl Memory {
     ghost use Rattle.std.specs.Prelude.{◌↔◌, Contains, false};
-    ghost use Rattle.sector_disk.specs.Disk.{Sector, MayLeave, StartsWith, IsCopy, IsStopped, sector};
+    ghost use Rattle.sector_disk.specs.Disk.{Sector, sector, sector_bytes, MayLeave};
+    ghost use Rattle.sector_disk.specs.Disk.{StartsWith, IsCopy, IsStopped};
     ghost use Rattle.sector_disk.specs.Memory.{memory_facts, memory_choices};
-    ghost use Rattle.sector_disk.specs.Written.{IsPicked};
+    ghost use Rattle.sector_disk.specs.Memory.{KeepsChoices, HasOneChoice, IsPicked};
 
     /// A disk of so many sectors of zeros, all synced.
     pub fn new(alloc: Global, sectors: u32) -> Result<Memory, AllocError>
         ensures ok { IfOk result (λ disk.
-            StartsWith (memory_facts disk) (replicate sectors (replicate 512 0))) }
+            StartsWith (memory_facts disk) (replicate sectors (replicate sector_bytes 0))) }
+        ensures choices { IfOk result HasOneChoice }
     {
         Ok(Memory {
-            start: filled(alloc, sectors, [0; 512])?,
+            start: filled(alloc, sectors, [0; SECTOR_BYTES])?,
             writes: Vec::new(alloc),
             synced: 0,
-            latest: filled(alloc, sectors, [0; 512])?,
+            latest: filled(alloc, sectors, [0; SECTOR_BYTES])?,
             unsynced: filled(alloc, sectors, 0)?,
             past: Past::new(),
         })
@@ -57,8 +63,7 @@ impl Memory {
     /// writes that were made.
     pub fn copy(&self) -> Result<Memory, AllocError>
         ensures ok { IfOk result (λ disk. IsCopy (memory_facts self.now) (memory_facts disk)) }
-        ensures choices { IfOk result (λ disk.
-            (at : ℕ) → memory_choices disk at ≡ memory_choices self.now at) }
+        ensures choices { IfOk result (KeepsChoices self.now) }
     {
         let alloc = *self.writes.allocator();
         Ok(Memory {
@@ -94,6 +99,7 @@ impl Memory {
             → IsPicked (F.post pick at (length (memory_choices self at)))
             (memory_choices self at) (sector (memory_facts result).now at) }
         ensures stopped { IsStopped (memory_facts self) (memory_facts result) }
+        ensures choices { HasOneChoice result }
     {
         let Memory {
             mut start,
@@ -133,25 +139,30 @@ impl Memory {
 }
 
 impl Disk for Memory {
-    ghost use Rattle.std.specs.Prelude.{IsTrue, IsOk, OnErr};
+    ghost use Rattle.std.specs.Prelude.{IsTrue, IsOk, OnOk, OnErr};
     ghost use Rattle.sector_disk.specs.Disk.{IsCall, IsRead, IsWrite, IsSync, IsUnchanged};
-    ghost use Rattle.sector_disk.specs.Memory.{memory_facts, memory_holds};
+    ghost use Rattle.sector_disk.specs.Memory.{memory_facts, KeepsChoices};
+    ghost use Rattle.sector_disk.specs.Memory.{AddsChoice, HasOneChoice};
+    ghost use Rattle.sector_disk.specs.inside.MemoryLaws.{memory_holds, memory_whole};
 
     ghost facts = { memory_facts };
 
     ghost holds_now = { λ disk honest. memory_holds disk };
+
+    ghost whole_sectors = { λ disk honest. memory_whole disk };
 
     fn sectors(&self) -> u32 {
         self.start.len() as u32
     }
 
     /// Never fails.
-    fn read(&mut self, at: u32, into: &mut [u8; 512]) -> Result<(), DiskFault>
+    fn read(&mut self, at: u32, into: &mut [u8; SECTOR_BYTES]) -> Result<(), DiskFault>
         requires { at < (memory_facts self.old).sectors }
         ensures calls { IsCall (memory_facts self.old) (memory_facts self.new) result }
         ensures honest { IsTrue (memory_facts self.old).honest
             → IsRead (memory_facts self.old) (memory_facts self.new) at into.new result }
         ensures ok { IsOk result }
+        ensures choices { KeepsChoices self.old self.new }
     {
         let moment = self.moment();
         self.past = self.past.and(&moment);
@@ -160,12 +171,14 @@ impl Disk for Memory {
     }
 
     /// Fails where it finds no memory, and then changes nothing.
-    fn write(&mut self, at: u32, from: &[u8; 512]) -> Result<(), DiskFault>
+    fn write(&mut self, at: u32, from: &[u8; SECTOR_BYTES]) -> Result<(), DiskFault>
         requires { at < (memory_facts self.old).sectors }
         ensures calls { IsCall (memory_facts self.old) (memory_facts self.new) result }
         ensures honest { IsTrue (memory_facts self.old).honest
             → IsWrite (memory_facts self.old) (memory_facts self.new) at from.now result }
         ensures err { OnErr result (IsUnchanged (memory_facts self.old) (memory_facts self.new)) }
+        ensures choices_ok { OnOk result (AddsChoice self.old self.new at from.now) }
+        ensures choices_err { OnErr result (KeepsChoices self.old self.new) }
     {
         let moment = self.moment();
         match self.writes.push(Written { at, content: *from }) {
@@ -191,6 +204,7 @@ impl Disk for Memory {
         ensures honest { IsTrue (memory_facts self.old).honest
             → IsSync (memory_facts self.old) (memory_facts self.new) result }
         ensures ok { IsOk result }
+        ensures choices { HasOneChoice self.new }
     {
         let moment = self.moment();
         self.past = self.past.and(&moment);

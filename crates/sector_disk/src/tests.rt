@@ -1,23 +1,23 @@
 // What a stop leaves, and which calls a fuse fails. Contents are told by their byte: a sector of
-// 512 times the byte 2 is content 2.
-use crate::{Disk, DiskFault, Fuse, Memory};
+// the byte 2 alone is content 2.
+use crate::{CallCount, Disk, DiskFault, Fuse, Memory, SECTOR_BYTES};
 use std::alloc::Global;
 use std::process::Abort;
 use std::test::Fail;
 
 fn write<D: Disk>(rt: &impl Abort, disk: &mut D, at: u32, content: u8) -> Result<(), DiskFault> {
     assert!(rt; at < disk.sectors(), "sector {at}");
-    disk.write(at, &[content; 512])
+    disk.write(at, &[content; SECTOR_BYTES])
 }
 
 // The content of a sector, or None where the disk failed.
 fn read<D: Disk>(rt: &impl Abort, disk: &mut D, at: u32) -> Option<u8> {
     assert!(rt; at < disk.sectors(), "sector {at}");
-    let mut sector = [99; 512];
+    let mut sector = [99; SECTOR_BYTES];
     if disk.read(at, &mut sector).is_err() {
         return None;
     }
-    assert_eq!(rt; sector, [sector[0]; 512], "sector {at}");
+    assert_eq!(rt; sector, [sector[0]; SECTOR_BYTES], "sector {at}");
     Some(sector[0])
 }
 
@@ -66,6 +66,74 @@ fn a_stop_leaves_the_synced_content_or_one_written_since(rt: HostRuntime) -> Res
     assert_eq!(rt; choices(&rt, &disk, 2), 1);
     assert_eq!(rt; left(&rt, &disk, 2, 0)?, Some(6));
     assert_eq!(rt; choices(&rt, &copy, 2), 3, "the copy isn't synced");
+    Ok(())
+}
+
+#[test]
+fn a_content_that_is_written_again_is_a_choice_of_its_own(rt: HostRuntime) -> Result<(), Fail> {
+    let mut disk = Memory::new(rt.alloc(), 2)?;
+    write(&rt, &mut disk, 1, 20)?;
+    disk.sync()?;
+    write(&rt, &mut disk, 1, 30)?;
+    write(&rt, &mut disk, 1, 30)?;
+    assert_eq!(rt; read(&rt, &mut disk, 1), Some(30));
+    assert_eq!(rt; choices(&rt, &disk, 1), 3);
+    write(&rt, &mut disk, 1, 20)?;
+    assert_eq!(rt; choices(&rt, &disk, 1), 4);
+    for (pick, content) in [(0, 20), (1, 30), (2, 30), (3, 20), (4, 20)] {
+        assert_eq!(rt; left(&rt, &disk, 1, pick)?, Some(content), "pick {pick}");
+    }
+    assert_eq!(rt; choices(&rt, &disk, 0), 1);
+    disk.sync()?;
+    assert_eq!(rt; choices(&rt, &disk, 1), 1);
+    Ok(())
+}
+
+#[test]
+fn a_disk_may_have_tens_of_thousands_of_sectors(rt: HostRuntime) -> Result<(), Fail> {
+    let mut disk = Memory::new(rt.alloc(), 50_000)?;
+    assert_eq!(rt; disk.sectors(), 50_000);
+    for at in 0..50_000 {
+        write(&rt, &mut disk, at, (at % 251) as u8)?;
+    }
+    disk.sync()?;
+    write(&rt, &mut disk, 49_999, 255)?;
+    assert_eq!(rt; choices(&rt, &disk, 49_999), 2);
+    assert_eq!(rt; left(&rt, &disk, 49_999, 1)?, Some(255));
+    let mut stopped = disk.stop(|_, _| 0);
+    for at in 0..50_000 {
+        assert_eq!(rt; read(&rt, &mut stopped, at), Some((at % 251) as u8));
+    }
+    Ok(())
+}
+
+#[test]
+fn a_sector_may_have_thousands_of_choices(rt: HostRuntime) -> Result<(), Fail> {
+    let mut disk = Memory::new(rt.alloc(), 2)?;
+    for nth in 1_u32..5_001 {
+        write(&rt, &mut disk, 1, (nth % 251) as u8)?;
+    }
+    assert_eq!(rt; choices(&rt, &disk, 0), 1);
+    assert_eq!(rt; choices(&rt, &disk, 1), 5_001);
+    for pick in [0, 1, 250, 251, 2_500, 4_999, 5_000] {
+        assert_eq!(rt;
+            left(&rt, &disk, 1, pick)?,
+            Some((pick % 251) as u8),
+            "pick {pick}"
+        );
+    }
+    disk.sync()?;
+    assert_eq!(rt; choices(&rt, &disk, 1), 1);
+    assert_eq!(rt; left(&rt, &disk, 1, 0)?, Some(231));
+    Ok(())
+}
+
+#[test]
+fn a_count_of_calls_has_no_bytes(rt: HostRuntime) -> Result<(), Fail> {
+    let mut calls = CallCount::new();
+    calls.end_call(&Ok(()));
+    calls.end_call(&Err(DiskFault::Failed));
+    assert_eq!(rt; size_of::<CallCount>(), 0);
     Ok(())
 }
 

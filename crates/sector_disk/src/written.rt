@@ -1,16 +1,18 @@
 // Writes to sectors, and what they make of the contents.
 ghost use Rattle.std.specs.Prelude.{◌≡◌, ◌<◌, length, All};
-ghost use Rattle.sector_disk.specs.Written.{contents};
+ghost use Rattle.sector_disk.specs.inside.Written.{contents};
+
+use crate::disk::SECTOR_BYTES;
 
 /// A write of a sector.
 #[derive(Clone, Copy)]
 pub(crate) struct Written {
     pub at: u32,
-    pub content: [u8; 512],
+    pub content: [u8; SECTOR_BYTES],
 }
 
 /// Makes all of these writes.
-pub(crate) fn apply(sectors: &mut [[u8; 512]], writes: &[Written])
+pub(crate) fn apply(sectors: &mut [[u8; SECTOR_BYTES]], writes: &[Written])
     requires { All (λ write. write.at < length sectors.old) writes.now }
     ensures { sectors.new ≡ contents sectors.old writes.now }
 {

@@ -1,14 +1,7 @@
-use crate::{ChooseRefusal, Root, Slot, choose};
+use crate::{ChooseRefusal, Root, Slot, choose, slot_of};
 
 fn root(generation: u64) -> Root {
-    Root {
-        generation,
-        sectors: 8,
-        library_count: 0,
-        preload_count: 0,
-        preloads: [0; 16],
-        entry_sectors: [0; 100],
-    }
+    Root::new(generation, 8, &[], &[])
 }
 
 fn good(generation: u64) -> Slot {
@@ -30,6 +23,7 @@ fn a_current_root_is_chosen(rt: HostRuntime) {
             Ok(root(current)),
             "{even} and {odd}"
         );
+        assert_eq!(rt; (slot_of(even), slot_of(odd)), (0, 1));
     }
 }
 

@@ -1,6 +1,7 @@
 use super::changed;
-use crate::{Entry, decode_entry, encode_entry};
-use extents::Extent;
+use crate::{Entry, MOST_NAME_BYTES, decode_entry, encode_entry};
+use extents::{Extent, MOST_EXTENTS};
+use sector_disk::SECTOR_BYTES;
 
 const UNUSED: Extent = Extent { start: 0, count: 0 };
 
@@ -10,16 +11,16 @@ fn small_entry() -> Entry {
         file_length: 344,
         name_length: 1,
         extent_count: 1,
-        name: [0; 240],
-        extents: [UNUSED; 32],
+        name: [0; MOST_NAME_BYTES],
+        extents: [UNUSED; MOST_EXTENTS],
     };
     entry.name[0] = b'a';
     entry.extents[0] = Extent { start: 2, count: 1 };
     entry
 }
 
-fn small_sector() -> [u8; 512] {
-    let mut sector = [0; 512];
+fn small_sector() -> [u8; SECTOR_BYTES] {
+    let mut sector = [0; SECTOR_BYTES];
     sector[..17].copy_from_slice(&[
         0x4c, 0x49, 0x42, 0x45, 0x58, 0x01, 0, 0, 1, 0, 1, 0, 0, 0, 0, 0, 0x61,
     ]);
@@ -31,6 +32,15 @@ fn small_sector() -> [u8; 512] {
 fn the_entry_of_a_small_library_is_spelt_as_written_down(rt: HostRuntime) {
     let entry = small_entry();
     assert!(rt; entry.has_spelling());
+    assert_eq!(rt;
+        Entry::new(b"a", 344, &[Extent { start: 2, count: 1 }]),
+        entry
+    );
+    assert_eq!(rt; entry.name_bytes(), b"a".as_slice());
+    assert_eq!(rt;
+        entry.file_extents(),
+        [Extent { start: 2, count: 1 }].as_slice()
+    );
     assert_eq!(rt; encode_entry(&entry), small_sector());
     assert_eq!(rt; decode_entry(&small_sector()), Some(entry));
 }
@@ -49,8 +59,8 @@ fn some_entry() -> Entry {
     entry
 }
 
-fn some_sector() -> [u8; 512] {
-    let mut sector = [0; 512];
+fn some_sector() -> [u8; SECTOR_BYTES] {
+    let mut sector = [0; SECTOR_BYTES];
     sector[..4].copy_from_slice(b"LIBE");
     sector[4] = 0x58;
     sector[5] = 0x02;
@@ -77,7 +87,7 @@ fn a_changed_byte_is_read_as_the_format_says(rt: HostRuntime) {
             "magic, byte {at}"
         );
     }
-    for at in (12..16).chain(18..256).chain(272..512) {
+    for at in (12..16).chain(18..256).chain(272..SECTOR_BYTES) {
         assert_eq!(rt;
             decode_entry(&changed(&rt, &sector, at, 0x61)),
             None,
@@ -167,10 +177,10 @@ fn a_full_entry_is_read_and_no_larger_one(rt: HostRuntime) {
         file_length: 32 * 512,
         name_length: 240,
         extent_count: 32,
-        name: [b'n'; 240],
-        extents: [Extent { start: 9, count: 1 }; 32],
+        name: [b'n'; MOST_NAME_BYTES],
+        extents: [Extent { start: 9, count: 1 }; MOST_EXTENTS],
     };
-    let mut sector = [0; 512];
+    let mut sector = [0; SECTOR_BYTES];
     sector[..16].copy_from_slice(&[
         0x4c, 0x49, 0x42, 0x45, 0, 0x40, 0, 0, 240, 0, 32, 0, 0, 0, 0, 0,
     ]);

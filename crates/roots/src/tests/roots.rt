@@ -1,19 +1,12 @@
 use super::changed;
 use crate::{Root, Slot, decode_root, encode_root};
+use sector_disk::SECTOR_BYTES;
 
-const FORMATTED: Root = Root {
-    generation: 0,
-    sectors: 8,
-    library_count: 0,
-    preload_count: 0,
-    preloads: [0; 16],
-    entry_sectors: [0; 100],
-};
-
-// A disk of 8 sectors: formatted, then a library is installed (data 2, entry 3), and replaced (data 4, entry 5).
+// A disk of 8 sectors: formatted, then a library is installed (data 2, entry 3), and replaced
+// (data 4, entry 5).
 #[test]
 fn the_roots_of_a_young_registry_are_spelt_as_written_down(rt: HostRuntime) {
-    let mut formatted = [0; 512];
+    let mut formatted = [0; SECTOR_BYTES];
     formatted[..24].copy_from_slice(&[
         0x52, 0x4c, 0x49, 0x42, 0x52, 0x45, 0x47, 0x31, 0, 0, 0, 0, 0, 0, 0, 0, 8, 0, 0, 0, 0, 0,
         0, 0,
@@ -25,17 +18,12 @@ fn the_roots_of_a_young_registry_are_spelt_as_written_down(rt: HostRuntime) {
     let mut replaced = installed;
     replaced[8] = 2;
     replaced[64] = 5;
-    for (sector, generation, library_count, entry_sector) in [
-        (formatted, 0, 0, 0),
-        (installed, 1, 1, 3),
-        (replaced, 2, 1, 5),
+    for (sector, generation, entry_sectors) in [
+        (formatted, 0, [].as_slice()),
+        (installed, 1, [3].as_slice()),
+        (replaced, 2, [5].as_slice()),
     ] {
-        let mut root = Root {
-            generation,
-            library_count,
-            ..FORMATTED
-        };
-        root.entry_sectors[0] = entry_sector;
+        let root = Root::new(generation, 8, entry_sectors, &[]);
         assert!(rt; root.has_spelling());
         assert_eq!(rt; encode_root(&root), sector, "generation {generation}");
         assert_eq!(rt;
@@ -48,22 +36,11 @@ fn the_roots_of_a_young_registry_are_spelt_as_written_down(rt: HostRuntime) {
 
 // Three libraries on 16 sectors, of which the first two are preloads.
 fn some_root() -> Root {
-    let mut root = Root {
-        generation: 2,
-        sectors: 16,
-        library_count: 3,
-        preload_count: 2,
-        ..FORMATTED
-    };
-    root.preloads[1] = 1;
-    root.entry_sectors[0] = 3;
-    root.entry_sectors[1] = 5;
-    root.entry_sectors[2] = 4;
-    root
+    Root::new(2, 16, &[3, 5, 4], &[0, 1])
 }
 
-fn some_sector() -> [u8; 512] {
-    let mut sector = [0; 512];
+fn some_sector() -> [u8; SECTOR_BYTES] {
+    let mut sector = [0; SECTOR_BYTES];
     sector[..8].copy_from_slice(b"RLIBREG1");
     sector[8] = 2;
     sector[16] = 16;
@@ -81,6 +58,9 @@ fn a_changed_byte_is_read_as_the_format_says(rt: HostRuntime) {
     let sector = some_sector();
     let root = some_root();
     assert_eq!(rt; decode_root(&sector), Slot::Good(root));
+    assert!(rt; root.has_spelling());
+    assert_eq!(rt; root.entry_sectors(), [3, 5, 4].as_slice());
+    assert_eq!(rt; root.preload_positions(), [0, 1].as_slice());
     for at in 0..8 {
         assert_eq!(rt;
             decode_root(&changed(&rt, &sector, at, 0)),
@@ -88,7 +68,7 @@ fn a_changed_byte_is_read_as_the_format_says(rt: HostRuntime) {
             "magic, byte {at}"
         );
     }
-    for at in (28..64).chain(76..512) {
+    for at in (28..64).chain(76..SECTOR_BYTES) {
         assert_eq!(rt;
             decode_root(&changed(&rt, &sector, at, 1)),
             Slot::Bad,
@@ -134,8 +114,7 @@ fn a_changed_byte_is_read_as_the_format_says(rt: HostRuntime) {
         Slot::Good(other)
     );
     for entry_sector in [2, 15] {
-        let mut other = root;
-        other.entry_sectors[0] = u32::from(entry_sector);
+        let other = Root::new(2, 16, &[u32::from(entry_sector), 5, 4], &[0, 1]);
         assert_eq!(rt;
             decode_root(&changed(&rt, &sector, 64, entry_sector)),
             Slot::Good(other)
@@ -146,27 +125,25 @@ fn a_changed_byte_is_read_as_the_format_says(rt: HostRuntime) {
 // A hundred libraries and sixteen preloads, on the smallest disk that has room for their entries.
 #[test]
 fn a_full_root_is_read_and_no_larger_one(rt: HostRuntime) {
-    let mut root = Root {
-        generation: u64::MAX,
-        sectors: 102,
-        library_count: 100,
-        preload_count: 16,
-        ..FORMATTED
-    };
-    let mut sector = [0; 512];
+    let mut entry_sectors = [0; 100];
+    let mut preloads = [0; 16];
+    let mut sector = [0; SECTOR_BYTES];
     sector[..24].copy_from_slice(&[
         0x52, 0x4c, 0x49, 0x42, 0x52, 0x45, 0x47, 0x31, 255, 255, 255, 255, 255, 255, 255, 255,
         102, 0, 0, 0, 100, 0, 16, 0,
     ]);
     for i in 0..16u8 {
-        root.preloads[usize::from(i)] = u16::from(i);
+        preloads[usize::from(i)] = u16::from(i);
         sector[24 + 2 * usize::from(i)] = i;
     }
     for i in 0..100u8 {
-        root.entry_sectors[usize::from(i)] = 2 + u32::from(i);
+        entry_sectors[usize::from(i)] = 2 + u32::from(i);
         sector[64 + 4 * usize::from(i)] = 2 + i;
     }
+    let root = Root::new(u64::MAX, 102, &entry_sectors, &preloads);
     assert!(rt; root.has_spelling());
+    assert_eq!(rt; root.entry_sectors(), entry_sectors.as_slice());
+    assert_eq!(rt; root.preload_positions(), preloads.as_slice());
     assert_eq!(rt; encode_root(&root), sector);
     assert_eq!(rt; decode_root(&sector), Slot::Good(root));
     assert_eq!(rt;
@@ -190,11 +167,7 @@ fn a_full_root_is_read_and_no_larger_one(rt: HostRuntime) {
 fn a_disk_has_8_to_4194304_sectors(rt: HostRuntime) {
     for (sectors, spelt) in [(7, false), (8, true), (4_194_304, true), (4_194_305, false)] {
         assert_eq!(rt;
-            Root {
-                sectors,
-                ..FORMATTED
-            }
-            .has_spelling(),
+            Root::new(0, sectors, &[], &[]).has_spelling(),
             spelt,
             "{sectors} sectors"
         );

@@ -1,5 +1,5 @@
 use Rattle.std.proofs.Common.{◌+◌, drop, sym, ap, subst, ◌∙◌, arith}
-use Rattle.extents.specs.Kept.{IsLongestFirst}
+use Rattle.extents.specs.inside.Kept.{IsLongestFirst}
 use Rattle.extents.specs.Runs.{runs_from, free_runs}
 use Rattle.extents.proofs.runs.longest_runs.Goals as goal
 use Rattle.extents.proofs.Places.{sorted_kept}

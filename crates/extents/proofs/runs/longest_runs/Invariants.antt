@@ -1,5 +1,5 @@
 use Rattle.std.proofs.Common.{◌≡◌, ◌-◌, length, drop}
-use Rattle.extents.specs.Kept.{IsLongestFirst}
+use Rattle.extents.specs.inside.Kept.{IsLongestFirst}
 use Rattle.extents.specs.Longest.{longest_runs}
 use Rattle.extents.specs.Runs.{runs_from}
 use Rattle.extents.proofs.Sorting.{kept_of}

@@ -10,7 +10,7 @@ unfolding entry_bytes
 returns-clause-spelling c =
     let none : length c.new-sector.result ≡ 0 = ap length c.new-sector.ensures in
     then_finish _ _ _ 0 c.finish.ensures (omega (arith, c.requires.name.listed.size, c.requires.extents.listed.size)) (omega arith)
-    (then_put _ _ _ _ c.put_extents.ensures.fields
+    (then_put _ _ _ _ c.put_all.ensures.fields
     (then_put _ _ _ _ c.put-6.ensures.fields
     (then_put _ _ _ _ c.put-5.ensures.fields
     (then_spelt _ _ _ _ _ c.put-4.ensures.fields c.to_le_bytes-3.ensures

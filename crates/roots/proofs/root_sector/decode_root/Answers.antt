@@ -3,12 +3,12 @@ use Rattle.roots.specs.declared.root.Root.{Root}
 use Rattle.roots.specs.declared.slot.Slot.TheVariants.{Good}
 use Rattle.roots.specs.Root.{SpellsRoot}
 use Rattle.roots.proofs.Roots.{root_of-spelt, spelt_has_magic}
-use Rattle.roots.proofs.Sectors.{starts}
 use Rattle.roots.proofs.root_sector.decode_root.Goals as goal
 
-pub returns-then-not-starts_with-clause-spelt : goal.returns-then-not-starts_with-clause-spelt
-returns-then-not-starts_with-clause-spelt c root spells =
-    absurd (starts c.args.bytes.now _ _ c.starts_with.ensures.value c.if-not-starts_with.true (spelt_has_magic c.args.bytes.now root spells))
+pub returns-then-not-has_magic-clause-spelt : goal.returns-then-not-has_magic-clause-spelt
+returns-then-not-has_magic-clause-spelt c root spells =
+    let begins : c.has_magic.result ≡ true = c.has_magic.ensures.1 (spelt_has_magic c.args.bytes.now root spells) in
+    absurd (cc (begins, c.if-not-has_magic.true))
 
 pub returns-then-spells-clause-spelt : goal.returns-then-spells-clause-spelt
 returns-then-spells-clause-spelt c root spells = ap (λ r. Good r) (c.root_fields-root.ensures ∙ root_of-spelt c.args.bytes.now root spells)

@@ -1,5 +1,5 @@
 use Rattle.std.proofs.Common.{subst, sym, ◌∙◌, arith}
-use Rattle.extents.specs.Kept.{IsKept}
+use Rattle.extents.specs.inside.Kept.{IsKept}
 use Rattle.extents.specs.Layout.{IsLowestFree}
 use Rattle.extents.proofs.layout.Layout.lowest_free.Goals as goal
 use Rattle.extents.proofs.Marks.{lowest_is, one_inside}

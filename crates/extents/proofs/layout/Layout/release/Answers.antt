@@ -1,5 +1,5 @@
 use Rattle.std.proofs.Common.{◌+◌, false, min, length, ◌++◌, take, drop, sym, ap, subst, ◌∙◌, arith}
-use Rattle.extents.specs.Kept.{IsKept}
+use Rattle.extents.specs.inside.Kept.{IsKept}
 use Rattle.extents.specs.Layout.{IsInside, free_count}
 use Rattle.extents.proofs.layout.Layout.release.Goals as goal
 use Rattle.extents.proofs.Marks.{claimed_inside, count_released, kept_released, rewritten, free_count-le-length, length-with_flag}

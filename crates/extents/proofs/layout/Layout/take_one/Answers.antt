@@ -1,5 +1,5 @@
 use Rattle.std.proofs.Common.{◌≡◌, ◌+◌, Some, IfSome, subst, sym, ◌∙◌}
-use Rattle.extents.specs.Kept.{IsKept}
+use Rattle.extents.specs.inside.Kept.{IsKept}
 use Rattle.extents.specs.Layout.{IsLowestFree}
 use Rattle.extents.proofs.layout.Layout.take_one.Goals as goal
 use Rattle.extents.proofs.Marks.{kept_past, one_inside}

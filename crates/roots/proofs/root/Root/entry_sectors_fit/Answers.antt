@@ -1,4 +1,5 @@
-use Rattle.std.proofs.Common.{◌≡◌, true, ◌∙◌, sym, rules}
+use Rattle.std.proofs.Common.{◌≡◌, true, take, ◌∙◌, sym, subst, rules}
+use Rattle.extents.specs.Extent.{AreDistinct}
 use Rattle.roots.proofs.Distinct.{distinct_front}
 use Rattle.roots.proofs.root.Root.entry_sectors_fit.Goals as goal
 use Rattle.roots.proofs.root.Root.entry_sectors_fit.Goals.{then-all, else-all}
@@ -8,6 +9,6 @@ returns-then-are_distinct c =
     elim c.if-all.branch [
       | then-all w ↦
           let apart : w.are_distinct.result ≡ true = sym w.value-is ∙ c.if-are_distinct.true in
-          (λ yes. record { listed = search rules; distinct = distinct_front _ _ _ _ c.split_at.ensures.front c.from-count.ensures (w.are_distinct.ensures.0 apart) }, λ h. search rules)
+          (λ yes. record { listed = search rules; distinct = subst (λ l. AreDistinct (take c.args.self.now.library_count l)) c.places-places.ensures (distinct_front _ _ _ _ c.split_at.ensures.front c.from-count.ensures (w.are_distinct.ensures.0 apart)) }, λ h. search rules)
       | else-all w ↦ search rules
     ]

@@ -1,7 +1,7 @@
 use Rattle.std.proofs.Common.{◌∙◌, ◌<◌, [], ap, arith, length, refl}
 use Rattle.std.proofs.lemmas.List.{get_or_read}
 use Rattle.sector_disk.specs.Disk.{sector}
-use Rattle.sector_disk.specs.WrittenLaws.{length-contents}
+use Rattle.sector_disk.specs.inside.WrittenLaws.{length-contents}
 use Rattle.sector_disk.proofs.Kept.{keeps_past_to, unchanged}
 use Rattle.sector_disk.proofs.memory.MemoryDisk.read.Goals as goal
 

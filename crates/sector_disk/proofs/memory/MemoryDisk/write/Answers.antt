@@ -3,12 +3,14 @@ use Rattle.std.proofs.lemmas.List.{get_or_read, length-drop, length-set, length_
 use Rattle.std.proofs.lemmas.List.Elements.{All-push, All-weaker}
 use Rattle.sector_disk.specs.declared.moment.Moment.{Moment}
 use Rattle.sector_disk.specs.declared.written.Written.{Written}
-use Rattle.sector_disk.specs.Disk.{GrowsBy, IsUnchanged}
-use Rattle.sector_disk.specs.Written.{contents, written_to}
-use Rattle.sector_disk.specs.WrittenLaws.{length-contents}
-use Rattle.sector_disk.specs.Memory.{facts_of, memory_facts}
+use Rattle.sector_disk.specs.Disk.{GrowsBy, IsUnchanged, IsWhole}
+use Rattle.sector_disk.specs.inside.Written.{contents, written_to}
+use Rattle.sector_disk.specs.inside.WrittenLaws.{length-contents}
+use Rattle.sector_disk.specs.Memory.{memory_facts}
+use Rattle.sector_disk.specs.inside.Moments.{facts_of}
 use Rattle.sector_disk.proofs.Contents.{contents-append}
 use Rattle.sector_disk.proofs.Kept.{keeps_past_to, unchanged, grows, length-written_to, counted_more}
+use Rattle.sector_disk.proofs.Whole.{is_whole}
 use Rattle.sector_disk.proofs.memory.MemoryDisk.write.Goals as goal
 
 pub index_mut-requires : goal.index_mut-requires
@@ -56,6 +58,12 @@ invariant_of-self-clause-counted c k lt =
     ap (λ n. get_or (set self.unsynced.items c.args.at (n + 1)) k 0) was
     ∙ counted_more self.unsynced.items self.writes.items self.synced write (length self.start.items) self.synced_writes self.one_count_each c.requires self.counted k lt
     ∙ ap (λ ws. length (written_to k (drop self.synced ws))) (sym c.in-Ok.ensures.items)
+
+pub invariant_of-self-clause-whole_writes : goal.invariant_of-self-clause-whole_writes
+invariant_of-self-clause-whole_writes c =
+    let self = c.args.self.now in
+    let IsWholeWrite = λ (write : Written). IsWhole write.content in
+    subst (All IsWholeWrite) (sym c.in-Ok.ensures.items) (All-push IsWholeWrite self.writes.items (record { at = c.args.at; content = c.args.from.now }) self.whole_writes (is_whole c.args.from.now c.told-from c.fits-from))
 
 pub invariant_of-self-clause-no_later : goal.invariant_of-self-clause-no_later
 invariant_of-self-clause-no_later c =

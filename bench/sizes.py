@@ -1,0 +1,36 @@
+#!/usr/bin/env python3
+"""Writes the table of the crates' sizes in docs/PERFORMANCE.md anew: `python3 bench/sizes.py`."""
+
+import re
+from pathlib import Path
+
+ROOT = Path(__file__).resolve().parent.parent
+PAGE = ROOT / 'docs' / 'PERFORMANCE.md'
+HEAD = '| Crate | Lines of src (without tests), specs, proofs | Functions | Edits | Tests |\n|---|---|---|---|---|\n'
+
+
+def lines(files):
+    return sum(len(file.read_text().splitlines()) for file in files)
+
+
+def found(pattern, files):
+    return sum(len(re.findall(pattern, file.read_text(), re.M)) for file in files)
+
+
+def row_of(crate):
+    folder = ROOT / 'crates' / crate
+    files = list(folder.glob('src/**/*.rt'))
+    source = [file for file in files if 'tests' not in str(file.relative_to(folder))]
+    sizes = [lines(source), lines(folder.glob('specs/**/*.antt')), lines(folder.glob('proofs/**/*.antt'))]
+    functions = found(r'^\s*(?:pub(?:\([a-z]+\))? )?(?:const )?fn ', source)
+    edits, tests = len(list(folder.glob('must-fail/*.edit'))), found(r'#\[test\]', files)
+    return f"| `{crate}` | {', '.join(f'{size:,}' for size in sizes)} | {functions} | {edits} | {tests} |\n"
+
+
+def main():
+    crates = [line.split(':')[0].split()[0] for line in (ROOT / 'crates.txt').read_text().splitlines() if ':' in line]
+    page = PAGE.read_text()
+    PAGE.write_text(re.sub(r'\| Crate \| Lines of src.*?\n\n', lambda _: HEAD + ''.join(map(row_of, crates)) + '\n', page, flags=re.S))
+
+
+main()

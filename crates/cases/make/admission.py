@@ -1,0 +1,312 @@
+#!/usr/bin/env python3
+"""Writes the lists of symbols, strings and hash tables: `admission-*.txt`, and the files that they name.
+
+    python3 crates/cases/make/admission.py
+"""
+
+import rules
+from make import ALL, BASE, DATA, Case, spelt, u32, u64, u8, write_list
+from samples import (
+    ABSOLUTE, DEFINED, FUNC, GLOBAL, HIDDEN, INTERNAL, LOCAL, NOTYPE, OBJECT, PROTECTED, R_64, R_GLOB_DAT,
+    R_JUMP_SLOT, R_RELATIVE, UNDEFINED, WEAK, Object, Symbol, build, program_header)
+
+
+def made(name, o):
+    """Writes an object, and gives its case and where its parts begin."""
+    data, at = build(o)
+    (DATA / name).write_bytes(data)
+    return Case(name), at
+
+
+def changed(case, *changes):
+    return Case(case.name, *case.changes, *changes)
+
+
+def image(file, base=BASE, wanted=None):
+    text = rules.image_text(file.bytes(), base)
+    assert text.startswith('refused'), str(file)
+    assert wanted is None or text == f'refused {wanted}\n', (str(file), wanted, text)
+    return f'image {file} 0x{base:x} => {text[:-1]}'
+
+
+def bound(file, answer):
+    """A program that is bound, and whose text is worked out by the second reading."""
+    text = rules.image_text(file.bytes(), BASE)
+    assert not text.startswith('refused'), (str(file), text)
+    (DATA / answer).write_text(text)
+    return f'image {file} 0x{BASE:x} => file {answer}'
+
+
+def admit(file, wanted=None):
+    """Whether a file is admitted; `wanted` was worked out by hand, '' for no refusal."""
+    refusal = rules.admitted_refusal(file.bytes())
+    assert wanted is None or (refusal or '') == wanted, (str(file), wanted, refusal)
+    return f"admit {file} => {'refused ' + refusal if refusal else 'admitted'}"
+
+
+def library(file, wanted=None):
+    """Whether a file is a library, and its name."""
+    refusal = rules.library_refusal(file.bytes())
+    assert wanted is None or (refusal or '') == wanted, (str(file), wanted, refusal)
+    if refusal:
+        return f'library {file} => refused {refusal}'
+    elf = rules.Elf(file.bytes())
+    return f'library {file} => library {rules.printed_name(elf.string(elf.value(rules.SONAME)))}'
+
+
+def find(file, name, wanted=None):
+    found = rules.find(file.bytes(), name)
+    assert wanted is None or found == (wanted or None), (str(file), name, wanted, found)
+    word = name.decode() if name.isalnum() else 'bytes=' + name.hex()
+    count = rules.compared(file.bytes(), name)
+    return f"find {file} {word} => {'none' if found is None else found} of {count}"
+
+
+# Changes of minimal.so that only the whole reading refuses, as a program.
+TABLE = [
+    ([(0xf8, u8(0x05))], 'E16 DuplicateTag'), ([(0xf8, u32(0x6ffffff0))], 'E17 SymbolVersions'),
+    ([(0xf8, u32(0x6ffffffc))], 'E17 SymbolVersions'), ([(0xf8, u32(0x6ffffffe))], 'E17 SymbolVersions'),
+    ([(0xf8, u8(0x11))], 'E18 UnsupportedTag'), ([(0xf8, u8(0x24))], 'E18 UnsupportedTag'),
+    ([(0xf8, u8(0x10))], 'E18 UnsupportedTag'), ([(0xf8, u8(0x15))], 'E19 NoHashTable'),
+    ([(0xf8, u8(0x01))], 'E19 NoHashTable'), ([(0x108, u8(0x15))], 'E20 MissingTag'),
+    ([(0x118, u8(0x15))], 'E20 MissingTag'), ([(0x128, u8(0x15))], 'E20 MissingTag'),
+    ([(0x138, u8(0x15))], 'E20 MissingTag'), ([(0x140, u8(0x10))], 'E21 BadEntrySize'),
+    ([(0x111, u8(0x02))], 'E22 BadRange'), ([(0x130, u8(0x00))], 'E23 BadString'),
+    ([(0xe8, u8(0x25))], 'E30 RelocationType 37'), ([(0xe8, u8(0x01)), (0xec, u8(0x01))], 'E31 RelocationSymbol'),
+    ([(0xe0, u8(0x89))], 'E32 RelocationPlace'), ([(0xb0, u8(0x00))], 'E29 BadHashTable'),
+]
+
+# Changed fields of eight or four bytes.
+FIELDS = [
+    ([(0x20, u64(0xfffffffffffffff0))], 'E10 BadProgramHeaders'), ([(0x48, ALL), (0x70, u64(1))], 'E12 BadSegment'),
+    ([(0x68, ALL)], 'E13 TooLarge'), ([(0x50, u64(0xfffffffffffff000))], 'E13 TooLarge'),
+    ([(0x100, u64(0xfffffffffffffff8))], 'E22 BadRange'), ([(0x130, ALL)], 'E22 BadRange'),
+    ([(0xe0, ALL)], 'E32 RelocationPlace'), ([(0xb4, u32(0xffffffff))], 'E22 BadRange'),
+    ([(0xb0, u32(0xffffffff))], 'E22 BadRange'),
+]
+
+
+def table():
+    m = Case('minimal.so')
+    write_list('admission-changes.txt', [
+        ('Changes of minimal.so that symbols, strings and the hash table bring, read as a program.', [
+            image(changed(m, *change), wanted='B1 ' + refusal) for change, refusal in TABLE]),
+        ('Fields of eight or four bytes that run past every file.', [
+            image(changed(m, *change), wanted='B1 ' + refusal) for change, refusal in FIELDS]),
+        ('A library has a SONAME.', [admit(m, ''), library(m, 'E33 BadSoname')]),
+        ('FLAGS is read for DF_SYMBOLIC, the value 2, alone.', [
+            admit(changed(made('flags.so', Object(entries=[(30, 8)]))[0]), ''),
+            admit(made('symbolic.so', Object(entries=[(30, 10)]))[0], 'E18 UnsupportedTag')]),
+    ])
+
+
+def export(name, **changes):
+    return Symbol(name, **{'binding': GLOBAL, 'kind': FUNC, 'section': DEFINED, **changes})
+
+
+def symbols():
+    q, at = made('q.so', Object(soname=b'q', symbols=[export(b'f')]))
+    f = at['symbols'] + 24
+    info, other, section = f + 4, f + 5, f + 6
+    lines = [
+        ([(info, u8(0x15))], 'E24 CommonSymbol'), ([(section, u8(0xf2, 0xff))], 'E24 CommonSymbol'),
+        ([(info, u8(0x16))], 'E25 TlsSymbol'), ([(info, u8(0xa6))], 'E25 TlsSymbol'),
+        ([(info, u8(0x1a))], 'E26 IfuncSymbol'), ([(info, u8(0xa2))], 'E27 BadBinding'),
+        ([(info, u8(0x32))], 'E27 BadBinding'), ([(info, u8(0x35)), (section, u8(0xf2, 0xff))], 'E24 CommonSymbol'),
+        ([(info, u8(0x3a))], 'E26 IfuncSymbol')]
+    visible = [
+        ('DEFAULT', [(other, u8(0))], 1), ('INTERNAL', [(other, u8(1))], 0), ('HIDDEN', [(other, u8(2))], 0),
+        ('PROTECTED', [(other, u8(3))], 1), ('DEFAULT, with other bits', [(other, u8(0xfc))], 1),
+        ('HIDDEN, with other bits', [(other, u8(0x86))], 0), ('WEAK', [(info, u8(0x22))], 1),
+        ('LOCAL', [(info, u8(0x02))], 0), ('no type', [(info, u8(0x10))], 1), ('an object', [(info, u8(0x11))], 1),
+        ('a section', [(info, u8(0x13))], 0), ('a file', [(info, u8(0x14))], 0),
+        ('undefined', [(section, u8(0, 0))], 0), ('absolute', [(section, u8(0xf1, 0xff))], 1),
+        ('an ordinary section of a high number', [(section, u8(0, 0xff))], 1)]
+    hidden, _ = made('hidden.so', Object(soname=b'q', symbols=[export(b'f', visibility=HIDDEN)] * 2))
+    twice, _ = made('twice.so', Object(soname=b'q', symbols=[export(b'f')] * 2))
+    weak, _ = made('weak.so', Object(soname=b'q', symbols=[export(b'f'), export(b'f', binding=WEAK)]))
+    local, _ = made('local.so', Object(soname=b'q', symbols=[export(b'f', binding=LOCAL), export(b'f')]))
+    prefix, _ = made('prefix.so', Object(soname=b'q', symbols=[export(b'fg'), export(b'f'), export(b'')]))
+    write_list('admission-symbols.txt', [
+        ('Symbols of binding, type and section that no object may have; the first test that applies answers.', [
+            library(changed(q, *change), refusal) for change, refusal in lines]),
+        ('Symbol 0 isn\'t tested.', [library(changed(q, (at['symbols'] + 4, u8(0xff))), ''),
+                                     library(changed(q, (at['symbols'], ALL)), '')]),
+    ] + [(f'Which symbols are exported: {what}.', [find(changed(q, *change), b'f', wanted)])
+         for what, change, wanted in visible] + [
+        ('Two symbols of one name: refused where both are exported, also where one is weak.', [
+            library(hidden, ''), find(hidden, b'f', 0), library(twice, 'E28 DuplicateDefinition'),
+            library(weak, 'E28 DuplicateDefinition'), library(local, ''), find(local, b'f', 2)]),
+        ('A name that is the beginning of another one; the empty name; absent names.', [
+            find(prefix, b'f', 2), find(prefix, b'fg', 1), find(prefix, b'', 3), find(prefix, b'g', 0),
+            find(prefix, b'fgh', 0), find(prefix, b'a name', 0)]),
+    ])
+
+
+def sonames():
+    def named(name, k):
+        return made(f'soname-{k}.so', Object(soname=name))[0]
+    refused = [b'', b'a/b', b'a b', b'/', b'\x7f', b'\x20', b'\xc3\xa9', b'a\n']
+    taken = [b'a', b'!', b'~', b'liba.so.1', b'\\']
+    write_list('admission-sonames.txt', [
+        ('Names of 240 and of 241 bytes.', [library(named(b'x' * 240, 240), ''), library(named(b'x' * 241, 241), 'E33 BadSoname')]),
+        ('Names that no library may have.', [library(named(n, f'bad-{k}'), 'E33 BadSoname') for k, n in enumerate(refused)]),
+        ('Names that a library may have.', [library(named(n, f'good-{k}'), '') for k, n in enumerate(taken)]),
+    ])
+
+
+def tables():
+    fg, at = made('fg.so', Object(soname=b'q', symbols=[export(b'f'), export(b'g')]))
+    h = at['hash']
+    bucket, chain = h + 8, h + 12
+    fgh, at3 = made('fgh.so', Object(soname=b'q', symbols=[export(b'f'), export(b'g'), export(b'h')]))
+    h3 = at3['hash']
+    # Two buckets, and f, whose hash is 0x66, under one of them.
+    wrong, _ = made('bucket-1.so', Object(soname=b'q', symbols=[export(b'f')], hash_words=[2, 2, 0, 1, 0, 0]))
+    right, _ = made('bucket-0.so', Object(soname=b'q', symbols=[export(b'f')], hash_words=[2, 2, 1, 0, 0, 0]))
+    both, _ = made('bucket-both.so', Object(soname=b'q', symbols=[export(b'f')], hash_words=[2, 2, 1, 1, 0, 0]))
+    before, _ = made('undefined-before.so', Object(soname=b'q', symbols=[Symbol(b'u'), export(b'f')]))
+    empty, _ = made('no-symbols.so', Object(soname=b'q'))
+    nothing, _ = made('no-buckets.so', Object(soname=b'q', hash_words=[0, 1, 0]))
+    none, _ = made('no-chains.so', Object(soname=b'q', hash_words=[1, 0, 0]))
+    middle, _ = made('into-a-chain.so', Object(
+        soname=b'q', symbols=[export(b'f'), export(b'g'), export(b'h')], hash_words=[2, 4, 1, 2, 0, 2, 3, 0]))
+    # f and h have even hashes, g an odd one.
+    assert [rules.elf_hash(n) % 2 for n in (b'f', b'g', b'h')] == [0, 1, 0]
+    bad = 'E29 BadHashTable'
+    write_list('admission-tables.txt', [
+        ('Chains that point at themselves, in rings and past the end.', [
+            library(changed(fg, (chain + 8, u32(1))), bad), library(changed(fg, (chain + 8, u32(2))), bad),
+            library(changed(fg, (chain + 4, u32(1))), bad), library(changed(fg, (chain + 8, u32(3))), bad),
+            library(changed(fg, (chain + 8, u32(0xffffffff))), bad), library(changed(fg, (bucket, u32(3))), bad),
+            library(changed(fgh, (h3 + 12 + 12, u32(2))), bad)]),
+        ('chain[0] is followed by nobody, but it is a word of the table.', [
+            library(changed(fg, (chain, u32(2))), ''), library(changed(fg, (chain, u32(3))), bad)]),
+        ('Exports that no chain holds, or that stand behind a 0.', [
+            library(changed(fg, (bucket, u32(0))), bad), library(changed(fg, (bucket, u32(2))), bad),
+            library(changed(fg, (chain + 4, u32(0))), bad)]),
+        ('An export under another bucket than its own, under its own, and under both.', [
+            library(wrong, bad), library(right, ''), library(both, '')]),
+        ('A bucket into the middle of another one\'s chain.', [library(middle, ''), find(middle, b'g', 2), find(middle, b'h', 3)]),
+        ('An undefined symbol on a chain.', [library(before, ''), find(before, b'f', 2), find(before, b'u', 0)]),
+        ('No symbols; no buckets; no chains, so that the bucket\'s word isn\'t below their number.', [
+            library(empty, ''), library(nothing, bad), library(none, bad)]),
+        ('Numbers of buckets and chains that run past the file.', [
+            library(changed(fg, (h, u32(0xffffffff))), 'E22 BadRange'),
+            library(changed(fg, (h + 4, u32(0xffffffff))), 'E22 BadRange')]),
+        ('How many names a search compares.', [
+            find(fgh, b'f', 1), find(fgh, b'g', 2), find(fgh, b'h', 3), find(fgh, b'z', 0)]),
+        ('Hashes of names.', [f'hash {word} => 0x{value:x}' for word, value in [
+            ('bytes=', 0), ('a', 0x61), ('ab', 0x672), ('exit', 0x6cf04), ('printf', 0x077905a6),
+            ('abcdefg', 0x0789aba7), ('abcdefgh', 0x089abaa8)]]),
+    ])
+    for name, value in [(b'', 0), (b'exit', 0x6cf04), (b'printf', 0x077905a6), (b'abcdefg', 0x0789aba7),
+                        (b'abcdefgh', 0x089abaa8)]:
+        assert rules.elf_hash(name) == value
+
+
+def bounds():
+    """Tables that end with their segment, and one byte more: the strings stand last, at the end of the file."""
+    m = Case('minimal.so')
+    end = 0x190
+    strings, size, table, sym, rela = 0x110, 0x130, 0x100, 0x120, 0x150
+    bad = 'B1 E22 BadRange'
+    accepted = lambda *change: admit(changed(m, *change), '')
+    refused = lambda *change: admit(changed(m, *change), 'E22 BadRange')
+    write_list('admission-bounds.txt', [
+        ('The string table ends with its segment, and one byte past it; it begins one byte before the segment.', [
+            accepted((strings, u64(end - 1))), refused((strings, u64(end))), accepted((strings, u64(end - 8)), (size, u64(8))),
+            refused((strings, u64(end - 8)), (size, u64(9))), refused((strings, u64(2**64 - 1)), (size, u64(2)))]),
+        ('The hash table: its first eight bytes, and then all of it.', [
+            refused((table, u64(end - 7))), refused((table, u64(end))),
+            admit(changed(m, (table, u64(end - 16)), (end - 16, u32(1)), (end - 12, u32(1)), (end - 8, u64(0))), ''),
+            refused((table, u64(end - 16)), (end - 16, u32(1)), (end - 12, u32(2))),
+            refused((table, u64(end - 16)), (end - 16, u32(2)), (end - 12, u32(1)))]),
+        ('The symbol table ends with its segment, and one byte past it.', [
+            accepted((sym, u64(end - 24))), refused((sym, u64(end - 23)))]),
+        ('The relocations end with their segment, and one byte past it.', [
+            accepted((rela, u64(end - 24))), refused((rela, u64(end - 23)))]),
+        ('A table that is readable through no one segment, behind the file\'s bytes.', [
+            refused((0x68, u64(0x200)), (strings, u64(end)))]),
+        ('An empty table of relocations is readable wherever it stands.', [accepted((0x160, u64(0)), (rela, ALL))]),
+        ('Strings: no table, a last byte that isn\'t 0, a name at the last byte and one behind it.', strings_bounds()),
+    ])
+
+
+def strings_bounds():
+    q, at = made('q.so', Object(soname=b'q', symbols=[export(b'f')]))
+    p, at_p = made('p.so', PROGRAM)
+    data = q.bytes()
+    tags = {data[k]: k + 8 for k in range(at['dynamic'], at['data'], 16)}
+    size = rules.Elf(data).value(rules.STRSZ)
+    f = at['symbols'] + 24
+    first = at_p['dynamic']
+    bad = 'E23 BadString'
+    return [
+        library(changed(q, (tags[10], u64(0))), bad), library(changed(q, (tags[10], u64(size - 1))), bad),
+        library(changed(q, (at['strings'] + size - 1, b'x')), bad), library(changed(q, (f, u32(size - 1))), ''),
+        library(changed(q, (f, u32(size))), bad), library(changed(q, (f, u32(0xffffffff))), bad),
+        library(changed(q, (tags[14], u64(size - 1))), 'E33 BadSoname'), library(changed(q, (tags[14], u64(size))), bad),
+        library(changed(q, (tags[14], ALL)), bad), admit(changed(p, (first + 8, u64(8))), bad),
+        admit(changed(p, (first + 8, u64(6))), '')]
+
+
+PROGRAM = Object(needed=[b'a', b'b'], symbols=[Symbol(b'f')], relocations=[(R_64, 0, 1, 0)])
+
+
+def cuts():
+    def wanted(length, end):
+        return 'B1 ' + ('E1 TooShort' if length < 64 else 'E10 BadProgramHeaders' if length < end else 'E12 BadSegment')
+    parts = []
+    for name, end in (('minimal.so', 176), ('p.so', 176), ('w.so', 456)):
+        whole = len((DATA / name).read_bytes())
+        for length in range(whole):
+            image(Case(name, ('cut', length)), wanted=wanted(length, end))
+        parts.append((f'Every cut of {name}.', [
+            f'image {name} cut={a}..{b} 0x10000 => refused {wanted(a, end)}'
+            for a, b in ((0, 63), (64, end - 1), (end, whole - 1))]))
+    write_list('admission-cuts.txt', parts)
+
+
+def programs():
+    p, at = made('p.so', PROGRAM)
+    assert at['data'] == 0x1c8 and len(p.bytes()) == 464
+    w_object = Object(
+        soname=b'w', symbols=[export(b'f')], nulls=4, entries=[(0x6ffffef5, 0)],
+        headers=[program_header(1, 5, 0x1000, 0x2000, 16, 32, 0x1000), program_header(4), program_header(0x6474e550),
+                 program_header(0x6474e551), program_header(0x6474e552)])
+    def hand_made(name, o):
+        data, at = build(o)
+        data = bytearray(data + bytes(0x1000 - len(data)) + b'\x90' * 16)
+        data[40:48], data[58:64] = u64(64), bytes([64, 0, 9, 0, 8, 0])
+        (DATA / name).write_bytes(bytes(data))
+        return Case(name)
+    w = hand_made('w.so', w_object)
+    w_object.entries = w_object.entries + [(0x6ffffffe, 0)]
+    versions = hand_made('w-verneed.so', w_object)
+    text = rules.image_text(w.bytes(), BASE).splitlines()
+    assert text[-4:] == ['segment 0x0000000000012000 32 r-x', '90' * 16, '00' * 16, 'end']
+    named = lambda kind: made(f'type-{kind}.so', Object(symbols=[Symbol(b'f')], relocations=[
+        (R_RELATIVE, 0, 0, 0), (kind, 8, 1, 0)], data=16))
+    missing = lambda file, at: changed(file, (at['relocations'] + 24 + 12, u32(2)))
+    write_list('admission-programs.txt', [
+        ('A program that needs libraries is answered with the first of them, after its base.', [
+            image(p, wanted='B3 Missing /program a'), image(p, 0x10001, 'B2 BadBase')]),
+        ('A library with header types and tags that aren\'t read, of two segments; one that needs versions.', [
+            library(w, ''), find(w, b'f', 1), library(versions, 'E17 SymbolVersions'), bound(w, 'w.image')]),
+        ('A relocation that names a symbol is refused with its type until names are looked up; its symbol is there.', [
+            image(named(kind)[0], wanted=f'B1 E30 RelocationType {kind}') for kind in (1, 6, 7)] + [
+            image(missing(*named(kind)), wanted='B1 E31 RelocationSymbol') for kind in (1, 6, 7)]),
+        ('The symbol of a relocation that names none isn\'t looked at.', [
+            admit(changed(Case('minimal.so'), (0xec, u32(0xffffffff))), '')]),
+    ])
+
+
+if __name__ == '__main__':
+    symbols()
+    programs()
+    table()
+    sonames()
+    tables()
+    bounds()
+    cuts()

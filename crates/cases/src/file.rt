@@ -1,0 +1,50 @@
+// The file of a case: one of the folder or spelt, with what is changed in it.
+
+use crate::number::parse_number;
+use anyhow::{Context, Result};
+use std::alloc::Global;
+use std::fs;
+use std::rt::Files;
+
+/// Writes bytes over those of a file.
+fn put(bytes: &mut [u8], at: usize, new: &[u8]) -> Result<()> {
+    for (i, byte) in new.iter().enumerate() {
+        *bytes.get_mut(at.saturating_add(i)).context("past the end")? = *byte;
+    }
+    Ok(())
+}
+
+/// Makes a change: `cut=LENGTH`, `pad=LENGTH` with zeros, or `OFFSET=BYTES`.
+fn change(alloc: Global, bytes: &mut Vec<u8>, what: &str, value: &str) -> Result<()> {
+    match what {
+        "cut" => bytes.truncate(parse_number(value)? as usize),
+        "pad" => bytes.resize(parse_number(value)? as usize, 0)?,
+        _ => put(
+            bytes,
+            parse_number(what)? as usize,
+            &hex::decode(alloc, value)?,
+        )?,
+    }
+    Ok(())
+}
+
+/// A file of the folder, or the bytes that `bytes=BYTES` spells.
+fn first_bytes<R: Files + AllocGlobal>(rt: &R, name: &str) -> Result<Vec<u8>> {
+    match name.strip_prefix("bytes=") {
+        Some(digits) => Ok(hex::decode(rt.alloc(), digits)?),
+        None => fs::read(rt, name).context(format_args!("the file {name}")),
+    }
+}
+
+/// The bytes of a file after the changes that the words say.
+pub(crate) fn changed_file<R: Files + AllocGlobal>(rt: &R, words: &str) -> Result<Vec<u8>> {
+    let (name, changes) = words.split_once(' ').unwrap_or((words, ""));
+    let mut bytes = first_bytes(rt, name)?;
+    for word in changes.split_whitespace() {
+        let (what, value) = word
+            .split_once('=')
+            .context(format_args!("the change {word}"))?;
+        change(rt.alloc(), &mut bytes, what, value)?;
+    }
+    Ok(bytes)
+}

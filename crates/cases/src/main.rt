@@ -1,0 +1,26 @@
+//! The program `cases`: runs the cases of its lists, and prints each that differs.
+//!
+//! A list is a text file; docs/CASES.md has its form. The words of the command line name the lists.
+#![tactic(auto)]
+
+mod answer;
+mod case;
+mod file;
+mod library;
+mod list;
+mod number;
+mod words;
+
+use anyhow::Result;
+use list::{Tally, run_list};
+use std::env;
+
+fn main(rt: HostRuntime) -> Result<()> {
+    let mut tally = Tally::default();
+    for list in env::args(&rt)?.skip(1) {
+        run_list(&rt, list.as_str(), &mut tally)?;
+    }
+    let Tally { count, differ } = tally;
+    println!(rt; "{count} cases, {differ} differ")?;
+    Ok(())
+}

@@ -1,0 +1,35 @@
+// A command line: what it writes, and its exit status.
+
+use crate::answer::is_wanted;
+use crate::number::parse_number;
+use anyhow::{Context, Result};
+use commands::run_words;
+use std::alloc::Global;
+use std::rt::Files;
+
+/// The words of a command line: each stands behind a space.
+fn listed(alloc: Global, words: &str) -> Result<Vec<String>> {
+    let mut list = Vec::new(alloc);
+    for word in words.split(' ').skip(1) {
+        list.push(String::from_str(alloc, word)?)?;
+    }
+    Ok(list)
+}
+
+/// Whether a command line ends as it is wanted: `STATUS ANSWER` where ANSWER goes to the output and
+/// nothing to standard error, `STATUS error ANSWER` where it goes to standard error alone.
+pub(crate) fn ends_so<R: Files + AllocGlobal>(rt: &R, words: &str, wanted: &str) -> Result<bool> {
+    let list = listed(rt.alloc(), words)?;
+    let mut input: &[u8] = &[];
+    let mut output = Vec::new(rt.alloc());
+    let mut errors = Vec::new(rt.alloc());
+    let status = run_words(rt, rt.alloc(), &list, &mut input, &mut output, &mut errors);
+    let (number, answer) = wanted.split_once(' ').context("a status alone")?;
+    if parse_number(number)? != u64::from(status) {
+        return Ok(false);
+    }
+    match answer.strip_prefix("error ") {
+        Some(line) => Ok(output.is_empty() && is_wanted(rt, &errors, line)?),
+        None => Ok(errors.is_empty() && is_wanted(rt, &output, answer)?),
+    }
+}

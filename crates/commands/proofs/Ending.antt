@@ -1,0 +1,38 @@
+-- What a command ends with.
+use Rattle.std.proofs.Common.{◌≡◌, ◌<◌, ℕ, List, length, Option, Some, None, Result, Ok, Err, true, refl, ap, ◌∙◌}
+use Rattle.std.specs.Prelude.{IfOk, MatchResult, is_some}
+use Rattle.commands.specs.declared.file.FileFault.{FileFault}
+use Rattle.commands.specs.declared.file.FileFault.TheVariants.{CannotRead, OutOfMemory}
+use Rattle.commands.specs.declared.status.Status.{Status}
+use Rattle.commands.specs.declared.status.Status.TheVariants.{Done, Refused, BadWords, Failed, NoMemory}
+use Rattle.commands.specs.File.{read_limit}
+use Rattle.commands.specs.inside.Ends.{Ends, IsShown, IsNotRead}
+
+shown_ends : (file : List ℕ) (base : ℕ) (asked : Option ℕ) (before after : Option (List ℕ)) (status : Status) → asked ≡ Some base
+    → length file < read_limit → IsShown file base before after status → Ends asked before after status
+shown_ends file base asked before after Done e short h = (base, e, (file, short, h))
+shown_ends file base asked before after Refused e short h = (base, e, (file, short, h))
+shown_ends file base asked before after BadWords e short h = absurd h
+shown_ends file base asked before after Failed e short h = ap is_some e
+shown_ends file base asked before after NoMemory e short h = (ap is_some e, h.1)
+
+unread_ends : (fault : FileFault) (base : ℕ) (asked : Option ℕ) (before after : Option (List ℕ)) (status : Status) → asked ≡ Some base
+    → IsNotRead fault before after status → Ends asked before after status
+unread_ends CannotRead base asked before after Failed e h = ap is_some e
+unread_ends CannotRead base asked before after Done e h = let no = h.0 in cc
+unread_ends CannotRead base asked before after Refused e h = let no = h.0 in cc
+unread_ends CannotRead base asked before after BadWords e h = let no = h.0 in cc
+unread_ends CannotRead base asked before after NoMemory e h = let no = h.0 in cc
+unread_ends OutOfMemory base asked before after NoMemory e h = (ap is_some e, h)
+unread_ends OutOfMemory base asked before after Failed e h = ap is_some e
+unread_ends OutOfMemory base asked before after Done e h = absurd h
+unread_ends OutOfMemory base asked before after Refused e h = absurd h
+unread_ends OutOfMemory base asked before after BadWords e h = absurd h
+
+-- what was shown of a file that was read, or said of one that wasn't, is an end of a command
+pub read_ends : {V : Type 0} (items : V → List ℕ) (read : Result V FileFault) (base : ℕ) (asked : Option ℕ) (before after : Option (List ℕ)) (status : Status)
+    → asked ≡ Some base → IfOk read (λ v. length (items v) < read_limit)
+    → MatchResult read (λ v. IsShown (items v) base before after status) (λ f. IsNotRead f before after status)
+    → Ends asked before after status
+read_ends items (Ok v) base asked before after status e short h = shown_ends (items v) base asked before after status e short h
+read_ends items (Err f) base asked before after status e short h = unread_ends f base asked before after status e h

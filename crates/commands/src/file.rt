@@ -1,0 +1,70 @@
+// Reading a file.
+
+ghost use Rattle.std.specs.Prelude.{◌≡◌, ◌<◌, IfOk, IfSome, length};
+ghost use Rattle.commands.specs.File.{read_limit};
+ghost use Rattle.commands.specs.declared.file.FileFault.TheVariants.{OutOfMemory};
+
+use std::alloc::{AllocError, Global};
+use std::fs::File;
+use std::io::{ErrorKind, Read};
+use std::rt::Files;
+
+/// The length in bytes from which on a file isn't read, 1 GiB: a device that never ends is a file
+/// that can't be read.
+pub(crate) const READ_LIMIT: usize = 0x4000_0000;
+
+/// How many bytes are read at once.
+const PAGE: usize = 0x10000;
+
+/// Why a file wasn't read.
+#[derive(Clone, Copy, Debug, PartialEq, Eq)]
+pub(crate) enum FileFault {
+    /// It can't be opened or read, or it is too long.
+    CannotRead,
+    /// A growth was refused.
+    OutOfMemory,
+}
+
+/// Reads a whole file, once.
+pub(crate) fn read_file<R: Files>(rt: &R, alloc: Global, path: &str) -> Result<Vec<u8>, FileFault>
+    ensures { IfOk result (λ bytes. length bytes.items < read_limit) }
+{
+    match File::open(rt, path) {
+        Ok(mut file) => read_all(alloc, &mut file, READ_LIMIT),
+        Err(_) => Err(FileFault::CannotRead),
+    }
+}
+
+/// Reads to the end, where that comes before a limit, through a page on the stack, so that a growth
+/// that is refused is told from a read that fails, for whatever reason it fails.
+pub(crate) fn read_all<F: Read>(
+    alloc: Global,
+    file: &mut F,
+    limit: usize,
+) -> Result<Vec<u8>, FileFault>
+    ensures short { IfOk result (λ bytes. length bytes.items < limit) }
+    // Of a reader that tells its bytes these are all.
+    ensures whole { IfOk result (λ bytes.
+        IfSome (F.remaining file.old) (λ all. bytes.items ≡ all)) }
+{
+    let mut bytes = Vec::new(alloc);
+    let mut page = [0u8; PAGE];
+    for _ in 0..u64::MAX {
+        match file.read(&mut page) {
+            Ok(count) if count >= limit - bytes.len() => return Err(FileFault::CannotRead),
+            Ok(0) => return Ok(bytes),
+            Ok(count) => bytes.extend_from_slice(&page[..count])?,
+            Err(e) if e.kind() == ErrorKind::Interrupted => {}
+            Err(_) => return Err(FileFault::CannotRead),
+        }
+    }
+    Err(FileFault::CannotRead)
+}
+
+impl From<AllocError> for FileFault {
+    ghost from_gives = { λ _ fault. fault ≡ OutOfMemory };
+
+    fn from(_refused: AllocError) -> FileFault {
+        FileFault::OutOfMemory
+    }
+}

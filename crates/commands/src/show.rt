@@ -1,0 +1,49 @@
+// Showing the image of a program.
+
+ghost use Rattle.std.specs.Prelude.{◌≡◌, IfOk, IfErr};
+ghost use Rattle.commands.specs.RunImage.{Shows};
+
+use crate::fault::ScriptFault;
+use crate::refusal::{write_memory, write_refusal};
+use image::{BindRefusal, bind_alone};
+use std::alloc::Global;
+use std::io::Write;
+
+/// What was shown.
+#[derive(Clone, Copy, Debug, PartialEq, Eq)]
+pub enum Shown {
+    /// The image.
+    Image,
+    /// Why there is none.
+    Refused,
+    /// That memory was refused.
+    NoMemory,
+}
+
+/// Writes the text of the image of a program that needs no library, bound at a base, or of the
+/// refusal. After a fault it is open what the writer holds.
+pub fn run_image<W: Write>(
+    alloc: Global,
+    program: &[u8],
+    base: u64,
+    writer: &mut W,
+) -> Result<Shown, ScriptFault>
+    ensures ok { IfOk result
+        (Shows program.now base (W.contents writer.old) (W.contents writer.new)) }
+    ensures err { IfErr result (λ fault. fault ≡ ScriptFault.Write) }
+{
+    match bind_alone(alloc, program, base) {
+        Ok(image) => match image.write_text(writer) {
+            Ok(()) => Ok(Shown::Image),
+            Err(_) => Err(ScriptFault::Write),
+        },
+        Err(BindRefusal::OutOfMemory) => {
+            write_memory(writer)?;
+            Ok(Shown::NoMemory)
+        }
+        Err(refusal) => {
+            write_refusal(writer, &refusal)?;
+            Ok(Shown::Refused)
+        }
+    }
+}

@@ -1,0 +1,62 @@
+// Readers and writers that fail.
+
+use std::io;
+use std::io::{ErrorKind, Read, Write};
+
+/// What a reader does when it is asked.
+#[derive(Clone, Copy)]
+pub(crate) enum Turn {
+    /// It gives so many bytes, or as many as are wanted.
+    Gives(usize),
+    /// It fails.
+    Fails(ErrorKind),
+}
+
+/// A reader that takes its turns, and then is at its end.
+#[derive(Drop)]
+pub(crate) struct Turns<'a>(pub(crate) &'a [Turn]);
+
+impl Read for Turns<'_> {
+    fn read(&mut self, buf: &mut [u8]) -> io::Result<usize> {
+        let Some((turn, others)) = self.0.split_first() else {
+            return Ok(0);
+        };
+        self.0 = others;
+        match turn {
+            Turn::Gives(count) => {
+                let count = (*count).min(buf.len());
+                buf[..count].fill(7);
+                Ok(count)
+            }
+            Turn::Fails(kind) => Err(io::Error::from(*kind)),
+        }
+    }
+}
+
+/// A writer that takes so many bytes, and then fails; it counts its calls.
+#[derive(Drop)]
+pub(crate) struct Full {
+    pub(crate) room: usize,
+    pub(crate) calls: u64,
+}
+
+impl Full {
+    pub(crate) fn with_room(room: usize) -> Full {
+        Full { room, calls: 0 }
+    }
+}
+
+impl Write for Full {
+    fn write(&mut self, bytes: &[u8]) -> io::Result<usize> {
+        self.calls = self.calls.saturating_add(1);
+        if bytes.len() > self.room {
+            return Err(io::Error::from(ErrorKind::StorageFull));
+        }
+        self.room -= bytes.len();
+        Ok(bytes.len())
+    }
+
+    fn flush(&mut self) -> io::Result<()> {
+        Ok(())
+    }
+}

@@ -1,0 +1,88 @@
+-- The symbol table and the tests of its symbols (gABI chapter 4, symbol table).
+use Rattle.std.specs.Prelude.{ℕ, ◌+◌, ◌*◌, ◌/◌, ◌%◌, List, [], map, drop, length, slice_index, Option, unwrap_or, Bool, not, ◌==◌, ◌||◌, ◌&&◌}
+use Rattle.std.specs.List.{list_any, range_with_len}
+use Rattle.elf_file.specs.Number.{number_at}
+use Rattle.elf_file.specs.Constant.{DT_SYMTAB, SYMBOL_SIZE}
+use Rattle.elf_file.specs.Dynamic.{tag_value}
+use Rattle.elf_file.specs.Address.{bytes_at}
+use Rattle.elf_dynamic.specs.Constant.{STB_LOCAL, STB_GLOBAL, STB_WEAK, STT_COMMON, STT_TLS, STT_GNU_IFUNC, SHN_COMMON}
+use Rattle.elf_dynamic.specs.HashTable.{chain_count}
+use Rattle.elf_dynamic.specs.declared.symbol.Symbol.{Symbol}
+
+-- the symbol at an offset of a table
+abbrev pub symbol_at : List ℕ → ℕ → Symbol
+symbol_at table at =
+    record {
+      name = number_at 4 table at;
+      info = slice_index table (at + 4);
+      other = slice_index table (at + 5);
+      section = number_at 2 table (at + 6);
+      value = number_at 8 table (at + 8);
+      size = number_at 8 table (at + 16);
+    }
+
+-- the symbol number i of a table
+unfoldable pub nth_symbol : List ℕ → ℕ → Symbol
+nth_symbol table i = symbol_at table (SYMBOL_SIZE * i)
+
+-- the symbols of a table
+unfoldable pub symbols_in : List ℕ → List Symbol
+symbols_in table = map (nth_symbol table) (range_with_len 0 (length table / SYMBOL_SIZE))
+
+-- the bytes of as many symbols as the hash table has chain words, if they can be read
+unfoldable pub symbol_bytes : List ℕ → Option (List ℕ)
+symbol_bytes file = bytes_at file (tag_value file DT_SYMTAB) (SYMBOL_SIZE * chain_count file)
+
+-- the symbol table; no bytes where they can't be read, which BadRange refuses
+unfoldable pub symbol_table : List ℕ → List ℕ
+symbol_table file = unwrap_or (symbol_bytes file) []
+
+-- all symbols, that of index 0 too
+unfoldable pub symbols : List ℕ → List Symbol
+symbols file = symbols_in (symbol_table file)
+
+-- the symbols that are tested: all but that of index 0
+abbrev pub tested_symbols : List ℕ → List Symbol
+tested_symbols file = drop 1 (symbols file)
+
+-- the binding: the high four bits of st_info
+abbrev pub binding_of : Symbol → ℕ
+binding_of s = s.info / 16
+
+-- the type: the low four bits of st_info
+abbrev pub type_of : Symbol → ℕ
+type_of s = s.info % 16
+
+-- the visibility: the low two bits of st_other
+abbrev pub visibility_of : Symbol → ℕ
+visibility_of s = s.other % 4
+
+-- a common symbol, by its section or its type
+abbrev pub is_common : Symbol → Bool
+is_common s = (s.section == SHN_COMMON) || (type_of s == STT_COMMON)
+
+-- E24: a common symbol is present
+unfoldable pub has_common_symbol : List ℕ → Bool
+has_common_symbol file = list_any is_common (tested_symbols file)
+
+abbrev pub is_tls : Symbol → Bool
+is_tls s = type_of s == STT_TLS
+
+-- E25: a thread-local symbol is present
+unfoldable pub has_tls_symbol : List ℕ → Bool
+has_tls_symbol file = list_any is_tls (tested_symbols file)
+
+abbrev pub is_ifunc : Symbol → Bool
+is_ifunc s = type_of s == STT_GNU_IFUNC
+
+-- E26: an indirect function is present
+unfoldable pub has_ifunc_symbol : List ℕ → Bool
+has_ifunc_symbol file = list_any is_ifunc (tested_symbols file)
+
+-- a binding other than LOCAL, GLOBAL and WEAK
+abbrev pub is_badly_bound : Symbol → Bool
+is_badly_bound s = not (binding_of s == STB_LOCAL) && not (binding_of s == STB_GLOBAL) && not (binding_of s == STB_WEAK)
+
+-- E27: a symbol with another binding is present
+unfoldable pub has_bad_binding : List ℕ → Bool
+has_bad_binding file = list_any is_badly_bound (tested_symbols file)

@@ -1,0 +1,2 @@
+-- What the code keeps to be fast: nothing here has to be believed.
+pub mod Tables

@@ -1,0 +1,28 @@
+-- The tables of a file that the code keeps.
+use Rattle.std.specs.Prelude.{ℕ, ◌+◌, ◌*◌, ◌≡◌, List, length}
+use Rattle.elf_file.specs.Constant.{DT_STRSZ, SYMBOL_SIZE}
+use Rattle.elf_file.specs.Dynamic.{tag_value}
+use Rattle.elf_dynamic.specs.Constant.{WORD_SIZE}
+use Rattle.elf_dynamic.specs.HashTable.{bucket_count, chain_count, hash_table}
+use Rattle.elf_dynamic.specs.Strings.{string_table}
+use Rattle.elf_dynamic.specs.Symbol.{symbol_table}
+use Rattle.elf_dynamic.specs.Relocation.{rela_table, jmprel_table}
+use Rattle.elf_dynamic.specs.declared.hash_table.HashTable.{HashTable}
+use Rattle.elf_dynamic.specs.declared.parts.Parts.{Parts}
+
+-- the hash table of a file
+pub record IsHashTable (file : List ℕ) (table : HashTable) : Type 0 where
+  pub bytes : table.bytes.now ≡ hash_table file
+  pub size : length table.bytes.now ≡ WORD_SIZE * (2 + (bucket_count file + chain_count file))
+  pub buckets : table.bucket_count ≡ bucket_count file
+  pub chains : table.chain_count ≡ chain_count file
+
+-- the tables of a file
+pub record HasParts (file : List ℕ) (parts : Parts) : Type 0 where
+  pub strings : parts.strings.now ≡ string_table file
+  pub strings_size : length parts.strings.now ≡ tag_value file DT_STRSZ
+  pub hash : IsHashTable file parts.hash
+  pub symbols : parts.symbols.now ≡ symbol_table file
+  pub symbols_size : length parts.symbols.now ≡ SYMBOL_SIZE * chain_count file
+  pub rela : parts.rela.now ≡ rela_table file
+  pub jmprel : parts.jmprel.now ≡ jmprel_table file

@@ -1,0 +1,59 @@
+// The names that the dynamic section gives (gABI chapter 5, `DT_NEEDED` and `DT_SONAME`).
+
+ghost use Rattle.std.specs.Prelude.{◌≡◌, ◌<◌, length, None, Some, MatchOption, slice_get};
+ghost use Rattle.elf_dynamic.specs.Strings.{string_table, needed, soname};
+
+use crate::strings::{NeededNames, string_at};
+use crate::tables::Tables;
+use elf_file::Tag;
+
+impl<'a> Tables<'a> {
+    /// The string table.
+    pub(crate) fn string_table(&self) -> &'a [u8]
+        ensures { result.now ≡ string_table self.now }
+    {
+        self.parts().strings
+    }
+
+    /// How many libraries the object needs.
+    #[tactic(auto, using(crate::proofs::SymbolNumbers::needed_counted))]
+    pub(crate) fn needed_count(&self) -> usize
+        ensures { result ≡ length (needed self.now) }
+    {
+        self.dynamic().needed_count()
+    }
+
+    /// The names of the needed libraries in their order.
+    #[tactic(auto, unfolding(crate::specs::Strings::needed))]
+    pub(crate) fn needed_names(&self) -> NeededNames<'a>
+        ensures { result ≡ needed self.now }
+    {
+        NeededNames::new(self.string_table(), self.dynamic().needed_offsets())
+    }
+
+    /// The name of the needed library number `i`.
+    #[tactic(auto, using(crate::proofs::SymbolNumbers::needed_counted, crate::proofs::SymbolNumbers::needed_numbered))]
+    pub(crate) fn needed(&self, i: usize) -> &'a [u8]
+        requires { i < length (needed self.now) }
+        ensures { slice_get (needed self.now) i ≡ Some result.now }
+    {
+        string_at(
+            self.string_table(),
+            self.dynamic().needed_offset(i) as usize,
+        )
+    }
+
+    /// The object's own name.
+    #[tactic(auto, unfolding(crate::specs::Strings::soname))]
+    pub(crate) fn soname(&self) -> Option<&'a [u8]>
+        ensures { MatchOption result (soname self.now ≡ None)
+            (λ name. soname self.now ≡ Some name.now) }
+    {
+        let dynamic = self.dynamic();
+        if !dynamic.is_present(Tag::SoName) {
+            return None;
+        }
+        let offset = dynamic.tag_value(Tag::SoName) as usize;
+        Some(string_at(self.string_table(), offset))
+    }
+}

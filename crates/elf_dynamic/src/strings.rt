@@ -1,0 +1,65 @@
+// Strings, and the names of needed libraries (gABI chapter 4, string table).
+
+ghost use Rattle.std.specs.Prelude.{◌≡◌, length, map, take_while, not, ◌==◌};
+ghost use Rattle.std.specs.Iterator.{YieldsFirstRef, item_count};
+ghost use Rattle.elf_dynamic.specs.Strings.{string_at};
+
+use elf_file::NeededOffsets;
+use std::marker::Model;
+
+/// How many bytes stand before the first zero byte.
+fn string_length(bytes: &[u8]) -> usize
+    ensures { result ≡ length (take_while (λ b. not (b == 0)) bytes.now) }
+{
+    bytes.iter().take_while(|b| **b != 0).count()
+}
+
+/// The string at an offset of a table, up to its zero byte. As long as the string.
+#[tactic(auto, using(crate::proofs::StringEnds::take_front, crate::proofs::StringEnds::front_short, crate::proofs::StringEnds::drop_min), unfolding(crate::specs::Strings::string_at))]
+pub(crate) fn string_at(table: &[u8], offset: usize) -> &[u8]
+    ensures { result.now ≡ string_at table.now offset }
+{
+    let rest = &table[offset.min(table.len())..];
+    &rest[..string_length(rest)]
+}
+
+/// The names of the needed libraries that are left to come, in the order of their entries.
+/// Contracts see their list.
+#[derive(Drop)]
+pub struct NeededNames<'a> {
+    strings: &'a [u8],
+    offsets: NeededOffsets<'a>,
+}
+
+impl<'a> Model for NeededNames<'a> {
+    ghost use Rattle.std.specs.Prelude.{List, ℕ, map};
+    ghost use Rattle.elf_dynamic.specs.Strings.{string_at};
+
+    ghost Value = { List (List ℕ) };
+
+    ghost view = { λ s. map (string_at s.strings.now) s.offsets };
+}
+
+impl<'a> NeededNames<'a> {
+    /// The names at these offsets of a table.
+    pub(crate) fn new(strings: &'a [u8], offsets: NeededOffsets<'a>) -> NeededNames<'a>
+        ensures { result ≡ map (string_at strings.now) offsets.entry }
+    {
+        NeededNames { strings, offsets }
+    }
+}
+
+impl<'a> Iterator for NeededNames<'a> {
+    type Item = &'a [u8];
+
+    ghost next_gives = { YieldsFirstRef (λ names. names) };
+
+    ghost remaining = { item_count (λ names. names) };
+
+    fn next(&mut self) -> Option<&'a [u8]> {
+        match self.offsets.next() {
+            Some(offset) => Some(string_at(self.strings, offset as usize)),
+            None => None,
+        }
+    }
+}

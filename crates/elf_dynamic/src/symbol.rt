@@ -1,0 +1,162 @@
+// A symbol, and what its fields say of it (gABI chapter 4, symbol table).
+
+ghost use Rattle.std.specs.Prelude.{◌≡◌, ◌<◌, ◌/◌, length, drop, nat_le};
+ghost use Rattle.std.specs.List.{list_any};
+ghost use Rattle.elf_dynamic.specs.Symbol.{binding_of, type_of, visibility_of};
+ghost use Rattle.elf_dynamic.specs.Symbol.{nth_symbol, symbols_in};
+ghost use Rattle.elf_dynamic.specs.Symbol.{is_common, is_tls, is_ifunc, is_badly_bound};
+
+use elf_file::{SYMBOL_SIZE, u16_at, u32_at, u64_at};
+
+/// A symbol as it stands in the file (gABI chapter 4, `Elf64_Sym`).
+#[derive(Clone, Copy, Debug, PartialEq, Eq)]
+pub struct Symbol {
+    /// `st_name`: the offset of its name in the string table, in bytes.
+    pub name: u32,
+    /// `st_info`: its binding and its type.
+    pub info: u8,
+    /// `st_other`: its visibility.
+    pub other: u8,
+    /// `st_shndx`: the index of the section in which it is defined, or one of the `SHN_` numbers.
+    pub section: u16,
+    /// `st_value`: an address before the base is added, or an absolute value.
+    pub value: u64,
+    /// `st_size`, in bytes.
+    pub size: u64,
+}
+
+impl Symbol {
+    /// Its binding, one of the `STB_` numbers.
+    pub fn binding(self) -> u8
+        ensures { result ≡ binding_of self }
+    {
+        self.info / 16
+    }
+
+    /// Its type, one of the `STT_` numbers.
+    pub fn kind(self) -> u8
+        ensures { result ≡ type_of self }
+    {
+        self.info % 16
+    }
+
+    /// Its visibility, one of the `STV_` numbers.
+    pub fn visibility(self) -> u8
+        ensures { result ≡ visibility_of self }
+    {
+        self.other % 4
+    }
+}
+
+/// Of the object alone.
+const STB_LOCAL: u8 = 0;
+/// Of all objects.
+const STB_GLOBAL: u8 = 1;
+/// Of all objects, and may be undefined.
+const STB_WEAK: u8 = 2;
+/// A common block.
+const STT_COMMON: u8 = 5;
+/// Thread-local data.
+const STT_TLS: u8 = 6;
+/// An indirect function.
+const STT_GNU_IFUNC: u8 = 10;
+/// Of a common block.
+const SHN_COMMON: u16 = 0xfff2;
+
+/// The symbol number `i` of a table.
+#[tactic(auto, unfolding(crate::specs::Symbol::nth_symbol))]
+pub(crate) fn nth_symbol(table: &[u8], i: usize) -> Symbol
+    requires { i < length table.now / 24 }
+    ensures { result ≡ nth_symbol table.now i }
+{
+    let at = SYMBOL_SIZE as usize * i;
+    Symbol {
+        name: u32_at(table, at),
+        info: table[at + 4],
+        other: table[at + 5],
+        section: u16_at(table, at + 6),
+        value: u64_at(table, at + 8),
+        size: u64_at(table, at + 16),
+    }
+}
+
+fn is_common(symbol: Symbol) -> bool
+    ensures { result ≡ is_common symbol }
+{
+    symbol.section == SHN_COMMON || symbol.kind() == STT_COMMON
+}
+
+fn is_tls(symbol: Symbol) -> bool
+    ensures { result ≡ is_tls symbol }
+{
+    symbol.kind() == STT_TLS
+}
+
+fn is_ifunc(symbol: Symbol) -> bool
+    ensures { result ≡ is_ifunc symbol }
+{
+    symbol.kind() == STT_GNU_IFUNC
+}
+
+fn is_badly_bound(symbol: Symbol) -> bool
+    ensures { result ≡ is_badly_bound symbol }
+{
+    let binding = symbol.binding();
+    binding != STB_LOCAL && binding != STB_GLOBAL && binding != STB_WEAK
+}
+
+/// Whether a symbol of a table, but for the first, is a common symbol.
+#[tactic(auto, unfolding(crate::specs::Symbol::symbols_in))]
+pub(crate) fn has_common_in(table: &[u8]) -> bool
+    ensures { result ≡ list_any is_common (drop 1 (symbols_in table.now)) }
+{
+    (0..table.len() / SYMBOL_SIZE as usize)
+        .map(|i| nth_symbol(table, i))
+        .skip(1)
+        .any(|s| is_common(s))
+}
+
+/// Whether a symbol of a table, but for the first, is thread-local.
+#[tactic(auto, unfolding(crate::specs::Symbol::symbols_in))]
+pub(crate) fn has_tls_in(table: &[u8]) -> bool
+    ensures { result ≡ list_any is_tls (drop 1 (symbols_in table.now)) }
+{
+    (0..table.len() / SYMBOL_SIZE as usize)
+        .map(|i| nth_symbol(table, i))
+        .skip(1)
+        .any(|s| is_tls(s))
+}
+
+/// Whether a symbol of a table, but for the first, is an indirect function.
+#[tactic(auto, unfolding(crate::specs::Symbol::symbols_in))]
+pub(crate) fn has_ifunc_in(table: &[u8]) -> bool
+    ensures { result ≡ list_any is_ifunc (drop 1 (symbols_in table.now)) }
+{
+    (0..table.len() / SYMBOL_SIZE as usize)
+        .map(|i| nth_symbol(table, i))
+        .skip(1)
+        .any(|s| is_ifunc(s))
+}
+
+/// Whether a symbol of a table, but for the first, has another binding.
+#[tactic(auto, unfolding(crate::specs::Symbol::symbols_in))]
+pub(crate) fn has_badly_bound_in(table: &[u8]) -> bool
+    ensures { result ≡ list_any is_badly_bound (drop 1 (symbols_in table.now)) }
+{
+    (0..table.len() / SYMBOL_SIZE as usize)
+        .map(|i| nth_symbol(table, i))
+        .skip(1)
+        .any(|s| is_badly_bound(s))
+}
+
+/// Whether the offset of the name of a symbol of a table, but for the first, is at or above a
+/// limit.
+#[tactic(auto, unfolding(crate::specs::Symbol::symbols_in))]
+pub(crate) fn has_name_from(table: &[u8], limit: u64) -> bool
+    ensures { result ≡ list_any (λ s. nat_le limit s.name) (drop 1 (symbols_in table.now)) }
+{
+    (0..table.len() / SYMBOL_SIZE as usize)
+        .map(|i| nth_symbol(table, i))
+        .skip(1)
+        .any(|s| u64::from(s.name) >= limit)
+}

@@ -1,0 +1,155 @@
+-- The PT_LOAD that stands behind so many others.
+use Rattle.std.proofs.lemmas.Bool.{cases_lt}
+use Rattle.std.proofs.lemmas.Option.{get_or_from_slice_get, slice_get_within}
+use Rattle.elf_file.proofs.Order.{loads_rising}
+use Rattle.std.proofs.Common.{get_or, inl, inr, ◌≡◌, ℕ, ◌<◌, ◌≤◌, ◌+◌, ◌-◌, Bool, true, false, cond, List, [], ◌∷◌, ◌++◌, length, arith, refl, ◌∙◌, sym, ap, Some, filter, map, suc, zero, zero-add, add-zero, length-append}
+use Rattle.std.specs.List.{range_with_len}
+use Rattle.std.specs.Prelude.{slice_get}
+use Rattle.std.proofs.lemmas.List.Elements.{filter-append}
+use Rattle.std.proofs.lemmas.List.FromFn.{filter_of_map_range_with_len_more}
+use Rattle.elf_file.specs.Header.{header_count}
+use Rattle.elf_file.specs.Segment.{program_header, program_headers, is_load, loads, has_bad_order}
+use Rattle.elf_file.specs.inside.Index.{loads_before, loads_from}
+use Rattle.elf_file.specs.declared.segment.ProgramHeader.{ProgramHeader}
+
+pub range-split : (a m n : ℕ) → range_with_len a (m + n) ≡ range_with_len a m ++ range_with_len (a + m) n
+range-split a zero n = ap (range_with_len a) (zero-add n) ∙ ap (λ b. range_with_len b n) (sym (add-zero a))
+range-split a (suc m) n =
+    let e : suc m + n ≡ suc (m + n) = omega arith in
+    let f : a + 1 + m ≡ a + suc m = omega arith in
+    ap (range_with_len a) e ∙ ap (λ t. a ∷ t) (range-split (a + 1) m n ∙ ap (λ b. range_with_len (a + 1) m ++ range_with_len b n) f)
+
+pub map-append : {X Y : Type 0} (f : X → Y) (xs ys : List X) → map f (xs ++ ys) ≡ map f xs ++ map f ys
+map-append f [] ys = refl
+map-append f (x ∷ xs) ys = ap (λ t. f x ∷ t) (map-append f xs ys)
+
+middle : {X : Type 0} (xs ys : List X) (y : X) → slice_get (xs ++ y ∷ ys) (length xs) ≡ Some y
+middle [] ys y = refl
+middle (x ∷ xs) ys y = middle xs ys y
+
+-- no PT_LOAD stands before the first program header
+pub loads_before_zero : (file : List ℕ) → loads_before file 0 ≡ 0
+unfolding loads_before
+loads_before_zero file = refl
+
+length-cond : {X : Type 0} (b : Bool) (x : X) → length (cond b (x ∷ []) []) ≡ cond b 1 0
+length-cond true x = refl
+length-cond false x = refl
+
+-- a program header more
+pub loads_before_more : (file : List ℕ) (k : ℕ) → loads_before file (k + 1) ≡ loads_before file k + cond (is_load (program_header file k)) 1 0
+unfolding loads_before
+loads_before_more file k =
+    ap length (filter_of_map_range_with_len_more is_load (program_header file) 0 k k (zero-add k))
+    ∙ length-append (filter is_load (map (program_header file) (range_with_len 0 k))) (cond (is_load (program_header file k)) (program_header file k ∷ []) [])
+    ∙ ap (λ n. length (filter is_load (map (program_header file) (range_with_len 0 k))) + n) (length-cond (is_load (program_header file k)) (program_header file k))
+
+-- all PT_LOADs stand before the end of the program headers
+pub loads_before_all : (file : List ℕ) → loads_before file (header_count file) ≡ length (loads file)
+unfolding loads_before loads program_headers
+loads_before_all file = refl
+
+-- a PT_LOAD has the number of those before it
+pub load_at : (file : List ℕ) (j : ℕ) → j < header_count file → is_load (program_header file j) ≡ true
+    → slice_get (loads file) (loads_before file j) ≡ Some (program_header file j)
+unfolding loads_before loads program_headers
+load_at file j lt is =
+    let n : ℕ = header_count file - j - 1 in
+    let whole : header_count file ≡ j + suc n = omega arith in
+    let front : List ProgramHeader = filter is_load (map (program_header file) (range_with_len 0 j)) in
+    let back : List ProgramHeader = filter is_load (map (program_header file) (range_with_len (j + 1) n)) in
+    let split : filter is_load (map (program_header file) (range_with_len 0 (header_count file))) ≡ front ++ cond (is_load (program_header file j)) (program_header file j ∷ back) back =
+    ap (λ m. filter is_load (map (program_header file) (range_with_len 0 m))) whole
+    ∙ ap (λ r. filter is_load (map (program_header file) r)) (range-split 0 j (suc n) ∙ ap (λ a. range_with_len 0 j ++ range_with_len a (suc n)) (zero-add j))
+    ∙ ap (filter is_load) (map-append (program_header file) (range_with_len 0 j) (range_with_len j (suc n)))
+    ∙ filter-append is_load (map (program_header file) (range_with_len 0 j)) (map (program_header file) (range_with_len j (suc n))) in
+    ap (λ l. slice_get l (length front)) (split ∙ ap (λ b. front ++ cond b (program_header file j ∷ back) back) is) ∙ middle front back (program_header file j)
+
+-- no more PT_LOADs than program headers stand before a program header
+pub loads_before_most : (file : List ℕ) (k : ℕ) → loads_before file k ≤ k
+loads_before_most file zero = omega (arith, loads_before_zero file)
+loads_before_most file (suc k) =
+    let e : suc k ≡ k + 1 = omega arith in
+    let m : cond (is_load (program_header file k)) 1 0 ≤ 1 = elim (is_load (program_header file k)) as (λ b. cond b 1 0 ≤ 1) [ true ↦ omega arith | false ↦ omega arith ] in
+    omega (arith, loads_before_more file k, loads_before_most file k, ap (loads_before file) e, m)
+
+-- where there is a PT_LOAD there is a program header
+pub some_header : (file : List ℕ) (i : ℕ) → i < length (loads file) → 0 < header_count file
+some_header file i lt = omega (arith, lt, loads_before_all file, loads_before_most file (header_count file))
+
+-- more program headers have no fewer PT_LOADs before them
+pub loads_before_rises : (file : List ℕ) (i d : ℕ) → loads_before file i ≤ loads_before file (i + d)
+loads_before_rises file i zero = omega (arith, ap (loads_before file) (add-zero i))
+loads_before_rises file i (suc d) =
+    let e : i + suc d ≡ i + d + 1 = omega arith in
+    omega (arith, loads_before_rises file i d, loads_before_more file (i + d), ap (loads_before file) e)
+
+-- fewer PT_LOADs stand before a PT_LOAD than before a later program header
+pub loads_before_less : (file : List ℕ) (i j : ℕ) → i < j → is_load (program_header file i) ≡ true → loads_before file i < loads_before file j
+loads_before_less file i j lt is =
+    let d : ℕ = j - (i + 1) in
+    let e : i + 1 + d ≡ j = omega arith in
+    let more : loads_before file (i + 1) ≡ loads_before file i + 1 = loads_before_more file i ∙ ap (λ b. loads_before file i + cond b 1 0) is in
+    omega (arith, more, loads_before_rises file (i + 1) d, ap (loads_before file) e)
+
+-- PT_LOADs end at or below the addresses of later ones
+pub loads_apart : (file : List ℕ) (i j : ℕ) → has_bad_order file ≡ false → i < j → j < header_count file
+    → is_load (program_header file i) ≡ true → is_load (program_header file j) ≡ true
+    → (program_header file i).address + (program_header file i).memory_size ≤ (program_header file j).address
+loads_apart file i j order lt within is1 is2 =
+    let d : ProgramHeader = program_header file i in
+    let at1 = load_at file i (omega (arith, lt, within)) is1 in
+    let at2 = load_at file j within is2 in
+    let h = loads_rising file order (loads_before file i) (loads_before file j) d (loads_before_less file i j lt is1) (slice_get_within (loads file) (loads_before file j) (program_header file j) at2) in
+    let a : get_or (loads file) (loads_before file i) d ≡ program_header file i = get_or_from_slice_get (loads file) (loads_before file i) (program_header file i) d at1 in
+    let b : get_or (loads file) (loads_before file j) d ≡ program_header file j = get_or_from_slice_get (loads file) (loads_before file j) (program_header file j) d at2 in
+    omega (arith, h, ap (λ x. x.address + x.memory_size) a, ap (λ x. x.address) b)
+
+-- the addresses of PT_LOADs don't fall
+pub loads_rise : (file : List ℕ) (i j : ℕ) → has_bad_order file ≡ false → i ≤ j → j < header_count file
+    → is_load (program_header file i) ≡ true → is_load (program_header file j) ≡ true
+    → (program_header file i).address ≤ (program_header file j).address
+loads_rise file i j order le within is1 is2 =
+    elim (cases_lt i j) [
+      | inl lt ↦ omega (arith, loads_apart file i j order lt within is1 is2)
+      | inr ge ↦ let e : i ≡ j = omega arith in omega (arith, ap (λ k. (program_header file k).address) e)
+    ]
+
+from-one : (file : List ℕ) (k : ℕ) (b : Bool) → k < header_count file → is_load (program_header file k) ≡ b
+    → loads_from file k ≡ cond b (program_header file k ∷ loads_from file (k + 1)) (loads_from file (k + 1))
+unfolding loads_from
+from-one file k b lt is =
+    let e : header_count file - k ≡ suc (header_count file - (k + 1)) = omega arith in
+    ap (λ n. filter is_load (map (program_header file) (range_with_len k n))) e
+    ∙ ap (λ c. cond c (program_header file k ∷ filter is_load (map (program_header file) (range_with_len (k + 1) (header_count file - (k + 1))))) (filter is_load (map (program_header file) (range_with_len (k + 1) (header_count file - (k + 1)))))) is
+
+-- a PT_LOAD is the first of those from it on
+pub loads_from_load : (file : List ℕ) (k : ℕ) → k < header_count file → is_load (program_header file k) ≡ true
+    → loads_from file k ≡ program_header file k ∷ loads_from file (k + 1)
+loads_from_load file k lt is = from-one file k true lt is
+
+skipped : (file : List ℕ) (d from to : ℕ) → from + d ≡ to → to ≤ header_count file
+    → ((j : ℕ) → from ≤ j → j < to → is_load (program_header file j) ≡ false) → loads_from file from ≡ loads_from file to
+skipped file zero from to e le none = ap (loads_from file) (sym (add-zero from) ∙ e)
+skipped file (suc d) from to e le none =
+    from-one file from false (omega (arith, e, le)) (none from (omega arith) (omega (arith, e)))
+    ∙ skipped file d (from + 1) to (omega (arith, e)) le (λ j ge lt. none j (omega (arith, ge)) lt)
+
+-- other program headers are passed over
+pub loads_from_skip : (file : List ℕ) (from to : ℕ) → from ≤ to → to ≤ header_count file
+    → ((j : ℕ) → from ≤ j → j < to → is_load (program_header file j) ≡ false) → loads_from file from ≡ loads_from file to
+loads_from_skip file from to ge le none = skipped file (to - from) from to (omega arith) le none
+
+-- none are left at the end
+pub loads_from_end : (file : List ℕ) (k : ℕ) → k ≡ header_count file → loads_from file k ≡ []
+unfolding loads_from
+loads_from_end file k e =
+    let z : header_count file - k ≡ 0 = omega arith in
+    ap (λ n. filter is_load (map (program_header file) (range_with_len k n))) z
+
+-- all are left at the start
+pub loads_from_start : (file : List ℕ) → loads_from file 0 ≡ loads file
+unfolding loads_from loads program_headers
+loads_from_start file =
+    let z : header_count file - 0 ≡ header_count file = omega arith in
+    ap (λ n. filter is_load (map (program_header file) (range_with_len 0 n))) z

@@ -1,0 +1,61 @@
+-- What a PT_LOAD that was found by an address says of the file.
+use Rattle.std.proofs.Common.{◌≡◌, ◌≢◌, Option, ℕ, ◌<◌, ◌≤◌, ◌+◌, Bool, true, false, cond, List, [], ◌∷◌, length, arith, refl, ◌∙◌, sym, ap, Some, filter, nat_lt}
+use Rattle.std.specs.List.{list_any, find}
+use Rattle.std.specs.Prelude.{◌||◌}
+use Rattle.std.proofs.lemmas.Bool.Decides.{nat_tests}
+use Rattle.elf_file.specs.Segment.{is_load, is_bad_load, has_bad_load, loads, program_headers, is_too_large, has_high_segment}
+use Rattle.elf_file.specs.Constant.{LARGEST_FILE}
+use Rattle.elf_file.specs.Address.{is_in_file_part, find_file_part}
+use Rattle.elf_file.specs.declared.segment.ProgramHeader.{ProgramHeader}
+
+abbrev Found : {X : Type 0} → (X → Bool) → (X → Bool) → (X → Bool) → X → Type 0
+Found p q bad d = (q d ≡ true) × (p d ≡ true) × (bad d ≡ false)
+
+found-step : {X : Type 0} (p q bad : X → Bool) (d x : X) (xs : List X) (a b c : Bool)
+    → q x ≡ a → p x ≡ b → bad x ≡ c
+    → (list_any bad xs ≡ false → find p (filter q xs) ≡ Some d → Found p q bad d)
+    → (c || list_any bad xs) ≡ false → find p (cond a (x ∷ filter q xs) (filter q xs)) ≡ Some d
+    → Found p q bad d
+found-step p q bad d x xs a b true e f g more none found = cc
+found-step p q bad d x xs false b false e f g more none found = more none found
+found-step p q bad d x xs true true false e f g more none found =
+    let h : cond (p x) (Some x) (find p (filter q xs)) ≡ Some d = found in
+    let k : x ≡ d = let j = rw f at h in cc in
+    (ap q (sym k) ∙ e, ap p (sym k) ∙ f, ap bad (sym k) ∙ g)
+found-step p q bad d x xs true false false e f g more none found =
+    let h : cond (p x) (Some x) (find p (filter q xs)) ≡ Some d = found in
+    more none (rw f at h)
+
+-- what a search in a filtered list found passes both tests, and no test that no element of the list passes
+found_in : {X : Type 0} (p q bad : X → Bool) (d : X) (xs : List X) → list_any bad xs ≡ false → find p (filter q xs) ≡ Some d → Found p q bad d
+found_in p q bad d [] none found = cc
+found_in p q bad d (x ∷ xs) none found = found-step p q bad d x xs (q x) (p x) (bad x) refl refl refl (found_in p q bad d xs) none found
+
+-- no file is longer than the greatest length
+pub short : (file : List ℕ) → is_too_large file ≡ false → length file ≤ LARGEST_FILE
+short file fine = short-by (length file) (has_high_segment file) fine
+  where
+    short-by : (n : ℕ) (b : Bool) → (nat_lt LARGEST_FILE n || b) ≡ false → n ≤ LARGEST_FILE
+    short-by n b fine = grind (arith, nat_tests)
+
+pub record Spans (file : List ℕ) (address size : ℕ) (h : ProgramHeader) : Type 0 where
+  pub from : h.address ≤ address
+  pub to : address + size ≤ h.address + h.file_size
+  pub within : h.offset + h.file_size ≤ length file
+
+spans_by : (size address need : ℕ) (h : ProgramHeader) → 0 < need → is_load h ≡ true → is_in_file_part address need h ≡ true → is_bad_load size h ≡ false
+    → (h.address ≤ address) × (address + need ≤ h.address + h.file_size) × (h.offset + h.file_size ≤ size)
+spans_by size address need h some load spans fine = grind (arith, nat_tests)
+
+pub span_fits : (file : List ℕ) (address size : ℕ) (h : ProgramHeader) → 0 < size → has_bad_load file ≡ false → find_file_part file address size ≡ Some h → Spans file address size h
+unfolding find_file_part loads has_bad_load
+span_fits file address size h some fine found =
+    let f = found_in (is_in_file_part address size) is_load (is_bad_load (length file)) h (program_headers file) fine found in
+    let t = spans_by (length file) address size h some f.0 f.1 f.2 in
+    record { from = t.0; to = t.1; within = t.2 }
+
+-- a PT_LOAD that a search over the same file found
+pub found_fits : (file same : List ℕ) (address size : ℕ) (r : Option ProgramHeader) (h : ProgramHeader) → same ≡ file → r ≡ find_file_part same address size → r ≡ Some h
+    → size ≢ 0 → has_bad_load file ≡ false → Spans file address size h
+found_fits file same address size r h e found is some fine =
+    span_fits file address size h (omega (arith, some)) fine (ap (λ f. find_file_part f address size) (sym e) ∙ sym found ∙ is)

@@ -1,0 +1,21 @@
+use Rattle.std.proofs.Common.{arith, ◌-◌, ◌≡◌, ◌+◌, ◌<◌, ℕ, ap, subst, sym}
+use Rattle.elf_file.specs.inside.Index.{IsBlockAt}
+use Rattle.elf_file.proofs.Blocks.{all_above, block_at_by, block_address}
+use Rattle.elf_file.proofs.segments.Segments.block_at.Goals as goal
+
+pub returns-then-low-eq0 : goal.returns-then-low-eq0
+returns-then-low-eq0 c =
+    let index = c.index-index.result.now in
+    let e : c.loop-low.high ≡ 0 = omega arith in
+    all_above c.args.self.now index c.args.address c.index-index.ensures.order c.index-index.ensures.indexes
+    (λ some. subst (λ (k : ℕ). c.args.address < block_address c.args.self.now index k) e (c.loop-low.invariant.above (omega (arith, some))))
+
+pub returns : goal.returns
+returns c =
+    let file = c.args.self.now in
+    let index = c.index-index.result.now in
+    let k : ℕ = c.loop-low.low - 1 in
+    let e : c.loop-low.high ≡ k + 1 = omega arith in
+    subst (λ (first : ℕ). IsBlockAt file c.args.address first) (sym c.from-2.ensures)
+    (block_at_by file index c.args.address k c.index-index.ensures.order c.index-index.ensures.indexes (omega arith) (c.loop-low.invariant.below (omega arith))
+    (λ more. subst (λ (n : ℕ). c.args.address < block_address file index n) e (c.loop-low.invariant.above (omega (arith, more)))))

@@ -1,0 +1,25 @@
+use Rattle.std.proofs.Common.{◌≡◌, ap, ◌∙◌, sym, arith, Some, true, subst}
+use Rattle.std.specs.Option.{MatchOption}
+use Rattle.elf_file.specs.Segment.{loads, is_load, program_header}
+use Rattle.elf_file.specs.inside.Index.{loads_before, AllAbove, IsBlockAt}
+use Rattle.std.proofs.lemmas.Bool.Decides.{nat_tests}
+use Rattle.elf_file.proofs.LoadNumbers.{load_at}
+use Rattle.elf_file.proofs.InMemory.{none_above, none_in_block, is_load_by}
+use Rattle.elf_file.proofs.segments.Segments.load_at.Goals as goal
+
+pub returns-in_default : goal.returns-in_default
+returns-in_default c = none_above c.args.self.now c.args.address c.args.size c.in_default.ensures
+
+pub returns-then-is_in_memory_part : goal.returns-then-is_in_memory_part
+returns-then-is_in_memory_part c =
+    let file = c.args.self.now in
+    let j = c.loop-j.j in
+    let is : is_load (program_header file j) ≡ true = is_load_by (program_header file j) (ap (λ h. h.kind) (sym c.header-h.ensures) ∙ c.if-h-eq-PT_LOAD.true) in (
+      (loads_before file j, load_at file j (omega arith) is ∙ ap (λ h. Some h) (sym c.header-h.ensures)),
+      sym c.is_in_memory_part.ensures ∙ c.if-is_in_memory_part.true,
+    )
+
+pub returns : goal.returns
+returns c =
+    none_in_block c.args.self.now c.args.address c.args.size c.in-Some.first c.requires c.in-Some.ensures
+    (λ j from lt is. c.loop-j.invariant j from (omega (arith, lt)) is)

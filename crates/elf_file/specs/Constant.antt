@@ -1,0 +1,138 @@
+-- The numbers of ELF files (gABI chapters 4 and 5; elf(5)), and this project's own limits.
+use Rattle.std.specs.Prelude.{ℕ}
+
+-- e_ident: the first four bytes, 7f 45 4c 46, as a little endian number
+abbrev pub ELF_MAGIC : ℕ
+ELF_MAGIC = 0x464c457f
+
+abbrev pub ELFCLASS64 : ℕ
+ELFCLASS64 = 2
+
+abbrev pub ELFDATA2LSB : ℕ
+ELFDATA2LSB = 1
+
+abbrev pub EV_CURRENT : ℕ
+EV_CURRENT = 1
+
+abbrev pub ELFOSABI_SYSV : ℕ
+ELFOSABI_SYSV = 0
+
+abbrev pub ELFOSABI_GNU : ℕ
+ELFOSABI_GNU = 3
+
+-- e_type of a shared object
+abbrev pub ET_DYN : ℕ
+ET_DYN = 3
+
+abbrev pub EM_X86_64 : ℕ
+EM_X86_64 = 62
+
+-- e_phnum where the number of program headers stands elsewhere
+abbrev pub PN_XNUM : ℕ
+PN_XNUM = 0xffff
+
+-- bytes of a file header
+abbrev pub FILE_HEADER_SIZE : ℕ
+FILE_HEADER_SIZE = 64
+
+-- bytes of a program header
+abbrev pub PROGRAM_HEADER_SIZE : ℕ
+PROGRAM_HEADER_SIZE = 56
+
+-- p_type
+abbrev pub PT_LOAD : ℕ
+PT_LOAD = 1
+
+abbrev pub PT_DYNAMIC : ℕ
+PT_DYNAMIC = 2
+
+abbrev pub PT_TLS : ℕ
+PT_TLS = 7
+
+-- bytes of an entry of the dynamic section
+abbrev pub DYNAMIC_ENTRY_SIZE : ℕ
+DYNAMIC_ENTRY_SIZE = 16
+
+-- bytes of a symbol
+abbrev pub SYMBOL_SIZE : ℕ
+SYMBOL_SIZE = 24
+
+-- bytes of a relocation with an addend
+abbrev pub RELOCATION_SIZE : ℕ
+RELOCATION_SIZE = 24
+
+-- d_tag
+abbrev pub DT_NULL : ℕ
+DT_NULL = 0
+
+abbrev pub DT_NEEDED : ℕ
+DT_NEEDED = 1
+
+abbrev pub DT_PLTRELSZ : ℕ
+DT_PLTRELSZ = 2
+
+abbrev pub DT_HASH : ℕ
+DT_HASH = 4
+
+abbrev pub DT_STRTAB : ℕ
+DT_STRTAB = 5
+
+abbrev pub DT_SYMTAB : ℕ
+DT_SYMTAB = 6
+
+abbrev pub DT_RELA : ℕ
+DT_RELA = 7
+
+abbrev pub DT_RELASZ : ℕ
+DT_RELASZ = 8
+
+abbrev pub DT_RELAENT : ℕ
+DT_RELAENT = 9
+
+abbrev pub DT_STRSZ : ℕ
+DT_STRSZ = 10
+
+abbrev pub DT_SYMENT : ℕ
+DT_SYMENT = 11
+
+abbrev pub DT_SONAME : ℕ
+DT_SONAME = 14
+
+abbrev pub DT_SYMBOLIC : ℕ
+DT_SYMBOLIC = 16
+
+abbrev pub DT_REL : ℕ
+DT_REL = 17
+
+abbrev pub DT_PLTREL : ℕ
+DT_PLTREL = 20
+
+abbrev pub DT_JMPREL : ℕ
+DT_JMPREL = 23
+
+abbrev pub DT_FLAGS : ℕ
+DT_FLAGS = 30
+
+abbrev pub DT_RELR : ℕ
+DT_RELR = 36
+
+abbrev pub DT_VERSYM : ℕ
+DT_VERSYM = 0x6ffffff0
+
+abbrev pub DT_VERDEF : ℕ
+DT_VERDEF = 0x6ffffffc
+
+abbrev pub DT_VERNEED : ℕ
+DT_VERNEED = 0x6ffffffe
+
+-- the bit of DT_FLAGS by which the object is looked in first
+abbrev pub DF_SYMBOLIC : ℕ
+DF_SYMBOLIC = 0x2
+
+-- the greatest length of a file, in bytes (own)
+abbrev pub LARGEST_FILE : ℕ
+LARGEST_FILE = 16777216
+
+-- the highest address that an object's memory may end at (own)
+abbrev pub HIGHEST_END : ℕ
+HIGHEST_END = 67108864

@@ -1,0 +1,138 @@
+-- The dynamic section and the tests of its entries (gABI chapter 5).
+use Rattle.std.specs.Prelude.{ℕ, ◌+◌, ◌*◌, ◌/◌, ◌%◌, List, [], ◌∷◌, map, take_while, filter, bit_and, count_by, length, Option, unwrap_or, is_some, Bool, false, not, ◌==◌, ◌||◌, ◌&&◌, nat_lt, nat_le}
+use Rattle.std.specs.Option.{option_map, option_map_or}
+use Rattle.std.specs.List.{list_any, range_with_len, find}
+use Rattle.elf_file.specs.Number.{number_at}
+use Rattle.elf_file.specs.Constant.{PT_DYNAMIC, DYNAMIC_ENTRY_SIZE, SYMBOL_SIZE, RELOCATION_SIZE, DF_SYMBOLIC, DT_NULL, DT_NEEDED, DT_PLTRELSZ, DT_HASH, DT_STRTAB, DT_SYMTAB, DT_RELA, DT_RELASZ, DT_RELAENT, DT_STRSZ, DT_SYMENT, DT_SONAME, DT_SYMBOLIC, DT_REL, DT_PLTREL, DT_JMPREL, DT_FLAGS, DT_RELR, DT_VERSYM, DT_VERDEF, DT_VERNEED}
+use Rattle.elf_file.specs.Segment.{program_headers, contents}
+use Rattle.elf_file.specs.declared.entry.Entry.{Entry}
+use Rattle.elf_file.specs.declared.segment.ProgramHeader.{ProgramHeader}
+
+-- PT_DYNAMIC
+abbrev pub is_dynamic : ProgramHeader → Bool
+is_dynamic h = h.kind == PT_DYNAMIC
+
+-- how many PT_DYNAMICs there are
+unfoldable pub dynamic_count : List ℕ → ℕ
+dynamic_count file = count_by is_dynamic (program_headers file)
+
+-- the first PT_DYNAMIC
+unfoldable pub find_dynamic : List ℕ → Option ProgramHeader
+find_dynamic file = find is_dynamic (program_headers file)
+
+-- a segment's bytes end at or before the file's end
+abbrev pub is_whole : List ℕ → ProgramHeader → Bool
+is_whole file h = nat_le (h.offset + h.file_size) (length file)
+
+-- one PT_DYNAMIC is present, and its bytes are in the file
+abbrev pub has_dynamic : List ℕ → Bool
+has_dynamic file = (dynamic_count file == 1) && option_map_or (is_whole file) (find_dynamic file) false
+
+-- the bytes of the dynamic section; none where there is no PT_DYNAMIC
+unfoldable pub dynamic_section : List ℕ → List ℕ
+dynamic_section file = option_map_or (contents file) (find_dynamic file) []
+
+-- the entry at an offset of a section: a tag and a value
+abbrev pub entry_at : List ℕ → ℕ → Entry
+entry_at section at = record { tag = number_at 8 section at; value = number_at 8 section (at + 8) }
+
+-- the entry number i of a section
+unfoldable pub entry : List ℕ → ℕ → Entry
+entry section i = entry_at section (DYNAMIC_ENTRY_SIZE * i)
+
+-- the whole entries of a section
+unfoldable pub whole_entries : List ℕ → List Entry
+whole_entries section = map (entry section) (range_with_len 0 (length section / DYNAMIC_ENTRY_SIZE))
+
+-- DT_NULL
+abbrev pub is_null : Entry → Bool
+is_null e = e.tag == DT_NULL
+
+abbrev pub has_tag : ℕ → Entry → Bool
+has_tag tag e = e.tag == tag
+
+-- a DT_NULL stands among the whole entries of a section
+unfoldable pub is_ended : List ℕ → Bool
+is_ended section = list_any is_null (whole_entries section)
+
+-- the entries of a section before its first DT_NULL
+unfoldable pub entries_in : List ℕ → List Entry
+entries_in section = take_while (λ e. not (is_null e)) (whole_entries section)
+
+-- the entries of the file's dynamic section
+unfoldable pub entries : List ℕ → List Entry
+entries file = entries_in (dynamic_section file)
+
+-- E15: not exactly one PT_DYNAMIC is present, or its bytes run past the file's end, or it has no DT_NULL
+abbrev pub has_bad_dynamic : List ℕ → Bool
+has_bad_dynamic file = not (has_dynamic file) || not (is_ended (dynamic_section file))
+
+-- how often a tag is present
+unfoldable pub tag_count : List ℕ → ℕ → ℕ
+tag_count file tag = count_by (has_tag tag) (entries file)
+
+-- the first entry with a tag
+unfoldable pub find_entry : List ℕ → ℕ → Option Entry
+find_entry file tag = find (has_tag tag) (entries file)
+
+-- a tag is present
+abbrev pub is_present : List ℕ → ℕ → Bool
+is_present file tag = is_some (find_entry file tag)
+
+-- The value of a tag. Where the tag is absent it is 0, and no test or accessor reads that: a table is read only where the
+-- tag that places it is present, and MissingTag refuses a file where the tags beside it are absent.
+unfoldable pub tag_value : List ℕ → ℕ → ℕ
+tag_value file tag = unwrap_or (option_map (λ e. e.value) (find_entry file tag)) 0
+
+-- the offsets of the names of the needed libraries, in the order of their entries
+unfoldable pub needed_offsets : List ℕ → List ℕ
+needed_offsets file = map (λ e. e.value) (filter (has_tag DT_NEEDED) (entries file))
+
+-- the tags that may be present once
+abbrev pub single_tags : List ℕ
+single_tags =
+    DT_PLTRELSZ ∷ DT_HASH ∷ DT_STRTAB ∷ DT_SYMTAB ∷ DT_RELA ∷ DT_RELASZ ∷ DT_RELAENT ∷ DT_STRSZ ∷ DT_SYMENT ∷ DT_SONAME
+    ∷ DT_SYMBOLIC ∷ DT_REL ∷ DT_PLTREL ∷ DT_JMPREL ∷ DT_FLAGS ∷ DT_RELR ∷ DT_VERSYM ∷ DT_VERDEF ∷ DT_VERNEED ∷ []
+
+-- E16: one of these tags is present twice
+unfoldable pub has_duplicate_tag : List ℕ → Bool
+has_duplicate_tag file = list_any (λ tag. nat_lt 1 (tag_count file tag)) single_tags
+
+-- E17: a table of symbol versions is present
+abbrev pub has_symbol_versions : List ℕ → Bool
+has_symbol_versions file = is_present file DT_VERSYM || is_present file DT_VERDEF || is_present file DT_VERNEED
+
+-- the flags say that the object itself is looked in first
+abbrev pub is_flagged_symbolic : List ℕ → Bool
+is_flagged_symbolic file = is_present file DT_FLAGS && not (bit_and (tag_value file DT_FLAGS) DF_SYMBOLIC == 0)
+
+-- E18: a tag or a flag is present that isn't supported
+abbrev pub has_unsupported_tag : List ℕ → Bool
+has_unsupported_tag file = is_present file DT_REL || is_present file DT_RELR || is_present file DT_SYMBOLIC || is_flagged_symbolic file
+
+-- E19: no hash table is present
+abbrev pub has_no_hash_table : List ℕ → Bool
+has_no_hash_table file = not (is_present file DT_HASH)
+
+-- a tag of the strings or the symbols is absent
+abbrev pub lacks_symbol_tag : List ℕ → Bool
+lacks_symbol_tag file =
+    not (is_present file DT_STRTAB) || not (is_present file DT_SYMTAB) || not (is_present file DT_STRSZ) || not (is_present file DT_SYMENT)
+
+-- E20: a tag of the strings or the symbols is absent, or one beside a table of relocations that is present
+abbrev pub has_missing_tag : List ℕ → Bool
+has_missing_tag file =
+    lacks_symbol_tag file
+    || (is_present file DT_RELA && (not (is_present file DT_RELASZ) || not (is_present file DT_RELAENT)))
+    || (is_present file DT_JMPREL && (not (is_present file DT_PLTRELSZ) || not (is_present file DT_PLTREL)))
+
+-- a size that isn't that of whole relocations
+abbrev pub is_part : ℕ → Bool
+is_part size = not (size % RELOCATION_SIZE == 0)
+
+-- E21: symbols of another size, or a table of relocations whose entries have another size or kind or aren't whole
+abbrev pub has_bad_entry_size : List ℕ → Bool
+has_bad_entry_size file =
+    not (tag_value file DT_SYMENT == SYMBOL_SIZE)
+    || (is_present file DT_RELA && (not (tag_value file DT_RELAENT == RELOCATION_SIZE) || is_part (tag_value file DT_RELASZ)))
+    || (is_present file DT_JMPREL && (not (tag_value file DT_PLTREL == DT_RELA) || is_part (tag_value file DT_PLTRELSZ)))

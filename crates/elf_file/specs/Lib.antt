@@ -1,0 +1,10 @@
+pub mod Number
+pub mod Constant
+pub mod FirstOf
+pub mod Header
+pub mod Segment
+pub mod Address
+pub mod Tag
+pub mod Dynamic
+pub mod Refusal
+pub mod inside

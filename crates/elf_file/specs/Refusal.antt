@@ -1,0 +1,60 @@
+-- The tests of the headers, the segments and the tags in their order, each made over the whole file.
+use Rattle.std.specs.Prelude.{ℕ, List, [], ◌∷◌, Option}
+use Rattle.elf_file.specs.FirstOf.{◌when◌, first_of}
+use Rattle.elf_file.specs.Header.{is_too_short, has_bad_magic, has_bad_class, has_bad_data, has_bad_version, has_bad_os_abi, has_bad_type, has_bad_machine, has_bad_header_size, has_bad_program_headers}
+use Rattle.elf_file.specs.Segment.{has_tls_segment, has_bad_segment, is_too_large, has_bad_order}
+use Rattle.elf_file.specs.Dynamic.{has_bad_dynamic, has_duplicate_tag, has_symbol_versions, has_unsupported_tag, has_no_hash_table, has_missing_tag, has_bad_entry_size}
+use Rattle.elf_file.specs.declared.refusal.ObjectRefusal.{ObjectRefusal}
+use Rattle.elf_file.specs.declared.refusal.ObjectRefusal.TheVariants.{TooShort, BadMagic, BadClass, BadData, BadVersion, BadOsAbi, BadType, BadMachine, BadHeaderSize, BadProgramHeaders, TlsSegment, BadSegment, TooLarge, SegmentOrder, BadDynamic, DuplicateTag, SymbolVersions, UnsupportedTag, NoHashTable, MissingTag, BadEntrySize}
+
+-- E1 to E10: the file header
+abbrev pub header_tests : List ℕ → List (Option ObjectRefusal)
+header_tests file =
+    (TooShort when is_too_short file)
+    ∷ (BadMagic when has_bad_magic file)
+    ∷ (BadClass when has_bad_class file)
+    ∷ (BadData when has_bad_data file)
+    ∷ (BadVersion when has_bad_version file)
+    ∷ (BadOsAbi when has_bad_os_abi file)
+    ∷ (BadType when has_bad_type file)
+    ∷ (BadMachine when has_bad_machine file)
+    ∷ (BadHeaderSize when has_bad_header_size file)
+    ∷ (BadProgramHeaders when has_bad_program_headers file)
+    ∷ []
+
+unfoldable pub header_refusal : List ℕ → Option ObjectRefusal
+header_refusal file = first_of (header_tests file)
+
+-- E11 to E14: the program headers
+abbrev pub segment_tests : List ℕ → List (Option ObjectRefusal)
+segment_tests file =
+    (TlsSegment when has_tls_segment file)
+    ∷ (BadSegment when has_bad_segment file)
+    ∷ (TooLarge when is_too_large file)
+    ∷ (SegmentOrder when has_bad_order file)
+    ∷ []
+
+unfoldable pub segment_refusal : List ℕ → Option ObjectRefusal
+segment_refusal file = first_of (segment_tests file)
+
+-- E15 to E21: the dynamic section and its tags
+abbrev pub tag_tests : List ℕ → List (Option ObjectRefusal)
+tag_tests file =
+    (BadDynamic when has_bad_dynamic file)
+    ∷ (DuplicateTag when has_duplicate_tag file)
+    ∷ (SymbolVersions when has_symbol_versions file)
+    ∷ (UnsupportedTag when has_unsupported_tag file)
+    ∷ (NoHashTable when has_no_hash_table file)
+    ∷ (MissingTag when has_missing_tag file)
+    ∷ (BadEntrySize when has_bad_entry_size file)
+    ∷ []
+
+unfoldable pub tag_refusal : List ℕ → Option ObjectRefusal
+tag_refusal file = first_of (tag_tests file)
+
+-- E1 to E21: the refusal of a file by its headers, its segments and its tags, or none
+abbrev pub file_refusals : List ℕ → List (Option ObjectRefusal)
+file_refusals file = header_refusal file ∷ segment_refusal file ∷ tag_refusal file ∷ []
+
+unfoldable pub file_refusal : List ℕ → Option ObjectRefusal
+file_refusal file = first_of (file_refusals file)

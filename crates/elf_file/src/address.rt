@@ -1,0 +1,61 @@
+// From addresses to the bytes of the file that are loaded there (gABI chapter 5).
+
+ghost use Rattle.std.specs.Prelude.{◌≡◌, ◌≤◌, ◌+◌, length, take, drop, None, Some, MatchOption};
+ghost use Rattle.elf_file.specs.Address.{is_in_file_part, find_file_part, bytes_at};
+
+use crate::headers::Headers;
+use crate::segment::{PT_LOAD, ProgramHeader};
+use crate::segments::Segments;
+
+/// So many bytes of a file from one on.
+pub(crate) fn part(file: &[u8], start: usize, size: usize) -> &[u8]
+    requires { start + size ≤ length file.now }
+    ensures part { result.now ≡ take size (drop start file.now) }
+    ensures size { length result.now ≡ size }
+{
+    &file[start..start + size]
+}
+
+/// Whether so many bytes at an address lie in the file part of this PT_LOAD.
+fn is_in_file_part(address: u64, size: u64, h: ProgramHeader) -> bool
+    ensures { result ≡ is_in_file_part address size h }
+{
+    h.address <= address
+        && u128::from(address) + u128::from(size) <= u128::from(h.address) + u128::from(h.file_size)
+}
+
+impl Headers<'_> {
+    /// The PT_LOAD that has so many bytes at an address in its file part. One pass over the program
+    /// headers.
+    #[tactic(auto, unfolding(crate::specs::Address::find_file_part, crate::specs::Segment::loads, crate::specs::Segment::program_headers))]
+    fn find_file_part(&self, address: u64, size: u64) -> Option<ProgramHeader>
+        ensures { result ≡ find_file_part self.now address size }
+    {
+        (0..self.count())
+            .map(|i| self.nth(i))
+            .filter(|h| h.kind == PT_LOAD)
+            .find(|h| is_in_file_part(address, size, *h))
+    }
+}
+
+impl<'a> Segments<'a> {
+    /// The bytes of the file at so many addresses from one on, if they can be read. One pass over
+    /// the program headers.
+    #[tactic(auto, unfolding(crate::specs::Address::bytes_at))]
+    pub fn bytes_at(&self, address: u64, size: u64) -> Option<&'a [u8]>
+        ensures { MatchOption result (bytes_at self.now address size ≡ None)
+            (λ bytes. (bytes_at self.now address size ≡ Some bytes.now)
+            × (length bytes.now ≡ size)) }
+    {
+        if size == 0 {
+            return Some(&[]);
+        }
+        match self.headers().find_file_part(address, size) {
+            Some(h) => {
+                let start = (h.offset + (address - h.address)) as usize;
+                Some(part(self.headers().file(), start, size as usize))
+            }
+            None => None,
+        }
+    }
+}

@@ -1,0 +1,104 @@
+// The file header and its tests (gABI chapter 4, elf(5)).
+
+ghost use Rattle.std.specs.Prelude.{◌≡◌, ◌≤◌, ◌<◌, length};
+ghost use Rattle.elf_file.specs.Header.{is_too_short, has_bad_magic, has_bad_class, has_bad_data};
+ghost use Rattle.elf_file.specs.Header.{has_bad_version, has_bad_os_abi, has_bad_type};
+ghost use Rattle.elf_file.specs.Header.{has_bad_machine, has_bad_header_size};
+ghost use Rattle.elf_file.specs.Header.{has_bad_program_headers};
+
+use crate::number::{u16_at, u32_at, u64_at};
+
+/// The first four bytes of an ELF file.
+const ELF_MAGIC: u32 = 0x464c_457f;
+/// Of the 64-bit class.
+const ELFCLASS64: u8 = 2;
+/// Little endian.
+const ELFDATA2LSB: u8 = 1;
+/// The one version of the format.
+const EV_CURRENT: u8 = 1;
+/// For System V.
+const ELFOSABI_SYSV: u8 = 0;
+/// For GNU.
+const ELFOSABI_GNU: u8 = 3;
+/// A shared object.
+const ET_DYN: u16 = 3;
+/// For x86-64.
+const EM_X86_64: u16 = 62;
+/// The number of program headers stands elsewhere.
+const PN_XNUM: u16 = 0xffff;
+/// How many bytes a file header has.
+const FILE_HEADER_SIZE: u16 = 64;
+/// How many bytes a program header has.
+pub(crate) const PROGRAM_HEADER_SIZE: u16 = 56;
+
+pub(crate) fn is_too_short(file: &[u8]) -> bool
+    ensures { result ≡ is_too_short file.now }
+{
+    file.len() < usize::from(FILE_HEADER_SIZE)
+}
+
+pub(crate) fn has_bad_magic(file: &[u8]) -> bool
+    requires { 64 ≤ length file.now }
+    ensures { result ≡ has_bad_magic file.now }
+{
+    u32_at(file, 0) != ELF_MAGIC
+}
+
+pub(crate) fn has_bad_class(file: &[u8]) -> bool
+    requires { 64 ≤ length file.now }
+    ensures { result ≡ has_bad_class file.now }
+{
+    file[4] != ELFCLASS64
+}
+
+pub(crate) fn has_bad_data(file: &[u8]) -> bool
+    requires { 64 ≤ length file.now }
+    ensures { result ≡ has_bad_data file.now }
+{
+    file[5] != ELFDATA2LSB
+}
+
+pub(crate) fn has_bad_version(file: &[u8]) -> bool
+    requires { 64 ≤ length file.now }
+    ensures { result ≡ has_bad_version file.now }
+{
+    file[6] != EV_CURRENT || u32_at(file, 20) != u32::from(EV_CURRENT)
+}
+
+pub(crate) fn has_bad_os_abi(file: &[u8]) -> bool
+    requires { 64 ≤ length file.now }
+    ensures { result ≡ has_bad_os_abi file.now }
+{
+    file[7] != ELFOSABI_SYSV && file[7] != ELFOSABI_GNU
+}
+
+pub(crate) fn has_bad_type(file: &[u8]) -> bool
+    requires { 64 ≤ length file.now }
+    ensures { result ≡ has_bad_type file.now }
+{
+    u16_at(file, 16) != ET_DYN
+}
+
+pub(crate) fn has_bad_machine(file: &[u8]) -> bool
+    requires { 64 ≤ length file.now }
+    ensures { result ≡ has_bad_machine file.now }
+{
+    u16_at(file, 18) != EM_X86_64
+}
+
+pub(crate) fn has_bad_header_size(file: &[u8]) -> bool
+    requires { 64 ≤ length file.now }
+    ensures { result ≡ has_bad_header_size file.now }
+{
+    u16_at(file, 52) != FILE_HEADER_SIZE || u16_at(file, 54) != PROGRAM_HEADER_SIZE
+}
+
+pub(crate) fn has_bad_program_headers(file: &[u8]) -> bool
+    requires { 64 ≤ length file.now }
+    ensures { result ≡ has_bad_program_headers file.now }
+{
+    let count = u16_at(file, 56);
+    let size = u128::from(PROGRAM_HEADER_SIZE) * u128::from(count);
+    let end = u128::from(u64_at(file, 32)) + size;
+    count == 0 || count == PN_XNUM || (file.len() as u128) < end
+}

@@ -1,0 +1,37 @@
+//! An ELF-64 file for x86-64, as far as its dynamic section (System V gABI chapters 4 and 5,
+//! elf(5)).
+//!
+//! `Dynamic::read` accepts a file exactly where none of the tests of its headers, its segments and
+//! its tags applies, and else gives the refusal of the first that does. The view that it gives
+//! knows the values of the tags, the PT_LOADs, and the bytes of the file at an address. It takes no
+//! memory and copies nothing.
+#![tactic(auto)]
+
+mod address;
+mod dynamic;
+mod entry;
+mod first_refusal;
+mod header;
+mod headers;
+mod load_index;
+mod load_segments;
+mod memory;
+mod needed;
+mod number;
+mod refusal;
+mod segment;
+mod segments;
+mod tag;
+mod tag_table;
+
+pub use dynamic::Dynamic;
+pub use entry::Entry;
+pub use headers::Headers;
+pub use load_segments::LoadSegments;
+pub use memory::is_in_memory_part;
+pub use needed::NeededOffsets;
+pub use number::{u16_at, u32_at, u64_at};
+pub use refusal::ObjectRefusal;
+pub use segment::{PT_LOAD, ProgramHeader};
+pub use segments::Segments;
+pub use tag::{RELOCATION_SIZE, SYMBOL_SIZE, Tag};

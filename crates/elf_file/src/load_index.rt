@@ -1,0 +1,164 @@
+// An index of the PT_LOADs, without memory of its own.
+
+ghost use Rattle.std.specs.Prelude.{◌≡◌, ◌≤◌, ◌<◌, ◌+◌, ℕ, List, length, Some, slice_get};
+ghost use Rattle.std.specs.Prelude.{MatchOption};
+ghost use Rattle.elf_file.specs.Header.{header_count};
+ghost use Rattle.elf_file.specs.Segment.{loads};
+ghost use Rattle.elf_file.specs.inside.Index.{loads_before, is_spanned, with_block, Indexes};
+ghost use Rattle.elf_file.specs.inside.Index.{AllAbove, IsBlockAt};
+
+use crate::headers::Headers;
+use crate::segment::ProgramHeader;
+use crate::segments::Segments;
+
+/// How many program headers a block spans.
+pub(crate) const BLOCK: usize = 64;
+/// How many blocks a file can have, its program headers being counted by 16 bits.
+const BLOCKS: usize = 1024;
+
+/// The PT_LOADs in blocks. Each block begins with a PT_LOAD and has those of the 64 program headers
+/// from there on. Kept is the header number of each block's first PT_LOAD, and how many PT_LOADs
+/// stand before it. So one PT_LOAD, by its number or by an address, is found by one halving over
+/// the blocks and one pass over a block, also where other headers stand between.
+#[derive(Clone, Copy)]
+pub(crate) struct LoadIndex {
+    pub(crate) count: usize,
+    pub(crate) blocks: usize,
+    pub(crate) first: [u16; BLOCKS],
+    pub(crate) before: [u16; BLOCKS],
+}
+
+/// The first PT_LOAD of a block: its header number, and how many PT_LOADs stand before it.
+#[derive(Clone, Copy)]
+struct Start {
+    header: usize,
+    before: usize,
+}
+
+impl LoadIndex {
+    /// The index of no program headers.
+    fn empty() -> LoadIndex
+        ensures { (file : List ℕ) → Indexes file 0 result }
+    {
+        LoadIndex {
+            count: 0,
+            blocks: 0,
+            first: [0; BLOCKS],
+            before: [0; BLOCKS],
+        }
+    }
+
+    /// The index of a file. One pass over the program headers.
+    pub(crate) fn new(headers: &Headers<'_>) -> LoadIndex
+        ensures { Indexes headers.now (header_count headers.now) result }
+    {
+        let mut index = LoadIndex::empty();
+        for i in 0..headers.count() {
+            index.add(headers, i);
+        }
+        index
+    }
+
+    /// Whether the last block spans a program header behind its first.
+    fn spans(&self, i: usize) -> bool
+        requires { self.now.blocks ≤ BLOCKS }
+        ensures { result ≡ is_spanned self.now i }
+    {
+        self.blocks > 0 && i < usize::from(self.first[self.blocks - 1]) + BLOCK
+    }
+
+    /// Begins a block with the program header number `i`.
+    fn begin_block(&mut self, i: usize)
+        requires room { self.old.blocks < BLOCKS }
+        requires header { i < 65536 }
+        requires count { self.old.count < 65536 }
+        ensures { self.new ≡ with_block self.old i }
+    {
+        self.first[self.blocks] = i as u16;
+        self.before[self.blocks] = self.count as u16;
+        self.blocks += 1;
+    }
+
+    /// Counts the program header number `i`, and begins a block with it where the last one doesn't
+    /// span it.
+    fn add(&mut self, headers: &Headers<'_>, i: usize)
+        requires within { i < header_count headers.now }
+        requires indexes { Indexes headers.now i self.old }
+        ensures { Indexes headers.now (i + 1) self.new }
+    {
+        let _count = headers.count();
+        if !headers.is_load(i) {
+            return;
+        }
+        if !self.spans(i) {
+            self.begin_block(i);
+        }
+        self.count += 1;
+    }
+}
+
+impl Segments<'_> {
+    /// The start of the last block before which at most so many PT_LOADs stand, by halving.
+    fn start_of(&self, i: usize) -> Start
+        requires { i < length (loads self.now) }
+        ensures header { result.header < header_count self.now }
+        ensures before { result.before ≡ loads_before self.now result.header }
+        ensures most { result.before ≤ i }
+    {
+        let index = self.index();
+        let mut low = 0;
+        let mut high = index.blocks;
+        while high - low > 1 {
+            let middle = low + (high - low) / 2;
+            if usize::from(index.before[middle]) <= i {
+                low = middle;
+            } else {
+                high = middle;
+            }
+        }
+        Start {
+            header: usize::from(index.first[low]),
+            before: usize::from(index.before[low]),
+        }
+    }
+
+    /// The PT_LOAD number `i`.
+    pub fn nth(&self, i: usize) -> ProgramHeader
+        requires { i < length (loads self.now) }
+        ensures { slice_get (loads self.now) i ≡ Some result }
+    {
+        let start = self.start_of(i);
+        let mut before = start.before;
+        for j in start.header..self.header_count() {
+            if self.headers().is_load(j) {
+                if before == i {
+                    return self.header(j);
+                }
+                before += 1;
+            }
+        }
+        unreachable!()
+    }
+
+    /// The header number of the first PT_LOAD of the last block that begins at or below an address,
+    /// by halving. Each PT_LOAD before it ends there, and each behind its block begins above.
+    pub(crate) fn block_at(&self, address: u64) -> Option<usize>
+        ensures { MatchOption result (AllAbove self.now address 0) (IsBlockAt self.now address) }
+    {
+        let index = self.index();
+        let mut low = 0;
+        let mut high = index.blocks;
+        while low < high {
+            let middle = low + (high - low) / 2;
+            if self.header(usize::from(index.first[middle])).address <= address {
+                low = middle + 1;
+            } else {
+                high = middle;
+            }
+        }
+        if low == 0 {
+            return None;
+        }
+        Some(usize::from(index.first[low - 1]))
+    }
+}

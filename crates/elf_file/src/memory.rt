@@ -1,0 +1,40 @@
+// The memory of the PT_LOADs (gABI chapter 5, `p_vaddr` and `p_memsz`).
+
+ghost use Rattle.std.specs.Prelude.{◌≡◌, ◌<◌, true, false, MatchOption};
+ghost use Rattle.elf_file.specs.Address.{is_in_memory_part, is_in_memory, IsLoadOf};
+
+use crate::load_index::BLOCK;
+use crate::segment::{PT_LOAD, ProgramHeader};
+use crate::segments::Segments;
+
+/// Whether so many bytes at an address lie in the memory part of this PT_LOAD.
+pub fn is_in_memory_part(address: u64, size: u64, h: ProgramHeader) -> bool
+    ensures { result ≡ is_in_memory_part address size h }
+{
+    h.address <= address
+        && u128::from(address) + u128::from(size)
+            <= u128::from(h.address) + u128::from(h.memory_size)
+}
+
+impl Segments<'_> {
+    /// The PT_LOAD that has so many bytes at an address in its memory part. Since PT_LOADs follow
+    /// each other, only one of the last block that begins at or below the address can: a halving
+    /// over the blocks and a pass over one.
+    pub fn load_at(&self, address: u64, size: u64) -> Option<ProgramHeader>
+        requires { 0 < size }
+        ensures { MatchOption result (is_in_memory self.now address size ≡ false)
+            (λ h. IsLoadOf self.now h × (is_in_memory_part address size h ≡ true)) }
+    {
+        let Some(first) = self.block_at(address) else {
+            return None;
+        };
+        let end = self.header_count().min(first + BLOCK);
+        for j in first..end {
+            let h = self.header(j);
+            if h.kind == PT_LOAD && is_in_memory_part(address, size, h) {
+                return Some(h);
+            }
+        }
+        None
+    }
+}

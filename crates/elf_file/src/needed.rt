@@ -1,0 +1,94 @@
+// The entries that name needed libraries, one after the other (gABI chapter 5, `DT_NEEDED`).
+
+ghost use Rattle.std.specs.Prelude.{◌≡◌, ◌≤◌, ◌<◌, ◌/◌, ℕ, length, map, filter, true, false};
+ghost use Rattle.std.specs.Prelude.{nat_le};
+ghost use Rattle.std.specs.Iterator.{YieldsFirst, item_count};
+ghost use Rattle.std.specs.List.{list_any, range_with_len};
+ghost use Rattle.elf_file.specs.Dynamic.{entry, has_tag};
+ghost use Rattle.elf_file.specs.inside.Needed.{is_needed, values_from};
+
+use crate::entry::nth_entry;
+use crate::tag::DT_NEEDED;
+use std::marker::Model;
+
+/// The offsets of the needed libraries' names that are left to come, in the order of their entries.
+/// Contracts see their list.
+#[derive(Drop)]
+pub struct NeededOffsets<'a> {
+    section: &'a [u8],
+    count: usize,
+    next: usize,
+}
+
+impl<'a> Model for NeededOffsets<'a> {
+    ghost use Rattle.std.specs.Prelude.{List, ℕ, ◌≤◌, ◌/◌, length};
+    ghost use Rattle.elf_file.specs.inside.Needed.{values_from};
+
+    ghost Value = { List ℕ };
+
+    ghost view = { λ s. values_from s.section.now s.count s.next };
+
+    ghost invariant = { λ s. (s.next ≤ s.count) × (s.count ≤ length s.section.now / 16) };
+}
+
+/// The number of the first entry with DT_NEEDED from an entry on, or how many entries there are.
+fn next_needed(bytes: &[u8], count: usize, from: usize) -> usize
+    requires from { from ≤ count }
+    requires count { count ≤ length bytes.now / 16 }
+    ensures within { result ≤ count }
+    ensures from { from ≤ result }
+    ensures none { (j : ℕ) → from ≤ j → j < result → is_needed bytes.now j ≡ false }
+    ensures here { result < count → is_needed bytes.now result ≡ true }
+{
+    for i in from..count {
+        if nth_entry(bytes, i).tag == DT_NEEDED {
+            return i;
+        }
+    }
+    count
+}
+
+/// Whether a value of an entry with DT_NEEDED is at or above a limit.
+pub(crate) fn has_needed_in(section: &[u8], count: usize, limit: u64) -> bool
+    requires { count ≤ length section.now / 16 }
+    ensures { result ≡ list_any (nat_le limit) (map (λ e. e.value) (filter (has_tag 1)
+        (map (entry section.now) (range_with_len 0 count)))) }
+{
+    (0..count)
+        .map(|i| nth_entry(section, i))
+        .filter(|e| e.tag == DT_NEEDED)
+        .map(|e| e.value)
+        .any(|value| value >= limit)
+}
+
+impl<'a> NeededOffsets<'a> {
+    /// Those of all entries of a section.
+    pub(crate) fn new(section: &'a [u8], count: usize) -> NeededOffsets<'a>
+        requires { count ≤ length section.now / 16 }
+        ensures { result ≡ values_from section.now count 0 }
+    {
+        NeededOffsets {
+            section,
+            count,
+            next: 0,
+        }
+    }
+}
+
+impl<'a> Iterator for NeededOffsets<'a> {
+    type Item = u64;
+
+    ghost next_gives = { YieldsFirst (λ os. os) };
+
+    ghost remaining = { item_count (λ os. os) };
+
+    fn next(&mut self) -> Option<u64> {
+        let at = next_needed(self.section, self.count, self.next);
+        if at == self.count {
+            self.next = at;
+            return None;
+        }
+        self.next = at + 1;
+        Some(nth_entry(self.section, at).value)
+    }
+}

@@ -1,0 +1,152 @@
+// The program headers and their tests (gABI chapter 5).
+
+ghost use Rattle.std.specs.Prelude.{◌≡◌};
+ghost use Rattle.elf_file.specs.Segment.{is_bad_load, is_too_high, is_out_of_order};
+ghost use Rattle.elf_file.specs.Segment.{has_tls_segment, has_load, has_bad_load, has_bad_segment};
+ghost use Rattle.elf_file.specs.Segment.{has_high_segment, is_too_large, has_bad_order};
+ghost use Rattle.elf_file.specs.Dynamic.{dynamic_count, find_dynamic};
+
+use crate::headers::Headers;
+
+/// A program header as it stands in the file (gABI chapter 5, `Elf64_Phdr`).
+#[derive(Clone, Copy, Debug, PartialEq, Eq)]
+pub struct ProgramHeader {
+    /// `p_type`.
+    pub kind: u32,
+    /// `p_flags`: 1 execution, 2 writing, 4 reading; other bits mean nothing here.
+    pub flags: u32,
+    /// `p_offset`, in bytes from the file's start.
+    pub offset: u64,
+    /// `p_vaddr`, an address before the base is added.
+    pub address: u64,
+    /// `p_filesz`, in bytes.
+    pub file_size: u64,
+    /// `p_memsz`, in bytes.
+    pub memory_size: u64,
+    /// `p_align`, in bytes.
+    pub alignment: u64,
+}
+
+/// A segment that is loaded.
+pub const PT_LOAD: u32 = 1;
+/// The segment of the dynamic section.
+const PT_DYNAMIC: u32 = 2;
+/// A segment of thread-local data.
+const PT_TLS: u32 = 7;
+
+/// The greatest length of a file, in bytes.
+const LARGEST_FILE: usize = 16_777_216;
+/// The highest address that an object's memory may end at.
+const HIGHEST_END: u64 = 67_108_864;
+
+/// Whether a PT_LOAD breaks the rules, in a file of so many bytes.
+fn is_bad_load(size: usize, h: ProgramHeader) -> bool
+    ensures { result ≡ is_bad_load size h }
+{
+    h.kind == PT_LOAD
+        && (h.file_size > h.memory_size
+            || (h.file_size > 0 && u128::from(h.offset) + u128::from(h.file_size) > size as u128)
+            || (h.alignment > 1
+                && (!h.alignment.is_power_of_two()
+                    || h.address % h.alignment != h.offset % h.alignment)))
+}
+
+fn is_too_high(h: ProgramHeader) -> bool
+    ensures { result ≡ is_too_high h }
+{
+    h.kind == PT_LOAD && u128::from(h.address) + u128::from(h.memory_size) > u128::from(HIGHEST_END)
+}
+
+/// Whether a PT_LOAD begins before the end of the one before it.
+fn is_out_of_order(first: ProgramHeader, next: ProgramHeader) -> bool
+    ensures { result ≡ is_out_of_order (first, next) }
+{
+    u128::from(next.address) < u128::from(first.address) + u128::from(first.memory_size)
+}
+
+impl Headers<'_> {
+    #[tactic(auto, unfolding(crate::specs::Segment::has_tls_segment, crate::specs::Segment::program_headers))]
+    pub(crate) fn has_tls_segment(&self) -> bool
+        ensures { result ≡ has_tls_segment self.now }
+    {
+        (0..self.count())
+            .map(|i| self.nth(i))
+            .any(|h| h.kind == PT_TLS)
+    }
+
+    #[tactic(auto, unfolding(crate::specs::Segment::has_load, crate::specs::Segment::program_headers))]
+    fn has_load(&self) -> bool
+        ensures { result ≡ has_load self.now }
+    {
+        (0..self.count())
+            .map(|i| self.nth(i))
+            .any(|h| h.kind == PT_LOAD)
+    }
+
+    #[tactic(auto, unfolding(crate::specs::Segment::has_bad_load, crate::specs::Segment::program_headers))]
+    fn has_bad_load(&self) -> bool
+        ensures { result ≡ has_bad_load self.now }
+    {
+        let size = self.file().len();
+        (0..self.count())
+            .map(|i| self.nth(i))
+            .any(|h| is_bad_load(size, h))
+    }
+
+    pub(crate) fn has_bad_segment(&self) -> bool
+        ensures { result ≡ has_bad_segment self.now }
+    {
+        !self.has_load() || self.has_bad_load()
+    }
+
+    #[tactic(auto, unfolding(crate::specs::Segment::has_high_segment, crate::specs::Segment::program_headers))]
+    fn has_high_segment(&self) -> bool
+        ensures { result ≡ has_high_segment self.now }
+    {
+        (0..self.count())
+            .map(|i| self.nth(i))
+            .any(|h| is_too_high(h))
+    }
+
+    pub(crate) fn is_too_large(&self) -> bool
+        ensures { result ≡ is_too_large self.now }
+    {
+        self.file().len() > LARGEST_FILE || self.has_high_segment()
+    }
+
+    #[tactic(auto, unfolding(crate::specs::Segment::has_bad_order, crate::specs::Segment::loads, crate::specs::Segment::program_headers))]
+    pub(crate) fn has_bad_order(&self) -> bool
+        ensures { result ≡ has_bad_order self.now }
+    {
+        let loads = (0..self.count())
+            .map(|i| self.nth(i))
+            .filter(|h| h.kind == PT_LOAD);
+        let others = (0..self.count())
+            .map(|i| self.nth(i))
+            .filter(|h| h.kind == PT_LOAD);
+        loads
+            .zip(others.skip(1))
+            .any(|(a, b)| is_out_of_order(a, b))
+    }
+
+    /// How many PT_DYNAMICs there are.
+    #[tactic(auto, unfolding(crate::specs::Dynamic::dynamic_count, crate::specs::Segment::program_headers))]
+    pub(crate) fn dynamic_count(&self) -> usize
+        ensures { result ≡ dynamic_count self.now }
+    {
+        (0..self.count())
+            .map(|i| self.nth(i))
+            .filter(|h| h.kind == PT_DYNAMIC)
+            .count()
+    }
+
+    /// The first PT_DYNAMIC.
+    #[tactic(auto, unfolding(crate::specs::Dynamic::find_dynamic, crate::specs::Segment::program_headers))]
+    pub(crate) fn find_dynamic(&self) -> Option<ProgramHeader>
+        ensures { result ≡ find_dynamic self.now }
+    {
+        (0..self.count())
+            .map(|i| self.nth(i))
+            .find(|h| h.kind == PT_DYNAMIC)
+    }
+}

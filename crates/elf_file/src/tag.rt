@@ -1,0 +1,130 @@
+// The tags of the dynamic section that are read (gABI chapter 5).
+
+ghost use Rattle.std.specs.Prelude.{◌≡◌};
+ghost use Rattle.elf_file.specs.Tag.{number_of};
+
+/// Ends the dynamic section.
+pub(crate) const DT_NULL: u64 = 0;
+/// A library that the object needs: the offset of its name in the string table.
+pub(crate) const DT_NEEDED: u64 = 1;
+/// How many bytes the relocations at `DT_JMPREL` take.
+const DT_PLTRELSZ: u64 = 2;
+/// The address of the hash table.
+const DT_HASH: u64 = 4;
+/// The address of the string table.
+const DT_STRTAB: u64 = 5;
+/// The address of the symbol table.
+const DT_SYMTAB: u64 = 6;
+/// The address of the relocations.
+pub(crate) const DT_RELA: u64 = 7;
+/// How many bytes the relocations at `DT_RELA` take.
+const DT_RELASZ: u64 = 8;
+/// How many bytes one relocation takes.
+const DT_RELAENT: u64 = 9;
+/// How many bytes the string table takes.
+const DT_STRSZ: u64 = 10;
+/// How many bytes one symbol takes.
+const DT_SYMENT: u64 = 11;
+/// The object's own name: its offset in the string table.
+const DT_SONAME: u64 = 14;
+/// The object itself is looked in first.
+const DT_SYMBOLIC: u64 = 16;
+/// The address of relocations without addends.
+const DT_REL: u64 = 17;
+/// Of which kind the relocations at `DT_JMPREL` are.
+const DT_PLTREL: u64 = 20;
+/// The address of the relocations of the procedure linkage table.
+const DT_JMPREL: u64 = 23;
+/// Flags.
+const DT_FLAGS: u64 = 30;
+/// The address of relocations in short form.
+const DT_RELR: u64 = 36;
+/// The versions of the symbols.
+pub(crate) const DT_VERSYM: u64 = 0x6fff_fff0;
+/// The versions that the object defines.
+pub(crate) const DT_VERDEF: u64 = 0x6fff_fffc;
+/// The versions that the object needs.
+pub(crate) const DT_VERNEED: u64 = 0x6fff_fffe;
+
+/// The bit of `DT_FLAGS` by which the object itself is looked in first.
+pub(crate) const DF_SYMBOLIC: u64 = 0x2;
+
+/// How many bytes a symbol has.
+pub const SYMBOL_SIZE: u64 = 24;
+/// How many bytes a relocation with an addend has.
+pub const RELOCATION_SIZE: u64 = 24;
+
+/// A tag that is read.
+#[derive(Clone, Copy, Debug, PartialEq, Eq)]
+pub enum Tag {
+    /// `DT_NEEDED`.
+    Needed,
+    /// `DT_PLTRELSZ`.
+    PltRelSize,
+    /// `DT_HASH`.
+    Hash,
+    /// `DT_STRTAB`.
+    StrTab,
+    /// `DT_SYMTAB`.
+    SymTab,
+    /// `DT_RELA`.
+    Rela,
+    /// `DT_RELASZ`.
+    RelaSize,
+    /// `DT_RELAENT`.
+    RelaEntry,
+    /// `DT_STRSZ`.
+    StrSize,
+    /// `DT_SYMENT`.
+    SymEntry,
+    /// `DT_SONAME`.
+    SoName,
+    /// `DT_SYMBOLIC`.
+    Symbolic,
+    /// `DT_REL`.
+    Rel,
+    /// `DT_PLTREL`.
+    PltRel,
+    /// `DT_JMPREL`.
+    JmpRel,
+    /// `DT_FLAGS`.
+    Flags,
+    /// `DT_RELR`.
+    Relr,
+    /// `DT_VERSYM`.
+    VerSym,
+    /// `DT_VERDEF`.
+    VerDef,
+    /// `DT_VERNEED`.
+    VerNeed,
+}
+
+impl Tag {
+    /// Its number.
+    pub fn number(self) -> u64
+        ensures { result ≡ number_of self }
+    {
+        match self {
+            Tag::Needed => DT_NEEDED,
+            Tag::PltRelSize => DT_PLTRELSZ,
+            Tag::Hash => DT_HASH,
+            Tag::StrTab => DT_STRTAB,
+            Tag::SymTab => DT_SYMTAB,
+            Tag::Rela => DT_RELA,
+            Tag::RelaSize => DT_RELASZ,
+            Tag::RelaEntry => DT_RELAENT,
+            Tag::StrSize => DT_STRSZ,
+            Tag::SymEntry => DT_SYMENT,
+            Tag::SoName => DT_SONAME,
+            Tag::Symbolic => DT_SYMBOLIC,
+            Tag::Rel => DT_REL,
+            Tag::PltRel => DT_PLTREL,
+            Tag::JmpRel => DT_JMPREL,
+            Tag::Flags => DT_FLAGS,
+            Tag::Relr => DT_RELR,
+            Tag::VerSym => DT_VERSYM,
+            Tag::VerDef => DT_VERDEF,
+            Tag::VerNeed => DT_VERNEED,
+        }
+    }
+}

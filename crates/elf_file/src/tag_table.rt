@@ -1,0 +1,124 @@
+// The table of what the dynamic section says of each tag that is read.
+
+ghost use Rattle.std.specs.Prelude.{◌≡◌, ◌<◌, ◌^◌, ℕ, [], true, false, Some};
+ghost use Rattle.std.specs.Prelude.{IfSome, MatchOption, slice_index_or};
+ghost use Rattle.elf_file.specs.Dynamic.{is_ended};
+ghost use Rattle.elf_file.specs.Tag.{number_of};
+ghost use Rattle.elf_file.specs.inside.Tags.{place_of, slot_more, slot_and, IsTable, IsTagsOf};
+ghost use Rattle.elf_file.specs.declared.tag_table.Slot.{Slot};
+
+use crate::entry::{DYNAMIC_ENTRY_SIZE, Entry, nth_entry};
+use crate::tag::{DT_NULL, DT_VERDEF, DT_VERNEED, DT_VERSYM, Tag};
+
+/// The tags below this number have the place of their number.
+const LOW_TAGS: usize = 37;
+/// How many places there are: one for each low tag, and three for those of symbol versions.
+const PLACES: usize = 40;
+
+/// What the dynamic section says of a tag: how often it is present, and the value of the first
+/// entry.
+#[derive(Clone, Copy)]
+pub(crate) struct Slot {
+    pub(crate) count: usize,
+    pub(crate) value: Option<u64>,
+}
+
+/// An absent tag.
+const NO_SLOT: Slot = Slot {
+    count: 0,
+    value: None,
+};
+
+/// What the dynamic section says of each tag that has a place.
+#[derive(Clone, Copy)]
+pub(crate) struct TagTable {
+    pub(crate) slots: [Slot; PLACES],
+}
+
+/// The place of a tag's number in the table, where it has one.
+fn place_of(number: u64) -> Option<usize>
+    ensures ok { result ≡ place_of number }
+    ensures within { IfSome result (λ k. k < PLACES) }
+{
+    if number < LOW_TAGS as u64 {
+        return Some(number as usize);
+    }
+    match number {
+        DT_VERSYM => Some(LOW_TAGS),
+        DT_VERDEF => Some(LOW_TAGS + 1),
+        DT_VERNEED => Some(LOW_TAGS + 2),
+        _ => None,
+    }
+}
+
+/// The place of a tag in the table.
+pub(crate) fn place(tag: Tag) -> usize
+    ensures ok { place_of (number_of tag) ≡ Some result }
+    ensures within { result < PLACES }
+{
+    match place_of(tag.number()) {
+        Some(k) => k,
+        None => unreachable!(),
+    }
+}
+
+impl Slot {
+    /// The same after one more entry with the tag.
+    fn and(self, value: u64) -> Slot
+        requires { self.count < 2 ^ 63 }
+        ensures { result ≡ slot_more value self }
+    {
+        Slot {
+            count: self.count + 1,
+            value: self.value.or(Some(value)),
+        }
+    }
+}
+
+impl TagTable {
+    /// The table of no entries.
+    fn empty() -> TagTable
+        ensures { IsTable [] result.slots }
+    {
+        TagTable {
+            slots: [NO_SLOT; PLACES],
+        }
+    }
+
+    /// Counts one more entry.
+    fn add(&mut self, entry: Entry)
+        requires { (n k : ℕ) (d : Slot) → place_of n ≡ Some k
+            → (slice_index_or self.old.slots k d).count < 2 ^ 63 }
+        ensures { (n k : ℕ) (d : Slot) → place_of n ≡ Some k
+            → slice_index_or self.new.slots k d
+            ≡ slot_and n entry (slice_index_or self.old.slots k d) }
+    {
+        if let Some(k) = place_of(entry.tag) {
+            self.slots[k] = self.slots[k].and(entry.value);
+        }
+    }
+}
+
+/// What is kept of a section: how many entries stand before its first DT_NULL, and the table of
+/// them.
+#[derive(Clone, Copy)]
+pub(crate) struct Tags {
+    pub(crate) count: usize,
+    pub(crate) table: TagTable,
+}
+
+/// What is to be kept of a section that has a DT_NULL. One pass.
+pub(crate) fn read_tags(section: &[u8]) -> Option<Tags>
+    ensures { MatchOption result (is_ended section.now ≡ false)
+        (λ tags. (is_ended section.now ≡ true) × IsTagsOf section.now tags) }
+{
+    let mut table = TagTable::empty();
+    for i in 0..section.len() / DYNAMIC_ENTRY_SIZE {
+        let entry = nth_entry(section, i);
+        if entry.tag == DT_NULL {
+            return Some(Tags { count: i, table });
+        }
+        table.add(entry);
+    }
+    None
+}

@@ -1,0 +1,121 @@
+-- The front of a string of the string table, and that it tells the string from others.
+use Rattle.std.proofs.Common.{◌≡◌, ◌≢◌, ℕ, ◌<◌, ◌≤◌, ◌+◌, ◌-◌, Bool, true, false, cond, List, [], ◌∷◌, length, drop, take, min, arith, refl, ◌∙◌, sym, ap, suc, zero, eqb, get_or, inl, inr}
+use Rattle.std.specs.Prelude.{not}
+use Rattle.std.specs.List.{take_while, prefix_len}
+use Rattle.std.specs.Str.{bytes_eq}
+use Rattle.std.proofs.lemmas.Bool.{cases_lt}
+use Rattle.std.proofs.lemmas.Bool.Decides.{eqb_tells}
+use Rattle.std.proofs.lemmas.List.{take_rest, drop_min, take_all, take_min, length-take-le}
+use Rattle.std.proofs.lemmas.List.Sums.{prefix_len-le-length}
+use Rattle.std.proofs.lemmas.Slice.Eq.{bytes_eq-Decides}
+use Rattle.elf_dynamic.specs.Strings.{string_at}
+
+is_text : ℕ → Bool
+is_text b = not (eqb b 0)
+
+text-zero : is_text 0 ≡ false
+unfolding is_text
+text-zero = refl
+
+text-other : (b : ℕ) → b ≢ 0 → is_text b ≡ true
+unfolding is_text
+text-other b ne = elim (eqb_tells b 0) [ inl t ↦ absurd (ne t.1) | inr f ↦ ap not f.0 ]
+
+-- how many bytes stand before the first zero byte
+stops : (xs : List ℕ) (i : ℕ) → i < length xs → ((k : ℕ) → k < i → get_or xs k 0 ≢ 0) → get_or xs i 0 ≡ 0 → prefix_len is_text xs ≡ i
+stops [] i lt h z = absurd (omega arith)
+stops (x ∷ xs) zero lt h z = let here : is_text x ≡ false = ap is_text z ∙ text-zero in ap (λ b. cond b (1 + prefix_len is_text xs) 0) here
+stops (x ∷ xs) (suc i) lt h z =
+    let here : is_text x ≡ true = text-other x (h 0 (omega arith)) in
+    let rest : prefix_len is_text xs ≡ i = stops xs i (omega arith) (λ k less. h (suc k) (omega arith)) z in
+    ap (λ b. cond b (1 + prefix_len is_text xs) 0) here ∙ omega (arith, rest)
+
+never : (xs : List ℕ) → ((k : ℕ) → k < length xs → get_or xs k 0 ≢ 0) → prefix_len is_text xs ≡ length xs
+never [] h = refl
+never (x ∷ xs) h =
+    let here : is_text x ≡ true = text-other x (h 0 (omega arith)) in
+    let rest : prefix_len is_text xs ≡ length xs = never xs (λ k less. h (suc k) (omega arith)) in
+    ap (λ b. cond b (1 + prefix_len is_text xs) 0) here ∙ omega (arith, rest)
+
+long-step : (b : Bool) (n m k : ℕ) → suc n ≤ cond b (1 + m) 0 → (n ≤ m → k ≡ n) → cond b (1 + k) 0 ≡ suc n
+long-step true n m k le h = let less : n ≤ m = omega arith in omega (arith, h less)
+long-step false n m k le h = absurd (omega arith)
+
+-- a cut before the first zero byte, and one behind it
+long : (n : ℕ) (xs : List ℕ) → n ≤ prefix_len is_text xs → prefix_len is_text (take n xs) ≡ n
+long zero xs le = refl
+long (suc n) [] le = let wrong : suc n ≤ 0 = le in absurd (omega arith)
+long (suc n) (x ∷ xs) le = long-step (is_text x) n (prefix_len is_text xs) (prefix_len is_text (take n xs)) le (long n xs)
+
+short-step : (b : Bool) (n m k : ℕ) → cond b (1 + m) 0 ≤ suc n → (m ≤ n → k ≡ m) → cond b (1 + k) 0 ≡ cond b (1 + m) 0
+short-step true n m k le h = let less : m ≤ n = omega arith in omega (arith, h less)
+short-step false n m k le h = refl
+
+short : (n : ℕ) (xs : List ℕ) → prefix_len is_text xs ≤ n → prefix_len is_text (take n xs) ≡ prefix_len is_text xs
+short zero xs le = let none : prefix_len is_text xs ≡ 0 = omega arith in sym none
+short (suc n) [] le = refl
+short (suc n) (x ∷ xs) le = short-step (is_text x) n (prefix_len is_text xs) (prefix_len is_text (take n xs)) le (short n xs)
+
+twice : (m n : ℕ) (xs : List ℕ) → m ≤ n → take m (take n xs) ≡ take m xs
+twice zero n xs le = refl
+twice (suc m) zero xs le = absurd (omega arith)
+twice (suc m) (suc n) [] le = refl
+twice (suc m) (suc n) (x ∷ xs) le = ap (λ t. x ∷ t) (twice m n xs (omega arith))
+
+texts : List ℕ → List ℕ
+texts xs = take_while is_text xs
+
+-- the front of a string is the string of the front
+front-of-texts : (n : ℕ) (xs : List ℕ) → take n (texts xs) ≡ texts (take n xs)
+unfolding texts
+front-of-texts n xs = elim (cases_lt (prefix_len is_text xs) n) [
+  | inl less ↦
+      let le : prefix_len is_text xs ≤ n = omega arith in
+      let fits : length (take (prefix_len is_text xs) xs) ≤ n = omega (arith, length-take-le (prefix_len is_text xs) xs (prefix_len-le-length is_text xs)) in
+      take_all n (take (prefix_len is_text xs) xs) fits ∙ sym (twice (prefix_len is_text xs) n xs le) ∙ ap (λ k. take k (take n xs)) (sym (short n xs le))
+  | inr more ↦
+      twice n (prefix_len is_text xs) xs more ∙ sym (twice n n xs (omega arith)) ∙ ap (λ k. take k (take n xs)) (sym (long n xs more))
+]
+
+string-texts : (t : List ℕ) (at : ℕ) → string_at t at ≡ texts (drop at t)
+unfolding string_at texts is_text
+string-texts t at = refl
+
+pub front-stops : (t : List ℕ) (at limit i : ℕ) (front : List ℕ) → front ≡ take limit (drop at t) → i < length front → ((k : ℕ) → k < i → get_or front k 0 ≢ 0) → get_or front i 0 ≡ 0
+    → take i front ≡ take limit (string_at t at)
+unfolding texts
+front-stops t at limit i front is lt h z =
+    ap (λ k. take k front) (sym (stops front i lt h z)) ∙ ap texts is ∙ sym (front-of-texts limit (drop at t)) ∙ ap (take limit) (sym (string-texts t at))
+
+pub front-never : (t : List ℕ) (at limit : ℕ) (front : List ℕ) → front ≡ take limit (drop at t) → ((k : ℕ) → k < length front → get_or front k 0 ≢ 0) → front ≡ take limit (string_at t at)
+unfolding texts
+front-never t at limit front is h =
+    let whole : length front ≤ prefix_len is_text front = omega (arith, never front h) in
+    sym (take_all (prefix_len is_text front) front whole) ∙ ap texts is ∙ sym (front-of-texts limit (drop at t)) ∙ ap (take limit) (sym (string-texts t at))
+
+-- the front that two slices give
+pub front-is : (t : List ℕ) (at m limit n : ℕ) → m ≡ min at (length t) → n ≡ min limit (length (take (length t - m) (drop m t)))
+    → take n (take (length t - m) (drop m t)) ≡ take limit (drop at t)
+front-is t at m limit n e size =
+    let rest : take (length t - m) (drop m t) ≡ drop at t = take_rest t m ∙ ap (λ k. drop k t) e ∙ drop_min at t in
+    ap (λ k. take k (take (length t - m) (drop m t))) size ∙ take_min limit (take (length t - m) (drop m t)) ∙ ap (take limit) rest
+
+whole-from-front : (s name : List ℕ) → take (length name + 1) s ≡ name → s ≡ name
+whole-from-front s name e = elim (cases_lt (length s) (length name + 1)) [
+  | inl less ↦ sym (take_all (length name + 1) s (omega arith)) ∙ e
+  | inr more ↦ absurd (omega (arith, ap length e, length-take-le (length name + 1) s more))
+]
+
+front-from-whole : (s name : List ℕ) → s ≡ name → take (length name + 1) s ≡ name
+front-from-whole s name e = take_all (length name + 1) s (omega (arith, ap length e)) ∙ e
+
+both-ways : (a b : Bool) → (a ≡ true → b ≡ true) → (b ≡ true → a ≡ true) → a ≡ b
+both-ways true b to from = sym (to refl)
+both-ways false true to from = from refl
+both-ways false false to from = refl
+
+-- one byte more than a name has tells the string from all others
+pub front_tells : (s name : List ℕ) → bytes_eq (take (length name + 1) s) name ≡ bytes_eq s name
+front_tells s name = both-ways (bytes_eq (take (length name + 1) s) name) (bytes_eq s name)
+    (λ e. (bytes_eq-Decides s name).1 (whole-from-front s name ((bytes_eq-Decides (take (length name + 1) s) name).0 e)))
+    (λ e. (bytes_eq-Decides (take (length name + 1) s) name).1 (front-from-whole s name ((bytes_eq-Decides s name).0 e)))

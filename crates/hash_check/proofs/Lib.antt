@@ -1,0 +1,17 @@
+pub mod Walks
+pub mod Knowing
+pub mod Paths
+pub mod Climbing
+pub mod StepsLeft
+pub mod Starting
+pub mod Sorting
+pub mod Exported
+pub mod NameLengths
+pub mod Ordering
+pub mod NameOrder
+pub mod SharedNames
+pub mod Searching
+pub mod Definitions
+pub mod Deciding
+pub mod Fronts
+pub mod Reading

@@ -1,0 +1,66 @@
+-- The tests of admission, which are made of an object after its own tests. A walk that ends does so in fewer steps than
+-- there are chain words, so these tests decide what HashTable.antt says.
+use Rattle.std.specs.Prelude.{ℕ, List, [], ◌∷◌, Bool, true, Option, Some, ◌≡◌, ◌≤◌, ◌==◌, ◌&&◌, ◌⊎◌, not, nat_lt, length, map, take_while}
+use Rattle.std.specs.List.{list_any, list_all, range_with_len}
+use Rattle.elf_dynamic.specs.Strings.{name_of}
+use Rattle.elf_dynamic.specs.HashTable.{buckets, chains}
+use Rattle.elf_file.specs.FirstOf.{◌when◌, first_of}
+use Rattle.hash_check.specs.Hash.{elf_hash}
+use Rattle.hash_check.specs.Export.{exported_symbols}
+use Rattle.hash_check.specs.Definition.{has_duplicate_definition, HasUniqueNames, HasSharedName}
+use Rattle.hash_check.specs.Walk.{walk}
+use Rattle.hash_check.specs.HashTable.{bucket_of, HasGoodTable}
+use Rattle.hash_check.specs.declared.refusal.AdmitRefusal.{AdmitRefusal}
+use Rattle.hash_check.specs.declared.refusal.AdmitRefusal.TheVariants.{DuplicateDefinition, BadHashTable, OutOfMemory}
+
+-- the indices on the walk from an index before it comes to 0, and at most as many as there are chain words
+unfoldable pub walked : List ℕ → ℕ → List ℕ
+walked words from = take_while (λ i. not (i == 0)) (map (walk words from) (range_with_len 0 (length words)))
+
+abbrev pub are_indices : ℕ → List ℕ → Bool
+are_indices n words = list_all (λ w. nat_lt w n) words
+
+-- fewer steps than there are chain words reach 0
+unfoldable pub ends_soon : List ℕ → ℕ → Bool
+ends_soon words from = list_any (λ k. walk words from k == 0) (range_with_len 0 (length words))
+
+-- there is a bucket, and every word of the table is the index of a symbol
+unfoldable pub has_good_words : List ℕ → Bool
+has_good_words file = not (length (buckets file) == 0)
+    && (are_indices (length (chains file)) (buckets file) && are_indices (length (chains file)) (chains file))
+
+-- from every bucket the walk ends
+unfoldable pub has_ending_walks : List ℕ → Bool
+has_ending_walks file = list_all (ends_soon (chains file)) (buckets file)
+
+-- a symbol stands on the walk from the bucket of its own name's hash
+unfoldable pub is_met : List ℕ → ℕ → Bool
+is_met file i = list_any (λ j. j == i) (walked (chains file) (bucket_of (buckets file) (elf_hash (name_of file i))))
+
+-- every exported symbol does
+unfoldable pub meets_exports : List ℕ → Bool
+meets_exports file = list_all (is_met file) (exported_symbols file)
+
+-- E29, as a test
+unfoldable pub has_bad_hash_table : List ℕ → Bool
+has_bad_hash_table file = not (has_good_words file && (has_ending_walks file && meets_exports file))
+
+-- the refusal of an object by the first of these tests, or none where it is admitted
+unfoldable pub admission_refusal : List ℕ → Option AdmitRefusal
+admission_refusal file =
+    first_of ((DuplicateDefinition when has_duplicate_definition file) ∷ (BadHashTable when has_bad_hash_table file) ∷ [])
+
+-- what takes memory: to look for two symbols of one name where there are two, and to follow the walks where every word is an index
+abbrev pub NeedsMemory : List ℕ → Type 0
+NeedsMemory file = (2 ≤ length (exported_symbols file)) ⊎ (has_good_words file ≡ true)
+
+-- where a refusal is answered
+abbrev pub IsRefusedBy : List ℕ → AdmitRefusal → Type 0
+IsRefusedBy file OutOfMemory = NeedsMemory file
+IsRefusedBy file refusal = admission_refusal file ≡ Some refusal
+
+-- what a refusal says in the words of the definitions: two exported symbols share a name; or none do, and the table isn't good
+abbrev pub Says : List ℕ → AdmitRefusal → Type 0
+Says file DuplicateDefinition = HasSharedName file
+Says file BadHashTable = HasUniqueNames file × (¬ HasGoodTable file)
+Says file OutOfMemory = NeedsMemory file

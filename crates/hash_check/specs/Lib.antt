@@ -1,0 +1,10 @@
+pub mod Hash
+pub mod Export
+pub mod Definition
+pub mod Walk
+pub mod HashTable
+pub mod Admission
+pub mod FileRefusal
+pub mod Search
+pub mod Soname
+pub mod inside

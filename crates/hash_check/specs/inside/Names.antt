@@ -1,0 +1,61 @@
+-- The names of the exported symbols, as they are sorted to find two that are the same.
+use Rattle.std.specs.Prelude.{ℕ, List, [], ◌∷◌, ◌≡◌, ◌≢◌, ◌<◌, ◌≤◌, ◌+◌, nat_lt, length, slice_index, slice_index_or, slice_get, if◌then◌else◌}
+use Rattle.std.specs.Cmp.Lexicographic.{slice_cmp}
+use Rattle.std.specs.Ordering.{nat_cmp}
+use Rattle.std.specs.Option.{option_map_or}
+use Rattle.std.specs.declared.cmp.Ordering.{Ordering}
+use Rattle.std.specs.declared.cmp.Ordering.TheVariants.{Less}
+use Rattle.elf_dynamic.specs.Symbol.{symbols}
+use Rattle.elf_dynamic.specs.Strings.{name_of}
+use Rattle.elf_dynamic.specs.Strings.{string_table, string_at}
+use Rattle.hash_check.specs.declared.names.Name.{Name}
+use Rattle.hash_check.specs.declared.names.Stretch.{Stretch}
+
+-- the name of a symbol; the empty one for a number that is no symbol's
+unfoldable pub name_at : List ℕ → ℕ → List ℕ
+name_at file i = if nat_lt i (length (symbols file)) then name_of file i else []
+
+-- a symbol other than number 0
+pub record IsSymbol (file : List ℕ) (i : ℕ) : Type 0 where
+  pub some : 1 ≤ i
+  pub within : i < length (symbols file)
+
+-- where the name of a symbol begins in the string table
+abbrev pub offset_of : List ℕ → ℕ → ℕ
+offset_of file i = option_map_or (λ s. s.name) (slice_get (symbols file) i) 0
+
+-- a string of the table with its length
+abbrev pub IsStretch : List ℕ → Stretch → Type 0
+IsStretch file s = length (string_at (string_table file) s.from) ≡ s.length
+
+-- the name of a symbol begins in a stretch
+abbrev pub BeginsIn : List ℕ → ℕ → Stretch → Type 0
+BeginsIn file i s = (s.from ≤ offset_of file i) × (offset_of file i ≤ s.from + s.length)
+
+-- a symbol with the length of its name
+unfoldable pub named : List ℕ → ℕ → Name
+named file i = record { symbol = i; length = length (name_at file i) }
+
+-- names by their lengths, then by their bytes
+unfoldable pub key : List ℕ → Name → List ℕ
+key file name = name.length ∷ name_at file name.symbol
+
+abbrev pub order : List ℕ → Name → Name → Ordering
+order file a b = slice_cmp nat_cmp (key file a) (key file b)
+
+abbrev pub nth_name : List Name → ℕ → Name
+nth_name names k = slice_index_or names k (record { symbol = 0; length = 0 })
+
+-- each name comes before the next one
+pub record Rises (file : List ℕ) (names : List Name) : Type 0 where
+  pub rise : (k : ℕ) → k + 1 < length names → order file (nth_name names k) (nth_name names (k + 1)) ≡ Less
+
+-- no two of the symbols have the same name
+pub record AllDiffer (file numbers : List ℕ) : Type 0 where
+  pub differ : (i j : ℕ) → i < j → j < length numbers → name_at file (slice_index numbers i) ≢ name_at file (slice_index numbers j)
+
+-- two neighbours of a list of symbols have their names at one place
+pub record HasEqualNeighbours (file numbers : List ℕ) : Type 0 where
+  pub place : ℕ
+  pub within : place + 1 < length numbers
+  pub same : offset_of file (slice_index numbers place) ≡ offset_of file (slice_index numbers (place + 1))

@@ -1,0 +1,112 @@
+// An admitted object.
+
+ghost use Rattle.std.specs.Prelude.{◌≡◌, Some, None, true, false, IfOk, IfErr, OnOk, OnErr};
+ghost use Rattle.elf_dynamic.specs.Refusal.{first_refusal};
+ghost use Rattle.elf_dynamic.specs.Strings.{soname};
+ghost use Rattle.elf_file.specs.declared.refusal.ObjectRefusal.TheVariants.{BadSoname};
+ghost use Rattle.hash_check.specs.Hash.{elf_hash};
+ghost use Rattle.hash_check.specs.Definition.{definition_of, HasUniqueNames};
+ghost use Rattle.hash_check.specs.HashTable.{HasGoodTable};
+ghost use Rattle.hash_check.specs.Admission.{admission_refusal, IsRefusedBy, Says};
+ghost use Rattle.hash_check.specs.Search.{compared};
+ghost use Rattle.hash_check.specs.Soname.{has_bad_soname};
+
+use crate::duplicates::has_duplicate_definition;
+use crate::hash::elf_hash;
+use crate::refusal::AdmitRefusal;
+use crate::search::{Found, search};
+use crate::soname::is_library_name;
+use crate::table::has_bad_hash_table;
+use elf_dynamic::{Object, ObjectRefusal};
+use std::alloc::Global;
+use std::marker::Model;
+
+/// A shared object that no test refuses, that exports no name twice, and whose hash table can be
+/// trusted. Contracts see the bytes of its file.
+#[derive(Drop)]
+pub struct Admitted<'a> {
+    object: Object<'a>,
+}
+
+impl<'a> Model for Admitted<'a> {
+    ghost use Rattle.std.specs.Prelude.{List, ℕ, ◌≡◌, None};
+    ghost use Rattle.elf_dynamic.specs.Refusal.{first_refusal};
+    ghost use Rattle.hash_check.specs.Admission.{admission_refusal};
+
+    ghost Value = { List ℕ };
+
+    ghost view = { λ a. a.object };
+
+    ghost invariant = { λ a. (first_refusal a.object ≡ None)
+        × (admission_refusal a.object ≡ None) };
+}
+
+impl<'a> Admitted<'a> {
+    /// Admits an object, or gives the refusal of the first test that applies. It takes some 20
+    /// bytes a symbol, which it gives back. Every step is linear in the file up to a logarithm,
+    /// but one: each exported name is hashed, so names that share bytes of the string table cost
+    /// the sum of their lengths.
+    #[tactic(auto, unfolding(crate::specs::Admission::admission_refusal))]
+    pub fn admit(alloc: Global, object: Object<'a>) -> Result<Admitted<'a>, AdmitRefusal>
+        ensures ok { OnOk result (admission_refusal object.entry ≡ None) }
+        ensures same { IfOk result (λ admitted. admitted ≡ object.entry) }
+
+        // Want of memory is answered only where the answer takes memory to be found.
+        ensures refused { IfErr result (IsRefusedBy object.entry) }
+        ensures says { IfErr result (Says object.entry) }
+    {
+        let _count = object.symbol_count();
+        if has_duplicate_definition(alloc, &object)? {
+            return Err(AdmitRefusal::DuplicateDefinition);
+        }
+        if has_bad_hash_table(alloc, &object)? {
+            return Err(AdmitRefusal::BadHashTable);
+        }
+        Ok(Admitted { object })
+    }
+
+    /// The object.
+    #[tactic(auto, using(crate::proofs::Deciding::admitted_unique))]
+    pub fn object(&self) -> &Object<'a>
+        ensures same { result.now ≡ self.now }
+
+        // A file that is held as an admitted object is refused by no test.
+        ensures accepted { first_refusal self.now ≡ None }
+        ensures admitted { admission_refusal self.now ≡ None }
+        ensures unique { HasUniqueNames self.now }
+        ensures table { HasGoodTable self.now }
+    {
+        &self.object
+    }
+
+    /// The name of a library: its SONAME, or E33.
+    #[tactic(auto, unfolding(crate::specs::Soname::has_bad_soname))]
+    pub fn library_name(&self) -> Result<&'a [u8], ObjectRefusal>
+        ensures ok { OnOk result (has_bad_soname self.now ≡ false) }
+        ensures name { IfOk result (λ name. soname self.now ≡ Some name.now) }
+        ensures refused { OnErr result (has_bad_soname self.now ≡ true) }
+        ensures err { IfErr result (λ refusal. refusal ≡ BadSoname) }
+    {
+        match self.object.soname() {
+            Some(name) if is_library_name(name) => Ok(name),
+            _ => Err(ObjectRefusal::BadSoname),
+        }
+    }
+
+    /// The number of the symbol that is exported under a name. It hashes the name and follows
+    /// one walk.
+    pub fn find(&self, name: &[u8]) -> Option<u32>
+        ensures { result ≡ definition_of self.now name.now }
+    {
+        self.find_hashed(name, elf_hash(name)).symbol
+    }
+
+    /// The same where the name's hash is known, with the number of symbols that were looked at.
+    pub fn find_hashed(&self, name: &[u8], hash: u32) -> Found
+        requires { hash ≡ elf_hash name.now }
+        ensures symbol { result.symbol ≡ definition_of self.now name.now }
+        ensures compared { result.compared ≡ compared self.now name.now hash }
+    {
+        search(self.object(), name, hash)
+    }
+}

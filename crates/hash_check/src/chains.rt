@@ -1,0 +1,60 @@
+// The chain words of an object.
+
+ghost use Rattle.std.specs.Prelude.{◌≡◌, ◌<◌, ◌↔◌, length, slice_index, IsTrue};
+ghost use Rattle.elf_dynamic.specs.HashTable.{chains};
+ghost use Rattle.hash_check.specs.HashTable.{AreIndices};
+
+use elf_dynamic::Object;
+use std::marker::Model;
+
+/// The chain words of an object's hash table. Contracts see them as a list.
+#[derive(Drop)]
+pub(crate) struct Chains<'o, 'a> {
+    object: &'o Object<'a>,
+}
+
+impl<'o, 'a> Model for Chains<'o, 'a> {
+    ghost use Rattle.std.specs.Prelude.{List, ℕ};
+    ghost use Rattle.elf_dynamic.specs.HashTable.{chains};
+
+    ghost Value = { List ℕ };
+
+    ghost view = { λ c. chains c.object.now };
+}
+
+impl<'o, 'a> Chains<'o, 'a> {
+    /// Those of an object.
+    pub(crate) fn new(object: &'o Object<'a>) -> Chains<'o, 'a>
+        ensures { result ≡ chains object.now }
+    {
+        Chains { object }
+    }
+
+    /// How many there are.
+    pub(crate) fn count(&self) -> u32
+        ensures { result ≡ length self.now }
+    {
+        self.object.symbol_count()
+    }
+
+    /// The chain word of an index.
+    pub(crate) fn next(&self, i: u32) -> u32
+        requires { i < length self.now }
+        ensures { result ≡ slice_index self.now i }
+    {
+        self.object.chain(i)
+    }
+
+    /// Whether each is the index of a symbol.
+    pub(crate) fn are_indices(&self) -> bool
+        ensures { IsTrue result ↔ AreIndices (length self.now) self.now }
+    {
+        let count = self.count();
+        for i in 0..count {
+            if self.next(i) >= count {
+                return false;
+            }
+        }
+        true
+    }
+}

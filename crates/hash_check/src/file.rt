@@ -1,0 +1,33 @@
+// A file read as an admitted object.
+
+ghost use Rattle.std.specs.Prelude.{◌≡◌, None, IfOk, IfErr, OnOk};
+ghost use Rattle.hash_check.specs.FileRefusal.{first_file_refusal, IsReadRefusal};
+
+use crate::admitted::Admitted;
+use crate::file_refusal::{FileRefusal, ReadRefusal};
+use crate::refusal::AdmitRefusal;
+use elf_dynamic::Object;
+use std::alloc::Global;
+
+impl<'a> Admitted<'a> {
+    /// Reads a file and admits it, or gives the refusal of the first of all tests that applies. It
+    /// costs what `Object::read` and `Admitted::admit` cost.
+    #[tactic(auto, using(crate::proofs::Reading::taken, crate::proofs::Reading::of_object, crate::proofs::Reading::of_names, crate::proofs::Reading::of_table))]
+    pub fn read(alloc: Global, file: &'a [u8]) -> Result<Admitted<'a>, ReadRefusal>
+        ensures ok { OnOk result (first_file_refusal file.now ≡ None) }
+        ensures same { IfOk result (λ admitted. admitted ≡ file.now) }
+
+        // Want of memory is answered only where admission takes memory.
+        ensures refused { IfErr result (IsReadRefusal file.now) }
+    {
+        let object = Object::read(file)?;
+        match Admitted::admit(alloc, object) {
+            Ok(admitted) => Ok(admitted),
+            Err(AdmitRefusal::DuplicateDefinition) => {
+                Err(ReadRefusal::File(FileRefusal::DuplicateDefinition))
+            }
+            Err(AdmitRefusal::BadHashTable) => Err(ReadRefusal::File(FileRefusal::BadHashTable)),
+            Err(AdmitRefusal::OutOfMemory) => Err(ReadRefusal::OutOfMemory),
+        }
+    }
+}

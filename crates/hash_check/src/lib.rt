@@ -1,0 +1,33 @@
+//! Admission of a shared object, and the search for a name by its hash table (System V gABI
+//! chapters 4 and 5).
+//!
+//! `Admitted::admit` takes an object exactly where it exports no name twice and its hash table can
+//! be trusted: then `find` gives, for every list of bytes, the symbol that the object exports
+//! under that name.
+#![tactic(auto)]
+
+mod admitted;
+mod buckets;
+mod chains;
+mod duplicates;
+mod export;
+mod file;
+mod file_refusal;
+mod hash;
+mod jump;
+mod meeting;
+mod names;
+mod place;
+mod refusal;
+mod search;
+mod soname;
+mod table;
+#[cfg(test)]
+mod tests;
+mod walk;
+
+pub use admitted::Admitted;
+pub use file_refusal::{FileRefusal, ReadRefusal};
+pub use hash::elf_hash;
+pub use refusal::AdmitRefusal;
+pub use search::Found;

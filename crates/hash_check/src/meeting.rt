@@ -1,0 +1,54 @@
+// Which indices a walk meets.
+
+ghost use Rattle.std.specs.Prelude.{◌≡◌, ◌<◌, ◌≤◌, ◌-◌, ◌↔◌, ℕ, length, IsTrue};
+ghost use Rattle.hash_check.specs.Walk.{walk, Meets};
+ghost use Rattle.hash_check.specs.HashTable.{AreIndices};
+ghost use Rattle.hash_check.specs.inside.Places.{Depth, Known, Sound};
+
+use crate::chains::Chains;
+use crate::place::{Place, known_place, place_of};
+
+/// The index on the walk from an index at which so many steps are left, or this index where fewer
+/// are.
+fn at_depth(places: &[Option<Place>], chains: &Chains<'_, '_>, from: u32, depth: u32) -> u32
+    requires words { AreIndices (length chains.now) chains.now }
+    requires size { length places.now ≡ length chains.now }
+    requires within { from < length chains.now }
+    requires sound { Sound chains.now places.now }
+    requires known { Known places.now from }
+    ensures { (d : ℕ) → Depth chains.now from d → result ≡ walk chains.now from (d - depth) }
+{
+    let mut at = from;
+    let mut place = known_place(places, at);
+    while place.depth > depth {
+        at = if place.landing >= depth {
+            place.jump
+        } else {
+            chains.next(at)
+        };
+        place = known_place(places, at);
+    }
+    at
+}
+
+/// Whether the walk from an index meets another one before 0.
+pub(crate) fn is_met(
+    places: &[Option<Place>],
+    chains: &Chains<'_, '_>,
+    from: u32,
+    index: u32,
+) -> bool
+    requires words { AreIndices (length chains.now) chains.now }
+    requires size { length places.now ≡ length chains.now }
+    requires within { from < length chains.now }
+    requires sound { Sound chains.now places.now }
+    requires known { Known places.now from }
+    requires index { index < length chains.now }
+    requires nonzero { 1 ≤ index }
+    ensures { IsTrue result ↔ Meets chains.now from index }
+{
+    match place_of(places, index) {
+        Some(place) => at_depth(places, chains, from, place.depth) == index,
+        None => false,
+    }
+}

@@ -1,0 +1,127 @@
+// Whether symbols have different names.
+
+ghost use Rattle.std.specs.Prelude.{◌≡◌, ◌<◌, ◌≤◌, ◌+◌, ◌↔◌, length, map, IsTrue, IfOk};
+ghost use Rattle.std.specs.List.{All};
+ghost use Rattle.std.specs.Option.{ForSome};
+ghost use Rattle.hash_check.specs.inside.Names.{name_at, IsSymbol, offset_of, IsStretch};
+ghost use Rattle.hash_check.specs.inside.Names.{BeginsIn, named, order, Rises, AllDiffer};
+
+use elf_dynamic::Object;
+use std::alloc::{AllocError, Global};
+use std::cmp::Ordering;
+
+/// A symbol with the length of its name in bytes.
+#[derive(Clone, Copy)]
+pub(crate) struct Name {
+    symbol: u32,
+    length: usize,
+}
+
+/// A string of the string table: where it begins, and how many bytes it has.
+#[derive(Clone, Copy)]
+struct Stretch {
+    from: u32,
+    length: usize,
+}
+
+/// Where the name of a symbol begins in the string table; 0 for a number that is no symbol's.
+pub(crate) fn offset_of(object: &Object<'_>, i: u32) -> u32
+    ensures { result ≡ offset_of object.now i }
+{
+    if i < object.symbol_count() {
+        object.symbol(i).name
+    } else {
+        0
+    }
+}
+
+/// The name of a symbol; the empty one for a number that is no symbol's.
+#[tactic(auto, unfolding(crate::specs::inside::Names::name_at))]
+fn name_at<'a>(object: &Object<'a>, i: u32) -> &'a [u8]
+    ensures { result.now ≡ name_at object.now i }
+{
+    if i < object.symbol_count() {
+        object.name_of(i)
+    } else {
+        &[]
+    }
+}
+
+/// A stretch in which the name of a symbol begins: that of the symbol before, where it does, and
+/// else its own.
+fn stretch_of(object: &Object<'_>, last: Option<Stretch>, i: u32) -> Stretch
+    requires symbol { IsSymbol object.now i }
+    requires last { ForSome last (IsStretch object.now) }
+    ensures stretch { IsStretch object.now result }
+    ensures within { BeginsIn object.now i result }
+{
+    let offset = offset_of(object, i);
+    if let Some(stretch) = last {
+        if stretch.from <= offset && (offset - stretch.from) as usize <= stretch.length {
+            return stretch;
+        }
+    }
+    Stretch {
+        from: offset,
+        length: object.name_of(i).len(),
+    }
+}
+
+/// The names of symbols. Where these are sorted by the places of their names, each byte is looked
+/// at once: a name that begins within the one before it ends where that one does.
+fn names_of(alloc: Global, object: &Object<'_>, symbols: &[u32]) -> Result<Vec<Name>, AllocError>
+    requires { All (IsSymbol object.now) symbols.now }
+    ensures { IfOk result (λ names. names.items ≡ map (named object.now) symbols.now) }
+{
+    let mut names = Vec::with_capacity(alloc, symbols.len())?;
+    let mut last = None;
+    for number in symbols {
+        let symbol = *number;
+        let stretch = stretch_of(object, last, symbol);
+        let skipped = (offset_of(object, symbol) - stretch.from) as usize;
+        let length = stretch.length - skipped;
+        names.push(Name { symbol, length })?;
+        last = Some(stretch);
+    }
+    Ok(names)
+}
+
+/// The order of two names: by their lengths, then by their bytes. No byte of two names of
+/// different lengths is read.
+fn compare(object: &Object<'_>, a: Name, b: Name) -> Ordering
+    ensures { result ≡ order object.now a b }
+{
+    match a.length.cmp(&b.length) {
+        Ordering::Equal => name_at(object, a.symbol).cmp(name_at(object, b.symbol)),
+        other => other,
+    }
+}
+
+/// Whether each name comes before the next one in the order.
+fn rise(object: &Object<'_>, names: &[Name]) -> bool
+    ensures { IsTrue result ↔ Rises object.now names.now }
+{
+    for i in 1..names.len() {
+        if compare(object, names[i - 1], names[i]) != Ordering::Less {
+            return false;
+        }
+    }
+    true
+}
+
+/// Whether no two of some symbols have the same name, by sorting the names. It takes 16 bytes a
+/// name. Names of one length at different places share no byte, so where the symbols are sorted by
+/// the places of their names, and all of these differ, each byte of the string table is compared
+/// some log n times.
+pub(crate) fn all_differ(
+    alloc: Global,
+    object: &Object<'_>,
+    symbols: &[u32],
+) -> Result<bool, AllocError>
+    requires { All (IsSymbol object.now) symbols.now }
+    ensures { IfOk result (λ differ. IsTrue differ ↔ AllDiffer object.now symbols.now) }
+{
+    let mut names = names_of(alloc, object, symbols)?;
+    names.sort_unstable_by(|a, b| compare(object, *a, *b));
+    Ok(rise(object, &names))
+}

@@ -1,0 +1,52 @@
+// Where the indices that have been walked over stand.
+
+ghost use Rattle.std.specs.Prelude.{◌≡◌, ◌<◌, ◌≤◌, ◌^◌, Some, length, IfOk};
+ghost use Rattle.hash_check.specs.HashTable.{AreIndices};
+ghost use Rattle.hash_check.specs.inside.Places.{Known, place_at, none_but_zero};
+
+use std::alloc::{AllocError, Global};
+
+/// Where an index stands on its walk: how many chain steps lead from it to 0, and an index further
+/// along the walk with its own number of steps.
+#[derive(Clone, Copy)]
+pub(crate) struct Place {
+    pub(crate) depth: u32,
+    pub(crate) jump: u32,
+    pub(crate) landing: u32,
+}
+
+/// The place of an index, where it has one.
+pub(crate) fn place_of(places: &[Option<Place>], i: u32) -> Option<Place>
+    requires { i < length places.now }
+    ensures { result ≡ place_at places.now i }
+{
+    places[i as usize]
+}
+
+/// The place of an index that has one.
+pub(crate) fn known_place(places: &[Option<Place>], i: u32) -> Place
+    requires within { i < length places.now }
+    requires known { Known places.now i }
+    ensures { place_at places.now i ≡ Some result }
+{
+    match places[i as usize] {
+        Some(place) => place,
+        None => unreachable!(),
+    }
+}
+
+/// Places for `n` indices, of which 0 has one.
+#[tactic(auto, unfolding(crate::specs::inside::Places::none_but_zero))]
+pub(crate) fn first_places(alloc: Global, n: usize) -> Result<Vec<Option<Place>>, AllocError>
+    requires { 0 < n }
+    ensures { IfOk result (λ places. places.items ≡ none_but_zero n) }
+{
+    let mut places = Vec::with_capacity(alloc, n)?;
+    places.resize(n, None)?;
+    places[0] = Some(Place {
+        depth: 0,
+        jump: 0,
+        landing: 0,
+    });
+    Ok(places)
+}

@@ -1,0 +1,84 @@
+// The search for a name by the hash table.
+
+ghost use Rattle.std.specs.Prelude.{◌≡◌, take};
+ghost use Rattle.std.specs.Str.{bytes_eq};
+ghost use Rattle.elf_dynamic.specs.Strings.{string_at, name_of};
+ghost use Rattle.hash_check.specs.Hash.{elf_hash};
+ghost use Rattle.hash_check.specs.Definition.{is_exported_as, definition_of, HasUniqueNames};
+ghost use Rattle.hash_check.specs.HashTable.{HasGoodTable};
+ghost use Rattle.hash_check.specs.Search.{compared};
+ghost use Rattle.hash_check.specs.inside.Names.{IsSymbol};
+
+use crate::buckets::Buckets;
+use crate::chains::Chains;
+use crate::export::is_exported;
+use elf_dynamic::Object;
+
+/// What a search found, and how many symbols it looked at.
+#[derive(Clone, Copy, Debug, PartialEq, Eq)]
+pub struct Found {
+    /// The number of the symbol that is exported under the name.
+    pub symbol: Option<u32>,
+    /// How many symbols of the walk were looked at, the one that was found among them.
+    pub compared: u32,
+}
+
+/// At most so many bytes of the string at an offset of a string table.
+fn string_front(table: &[u8], offset: u32, limit: usize) -> &[u8]
+    ensures { result.now ≡ take limit (string_at table.now offset) }
+{
+    let rest = &table[(offset as usize).min(table.len())..];
+    let front = &rest[..limit.min(rest.len())];
+    for i in 0..front.len() {
+        if front[i] == 0 {
+            return &front[..i];
+        }
+    }
+    front
+}
+
+/// Whether the name of the symbol number `i` is this one. No byte is read past its length, also
+/// where the symbol's name is longer.
+fn is_named(object: &Object<'_>, i: u32, name: &[u8]) -> bool
+    requires { IsSymbol object.now i }
+    ensures { result ≡ bytes_eq (name_of object.now i) name.now }
+{
+    let limit = name.len() + 1;
+    string_front(object.string_table(), object.symbol(i).name, limit) == name
+}
+
+/// Whether the symbol number `i` is exported under the name.
+#[tactic(auto, unfolding(crate::specs::Definition::is_exported_as))]
+fn is_exported_as(object: &Object<'_>, name: &[u8], i: u32) -> bool
+    requires { IsSymbol object.now i }
+    ensures { result ≡ is_exported_as object.now name.now i }
+{
+    is_exported(object, i) && is_named(object, i, name)
+}
+
+/// Follows the walk from the bucket of a name's hash, up to the symbol that is exported under the
+/// name.
+pub(crate) fn search(object: &Object<'_>, name: &[u8], hash: u32) -> Found
+    requires unique { HasUniqueNames object.now }
+    requires table { HasGoodTable object.now }
+    requires hash { hash ≡ elf_hash name.now }
+    ensures symbol { result.symbol ≡ definition_of object.now name.now }
+    ensures compared { result.compared ≡ compared object.now name.now hash }
+{
+    let chains = Chains::new(object);
+    let _count = object.symbol_count();
+    let mut at = Buckets::new(object).of_hash(hash);
+    let mut compared = 0;
+    while at != 0 {
+        compared += 1;
+        if is_exported_as(object, name, at) {
+            let symbol = Some(at);
+            return Found { symbol, compared };
+        }
+        at = chains.next(at);
+    }
+    Found {
+        symbol: None,
+        compared,
+    }
+}

@@ -1,0 +1,30 @@
+// The name of a library.
+
+ghost use Rattle.std.specs.Prelude.{◌≡◌};
+ghost use Rattle.std.specs.List.{list_all};
+ghost use Rattle.hash_check.specs.Soname.{is_name_byte, is_library_name};
+
+/// The greatest length of a library's name, in bytes.
+const NAME_LIMIT: usize = 240;
+
+/// Whether a byte may stand in a library's name: printed in ASCII, no blank and no slash.
+fn is_name_byte(byte: u8) -> bool
+    ensures { result ≡ is_name_byte byte }
+{
+    byte >= 0x21 && byte <= 0x7e && byte != b'/'
+}
+
+/// Whether each byte may stand in a library's name.
+fn are_name_bytes(name: &[u8]) -> bool
+    ensures { result ≡ list_all is_name_byte name.now }
+{
+    name.iter().all(|byte| is_name_byte(*byte))
+}
+
+/// Whether bytes are the name of a library.
+#[tactic(auto, unfolding(crate::specs::Soname::is_library_name))]
+pub(crate) fn is_library_name(name: &[u8]) -> bool
+    ensures { result ≡ is_library_name name.now }
+{
+    name.len() >= 1 && name.len() <= NAME_LIMIT && are_name_bytes(name)
+}

@@ -1,0 +1,165 @@
+// The rows of the hash, and the search by chains beside a plain one.
+
+use super::*;
+use crate::export::is_exported;
+use elf_dynamic::{Object, ObjectRefusal};
+use std::alloc::Global;
+
+/// A library named q with two buckets, which exports f and g and refers to u.
+fn library() -> &'static [u8] {
+    b"\x7fELF\x02\x01\x01\0\0\0\0\0\0\0\0\0\x03\0>\0\x01\0\0\0\0\0\0\0\0\0\0\0@\0\0\0\0\0\0\
+        \0\0\0\0\0\0\0\0\0\0\0\0\0@\08\0\x02\0\0\0\0\0\0\0\x01\0\0\0\x06\0\0\0\0\0\0\0\0\0\0\
+        \0\0\0\0\0\0\0\0\0\0\0\0\0\0\0\0\0\xb0\x01\0\0\0\0\0\0\xb0\x01\0\0\0\0\0\0\0\x10\0\0\
+        \0\0\0\0\x02\0\0\0\x06\0\0\0@\x01\0\0\0\0\0\0@\x01\0\0\0\0\0\0@\x01\0\0\0\0\0\0p\0\0\
+        \0\0\0\0\0p\0\0\0\0\0\0\0\x08\0\0\0\0\0\0\0\x02\0\0\0\x04\0\0\0\x01\0\0\0\x02\0\0\0\0\
+        \0\0\0\0\0\0\0\x03\0\0\0\0\0\0\0\0\0\0\0\0\0\0\0\0\0\0\0\0\0\0\0\0\0\0\0\0\0\0\0\x03\
+        \0\0\0\x12\0\x01\0\xa8\x01\0\0\0\0\0\0\x08\0\0\0\0\0\0\0\x05\0\0\0\x12\0\x01\0\xa8\x01\
+        \0\0\0\0\0\0\x08\0\0\0\0\0\0\0\x07\0\0\0\x10\0\0\0\xa8\x01\0\0\0\0\0\0\x08\0\0\0\0\0\
+        \0\0\0q\0f\0g\0u\0\0\0\0\0\0\0\0\x0e\0\0\0\0\0\0\0\x01\0\0\0\0\0\0\0\x04\0\0\0\0\0\0\
+        \0\xb0\0\0\0\0\0\0\0\x05\0\0\0\0\0\0\00\x01\0\0\0\0\0\0\x06\0\0\0\0\0\0\0\xd0\0\0\0\0\
+        \0\0\0\x0a\0\0\0\0\0\0\0\x09\0\0\0\0\0\0\0\x0b\0\0\0\0\0\0\0\x18\0\0\0\0\0\0\0\0\0\0\
+        \0\0\0\0\0\0\0\0\0\0\0\0\0"
+}
+
+/// Where the buckets begin in it; the chain words follow.
+const BUCKETS: usize = 184;
+
+/// Writes the words of the table number `n`: two buckets and four chain words, each from 0 to 4.
+fn put_words(file: &mut [u8], n: u32) {
+    let mut rest = n;
+    for i in 0..6 {
+        if let Some(byte) = file.get_mut(BUCKETS + 4 * i) {
+            *byte = (rest % 5) as u8;
+        }
+        rest /= 5;
+    }
+}
+
+/// Whether the walk from a word meets an index, in as many steps as there are symbols.
+fn meets(object: &Object<'_>, from: u32, index: u32) -> bool {
+    let count = object.symbol_count();
+    let mut at = from;
+    for _ in 0..count {
+        if at == index {
+            return true;
+        }
+        if at == 0 || at >= count {
+            return false;
+        }
+        at = object.chain(at);
+    }
+    false
+}
+
+/// Whether the hash table is good, by following each walk for itself.
+fn is_plainly_good(object: &Object<'_>) -> bool {
+    let count = object.symbol_count();
+    let buckets = object.bucket_count();
+    for i in 0..buckets {
+        if !meets(object, object.bucket(i), 0) {
+            return false;
+        }
+    }
+    for i in 0..count {
+        if object.chain(i) >= count {
+            return false;
+        }
+        if is_exported(object, i) {
+            let hash = elf_hash(object.name_of(i));
+            if buckets == 0 || !meets(object, object.bucket(hash % buckets), i) {
+                return false;
+            }
+        }
+    }
+    buckets > 0
+}
+
+/// The symbol that is exported under a name, by looking at every symbol.
+fn find_plainly(object: &Object<'_>, name: &[u8]) -> Option<u32> {
+    for i in 1..object.symbol_count() {
+        if is_exported(object, i) && object.name_of(i) == name {
+            return Some(i);
+        }
+    }
+    None
+}
+
+/// Whether a table is admitted, and whether that and each search are as the plain programs say.
+#[derive(Clone, Copy)]
+struct Outcome {
+    admitted: bool,
+    agrees: bool,
+}
+
+/// Whether each name is found as a plain search finds it.
+fn finds_plainly(admitted: &Admitted<'_>) -> bool {
+    for name in [b"f".as_slice(), b"g", b"u", b"", b"fg", b"f\0g"] {
+        if admitted.find(name) != find_plainly(admitted.object(), name) {
+            return false;
+        }
+    }
+    admitted.library_name() == Ok(b"q".as_slice())
+}
+
+/// Compares admission and search on one table with the plain programs.
+fn compare(alloc: Global, file: &[u8]) -> Outcome {
+    let Ok(object) = Object::read(file) else {
+        return Outcome {
+            admitted: false,
+            agrees: false,
+        };
+    };
+    let good = is_plainly_good(&object);
+    match Admitted::admit(alloc, object) {
+        Ok(admitted) => Outcome {
+            admitted: true,
+            agrees: good && finds_plainly(&admitted),
+        },
+        Err(refusal) => Outcome {
+            admitted: false,
+            agrees: !good && refusal == AdmitRefusal::BadHashTable,
+        },
+    }
+}
+
+#[test]
+fn hashes_names(rt: HostRuntime) {
+    assert_eq!(rt; elf_hash(b""), 0);
+    assert_eq!(rt; elf_hash(b"a"), 0x61);
+    assert_eq!(rt; elf_hash(b"ab"), 0x672);
+    assert_eq!(rt; elf_hash(b"exit"), 0x6cf04);
+    assert_eq!(rt; elf_hash(b"printf"), 0x0779_05a6);
+    assert_eq!(rt; elf_hash(b"abcdefg"), 0x0789_aba7);
+    assert_eq!(rt; elf_hash(b"abcdefgh"), 0x089a_baa8);
+}
+
+#[test]
+fn reads_files(rt: HostRuntime) {
+    let alloc = rt.alloc();
+    assert_eq!(rt; Admitted::read(alloc, library()).err(), None);
+    let refusal = FileRefusal::Object(ObjectRefusal::TooShort);
+    assert_eq!(rt;
+        Admitted::read(alloc, b"").err(),
+        Some(ReadRefusal::File(refusal))
+    );
+    let mut file = Vec::from_slice(alloc, library()).unwrap_or(Vec::new(alloc));
+    put_words(&mut file, 0);
+    let refusal = FileRefusal::BadHashTable;
+    assert_eq!(rt;
+        Admitted::read(alloc, &file).err(),
+        Some(ReadRefusal::File(refusal))
+    );
+}
+
+#[test]
+fn finds_as_a_plain_search_does(rt: HostRuntime) {
+    let mut file = Vec::from_slice(rt.alloc(), library()).unwrap_or(Vec::new(rt.alloc()));
+    let mut admitted = 0;
+    for n in 0..15_625 {
+        put_words(&mut file, n);
+        let outcome = compare(rt.alloc(), &file);
+        assert!(rt; outcome.agrees, "table {n}");
+        admitted = u32::from(outcome.admitted).saturating_add(admitted);
+    }
+    assert_eq!(rt; admitted, 180);
+}

@@ -1,0 +1,92 @@
+// The walks of a hash table, each chain word followed once.
+
+ghost use Rattle.std.specs.Prelude.{◌≡◌, ◌<◌, ◌^◌, [], length, slice_index, IsTrue, IfOk};
+ghost use Rattle.std.specs.Prelude.{MatchBool};
+ghost use Rattle.hash_check.specs.Walk.{walk, Ends};
+ghost use Rattle.hash_check.specs.HashTable.{AreIndices};
+ghost use Rattle.hash_check.specs.inside.Places.{Known, Sound, Keeps, IsPath};
+
+use crate::chains::Chains;
+use crate::jump::place_before;
+use crate::place::{Place, place_of};
+use std::alloc::AllocError;
+
+/// Follows the walk from an index up to one that has a place, and puts the indices before it on the
+/// path. Answers whether the walk ends: one that doesn't fills the path with as many indices as
+/// there are chain words.
+fn climb(
+    places: &[Option<Place>],
+    path: &mut Vec<u32>,
+    chains: &Chains<'_, '_>,
+    from: u32,
+) -> Result<bool, AllocError>
+    requires words { AreIndices (length chains.now) chains.now }
+    requires size { length places.now ≡ length chains.now }
+    requires within { from < length chains.now }
+    requires zero { Known places.now 0 }
+    requires path { path.old.items ≡ [] }
+    ensures path { IsPath chains.now from path.new.items }
+    ensures ends { IfOk result (λ ends. MatchBool ends
+        (Known places.now (walk chains.now from (length path.new.items)))
+        (¬ Ends chains.now from)) }
+{
+    let mut at = from;
+    while place_of(places, at).is_none() {
+        if path.len() == chains.count() as usize {
+            return Ok(false);
+        }
+        path.push(at)?;
+        at = chains.next(at);
+    }
+    Ok(true)
+}
+
+/// Gives places to the indices of a path, the last one first.
+fn settle(places: &mut [Option<Place>], path: &mut Vec<u32>, chains: &Chains<'_, '_>)
+    requires words { AreIndices (length chains.now) chains.now }
+    requires size { length places.old ≡ length chains.now }
+    requires limit { length chains.now < 2 ^ 32 }
+    requires within { slice_index path.old.items 0 < length chains.now }
+    requires sound { Sound chains.now places.old }
+    requires path { IsPath chains.now (slice_index path.old.items 0) path.old.items }
+    requires known { let from = slice_index path.old.items 0 in
+        Known places.old (walk chains.now from (length path.old.items)) }
+    ensures size { length places.new ≡ length places.old }
+    ensures sound { Sound chains.now places.new }
+    ensures keeps { Keeps places.old places.new }
+    ensures known { Known places.new (slice_index path.old.items 0) }
+    ensures path { path.new.items ≡ [] }
+{
+    while let Some(i) = path.pop() {
+        places[i as usize] = Some(place_before(places, chains, chains.next(i)));
+    }
+}
+
+/// Gives places to all indices on the walk from an index, and answers whether it ends.
+pub(crate) fn follow(
+    places: &mut [Option<Place>],
+    path: &mut Vec<u32>,
+    chains: &Chains<'_, '_>,
+    from: u32,
+) -> Result<bool, AllocError>
+    requires words { AreIndices (length chains.now) chains.now }
+    requires size { length places.old ≡ length chains.now }
+    requires limit { length chains.now < 2 ^ 32 }
+    requires within { from < length chains.now }
+    requires zero { Known places.old 0 }
+    requires sound { Sound chains.now places.old }
+    requires path { path.old.items ≡ [] }
+    ensures size { length places.new ≡ length places.old }
+    ensures sound { Sound chains.now places.new }
+    ensures keeps { Keeps places.old places.new }
+    ensures path { IfOk result (λ b. IsTrue b → path.new.items ≡ []) }
+    ensures ends { IfOk result (λ ends. MatchBool ends
+        (Known places.new from)
+        (¬ Ends chains.now from)) }
+{
+    let ends = climb(places, path, chains, from)?;
+    if ends {
+        settle(places, path, chains);
+    }
+    Ok(ends)
+}

@@ -1,0 +1,22 @@
+-- The numbers of memory and of segments, with their values.
+use Rattle.std.specs.Prelude.{ℕ, ◌-◌, ◌^◌}
+
+-- a page, in bytes (psABI, the smallest)
+abbrev pub PAGE : ℕ
+PAGE = 4096
+
+-- the highest address that memory may end at: a page below the end of the lower half of the address space
+abbrev pub MEMORY_LIMIT : ℕ
+MEMORY_LIMIT = 2 ^ 47 - 4096
+
+-- p_flags: the segment may be executed (gABI chapter 5)
+abbrev pub PF_X : ℕ
+PF_X = 1
+
+-- p_flags: it may be written
+abbrev pub PF_W : ℕ
+PF_W = 2
+
+-- p_flags: it may be read
+abbrev pub PF_R : ℕ
+PF_R = 4

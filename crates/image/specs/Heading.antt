@@ -1,0 +1,16 @@
+-- What a segment of memory is apart from its bytes.
+use Rattle.std.specs.Prelude.{ℕ, ◌+◌, Bool, ◌&&◌, nat_le, nat_lt}
+
+-- an address is among the n from `from` on
+abbrev pub within : ℕ → ℕ → ℕ → Bool
+within from n address = nat_le from address && nat_lt address (from + n)
+
+-- a segment's first address, its permissions, and how many bytes it has
+pub record Heading : Type 0 where
+  pub address : ℕ
+  pub permissions : ℕ
+  pub size : ℕ
+
+-- the segment holds an address
+abbrev pub holds : ℕ → Heading → Bool
+holds address h = within h.address h.size address

@@ -1,0 +1,55 @@
+-- Where segments lie, and what loading and relocating do to them. Nobody has to believe these.
+use Rattle.std.specs.Prelude.{ℕ, ◌≡◌, ◌+◌, ◌-◌, ◌^◌, ◌<◌, ◌≤◌, Bool, ◌&&◌, true, nat_le, if◌then◌else◌, List, [], ◌∷◌, ◌++◌, length, map, take, drop, replicate, sum_by, Option, Some, None}
+use Rattle.std.specs.Int.{byte_at}
+use Rattle.std.specs.List.{list_any}
+use Rattle.byteorder.specs.Endian.{little_bytes}
+use Rattle.image.specs.Heading.{Heading, within}
+use Rattle.image.specs.Image.{ImageSegment, heading}
+use Rattle.image.specs.Loading.{Loaded}
+use Rattle.image.specs.Relocating.{Write}
+use Rattle.image.specs.declared.object.ImageObject.{ImageObject}
+
+-- a PT_LOAD in memory before any relocation: the file's bytes, and zeros behind them
+abbrev pub fresh : Loaded → ImageSegment
+fresh s =
+    record {
+      address = s.heading.address;
+      permissions = s.heading.permissions;
+      bytes = s.contents ++ replicate (s.heading.size - length s.contents) 0;
+    }
+
+-- each segment lies above those before it, and all of them at or above `from`
+abbrev pub Rising : ℕ → List Heading → Type 0
+Rising from [] = Unit {0}
+Rising from (s ∷ rest) = (from ≤ s.address) × Rising (s.address + s.size) rest
+
+-- the eight bytes at a place lie in the segment
+abbrev pub room_in : ℕ → Heading → Bool
+room_in place s = nat_le s.address place && nat_le (place + 8) (s.address + s.size)
+
+-- eight bytes of a value in a list of bytes
+abbrev pub with_value : List ℕ → ℕ → ℕ → List ℕ
+with_value bytes at value = take at bytes ++ little_bytes 8 value ++ drop (at + 8) bytes
+
+-- a segment with a value written at a place
+abbrev pub patched_at : ImageSegment → ℕ → ℕ → ImageSegment
+patched_at s place value =
+    record { address = s.address; permissions = s.permissions; bytes = with_value s.bytes (place - s.address) value }
+
+-- the byte at an address after eight bytes of a value were written from a place on, over what was there
+abbrev pub over : ℕ → ℕ → Option ℕ → ℕ → Option ℕ
+over place value old address = if within place 8 address then Some (byte_at (address - place) value) else old
+
+-- the same after what a relocation writes, if it writes
+abbrev pub after : Option Write → Option ℕ → ℕ → Option ℕ
+after (Some w) old address = over w.place w.value old address
+after None old address = old
+
+-- a write lies in the memory of some segment, below 2^64
+abbrev pub Lands : List Heading → Write → Type 0
+Lands headings w = (w.place < 2 ^ 64) × (list_any (room_in w.place) headings ≡ true)
+
+-- the segments rise, and the objects have all of them
+pub record IsWhole (objects : List ImageObject) (segments : List ImageSegment) : Type 0 where
+  pub rising : Rising 0 (map heading segments)
+  pub counted : sum_by (λ o. o.segment_count) objects ≡ length segments

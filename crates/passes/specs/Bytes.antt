@@ -1,0 +1,17 @@
+-- The bytes that stand in sectors, and those that are written there.
+use Rattle.std.specs.Prelude.{ℕ, ◌+◌, ◌≤◌, List, ◌++◌, take, replicate}
+use Rattle.std.specs.List.{flat_map}
+use Rattle.extents.specs.declared.extent.Extent.{Extent}
+use Rattle.sector_disk.specs.Disk.{Sector, sector}
+
+-- the bytes of these sectors, one sector after the other
+abbrev pub bytes_at : List Sector → List ℕ → List ℕ
+bytes_at m ks = flat_map (sector m) ks
+
+-- n bytes: these ones, cut off there or followed by zeros
+abbrev pub padded : ℕ → List ℕ → List ℕ
+padded n bytes = take n (bytes ++ replicate n 0)
+
+-- the extent ends on a disk of so many sectors
+abbrev pub IsOnDisk : ℕ → Extent → Type 0
+IsOnDisk sectors extent = extent.start + extent.count ≤ sectors

@@ -1,0 +1,20 @@
+-- How many calls a pass makes of a disk.
+use Rattle.std.specs.Prelude.{◌≡◌, ◌≤◌, ◌+◌, ◌-◌, ℕ, Result, OnOk, OnErr}
+use Rattle.sector_disk.specs.Disk.{DiskFacts, calls_between, Mixture, KeepsPast, IsUnchanged, LeavesOnly}
+
+-- Calls in a row, on any disk, up to the first that fails: n of them where none does.
+pub record AreCallsInRow {T E : Type 0} (n : ℕ) (old new : DiskFacts) (result : Result T E) : Type 0 where
+  pub honest : new.honest ≡ old.honest
+  pub sectors : new.sectors ≡ old.sectors
+  pub later : old.time ≤ new.time
+  pub most : new.time ≤ old.time + n
+  pub few_failures : new.failures - old.failures ≤ calls_between old new
+  pub all : OnOk result (new.time ≡ old.time + n)
+  pub ok : OnOk result (new.failures ≡ old.failures)
+  pub err : OnErr result (new.failures ≡ old.failures + 1)
+
+-- Reads of an honest disk change nothing.
+pub record AreReads (old new : DiskFacts) : Type 0 where
+  pub past : KeepsPast old new
+  pub same : IsUnchanged old new
+  pub leaves : LeavesOnly old new (Mixture old)

@@ -1,5 +1,0 @@
-mod changes;
-mod linked;
-mod rows;
-mod sample;
-mod words;

@@ -1,0 +1,43 @@
+-- The fields at their offsets in bytes.
+use Rattle.std.specs.Prelude.{ℕ, ◌+◌, ◌*◌, List, map, take, drop}
+use Rattle.std.specs.List.{range_with_len}
+use Rattle.std.specs.Int.{Width, w16, w32, w64, from_le_bytes}
+use Rattle.extents.specs.declared.extent.Extent.{Extent}
+use Rattle.extents.specs.Limits.{most_extents}
+use Rattle.roots.specs.Limits.{most_libraries, most_preloads, most_name_bytes}
+use Rattle.roots.specs.declared.entry_list.EntryList.TheVariants.{InRoot}
+use Rattle.roots.specs.declared.root.Root.{Root}
+use Rattle.roots.specs.declared.entry.Entry.{Entry}
+
+-- the number that stands there
+abbrev pub number_at : Width → ℕ → List ℕ → ℕ
+number_at w at bytes = from_le_bytes w (drop at bytes)
+
+-- the extent at the front of these bytes
+abbrev pub extent_of : List ℕ → Extent
+extent_of bytes = record { start = from_le_bytes w32 bytes; count = from_le_bytes w32 (drop 4 bytes) }
+
+-- so many values, one after the other in steps of `step` bytes
+unfoldable pub values_at : {A : Type 0} → (List ℕ → A) → ℕ → ℕ → ℕ → List ℕ → List A
+values_at read step n at bytes = map (λ k. read (drop (at + step * k) bytes)) (range_with_len 0 n)
+
+-- what the fields of a root sector say
+unfoldable pub root_of : List ℕ → Root
+root_of bytes = record {
+  generation = number_at w64 8 bytes;
+  sectors = number_at w32 16 bytes;
+  library_count = number_at w16 20 bytes;
+  preload_count = number_at w16 22 bytes;
+  preloads = values_at (from_le_bytes w16) 2 most_preloads 24 bytes;
+  list = InRoot (values_at (from_le_bytes w32) 4 most_libraries 64 bytes);
+}
+
+-- what the fields of an entry sector say
+unfoldable pub entry_of : List ℕ → Entry
+entry_of bytes = record {
+  file_length = number_at w32 4 bytes;
+  name_length = number_at w16 8 bytes;
+  extent_count = number_at w16 10 bytes;
+  name = take most_name_bytes (drop 16 bytes);
+  extents = values_at extent_of 8 most_extents 256 bytes;
+}

@@ -1,0 +1,17 @@
+use Rattle.std.proofs.Common.{All, replicate, get_or, length, drop, ap, sym, ◌∙◌, subst, arith}
+use Rattle.std.proofs.lemmas.List.{get_or-replicate, length-replicate}
+use Rattle.std.proofs.lemmas.List.Elements.{All-replicate}
+use Rattle.sector_disk.specs.Disk.{Sector, sector_bytes, IsWhole}
+use Rattle.sector_disk.specs.inside.Written.{written_to}
+use Rattle.sector_disk.proofs.Whole.{zeros_whole}
+use Rattle.sector_disk.proofs.memory.Memory.new.Goals as goal
+
+pub invariant_of-result-clause-whole_start : goal.invariant_of-result-clause-whole_start
+invariant_of-result-clause-whole_start c = subst (All IsWhole) (sym c.in_ok-filled.ensures) (All-replicate IsWhole c.args.sectors _ zeros_whole)
+
+pub invariant_of-result-clause-counted : goal.invariant_of-result-clause-counted
+invariant_of-result-clause-counted c k lt =
+    let zeros : Sector = replicate sector_bytes 0 in
+    ap (λ l. get_or l k 0) c.in_ok-filled-3.ensures
+    ∙ get_or-replicate c.args.sectors k 0 0 (omega (arith, lt, ap length c.in_ok-filled.ensures, length-replicate c.args.sectors zeros))
+    ∙ sym (ap (λ ws. length (written_to k (drop 0 ws))) c.new.ensures.items)

@@ -1,0 +1,21 @@
+-- What is said of a disk in memory, by its writes and the marks of its moments.
+use Rattle.std.specs.Prelude.{ℕ, List, take, length, true, false, slice_index_or, filter, Contains}
+use Rattle.sector_disk.specs.declared.moment.Moment.{Moment}
+use Rattle.sector_disk.specs.declared.written.Written.{Written}
+use Rattle.sector_disk.specs.Disk.{Sector, DiskFacts}
+use Rattle.sector_disk.specs.inside.Written.{contents, choices}
+
+-- the mark of a moment: of a past one, or else of the present one
+abbrev pub moment_at : List Written → ℕ → List Moment → ℕ → Moment
+moment_at writes synced past u = slice_index_or past u (record { writes = length writes; synced = synced; failed = false })
+
+-- A disk that began with these contents, after these writes, of which the first `synced` are synced, and after these moments.
+abbrev pub facts_of : List Sector → List Written → ℕ → List Moment → DiskFacts
+facts_of start writes synced past = record {
+  honest = true;
+  sectors = length start;
+  time = length past;
+  failures = length (filter (λ moment. moment.failed) past);
+  now = contents start writes;
+  may_leave = λ u k c. let moment = moment_at writes synced past u in Contains (choices start (take moment.writes writes) moment.synced k) c;
+}

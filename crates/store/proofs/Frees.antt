@@ -1,0 +1,129 @@
+-- How many sectors a state leaves free, and what follows for the refusals of a put.
+use Rattle.std.proofs.Common.{◌≡◌, ◌≢◌, inl, ⊎_elim, ℕ, suc, ◌+◌, ◌-◌, ◌*◌, ◌<◌, ◌≤◌, Bool, true, false, nat_lt, nat_eq, List, [], ◌∷◌, length, map, sum_by, All, Some, None, Result, Ok, Err, OnErr, ◌↔◌, refl, sym, ap, subst, ◌∙◌, arith}
+use Rattle.std.specs.Prelude.{Contains, if◌then◌else◌}
+use Rattle.std.specs.Int.{div_ceil}
+use Rattle.std.proofs.lemmas.Bool.{eqb-true, ltb-true, ltb-false, cases_lt}
+use Rattle.std.proofs.lemmas.Grind.{div_ceil_times}
+use Rattle.std.proofs.lemmas.List.{length-append, length-take-le}
+use Rattle.std.proofs.lemmas.List.Sums.{sum_by-cons}
+use Rattle.std.proofs.lemmas.List.FromFn.{length-map-range_with_len}
+use Rattle.std.proofs.lemmas.List.Elements.{All-contains, Contains-append_left, Contains-append_right}
+use Rattle.sector_disk.specs.Disk.{Sector, sector, IsWhole}
+use Rattle.extents.specs.Limits.{root_sectors}
+use Rattle.extents.specs.Extent.{places, sector_count}
+use Rattle.extents.specs.Layout.{free_count}
+use Rattle.extents.specs.Longest.{longest_runs}
+use Rattle.extents.specs.Used.{layout_of}
+use Rattle.extents.proofs.PlacesLemmas.{length-places}
+use Rattle.extents.proofs.UsedLemmas.{free_count-used, layout_of-claims, same-from_used, longest_runs-same}
+use Rattle.passes.specs.Bytes.{bytes_at}
+use Rattle.roots.specs.declared.root.Root.{Root}
+use Rattle.roots.specs.declared.entry.Entry.{Entry}
+use Rattle.roots.specs.Limits.{most_libraries}
+use Rattle.roots.specs.Root.{listed_sectors}
+use Rattle.roots.specs.Entry.{EntryHasSpelling}
+use Rattle.store.specs.declared.refusal.StoreRefusal.TheVariants.{Full, Fragmented}
+use Rattle.extents.specs.declared.refusal.TakeRefusal.{TakeRefusal}
+use Rattle.extents.specs.declared.refusal.TakeRefusal.TheVariants as take
+use Rattle.store.specs.State.{Blob, State, cost, free}
+use Rattle.store.specs.Stands.{StandsBy, extents_of, data_sectors, used, blob_of}
+use Rattle.store.specs.Step.{last_generation, refusal_of_put, refusal_of_new, refusal_of_take, IsAnswer}
+use Rattle.store.specs.inside.Kept.{IsKept}
+use Rattle.store.proofs.UsedAlone.{length-listed}
+
+-- whole sectors have so many bytes
+length-bytes_at : (m : List Sector) (ks : List ℕ) → All IsWhole m → ((k : ℕ) → Contains ks k → k < length m) → length (bytes_at m ks) ≡ 512 * length ks
+length-bytes_at m [] whole inside = refl
+length-bytes_at m (k ∷ ks) whole inside = omega (
+  arith,
+  length-append (sector m k) (bytes_at m ks),
+  (whole k [] (inside k (0, omega arith, refl))).size,
+  length-bytes_at m ks whole (λ j found. inside j (suc found.0, omega (arith, found.1), found.2)),
+)
+
+-- what a byte string costs is what it uses
+cost_is : (m : List Sector) (entry : Entry) → All IsWhole m → EntryHasSpelling entry → ((k : ℕ) → Contains (places (extents_of entry)) k → k < length m) → cost (blob_of m entry).bytes ≡ length (places (extents_of entry)) + 1
+cost_is m entry whole fits inside =
+    let have = length-bytes_at m (places (extents_of entry)) whole inside in
+    let sectors : length (places (extents_of entry)) ≡ div_ceil entry.file_length 512 = length-places (extents_of entry) ∙ fits.extents.sum in
+    let enough = (div_ceil_times entry.file_length 512 (omega arith)).0 in
+    let size : length (blob_of m entry).bytes ≡ entry.file_length = length-take-le entry.file_length (bytes_at m (places (extents_of entry))) (omega (arith, have, sectors, enough)) in
+    ap (λ n. div_ceil n 512 + 1) size ∙ ap (λ n. n + 1) (sym sectors)
+
+costs_are : (m : List Sector) (entries : List Entry) → All IsWhole m → All EntryHasSpelling entries → ((k : ℕ) → Contains (data_sectors entries) k → k < length m) → sum_by (λ blob. cost blob.bytes) (map (blob_of m) entries) ≡ length (data_sectors entries) + length entries
+costs_are m [] whole fit inside = refl
+costs_are m (e ∷ entries) whole fit inside = omega (
+  arith,
+  sum_by-cons (λ (blob : Blob). cost blob.bytes) (blob_of m e) (map (blob_of m) entries),
+  cost_is m e whole (fit 0 e (omega arith)) (λ k found. inside k (Contains-append_left (places (extents_of e)) (data_sectors entries) k found)),
+  costs_are m entries whole (λ k d lt. fit (suc k) d (omega (arith, lt))) (λ k found. inside k (Contains-append_right (places (extents_of e)) (data_sectors entries) k found)),
+  length-append (places (extents_of e)) (data_sectors entries),
+)
+
+-- A state leaves free what the layout has free,
+pub free_is : (m : List Sector) (root : Root) (entries : List Entry) (layout : List Bool) (s : State) → IsKept root entries layout → All IsWhole m → StandsBy m root entries s → free root.sectors s ≡ free_count layout
+free_is m root entries layout s kept whole by =
+    let counted = free_count-used layout (used root entries) kept.apart.once (λ k d lt. (kept.apart.inside k d lt).0) kept.claims in
+    let costs = costs_are m entries whole kept.entries_fit (λ k found. (All-contains (λ n. (root_sectors ≤ n) × (n < length m)) (used root entries) k by.intact.apart.inside (Contains-append_right (listed_sectors root) (data_sectors entries) k found)).1) in
+    let same : sum_by (λ blob. cost blob.bytes) s.blobs ≡ length (data_sectors entries) + length entries = ap (λ t. sum_by (λ blob. cost blob.bytes) t.blobs) by.is ∙ costs in
+    omega (arith, counted, same, length-append (listed_sectors root) (data_sectors entries), length-listed root kept.root_fits, kept.count, kept.size)
+
+-- and its longest free runs are the layout's.
+pub longest_is : (root : Root) (entries : List Entry) (layout : List Bool) → IsKept root entries layout → sector_count (longest_runs (layout_of root.sectors (used root entries))) ≡ sector_count (longest_runs layout)
+longest_is root entries layout kept =
+    let claims = layout_of-claims root.sectors (used root entries) (λ k d lt. (kept.apart.inside k d lt).1) in
+    ap sector_count (longest_runs-same (layout_of root.sectors (used root entries)) layout
+    (same-from_used (layout_of root.sectors (used root entries)) layout (used root entries) (length-map-range_with_len _ 0 root.sectors ∙ sym kept.size) claims kept.claims))
+
+if_no : {A : Type 0} (b : Bool) (x y : A) → (b ≡ true → ⊥) → (if b then x else y) ≡ y
+if_no true x y isnt = absurd (isnt refl)
+if_no false x y isnt = refl
+
+if_yes : {A : Type 0} (b : Bool) (x y : A) → (b ≡ false → ⊥) → (if b then x else y) ≡ x
+if_yes true x y isnt = refl
+if_yes false x y isnt = absurd (isnt refl)
+
+-- The first refusal, by the numbers that decide it.
+module _ (sectors longest : ℕ) (s : State) (bytes : List ℕ) where
+  pub put_accepted : s.generation ≢ last_generation → cost bytes ≤ free sectors s → cost bytes - 1 ≤ longest → refusal_of_put sectors longest s bytes ≡ None
+  put_accepted usable room runs =
+      if_no (nat_eq s.generation last_generation) _ _ (λ is. usable (eqb-true s.generation last_generation is))
+      ∙ if_no (nat_lt (free sectors s) (cost bytes)) _ _ (λ is. omega (arith, ltb-true (free sectors s) (cost bytes) is, room))
+      ∙ if_no (nat_lt longest (cost bytes - 1)) _ _ (λ is. omega (arith, ltb-true longest (cost bytes - 1) is, runs))
+
+  pub put_full : s.generation ≢ last_generation → free sectors s < cost bytes → refusal_of_put sectors longest s bytes ≡ Some Full
+  put_full usable room =
+      if_no (nat_eq s.generation last_generation) _ _ (λ is. usable (eqb-true s.generation last_generation is))
+      ∙ if_yes (nat_lt (free sectors s) (cost bytes)) _ _ (λ is. omega (arith, ltb-false (free sectors s) (cost bytes) is, room))
+
+  pub put_fragmented : s.generation ≢ last_generation → cost bytes ≤ free sectors s → longest < cost bytes - 1 → refusal_of_put sectors longest s bytes ≡ Some Fragmented
+  put_fragmented usable room runs =
+      if_no (nat_eq s.generation last_generation) _ _ (λ is. usable (eqb-true s.generation last_generation is))
+      ∙ if_no (nat_lt (free sectors s) (cost bytes)) _ _ (λ is. omega (arith, ltb-true (free sectors s) (cost bytes) is, room))
+      ∙ if_yes (nat_lt longest (cost bytes - 1)) _ _ (λ is. omega (arith, ltb-false longest (cost bytes - 1) is, runs))
+
+  pub new_as_put : length s.blobs < most_libraries → refusal_of_new sectors longest s bytes ≡ refusal_of_put sectors longest s bytes
+  new_as_put few = if_yes (nat_lt (length s.blobs) most_libraries) _ _ (λ is. omega (arith, ltb-false (length s.blobs) most_libraries is, few))
+
+-- an answer isn't a refusal
+ok_or_err : {T E : Type 0} {x : T} {e : E} → ◌≡◌ {A = Result T E} (Ok x) (Err e) → ⊥
+ok_or_err is = subst (λ r. OnErr r ⊥) is tt
+
+-- what taking refuses is the put's first refusal
+module _ {T : Type 0} (sectors longest : ℕ) (s : State) (bytes : List ℕ) (usable : s.generation ≢ last_generation) where
+  pub put_refused : (e : TakeRefusal) → (◌≡◌ {A = Result T TakeRefusal} (Err e) (Err take.Full) ↔ (free sectors s < cost bytes)) → (◌≡◌ {A = Result T TakeRefusal} (Err e) (Err take.Fragmented) ↔ ((cost bytes ≤ free sectors s) × (longest < cost bytes - 1))) → refusal_of_put sectors longest s bytes ≡ Some (refusal_of_take e)
+  put_refused take.Full full fragmented = put_full sectors longest s bytes usable (full.0 refl)
+  put_refused take.Fragmented full fragmented = let both = fragmented.0 refl in put_fragmented sectors longest s bytes usable both.0 both.1
+
+  pub put_taken : (x : T) → (◌≡◌ {A = Result T TakeRefusal} (Ok x) (Err take.Full) ↔ (free sectors s < cost bytes)) → (◌≡◌ {A = Result T TakeRefusal} (Ok x) (Err take.Fragmented) ↔ ((cost bytes ≤ free sectors s) × (longest < cost bytes - 1))) → refusal_of_put sectors longest s bytes ≡ None
+  put_taken x full fragmented = ⊎_elim
+      (λ lt. absurd (ok_or_err (full.1 lt)))
+      (λ le. ⊎_elim
+      (λ lt. absurd (ok_or_err (fragmented.1 (le, lt))))
+      (λ le'. put_accepted sectors longest s bytes usable le le')
+      (cases_lt longest (cost bytes - 1)))
+      (cases_lt (free sectors s) (cost bytes))
+
+pub answers_take : (e : TakeRefusal) → IsAnswer (Some (refusal_of_take e)) (Err (refusal_of_take e))
+answers_take take.Full = inl refl
+answers_take take.Fragmented = inl refl

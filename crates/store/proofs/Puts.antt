@@ -1,0 +1,106 @@
+-- The two passes of a put: the first keeps what the mixtures stand for, the second changes it.
+use Rattle.std.proofs.Common.{◌≡◌, ◌≢◌, inl, inr, ⊎_elim, ◌⊎◌, ℕ, ◌+◌, ◌<◌, ◌≤◌, List, [], length, get_or, set, map, refl, sym, ap, subst, ◌∙◌, arith}
+use Rattle.std.specs.Prelude.{Contains}
+use Rattle.std.proofs.lemmas.List.{length-set, get_or-set_same, get_or-set_other}
+use Rattle.std.proofs.lemmas.List.Elements.{Contains-append_left, Contains-append_right, Contains-get_or, All-contains}
+use Rattle.sector_disk.specs.Disk.{Sector, sector, DiskFacts, Mixture, IsSynced, LeavesOnly, IsMixtureBut, IsMixtureOrSet}
+use Rattle.sector_disk.proofs.Moments.{goes_on, weaken, left_now}
+use Rattle.extents.specs.Limits.{root_sectors}
+use Rattle.roots.specs.declared.root.Root.{Root}
+use Rattle.roots.specs.declared.entry.Entry.{Entry}
+use Rattle.roots.specs.Root.{RootHasSpelling, SpellsRoot, root_bytes, listed_sectors, listed_preloads}
+use Rattle.roots.specs.Entry.{SpellsEntry}
+use Rattle.roots.specs.Choice.{IsCurrent, slot_of}
+use Rattle.roots.proofs.ChoiceLemmas.{current-next_odd, current-next_even}
+use Rattle.store.specs.State.{State}
+use Rattle.store.specs.Stands.{IsListed, UsesApart, HaveOwnNames, StandsBy, Stands, blob_of, data_sectors, names_at, used, state_of}
+use Rattle.store.proofs.UsedAlone.{same_used, blobs_same, length-listed}
+
+module _ (m : List Sector) (root next : Root) (others : List Entry) (fits : RootHasSpelling next) (follows : next.generation ≡ root.generation + 1) (size : next.sectors ≡ length m) (some : root_sectors ≤ length m) where
+  abbrev slot : ℕ
+  slot = slot_of next.generation
+
+  abbrev after : List Sector
+  after = set m slot (root_bytes next)
+
+  in_slot : sector after slot ≡ root_bytes next
+  in_slot = get_or-set_same m slot (root_bytes next) [] (omega (arith, some))
+
+  elsewhere : (k : ℕ) → k ≢ slot → sector after k ≡ sector m k
+  elsewhere k other = get_or-set_other m slot k (root_bytes next) [] other
+
+  behind : (k : ℕ) → root_sectors ≤ k → sector after k ≡ sector m k
+  behind k le = elsewhere k (λ same. omega (arith, same, le))
+
+  spelt : SpellsRoot (root_bytes next) next
+  spelt = record { has_spelling = fits; spelling = refl }
+
+  -- the next root is current once it is written to the other root sector
+  pub next_current : IsCurrent (sector m 0) (sector m 1) root → IsCurrent (sector after 0) (sector after 1) next
+  next_current current = ⊎_elim
+      (λ (even : slot_of root.generation ≡ 0).
+      let at : slot ≡ 1 = grind (arith, even, follows) in
+      subst (λ c. IsCurrent c (sector after 1) next) (sym (elsewhere 0 (λ same. omega (arith, same, at))))
+      (subst (λ c. IsCurrent (sector m 0) c next) (sym (ap (sector after) (sym at) ∙ in_slot))
+      (current-next_odd (sector m 0) (sector m 1) (root_bytes next) root next current even follows spelt)))
+      (λ (odd : slot_of root.generation ≡ 1).
+      let at : slot ≡ 0 = grind (arith, odd, follows) in
+      subst (λ c. IsCurrent c (sector after 1) next) (sym (ap (sector after) (sym at) ∙ in_slot))
+      (subst (λ c. IsCurrent (root_bytes next) c next) (sym (elsewhere 1 (λ same. omega (arith, same, at))))
+      (current-next_even (sector m 0) (sector m 1) (root_bytes next) root next current odd follows spelt)))
+      parity
+    where
+      parity : (slot_of root.generation ≡ 0) ⊎ (slot_of root.generation ≡ 1)
+      parity = grind arith
+
+  -- Sectors in which all that a root lists stands, stand for it once the root is written.
+  pub next_stands : (s' : State) → IsCurrent (sector m 0) (sector m 1) root → IsListed m next others → UsesApart (length m) next others → HaveOwnNames others → s' ≡ state_of m next others → StandsBy after next others s'
+  next_stands s' current listed apart names is = record {
+    intact = record {
+      current = next_current current;
+      size = size ∙ sym (length-set m slot (root_bytes next));
+      listed = record {
+        count = listed.count;
+        each = λ i d lt. subst (λ c. SpellsEntry c (get_or others i d)) (sym (kept _ (Contains-append_left (listed_sectors next) (data_sectors others) _ (Contains-get_or (listed_sectors next) i 0 (omega (arith, lt, listed.count, length-listed next fits)))))) (listed.each i d lt);
+      };
+      apart = subst (λ n. UsesApart n next others) (sym (length-set m slot (root_bytes next))) apart;
+      names = names;
+    };
+    is = is ∙ sym (λ i. record { generation = next.generation; blobs = blobs i; preloads = names_at (blobs i) (listed_preloads next) });
+  }
+    where
+      kept : (k : ℕ) → Contains (used next others) k → sector after k ≡ sector m k
+      kept k found = behind k (All-contains (λ n. (root_sectors ≤ n) × (n < length m)) (used next others) k apart.inside found).0
+
+      blobs : map (blob_of after) others ≡ map (blob_of m) others
+      blobs = blobs_same m after others (λ k found. kept k (Contains-append_right (listed_sectors next) (data_sectors others) k found))
+
+module _ {old mid : DiskFacts} (root : Root) (entries : List Entry) (s : State) (stands : (m : List Sector) → Mixture old m → StandsBy m root entries s) (changed : ℕ → Type 0) (behind : (k : ℕ) → changed k → root_sectors ≤ k) (unused : (k : ℕ) → changed k → Contains (used root entries) k → ⊥) (staged : LeavesOnly old mid (IsMixtureBut changed old)) where
+  abbrev IsOld : List Sector → Type 0
+  IsOld m = StandsBy m root entries s
+
+  -- what is staged in unused sectors changes nothing that stands
+  pub staged_stands : LeavesOnly old mid IsOld
+  staged_stands = weaken (IsMixtureBut changed old) IsOld
+      (λ m but. same_used but.0 m root entries s changed (stands but.0 but.1) but.2
+      (λ k lt here. omega (arith, lt, behind k here))
+      (λ k found here. unused k here found))
+      staged
+
+  pub staged_only : (s' : State) → LeavesOnly old mid (λ m. Stands m s ⊎ Stands m s')
+  staged_only s' = weaken IsOld (λ m. Stands m s ⊎ Stands m s') (λ m by. inl (root, entries, by)) staged_stands
+
+  module _ (synced : IsSynced mid) (next : Root) (others : List Entry) (s' : State) (at : ℕ) (content : Sector) (written : StandsBy (set mid.now at content) next others s') where
+    -- the commit leaves the old state or the new one,
+    pub committed_only : {new : DiskFacts} → LeavesOnly mid new (IsMixtureOrSet mid at content) → LeavesOnly old new (λ m. Stands m s ⊎ Stands m s')
+    committed_only committed = goes_on (λ m. Stands m s ⊎ Stands m s') (staged_only s')
+        (weaken (IsMixtureOrSet mid at content) (λ m. Stands m s ⊎ Stands m s')
+        (λ m either. ⊎_elim
+        (λ mixture. inl (root, entries, left_now IsOld staged_stands m mixture))
+        (λ newer. inr (next, others, subst (λ l. StandsBy l next others s') (sym (newer.2 ∙ ap (λ l. set l at content) (synced.each newer.0 newer.1))) written))
+        either)
+        committed)
+
+    -- and once it is synced the new one alone
+    pub committed_stands : {new : DiskFacts} → IsSynced new → new.now ≡ set mid.now at content → (m : List Sector) → Mixture new m → StandsBy m next others s'
+    committed_stands is_synced is_set m mixture = subst (λ l. StandsBy l next others s') (sym (is_synced.each m mixture ∙ is_set)) written

@@ -1,0 +1,210 @@
+use Rattle.std.proofs.Common.{◌≡◌, ◌≢◌, ◌⊎◌, inl, ◌*◌, ◌≤◌, ◌∷◌, ◌++◌, [], All, length, IsTrue, Ok, Err, refl, sym, subst, ap, ◌∙◌, arith}
+use Rattle.std.proofs.lemmas.Grind.{div_ceil_times}
+use Rattle.std.proofs.lemmas.Result.{err_from_is_err_and}
+use Rattle.sector_disk.specs.Disk.{LeavesOnly}
+use Rattle.sector_disk.proofs.Mixtures.{whole_mixture}
+use Rattle.extents.specs.Extent.{sector_count}
+use Rattle.extents.specs.Layout.{IsInside}
+use Rattle.extents.specs.Longest.{longest_runs}
+use Rattle.store.specs.Opened.{IsAt}
+use Rattle.store.specs.Stands.{Stands, StandsBy, name_of, used}
+use Rattle.extents.specs.Used.{layout_of}
+use Rattle.store.specs.Step.{LacksName, with_new, longest_free, refusal_of_new, refusal_of_take, IsAnswer}
+use Rattle.store.specs.inside.Kept.{IsKept}
+use Rattle.store.specs.inside.Room.{IsNew}
+use Rattle.store.proofs.News.{next_fits, next_kept, room_behind, entry_elsewhere, new_put, length-blobs}
+use Rattle.store.proofs.Rooms.{inside_mid}
+use Rattle.store.proofs.Frees.{free_is, longest_is, put_refused, put_taken, answers_take, new_as_put}
+use Rattle.store.proofs.store.Store.put_new.Goals as goal
+
+pub write_put-requires-clause-root : goal.write_put-requires-clause-root
+write_put-requires-clause-root g c =
+    let is_new : IsNew c.self.inside.root c.self.inside.entries.items c.self.inside.layout c.take_room.new.layout c.sectors_of.result c.in_ok-room.room.extents c.in_ok-room.room.entry c.new_entry-entry.result c.with_entry-root.result = record {
+      kept = c.self.invariant.0;
+      room = c.in_ok-room.ensures.ok;
+      fits = c.new_entry-entry.ensures.fits;
+      its = c.new_entry-entry.ensures.extents ∙ c.as_slice.ensures.value;
+      named = subst (λ name. All (λ other. name_of other ≢ name) c.self.inside.entries.items) (sym c.new_entry-entry.ensures.name) (subst (λ store. LacksName store c.args.name.now) (sym c.self.view_is) c.requires.new);
+      few = omega (arith, c.if-len-ge-MOST_LIBRARIES.false, c.len.ensures, c.self.invariant.0.count);
+      later = omega (arith, c.if-self-2.false, c.self.invariant.0.root_fits.generation);
+      is_next = c.with_entry-root.ensures;
+    } in
+    next_fits is_new
+
+pub write_put-requires-clause-at : goal.write_put-requires-clause-at
+write_put-requires-clause-at g c =
+    let is_new : IsNew c.self.inside.root c.self.inside.entries.items c.self.inside.layout c.take_room.new.layout c.sectors_of.result c.in_ok-room.room.extents c.in_ok-room.room.entry c.new_entry-entry.result c.with_entry-root.result = record {
+      kept = c.self.invariant.0;
+      room = c.in_ok-room.ensures.ok;
+      fits = c.new_entry-entry.ensures.fits;
+      its = c.new_entry-entry.ensures.extents ∙ c.as_slice.ensures.value;
+      named = subst (λ name. All (λ other. name_of other ≢ name) c.self.inside.entries.items) (sym c.new_entry-entry.ensures.name) (subst (λ store. LacksName store c.args.name.now) (sym c.self.view_is) c.requires.new);
+      few = omega (arith, c.if-len-ge-MOST_LIBRARIES.false, c.len.ensures, c.self.invariant.0.count);
+      later = omega (arith, c.if-self-2.false, c.self.invariant.0.root_fits.generation);
+      is_next = c.with_entry-root.ensures;
+    } in
+    let usable = room_behind is_new _ (0, omega arith, refl) in omega (arith, usable.1, c.self.invariant.1)
+
+pub write_put-requires-clause-behind : goal.write_put-requires-clause-behind
+write_put-requires-clause-behind g c =
+    let is_new : IsNew c.self.inside.root c.self.inside.entries.items c.self.inside.layout c.take_room.new.layout c.sectors_of.result c.in_ok-room.room.extents c.in_ok-room.room.entry c.new_entry-entry.result c.with_entry-root.result = record {
+      kept = c.self.invariant.0;
+      room = c.in_ok-room.ensures.ok;
+      fits = c.new_entry-entry.ensures.fits;
+      its = c.new_entry-entry.ensures.extents ∙ c.as_slice.ensures.value;
+      named = subst (λ name. All (λ other. name_of other ≢ name) c.self.inside.entries.items) (sym c.new_entry-entry.ensures.name) (subst (λ store. LacksName store c.args.name.now) (sym c.self.view_is) c.requires.new);
+      few = omega (arith, c.if-len-ge-MOST_LIBRARIES.false, c.len.ensures, c.self.invariant.0.count);
+      later = omega (arith, c.if-self-2.false, c.self.invariant.0.root_fits.generation);
+      is_next = c.with_entry-root.ensures;
+    } in
+    λ k found. (room_behind is_new k found).0
+
+pub write_put-requires-clause-elsewhere : goal.write_put-requires-clause-elsewhere
+write_put-requires-clause-elsewhere g c =
+    let is_new : IsNew c.self.inside.root c.self.inside.entries.items c.self.inside.layout c.take_room.new.layout c.sectors_of.result c.in_ok-room.room.extents c.in_ok-room.room.entry c.new_entry-entry.result c.with_entry-root.result = record {
+      kept = c.self.invariant.0;
+      room = c.in_ok-room.ensures.ok;
+      fits = c.new_entry-entry.ensures.fits;
+      its = c.new_entry-entry.ensures.extents ∙ c.as_slice.ensures.value;
+      named = subst (λ name. All (λ other. name_of other ≢ name) c.self.inside.entries.items) (sym c.new_entry-entry.ensures.name) (subst (λ store. LacksName store c.args.name.now) (sym c.self.view_is) c.requires.new);
+      few = omega (arith, c.if-len-ge-MOST_LIBRARIES.false, c.len.ensures, c.self.invariant.0.count);
+      later = omega (arith, c.if-self-2.false, c.self.invariant.0.root_fits.generation);
+      is_next = c.with_entry-root.ensures;
+    } in
+    entry_elsewhere is_new
+
+pub give_back-requires-clause-inside : goal.give_back-requires-clause-inside
+give_back-requires-clause-inside g c =
+    let room = c.in_ok-room.ensures.ok in
+    subst (λ flags. All (IsInside flags) c.in_ok-room.room.extents) (sym room.claim.undone) (inside_mid room)
+
+pub returns-in-Err-clause-any_moment : goal.returns-in-Err-clause-any_moment
+returns-in-Err-clause-any_moment g c s at_entry =
+    let is_new : IsNew c.self.inside.root c.self.inside.entries.items c.self.inside.layout c.take_room.new.layout c.sectors_of.result c.in_ok-room.room.extents c.in_ok-room.room.entry c.new_entry-entry.result c.with_entry-root.result = record {
+      kept = c.self.invariant.0;
+      room = c.in_ok-room.ensures.ok;
+      fits = c.new_entry-entry.ensures.fits;
+      its = c.new_entry-entry.ensures.extents ∙ c.as_slice.ensures.value;
+      named = subst (λ name. All (λ other. name_of other ≢ name) c.self.inside.entries.items) (sym c.new_entry-entry.ensures.name) (subst (λ store. LacksName store c.args.name.now) (sym c.self.view_is) c.requires.new);
+      few = omega (arith, c.if-len-ge-MOST_LIBRARIES.false, c.len.ensures, c.self.invariant.0.count);
+      later = omega (arith, c.if-self-2.false, c.self.invariant.0.root_fits.generation);
+      is_next = c.with_entry-root.ensures;
+    } in
+    let at = subst (λ store. IsAt g.D.Disk.facts store s) (sym c.self.view_is) at_entry in
+    let enough : length c.args.bytes.now ≤ 512 * sector_count c.in_ok-room.room.extents = omega (arith, is_new.room.given.needed, c.sectors_of.ensures, (div_ceil_times (length c.args.bytes.now) 512 (omega arith)).0) in
+    let put = new_put is_new c.args.name.now c.args.bytes.now c.new_entry-entry.ensures.name c.new_entry-entry.ensures.length enough s in
+    subst (λ store. LeavesOnly (g.D.Disk.facts store.disk) (g.D.Disk.facts c.write_put.new.disk) (λ m. Stands m s ⊎ Stands m (with_new c.args.name.now c.args.bytes.now s))) c.self.view_is
+    (c.write_put.ensures.any_moment at.honest c.self.inside.root c.self.inside.entries.items s (c.self.inside.entries.items ++ c.new_entry-entry.result ∷ []) (with_new c.args.name.now c.args.bytes.now s) at.stands put)
+
+pub returns-clause-any_moment : goal.returns-clause-any_moment
+returns-clause-any_moment g c s at_entry =
+    let is_new : IsNew c.self.inside.root c.self.inside.entries.items c.self.inside.layout c.take_room.new.layout c.sectors_of.result c.in_ok-room.room.extents c.in_ok-room.room.entry c.new_entry-entry.result c.with_entry-root.result = record {
+      kept = c.self.invariant.0;
+      room = c.in_ok-room.ensures.ok;
+      fits = c.new_entry-entry.ensures.fits;
+      its = c.new_entry-entry.ensures.extents ∙ c.as_slice.ensures.value;
+      named = subst (λ name. All (λ other. name_of other ≢ name) c.self.inside.entries.items) (sym c.new_entry-entry.ensures.name) (subst (λ store. LacksName store c.args.name.now) (sym c.self.view_is) c.requires.new);
+      few = omega (arith, c.if-len-ge-MOST_LIBRARIES.false, c.len.ensures, c.self.invariant.0.count);
+      later = omega (arith, c.if-self-2.false, c.self.invariant.0.root_fits.generation);
+      is_next = c.with_entry-root.ensures;
+    } in
+    let at = subst (λ store. IsAt g.D.Disk.facts store s) (sym c.self.view_is) at_entry in
+    let enough : length c.args.bytes.now ≤ 512 * sector_count c.in_ok-room.room.extents = omega (arith, is_new.room.given.needed, c.sectors_of.ensures, (div_ceil_times (length c.args.bytes.now) 512 (omega arith)).0) in
+    let put = new_put is_new c.args.name.now c.args.bytes.now c.new_entry-entry.ensures.name c.new_entry-entry.ensures.length enough s in
+    subst (λ store. LeavesOnly (g.D.Disk.facts store.disk) (g.D.Disk.facts c.write_put.new.disk) (λ m. Stands m s ⊎ Stands m (with_new c.args.name.now c.args.bytes.now s))) c.self.view_is
+    (c.write_put.ensures.any_moment at.honest c.self.inside.root c.self.inside.entries.items s (c.self.inside.entries.items ++ c.new_entry-entry.result ∷ []) (with_new c.args.name.now c.args.bytes.now s) at.stands put)
+
+pub invariant_of-self-2 : goal.invariant_of-self-2
+invariant_of-self-2 g c =
+    let is_new : IsNew c.self.inside.root c.self.inside.entries.items c.self.inside.layout c.take_room.new.layout c.sectors_of.result c.in_ok-room.room.extents c.in_ok-room.room.entry c.new_entry-entry.result c.with_entry-root.result = record {
+      kept = c.self.invariant.0;
+      room = c.in_ok-room.ensures.ok;
+      fits = c.new_entry-entry.ensures.fits;
+      its = c.new_entry-entry.ensures.extents ∙ c.as_slice.ensures.value;
+      named = subst (λ name. All (λ other. name_of other ≢ name) c.self.inside.entries.items) (sym c.new_entry-entry.ensures.name) (subst (λ store. LacksName store c.args.name.now) (sym c.self.view_is) c.requires.new);
+      few = omega (arith, c.if-len-ge-MOST_LIBRARIES.false, c.len.ensures, c.self.invariant.0.count);
+      later = omega (arith, c.if-self-2.false, c.self.invariant.0.root_fits.generation);
+      is_next = c.with_entry-root.ensures;
+    } in
+    let items = c.in-Ok.ensures.items ∙ ap (λ l. l ++ c.new_entry-entry.result ∷ []) c.reserve.ensures.items in (
+      subst (λ l. IsKept c.with_entry-root.result l c.take_room.new.layout) (sym items) (next_kept is_new),
+      c.write_put.ensures.calls.sectors ∙ c.self.invariant.1 ∙ sym (ap (λ r. r.sectors) c.with_entry-root.ensures),
+    )
+
+pub returns-clause-ok : goal.returns-clause-ok
+returns-clause-ok g c s at_entry =
+    let is_new : IsNew c.self.inside.root c.self.inside.entries.items c.self.inside.layout c.take_room.new.layout c.sectors_of.result c.in_ok-room.room.extents c.in_ok-room.room.entry c.new_entry-entry.result c.with_entry-root.result = record {
+      kept = c.self.invariant.0;
+      room = c.in_ok-room.ensures.ok;
+      fits = c.new_entry-entry.ensures.fits;
+      its = c.new_entry-entry.ensures.extents ∙ c.as_slice.ensures.value;
+      named = subst (λ name. All (λ other. name_of other ≢ name) c.self.inside.entries.items) (sym c.new_entry-entry.ensures.name) (subst (λ store. LacksName store c.args.name.now) (sym c.self.view_is) c.requires.new);
+      few = omega (arith, c.if-len-ge-MOST_LIBRARIES.false, c.len.ensures, c.self.invariant.0.count);
+      later = omega (arith, c.if-self-2.false, c.self.invariant.0.root_fits.generation);
+      is_next = c.with_entry-root.ensures;
+    } in
+    let at = subst (λ store. IsAt g.D.Disk.facts store s) (sym c.self.view_is) at_entry in
+    let enough : length c.args.bytes.now ≤ 512 * sector_count c.in_ok-room.room.extents = omega (arith, is_new.room.given.needed, c.sectors_of.ensures, (div_ceil_times (length c.args.bytes.now) 512 (omega arith)).0) in
+    let put = new_put is_new c.args.name.now c.args.bytes.now c.new_entry-entry.ensures.name c.new_entry-entry.ensures.length enough s in
+    let items = c.in-Ok.ensures.items ∙ ap (λ l. l ++ c.new_entry-entry.result ∷ []) c.reserve.ensures.items in
+    record {
+      honest = subst IsTrue (sym c.write_put.ensures.calls.honest) at.honest;
+      usable = refl;
+      stands = λ m mixture. subst (λ l. StandsBy m c.with_entry-root.result l (with_new c.args.name.now c.args.bytes.now s)) (sym items)
+          (c.in_default.ensures.done at.honest c.self.inside.root c.self.inside.entries.items s (c.self.inside.entries.items ++ c.new_entry-entry.result ∷ []) (with_new c.args.name.now c.args.bytes.now s) at.stands put m mixture);
+    }
+
+pub returns-in_err-room-clause-refused : goal.returns-in_err-room-clause-refused
+returns-in_err-room-clause-refused g c s at_entry =
+    let at = subst (λ store. IsAt g.D.Disk.facts store s) (sym c.self.view_is) at_entry in
+    let now = (g.D.Disk.facts c.self.inside.disk).now in
+    let by = at.stands now (g.met.D.Disk.holds_now _ at.honest) in
+    let whole = whole_mixture (g.met.D.Disk.whole_sectors _ at.honest) (g.D.Disk.facts c.self.inside.disk).time (omega arith) now (g.met.D.Disk.holds_now _ at.honest) in
+    let kept = c.self.invariant.0 in
+    let free = free_is now c.self.inside.root c.self.inside.entries.items c.self.inside.layout s kept whole by in
+    let longest = longest_is c.self.inside.root c.self.inside.entries.items c.self.inside.layout kept in
+    let generation : s.generation ≡ c.self.inside.root.generation = ap (λ t. t.generation) by.is in
+    let count : length s.blobs ≡ length c.self.inside.entries.items = ap (λ t. length t.blobs) by.is ∙ length-blobs now c.self.inside.entries.items in
+    let few = new_as_put c.self.inside.root.sectors (sector_count (longest_runs (layout_of c.self.inside.root.sectors (used c.self.inside.root c.self.inside.entries.items)))) s c.args.bytes.now (omega (arith, count, c.if-len-ge-MOST_LIBRARIES.false, c.len.ensures)) in
+    let usable : s.generation ≢ 18446744073709551615 = λ is. omega (arith, is, generation, c.if-self-2.false) in
+    subst (λ store. IsAnswer (refusal_of_new store.root.sectors (longest_free store) s c.args.bytes.now) c.from_residual-in_err-room.result) c.self.view_is
+    (let first = few ∙ put_refused c.self.inside.root.sectors (sector_count (longest_runs (layout_of c.self.inside.root.sectors (used c.self.inside.root c.self.inside.entries.items)))) s c.args.bytes.now usable c.in_err-room.field-0.0
+    (λ is. omega (arith, (c.in_err-room.ensures.full).0 is, free, c.sectors_of.ensures), λ lt. (c.in_err-room.ensures.full).1 (omega (arith, lt, free, c.sectors_of.ensures))) (λ is. let both = (c.in_err-room.ensures.fragmented).0 is in (omega (arith, both.0, free, c.sectors_of.ensures), omega (arith, both.1, longest, c.sectors_of.ensures)), λ both. (c.in_err-room.ensures.fragmented).1 (omega (arith, both.0, free, c.sectors_of.ensures), omega (arith, both.1, longest, c.sectors_of.ensures))) in
+    let p = err_from_is_err_and c.from_residual-in_err-room.result c.from_residual-in_err-room.ensures.1 in
+    rw (p.1, p.2) (subst (λ refusal. IsAnswer refusal (Err (refusal_of_take c.in_err-room.field-0.0))) (sym first) (answers_take c.in_err-room.field-0.0)))
+
+pub returns-in-Err-clause-refused : goal.returns-in-Err-clause-refused
+returns-in-Err-clause-refused g c s at_entry =
+    let at = subst (λ store. IsAt g.D.Disk.facts store s) (sym c.self.view_is) at_entry in
+    let now = (g.D.Disk.facts c.self.inside.disk).now in
+    let by = at.stands now (g.met.D.Disk.holds_now _ at.honest) in
+    let whole = whole_mixture (g.met.D.Disk.whole_sectors _ at.honest) (g.D.Disk.facts c.self.inside.disk).time (omega arith) now (g.met.D.Disk.holds_now _ at.honest) in
+    let kept = c.self.invariant.0 in
+    let free = free_is now c.self.inside.root c.self.inside.entries.items c.self.inside.layout s kept whole by in
+    let longest = longest_is c.self.inside.root c.self.inside.entries.items c.self.inside.layout kept in
+    let generation : s.generation ≡ c.self.inside.root.generation = ap (λ t. t.generation) by.is in
+    let count : length s.blobs ≡ length c.self.inside.entries.items = ap (λ t. length t.blobs) by.is ∙ length-blobs now c.self.inside.entries.items in
+    let few = new_as_put c.self.inside.root.sectors (sector_count (longest_runs (layout_of c.self.inside.root.sectors (used c.self.inside.root c.self.inside.entries.items)))) s c.args.bytes.now (omega (arith, count, c.if-len-ge-MOST_LIBRARIES.false, c.len.ensures)) in
+    let usable : s.generation ≢ 18446744073709551615 = λ is. omega (arith, is, generation, c.if-self-2.false) in
+    subst (λ store. IsAnswer (refusal_of_new store.root.sectors (longest_free store) s c.args.bytes.now) (Err c.from.result)) c.self.view_is
+    (let first = few ∙ put_taken c.self.inside.root.sectors (sector_count (longest_runs (layout_of c.self.inside.root.sectors (used c.self.inside.root c.self.inside.entries.items)))) s c.args.bytes.now usable c.in_ok-room.room
+    (λ is. omega (arith, (c.in_ok-room.ensures.full).0 is, free, c.sectors_of.ensures), λ lt. (c.in_ok-room.ensures.full).1 (omega (arith, lt, free, c.sectors_of.ensures))) (λ is. let both = (c.in_ok-room.ensures.fragmented).0 is in (omega (arith, both.0, free, c.sectors_of.ensures), omega (arith, both.1, longest, c.sectors_of.ensures)), λ both. (c.in_ok-room.ensures.fragmented).1 (omega (arith, both.0, free, c.sectors_of.ensures), omega (arith, both.1, longest, c.sectors_of.ensures))) in
+    subst (λ refusal. IsAnswer refusal (Err c.from.result)) (sym first) (inl c.from.ensures))
+
+pub returns-clause-refused : goal.returns-clause-refused
+returns-clause-refused g c s at_entry =
+    let at = subst (λ store. IsAt g.D.Disk.facts store s) (sym c.self.view_is) at_entry in
+    let now = (g.D.Disk.facts c.self.inside.disk).now in
+    let by = at.stands now (g.met.D.Disk.holds_now _ at.honest) in
+    let whole = whole_mixture (g.met.D.Disk.whole_sectors _ at.honest) (g.D.Disk.facts c.self.inside.disk).time (omega arith) now (g.met.D.Disk.holds_now _ at.honest) in
+    let kept = c.self.invariant.0 in
+    let free = free_is now c.self.inside.root c.self.inside.entries.items c.self.inside.layout s kept whole by in
+    let longest = longest_is c.self.inside.root c.self.inside.entries.items c.self.inside.layout kept in
+    let generation : s.generation ≡ c.self.inside.root.generation = ap (λ t. t.generation) by.is in
+    let count : length s.blobs ≡ length c.self.inside.entries.items = ap (λ t. length t.blobs) by.is ∙ length-blobs now c.self.inside.entries.items in
+    let few = new_as_put c.self.inside.root.sectors (sector_count (longest_runs (layout_of c.self.inside.root.sectors (used c.self.inside.root c.self.inside.entries.items)))) s c.args.bytes.now (omega (arith, count, c.if-len-ge-MOST_LIBRARIES.false, c.len.ensures)) in
+    let usable : s.generation ≢ 18446744073709551615 = λ is. omega (arith, is, generation, c.if-self-2.false) in
+    subst (λ store. IsAnswer (refusal_of_new store.root.sectors (longest_free store) s c.args.bytes.now) (Ok tt)) c.self.view_is
+    (let first = few ∙ put_taken c.self.inside.root.sectors (sector_count (longest_runs (layout_of c.self.inside.root.sectors (used c.self.inside.root c.self.inside.entries.items)))) s c.args.bytes.now usable c.in_ok-room.room
+    (λ is. omega (arith, (c.in_ok-room.ensures.full).0 is, free, c.sectors_of.ensures), λ lt. (c.in_ok-room.ensures.full).1 (omega (arith, lt, free, c.sectors_of.ensures))) (λ is. let both = (c.in_ok-room.ensures.fragmented).0 is in (omega (arith, both.0, free, c.sectors_of.ensures), omega (arith, both.1, longest, c.sectors_of.ensures)), λ both. (c.in_ok-room.ensures.fragmented).1 (omega (arith, both.0, free, c.sectors_of.ensures), omega (arith, both.1, longest, c.sectors_of.ensures))) in
+    subst (λ refusal. IsAnswer refusal (Ok tt)) (sym first) tt)

@@ -1,0 +1,6 @@
+pub mod State
+pub mod Stands
+pub mod Opened
+pub mod Opening
+pub mod Step
+pub mod inside

@@ -1,0 +1,26 @@
+-- A store in memory, and when it is at a state.
+use Rattle.std.specs.Prelude.{Bool, List, IsTrue, IsFalse, Result, Ok, Err}
+use Rattle.sector_disk.specs.Disk.{Sector, DiskFacts, Mixture}
+use Rattle.roots.specs.declared.root.Root.{Root}
+use Rattle.roots.specs.declared.entry.Entry.{Entry}
+use Rattle.store.specs.declared.refusal.StoreRefusal.{StoreRefusal}
+use Rattle.store.specs.State.{State}
+use Rattle.store.specs.Stands.{StandsBy}
+
+-- what a store keeps: its disk, the current root, the entries that it lists, and whether a write or a sync failed
+pub record Opened (D : Type 0) : Type 0 where
+  pub disk : D
+  pub root : Root
+  pub entries : List Entry
+  pub failed : Bool
+
+-- The store is at a state: every mixture of its disk stands for it.
+pub record IsAt {D : Type 0} (facts : D → DiskFacts) (store : Opened D) (s : State) : Type 0 where
+  pub honest : IsTrue (facts store.disk).honest
+  pub usable : IsFalse store.failed
+  pub stands : (m : List Sector) → Mixture (facts store.disk) m → StandsBy m store.root store.entries s
+
+-- the disk of the store, or the one that is handed back
+abbrev pub disk_after : {D : Type 0} → Result (Opened D) (StoreRefusal × D) → D
+disk_after (Ok store) = store.disk
+disk_after (Err refused) = refused.1

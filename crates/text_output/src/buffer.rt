@@ -1,0 +1,154 @@
+// The bytes that wait for a writer.
+
+ghost use Rattle.std.specs.Prelude.{◌≡◌, ◌+◌, ◌≤◌, [], ◌++◌, length, true, false};
+ghost use Rattle.std.specs.Prelude.{OnOk, OnErr, IsErr, Ok};
+ghost use Rattle.std.specs.Io.KnownBytes.{Appends};
+ghost use Rattle.text_output.specs.Sends.{Sends, HasRoom, with_text};
+
+use crate::fault::WriteFault;
+use std::io::Write;
+use std::marker::Model;
+
+/// The least size of a buffer, in bytes, and the longest text that goes into it in one piece: a
+/// longer one goes in pieces.
+pub const PIECE: usize = 64;
+
+/// At most `SIZE` bytes that wait for a writer. They lie in the value itself, so that writing takes
+/// no memory: a buffer of a line's size serves a line, a larger one a long text. A writer that
+/// failed gets nothing more from it, since how much of the bytes it took is open. Contracts see the
+/// bytes that wait, and whether the writer failed.
+#[derive(Drop)]
+pub struct OutputBuffer<const SIZE: usize> {
+    bytes: [u8; SIZE],
+    used: usize,
+    failed: bool,
+}
+
+impl<const SIZE: usize> Model for OutputBuffer<SIZE> {
+    ghost use Rattle.std.specs.Prelude.{◌≤◌, take};
+    ghost use Rattle.text_output.specs.Sends.{Buffered};
+
+    ghost Value = { Buffered };
+
+    ghost view = { λ b. record { waiting = take b.used b.bytes; failed = b.failed } };
+
+    ghost use Rattle.text_output.specs.declared.buffer.TheConstants.{PIECE};
+
+    ghost invariant = { λ b. (b.used ≤ SIZE) × (PIECE ≤ SIZE) };
+}
+
+impl<const SIZE: usize> OutputBuffer<SIZE> {
+    /// A buffer in which nothing waits.
+    pub fn new() -> Self
+        requires { PIECE ≤ SIZE }
+        ensures { result ≡ record { waiting = []; failed = false } }
+    {
+        OutputBuffer {
+            bytes: [0; SIZE],
+            used: 0,
+            failed: false,
+        }
+    }
+
+    /// How many more bytes have room.
+    fn room(&self) -> usize
+        ensures room { result + length self.now.waiting ≡ SIZE }
+        ensures size { PIECE ≤ SIZE }
+    {
+        SIZE - self.used
+    }
+
+    fn append(&mut self, text: &[u8])
+        requires { length self.old.waiting + length text.now ≤ SIZE }
+        ensures waiting { self.new.waiting ≡ self.old.waiting ++ text.now }
+        ensures failed { self.new.failed ≡ self.old.failed }
+    {
+        let end = self.used + text.len();
+        self.bytes.as_mut_slice()[self.used..end].copy_from_slice(text);
+        self.used = end;
+    }
+
+    fn as_slice(&self) -> &[u8]
+        ensures { result.now ≡ self.now.waiting }
+    {
+        &self.bytes.as_slice()[..self.used]
+    }
+
+    fn clear(&mut self)
+        ensures waiting { self.new.waiting ≡ [] }
+        ensures failed { self.new.failed ≡ self.old.failed }
+    {
+        self.used = 0;
+    }
+
+    fn has_failed(&self) -> bool
+        ensures { result ≡ self.now.failed }
+    {
+        self.failed
+    }
+
+    fn note_failure(&mut self)
+        ensures { self.new ≡ record { waiting = self.old.waiting; failed = true } }
+    {
+        self.failed = true;
+    }
+
+    /// Gives the waiting bytes to the writer, all of them with one call of `write_all`.
+    pub fn send<W: Write>(&mut self, out: &mut W) -> Result<(), WriteFault>
+        ensures ok { OnOk result (Appends (W.contents out.old) (W.contents out.new)
+            self.old.waiting) }
+        ensures sent { OnOk result (self.new ≡ record { waiting = []; failed = false }) }
+        // At a fault the bytes wait on, and the failure is noted.
+        ensures err { OnErr result
+            (self.new ≡ record { waiting = self.old.waiting; failed = true }) }
+        // A writer that failed gets nothing more.
+        ensures failed { self.old.failed ≡ true → IsErr result × (out.new ≡ out.old) }
+    {
+        if self.has_failed() {
+            return Err(WriteFault);
+        }
+        match out.write_all(self.as_slice()) {
+            Ok(()) => {
+                self.clear();
+                Ok(())
+            }
+            Err(_) => {
+                self.note_failure();
+                Err(WriteFault)
+            }
+        }
+    }
+
+    /// Puts a short text behind what waits, and sends that first where there is no room.
+    pub(crate) fn put_piece<W: Write>(&mut self, out: &mut W, text: &[u8]) -> Result<(), WriteFault>
+        requires { length text.now ≤ PIECE }
+        ensures ok { OnOk result (Sends (W.contents out.old) self.old (W.contents out.new) self.new
+            text.now) }
+        ensures err { OnErr result (self.new.failed ≡ true) }
+        // Where there is room nothing is asked of the writer.
+        ensures fits { HasRoom SIZE self.old text.now
+            → (result ≡ Ok tt) × (out.new ≡ out.old)
+            × (self.new ≡ with_text self.old text.now) }
+    {
+        if self.room() < text.len() {
+            self.send(out)?;
+        }
+        self.append(text);
+        Ok(())
+    }
+
+    /// Puts a text behind what waits, and sends that first where there is no room.
+    pub fn put<W: Write>(&mut self, out: &mut W, text: &[u8]) -> Result<(), WriteFault>
+        ensures ok { OnOk result (Sends (W.contents out.old) self.old (W.contents out.new) self.new
+            text.now) }
+        ensures err { OnErr result (self.new.failed ≡ true) }
+        ensures fits { HasRoom SIZE self.old text.now
+            → (result ≡ Ok tt) × (out.new ≡ out.old)
+            × (self.new ≡ with_text self.old text.now) }
+    {
+        for piece in text.chunks(PIECE) {
+            self.put_piece(out, piece)?;
+        }
+        Ok(())
+    }
+}

@@ -1,0 +1,8 @@
+// What a writer's failure is.
+
+use thiserror::Error;
+
+/// The writer failed.
+#[derive(Debug, Drop, Clone, Copy, PartialEq, Eq, Error)]
+#[error("the writer failed")]
+pub struct WriteFault;

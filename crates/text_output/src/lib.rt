@@ -1,0 +1,18 @@
+//! Text on its way to a writer.
+//!
+//! `OutputBuffer` holds the bytes that wait for a writer, on the stack, and spells what texts have
+//! in common: numbers, addresses, names and lines of hexadecimal digits. It takes no memory.
+//! `write_name` writes one name.
+#![tactic(auto)]
+
+mod buffer;
+mod decimal;
+mod fault;
+mod hexadecimal;
+mod name;
+#[cfg(test)]
+mod tests;
+
+pub use buffer::{OutputBuffer, PIECE};
+pub use fault::WriteFault;
+pub use name::{LINE, write_name};
