@@ -1,7 +1,7 @@
 // Lines: each goes out whole, with one write.
 
 use crate::message::{bad_base, bad_command_line, cannot_read};
-use crate::refusal::{write_memory, write_refusal};
+use crate::refusal::{write_file_refusal, write_memory, write_refusal};
 use crate::status::Status;
 use crate::tests::streams::Full;
 use elf_dynamic::ObjectRefusal;
@@ -27,6 +27,12 @@ fn a_line_is_one_write(rt: HostRuntime) -> Result<(), Fail> {
         write_refusal(&mut out, &refusal)?;
         assert_eq!(rt; out.calls, 1);
     }
+    let mut out = Full::with_room(40);
+    write_file_refusal(
+        &mut out,
+        FileRefusal::Object(ObjectRefusal::RelocationType(7)),
+    )?;
+    assert_eq!(rt; (out.calls, out.room), (1, 20));
     let mut out = Full::with_room(4096);
     write_memory(&mut out)?;
     assert_eq!(rt; out.calls, 1);
