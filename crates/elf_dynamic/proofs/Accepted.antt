@@ -1,5 +1,5 @@
 -- What holds of a file that no test refuses.
-use Rattle.std.proofs.Common.{◌≡◌, ℕ, ◌<◌, ◌≤◌, ◌+◌, Bool, true, false, cond, List, [], ◌∷◌, length, arith, refl, sym, ap, get_or, suc, zero, Some, None, take, drop, filter, nat_lt, length-drop}
+use Rattle.std.proofs.Common.{◌≡◌, ℕ, ◌<◌, ◌≤◌, ◌+◌, Bool, true, false, cond, List, [], ◌∷◌, length, arith, refl, get_or, suc, zero, Some, None, take, drop, filter, nat_lt, length-drop}
 use Rattle.std.specs.Prelude.{slice_get, not, ◌||◌, ◌&&◌}
 use Rattle.std.specs.List.{list_any, All, AllPairs}
 use Rattle.std.proofs.lemmas.List.{length-take}

@@ -1,8 +1,7 @@
 -- The bytes before the first zero byte.
-use Rattle.std.proofs.Common.{◌≡◌, ℕ, ◌+◌, ◌≤◌, Bool, true, false, cond, List, [], ◌∷◌, length, arith, refl, ◌∙◌, sym, ap, take, drop, min, suc, zero}
+use Rattle.std.proofs.Common.{◌≡◌, ℕ, ◌≤◌, Bool, true, false, cond, List, [], ◌∷◌, length, arith, refl, ◌∙◌, sym, ap, take, drop, min, suc, zero}
 use Rattle.std.specs.Prelude.{take_while}
 use Rattle.std.proofs.lemmas.List.Sums.{take_while-cons}
-use Rattle.std.proofs.lemmas.Bool.{cases_lt}
 
 front-step : {X : Type 0} (x : X) (xs rest : List X) (b : Bool) → take (length rest) xs ≡ rest → take (length (cond b (x ∷ rest) [])) (x ∷ xs) ≡ cond b (x ∷ rest) []
 front-step x xs rest true h = ap (λ t. x ∷ t) h

@@ -1,5 +1,5 @@
 -- Symbols and words by their numbers.
-use Rattle.std.proofs.Common.{◌≡◌, ◌≢◌, ℕ, ◌<◌, ◌+◌, ◌*◌, ◌/◌, Bool, true, false, List, [], ◌∷◌, length, arith, refl, ◌∙◌, sym, ap, zero-add, Some, None, map, Option, suc, zero}
+use Rattle.std.proofs.Common.{◌≡◌, ℕ, ◌<◌, ◌+◌, ◌*◌, ◌/◌, List, [], ◌∷◌, length, arith, refl, ◌∙◌, sym, ap, zero-add, Some, map, suc, zero}
 use Rattle.std.specs.Prelude.{slice_get}
 use Rattle.std.specs.Option.{option_map}
 use Rattle.std.specs.List.{range_with_len}
@@ -9,7 +9,6 @@ use Rattle.elf_file.specs.Dynamic.{needed_offsets}
 use Rattle.elf_dynamic.specs.HashTable.{word, bucket_count, chain_count, buckets, chains, hash_table}
 use Rattle.elf_dynamic.specs.Strings.{string_at, string_table, needed}
 use Rattle.elf_dynamic.specs.Symbol.{nth_symbol, symbols_in, symbol_table, symbols}
-use Rattle.elf_dynamic.specs.declared.symbol.Symbol.{Symbol}
 use Rattle.elf_dynamic.proofs.TableEntries.{some_at}
 
 -- an element of a made list

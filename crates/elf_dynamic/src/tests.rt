@@ -1,5 +1,5 @@
-// What a whole file gives: each accessor once, at a file made by hand, with the values that `readelf
-// -W -d --use-dynamic -s -r` prints of it.
+// What a whole file gives: each accessor once, at a file made by hand, with the values that
+// `readelf -W -d --use-dynamic -s -r` prints of it.
 
 use super::*;
 use std::test::Fail;

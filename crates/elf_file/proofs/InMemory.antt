@@ -1,5 +1,5 @@
 -- Bytes that lie in the memory part of no PT_LOAD.
-use Rattle.std.proofs.Common.{◌≡◌, ℕ, ◌<◌, ◌≤◌, ◌+◌, Bool, true, false, cond, List, [], ◌∷◌, arith, refl, ap, ◌∙◌, sym, inl, inr, min, map, filter, suc, zero}
+use Rattle.std.proofs.Common.{◌≡◌, ℕ, ◌<◌, ◌≤◌, ◌+◌, Bool, true, false, cond, List, ◌∷◌, arith, refl, ap, ◌∙◌, inl, inr, min, map, filter, suc, zero}
 use Rattle.std.specs.Prelude.{◌||◌}
 use Rattle.std.specs.List.{list_any, range_with_len}
 use Rattle.std.proofs.lemmas.Bool.{cases_lt}

@@ -11,7 +11,6 @@ use Rattle.elf_file.specs.Constant.{DT_NULL, DYNAMIC_ENTRY_SIZE}
 use Rattle.elf_file.specs.Dynamic.{entry, is_null, has_tag, is_ended, whole_entries, entries_in}
 use Rattle.elf_file.specs.inside.Tags.{place_of, slot_of, slot_and, IsTable}
 use Rattle.elf_file.specs.declared.entry.Entry.{Entry}
-use Rattle.elf_file.specs.declared.tag_table.TheConstants.{PLACES}
 use Rattle.elf_file.specs.declared.tag_table.Slot.{Slot}
 use Rattle.elf_file.proofs.LoadNumbers.{range-split, map-append}
 

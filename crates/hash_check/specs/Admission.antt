@@ -1,5 +1,5 @@
--- The tests of admission, which are made of an object after its own tests. A walk that ends does so in fewer steps than
--- there are chain words, so these tests decide what HashTable.antt says.
+-- The tests of admission, which are made of an object after its own tests (own; of gABI chapter 5, "Hash Table"). A walk
+-- that ends does so in fewer steps than there are chain words, so these tests decide what HashTable.antt says.
 use Rattle.std.specs.Prelude.{ℕ, List, [], ◌∷◌, Bool, true, Option, Some, ◌≡◌, ◌≤◌, ◌==◌, ◌&&◌, ◌⊎◌, not, nat_lt, length, map, take_while}
 use Rattle.std.specs.List.{list_any, list_all, range_with_len}
 use Rattle.elf_dynamic.specs.Strings.{name_of}
@@ -17,6 +17,7 @@ use Rattle.hash_check.specs.declared.refusal.AdmitRefusal.TheVariants.{Duplicate
 unfoldable pub walked : List ℕ → ℕ → List ℕ
 walked words from = take_while (λ i. not (i == 0)) (map (walk words from) (range_with_len 0 (length words)))
 
+-- every word is the index of one of n symbols
 abbrev pub are_indices : ℕ → List ℕ → Bool
 are_indices n words = list_all (λ w. nat_lt w n) words
 
@@ -45,16 +46,16 @@ meets_exports file = list_all (is_met file) (exported_symbols file)
 unfoldable pub has_bad_hash_table : List ℕ → Bool
 has_bad_hash_table file = not (has_good_words file && (has_ending_walks file && meets_exports file))
 
--- the refusal of an object by the first of these tests, or none where it is admitted
+-- the refusal of an object by the first of these tests, or none where it is admitted (own)
 unfoldable pub admission_refusal : List ℕ → Option AdmitRefusal
 admission_refusal file =
     first_of ((DuplicateDefinition when has_duplicate_definition file) ∷ (BadHashTable when has_bad_hash_table file) ∷ [])
 
--- what takes memory: to look for two symbols of one name where there are two, and to follow the walks where every word is an index
+-- what takes memory: to look for two symbols of one name where there are two, and to follow the walks where every word is an index (own)
 abbrev pub NeedsMemory : List ℕ → Type 0
 NeedsMemory file = (2 ≤ length (exported_symbols file)) ⊎ (has_good_words file ≡ true)
 
--- where a refusal is answered
+-- where a refusal is answered (own)
 abbrev pub IsRefusedBy : List ℕ → AdmitRefusal → Type 0
 IsRefusedBy file OutOfMemory = NeedsMemory file
 IsRefusedBy file refusal = admission_refusal file ≡ Some refusal

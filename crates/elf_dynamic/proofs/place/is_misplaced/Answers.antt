@@ -1,5 +1,4 @@
 use Rattle.std.proofs.Common.{sym, ◌∙◌}
-use Rattle.elf_file.specs.Address.{IsLoadOf}
 use Rattle.elf_dynamic.proofs.Misplaced.{in_memory_by, fine_by_place}
 use Rattle.elf_dynamic.proofs.place.is_misplaced.Goals as goal
 

@@ -1,4 +1,4 @@
-use Rattle.std.proofs.Common.{◌≡◌, ◌≢◌, arith, sym, ap, ◌∙◌, get_or, subst, List, rules, refl}
+use Rattle.std.proofs.Common.{◌≡◌, ◌≢◌, arith, sym, ap, ◌∙◌, get_or, subst, List, refl}
 use Rattle.elf_file.specs.Constant.{DT_NULL}
 use Rattle.elf_file.specs.Dynamic.{entry}
 use Rattle.elf_file.specs.inside.Tags.{slot_and, IsTable}

@@ -1,4 +1,4 @@
-use Rattle.std.proofs.Common.{◌≡◌, ◌<◌, ◌≤◌, ◌+◌, ◌∙◌, ap, sym, arith, true, false, subst}
+use Rattle.std.proofs.Common.{◌≡◌, ◌<◌, ◌+◌, ◌∙◌, ap, sym, arith, true, false, subst}
 use Rattle.elf_file.specs.Segment.{is_load, program_header}
 use Rattle.elf_file.specs.inside.Index.{is_spanned, Indexes}
 use Rattle.elf_file.specs.declared.load_index.LoadIndex.{LoadIndex}

@@ -1,5 +1,4 @@
-use Rattle.std.proofs.Common.{◌≡◌, ◌∷◌, ◌+◌, ap, sym, ◌∙◌, arith, rules, List}
-use Rattle.elf_file.specs.declared.segment.ProgramHeader.{ProgramHeader}
+use Rattle.std.proofs.Common.{◌≡◌, ◌∷◌, ◌+◌, ap, sym, ◌∙◌, arith, rules}
 use Rattle.elf_file.specs.inside.Index.{loads_from}
 use Rattle.elf_file.proofs.LoadNumbers.{loads_from_skip, loads_from_load, loads_from_end}
 use Rattle.elf_file.proofs.load_segments.LoadSegmentsIterator.next.Goals as goal

@@ -1,4 +1,4 @@
-use Rattle.std.proofs.Common.{◌≡◌, ◌∷◌, ◌+◌, ap, sym, ◌∙◌, arith, rules, List, ℕ}
+use Rattle.std.proofs.Common.{◌≡◌, ◌∷◌, ◌+◌, ap, sym, ◌∙◌, arith, rules}
 use Rattle.elf_file.specs.inside.Needed.{values_from}
 use Rattle.elf_file.proofs.NeededFrom.{values_from_skip, values_from_needed, values_from_end}
 use Rattle.elf_file.proofs.needed.NeededOffsetsIterator.next.Goals as goal

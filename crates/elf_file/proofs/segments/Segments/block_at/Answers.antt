@@ -1,4 +1,4 @@
-use Rattle.std.proofs.Common.{arith, ◌-◌, ◌≡◌, ◌+◌, ◌<◌, ℕ, ap, subst, sym}
+use Rattle.std.proofs.Common.{arith, ◌-◌, ◌≡◌, ◌+◌, ◌<◌, ℕ, subst, sym}
 use Rattle.elf_file.specs.inside.Index.{IsBlockAt}
 use Rattle.elf_file.proofs.Blocks.{all_above, block_at_by, block_address}
 use Rattle.elf_file.proofs.segments.Segments.block_at.Goals as goal

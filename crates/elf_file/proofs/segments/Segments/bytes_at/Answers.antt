@@ -1,5 +1,4 @@
-use Rattle.std.proofs.Common.{arith, length, ap, ◌∙◌, sym}
-use Rattle.elf_file.specs.Address.{bytes_of}
+use Rattle.std.proofs.Common.{arith, length, ap}
 use Rattle.elf_file.proofs.Spans.{found_fits, short}
 use Rattle.elf_file.proofs.segments.Segments.bytes_at.Goals as goal
 

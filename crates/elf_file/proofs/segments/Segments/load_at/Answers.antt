@@ -1,8 +1,6 @@
-use Rattle.std.proofs.Common.{◌≡◌, ap, ◌∙◌, sym, arith, Some, true, subst}
-use Rattle.std.specs.Option.{MatchOption}
-use Rattle.elf_file.specs.Segment.{loads, is_load, program_header}
-use Rattle.elf_file.specs.inside.Index.{loads_before, AllAbove, IsBlockAt}
-use Rattle.std.proofs.lemmas.Bool.Decides.{nat_tests}
+use Rattle.std.proofs.Common.{◌≡◌, ap, ◌∙◌, sym, arith, Some, true}
+use Rattle.elf_file.specs.Segment.{is_load, program_header}
+use Rattle.elf_file.specs.inside.Index.{loads_before}
 use Rattle.elf_file.proofs.LoadNumbers.{load_at}
 use Rattle.elf_file.proofs.InMemory.{none_above, none_in_block, is_load_by}
 use Rattle.elf_file.proofs.segments.Segments.load_at.Goals as goal

@@ -1,4 +1,4 @@
-use Rattle.std.proofs.Common.{◌≡◌, ap, ◌∙◌, sym, arith, Some, true, false}
+use Rattle.std.proofs.Common.{◌≡◌, ap, ◌∙◌, sym, arith, Some, true}
 use Rattle.std.specs.Prelude.{slice_get}
 use Rattle.elf_file.specs.Header.{header_count}
 use Rattle.elf_file.specs.Segment.{loads, is_load, program_header}

@@ -1,5 +1,4 @@
-use Rattle.std.proofs.Common.{arith, ap, ◌∙◌, sym}
-use Rattle.elf_file.proofs.LoadNumbers.{loads_before_all}
+use Rattle.std.proofs.Common.{arith}
 use Rattle.elf_file.proofs.Blocks.{some_block}
 use Rattle.elf_file.proofs.segments.Segments.start_of.Goals as goal
 
