@@ -2,7 +2,7 @@
 use Rattle.std.proofs.Common.{◌≡◌, ◌≢◌, inl, ⊎_elim, ℕ, suc, ◌+◌, ◌-◌, ◌*◌, ◌<◌, ◌≤◌, Bool, true, false, nat_lt, nat_eq, List, [], ◌∷◌, length, map, sum_by, All, Some, None, Result, Ok, Err, OnErr, ◌↔◌, refl, sym, ap, subst, ◌∙◌, arith}
 use Rattle.std.specs.Prelude.{Contains, if◌then◌else◌}
 use Rattle.std.specs.Int.{div_ceil}
-use Rattle.std.proofs.lemmas.Bool.{eqb-true, ltb-true, ltb-false, cases_lt}
+use Rattle.std.proofs.lemmas.Bool.{false≢true, eqb-true, eq-eqb, ltb-true, ltb-false, cases_lt}
 use Rattle.std.proofs.lemmas.Grind.{div_ceil_times}
 use Rattle.std.proofs.lemmas.List.{length-append, length-take-le}
 use Rattle.std.proofs.lemmas.List.Sums.{sum_by-cons}
@@ -22,12 +22,12 @@ use Rattle.roots.specs.declared.entry.Entry.{Entry}
 use Rattle.roots.specs.Limits.{most_libraries}
 use Rattle.roots.specs.Root.{listed_sectors}
 use Rattle.roots.specs.Entry.{EntryHasSpelling}
-use Rattle.store.specs.declared.refusal.StoreRefusal.TheVariants.{Full, Fragmented}
+use Rattle.store.specs.declared.refusal.StoreRefusal.TheVariants.{Full, Fragmented, GenerationEnd}
 use Rattle.extents.specs.declared.refusal.TakeRefusal.{TakeRefusal}
 use Rattle.extents.specs.declared.refusal.TakeRefusal.TheVariants as take
 use Rattle.store.specs.State.{Blob, State, cost, free}
 use Rattle.store.specs.Stands.{StandsBy, extents_of, data_sectors, used, blob_of}
-use Rattle.store.specs.Step.{last_generation, refusal_of_put, refusal_of_new, refusal_of_take, IsAnswer}
+use Rattle.store.specs.Step.{last_generation, refusal_of_put, refusal_of_new, refusal_of_take, refusal_of_change, IsAnswer}
 use Rattle.store.specs.inside.Kept.{IsKept}
 use Rattle.store.proofs.UsedAlone.{length-listed}
 
@@ -41,14 +41,18 @@ length-bytes_at m (k ∷ ks) whole inside = omega (
   length-bytes_at m ks whole (λ j found. inside j (suc found.0, omega (arith, found.1), found.2)),
 )
 
+-- a byte string is as long as its entry says
+pub length-blob : (m : List Sector) (entry : Entry) → All IsWhole m → EntryHasSpelling entry → ((k : ℕ) → Contains (places (extents_of entry)) k → k < length m) → length (blob_of m entry).bytes ≡ entry.file_length
+length-blob m entry whole fits inside =
+    let have = length-bytes_at m (places (extents_of entry)) whole inside in
+    let sectors : length (places (extents_of entry)) ≡ div_ceil entry.file_length 512 = length-places (extents_of entry) ∙ fits.extents.sum in
+    length-take-le entry.file_length (bytes_at m (places (extents_of entry))) (omega (arith, have, sectors, (div_ceil_times entry.file_length 512 (omega arith)).0))
+
 -- what a byte string costs is what it uses
 cost_is : (m : List Sector) (entry : Entry) → All IsWhole m → EntryHasSpelling entry → ((k : ℕ) → Contains (places (extents_of entry)) k → k < length m) → cost (blob_of m entry).bytes ≡ length (places (extents_of entry)) + 1
 cost_is m entry whole fits inside =
-    let have = length-bytes_at m (places (extents_of entry)) whole inside in
     let sectors : length (places (extents_of entry)) ≡ div_ceil entry.file_length 512 = length-places (extents_of entry) ∙ fits.extents.sum in
-    let enough = (div_ceil_times entry.file_length 512 (omega arith)).0 in
-    let size : length (blob_of m entry).bytes ≡ entry.file_length = length-take-le entry.file_length (bytes_at m (places (extents_of entry))) (omega (arith, have, sectors, enough)) in
-    ap (λ n. div_ceil n 512 + 1) size ∙ ap (λ n. n + 1) (sym sectors)
+    ap (λ n. div_ceil n 512 + 1) (length-blob m entry whole fits inside) ∙ ap (λ n. n + 1) (sym sectors)
 
 costs_are : (m : List Sector) (entries : List Entry) → All IsWhole m → All EntryHasSpelling entries → ((k : ℕ) → Contains (data_sectors entries) k → k < length m) → sum_by (λ blob. cost blob.bytes) (map (blob_of m) entries) ≡ length (data_sectors entries) + length entries
 costs_are m [] whole fit inside = refl
@@ -75,11 +79,11 @@ longest_is root entries layout kept =
     ap sector_count (longest_runs-same (layout_of root.sectors (used root entries)) layout
     (same-from_used (layout_of root.sectors (used root entries)) layout (used root entries) (length-map-range_with_len _ 0 root.sectors ∙ sym kept.size) claims kept.claims))
 
-if_no : {A : Type 0} (b : Bool) (x y : A) → (b ≡ true → ⊥) → (if b then x else y) ≡ y
+pub if_no : {A : Type 0} (b : Bool) (x y : A) → (b ≡ true → ⊥) → (if b then x else y) ≡ y
 if_no true x y isnt = absurd (isnt refl)
 if_no false x y isnt = refl
 
-if_yes : {A : Type 0} (b : Bool) (x y : A) → (b ≡ false → ⊥) → (if b then x else y) ≡ x
+pub if_yes : {A : Type 0} (b : Bool) (x y : A) → (b ≡ false → ⊥) → (if b then x else y) ≡ x
 if_yes true x y isnt = refl
 if_yes false x y isnt = absurd (isnt refl)
 
@@ -127,3 +131,10 @@ module _ {T : Type 0} (sectors longest : ℕ) (s : State) (bytes : List ℕ) (us
 pub answers_take : (e : TakeRefusal) → IsAnswer (Some (refusal_of_take e)) (Err (refusal_of_take e))
 answers_take take.Full = inl refl
 answers_take take.Fragmented = inl refl
+
+-- a change that takes no sector is refused at the last generation alone
+pub change_accepted : (s : State) → s.generation ≢ last_generation → refusal_of_change s ≡ None
+change_accepted s usable = if_no (nat_eq s.generation last_generation) _ _ (λ is. usable (eqb-true s.generation last_generation is))
+
+pub change_refused : (s : State) → s.generation ≡ last_generation → refusal_of_change s ≡ Some GenerationEnd
+change_refused s last = if_yes (nat_eq s.generation last_generation) _ _ (λ isnt. false≢true (sym isnt ∙ eq-eqb s.generation last_generation last))

@@ -124,7 +124,7 @@ last_cases P xs x i d lt before at = ⊎_elim
     (cases_lt i (length xs))
 
 -- names stay apart with a new one behind them
-names_more : (entries : List Entry) (entry : Entry) → HaveOwnNames entries → All (λ other. name_of other ≢ name_of entry) entries → HaveOwnNames (entries ++ entry ∷ [])
+pub names_more : (entries : List Entry) (entry : Entry) → HaveOwnNames entries → All (λ other. name_of other ≢ name_of entry) entries → HaveOwnNames (entries ++ entry ∷ [])
 names_more entries entry names new i j d lt fits =
     last_cases (λ b. name_of (get_or (entries ++ entry ∷ []) i d) ≢ name_of b) entries entry j d fits
     (λ before. subst (λ a. name_of a ≢ name_of (get_or entries j d)) (sym (get_or_append_left entries (entry ∷ []) d i (omega (arith, lt, before)))) (names i j d lt before))
@@ -151,6 +151,23 @@ data_more entries entry =
     flat_map-append (λ (e : Entry). places (extents_of e)) entries (entry ∷ [])
     ∙ ap (λ l. data_sectors entries ++ l) (append-nil (places (extents_of entry)))
 
+-- Room that was claimed beside what is kept: no sector of it is in use, and none stands twice.
+module _ {root : Root} {entries : List Entry} {layout new : List Bool} {need : ℕ} {extents : List Extent} {at : ℕ} (kept : IsKept root entries layout) (room : IsRoom need layout new extents at) where
+  pub room_once : AreDistinct (used root entries ++ (places extents ++ at ∷ []))
+  room_once = (claims_room room).once (used root entries) kept.claims kept.apart.once
+
+  pub room_inside : All (IsUsable root.sectors) (used root entries ++ (places extents ++ at ∷ []))
+  room_inside = All-append (IsUsable root.sectors) (used root entries) (places extents ++ at ∷ []) kept.apart.inside (subst (λ n. All (IsUsable n) (places extents ++ at ∷ [])) kept.size (claims_room room).inside)
+
+  pub room_unused : (k : ℕ) → Contains (at ∷ places extents) k → Contains (used root entries) k → ⊥
+  room_unused k here in_used = distinct-parts (used root entries) (places extents ++ at ∷ []) k room_once in_used (contains_swapped (at ∷ []) (places extents) k here)
+
+  pub room_behind : (k : ℕ) → Contains (at ∷ places extents) k → IsUsable root.sectors k
+  room_behind k here = All-contains (IsUsable root.sectors) (used root entries ++ (places extents ++ at ∷ [])) k room_inside (Contains-append_right (used root entries) (places extents ++ at ∷ []) k (contains_swapped (at ∷ []) (places extents) k here))
+
+  pub entry_elsewhere : Contains (places extents) at → ⊥
+  entry_elsewhere found = distinct-parts (places extents) (at ∷ []) at (distinct-last (used root entries) (places extents ++ at ∷ []) room_once) found (0, omega arith, refl)
+
 -- A new entry in room that was claimed for it.
 module _ {root : Root} {entries : List Entry} {layout new : List Bool} {need : ℕ} {extents : List Extent} {at : ℕ} {entry : Entry} {next : Root} (is_new : IsNew root entries layout new need extents at entry next) where
   kept : IsKept root entries layout
@@ -172,10 +189,10 @@ module _ {root : Root} {entries : List Entry} {layout new : List Bool} {need : �
   beside = claims_room is_new.room
 
   once : AreDistinct (used root entries ++ (places extents ++ at ∷ []))
-  once = beside.once (used root entries) kept.claims kept.apart.once
+  once = room_once kept is_new.room
 
   inside : All (IsUsable root.sectors) (used root entries ++ (places extents ++ at ∷ []))
-  inside = All-append (IsUsable root.sectors) (used root entries) (places extents ++ at ∷ []) kept.apart.inside (subst (λ n. All (IsUsable n) (places extents ++ at ∷ [])) kept.size beside.inside)
+  inside = room_inside kept is_new.room
 
   -- the next root lists the entries from before and the new one
   next_listed : listed_sectors next ≡ listed
@@ -236,15 +253,6 @@ module _ {root : Root} {entries : List Entry} {layout new : List Bool} {need : �
     claims = next_claims;
   }
 
-  pub room_unused : (k : ℕ) → Contains (at ∷ places extents) k → Contains (used root entries) k → ⊥
-  room_unused k here in_used = distinct-parts (used root entries) (places extents ++ at ∷ []) k once in_used (contains_swapped (at ∷ []) (places extents) k here)
-
-  pub room_behind : (k : ℕ) → Contains (at ∷ places extents) k → IsUsable root.sectors k
-  room_behind k here = All-contains (IsUsable root.sectors) (used root entries ++ (places extents ++ at ∷ [])) k inside (Contains-append_right (used root entries) (places extents ++ at ∷ []) k (contains_swapped (at ∷ []) (places extents) k here))
-
-  pub entry_elsewhere : Contains (places extents) at → ⊥
-  entry_elsewhere found = distinct-parts (places extents) (at ∷ []) at (distinct-last (used root entries) (places extents ++ at ∷ []) once) found (0, omega arith, refl)
-
   module _ (name bytes : List ℕ) (its_name : name_of entry ≡ name) (its_length : entry.file_length ≡ length bytes) (enough : length bytes ≤ 512 * sector_count extents) (s : State) where
     new_state : (m : List Sector) → s ≡ state_of m root entries → bytes_at m (places extents) ≡ padded (sector_bytes * sector_count extents) bytes → with_new name bytes s ≡ state_of m next others
     new_state m is written =
@@ -275,7 +283,7 @@ module _ {root : Root} {entries : List Entry} {layout new : List Bool} {need : �
     -- What the put makes of sectors.
     pub new_put : IsPut root entries s extents at bytes entry next others (with_new name bytes s)
     new_put = record {
-      unused = room_unused;
+      unused = room_unused kept is_new.room;
       stands = λ m by written spelt.
           let size : root.sectors ≡ length m = by.intact.size in
           next_stands m root next others next_fits (ap (λ r. r.generation) is_next) (ap (λ r. r.sectors) is_next ∙ size) (omega (arith, size, kept.root_fits.sectors)) (with_new name bytes s)

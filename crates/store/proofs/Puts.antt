@@ -3,7 +3,7 @@ use Rattle.std.proofs.Common.{◌≡◌, ◌≢◌, inl, inr, ⊎_elim, ◌⊎�
 use Rattle.std.specs.Prelude.{Contains}
 use Rattle.std.proofs.lemmas.List.{length-set, get_or-set_same, get_or-set_other}
 use Rattle.std.proofs.lemmas.List.Elements.{Contains-append_left, Contains-append_right, Contains-get_or, All-contains}
-use Rattle.sector_disk.specs.Disk.{Sector, sector, DiskFacts, Mixture, IsSynced, LeavesOnly, IsMixtureBut, IsMixtureOrSet}
+use Rattle.sector_disk.specs.Disk.{Sector, sector, DiskFacts, Mixture, HoldsNow, IsSynced, LeavesOnly, IsMixtureBut, IsMixtureOrSet}
 use Rattle.sector_disk.proofs.Moments.{goes_on, weaken, left_now}
 use Rattle.extents.specs.Limits.{root_sectors}
 use Rattle.roots.specs.declared.root.Root.{Root}
@@ -14,6 +14,7 @@ use Rattle.roots.specs.Choice.{IsCurrent, slot_of}
 use Rattle.roots.proofs.ChoiceLemmas.{current-next_odd, current-next_even}
 use Rattle.store.specs.State.{State}
 use Rattle.store.specs.Stands.{IsListed, UsesApart, HaveOwnNames, StandsBy, Stands, blob_of, data_sectors, names_at, used, state_of}
+use Rattle.store.specs.inside.Next.{IsFollowed}
 use Rattle.store.proofs.UsedAlone.{same_used, blobs_same, length-listed}
 
 module _ (m : List Sector) (root next : Root) (others : List Entry) (fits : RootHasSpelling next) (follows : next.generation ≡ root.generation + 1) (size : next.sectors ≡ length m) (some : root_sectors ≤ length m) where
@@ -104,3 +105,20 @@ module _ {old mid : DiskFacts} (root : Root) (entries : List Entry) (s : State) 
     -- and once it is synced the new one alone
     pub committed_stands : {new : DiskFacts} → IsSynced new → new.now ≡ set mid.now at content → (m : List Sector) → Mixture new m → StandsBy m next others s'
     committed_stands is_synced is_set m mixture = subst (λ l. StandsBy l next others s') (sym (is_synced.each m mixture ∙ is_set)) written
+
+-- A root is written where each mixture stands for a state: each stands for that one or the next.
+module _ {old : DiskFacts} (root : Root) (entries : List Entry) (s : State) (next : Root) (others : List Entry) (s' : State) (stands : (m : List Sector) → Mixture old m → StandsBy m root entries s) (followed : IsFollowed root entries s next others s') (at : ℕ) (content : Sector) (slot : at ≡ slot_of next.generation) (spelt : content ≡ root_bytes next) where
+  after_stands : (m : List Sector) → Mixture old m → StandsBy (set m at content) next others s'
+  after_stands m mixture = subst (λ c. StandsBy (set m at c) next others s') (sym spelt)
+      (subst (λ k. StandsBy (set m k (root_bytes next)) next others s') (sym slot) (followed.stands m (stands m mixture)))
+
+  pub followed_only : {new : DiskFacts} → LeavesOnly old new (IsMixtureOrSet old at content) → LeavesOnly old new (λ m. Stands m s ⊎ Stands m s')
+  followed_only leaves = weaken (IsMixtureOrSet old at content) (λ m. Stands m s ⊎ Stands m s')
+      (λ m either. ⊎_elim
+      (λ mixture. inl (root, entries, stands m mixture))
+      (λ newer. inr (next, others, subst (λ l. StandsBy l next others s') (sym newer.2) (after_stands newer.0 newer.1)))
+      either)
+      leaves
+
+  pub followed_done : HoldsNow old → {new : DiskFacts} → IsSynced new → new.now ≡ set old.now at content → (m : List Sector) → Mixture new m → StandsBy m next others s'
+  followed_done holds is_synced is_set m mixture = subst (λ l. StandsBy l next others s') (sym (is_synced.each m mixture ∙ is_set)) (after_stands old.now holds)

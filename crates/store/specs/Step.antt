@@ -1,16 +1,18 @@
 -- A store's changes: the state that each makes, and its refusals in their order.
-use Rattle.std.specs.Prelude.{◌≡◌, ◌≢◌, ℕ, ◌+◌, ◌-◌, ◌^◌, ◌==◌, ◌⊎◌, nat_lt, List, [], ◌∷◌, ◌++◌, length, All, Option, Some, None, Result, Ok, Err, if◌then◌else◌}
+use Rattle.std.specs.Prelude.{◌≡◌, ◌≢◌, ℕ, ◌+◌, ◌-◌, ◌<◌, ◌^◌, ◌==◌, ◌⊎◌, nat_lt, bytes_eq, List, [], ◌∷◌, ◌++◌, length, slice_index_or, All, Option, Some, None, Result, Ok, Err, if◌then◌else◌}
 use Rattle.std.specs.Int.{IsInRange}
 use Rattle.extents.specs.Extent.{sector_count}
 use Rattle.extents.specs.Longest.{longest_runs}
 use Rattle.extents.specs.Used.{layout_of}
 use Rattle.roots.specs.Limits.{least_file_bytes, most_file_bytes, most_name_bytes, most_libraries}
+use Rattle.roots.specs.declared.entry.Entry.{Entry}
 use Rattle.roots.specs.Entry.{IsNameByte}
+use Rattle.roots.specs.Root.{listed_preloads}
 use Rattle.store.specs.declared.refusal.StoreRefusal.{StoreRefusal}
-use Rattle.store.specs.declared.refusal.StoreRefusal.TheVariants.{Device, Full, Fragmented, TooMany, GenerationEnd, OutOfMemory}
+use Rattle.store.specs.declared.refusal.StoreRefusal.TheVariants.{Device, Reopen, Full, Fragmented, TooMany, GenerationEnd, OutOfMemory}
 use Rattle.extents.specs.declared.refusal.TakeRefusal.{TakeRefusal}
 use Rattle.extents.specs.declared.refusal.TakeRefusal.TheVariants as take
-use Rattle.store.specs.State.{State, cost, free}
+use Rattle.store.specs.State.{Blob, State, cost, free}
 use Rattle.store.specs.Opened.{Opened}
 use Rattle.store.specs.Stands.{name_of, used}
 
@@ -27,12 +29,54 @@ IsFileSize size = IsInRange least_file_bytes most_file_bytes size
 abbrev pub LacksName : {D : Type 0} → Opened D → List ℕ → Type 0
 LacksName store name = All (λ entry. name_of entry ≢ name) store.entries
 
+-- a byte string of the store has this name
+abbrev pub HasName : {D : Type 0} → Opened D → List ℕ → Type 0
+HasName store name = (i : ℕ) × (i < length store.entries) × ((d : Entry) → name_of (slice_index_or store.entries i d) ≡ name)
+
+-- no preload of the store has this name
+abbrev pub IsNoPreload : {D : Type 0} → Opened D → List ℕ → Type 0
+IsNoPreload store name = All (λ position. (d : Entry) → name_of (slice_index_or store.entries position d) ≢ name) (listed_preloads store.root)
+
 -- the state with one more byte string, behind the others
 abbrev pub with_new : List ℕ → List ℕ → State → State
 with_new name bytes s = record {
   generation = s.generation + 1;
   blobs = s.blobs ++ record { name = name; bytes = bytes } ∷ [];
   preloads = s.preloads;
+}
+
+-- the byte strings with these bytes in place of those under the name
+abbrev pub blobs_with : (name bytes : List ℕ) → List Blob → List Blob
+blobs_with name bytes [] = []
+blobs_with name bytes (blob ∷ blobs) = if bytes_eq name blob.name then record { name = name; bytes = bytes } ∷ blobs else blob ∷ blobs_with name bytes blobs
+
+-- the state with these bytes in place of those under the name
+abbrev pub with_bytes : (name bytes : List ℕ) → State → State
+with_bytes name bytes s = record {
+  generation = s.generation + 1;
+  blobs = blobs_with name bytes s.blobs;
+  preloads = s.preloads;
+}
+
+-- the byte strings without the one of this name
+abbrev pub blobs_without : List ℕ → List Blob → List Blob
+blobs_without name [] = []
+blobs_without name (blob ∷ blobs) = if bytes_eq name blob.name then blobs else blob ∷ blobs_without name blobs
+
+-- the state without the byte string of this name: those behind it close up, and the preloads keep their names
+abbrev pub without : List ℕ → State → State
+without name s = record {
+  generation = s.generation + 1;
+  blobs = blobs_without name s.blobs;
+  preloads = s.preloads;
+}
+
+-- the state with the preloads of these names
+abbrev pub with_preloads : List (List ℕ) → State → State
+with_preloads names s = record {
+  generation = s.generation + 1;
+  blobs = s.blobs;
+  preloads = names;
 }
 
 -- the greatest generation, which no change follows
@@ -65,6 +109,30 @@ IsAnswer (Some first) (Ok done) = ⊥
 IsAnswer (Some Full) (Err refusal) = (refusal ≡ Full) ⊎ (refusal ≡ OutOfMemory)
 IsAnswer (Some Fragmented) (Err refusal) = (refusal ≡ Fragmented) ⊎ (refusal ≡ OutOfMemory)
 IsAnswer (Some first) (Err refusal) = refusal ≡ first
+
+-- The first reason to refuse a change that takes no sector, or none.
+abbrev pub refusal_of_change : State → Option StoreRefusal
+refusal_of_change s = if s.generation == last_generation then Some GenerationEnd else None
+
+-- How a change that takes no memory is answered whose first refusal this is: so, but that a failing device may stand in place of Ok.
+abbrev pub IsExactAnswer : Option StoreRefusal → Result (Unit {0}) StoreRefusal → Type 0
+IsExactAnswer None (Ok done) = Unit
+IsExactAnswer None (Err refusal) = refusal ≡ Device
+IsExactAnswer (Some first) (Ok done) = ⊥
+IsExactAnswer (Some first) (Err refusal) = refusal ≡ first
+
+-- The refusals of such a change on any disk, honest or not.
+abbrev pub IsRefusalOfChange : StoreRefusal → Type 0
+IsRefusalOfChange Device = Unit
+IsRefusalOfChange Reopen = Unit
+IsRefusalOfChange GenerationEnd = Unit
+IsRefusalOfChange other = ⊥
+
+-- The refusals of a put in place of other bytes on any disk: these, and those of a change that takes no sector.
+abbrev pub IsRefusalOfPutOver : StoreRefusal → Type 0
+IsRefusalOfPutOver Full = Unit
+IsRefusalOfPutOver Fragmented = Unit
+IsRefusalOfPutOver other = IsRefusalOfChange other
 
 -- the store's word for what taking sectors refuses
 abbrev pub refusal_of_take : TakeRefusal → StoreRefusal

@@ -2,4 +2,5 @@
 pub mod Claimed
 pub mod First
 pub mod Kept
+pub mod Next
 pub mod Room

@@ -1,23 +1,41 @@
 //! Named byte strings that survive a power cut.
 //!
-//! So far a disk is made a store, by `Store::format`, and byte strings are put there, by
-//! `Store::put_new`: a stop at any moment leaves the state from before the call or the one after.
+//! A disk is made a store by `Store::format`, and opened again by `Store::open`. Byte strings are
+//! put there, replaced and taken out by `Store::put_new`, `put_over` and `delete`, and
+//! `set_preloads` chooses the preloads: a stop at any moment leaves the state from before the call
+//! or the one after.
 //! What sectors stand for is defined in specs/Stands.antt.
 #![tactic(auto)]
 
+mod entries;
 mod format;
+mod found;
 mod geometry;
 mod names;
+mod next;
+mod open;
+mod preload;
 mod put;
+mod query;
+mod read;
 mod refusal;
+mod remove;
+mod replace;
 mod room;
 mod slots;
 mod store;
+mod used;
 
 pub use refusal::StoreRefusal;
 pub use store::Store;
 
 #[cfg(test)]
+mod change_tests;
+#[cfg(test)]
+mod open_tests;
+#[cfg(test)]
 mod put_tests;
+#[cfg(test)]
+mod read_tests;
 #[cfg(test)]
 mod tests;

@@ -1,5 +1,5 @@
 // What a put writes: an entry, the root that lists it, and the two passes.
-ghost use Rattle.std.specs.Prelude.{◌≡◌, ◌+◌, ◌-◌, replicate, ◌<◌, ◌≤◌, ◌^◌, ◌⊎◌, List, [], ◌∷◌, ◌++◌};
+ghost use Rattle.std.specs.Prelude.{◌≡◌, ◌+◌, ◌<◌, ◌≤◌, ◌^◌, ◌⊎◌, List, [], ◌∷◌, ◌++◌};
 ghost use Rattle.std.specs.Prelude.{length, All, AllPairs, Contains, IsTrue, OnOk};
 ghost use Rattle.std.specs.Int.{div_ceil};
 ghost use Rattle.extents.specs.Extent.{IsApart, sector_count, places};
@@ -18,9 +18,9 @@ ghost use Rattle.store.specs.Step.{IsName, IsFileSize};
 ghost use Rattle.store.specs.inside.Room.{IsPut};
 
 use crate::room::Room;
-use extents::{Extent, MOST_EXTENTS};
+use extents::Extent;
 use passes::{commit, stage};
-use roots::{Entry, MOST_LIBRARIES, MOST_NAME_BYTES, Root, encode_entry, encode_root, slot_of};
+use roots::{Entry, MOST_LIBRARIES, Root, encode_entry, encode_root, slot_of};
 use sector_disk::{Disk, DiskFault, SECTOR_BYTES};
 
 /// How many sectors the bytes take.
@@ -43,23 +43,7 @@ pub(crate) fn new_entry(name: &[u8], bytes: &[u8], extents: &[Extent]) -> Entry
     ensures length { result.file_length ≡ length bytes.now }
     ensures extents { extents_of result ≡ extents.now }
 {
-    Entry {
-        file_length: bytes.len() as u32,
-        name_length: name.len() as u16,
-        extent_count: extents.len() as u16,
-        name: placed::<u8, MOST_NAME_BYTES>(name, 0),
-        extents: placed::<Extent, MOST_EXTENTS>(extents, Extent { start: 0, count: 0 }),
-    }
-}
-
-/// The values in the first of `N` places, and this one in the others.
-fn placed<T: Copy, const N: usize>(values: &[T], unused: T) -> [T; N]
-    requires { length values.now ≤ N }
-    ensures { result ≡ values.now ++ replicate (N - length values.now) unused }
-{
-    let mut places = [unused; N];
-    places[..values.len()].copy_from_slice(values);
-    places
+    Entry::new(name, bytes.len() as u32, extents)
 }
 
 /// The next root, which lists one more entry.

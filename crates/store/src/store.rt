@@ -1,6 +1,5 @@
 use crate::format::write_first_root;
 use crate::geometry::is_geometry;
-use crate::names::position_of;
 use crate::put::{new_entry, sectors_of, with_entry, write_put};
 use crate::refusal::StoreRefusal;
 use crate::room::{give_back, take_room};
@@ -12,12 +11,12 @@ use std::marker::Model;
 
 /// A store on a disk. Its entries are kept in memory, and no byte of a byte string is.
 pub struct Store<D: Disk> {
-    disk: D,
-    root: Root,
-    entries: Vec<Entry>,
-    layout: Layout,
+    pub(crate) disk: D,
+    pub(crate) root: Root,
+    pub(crate) entries: Vec<Entry>,
+    pub(crate) layout: Layout,
     // A write or a sync failed: what the disk holds is known again once it is opened.
-    failed: bool,
+    pub(crate) failed: bool,
 }
 
 impl<D: Disk> Model for Store<D> {
@@ -40,15 +39,14 @@ impl<D: Disk> Model for Store<D> {
 
 impl<D: Disk> Store<D> {
     ghost use Rattle.std.specs.Prelude.{◌≡◌, ◌≢◌, ◌+◌, ◌<◌, ◌⊎◌, ◌↔◌, IsTrue, IfOk, IfErr, OnOk};
-    ghost use Rattle.std.specs.Prelude.{length, slice_index_or, IsNone, IfSome};
-    ghost use Rattle.roots.specs.declared.entry.Entry.{Entry};
+    ghost use Rattle.std.specs.Prelude.{length};
     ghost use Rattle.std.specs.Int.{div_ceil};
     ghost use Rattle.sector_disk.specs.Disk.{sector_bytes};
     ghost use Rattle.sector_disk.specs.Disk.{Mixture, LeavesOnly, AreCallsExactly, AreCallsAtMost};
     ghost use Rattle.store.specs.Opened.{IsAt, disk_after};
     ghost use Rattle.store.specs.Opening.{IsGeometry, HasRootMagic};
     ghost use Rattle.store.specs.Opening.{RefusesFormat, IsRefusalOfFormat};
-    ghost use Rattle.store.specs.Stands.{Stands, name_of};
+    ghost use Rattle.store.specs.Stands.{Stands};
     ghost use Rattle.store.specs.State.{State, empty_state};
     ghost use Rattle.store.specs.Step.{IsName, IsFileSize, LacksName, with_new};
     ghost use Rattle.store.specs.Step.{longest_free, refusal_of_new, IsAnswer};
@@ -98,15 +96,6 @@ impl<D: Disk> Store<D> {
         }
     }
 
-    /// The position of the byte string with this name.
-    pub fn position(&self, name: &[u8]) -> Option<usize>
-        ensures none { IsNone result → LacksName self.now name.now }
-        ensures some { IfSome result (λ i. (i < length self.now.entries)
-            × ((d : Entry) → name_of (slice_index_or self.now.entries i d) ≡ name.now)) }
-    {
-        position_of(&self.entries, name)
-    }
-
     /// Puts a byte string of 64 bytes to 16 MiB, with a name that no other has, behind the others.
     pub fn put_new(&mut self, name: &[u8], bytes: &[u8]) -> Result<(), StoreRefusal>
         requires name { IsName name.now }
@@ -149,7 +138,7 @@ impl<D: Disk> Store<D> {
         let root = with_entry(&self.root, room.entry);
         self.failed = true;
         if let Err(fault) = write_put(&mut self.disk, &room, bytes, &entry, &root) {
-            give_back(&mut self.layout, &room);
+            give_back(&mut self.layout, room.extents.as_slice(), room.entry);
             return Err(StoreRefusal::from(fault));
         }
         match self.entries.push(entry) {

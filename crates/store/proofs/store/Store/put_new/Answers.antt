@@ -1,10 +1,11 @@
-use Rattle.std.proofs.Common.{◌≡◌, ◌≢◌, ◌⊎◌, inl, ◌*◌, ◌≤◌, ◌∷◌, ◌++◌, [], All, length, IsTrue, Ok, Err, refl, sym, subst, ap, ◌∙◌, arith}
+use Rattle.std.proofs.Common.{◌≡◌, ◌≢◌, ◌⊎◌, false, inl, ◌*◌, ◌≤◌, ◌∷◌, ◌++◌, [], All, length, IsTrue, Ok, Err, refl, sym, subst, ap, ◌∙◌, arith}
 use Rattle.std.proofs.lemmas.Grind.{div_ceil_times}
 use Rattle.std.proofs.lemmas.Result.{err_from_is_err_and}
 use Rattle.sector_disk.specs.Disk.{LeavesOnly}
 use Rattle.sector_disk.proofs.Mixtures.{whole_mixture}
-use Rattle.extents.specs.Extent.{sector_count}
-use Rattle.extents.specs.Layout.{IsInside}
+use Rattle.extents.specs.Extent.{AreDistinct, one_sector, places, sector_count}
+use Rattle.extents.specs.Layout.{AllClaimed, IsInside, with_flag}
+use Rattle.extents.proofs.PlacesLemmas.{distinct-places}
 use Rattle.extents.specs.Longest.{longest_runs}
 use Rattle.store.specs.Opened.{IsAt}
 use Rattle.store.specs.Stands.{Stands, StandsBy, name_of, used}
@@ -43,7 +44,7 @@ write_put-requires-clause-at g c =
       later = omega (arith, c.if-self-2.false, c.self.invariant.0.root_fits.generation);
       is_next = c.with_entry-root.ensures;
     } in
-    let usable = room_behind is_new _ (0, omega arith, refl) in omega (arith, usable.1, c.self.invariant.1)
+    let usable = room_behind is_new.kept is_new.room _ (0, omega arith, refl) in omega (arith, usable.1, c.self.invariant.1)
 
 pub write_put-requires-clause-behind : goal.write_put-requires-clause-behind
 write_put-requires-clause-behind g c =
@@ -57,7 +58,7 @@ write_put-requires-clause-behind g c =
       later = omega (arith, c.if-self-2.false, c.self.invariant.0.root_fits.generation);
       is_next = c.with_entry-root.ensures;
     } in
-    λ k found. (room_behind is_new k found).0
+    λ k found. (room_behind is_new.kept is_new.room k found).0
 
 pub write_put-requires-clause-elsewhere : goal.write_put-requires-clause-elsewhere
 write_put-requires-clause-elsewhere g c =
@@ -71,12 +72,23 @@ write_put-requires-clause-elsewhere g c =
       later = omega (arith, c.if-self-2.false, c.self.invariant.0.root_fits.generation);
       is_next = c.with_entry-root.ensures;
     } in
-    entry_elsewhere is_new
+    entry_elsewhere is_new.kept is_new.room
 
 pub give_back-requires-clause-inside : goal.give_back-requires-clause-inside
 give_back-requires-clause-inside g c =
     let room = c.in_ok-room.ensures.ok in
-    subst (λ flags. All (IsInside flags) c.in_ok-room.room.extents) (sym room.claim.undone) (inside_mid room)
+    subst (All (IsInside (with_flag false (one_sector c.in_ok-room.room.entry) c.take_room.new.layout))) (sym c.as_slice-in-Err.ensures.value)
+    (subst (λ flags. All (IsInside flags) c.in_ok-room.room.extents) (sym room.claim.undone) (inside_mid room))
+
+pub give_back-requires-clause-claimed : goal.give_back-requires-clause-claimed
+give_back-requires-clause-claimed g c =
+    let room = c.in_ok-room.ensures.ok in
+    subst (All (AllClaimed (with_flag false (one_sector c.in_ok-room.room.entry) c.take_room.new.layout))) (sym c.as_slice-in-Err.ensures.value)
+    (subst (λ flags. All (AllClaimed flags) c.in_ok-room.room.extents) (sym room.claim.undone) room.given.claimed)
+
+pub give_back-requires-clause-once : goal.give_back-requires-clause-once
+give_back-requires-clause-once g c =
+    subst (λ l. AreDistinct (places l)) (sym c.as_slice-in-Err.ensures.value) (distinct-places c.in_ok-room.room.extents c.in_ok-room.ensures.ok.given.apart)
 
 pub returns-in-Err-clause-any_moment : goal.returns-in-Err-clause-any_moment
 returns-in-Err-clause-any_moment g c s at_entry =

@@ -1,0 +1,41 @@
+// Disks with stores on them.
+
+use crate::calls::Answer;
+use crate::change::Change;
+use crate::state::State;
+use anyhow::{Context, Result, bail};
+use sector_disk::{Fuse, Memory};
+use std::alloc::Global;
+use store::Store;
+
+/// A disk in memory whose power can be cut.
+pub(crate) type Powered = Fuse<Memory>;
+
+/// This disk, and no call of it fails.
+pub(crate) fn whole(disk: Memory) -> Powered {
+    Fuse::new(disk, 0, false, false)
+}
+
+// Makes the changes one after the other, and follows the state.
+fn make_all(alloc: Global, store: &mut Store<Powered>, changes: &[Change]) -> Result<State> {
+    let mut state = State::empty(alloc);
+    for change in changes {
+        let answer: Answer = change.make(alloc, store)?;
+        if answer.is_err() {
+            bail!("{change:?} was refused");
+        }
+        state = state.after(alloc, *change)?;
+    }
+    Ok(state)
+}
+
+/// A disk of so many sectors with a store after these changes, and the state that it is to have.
+pub(crate) fn prepared(alloc: Global, sectors: u32, changes: &[Change]) -> Result<(Memory, State)> {
+    let disk = Memory::new(alloc, sectors)?;
+    let Ok(mut store) = Store::format(alloc, whole(disk)) else {
+        bail!("format was refused");
+    };
+    let state = make_all(alloc, &mut store, changes);
+    let disk = store.into_disk().into_inner();
+    Ok((disk, state.context("preparing a disk")?))
+}

@@ -1,0 +1,40 @@
+// The sectors of a disk, one by one.
+
+use anyhow::{Result, bail};
+use sector_disk::{Disk, Memory, SECTOR_BYTES};
+
+/// What a sector holds.
+pub(crate) fn sector(disk: &mut Memory, at: u32) -> Result<[u8; SECTOR_BYTES]> {
+    if at >= disk.sectors() {
+        bail!("no sector {at}");
+    }
+    let mut content = [0; SECTOR_BYTES];
+    disk.read(at, &mut content)?;
+    Ok(content)
+}
+
+/// Writes a sector, and syncs.
+pub(crate) fn put_sector(disk: &mut Memory, at: u32, content: &[u8; SECTOR_BYTES]) -> Result<()> {
+    if at >= disk.sectors() {
+        bail!("no sector {at}");
+    }
+    disk.write(at, content)?;
+    disk.sync()?;
+    Ok(())
+}
+
+/// Writes over some bytes.
+pub(crate) fn put_bytes(sector: &mut [u8; SECTOR_BYTES], at: usize, bytes: &[u8]) {
+    for (place, byte) in sector.iter_mut().skip(at).zip(bytes) {
+        *place = *byte;
+    }
+}
+
+/// The number that some bytes say, lowest byte first.
+pub(crate) fn number(sector: &[u8; SECTOR_BYTES], at: usize, bytes: usize) -> u64 {
+    let mut number = 0u64;
+    for byte in sector.iter().skip(at).take(bytes).rev() {
+        number = number.wrapping_mul(256).wrapping_add(u64::from(*byte));
+    }
+    number
+}

@@ -1,0 +1,67 @@
+// Opening a store again.
+use crate::found::{Found, find_store};
+use crate::geometry::is_geometry;
+use crate::refusal::StoreRefusal;
+use crate::store::Store;
+use sector_disk::Disk;
+use std::alloc::Global;
+
+impl<D: Disk> Store<D> {
+    ghost use Rattle.std.specs.Prelude.{◌≡◌, ◌+◌, ◌<◌, ◌⊎◌, IsTrue, IfOk, IfErr, MatchResult, length};
+    ghost use Rattle.sector_disk.specs.Disk.{Mixture, LeavesOnly, AreCallsExactly, AreCallsAtMost};
+    ghost use Rattle.roots.specs.Limits.{most_libraries};
+    ghost use Rattle.store.specs.Opened.{IsAt, disk_after};
+    ghost use Rattle.store.specs.Opening.{IsGeometry, RefusesOpen, IsRefusalOfOpen};
+    ghost use Rattle.store.specs.Stands.{Stands};
+    ghost use Rattle.store.specs.State.{State};
+
+    /// Opens the store that a disk holds, after a stop too. It writes nothing: it syncs, and reads
+    /// the two root sectors and one sector an entry. Where it refuses it hands the disk back.
+    pub fn open(alloc: Global, disk: D) -> Result<Store<D>, (StoreRefusal, D)>
+        // A stop at any moment leaves what it could leave before.
+        ensures any_moment { IsTrue (D.facts disk).honest → LeavesOnly (D.facts disk)
+            (D.facts (disk_after result)) (Mixture (D.facts disk)) }
+
+        // The store is at the state for which what reads give stands: every mixture stands for it.
+        ensures ok { IsTrue (D.facts disk).honest → IfOk result (λ store.
+            (s : State) × Stands (D.facts disk).now s × IsAt D.facts store s) }
+        ensures stands { IsTrue (D.facts disk).honest → (s : State) → Stands (D.facts disk).now s
+            → MatchResult result (λ store. IsAt D.facts store s) (λ e.
+            (e.0 ≡ StoreRefusal.Device) ⊎ (e.0 ≡ StoreRefusal.OutOfMemory)) }
+        ensures refused { IsTrue (D.facts disk).honest
+            → IfErr result (λ e. RefusesOpen (D.facts disk).now e.0) }
+
+        // On any disk
+        ensures geometry { IfOk result (λ _. IsGeometry (D.facts disk).sectors) }
+        ensures refusals { IfErr result (λ e. IsRefusalOfOpen (D.facts disk).sectors e.0) }
+        ensures device { IfErr result (λ e. e.0 ≡ StoreRefusal.Device
+            → (D.facts disk).failures < (D.facts e.1).failures) }
+        ensures untouched { IfErr result (λ e. e.0 ≡ StoreRefusal.BadGeometry → e.1 ≡ disk) }
+        ensures calls { AreCallsAtMost (3 + most_libraries)
+            (D.facts disk) (D.facts (disk_after result)) }
+        ensures all_calls { IfOk result (λ store. AreCallsExactly (3 + length store.entries)
+            (D.facts disk) (D.facts store.disk)) }
+    {
+        let sectors = disk.sectors();
+        if !is_geometry(sectors) {
+            return Err((StoreRefusal::BadGeometry, disk));
+        }
+        let mut disk = disk;
+        match find_store(alloc, &mut disk, sectors) {
+            Ok(
+                Found {
+                    root,
+                    entries,
+                    layout,
+                },
+            ) => Ok(Store {
+                disk,
+                root,
+                entries,
+                layout,
+                failed: false,
+            }),
+            Err(refusal) => Err((refusal, disk)),
+        }
+    }
+}

@@ -1,0 +1,58 @@
+use crate::Store;
+use crate::next::{with_preloads, write_root};
+use crate::refusal::StoreRefusal;
+use sector_disk::Disk;
+
+impl<D: Disk> Store<D> {
+    ghost use Rattle.std.specs.Prelude.{◌≡◌, ◌≢◌, ◌<◌, ◌≤◌, ◌⊎◌, ◌↔◌, length, All};
+    ghost use Rattle.std.specs.Prelude.{IsTrue, IfErr, OnOk};
+    ghost use Rattle.extents.specs.Extent.{AreDistinct};
+    ghost use Rattle.roots.specs.Limits.{most_preloads};
+    ghost use Rattle.sector_disk.specs.Disk.{LeavesOnly, AreCallsExactly, AreCallsAtMost};
+    ghost use Rattle.store.specs.Opened.{IsAt};
+    ghost use Rattle.store.specs.Stands.{Stands, names_at};
+    ghost use Rattle.store.specs.State.{State};
+    ghost use Rattle.store.specs.Step.{with_preloads};
+    ghost use Rattle.store.specs.Step.{refusal_of_change, IsExactAnswer, IsRefusalOfChange};
+
+    /// Makes the byte strings at these positions the preloads, in this order: 16 at most, none of
+    /// them twice. It takes no memory and no sector.
+    pub fn set_preloads(&mut self, positions: &[usize]) -> Result<(), StoreRefusal>
+        requires few { length positions.now ≤ most_preloads }
+        requires inside { All (λ position. position < length self.old.entries) positions.now }
+        requires distinct { AreDistinct positions.now }
+
+        // A stop at any moment leaves the state from before it or the one after.
+        ensures any_moment { (s : State) → IsAt D.facts self.old s
+            → LeavesOnly (D.facts self.old.disk) (D.facts self.new.disk)
+            (λ m. Stands m s ⊎ Stands m (with_preloads (names_at s.blobs positions.now) s)) }
+        ensures ok { (s : State) → IsAt D.facts self.old s → OnOk result
+            (IsAt D.facts self.new (with_preloads (names_at s.blobs positions.now) s)) }
+        ensures refused { (s : State) → IsAt D.facts self.old s
+            → IsExactAnswer (refusal_of_change s) result }
+
+        // On any disk. After a failed call the store has to be opened again.
+        ensures reopen { (result ≡ Err StoreRefusal.Reopen) ↔ IsTrue self.old.failed }
+        ensures device { IfErr result (λ e. e ≡ StoreRefusal.Device
+            → ((D.facts self.old.disk).failures < (D.facts self.new.disk).failures)
+            × IsTrue self.new.failed) }
+        ensures same { IfErr result (λ e. e ≢ StoreRefusal.Device → self.new ≡ self.old) }
+        ensures refusals { IfErr result IsRefusalOfChange }
+        ensures all_calls { OnOk result
+            (AreCallsExactly 2 (D.facts self.old.disk) (D.facts self.new.disk)) }
+        ensures calls { AreCallsAtMost 2 (D.facts self.old.disk) (D.facts self.new.disk) }
+    {
+        if self.failed {
+            return Err(StoreRefusal::Reopen);
+        }
+        if self.root.generation == u64::MAX {
+            return Err(StoreRefusal::GenerationEnd);
+        }
+        let root = with_preloads(&self.root, positions);
+        self.failed = true;
+        write_root(&mut self.disk, &root)?;
+        self.root = root;
+        self.failed = false;
+        Ok(())
+    }
+}

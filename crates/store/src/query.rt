@@ -1,0 +1,70 @@
+// What a store tells of its state. It reads what is kept in memory, and makes no call of the disk.
+use crate::names::position_of;
+use crate::store::Store;
+use sector_disk::Disk;
+
+impl<D: Disk> Store<D> {
+    ghost use Rattle.std.specs.Prelude.{◌≡◌, ℕ, ◌<◌, ◌↔◌, All, Some, IsNone, IfSome};
+    ghost use Rattle.std.specs.Prelude.{length, slice_index_or};
+    ghost use Rattle.extents.specs.Extent.{AreDistinct};
+    ghost use Rattle.roots.specs.declared.entry.Entry.{Entry};
+    ghost use Rattle.roots.specs.Root.{listed_preloads};
+    ghost use Rattle.store.specs.Opened.{IsAt};
+    ghost use Rattle.store.specs.Stands.{name_of, no_blob, names_at};
+    ghost use Rattle.store.specs.State.{State};
+    ghost use Rattle.store.specs.Step.{LacksName};
+
+    /// How many byte strings there are.
+    pub fn count(&self) -> usize
+        ensures value { result ≡ length self.now.entries }
+        ensures state { (s : State) → IsAt D.facts self.now s → result ≡ length s.blobs }
+    {
+        self.entries.len()
+    }
+
+    /// The name of the byte string at this position.
+    pub fn name(&self, position: usize) -> &[u8]
+        requires { position < length self.now.entries }
+        ensures value { (d : Entry) →
+            result.now ≡ name_of (slice_index_or self.now.entries position d) }
+        ensures state { (s : State) → IsAt D.facts self.now s
+            → result.now ≡ (slice_index_or s.blobs position no_blob).name }
+    {
+        self.entries[position].name_bytes()
+    }
+
+    /// The length in bytes of the byte string at this position.
+    pub fn length(&self, position: usize) -> u32
+        requires { position < length self.now.entries }
+        ensures value { (d : Entry) →
+            result ≡ (slice_index_or self.now.entries position d).file_length }
+        ensures state { (s : State) → IsAt D.facts self.now s
+            → result ≡ length (slice_index_or s.blobs position no_blob).bytes }
+    {
+        self.entries[position].file_length
+    }
+
+    /// The position of the byte string with this name. It compares with each name, 100 at most.
+    pub fn position(&self, name: &[u8]) -> Option<usize>
+        ensures none { IsNone result → LacksName self.now name.now }
+        ensures some { IfSome result (λ i. (i < length self.now.entries)
+            × ((d : Entry) → name_of (slice_index_or self.now.entries i d) ≡ name.now)) }
+
+        // No two byte strings have one name, so a position at which the name stands is the answer.
+        ensures state { (s : State) → IsAt D.facts self.now s → (i : ℕ) → (result ≡ Some i)
+            ↔ ((i < length s.blobs) × ((slice_index_or s.blobs i no_blob).name ≡ name.now)) }
+    {
+        position_of(&self.entries, name)
+    }
+
+    /// The positions of the preloads, in their order.
+    pub fn preloads(&self) -> &[u16]
+        ensures value { result.now ≡ listed_preloads self.now.root }
+        ensures inside { All (λ position. position < length self.now.entries) result.now }
+        ensures once { AreDistinct result.now }
+        ensures state { (s : State) → IsAt D.facts self.now s
+            → s.preloads ≡ names_at s.blobs result.now }
+    {
+        self.root.preload_positions()
+    }
+}

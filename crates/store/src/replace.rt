@@ -1,0 +1,73 @@
+use crate::Store;
+use crate::names::position_of;
+use crate::next::with_entry_at;
+use crate::put::{new_entry, sectors_of, write_put};
+use crate::refusal::StoreRefusal;
+use crate::room::{give_back, take_room};
+use sector_disk::Disk;
+
+impl<D: Disk> Store<D> {
+    ghost use Rattle.std.specs.Prelude.{◌≡◌, ◌≢◌, ◌+◌, ◌<◌, ◌⊎◌, ◌↔◌, length, IsTrue, IfErr, OnOk};
+    ghost use Rattle.std.specs.Int.{div_ceil};
+    ghost use Rattle.sector_disk.specs.Disk.{sector_bytes};
+    ghost use Rattle.sector_disk.specs.Disk.{LeavesOnly, AreCallsExactly, AreCallsAtMost};
+    ghost use Rattle.store.specs.Opened.{IsAt};
+    ghost use Rattle.store.specs.Stands.{Stands};
+    ghost use Rattle.store.specs.State.{State};
+    ghost use Rattle.store.specs.Step.{HasName, IsFileSize, with_bytes, longest_free};
+    ghost use Rattle.store.specs.Step.{refusal_of_put, IsExactAnswer, IsRefusalOfPutOver};
+
+    /// Puts other bytes, 64 bytes to 16 MiB, in the place of those under this name. The sectors of
+    /// the old ones are free once it is done, and not before. It takes no memory.
+    pub fn put_over(&mut self, name: &[u8], bytes: &[u8]) -> Result<(), StoreRefusal>
+        requires present { HasName self.old name.now }
+        requires size { IsFileSize (length bytes.now) }
+
+        // A stop at any moment leaves the state from before it or the one after.
+        ensures any_moment { (s : State) → IsAt D.facts self.old s
+            → LeavesOnly (D.facts self.old.disk) (D.facts self.new.disk)
+            (λ m. Stands m s ⊎ Stands m (with_bytes name.now bytes.now s)) }
+        ensures ok { (s : State) → IsAt D.facts self.old s
+            → OnOk result (IsAt D.facts self.new (with_bytes name.now bytes.now s)) }
+        ensures refused { (s : State) → IsAt D.facts self.old s → IsExactAnswer
+            (refusal_of_put self.old.root.sectors (longest_free self.old) s bytes.now) result }
+
+        // On any disk. After a failed call the store has to be opened again.
+        ensures reopen { (result ≡ Err StoreRefusal.Reopen) ↔ IsTrue self.old.failed }
+        ensures device { IfErr result (λ e. e ≡ StoreRefusal.Device
+            → ((D.facts self.old.disk).failures < (D.facts self.new.disk).failures)
+            × IsTrue self.new.failed) }
+        ensures same { IfErr result (λ e. e ≢ StoreRefusal.Device → self.new ≡ self.old) }
+        ensures refusals { IfErr result IsRefusalOfPutOver }
+        ensures all_calls { OnOk result (AreCallsExactly
+            (div_ceil (length bytes.now) sector_bytes + 4)
+            (D.facts self.old.disk) (D.facts self.new.disk)) }
+        ensures calls { AreCallsAtMost (div_ceil (length bytes.now) sector_bytes + 4)
+            (D.facts self.old.disk) (D.facts self.new.disk) }
+    {
+        if self.failed {
+            return Err(StoreRefusal::Reopen);
+        }
+        if self.root.generation == u64::MAX {
+            return Err(StoreRefusal::GenerationEnd);
+        }
+        let Some(position) = position_of(&self.entries, name) else {
+            unreachable!();
+        };
+        let room = take_room(&mut self.layout, sectors_of(bytes))?;
+        let entry = new_entry(name, bytes, room.extents.as_slice());
+        let root = with_entry_at(&self.root, position, room.entry);
+        self.failed = true;
+        if let Err(fault) = write_put(&mut self.disk, &room, bytes, &entry, &root) {
+            give_back(&mut self.layout, room.extents.as_slice(), room.entry);
+            return Err(StoreRefusal::from(fault));
+        }
+        let old = self.entries[position];
+        let sector = self.root.entry_sectors()[position];
+        give_back(&mut self.layout, old.file_extents(), sector);
+        self.entries[position] = entry;
+        self.root = root;
+        self.failed = false;
+        Ok(())
+    }
+}
