@@ -1,0 +1,11 @@
+use Rattle.std.proofs.Common.{◌≡◌, map, take}
+use Rattle.std.specs.List.{All}
+use Rattle.scope.specs.Objects.{IsTaken}
+use Rattle.scope.specs.LoadOrder.{available, object_at}
+use Rattle.scope.proofs.loading.objects_at.Given as goal
+
+abbrev pub invariant-loop-place : goal.invariant-loop-place
+invariant-loop-place l = record {
+  objects : l.objects.items ≡ map (object_at (available l.program l.libraries)) (take l.place-index l.places);
+  taken : All (λ o. IsTaken o.file) l.objects.items;
+}

@@ -1,0 +1,10 @@
+use Rattle.std.specs.List.{IsDistinct}
+use Rattle.scope.proofs.tests.tells_the_first_missing_name.Goals as goal
+
+pub load_order-requires-clause-names : goal.load_order-requires-clause-names
+unfolding IsDistinct
+load_order-requires-clause-names g c = tt
+
+pub load_order-requires-clause-distinct : goal.load_order-requires-clause-distinct
+unfolding IsDistinct
+load_order-requires-clause-distinct g c = tt

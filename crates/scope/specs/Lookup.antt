@@ -1,0 +1,22 @@
+-- The search for a name among objects (gABI chapter 5, "Shared Object Dependencies"; ld.so(8): the first definition is
+-- taken, weak or not).
+use Rattle.std.specs.Prelude.{ℕ, List, length, map, Option}
+use Rattle.std.specs.List.{range_with_len}
+use Rattle.std.specs.Option.{option_map}
+use Rattle.elf_file.specs.FirstOf.{first_of}
+use Rattle.hash_check.specs.Definition.{definition_of}
+use Rattle.scope.specs.Objects.{Named, file_at}
+use Rattle.scope.specs.declared.target.Target.{Target}
+use Rattle.scope.specs.declared.target.Target.TheVariants.{At}
+
+-- the places that are searched, in this order, for the symbols of the object at a place: all, in load order
+abbrev pub scope_of : List Named → ℕ → List ℕ
+scope_of objects object = range_with_len 0 (length objects)
+
+-- the symbol that the object at a place exports under a name
+abbrev pub definition_at : List Named → List ℕ → ℕ → Option Target
+definition_at objects name place = option_map (At place) (definition_of (file_at objects place) name)
+
+-- the first definition of a name in the scope of the object at a place, weak or not
+unfoldable pub lookup : List Named → ℕ → List ℕ → Option Target
+lookup objects object name = first_of (map (definition_at objects name) (scope_of objects object))

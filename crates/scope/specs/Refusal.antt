@@ -1,0 +1,10 @@
+-- Why there is no load order (own).
+use Rattle.std.specs.Prelude.{◌≡◌, Option, Some}
+use Rattle.scope.specs.LoadOrder.{Need}
+use Rattle.scope.specs.declared.refusal.OrderRefusal.{OrderRefusal}
+use Rattle.scope.specs.declared.refusal.OrderRefusal.TheVariants.{Missing, OutOfMemory}
+
+-- the first name that isn't installed and who needs it, or want of memory in place of any answer
+abbrev pub IsRefusal : Option Need → OrderRefusal → Type 0
+IsRefusal first (Missing needer name) = first ≡ Some (record { needer = needer; name = name })
+IsRefusal first OutOfMemory = Unit {0}

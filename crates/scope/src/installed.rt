@@ -1,0 +1,54 @@
+// The names of installed libraries.
+
+ghost use Rattle.std.specs.Prelude.{◌≡◌, ◌<◌, ◌≤◌, length, IfOk, IfSome};
+ghost use Rattle.std.specs.List.{IsDistinct};
+ghost use Rattle.std.specs.Str.{bytes_eq};
+ghost use Rattle.scope.specs.LoadOrder.{names_of, place_of};
+
+use crate::library::Library;
+use indexmap::IndexSet;
+use std::alloc::{AllocError, Global};
+use std::marker::Model;
+
+/// The names of installed libraries, to be found. Contracts see them in their order.
+#[derive(Drop)]
+pub(crate) struct Installed<'a> {
+    names: IndexSet<&'a [u8]>,
+}
+
+impl<'a> Model for Installed<'a> {
+    ghost use Rattle.std.specs.Prelude.{List, ℕ, map};
+
+    ghost Value = { List (List ℕ) };
+
+    ghost view = { λ t. map (λ n. n.now) t.names.keys };
+}
+
+impl<'a> Installed<'a> {
+    /// The names of some libraries.
+    pub(crate) fn new(
+        alloc: Global,
+        libraries: &'a [Library<'a>],
+    ) -> Result<Installed<'a>, AllocError>
+        requires { IsDistinct bytes_eq (names_of libraries.now) }
+        ensures { IfOk result (λ installed. installed ≡ names_of libraries.now) }
+    {
+        let mut names = IndexSet::with_capacity(alloc, libraries.len())?;
+        for library in libraries {
+            names.insert(library.name())?;
+        }
+        Ok(Installed { names })
+    }
+
+    /// The place of the library that goes by a name, the first of them being at place 1.
+    pub(crate) fn place_of(&self, name: &[u8]) -> Option<usize>
+        ensures place { result ≡ place_of self.now name.now }
+        ensures within { IfSome result (λ place. place ≤ length self.now) }
+    {
+        let _count = self.names.len();
+        match self.names.get_index_of(name) {
+            Some(i) => Some(i + 1),
+            None => None,
+        }
+    }
+}

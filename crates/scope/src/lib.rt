@@ -1,0 +1,29 @@
+//! Load order and lookup: which symbol each symbol of a program is bound to (System V gABI
+//! chapters 4 and 5, ld.so(8)).
+//!
+//! `load_order` puts a program and the libraries that it needs, and preloads, into their order.
+//! `resolve` gives the target of a symbol of one of them: a symbol, 0, or nothing where it is
+//! undefined.
+#![tactic(auto)]
+
+mod installed;
+mod level;
+mod library;
+mod loaded;
+mod loading;
+mod lookup;
+mod needs;
+mod order;
+mod places;
+mod refusal;
+mod resolution;
+mod target;
+#[cfg(test)]
+mod tests;
+
+pub use library::Library;
+pub use loading::load_order;
+pub use order::Order;
+pub use refusal::OrderRefusal;
+pub use resolution::resolve;
+pub use target::{Target, Undefined};

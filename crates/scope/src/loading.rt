@@ -1,0 +1,111 @@
+// Load order.
+
+ghost use Rattle.std.specs.Prelude.{◌≡◌, ◌<◌, length, map, None, OnOk, IfOk, IfErr, nat_eq};
+ghost use Rattle.std.specs.List.{All, IsDistinct};
+ghost use Rattle.std.specs.Str.{bytes_eq};
+ghost use Rattle.scope.specs.Objects.{IsTaken};
+ghost use Rattle.scope.specs.LoadOrder.{available, names_of, object_at, load_places, load_order};
+ghost use Rattle.scope.specs.LoadOrder.{missing};
+ghost use Rattle.scope.specs.Refusal.{IsRefusal};
+
+use crate::installed::Installed;
+use crate::level::first_level;
+use crate::library::Library;
+use crate::loaded::LoadedObject;
+use crate::needs::add_needed;
+use crate::order::Order;
+use crate::refusal::OrderRefusal;
+use hash_check::Admitted;
+use std::alloc::{AllocError, Global};
+
+/// The name that a program goes by, which no file spells as its own.
+const PROGRAM_NAME: &[u8] = b"/program";
+
+/// The object at a place: the program at 0, then the libraries.
+fn object_at<'a>(
+    program: &'a Admitted<'a>,
+    libraries: &'a [Library<'a>],
+    place: usize,
+) -> LoadedObject<'a>
+    requires { place < length (available program.now libraries.now) }
+    ensures object { result ≡ object_at (available program.now libraries.now) place }
+    ensures taken { IsTaken result.file }
+{
+    if place == 0 {
+        LoadedObject::new(PROGRAM_NAME, program)
+    } else {
+        let library = &libraries[place - 1];
+        LoadedObject::new(library.name(), library.object())
+    }
+}
+
+/// The objects at some places.
+fn objects_at<'a>(
+    alloc: Global,
+    program: &'a Admitted<'a>,
+    libraries: &'a [Library<'a>],
+    places: &[usize],
+) -> Result<Vec<LoadedObject<'a>>, AllocError>
+    requires { All (λ p. p < length (available program.now libraries.now)) places.now }
+    ensures objects { IfOk result (λ v. v.items
+        ≡ map (object_at (available program.now libraries.now)) places.now) }
+    ensures taken { IfOk result (λ v. All (λ o. IsTaken o.file) v.items) }
+{
+    let mut objects = Vec::with_capacity(alloc, places.len())?;
+    for place in places {
+        objects.push(object_at(program, libraries, *place))?;
+    }
+    Ok(objects)
+}
+
+/// The places of the objects in load order. Each object of the queue adds what it needs to its end.
+fn load_places<'a>(
+    alloc: Global,
+    program: &'a Admitted<'a>,
+    libraries: &'a [Library<'a>],
+    preloads: &[usize],
+) -> Result<Vec<usize>, OrderRefusal>
+    requires names { IsDistinct bytes_eq (names_of libraries.now) }
+    requires preloads { All (λ p. p < length libraries.now) preloads.now }
+    requires distinct { IsDistinct nat_eq preloads.now }
+    ensures ok { IfOk result (λ v. v.items ≡ load_places program.now libraries.now preloads.now) }
+    ensures below { IfOk result (λ v.
+        All (λ p. p < length (available program.now libraries.now)) v.items) }
+    ensures found { OnOk result (missing program.now libraries.now preloads.now ≡ None) }
+    ensures refused { IfErr result (IsRefusal (missing program.now libraries.now preloads.now)) }
+{
+    let installed = Installed::new(alloc, libraries)?;
+    let mut places = first_level(alloc, libraries.len(), preloads)?;
+    let mut i = 0;
+    while i < places.count() {
+        let object = object_at(program, libraries, places.at(i));
+        add_needed(alloc, &mut places, &installed, &object)?;
+        i += 1;
+    }
+    Ok(places.into_vec())
+}
+
+/// Puts a program, the libraries that are preloaded and all that these need into load order, or
+/// gives the first needed name that isn't installed. `preloads` are numbers of libraries. One pass
+/// over the dynamic section of each object, with one search for each needed name; it takes some 40
+/// bytes a library.
+pub fn load_order<'a>(
+    alloc: Global,
+    program: &'a Admitted<'a>,
+    libraries: &'a [Library<'a>],
+    preloads: &[usize],
+) -> Result<Order<'a>, OrderRefusal>
+    requires names { IsDistinct bytes_eq (names_of libraries.now) }
+    requires preloads { All (λ p. p < length libraries.now) preloads.now }
+    requires distinct { IsDistinct nat_eq preloads.now }
+    ensures ok { IfOk result (λ order. order ≡ load_order program.now libraries.now preloads.now) }
+
+    // Every needed name is installed.
+    ensures found { OnOk result (missing program.now libraries.now preloads.now ≡ None) }
+
+    // The first that isn't, or want of memory in place of any answer.
+    ensures refused { IfErr result (IsRefusal (missing program.now libraries.now preloads.now)) }
+{
+    let places = load_places(alloc, program, libraries, preloads)?;
+    Ok(Order::new(objects_at(alloc, program, libraries, &places)?))
+}

@@ -1,0 +1,64 @@
+// Objects in load order.
+
+ghost use Rattle.std.specs.Prelude.{◌≡◌, ◌<◌, length};
+ghost use Rattle.scope.specs.Objects.{IsOrder, name_at, file_at};
+
+use crate::loaded::LoadedObject;
+use hash_check::Admitted;
+use std::marker::Model;
+
+/// A program and the libraries that are bound with it, in load order: the program is the first and
+/// goes by the name `/program`. Contracts see the names and the files' bytes.
+#[derive(Drop)]
+pub struct Order<'a> {
+    objects: Vec<LoadedObject<'a>>,
+}
+
+impl<'a> Model for Order<'a> {
+    ghost use Rattle.std.specs.Prelude.{List};
+    ghost use Rattle.scope.specs.Objects.{Named, IsOrder};
+
+    ghost Value = { List Named };
+
+    ghost view = { λ o. o.objects.items };
+
+    ghost invariant = { λ o. IsOrder o.objects.items };
+}
+
+impl<'a> Order<'a> {
+    /// An order of these objects.
+    pub(crate) fn new(objects: Vec<LoadedObject<'a>>) -> Order<'a>
+        requires { IsOrder objects.items }
+        ensures { result ≡ objects.entry.items }
+    {
+        Order { objects }
+    }
+
+    /// How many objects there are.
+    pub fn count(&self) -> usize
+        ensures count { result ≡ length self.now }
+
+        // The first is the program, and each file is taken.
+        ensures order { IsOrder self.now }
+    {
+        self.objects.len()
+    }
+
+    /// The name that the object number `i` goes by.
+    pub fn name(&self, i: usize) -> &'a [u8]
+        requires { i < length self.now }
+        ensures name { result.now ≡ name_at self.now i }
+        ensures order { IsOrder self.now }
+    {
+        self.objects[i].name()
+    }
+
+    /// The object number `i`.
+    pub fn object(&self, i: usize) -> &'a Admitted<'a>
+        requires { i < length self.now }
+        ensures file { result.now ≡ file_at self.now i }
+        ensures order { IsOrder self.now }
+    {
+        self.objects[i].object()
+    }
+}

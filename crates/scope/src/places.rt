@@ -1,0 +1,77 @@
+// A queue of places.
+
+ghost use Rattle.std.specs.Prelude.{◌≡◌, ◌<◌, ◌≤◌, [], length, slice_index, IfOk, OnOk};
+ghost use Rattle.scope.specs.inside.Growing.{grown_by};
+ghost use Rattle.scope.specs.inside.Places.{AreApart};
+
+use std::alloc::{AllocError, Global};
+use std::marker::Model;
+
+/// Places below a limit in the order in which they were added, each once. Contracts see the limit
+/// and the places.
+#[derive(Drop)]
+pub(crate) struct Places {
+    places: Vec<usize>,
+    flags: Vec<bool>,
+}
+
+impl Model for Places {
+    ghost use Rattle.std.specs.Prelude.{length};
+    ghost use Rattle.scope.specs.inside.Places.{Queue, AreTold};
+
+    ghost Value = { Queue };
+
+    ghost view = { λ q. record { limit = length q.flags.items; places = q.places.items } };
+
+    ghost invariant = { λ q. AreTold q.flags.items q.places.items };
+}
+
+impl Places {
+    /// None yet.
+    pub(crate) fn new(alloc: Global, limit: usize) -> Result<Places, AllocError>
+        ensures { IfOk result (λ q. q ≡ record { limit = limit; places = [] }) }
+    {
+        let flags = vec![in alloc; false; limit]?;
+        let places = Vec::new(alloc);
+        Ok(Places { places, flags })
+    }
+
+    /// How many there are.
+    pub(crate) fn count(&self) -> usize
+        ensures count { result ≡ length self.now.places }
+        ensures few { length self.now.places ≤ self.now.limit }
+        ensures apart { AreApart self.now.limit self.now.places }
+    {
+        self.places.len()
+    }
+
+    /// The place number `i`.
+    pub(crate) fn at(&self, i: usize) -> usize
+        requires { i < length self.now.places }
+        ensures at { result ≡ slice_index self.now.places i }
+        ensures below { result < self.now.limit }
+    {
+        self.places[i]
+    }
+
+    /// Adds a place, unless it is there.
+    pub(crate) fn add(&mut self, place: usize) -> Result<(), AllocError>
+        requires { place < self.old.limit }
+        ensures { OnOk result (self.new
+            ≡ record { limit = self.old.limit; places = grown_by self.old.places place }) }
+    {
+        if !self.flags[place] {
+            self.places.push(place)?;
+            self.flags[place] = true;
+        }
+        Ok(())
+    }
+
+    /// All of them.
+    pub(crate) fn into_vec(self) -> Vec<usize>
+        ensures places { result.items ≡ self.places }
+        ensures apart { AreApart self.limit result.items }
+    {
+        self.places
+    }
+}
