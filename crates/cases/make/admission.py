@@ -5,7 +5,7 @@
 """
 
 import rules
-from make import ALL, BASE, DATA, Case, spelt, u32, u64, u8, write_list
+from make import ALL, BASE, DATA, Case, byte, spelt, u32, u64, u8, write_list
 from samples import (
     ABSOLUTE, DEFINED, FUNC, GLOBAL, HIDDEN, INTERNAL, LOCAL, NOTYPE, OBJECT, PROTECTED, R_64, R_GLOB_DAT,
     R_JUMP_SLOT, R_RELATIVE, UNDEFINED, WEAK, Object, Symbol, build, program_header)
@@ -294,11 +294,45 @@ def programs():
             image(p, wanted='B3 Missing /program a'), image(p, 0x10001, 'B2 BadBase')]),
         ('A library with header types and tags that aren\'t read, of two segments; one that needs versions.', [
             library(w, ''), find(w, b'f', 1), library(versions, 'E17 SymbolVersions'), bound(w, 'w.image')]),
-        ('A relocation that names a symbol is refused with its type until names are looked up; its symbol is there.', [
-            image(named(kind)[0], wanted=f'B1 E30 RelocationType {kind}') for kind in (1, 6, 7)] + [
+        ('A relocation names a symbol that no object defines; one that isn\'t there.', [
+            image(named(kind)[0], wanted='B5 Undefined /program f') for kind in (1, 6, 7)] + [
             image(missing(*named(kind)), wanted='B1 E31 RelocationSymbol') for kind in (1, 6, 7)]),
         ('The symbol of a relocation that names none isn\'t looked at.', [
             admit(changed(Case('minimal.so'), (0xec, u32(0xffffffff))), '')]),
+    ])
+
+
+def word(file, at, value):
+    """The eight bytes at the start of the data of a program, which were worked out by hand."""
+    return [byte(file, BASE, BASE + at['data'] + k, b) for k, b in enumerate((value % (1 << 64)).to_bytes(8, 'little'))]
+
+
+def values():
+    def row(name, symbols, kind, addend, value):
+        file, at = made(f'value-{name}.so', Object(symbols=symbols, relocations=[(kind, 0, 1, addend)], data=16))
+        return word(file, at, value(BASE + at['data'] + 8))
+    def refused(name, symbol):
+        file, _ = made(f'value-{name}.so', Object(symbols=[symbol], relocations=[(R_64, 0, 1, 0)], data=16))
+        return image(file, wanted='B5 Undefined /program f')
+    own = Symbol(b'f', GLOBAL, FUNC, DEFINED, 8)
+    write_list('values.txt', [
+        ('A defined symbol: its address and the addend for type 64, its address alone for the others.',
+         row('64', [own], R_64, 5, lambda d: d + 5) + row('got', [own], R_GLOB_DAT, 5, lambda d: d)
+         + row('slot', [own], R_JUMP_SLOT, 5, lambda d: d)),
+        ('An absolute symbol is its value, without the base.',
+         row('absolute', [Symbol(b'f', GLOBAL, FUNC, ABSOLUTE, 0x1234)], R_64, 1, lambda d: 0x1235)),
+        ('Symbols that no other object can replace.',
+         row('local', [Symbol(b'f', LOCAL, OBJECT, DEFINED, 8)], R_64, 0, lambda d: d)
+         + row('protected', [Symbol(b'f', GLOBAL, FUNC, DEFINED, 8, PROTECTED)], R_64, 0, lambda d: d)
+         + row('hidden', [Symbol(b'f', GLOBAL, FUNC, DEFINED, 8, HIDDEN)], R_64, 0, lambda d: d)),
+        ('An undefined symbol is found under its name; one that is hidden isn\'t.',
+         row('found', [Symbol(b'f'), own], R_64, 0, lambda d: d)
+         + row('withheld', [Symbol(b'f', WEAK, NOTYPE, UNDEFINED, 0, HIDDEN), own], R_64, 0, lambda d: 0)),
+        ('A weak symbol that isn\'t found is 0, another one is undefined.',
+         row('weak', [Symbol(b'f', WEAK)], R_64, -8, lambda d: -8) + row('weak-got', [Symbol(b'f', WEAK)], R_GLOB_DAT, 5, lambda d: 0)
+         + [refused('undefined', Symbol(b'f')), refused('internal', Symbol(b'f', GLOBAL, NOTYPE, UNDEFINED, 0, INTERNAL))]),
+        ('Symbol 0 is 0.', [
+            byte(changed(Case('minimal.so'), (0xe8, u8(1))), BASE, BASE + 0x188 + k, b) for k, b in enumerate((0x2000).to_bytes(8, 'little'))]),
     ])
 
 
@@ -309,4 +343,5 @@ if __name__ == '__main__':
     sonames()
     tables()
     bounds()
+    values()
     cuts()

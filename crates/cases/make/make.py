@@ -135,7 +135,7 @@ CHANGES = [
     ([(0x158, u8(0x15))], 'E20 MissingTag'), ([(0x168, u8(0x15))], 'E20 MissingTag'),
     ([(0x160, u8(0x17))], 'E21 BadEntrySize'), ([(0x170, u8(0x10))], 'E21 BadEntrySize'),
     ([(0x161, u8(0x03))], 'E22 BadRange'), ([(0x151, u8(0x10))], 'E22 BadRange'),
-    ([(0xe8, u8(0x25))], 'E30 RelocationType 37'), ([(0xe8, u8(0x01))], 'E30 RelocationType 1'),
+    ([(0xe8, u8(0x25))], 'E30 RelocationType 37'),
     ([(0xe0, u8(0x89))], 'E32 RelocationPlace'), ([(0xe0, ALL)], 'E32 RelocationPlace'),
 ]
 
@@ -346,6 +346,9 @@ def wrong():
             'admit minimal.so =/> refused E29 BadHashTable', 'admit minimal.so 0xb0=00 =/> admitted', 'library q.so =/> library p',
             'library minimal.so =/> refused E32 RelocationPlace', 'find q.so f =/> none of 1', 'find q.so f =/> 2 of 1',
             'find q.so f =/> 1 of 2', 'hash a =/> 0x62']),
+        ('Another SONAME, another symbol, a view that is cut.', [
+            'view real-other.so =/> file real-third.view', 'view real-ld-sysv.so =/> file real-ld-both.view',
+            f'view real-other.so =/> file real-other.view cut={(DATA / "real-other.view").stat().st_size - 1}']),
         ('Another status, another text, the other stream.', [
             'words image minimal.so 0x10001 =/> 0 refused B2 BadBase', 'words image minimal.so 0x10001 =/> 1 refused B4 NoRoom',
             'words image minimal.so 0x10001 =/> 1 error refused B2 BadBase', 'words image minimal.so =/> 2 rlibreg: bad command line',

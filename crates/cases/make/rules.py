@@ -296,10 +296,38 @@ def alone_refusal(data, base):
         return 'B3 Missing /program ' + printed_name(elf.string(elf.value(NEEDED)))
     if base + max(h['vaddr'] + h['memsz'] for h in elf.loads) > HIGHEST_END:
         return 'B4 NoRoom'
-    for _, kind, _, _ in elf.relocations():
-        if kind in (1, 6, 7):
-            return f'B1 E30 RelocationType {kind}'
+    for _, kind, symbol, _ in elf.relocations():
+        if kind in (1, 6, 7) and symbol_value(elf, symbol, base) is None:
+            return 'B5 Undefined /program ' + printed_name(elf.string(elf.symbol(symbol)['name']))
     return None
+
+
+def own_address(elf, i, base):
+    symbol = elf.symbol(i)
+    return symbol['value'] if symbol['section'] == 0xFFF1 else (base + symbol['value']) % (1 << 64)
+
+
+def symbol_value(elf, i, base):
+    """The value of a symbol of a program that is bound alone, or None where it is undefined."""
+    if i == 0:
+        return 0
+    symbol = elf.symbol(i)
+    if symbol['binding'] == 0 or (symbol['section'] != 0 and symbol['visibility'] != 0):
+        return own_address(elf, i, base)
+    if symbol['section'] != 0 or symbol['visibility'] not in (1, 2):
+        found = find(elf.data, elf.string(symbol['name']))
+        if found is not None:
+            return own_address(elf, found, base)
+    return 0 if symbol['binding'] == 2 else None
+
+
+def written(elf, kind, symbol, addend, base):
+    """The value that a relocation writes, or None where its type writes nothing."""
+    if kind == 8:
+        return (base + addend) % (1 << 64)
+    if kind == 1:
+        return (symbol_value(elf, symbol, base) + addend) % (1 << 64)
+    return symbol_value(elf, symbol, base) if kind in (6, 7) else None
 
 
 def memory(data, base):
@@ -308,9 +336,10 @@ def memory(data, base):
     for h in elf.loads:
         for k in range(h['memsz']):
             held[base + h['vaddr'] + k] = data[h['offset'] + k] if k < h['filesz'] else 0
-    for place, kind, _, addend in elf.relocations():
-        if kind == 8:
-            for k, byte in enumerate(((base + addend) % (1 << 64)).to_bytes(8, 'little')):
+    for place, kind, symbol, addend in elf.relocations():
+        value = written(elf, kind, symbol, addend, base)
+        if value is not None:
+            for k, byte in enumerate(value.to_bytes(8, 'little')):
                 held[base + place + k] = byte
     return held
 

@@ -4,6 +4,7 @@ use crate::answer::is_wanted;
 use crate::file::changed_file;
 use crate::library::{admit_text, find_text, hash_text, library_text};
 use crate::number::parse_number;
+use crate::view::view_text;
 use crate::words::ends_so;
 use anyhow::{Context, Result, bail};
 use commands::run_image;
@@ -44,6 +45,7 @@ fn answer<R: Files + AllocGlobal>(rt: &R, call: &str) -> Result<Vec<u8>> {
         Some(("byte", words)) => byte_text(rt, words),
         Some(("admit", words)) => admit_text(rt, words),
         Some(("library", words)) => library_text(rt, words),
+        Some(("view", words)) => view_text(rt, words),
         Some(("find", words)) => find_text(rt, words),
         Some(("hash", word)) => hash_text(rt.alloc(), word),
         _ => bail!("the call {call}"),

@@ -19,7 +19,7 @@ fn refused(alloc: Global, refusal: FileRefusal) -> Result<Vec<u8>> {
 }
 
 /// A file as it is admitted, or the line of its refusal.
-fn admitted<'a>(
+pub(crate) fn admitted<'a>(
     alloc: Global,
     bytes: &'a [u8],
 ) -> Result<std::result::Result<Admitted<'a>, Vec<u8>>> {

@@ -9,6 +9,7 @@ mod file;
 mod library;
 mod list;
 mod number;
+mod view;
 mod words;
 
 use anyhow::Result;

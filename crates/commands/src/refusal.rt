@@ -3,7 +3,8 @@
 ghost use Rattle.std.specs.Prelude.{◌≡◌, ◌++◌, codes, true, OnOk, OnErr, IfErr};
 ghost use Rattle.std.specs.Io.KnownBytes.{Appends};
 ghost use Rattle.commands.specs.Refusal.{file_refusal_text, object_refusal_detail};
-ghost use Rattle.commands.specs.Refusal.{object_refusal_name, refusal_text, memory_text, named_text};
+ghost use Rattle.commands.specs.Refusal.{object_refusal_name, refusal_text, memory_text};
+ghost use Rattle.commands.specs.Refusal.{named_text};
 ghost use Rattle.text_output.specs.Sends.{Sends};
 
 use crate::fault::ScriptFault;

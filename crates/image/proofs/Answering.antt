@@ -1,26 +1,89 @@
--- The answer for a program that needs a library.
-use Rattle.std.proofs.Common.{◌≡◌, ℕ, Bool, true, false, List, [], ◌∷◌, Option, Some, None, ap}
+-- The answers for a program, from those of its parts.
+use Rattle.std.proofs.Common.{◌≡◌, ℕ, Bool, true, false, List, [], ◌∷◌, Option, Some, None, refl, ap, ◌∙◌, inl, inr}
 use Rattle.std.specs.Prelude.{not}
 use Rattle.std.specs.Option.{option_map}
 use Rattle.elf_file.specs.FirstOf.{◌when◌, first_of}
 use Rattle.hash_check.specs.FileRefusal.{first_file_refusal}
 use Rattle.hash_check.specs.declared.file_refusal.FileRefusal.{FileRefusal}
-use Rattle.image.specs.Placement.{program_name, alone, is_good_base, lacks_room}
-use Rattle.image.specs.Refusal.{first_needed, first_symbol_type, of_type, alone_refusal}
+use Rattle.hash_check.proofs.Reading.{taken_with_memory}
+use Rattle.scope.specs.Levels.{levels, joined_levels}
+use Rattle.scope.specs.LoadOrder.{Need, missing, load_order, load_places}
+use Rattle.scope.specs.Objects.{Named, file_at}
+use Rattle.scope.specs.Refusal.{IsRefusal}
+use Rattle.scope.specs.declared.refusal.OrderRefusal.{OrderRefusal}
+use Rattle.scope.specs.declared.refusal.OrderRefusal.TheVariants as order
+use Rattle.image.specs.Placement.{objects_of, is_good_base}
+use Rattle.image.specs.Refusal.{placed_refusal, missing_by, of_order, bind_refusal, WantsMemory, IsAnswer, IsFirstOrWantsMemory}
 use Rattle.image.specs.declared.refusal.BindRefusal.{BindRefusal}
-use Rattle.image.specs.declared.refusal.BindRefusal.TheVariants.{Program, BadBase, Missing, NoRoom}
+use Rattle.image.specs.declared.refusal.BindRefusal.TheVariants.{Program, BadBase, Missing, NoRoom, Undefined, OutOfMemory}
 
-missing-by : (refusal : Option FileRefusal) (good : Bool) (needed : Option (List ℕ)) (name : List ℕ) (rest : List (Option BindRefusal))
-    → refusal ≡ None → good ≡ true → needed ≡ Some name
-    → first_of (option_map Program refusal ∷ (BadBase when not good) ∷ option_map (Missing program_name) needed ∷ rest) ≡ Some (Missing program_name name)
-missing-by (Some r) good needed name rest taken at h = cc
-missing-by None false needed name rest taken at h = cc
-missing-by None true needed name rest taken at h = ap (λ n. first_of (option_map (Missing program_name) n ∷ rest)) h
+behind-by : (refusal : Option FileRefusal) (good : Bool) (rest : List (Option BindRefusal)) → refusal ≡ None → good ≡ true
+    → first_of (option_map Program refusal ∷ (BadBase when not good) ∷ rest) ≡ first_of rest
+behind-by (Some r) good rest taken at = cc
+behind-by None false rest taken at = cc
+behind-by None true rest taken at = refl
 
--- the first library that it needs is missing
-pub needed_missing : (file : List ℕ) (base : ℕ) (name : List ℕ) → first_file_refusal file ≡ None → is_good_base file base ≡ true → first_needed file ≡ Some name
-    → alone_refusal file base ≡ Some (Missing program_name name)
-unfolding alone_refusal
-needed_missing file base name taken good h =
-    missing-by (first_file_refusal file) (is_good_base file base) (first_needed file) name
-    ((NoRoom when lacks_room (alone file base)) ∷ option_map of_type (first_symbol_type file) ∷ []) taken good h
+-- where the file is taken and the base is good, the others decide
+behind : (file : List ℕ) (base : ℕ) (libraries : List Named) (preloads : List ℕ) → first_file_refusal file ≡ None → is_good_base file base ≡ true
+    → bind_refusal file base libraries preloads
+    ≡ first_of (option_map missing_by (missing file libraries preloads) ∷ placed_refusal (objects_of file base libraries preloads) ∷ [])
+unfolding bind_refusal
+behind file base libraries preloads taken good =
+    behind-by (first_file_refusal file) (is_good_base file base)
+    (option_map missing_by (missing file libraries preloads) ∷ placed_refusal (objects_of file base libraries preloads) ∷ []) taken good
+
+alone-by : (o : Option BindRefusal) → first_of (o ∷ []) ≡ o
+alone-by None = refl
+alone-by (Some e) = refl
+
+-- a library is missing
+missing-is : (file : List ℕ) (base : ℕ) (libraries : List Named) (preloads : List ℕ) (need : Need) → first_file_refusal file ≡ None → is_good_base file base ≡ true
+    → missing file libraries preloads ≡ Some need → bind_refusal file base libraries preloads ≡ Some (missing_by need)
+missing-is file base libraries preloads need taken good h =
+    behind file base libraries preloads taken good
+    ∙ ap (λ m. first_of (option_map missing_by m ∷ placed_refusal (objects_of file base libraries preloads) ∷ [])) h
+
+-- none is
+pub placed-is : (file : List ℕ) (base : ℕ) (libraries : List Named) (preloads : List ℕ) → first_file_refusal file ≡ None → is_good_base file base ≡ true
+    → missing file libraries preloads ≡ None → bind_refusal file base libraries preloads ≡ placed_refusal (objects_of file base libraries preloads)
+placed-is file base libraries preloads taken good h =
+    behind file base libraries preloads taken good
+    ∙ ap (λ m. first_of (option_map missing_by m ∷ placed_refusal (objects_of file base libraries preloads) ∷ [])) h
+    ∙ alone-by (placed_refusal (objects_of file base libraries preloads))
+
+-- the answer where there is no load order
+pub order-answer : (file : List ℕ) (base : ℕ) (libraries : List Named) (preloads : List ℕ) (e : OrderRefusal) → first_file_refusal file ≡ None
+    → is_good_base file base ≡ true → IsRefusal (missing file libraries preloads) e → IsAnswer file base libraries preloads (of_order e)
+order-answer file base libraries preloads (order.Missing needer name) taken good h =
+    missing-is file base libraries preloads (record { needer = needer; name = name }) taken good h
+order-answer file base libraries preloads order.OutOfMemory taken good h = taken_with_memory file taken
+
+answer-by : (file : List ℕ) (base : ℕ) (libraries : List Named) (preloads : List ℕ) (e : BindRefusal) → WantsMemory file
+    → bind_refusal file base libraries preloads ≡ Some e → IsAnswer file base libraries preloads e
+answer-by file base libraries preloads (Program r) w h = h
+answer-by file base libraries preloads BadBase w h = h
+answer-by file base libraries preloads (Missing needer name) w h = h
+answer-by file base libraries preloads NoRoom w h = h
+answer-by file base libraries preloads (Undefined object symbol) w h = h
+answer-by file base libraries preloads OutOfMemory w h = w
+
+memory-by : (file : List ℕ) (base : ℕ) (libraries : List Named) (preloads : List ℕ) (e : BindRefusal) → WantsMemory file
+    → e ≡ OutOfMemory → IsAnswer file base libraries preloads e
+memory-by file base libraries preloads (Program r) w h = cc
+memory-by file base libraries preloads BadBase w h = cc
+memory-by file base libraries preloads (Missing needer name) w h = cc
+memory-by file base libraries preloads NoRoom w h = cc
+memory-by file base libraries preloads (Undefined object symbol) w h = cc
+memory-by file base libraries preloads OutOfMemory w h = w
+
+-- the answer where its objects aren't bound
+pub placed-answer : (file : List ℕ) (base : ℕ) (libraries : List Named) (preloads : List ℕ) (e : BindRefusal) → first_file_refusal file ≡ None
+    → bind_refusal file base libraries preloads ≡ placed_refusal (objects_of file base libraries preloads)
+    → IsFirstOrWantsMemory (placed_refusal (objects_of file base libraries preloads)) e → IsAnswer file base libraries preloads e
+placed-answer file base libraries preloads e taken is (inl h) = answer-by file base libraries preloads e (taken_with_memory file taken) (is ∙ h)
+placed-answer file base libraries preloads e taken is (inr h) = memory-by file base libraries preloads e (taken_with_memory file taken) h
+
+-- the first object is the program
+pub program-first : (file : List ℕ) (libraries : List Named) (preloads : List ℕ) → file_at (load_order file libraries preloads) 0 ≡ file
+unfolding load_order load_places joined_levels levels
+program-first file libraries preloads = refl

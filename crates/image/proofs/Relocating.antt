@@ -1,8 +1,12 @@
 -- What relocations write, one after others.
-use Rattle.std.proofs.Common.{◌≡◌, ℕ, ◌-◌, Bool, true, false, cond, List, [], ◌∷◌, ◌++◌, Option, Some, None, refl, ap, ◌∙◌, append-nil}
-use Rattle.std.proofs.lemmas.List.{reverse-append}
+use Rattle.std.proofs.Common.{◌≡◌, ℕ, ◌-◌, Bool, true, false, cond, List, [], ◌∷◌, ◌++◌, Option, Some, None, refl, ap, sym, ◌∙◌, append-nil, ◌+◌, reverse, arith}
+use Rattle.std.proofs.lemmas.List.{reverse-append, map-id}
+use Rattle.std.proofs.lemmas.List.Concat.{flat_map-append}
+use Rattle.std.proofs.lemmas.List.Folds.{find-append}
+use Rattle.std.proofs.lemmas.List.FromFn.{map-range_with_len_more}
 use Rattle.std.proofs.lemmas.List.Elements.{filter_map-append}
-use Rattle.std.specs.List.{find, cons_option, filter_map}
+use Rattle.std.specs.List.{find, cons_option, filter_map, flat_map, range_with_len}
+use Rattle.std.specs.Option.{option_or}
 use Rattle.std.specs.Int.{byte_at}
 use Rattle.elf_dynamic.specs.declared.relocation.Relocation.{Relocation}
 use Rattle.image.specs.Heading.{within}
@@ -27,3 +31,28 @@ pub written_or-more : (f : Relocation → Option Write) (rs : List Relocation) (
 written_or-more f rs r old a =
     ap (λ l. written_or (last_write_at l a) old a) (filter_map-append f rs (r ∷ []))
     ∙ one-more (filter_map f rs) (f r) old a
+
+then-by : (o old : Option Write) (loaded : Option ℕ) (a : ℕ) → written_or (option_or o old) loaded a ≡ written_or o (written_or old loaded a) a
+then-by (Some w) old loaded a = refl
+then-by None old loaded a = refl
+
+-- the last write of some, and of others behind them
+pub written_or-then : (ws vs : List Write) (old : Option ℕ) (a : ℕ)
+    → written_or (last_write_at (ws ++ vs) a) old a ≡ written_or (last_write_at vs a) (written_or (last_write_at ws a) old a) a
+written_or-then ws vs old a =
+    let p = λ (w : Write). within w.place 8 a in
+    ap (λ l. written_or (find p l) old a) (reverse-append ws vs)
+    ∙ ap (λ o. written_or o old a) (find-append p (reverse vs) (reverse ws))
+    ∙ then-by (last_write_at vs a) (last_write_at ws a) old a
+
+-- so many places, and the next one
+pub places-more : (n : ℕ) → range_with_len 0 (n + 1) ≡ range_with_len 0 n ++ n ∷ []
+places-more n =
+    sym (map-id (range_with_len 0 (n + 1))) ∙ map-range_with_len_more (λ (k : ℕ). k) 0 n n (omega arith)
+    ∙ ap (λ ks. ks ++ n ∷ []) (map-id (range_with_len 0 n))
+
+-- what the relocations of so many objects write, and those of the next one
+pub writes-more : (f : ℕ → List Write) (n : ℕ) → flat_map f (range_with_len 0 (n + 1)) ≡ flat_map f (range_with_len 0 n) ++ f n
+writes-more f n =
+    ap (flat_map f) (places-more n) ∙ flat_map-append f (range_with_len 0 n) (n ∷ [])
+    ∙ ap (λ ws. flat_map f (range_with_len 0 n) ++ ws) (append-nil (f n))

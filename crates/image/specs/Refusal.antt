@@ -1,58 +1,90 @@
 -- Why a program isn't bound, and where want of memory may be answered.
-use Rattle.std.specs.Prelude.{ℕ, ◌≡◌, ◌⊎◌, List, [], ◌∷◌, map, not, slice_get, Option, Some, None}
-use Rattle.std.specs.List.{find}
+use Rattle.std.specs.Prelude.{ℕ, ◌≡◌, ◌⊎◌, List, [], ◌∷◌, map, length, not, true, Option, Some}
+use Rattle.std.specs.List.{range_with_len}
 use Rattle.std.specs.Option.{option_map}
 use Rattle.elf_file.specs.FirstOf.{◌when◌, first_of}
-use Rattle.elf_file.specs.declared.refusal.ObjectRefusal.TheVariants.{RelocationType}
-use Rattle.elf_dynamic.specs.Relocation.{relocations, uses_symbol}
-use Rattle.elf_dynamic.specs.Strings.{needed}
+use Rattle.elf_dynamic.specs.Strings.{name_of}
+use Rattle.elf_dynamic.specs.declared.relocation.Relocation.{Relocation}
 use Rattle.hash_check.specs.FileRefusal.{first_file_refusal, ReadNeedsMemory}
-use Rattle.hash_check.specs.declared.file_refusal.FileRefusal.TheVariants.{Object}
-use Rattle.image.specs.Placement.{program_name, alone, is_good_base, lacks_room}
+use Rattle.scope.specs.LoadOrder.{Need, missing}
+use Rattle.scope.specs.Objects.{Named}
+use Rattle.scope.specs.declared.refusal.OrderRefusal.{OrderRefusal}
+use Rattle.scope.specs.declared.refusal.OrderRefusal.TheVariants as order
+use Rattle.image.specs.Placement.{Placed, objects_of, is_good_base, lacks_room}
+use Rattle.image.specs.Relocating.{name_at, file_at, first_undefined}
 use Rattle.image.specs.declared.refusal.BindRefusal.{BindRefusal}
 use Rattle.image.specs.declared.refusal.BindRefusal.TheVariants.{Program, BadBase, Missing, NoRoom, Undefined, OutOfMemory}
 
--- the name of the first library that a file needs, in the order of its entries
-unfoldable pub first_needed : List ℕ → Option (List ℕ)
-first_needed file = slice_get (needed file) 0
+-- the refusal of a relocation of the object at a place: the names of the object and of the symbol
+abbrev pub undefined_by : List Placed → ℕ → Relocation → BindRefusal
+undefined_by objects own r = Undefined (name_at objects own) (name_of (file_at objects own) r.symbol)
 
--- the type of the first relocation whose value is that of a symbol, in their order
-unfoldable pub first_symbol_type : List ℕ → Option ℕ
-first_symbol_type file = find uses_symbol (map (λ r. r.kind) (relocations file))
+-- the refusal of the first relocation of the object at a place that is undefined
+unfoldable pub undefined_in : List Placed → ℕ → Option BindRefusal
+undefined_in objects own = option_map (undefined_by objects own) (first_undefined objects own)
 
--- the refusal of a relocation's type
-abbrev pub of_type : ℕ → BindRefusal
-of_type kind = Program (Object (RelocationType kind))
+-- the refusal of the first relocation that is undefined, object by object in load order
+unfoldable pub undefined_refusal : List Placed → Option BindRefusal
+undefined_refusal objects = first_of (map (undefined_in objects) (range_with_len 0 (length objects)))
 
--- The tests of a program that is bound alone, in their order:
+-- The tests of objects in memory, in their order:
+-- B4: the memory of one ends too high;
+-- B5: the value of a relocation is undefined: the first such one.
+abbrev pub placed_tests : List Placed → List (Option BindRefusal)
+placed_tests objects = (NoRoom when lacks_room objects) ∷ undefined_refusal objects ∷ []
+
+-- the refusal of objects in memory: that of the first test that applies
+unfoldable pub placed_refusal : List Placed → Option BindRefusal
+placed_refusal objects = first_of (placed_tests objects)
+
+-- a library that isn't there, with who needs it
+abbrev pub missing_by : Need → BindRefusal
+missing_by need = Missing need.needer need.name
+
+-- the refusal where there is no load order
+abbrev pub of_order : OrderRefusal → BindRefusal
+of_order (order.Missing needer name) = Missing needer name
+of_order order.OutOfMemory = OutOfMemory
+
+-- The tests of a program, in their order:
 -- B1: the file is refused, by the first of all tests on files that applies;
 -- B2: the base is no multiple of the program's unit;
--- B3: it needs a library, and none is there: the first name that it needs;
--- B4: its memory ends too high;
--- B1 E30: a relocation's value is that of a symbol, since symbols aren't looked up: the first such type.
-abbrev pub alone_tests : List ℕ → ℕ → List (Option BindRefusal)
-alone_tests file base =
+-- B3: a library that is needed isn't there: the first such one;
+-- B4 and B5: those of its objects in memory.
+abbrev pub bind_tests : List ℕ → ℕ → List Named → List ℕ → List (Option BindRefusal)
+bind_tests file base libraries preloads =
     option_map Program (first_file_refusal file)
     ∷ (BadBase when not (is_good_base file base))
-    ∷ option_map (Missing program_name) (first_needed file)
-    ∷ (NoRoom when lacks_room (alone file base))
-    ∷ option_map of_type (first_symbol_type file)
+    ∷ option_map missing_by (missing file libraries preloads)
+    ∷ placed_refusal (objects_of file base libraries preloads)
     ∷ []
 
--- the refusal of a program that is bound alone: that of the first test that applies
-unfoldable pub alone_refusal : List ℕ → ℕ → Option BindRefusal
-alone_refusal file base = first_of (alone_tests file base)
+-- the refusal of a program: that of the first test that applies
+unfoldable pub bind_refusal : List ℕ → ℕ → List Named → List ℕ → Option BindRefusal
+bind_refusal file base libraries preloads = first_of (bind_tests file base libraries preloads)
+
+-- that of a program alone: without libraries and preloads
+abbrev pub alone_refusal : List ℕ → ℕ → Option BindRefusal
+alone_refusal file base = bind_refusal file base [] []
 
 -- Where want of memory may be answered: where admission takes memory, before which only the refusals of the object by
--- itself are answered. The names of a missing library and the image take theirs behind it.
+-- itself are answered. Load order, places, names and the image take theirs behind it.
 abbrev pub WantsMemory : List ℕ → Type 0
 WantsMemory file = ReadNeedsMemory file
 
 -- an answer where no image is given: the refusal, or want of memory where memory is wanted
-abbrev pub IsAnswer : List ℕ → ℕ → BindRefusal → Type 0
-IsAnswer file base OutOfMemory = WantsMemory file
-IsAnswer file base answer = alone_refusal file base ≡ Some answer
+abbrev pub IsAnswer : List ℕ → ℕ → List Named → List ℕ → BindRefusal → Type 0
+IsAnswer file base libraries preloads OutOfMemory = WantsMemory file
+IsAnswer file base libraries preloads answer = bind_refusal file base libraries preloads ≡ Some answer
 
 -- a refusal, or want of memory in its place since its names take memory
 abbrev pub IsOrWantsMemory : BindRefusal → BindRefusal → Type 0
 IsOrWantsMemory refusal answer = (answer ≡ refusal) ⊎ (answer ≡ OutOfMemory)
+
+-- no room for objects in memory, or want of memory in its place
+abbrev pub IsPlaceAnswer : List Placed → BindRefusal → Type 0
+IsPlaceAnswer objects answer = ((answer ≡ NoRoom) × (lacks_room objects ≡ true)) ⊎ (answer ≡ OutOfMemory)
+
+-- the refusal that stands, or want of memory in place of any answer
+abbrev pub IsFirstOrWantsMemory : Option BindRefusal → BindRefusal → Type 0
+IsFirstOrWantsMemory first answer = (first ≡ Some answer) ⊎ (answer ≡ OutOfMemory)

@@ -1,13 +1,18 @@
--- What relocations write into memory (psABI, relocation types).
-use Rattle.std.specs.Prelude.{ℕ, ◌+◌, ◌-◌, ◌%◌, ◌^◌, ◌==◌, Bool, ◌&&◌, is_none, if◌then◌else◌, List, [], length, map, reverse, get_or, slice_index, Option, Some, None}
-use Rattle.std.specs.List.{find, flat_map, filter_map, list_any, range_with_len}
-use Rattle.std.specs.Option.{option_map}
+-- The values of symbols, and what relocations write into memory (gABI chapter 4, symbol values; psABI, relocation types).
+use Rattle.std.specs.Prelude.{ℕ, ◌+◌, ◌-◌, ◌%◌, ◌^◌, ◌==◌, Bool, ◌&&◌, is_none, if◌then◌else◌, List, [], length, map, reverse, get_or, slice_get, slice_index, Option, Some, None}
+use Rattle.std.specs.List.{find, flat_map, filter_map, range_with_len}
+use Rattle.std.specs.Option.{option_map, option_map_or}
 use Rattle.std.specs.Int.{byte_at}
-use Rattle.elf_dynamic.specs.Relocation.{relocations, is_writing}
+use Rattle.elf_dynamic.specs.Constant.{SHN_ABS, R_X86_64_64, R_X86_64_RELATIVE}
+use Rattle.elf_dynamic.specs.Relocation.{relocations, uses_symbol, is_writing}
+use Rattle.elf_dynamic.specs.Symbol.{symbols}
 use Rattle.elf_dynamic.specs.declared.relocation.Relocation.{Relocation}
-use Rattle.elf_dynamic.specs.Constant.{R_X86_64_RELATIVE}
+use Rattle.elf_dynamic.specs.declared.symbol.Symbol.{Symbol}
+use Rattle.scope.specs.Target.{target}
+use Rattle.scope.specs.declared.target.Target.{Target}
+use Rattle.scope.specs.declared.target.Target.TheVariants.{Zero, At}
 use Rattle.image.specs.Heading.{within}
-use Rattle.image.specs.Placement.{Placed}
+use Rattle.image.specs.Placement.{Placed, named}
 
 -- An object is told from others by its place in load order, and not by its bytes: two may have the same. No definition
 -- here asks for a place behind the last object.
@@ -16,23 +21,51 @@ use Rattle.image.specs.Placement.{Placed}
 abbrev pub base_at : List Placed → ℕ → ℕ
 base_at objects own = slice_index (map (λ o. o.base) objects) own
 
--- the relocations of the object at a place
-abbrev pub relocations_of : List Placed → ℕ → List Relocation
-relocations_of objects own = relocations (get_or (map (λ o. o.file) objects) own [])
+-- its file's bytes
+abbrev pub file_at : List Placed → ℕ → List ℕ
+file_at objects own = get_or (map (λ o. o.file) objects) own []
 
--- The value that a relocation of the object at a place writes: base and addend, for R_X86_64_RELATIVE. None where it
--- is undefined, and where its type writes nothing.
+-- its name
+abbrev pub name_at : List Placed → ℕ → List ℕ
+name_at objects own = get_or (map (λ o. o.name) objects) own []
+
+-- its relocations
+abbrev pub relocations_of : List Placed → ℕ → List Relocation
+relocations_of objects own = relocations (file_at objects own)
+
+-- where a symbol of an object at a base stands: at its value if that is absolute, else at the base and its value
+abbrev pub address_of : ℕ → Symbol → ℕ
+address_of base symbol = if symbol.section == SHN_ABS then symbol.value else (base + symbol.value) % 2 ^ 64
+
+-- where the symbol of a number of the object at a place stands
+abbrev pub own_address : List Placed → ℕ → ℕ → ℕ
+own_address objects object symbol = option_map_or (address_of (base_at objects object)) (slice_get (symbols (file_at objects object)) symbol) 0
+
+-- the value of what a symbol stands for
+abbrev pub target_value : List Placed → Target → ℕ
+target_value objects Zero = 0
+target_value objects (At object symbol) = own_address objects object symbol
+
+-- the value of the symbol of a number of the object at a place; none where it is undefined
+unfoldable pub symbol_value : List Placed → ℕ → ℕ → Option ℕ
+symbol_value objects own symbol = option_map (target_value objects) (target (map named objects) own symbol)
+
+-- The value that a relocation of the object at a place writes: R_X86_64_64 that of its symbol and the addend,
+-- R_X86_64_GLOB_DAT and R_X86_64_JUMP_SLOT that of its symbol alone, R_X86_64_RELATIVE base and addend. None where its
+-- symbol is undefined, and where its type writes nothing.
 abbrev pub value_of : List Placed → ℕ → Relocation → Option ℕ
-value_of objects own r = if r.kind == R_X86_64_RELATIVE then Some ((base_at objects own + r.addend) % 2 ^ 64) else None
+value_of objects own r =
+    if r.kind == R_X86_64_RELATIVE then Some ((base_at objects own + r.addend) % 2 ^ 64)
+    else (if r.kind == R_X86_64_64 then option_map (λ value. (value + r.addend) % 2 ^ 64) (symbol_value objects own r.symbol)
+    else (if uses_symbol r.kind then symbol_value objects own r.symbol else None))
 
 -- a relocation of a type that writes, whose value is undefined
 abbrev pub is_undefined : List Placed → ℕ → Relocation → Bool
 is_undefined objects own r = is_writing r.kind && is_none (value_of objects own r)
 
--- some relocation of some object is undefined
-unfoldable pub has_undefined : List Placed → Bool
-has_undefined objects =
-    list_any (λ own. list_any (is_undefined objects own) (relocations_of objects own)) (range_with_len 0 (length objects))
+-- the first relocation of the object at a place that is undefined
+abbrev pub first_undefined : List Placed → ℕ → Option Relocation
+first_undefined objects own = find (is_undefined objects own) (relocations_of objects own)
 
 -- eight bytes that a relocation writes: from which address on, and the value that they spell, little endian
 pub record Write : Type 0 where

@@ -1,58 +1,124 @@
-// An object at its base.
+// The objects of an order at their bases.
 
-ghost use Rattle.std.specs.Prelude.{◌≡◌};
-ghost use Rattle.image.specs.Placement.{ends_too_high};
+ghost use Rattle.std.specs.Prelude.{◌≡◌, ◌<◌, length, map, Some, None, MatchResult};
+ghost use Rattle.elf_dynamic.specs.Symbol.{symbols};
+ghost use Rattle.scope.specs.Target.{target};
+ghost use Rattle.image.specs.Placement.{named};
+ghost use Rattle.image.specs.Relocating.{base_at, file_at, name_at, own_address, symbol_value};
+ghost use Rattle.image.specs.inside.Layout.{AllAccepted, IsPlaced, Stacked, with_bases};
 
-use crate::placement::{MEMORY_LIMIT, reach};
 use elf_dynamic::Object;
+use scope::{Order, Target, Undefined, resolve};
 use std::marker::Model;
 
-/// An object in memory: the name that it goes by, its file, and its base. Contracts see these
-/// three, the file as its bytes.
+/// The section index of a symbol whose value is no address of the object.
+const SHN_ABS: u16 = 0xfff1;
+
+/// The objects of an order, each at its base. Contracts see each with its name, its file's bytes
+/// and its base.
 #[derive(Drop)]
-pub(crate) struct PlacedObject<'a> {
-    name: &'a [u8],
-    object: &'a Object<'a>,
-    base: u64,
+pub(crate) struct PlacedOrder<'a> {
+    order: &'a Order<'a>,
+    bases: Vec<u64>,
 }
 
-impl<'a> Model for PlacedObject<'a> {
+impl<'a> Model for PlacedOrder<'a> {
+    ghost use Rattle.std.specs.Prelude.{List};
     ghost use Rattle.image.specs.Placement.{Placed};
+    ghost use Rattle.image.specs.inside.Layout.{IsPlaced, with_bases};
 
-    ghost Value = { Placed };
+    ghost Value = { List Placed };
 
-    ghost view = { λ p. record { name = p.name.now; file = p.object.now; base = p.base } };
+    ghost view = { λ p. with_bases p.order.now p.bases.items };
+
+    ghost invariant = { λ p. IsPlaced p.order.now p.bases.items };
 }
 
-impl<'a> PlacedObject<'a> {
-    pub(crate) fn new(name: &'a [u8], object: &'a Object<'a>, base: u64) -> PlacedObject<'a>
-        ensures { result ≡ record { name = name.now; file = object.now; base = base } }
+impl<'a> PlacedOrder<'a> {
+    pub(crate) fn new(order: &'a Order<'a>, bases: Vec<u64>) -> PlacedOrder<'a>
+        requires { IsPlaced order.now bases.items }
+        ensures { result ≡ with_bases order.now bases.items }
     {
-        PlacedObject { name, object, base }
+        PlacedOrder { order, bases }
     }
 
-    pub(crate) fn name(&self) -> &'a [u8]
-        ensures { result.now ≡ self.now.name }
+    /// How many objects there are.
+    pub(crate) fn count(&self) -> usize
+        ensures count { result ≡ length self.now }
+
+        // What holds of all of them.
+        ensures stacked { Stacked 0 self.now }
+        ensures accepted { AllAccepted self.now }
     {
-        self.name
+        self.bases.len()
     }
 
-    pub(crate) fn object(&self) -> &'a Object<'a>
-        ensures { result.now ≡ self.now.file }
+    /// The base of the object at a place in load order.
+    pub(crate) fn base(&self, i: usize) -> u64
+        requires { i < length self.now }
+        ensures { result ≡ base_at self.now i }
     {
-        self.object
+        self.bases[i]
     }
 
-    pub(crate) fn base(&self) -> u64
-        ensures { result ≡ self.now.base }
+    /// Its name.
+    pub(crate) fn name(&self, i: usize) -> &'a [u8]
+        requires { i < length self.now }
+        ensures { result.now ≡ name_at self.now i }
     {
-        self.base
+        self.order.name(i)
     }
 
-    /// Whether its memory ends above the limit.
-    pub(crate) fn ends_too_high(&self) -> bool
-        ensures { result ≡ ends_too_high self.now }
+    /// The object itself.
+    pub(crate) fn object(&self, i: usize) -> &Object<'a>
+        requires { i < length self.now }
+        ensures file { result.now ≡ file_at self.now i }
+
+        // What holds of all of them.
+        ensures stacked { Stacked 0 self.now }
+        ensures accepted { AllAccepted self.now }
     {
-        self.base > MEMORY_LIMIT || reach(self.object) > MEMORY_LIMIT - self.base
+        let admitted = self.order.object(i);
+        admitted.object()
+    }
+
+    /// What the symbol of a number of the object at a place is bound to.
+    fn target(&self, own: usize, symbol: u32) -> Result<Target, Undefined>
+        requires own { own < length self.now }
+        requires symbol { symbol < length (symbols (file_at self.now own)) }
+        ensures { MatchResult result
+            (λ found. target (map named self.now) own symbol ≡ Some found)
+            (λ _. target (map named self.now) own symbol ≡ None) }
+    {
+        resolve(self.order, own, symbol)
+    }
+
+    /// Where the symbol of a number of an object stands.
+    fn own_address(&self, object: usize, symbol: u32) -> u64
+        requires object { object < length self.now }
+        requires symbol { symbol < length (symbols (file_at self.now object)) }
+        ensures { result ≡ own_address self.now object symbol }
+    {
+        let found = self.object(object).symbol(symbol);
+        if found.section == SHN_ABS {
+            found.value
+        } else {
+            self.base(object).wrapping_add(found.value)
+        }
+    }
+
+    /// The value of the symbol of a number of the object at a place, unless it is undefined. It
+    /// costs a search by the symbol's name.
+    #[tactic(auto, unfolding(crate::specs::Relocating::symbol_value))]
+    pub(crate) fn symbol_value(&self, own: usize, symbol: u32) -> Result<u64, Undefined>
+        requires own { own < length self.now }
+        requires symbol { symbol < length (symbols (file_at self.now own)) }
+        ensures { MatchResult result (λ value. symbol_value self.now own symbol ≡ Some value)
+            (λ _. symbol_value self.now own symbol ≡ None) }
+    {
+        match self.target(own, symbol)? {
+            Target::Zero => Ok(0),
+            Target::At { object, symbol } => Ok(self.own_address(object, symbol)),
+        }
     }
 }

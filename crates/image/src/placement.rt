@@ -1,15 +1,23 @@
 // Where objects may stand.
 
-ghost use Rattle.std.specs.Prelude.{◌≡◌};
-ghost use Rattle.image.specs.Placement.{unit, reach, is_good_base, lacks_room};
+ghost use Rattle.std.specs.Prelude.{◌≡◌, ◌+◌, ◌<◌, ◌≤◌, map, true, false, IfOk, OnOk, IfErr};
+ghost use Rattle.std.specs.Prelude.{MatchOption};
+ghost use Rattle.std.specs.Int.{next_multiple_of};
+ghost use Rattle.scope.specs.Objects.{file_at, IsOrder};
+ghost use Rattle.image.specs.Constant.{MEMORY_LIMIT};
+ghost use Rattle.image.specs.Placement.{unit, reach, is_good_base, lacks_room, place};
+ghost use Rattle.image.specs.Refusal.{IsPlaceAnswer};
 
-use crate::placed::PlacedObject;
+use crate::refusal::BindRefusal;
 use elf_dynamic::Object;
+use hash_check::Admitted;
+use scope::Order;
+use std::alloc::{AllocError, Global};
 
 /// A page, in bytes.
 const PAGE: u64 = 4096;
 /// The highest address that memory may end at: a page below 2^47.
-pub(crate) const MEMORY_LIMIT: u64 = 0x7fff_ffff_f000;
+const MEMORY_LIMIT: u64 = 0x7fff_ffff_f000;
 
 /// The unit of an object, in bytes. One pass over its PT_LOADs.
 #[tactic(auto, unfolding(crate::specs::Placement::unit))]
@@ -22,9 +30,9 @@ fn unit(object: &Object<'_>) -> u64
         .fold(PAGE, |unit, alignment| unit.max(alignment))
 }
 
-/// How far an object's memory reaches from its base, in bytes: to the end of its last PT_LOAD, since
-/// each of them ends at or below the beginning of the next.
-pub(crate) fn reach(object: &Object<'_>) -> u64
+/// How far an object's memory reaches from its base, in bytes: to the end of its last PT_LOAD,
+/// since each of them ends at or below the beginning of the next.
+fn reach(object: &Object<'_>) -> u64
     ensures { result ≡ reach object.now }
 {
     let count = object.segment_count();
@@ -35,15 +43,101 @@ pub(crate) fn reach(object: &Object<'_>) -> u64
 /// Whether a program may stand at this base: it is a multiple of the program's unit, which is the
 /// greatest of 4,096 and the alignments of its PT_LOADs.
 #[tactic(auto, using(crate::proofs::Placing::unit_positive))]
-pub fn good_base(object: &Object<'_>, base: u64) -> bool
-    ensures { result ≡ is_good_base object.now base }
+pub fn good_base(program: &Admitted<'_>, base: u64) -> bool
+    ensures { result ≡ is_good_base program.now base }
 {
-    base % unit(object) == 0
+    base % unit(program.object()) == 0
 }
 
-/// Whether the memory of some object ends above the limit.
-pub(crate) fn lacks_room(objects: &[PlacedObject<'_>]) -> bool
-    ensures { result ≡ lacks_room objects.now }
+/// Where an object's memory ends at a base, unless that is above the limit.
+fn end_at(object: &Object<'_>, base: u64) -> Option<u64>
+    ensures { MatchOption result (MEMORY_LIMIT < base + reach object.now)
+        (λ end. (end ≡ base + reach object.now) × (end ≤ MEMORY_LIMIT)) }
 {
-    objects.iter().any(|object| object.ends_too_high())
+    let size = reach(object);
+    if base > MEMORY_LIMIT || size > MEMORY_LIMIT - base {
+        None
+    } else {
+        Some(base + size)
+    }
+}
+
+/// The least multiple of a unit that isn't below an end, unless that is above the limit.
+fn base_after(end: u64, unit: u64) -> Option<u64>
+    requires end { end ≤ MEMORY_LIMIT }
+    requires unit { 0 < unit }
+    ensures { MatchOption result (MEMORY_LIMIT < next_multiple_of end unit)
+        (λ base. base ≡ next_multiple_of end unit) }
+{
+    let more = (unit - end % unit) % unit;
+    if more > MEMORY_LIMIT - end {
+        None
+    } else {
+        Some(end + more)
+    }
+}
+
+/// The base of an object behind an end and where its memory ends then, unless that is above the
+/// limit.
+#[tactic(auto, using(crate::proofs::Placing::unit_positive))]
+fn place_behind(object: &Object<'_>, end: u64) -> Option<(u64, u64)>
+    requires { end ≤ MEMORY_LIMIT }
+    ensures { MatchOption result
+        (MEMORY_LIMIT < next_multiple_of end (unit object.now) + reach object.now)
+        (λ p. (p.0 ≡ next_multiple_of end (unit object.now)) × (p.1 ≡ p.0 + reach object.now)
+        × (p.1 ≤ MEMORY_LIMIT)) }
+{
+    let Some(base) = base_after(end, unit(object)) else {
+        return None;
+    };
+    let Some(end) = end_at(object, base) else {
+        return None;
+    };
+    Some((base, end))
+}
+
+/// The bases of objects in load order, unless the memory of one would end above the limit.
+fn fitting_bases(
+    alloc: Global,
+    order: &Order<'_>,
+    base: u64,
+) -> Result<Option<Vec<u64>>, AllocError>
+    ensures order { IsOrder order.now }
+    ensures ok { IfOk result (λ fitting. MatchOption fitting
+        (lacks_room (place base order.now) ≡ true)
+        (λ bases. (bases.items ≡ map (λ p. p.base) (place base order.now))
+        × (lacks_room (place base order.now) ≡ false))) }
+{
+    let count = order.count();
+    let Some(mut end) = end_at(order.object(0).object(), base) else {
+        return Ok(None);
+    };
+    let mut bases = Vec::with_capacity(alloc, count)?;
+    bases.push(base)?;
+    for i in 1..count {
+        let Some((next, next_end)) = place_behind(order.object(i).object(), end) else {
+            return Ok(None);
+        };
+        bases.push(next)?;
+        end = next_end;
+    }
+    Ok(Some(bases))
+}
+
+/// The bases of objects in load order: the program's is given, and each next one is the least
+/// multiple of its object's unit that isn't below the end before it. One pass over the PT_LOADs of
+/// each object; it takes eight bytes an object.
+pub fn place(alloc: Global, order: &Order<'_>, base: u64) -> Result<Vec<u64>, BindRefusal>
+    requires { is_good_base (file_at order.now 0) base ≡ true }
+    ensures order { IsOrder order.now }
+    ensures ok { IfOk result (λ bases. bases.items ≡ map (λ p. p.base) (place base order.now)) }
+
+    // Bases only where no memory ends above the limit; else that, or want of memory.
+    ensures room { OnOk result (lacks_room (place base order.now) ≡ false) }
+    ensures refused { IfErr result (IsPlaceAnswer (place base order.now)) }
+{
+    match fitting_bases(alloc, order, base)? {
+        Some(bases) => Ok(bases),
+        None => Err(BindRefusal::NoRoom),
+    }
 }

@@ -2,10 +2,11 @@
 
 ghost use Rattle.std.specs.Prelude.{◌≡◌, IfOk};
 ghost use Rattle.image.specs.Refusal.{IsOrWantsMemory};
-ghost use Rattle.image.specs.declared.refusal.BindRefusal.TheVariants.{Missing, Undefined};
+ghost use Rattle.image.specs.declared.refusal.BindRefusal.TheVariants.{Undefined};
 
 use hash_check::FileRefusal;
 use names::Name;
+use scope::OrderRefusal;
 use std::alloc::{AllocError, Global};
 
 /// Why a program isn't bound at a base, in the order in which the tests are made.
@@ -35,14 +36,29 @@ pub enum BindRefusal {
     OutOfMemory,
 }
 
-/// `Missing` with names of its own.
-fn named_missing(alloc: Global, needer: &[u8], name: &[u8]) -> Result<BindRefusal, AllocError>
-    ensures { IfOk result (λ e. e ≡ Missing needer.now name.now) }
-{
-    Ok(BindRefusal::Missing {
-        needer: Name::copy_of(alloc, needer)?,
-        name: Name::copy_of(alloc, name)?,
-    })
+impl From<AllocError> for BindRefusal {
+    ghost use Rattle.std.specs.Prelude.{◌≡◌};
+    ghost use Rattle.image.specs.declared.refusal.BindRefusal.TheVariants.{OutOfMemory};
+
+    ghost from_gives = { λ _ e. e ≡ OutOfMemory };
+
+    fn from(_: AllocError) -> BindRefusal {
+        BindRefusal::OutOfMemory
+    }
+}
+
+impl From<OrderRefusal> for BindRefusal {
+    ghost use Rattle.std.specs.Prelude.{◌≡◌};
+    ghost use Rattle.image.specs.Refusal.{of_order};
+
+    ghost from_gives = { λ refusal e. e ≡ of_order refusal };
+
+    fn from(refusal: OrderRefusal) -> BindRefusal {
+        match refusal {
+            OrderRefusal::Missing { needer, name } => BindRefusal::Missing { needer, name },
+            OrderRefusal::OutOfMemory => BindRefusal::OutOfMemory,
+        }
+    }
 }
 
 /// `Undefined` with names of its own.
@@ -56,16 +72,6 @@ fn named_undefined(alloc: Global, object: &[u8], symbol: &[u8]) -> Result<BindRe
 }
 
 impl BindRefusal {
-    /// `Missing` with copies of the names, or `OutOfMemory` where they aren't copied.
-    pub fn missing(alloc: Global, needer: &[u8], name: &[u8]) -> BindRefusal
-        ensures { IsOrWantsMemory (Missing needer.now name.now) result }
-    {
-        match named_missing(alloc, needer, name) {
-            Ok(refusal) => refusal,
-            Err(_) => BindRefusal::OutOfMemory,
-        }
-    }
-
     /// `Undefined` with copies of the names, or `OutOfMemory` where they aren't copied.
     pub fn undefined(alloc: Global, object: &[u8], symbol: &[u8]) -> BindRefusal
         ensures { IsOrWantsMemory (Undefined object.now symbol.now) result }

@@ -7,7 +7,17 @@ use crate::tests::streams::Full;
 use elf_dynamic::ObjectRefusal;
 use hash_check::FileRefusal;
 use image::BindRefusal;
+use names::Name;
+use std::alloc::{AllocError, Global};
 use std::test::Fail;
+
+/// The refusal of a library that isn't there, with copies of the names.
+fn missing(alloc: Global, needer: &[u8], name: &[u8]) -> Result<BindRefusal, AllocError> {
+    Ok(BindRefusal::Missing {
+        needer: Name::copy_of(alloc, needer)?,
+        name: Name::copy_of(alloc, name)?,
+    })
+}
 
 #[test]
 fn a_line_is_one_write(rt: HostRuntime) -> Result<(), Fail> {
@@ -17,8 +27,8 @@ fn a_line_is_one_write(rt: HostRuntime) -> Result<(), Fail> {
         BindRefusal::Program(FileRefusal::Object(ObjectRefusal::RelocationType(u32::MAX))),
         BindRefusal::Program(FileRefusal::DuplicateDefinition),
         BindRefusal::BadBase,
-        BindRefusal::missing(alloc, b"/program", &[b'x'; 240]),
-        BindRefusal::missing(alloc, &[0; 240], b""),
+        missing(alloc, b"/program", &[b'x'; 240])?,
+        missing(alloc, &[0; 240], b"")?,
         BindRefusal::NoRoom,
         BindRefusal::undefined(alloc, &[b'x'; 240], &[0xff; 240]),
         BindRefusal::OutOfMemory,
@@ -51,11 +61,11 @@ fn refusals_that_name_objects(rt: HostRuntime) -> Result<(), Fail> {
     let long = vec![in alloc; b'x'; 100_000]?;
     for (refusal, wanted) in [
         (
-            BindRefusal::missing(alloc, b"/program", b"a b"),
+            missing(alloc, b"/program", b"a b")?,
             "refused B3 Missing /program a\\x20b\n",
         ),
         (
-            BindRefusal::missing(alloc, b"", b"\\"),
+            missing(alloc, b"", b"\\")?,
             "refused B3 Missing \\e \\x5c\n",
         ),
         (

@@ -1,12 +1,17 @@
 -- Where segments lie, and what loading and relocating do to them. Nobody has to believe these.
-use Rattle.std.specs.Prelude.{ℕ, ◌≡◌, ◌+◌, ◌-◌, ◌^◌, ◌<◌, ◌≤◌, Bool, ◌&&◌, true, nat_le, if◌then◌else◌, List, [], ◌∷◌, ◌++◌, length, map, take, drop, replicate, sum_by, Option, Some, None}
+use Rattle.std.specs.Prelude.{ℕ, ◌≡◌, ◌+◌, ◌-◌, ◌^◌, ◌<◌, ◌≤◌, Bool, ◌&&◌, true, nat_le, if◌then◌else◌, List, [], ◌∷◌, ◌++◌, length, map, take, drop, replicate, slice_get, sum_by, Option, Some, None}
 use Rattle.std.specs.Int.{byte_at}
-use Rattle.std.specs.List.{list_any}
+use Rattle.std.specs.List.{All, list_any}
 use Rattle.byteorder.specs.Endian.{little_bytes}
+use Rattle.elf_dynamic.specs.Refusal.{first_refusal}
+use Rattle.elf_dynamic.specs.Symbol.{symbols}
+use Rattle.scope.specs.Objects.{Named}
+use Rattle.image.specs.Constant.{MEMORY_LIMIT}
 use Rattle.image.specs.Heading.{Heading, within}
 use Rattle.image.specs.Image.{ImageSegment, heading}
 use Rattle.image.specs.Loading.{Loaded}
-use Rattle.image.specs.Relocating.{Write}
+use Rattle.image.specs.Placement.{Placed, placed_at, end_of}
+use Rattle.image.specs.Relocating.{Write, file_at, symbol_value}
 use Rattle.image.specs.declared.object.ImageObject.{ImageObject}
 
 -- a PT_LOAD in memory before any relocation: the file's bytes, and zeros behind them
@@ -53,3 +58,29 @@ Lands headings w = (w.place < 2 ^ 64) × (list_any (room_in w.place) headings �
 pub record IsWhole (objects : List ImageObject) (segments : List ImageSegment) : Type 0 where
   pub rising : Rising 0 (map heading segments)
   pub counted : sum_by (λ o. o.segment_count) objects ≡ length segments
+
+-- each object stands at or above the end of the one before it, the first at or above `from`, and all end below the limit
+abbrev pub Stacked : ℕ → List Placed → Type 0
+Stacked from [] = Unit {0}
+Stacked from (p ∷ rest) = (from ≤ p.base) × (end_of p ≤ MEMORY_LIMIT) × Stacked (end_of p) rest
+
+-- no test refuses their files
+abbrev pub AllAccepted : List Placed → Type 0
+AllAccepted objects = All (λ p. first_refusal p.file ≡ None) objects
+
+-- objects at bases
+abbrev pub with_bases : List Named → List ℕ → List Placed
+with_bases [] bases = []
+with_bases (o ∷ os) [] = []
+with_bases (o ∷ os) (b ∷ bs) = placed_at b o ∷ with_bases os bs
+
+-- each of the objects has its base, and they stand in memory one above the other
+pub record IsPlaced (order : List Named) (bases : List ℕ) : Type 0 where
+  pub counted : length bases ≡ length order
+  pub stacked : Stacked 0 (with_bases order bases)
+  pub accepted : AllAccepted (with_bases order bases)
+
+-- the values that are kept are those of the symbols of their numbers, of the object at a place
+pub record Keeps (objects : List Placed) (own : ℕ) (kept : List (Option ℕ)) : Type 0 where
+  pub counted : length kept ≡ length (symbols (file_at objects own))
+  pub values : (k v : ℕ) → slice_get kept k ≡ Some (Some v) → symbol_value objects own k ≡ Some v

@@ -1,0 +1,87 @@
+-- The first relocation that is undefined, among those that are left.
+use Rattle.std.proofs.Common.{◌≡◌, ℕ, ◌+◌, ◌<◌, ◌≤◌, Bool, true, false, cond, List, [], ◌∷◌, length, drop, map, Some, None, refl, sym, ap, ◌∙◌, Option, arith, zero-add, inl, inr}
+use Rattle.std.specs.Prelude.{slice_get}
+use Rattle.std.specs.List.{find, range_with_len}
+use Rattle.std.specs.Option.{option_map}
+use Rattle.std.proofs.lemmas.List.{drop_more, drop_all}
+use Rattle.std.proofs.lemmas.List.FromFn.{get_or-range_with_len, length-range_with_len}
+use Rattle.std.proofs.lemmas.Option.{get_or_from_slice_get, slice_get_within}
+use Rattle.elf_file.specs.FirstOf.{◌when◌, first_of}
+use Rattle.elf_dynamic.specs.declared.relocation.Relocation.{Relocation}
+use Rattle.image.specs.Placement.{Placed, lacks_room}
+use Rattle.image.specs.Refusal.{undefined_by, undefined_in, undefined_refusal, placed_refusal, IsFirstOrWantsMemory}
+use Rattle.image.specs.Relocating.{first_undefined}
+use Rattle.image.specs.declared.refusal.BindRefusal.{BindRefusal}
+use Rattle.image.specs.declared.refusal.BindRefusal.TheVariants.{NoRoom}
+
+next : (p : Relocation → Bool) (rs : List Relocation) (i : ℕ) (r : Relocation) → slice_get rs i ≡ Some r → find p (drop i rs) ≡ find p (r ∷ drop (i + 1) rs)
+next p rs i r at =
+    ap (find p) (drop_more rs i r (slice_get_within rs i r at) ∙ ap (λ x. x ∷ drop (i + 1) rs) (get_or_from_slice_get rs i r r at))
+
+-- one that isn't undefined is passed
+pub passed : (p : Relocation → Bool) (rs : List Relocation) (i : ℕ) (r : Relocation) → slice_get rs i ≡ Some r → p r ≡ false → find p (drop (i + 1) rs) ≡ find p (drop i rs)
+passed p rs i r at h = sym (next p rs i r at ∙ ap (λ b. cond b (Some r) (find p (drop (i + 1) rs))) h)
+
+-- one that is undefined is found
+pub found : (p : Relocation → Bool) (rs : List Relocation) (i : ℕ) (r : Relocation) → slice_get rs i ≡ Some r → p r ≡ true → find p (drop i rs) ≡ Some r
+found p rs i r at h = next p rs i r at ∙ ap (λ b. cond b (Some r) (find p (drop (i + 1) rs))) h
+
+-- behind the last one there is none
+pub none-left : (p : Relocation → Bool) (rs : List Relocation) (i : ℕ) → length rs ≤ i → find p (drop i rs) ≡ None
+none-left p rs i h = ap (find p) (drop_all i rs h)
+
+-- the refusal of an object
+pub undefined-none : (objects : List Placed) (own : ℕ) → first_undefined objects own ≡ None → undefined_in objects own ≡ None
+unfolding undefined_in
+undefined-none objects own h = ap (option_map (undefined_by objects own)) h
+
+pub undefined-some : (objects : List Placed) (own : ℕ) (r : Relocation) → first_undefined objects own ≡ Some r → undefined_in objects own ≡ Some (undefined_by objects own r)
+unfolding undefined_in
+undefined-some objects own r h = ap (option_map (undefined_by objects own)) h
+
+place-next : (n i : ℕ) → i < n → drop i (range_with_len 0 n) ≡ i ∷ drop (i + 1) (range_with_len 0 n)
+place-next n i h =
+    drop_more (range_with_len 0 n) i 0 (omega (arith, h, length-range_with_len 0 n))
+    ∙ ap (λ k. k ∷ drop (i + 1) (range_with_len 0 n)) (get_or-range_with_len 0 n i 0 h ∙ zero-add i)
+
+then-next : (f : ℕ → Option BindRefusal) (n i : ℕ) (o : Option BindRefusal) → i < n → f i ≡ o
+    → first_of (map f (drop i (range_with_len 0 n))) ≡ first_of (o ∷ map f (drop (i + 1) (range_with_len 0 n)))
+then-next f n i o h is =
+    ap (λ ks. first_of (map f ks)) (place-next n i h) ∙ ap (λ o. first_of (o ∷ map f (drop (i + 1) (range_with_len 0 n)))) is
+
+-- an object that has none is passed
+pub object-passed : (f : ℕ → Option BindRefusal) (n i : ℕ) → i < n → f i ≡ None
+    → first_of (map f (drop (i + 1) (range_with_len 0 n))) ≡ first_of (map f (drop i (range_with_len 0 n)))
+object-passed f n i h none = sym (then-next f n i None h none)
+
+-- one that has a refusal gives it
+pub object-found : (f : ℕ → Option BindRefusal) (n i : ℕ) (e : BindRefusal) → i < n → f i ≡ Some e
+    → first_of (map f (drop i (range_with_len 0 n))) ≡ Some e
+object-found f n i e h is = then-next f n i (Some e) h is
+
+-- behind the last object there is none
+pub no-object : (f : ℕ → Option BindRefusal) (n i : ℕ) → n ≤ i → first_of (map f (drop i (range_with_len 0 n))) ≡ None
+no-object f n i h = ap (λ ks. first_of (map f ks)) (drop_all i (range_with_len 0 n) (omega (arith, h, length-range_with_len 0 n)))
+
+-- a refusal that stands, or want of memory, in place of another that it gives
+pub refused-by : (first o : Option BindRefusal) (e : BindRefusal) → (o ≡ Some e → first ≡ Some e) → IsFirstOrWantsMemory o e → IsFirstOrWantsMemory first e
+refused-by first o e f (inl is) = inl (f is)
+refused-by first o e f (inr is) = inr is
+
+room-by : (room : Bool) (o : Option BindRefusal) → room ≡ true → first_of ((NoRoom when room) ∷ o ∷ []) ≡ Some NoRoom
+room-by true o h = refl
+room-by false o h = cc
+
+left-by : (room : Bool) (o : Option BindRefusal) → room ≡ false → first_of ((NoRoom when room) ∷ o ∷ []) ≡ o
+left-by true o h = cc
+left-by false None h = refl
+left-by false (Some e) h = refl
+
+-- the refusal of objects in memory, where there is no room, and where there is
+pub placed-room : (objects : List Placed) → lacks_room objects ≡ true → placed_refusal objects ≡ Some NoRoom
+unfolding placed_refusal
+placed-room objects h = room-by (lacks_room objects) (undefined_refusal objects) h
+
+pub placed-left : (objects : List Placed) → lacks_room objects ≡ false → placed_refusal objects ≡ undefined_refusal objects
+unfolding placed_refusal
+placed-left objects h = left-by (lacks_room objects) (undefined_refusal objects) h

@@ -1,0 +1,11 @@
+use Rattle.std.proofs.Common.{refl}
+use Rattle.std.specs.List.{IsDistinct}
+use Rattle.image.proofs.tests.bound.Goals as goal
+
+pub bind_program-requires-clause-names : goal.bind_program-requires-clause-names
+unfolding IsDistinct
+bind_program-requires-clause-names c = ((refl, tt), (tt, tt))
+
+pub bind_program-requires-clause-distinct : goal.bind_program-requires-clause-distinct
+unfolding IsDistinct
+bind_program-requires-clause-distinct c = tt
