@@ -1,0 +1,10 @@
+pub mod Limits
+pub mod Library
+pub mod State
+pub mod Request
+pub mod Table
+pub mod Tests
+pub mod Phase
+pub mod Step
+pub mod Runs
+pub mod inside

@@ -1,0 +1,39 @@
+-- Where a registry stands between two commands (own).
+use Rattle.std.specs.Prelude.{ℕ, Bool, false}
+use Rattle.registry.specs.State.{State, free, names_of}
+use Rattle.registry.specs.Table.{Table}
+
+-- what contracts see of a registry in memory
+pub record Kept : Type 0 where
+  -- how many sectors its files may cost, with those of the roots
+  pub sectors : ℕ
+  pub state : State
+
+pub record Phase : Type 0 where
+  pub sectors : ℕ
+  -- how many free sectors lie in as many of the longest runs as a file may have extents
+  pub longest : ℕ
+  -- how many calls of its disk have failed
+  pub failures : ℕ
+  -- a write or a sync has failed: what the disk holds is known again once it is opened
+  pub failed : Bool
+  pub state : State
+
+-- in memory there is no disk that could fail, and the free sectors are one run
+abbrev pub phase_of : Kept → Phase
+phase_of kept = record {
+  sectors = kept.sectors;
+  longest = free kept.sectors kept.state;
+  failures = 0;
+  failed = false;
+  state = kept.state;
+}
+
+abbrev pub table_of : Phase → Table
+table_of p = record {
+  generation = p.state.generation;
+  names = names_of p.state.libraries;
+  preloads = p.state.preloads;
+  free = free p.sectors p.state;
+  longest = p.longest;
+}

@@ -1,0 +1,107 @@
+-- What a command does (own).
+use Rattle.std.specs.Prelude.{Result, Ok, Err, ◌≡◌, ◌<◌, ℕ, ◌+◌, List, [], ◌∷◌, ◌++◌, Option, Some, None, ◌⊎◌, IsTrue, IsFalse, Bool, true, false, if◌then◌else◌, bytes_eq}
+use Rattle.hash_check.specs.FileRefusal.{ReadNeedsMemory}
+use Rattle.registry.specs.Library.{Library, name_of}
+use Rattle.registry.specs.State.{State}
+use Rattle.registry.specs.Table.{listed}
+use Rattle.registry.specs.Request.{Request, install, replace, remove, set_preloads, list}
+use Rattle.registry.specs.Tests.{first_refusal}
+use Rattle.registry.specs.Phase.{Kept, Phase, phase_of, table_of}
+use Rattle.registry.specs.declared.refusal.Refusal.{Refusal}
+use Rattle.registry.specs.declared.refusal.Refusal.TheVariants.{OutOfMemory, Device, Reopen, Fragmented, BadGeometry}
+use Rattle.registry.specs.declared.reply.Reply.{Reply}
+use Rattle.registry.specs.declared.reply.Reply.TheVariants.{Done, Refused}
+use Rattle.registry.specs.declared.reply.Reply.TheVariants as reply
+
+-- the libraries with these bytes in the place of those under the name
+abbrev pub with_bytes : List ℕ → List ℕ → List Library → List Library
+with_bytes name bytes [] = []
+with_bytes name bytes (l ∷ ls) = if bytes_eq name l.name then record { name = l.name; bytes = bytes } ∷ ls else l ∷ with_bytes name bytes ls
+
+-- the libraries without the one of this name
+abbrev pub without : List ℕ → List Library → List Library
+without name [] = []
+without name (l ∷ ls) = if bytes_eq name l.name then ls else l ∷ without name ls
+
+-- the next state, with these libraries and preloads
+abbrev pub next : State → List Library → List (List ℕ) → State
+next s libraries preloads = record { generation = s.generation + 1; libraries = libraries; preloads = preloads }
+
+-- the state after a command is accepted
+abbrev pub accepted : State → Request → State
+accepted s (install bytes) = next s (s.libraries ++ record { name = name_of bytes; bytes = bytes } ∷ []) s.preloads
+accepted s (replace bytes) = next s (with_bytes (name_of bytes) bytes s.libraries) s.preloads
+accepted s (remove name) = next s (without name s.libraries) s.preloads
+accepted s (set_preloads names) = next s s.libraries names
+accepted s list = s
+
+-- what an accepted command is answered
+abbrev pub reply_of : State → Request → Reply
+reply_of s list = reply.Listing (listed s)
+reply_of s request = Done
+
+-- the refusal of a command by the first of its tests that applies
+abbrev pub refusal_at : Phase → Request → Option Refusal
+refusal_at p request = first_refusal (table_of p) request
+
+-- What takes memory: to admit a file that passes all tests before those of admission, and to tell what is listed.
+abbrev pub NeedsMemory : Request → Type 0
+NeedsMemory (install bytes) = ReadNeedsMemory bytes
+NeedsMemory (replace bytes) = ReadNeedsMemory bytes
+NeedsMemory (remove name) = ⊥
+NeedsMemory (set_preloads names) = ⊥
+NeedsMemory list = Unit {0}
+
+-- the state is this one now, and no write or sync failed
+pub record Leads (p : Phase) (s : State) (p' : Phase) : Type 0 where
+  pub sectors : p'.sectors ≡ p.sectors
+  pub failed : p'.failed ≡ p.failed
+  pub state : p'.state ≡ s
+
+-- A write or a sync of a change failed: the change may have taken effect, and after it the disk has to be opened.
+pub record Breaks (p : Phase) (request : Request) (p' : Phase) : Type 0 where
+  pub sectors : p'.sectors ≡ p.sectors
+  pub risen : p.failures < p'.failures
+  pub failed : IsTrue p'.failed
+  pub untested : refusal_at p request ≡ None
+  pub state : (p'.state ≡ p.state) ⊎ (p'.state ≡ accepted p.state request)
+
+-- what a failed call of the disk leaves: a listing makes none
+abbrev pub LeavesFailed : Phase → Request → Phase → Type 0
+LeavesFailed p list p' = ⊥
+LeavesFailed p request p' = Breaks p request p'
+
+-- A command may be answered so, and lead to this phase. After a failed write or sync every answer is S2, and no answer before is.
+abbrev pub Step : Phase → Request → Reply → Phase → Type 0
+Step p request (Refused Reopen) p' = IsTrue p.failed × Leads p p.state p'
+Step p request (Refused Device) p' = IsFalse p.failed × LeavesFailed p request p'
+Step p request (Refused OutOfMemory) p' = IsFalse p.failed × NeedsMemory request × Leads p p.state p'
+Step p request (Refused refusal) p' = IsFalse p.failed × (refusal_at p request ≡ Some refusal) × Leads p p.state p'
+Step p request answer p' = IsFalse p.failed × (refusal_at p request ≡ None) × (answer ≡ reply_of p.state request) × Leads p (accepted p.state request) p'
+
+-- the reply that a change's result makes
+abbrev pub answer_of : Result (Unit {0}) Refusal → Reply
+answer_of (Ok done) = Done
+answer_of (Err refusal) = Refused refusal
+
+-- an answer that needs no disk: neither S1 nor S2 nor S8, and S6 is answered to no command
+abbrev pub IsDiskless : Reply → Type 0
+IsDiskless (Refused Device) = ⊥
+IsDiskless (Refused Reopen) = ⊥
+IsDiskless (Refused Fragmented) = ⊥
+IsDiskless (Refused BadGeometry) = ⊥
+IsDiskless answer = Unit {0}
+
+-- a step of a registry in memory
+abbrev pub StepInMemory : Kept → Request → Reply → Kept → Type 0
+StepInMemory kept request answer kept' = Step (phase_of kept) request answer (phase_of kept') × IsDiskless answer
+
+-- a change was acknowledged
+abbrev pub is_acknowledged : Reply → Bool
+is_acknowledged Done = true
+is_acknowledged answer = false
+
+-- an answer other than S11
+abbrev pub IsWithoutMemory : Reply → Type 0
+IsWithoutMemory (Refused OutOfMemory) = ⊥
+IsWithoutMemory answer = Unit {0}

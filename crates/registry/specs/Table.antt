@@ -1,0 +1,27 @@
+-- What is told of a state without a byte of its files, and all that the tests of a command read.
+use Rattle.std.specs.Prelude.{ℕ, List, map, length}
+use Rattle.registry.specs.Library.{Library}
+use Rattle.registry.specs.State.{State}
+
+-- what is told of a library: its name, and its length in bytes
+abbrev pub entry_of : Library → List ℕ × ℕ
+entry_of l = (l.name, length l.bytes)
+
+-- what is listed: the libraries, and the names of the preloads, each in the order of the state
+pub record Listed : Type 0 where
+  pub libraries : List (List ℕ × ℕ)
+  pub preloads : List (List ℕ)
+
+abbrev pub listed : State → Listed
+listed s = record { libraries = map entry_of s.libraries; preloads = s.preloads }
+
+-- what the tests of a command read
+pub record Table : Type 0 where
+  pub generation : ℕ
+  -- the names of the libraries
+  pub names : List (List ℕ)
+  pub preloads : List (List ℕ)
+  -- how many sectors are free
+  pub free : ℕ
+  -- how many of them lie in as many of the longest runs as a file may have extents
+  pub longest : ℕ

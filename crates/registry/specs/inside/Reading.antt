@@ -1,0 +1,11 @@
+-- What reading a file as a library is refused with.
+use Rattle.std.specs.Prelude.{ℕ, List, ◌≡◌, Some}
+use Rattle.hash_check.specs.FileRefusal.{ReadNeedsMemory}
+use Rattle.registry.specs.Library.{library_refusal}
+use Rattle.registry.specs.declared.refusal.Refusal.{Refusal}
+use Rattle.registry.specs.declared.refusal.Refusal.TheVariants.{Object, OutOfMemory}
+
+abbrev pub IsLibraryRefusal : List ℕ → Refusal → Type 0
+IsLibraryRefusal file (Object refusal) = library_refusal file ≡ Some refusal
+IsLibraryRefusal file OutOfMemory = ReadNeedsMemory file
+IsLibraryRefusal file refusal = ⊥
