@@ -15,7 +15,8 @@ MARK = '<!-- tables -->'
 CRATES = [
     ('names', 'Names of their own'), ('text_output', 'Text on its way to a writer'), ('elf_file', 'Files'),
     ('elf_dynamic', 'Symbols and relocations of files'), ('hash_check', 'Admission and the search of names'),
-    ('image', 'Images'), ('commands', 'The program'), ('sector_disk', 'The disk model'),
+    ('scope', 'Load order and lookup'), ('image', 'Images'), ('registry', 'The registry and its step table'),
+    ('commands', 'The program'), ('sector_disk', 'The disk model'),
     ('extents', 'Free and claimed sectors'), ('roots', 'Root and entry sectors'), ('passes', 'Passes over a disk'), ('store', 'Named byte strings')]
 STANDARD = re.compile(r'\(([^()]*(?:\([^()]*\)[^()]*)*)\)')
 VALUE = re.compile(r'^\S+ = (0x[0-9a-f]+|[0-9]+)$')

@@ -1,5 +1,6 @@
 #!/usr/bin/env python3
-"""Makes the libraries with large and hostile hash tables that docs/PERFORMANCE.md measures, in the folder that is named."""
+"""Makes the libraries with large and hostile tables that docs/PERFORMANCE.md measures, in the folder that is named, and
+real.c, the source of one that gcc and ld make."""
 import struct
 import sys
 from array import array
@@ -24,9 +25,9 @@ def words(numbers):
     return array('I', numbers).tobytes()
 
 
-def library(strings, symbols, buckets, chains):
+def library(strings, symbols, buckets, chains, needed=0):
     """A library named q: symbols from number 1 on as (offset of the name, st_info), the strings behind the library's own,
-    the buckets and the chain words, that of symbol 0 too. Addresses are offsets of the file."""
+    the buckets and the chain words, that of symbol 0 too, and how often it needs q. Addresses are offsets of the file."""
     own = b'\0q\0'
     table = words([len(buckets), len(chains)]) + words(buckets) + words(chains)
     table += bytes(-len(table) % 8)
@@ -35,7 +36,7 @@ def library(strings, symbols, buckets, chains):
     symbols_at = hash_at + len(table)
     text_at = symbols_at + 24 * (len(symbols) + 1)
     dynamic_at = (text_at + len(text) + 7) // 8 * 8
-    entries = [(14, 1), (4, hash_at), (5, text_at), (6, symbols_at), (10, len(text)), (11, 24), (0, 0)]
+    entries = [(1, 1)] * needed + [(14, 1), (4, hash_at), (5, text_at), (6, symbols_at), (10, len(text)), (11, 24), (0, 0)]
     size = dynamic_at + 16 * len(entries)
     file = HEADER + struct.pack('<HHIQQQIHHHHHH', 3, 62, 1, 0, 64, 0, 0, 64, 56, 2, 0, 0, 0)
     file += struct.pack('<IIQQQQQQ', 1, 6, 0, 0, 0, size, size, PAGE)
@@ -144,10 +145,12 @@ def main():
         'two_places.so': library(same_strings, exported([same[i % 2] for i in range(200_000)]), [1], line(200_000)),
         'beginnings.so': library(beginnings, exported(begun), [1], line(100_000)),
         'tails.so': library(tails, exported(range(16_000)), [1], line(16_000)),
+        'needed.so': library(b'', [], [0], [0], needed=1_000_000),
     }
     for name, file in made.items():
         (folder / name).write_bytes(file)
         print(name, len(file), 'bytes')
+    (folder / 'real.c').write_text(''.join(f'int function_number_{i:x}(void) {{ return {i}; }}\n' for i in range(6_000)))
 
 
 if __name__ == '__main__':

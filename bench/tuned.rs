@@ -1,5 +1,7 @@
 //! A tuned program of the same rules, to compare with: one object at a base, PT_LOADs, RELATIVE relocations, the text.
-//! It makes no test of the file. `rustc --edition 2021 -O -C target-cpu=x86-64-v2 bench/tuned.rs`.
+//! It makes no test of the file. `rustc --edition 2021 -O -C target-cpu=x86-64-v2 bench/tuned.rs`; with `--cfg tests -o
+//! tuned_tests` it makes the two tests that cost something on large tables: that no tag which may be present once is
+//! present twice, and that each relocation's place lies in a PT_LOAD, both before anything is written.
 use std::fs;
 use std::io::{self, Write};
 use std::os::fd::FromRawFd;
@@ -88,6 +90,38 @@ impl<W: Write> Out<W> {
     }
 }
 
+/// No tag that may be present once is present twice.
+#[cfg(tests)]
+fn test_tags(section: &[u8]) {
+    let mut counts = [0u32; 40];
+    for entry in section.chunks_exact(16) {
+        match u64_at(entry, 0) {
+            0 => break,
+            tag if tag < 37 => counts[tag as usize] += 1,
+            0x6fff_fff0 => counts[37] += 1,
+            0x6fff_fffc => counts[38] += 1,
+            0x6fff_fffe => counts[39] += 1,
+            _ => {}
+        }
+    }
+    let single = [2, 4, 5, 6, 7, 8, 9, 10, 11, 14, 16, 17, 20, 23, 30, 36, 37, 38, 39];
+    assert!(single.iter().all(|&tag| counts[tag] < 2));
+}
+
+/// The eight bytes of each relocation's place lie in the memory of a PT_LOAD.
+#[cfg(tests)]
+fn test_places(table: &[u8], loads: &[Load]) {
+    let holds = |l: &Load, place: u64| place >= l.address && place + 8 <= l.address + l.memory as u64;
+    let mut near = 0;
+    for entry in table.chunks_exact(24) {
+        let place = u64_at(entry, 0);
+        if u64_at(entry, 8) as u32 != 0 && !holds(&loads[near], place) {
+            near = loads.partition_point(|l| l.address <= place) - 1;
+            assert!(holds(&loads[near], place));
+        }
+    }
+}
+
 fn main() -> io::Result<()> {
     let args: Vec<String> = std::env::args().collect();
     let file = fs::read(&args[1])?;
@@ -113,6 +147,8 @@ fn main() -> io::Result<()> {
     }
     let (mut rela, mut relasz) = (0u64, 0u64);
     let (start, size) = dynamic.unwrap();
+    #[cfg(tests)]
+    test_tags(&f[start..start + size]);
     for i in 0..size / 16 {
         match u64_at(f, start + 16 * i) {
             0 => break,
@@ -135,6 +171,8 @@ fn main() -> io::Result<()> {
     if relasz > 0 {
         let table = find(rela);
         let start = loads[table].offset + (rela - loads[table].address) as usize;
+        #[cfg(tests)]
+        test_places(&f[start..start + relasz as usize], &loads);
         for i in 0..(relasz / 24) as usize {
             let at = start + 24 * i;
             let place = u64_at(f, at);
