@@ -39,8 +39,8 @@ fn compare<R: Print + AllocGlobal>(
     Ok(())
 }
 
-fn bytes_of(alloc: Global, seed: u8, length: usize) -> Result<[u8; SECTOR_BYTES]> {
-    Ok(spelt(&[(0, content(alloc, seed, length)?.as_slice())]))
+fn bytes_of(alloc: Global, first_byte: u8, length: usize) -> Result<[u8; SECTOR_BYTES]> {
+    Ok(spelt(&[(0, content(alloc, first_byte, length)?.as_slice())]))
 }
 
 /// What a format, a put and a replacement write.

@@ -19,19 +19,19 @@ pub(crate) struct State {
 }
 
 /// So many bytes that tell where they stand, and which string they belong to.
-pub(crate) fn content(alloc: Global, seed: u8, length: usize) -> Result<Vec<u8>> {
+pub(crate) fn content(alloc: Global, first_byte: u8, length: usize) -> Result<Vec<u8>> {
     let mut bytes = vec![in alloc; 0; length]?;
     for (i, byte) in bytes.iter_mut().enumerate() {
-        *byte = seed.wrapping_add((i % 251) as u8);
+        *byte = first_byte.wrapping_add((i % 251) as u8);
     }
     Ok(bytes)
 }
 
 impl Blob {
-    fn new(alloc: Global, name: u8, seed: u8, length: usize) -> Result<Blob> {
+    fn new(alloc: Global, name: u8, first_byte: u8, length: usize) -> Result<Blob> {
         Ok(Blob {
             name: Vec::from_slice(alloc, &[name])?,
-            bytes: content(alloc, seed, length)?,
+            bytes: content(alloc, first_byte, length)?,
         })
     }
 
