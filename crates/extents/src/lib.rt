@@ -12,8 +12,6 @@ mod layout;
 mod limits;
 mod refusal;
 mod runs;
-#[cfg(test)]
-mod tests;
 
 pub use extent::Extent;
 pub use extents::Extents;

@@ -14,6 +14,3 @@ mod write;
 pub use pass::{commit, stage};
 pub use read::read_bytes;
 pub use write::write_bytes;
-
-#[cfg(test)]
-mod tests;

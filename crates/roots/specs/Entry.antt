@@ -60,12 +60,13 @@ pub record SpellsEntry (bytes : List ℕ) (entry : Entry) : Type 0 where
   pub has_spelling : EntryHasSpelling entry
   pub spelling : bytes ≡ entry_bytes entry
 
--- what an entry says: the bytes of the name, and the extents of the file
-abbrev pub listed_name : Entry → List ℕ
-listed_name entry = take entry.name_length entry.name
+-- the name that an entry has
+abbrev pub name_of : Entry → List ℕ
+name_of entry = take entry.name_length entry.name
 
-abbrev pub listed_extents : Entry → List Extent
-listed_extents entry = take entry.extent_count entry.extents
+-- the extents in which an entry's file lies, in its order
+abbrev pub extents_of : Entry → List Extent
+extents_of entry = take entry.extent_count entry.extents
 
 -- the entry of a file, with zeros in the places behind the name and the extents
 abbrev pub entry_of_file : List ℕ → ℕ → List Extent → Entry

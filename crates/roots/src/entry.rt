@@ -5,7 +5,7 @@ ghost use Rattle.extents.specs.Limits.{most_extents};
 ghost use Rattle.roots.specs.Entry.{EntryHasSpelling, NameFits, ExtentsFit};
 ghost use Rattle.roots.specs.Limits.{most_name_bytes};
 ghost use Rattle.roots.specs.Entry.{IsNameByte, IsDataExtent};
-ghost use Rattle.roots.specs.Entry.{entry_of_file, listed_name, listed_extents};
+ghost use Rattle.roots.specs.Entry.{entry_of_file, name_of, extents_of};
 
 use crate::limits::{LEAST_FILE_BYTES, MOST_FILE_BYTES, MOST_NAME_BYTES};
 use crate::lists::placed;
@@ -34,8 +34,8 @@ impl Entry {
         requires short_name { length name.now ≤ most_name_bytes }
         requires few_extents { length extents.now ≤ most_extents }
         ensures value { result ≡ entry_of_file name.now file_length extents.now }
-        ensures name { listed_name result ≡ name.now }
-        ensures extents { listed_extents result ≡ extents.now }
+        ensures name { name_of result ≡ name.now }
+        ensures extents { extents_of result ≡ extents.now }
     {
         Entry {
             file_length,
@@ -49,7 +49,7 @@ impl Entry {
     /// The bytes of the name.
     pub fn name_bytes(&self) -> &[u8]
         requires { EntryHasSpelling self.now }
-        ensures { result.now ≡ listed_name self.now }
+        ensures { result.now ≡ name_of self.now }
     {
         &self.name[..usize::from(self.name_length)]
     }
@@ -57,7 +57,7 @@ impl Entry {
     /// The extents of the file, in its order.
     pub fn file_extents(&self) -> &[Extent]
         requires { EntryHasSpelling self.now }
-        ensures { result.now ≡ listed_extents self.now }
+        ensures { result.now ≡ extents_of self.now }
     {
         &self.extents[..usize::from(self.extent_count)]
     }

@@ -29,6 +29,3 @@ pub use limits::{
 pub use root::Root;
 pub use root_sector::{decode_root, encode_root};
 pub use slot::Slot;
-
-#[cfg(test)]
-mod tests;

@@ -1,5 +1,6 @@
 pub mod CallCount
 pub mod Disk
 pub mod Fuse
+pub mod Liar
 pub mod Memory
 pub mod inside

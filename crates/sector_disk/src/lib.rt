@@ -3,13 +3,14 @@
 //! `Disk` is the one contract that everything above stands on: until a sync succeeds a stop may
 //! leave each sector with its synced content, or with any content that was written to it since.
 //! `Memory` is such a disk in memory, which can be stopped at any moment; `Fuse` is a disk that
-//! fails at a planned call.
+//! fails at a planned call, and `Liar` one that gives planned answers and keeps nothing.
 #![tactic(auto)]
 
 mod call_count;
 mod choices;
 mod disk;
 mod fuse;
+mod liar;
 mod memory;
 mod moment;
 mod past;
@@ -18,7 +19,5 @@ mod written;
 pub use call_count::CallCount;
 pub use disk::{Disk, DiskFault, SECTOR_BYTES};
 pub use fuse::Fuse;
+pub use liar::Liar;
 pub use memory::Memory;
-
-#[cfg(test)]
-mod tests;

@@ -134,6 +134,12 @@ IsRefusalOfPutOver Full = Unit
 IsRefusalOfPutOver Fragmented = Unit
 IsRefusalOfPutOver other = IsRefusalOfChange other
 
+-- The refusals of a put with a new name on any disk: these, and those of a put in place of other bytes.
+abbrev pub IsRefusalOfPutNew : StoreRefusal → Type 0
+IsRefusalOfPutNew TooMany = Unit
+IsRefusalOfPutNew OutOfMemory = Unit
+IsRefusalOfPutNew other = IsRefusalOfPutOver other
+
 -- the store's word for what taking sectors refuses
 abbrev pub refusal_of_take : TakeRefusal → StoreRefusal
 refusal_of_take take.Full = Full

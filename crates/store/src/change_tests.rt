@@ -15,7 +15,7 @@ fn store(alloc: Global, sectors: u32, call: u64, late: bool) -> Result<Store<Fus
 }
 
 // The refusal of a put of a name of two bytes that is there or isn't, if it refuses.
-fn put<D: Disk>(
+pub(crate) fn put<D: Disk>(
     rt: &impl Abort,
     store: &mut Store<D>,
     name: &[u8; 2],
@@ -31,7 +31,11 @@ fn put<D: Disk>(
 }
 
 // The refusal of a removal from a store without preloads, if it refuses.
-fn delete<D: Disk>(rt: &impl Abort, store: &mut Store<D>, name: &[u8; 2]) -> Option<StoreRefusal> {
+pub(crate) fn delete<D: Disk>(
+    rt: &impl Abort,
+    store: &mut Store<D>,
+    name: &[u8; 2],
+) -> Option<StoreRefusal> {
     assert!(rt; store.root.preload_count == 0, "there are preloads");
     match store.position(name) {
         Some(_) => store.delete(name).err(),
@@ -41,7 +45,11 @@ fn delete<D: Disk>(rt: &impl Abort, store: &mut Store<D>, name: &[u8; 2]) -> Opt
 }
 
 // The refusal of the choice of one preload, if it refuses.
-fn preload<D: Disk>(rt: &impl Abort, store: &mut Store<D>, at: usize) -> Option<StoreRefusal> {
+pub(crate) fn preload<D: Disk>(
+    rt: &impl Abort,
+    store: &mut Store<D>,
+    at: usize,
+) -> Option<StoreRefusal> {
     assert!(rt; at < store.entries.len(), "a position that isn't there");
     store.set_preloads(&[at]).err()
 }

@@ -32,6 +32,8 @@ pub use store::Store;
 #[cfg(test)]
 mod change_tests;
 #[cfg(test)]
+mod liar_tests;
+#[cfg(test)]
 mod open_tests;
 #[cfg(test)]
 mod put_tests;

@@ -7,7 +7,8 @@ use sector_disk::Disk;
 use std::alloc::Global;
 
 impl<D: Disk> Store<D> {
-    ghost use Rattle.std.specs.Prelude.{◌≡◌, ◌+◌, ◌<◌, ◌⊎◌, IsTrue, IfOk, IfErr, MatchResult, length};
+    ghost use Rattle.std.specs.Prelude.{◌≡◌, ◌+◌, ◌<◌, ◌⊎◌, IsTrue, IsFalse, IfOk, IfErr, MatchResult};
+    ghost use Rattle.std.specs.Prelude.{length};
     ghost use Rattle.sector_disk.specs.Disk.{Mixture, LeavesOnly, AreCallsExactly, AreCallsAtMost};
     ghost use Rattle.roots.specs.Limits.{most_libraries};
     ghost use Rattle.store.specs.Opened.{IsAt, disk_after};
@@ -32,6 +33,7 @@ impl<D: Disk> Store<D> {
             → IfErr result (λ e. RefusesOpen (D.facts disk).now e.0) }
 
         // On any disk
+        ensures usable { IfOk result (λ store. IsFalse store.failed) }
         ensures geometry { IfOk result (λ _. IsGeometry (D.facts disk).sectors) }
         ensures refusals { IfErr result (λ e. IsRefusalOfOpen (D.facts disk).sectors e.0) }
         ensures device { IfErr result (λ e. e.0 ≡ StoreRefusal.Device

@@ -4,19 +4,30 @@ use crate::store::Store;
 use sector_disk::Disk;
 
 impl<D: Disk> Store<D> {
-    ghost use Rattle.std.specs.Prelude.{◌≡◌, ℕ, ◌<◌, ◌↔◌, All, Some, IsNone, IfSome};
-    ghost use Rattle.std.specs.Prelude.{length, slice_index_or};
+    ghost use Rattle.std.specs.Prelude.{◌≡◌, ℕ, ◌<◌, ◌≤◌, ◌↔◌, All, Some, IsFalse};
+    ghost use Rattle.std.specs.Prelude.{IsNone, IfSome, length, slice_index_or};
     ghost use Rattle.extents.specs.Extent.{AreDistinct};
     ghost use Rattle.roots.specs.declared.entry.Entry.{Entry};
+    ghost use Rattle.roots.specs.Limits.{most_libraries, most_preloads};
     ghost use Rattle.roots.specs.Root.{listed_preloads};
     ghost use Rattle.store.specs.Opened.{IsAt};
-    ghost use Rattle.store.specs.Stands.{name_of, no_blob, names_at};
+    ghost use Rattle.store.specs.Stands.{HaveOwnNames, name_of, no_blob, names_at};
     ghost use Rattle.store.specs.State.{State};
-    ghost use Rattle.store.specs.Step.{LacksName};
+    ghost use Rattle.store.specs.Step.{LacksName, IsName, IsFileSize};
+
+    /// Whether a write or a sync of this store failed. Then each change and each reading of it
+    /// answers S2, until its disk is opened again.
+    pub fn has_failed(&self) -> bool
+        ensures value { result ≡ self.now.failed }
+        ensures state { (s : State) → IsAt D.facts self.now s → IsFalse result }
+    {
+        self.failed
+    }
 
     /// How many byte strings there are.
     pub fn count(&self) -> usize
         ensures value { result ≡ length self.now.entries }
+        ensures few { result ≤ most_libraries }
         ensures state { (s : State) → IsAt D.facts self.now s → result ≡ length s.blobs }
     {
         self.entries.len()
@@ -27,6 +38,7 @@ impl<D: Disk> Store<D> {
         requires { position < length self.now.entries }
         ensures value { (d : Entry) →
             result.now ≡ name_of (slice_index_or self.now.entries position d) }
+        ensures form { IsName result.now }
         ensures state { (s : State) → IsAt D.facts self.now s
             → result.now ≡ (slice_index_or s.blobs position no_blob).name }
     {
@@ -38,6 +50,7 @@ impl<D: Disk> Store<D> {
         requires { position < length self.now.entries }
         ensures value { (d : Entry) →
             result ≡ (slice_index_or self.now.entries position d).file_length }
+        ensures size { IsFileSize result }
         ensures state { (s : State) → IsAt D.facts self.now s
             → result ≡ length (slice_index_or s.blobs position no_blob).bytes }
     {
@@ -51,6 +64,7 @@ impl<D: Disk> Store<D> {
             × ((d : Entry) → name_of (slice_index_or self.now.entries i d) ≡ name.now)) }
 
         // No two byte strings have one name, so a position at which the name stands is the answer.
+        ensures own_names { HaveOwnNames self.now.entries }
         ensures state { (s : State) → IsAt D.facts self.now s → (i : ℕ) → (result ≡ Some i)
             ↔ ((i < length s.blobs) × ((slice_index_or s.blobs i no_blob).name ≡ name.now)) }
     {
@@ -60,6 +74,7 @@ impl<D: Disk> Store<D> {
     /// The positions of the preloads, in their order.
     pub fn preloads(&self) -> &[u16]
         ensures value { result.now ≡ listed_preloads self.now.root }
+        ensures few { length result.now ≤ most_preloads }
         ensures inside { All (λ position. position < length self.now.entries) result.now }
         ensures once { AreDistinct result.now }
         ensures state { (s : State) → IsAt D.facts self.now s

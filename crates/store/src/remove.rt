@@ -6,7 +6,7 @@ use crate::room::give_back;
 use sector_disk::Disk;
 
 impl<D: Disk> Store<D> {
-    ghost use Rattle.std.specs.Prelude.{◌≡◌, ◌≢◌, ◌<◌, ◌⊎◌, ◌↔◌, IsTrue, IfErr, OnOk};
+    ghost use Rattle.std.specs.Prelude.{◌≡◌, ◌≢◌, ◌<◌, ◌⊎◌, ◌↔◌, IsTrue, IsFalse, IfErr, OnOk};
     ghost use Rattle.sector_disk.specs.Disk.{LeavesOnly, AreCallsExactly, AreCallsAtMost};
     ghost use Rattle.store.specs.Opened.{IsAt};
     ghost use Rattle.store.specs.Stands.{Stands};
@@ -35,6 +35,7 @@ impl<D: Disk> Store<D> {
             → ((D.facts self.old.disk).failures < (D.facts self.new.disk).failures)
             × IsTrue self.new.failed) }
         ensures same { IfErr result (λ e. e ≢ StoreRefusal.Device → self.new ≡ self.old) }
+        ensures usable { OnOk result (IsFalse self.new.failed) }
         ensures refusals { IfErr result IsRefusalOfChange }
         ensures all_calls { OnOk result
             (AreCallsExactly 2 (D.facts self.old.disk) (D.facts self.new.disk)) }

@@ -7,7 +7,8 @@ use crate::room::{give_back, take_room};
 use sector_disk::Disk;
 
 impl<D: Disk> Store<D> {
-    ghost use Rattle.std.specs.Prelude.{◌≡◌, ◌≢◌, ◌+◌, ◌<◌, ◌⊎◌, ◌↔◌, length, IsTrue, IfErr, OnOk};
+    ghost use Rattle.std.specs.Prelude.{◌≡◌, ◌≢◌, ◌+◌, ◌<◌, ◌⊎◌, ◌↔◌, IsTrue, IsFalse, IfErr, OnOk};
+    ghost use Rattle.std.specs.Prelude.{length};
     ghost use Rattle.std.specs.Int.{div_ceil};
     ghost use Rattle.sector_disk.specs.Disk.{sector_bytes};
     ghost use Rattle.sector_disk.specs.Disk.{LeavesOnly, AreCallsExactly, AreCallsAtMost};
@@ -38,6 +39,7 @@ impl<D: Disk> Store<D> {
             → ((D.facts self.old.disk).failures < (D.facts self.new.disk).failures)
             × IsTrue self.new.failed) }
         ensures same { IfErr result (λ e. e ≢ StoreRefusal.Device → self.new ≡ self.old) }
+        ensures usable { OnOk result (IsFalse self.new.failed) }
         ensures refusals { IfErr result IsRefusalOfPutOver }
         ensures all_calls { OnOk result (AreCallsExactly
             (div_ceil (length bytes.now) sector_bytes + 4)

@@ -39,7 +39,7 @@ impl<D: Disk> Model for Store<D> {
 
 impl<D: Disk> Store<D> {
     ghost use Rattle.std.specs.Prelude.{◌≡◌, ◌≢◌, ◌+◌, ◌<◌, ◌⊎◌, ◌↔◌, IsTrue, IfOk, IfErr, OnOk};
-    ghost use Rattle.std.specs.Prelude.{length};
+    ghost use Rattle.std.specs.Prelude.{IsFalse, length};
     ghost use Rattle.std.specs.Int.{div_ceil};
     ghost use Rattle.sector_disk.specs.Disk.{sector_bytes};
     ghost use Rattle.sector_disk.specs.Disk.{Mixture, LeavesOnly, AreCallsExactly, AreCallsAtMost};
@@ -49,7 +49,7 @@ impl<D: Disk> Store<D> {
     ghost use Rattle.store.specs.Stands.{Stands};
     ghost use Rattle.store.specs.State.{State, empty_state};
     ghost use Rattle.store.specs.Step.{IsName, IsFileSize, LacksName, with_new};
-    ghost use Rattle.store.specs.Step.{longest_free, refusal_of_new, IsAnswer};
+    ghost use Rattle.store.specs.Step.{longest_free, refusal_of_new, IsAnswer, IsRefusalOfPutNew};
 
     /// Makes an empty store on a disk where no root was written yet. It writes one sector. Where it
     /// refuses it hands the disk back.
@@ -66,6 +66,7 @@ impl<D: Disk> Store<D> {
             → IfErr result (λ e. RefusesFormat (D.facts disk).now e.0) }
 
         // On any disk
+        ensures usable { IfOk result (λ store. IsFalse store.failed) }
         ensures geometry { IfOk result (λ _. IsGeometry (D.facts disk).sectors) }
         ensures refusals { IfErr result (λ e. IsRefusalOfFormat (D.facts disk).sectors e.0) }
         ensures device { IfErr result (λ e. e.0 ≡ StoreRefusal.Device
@@ -117,6 +118,8 @@ impl<D: Disk> Store<D> {
             → ((D.facts self.old.disk).failures < (D.facts self.new.disk).failures)
             × IsTrue self.new.failed) }
         ensures same { IfErr result (λ e. e ≢ StoreRefusal.Device → self.new ≡ self.old) }
+        ensures usable { OnOk result (IsFalse self.new.failed) }
+        ensures refusals { IfErr result IsRefusalOfPutNew }
         ensures all_calls { OnOk result (AreCallsExactly
             (div_ceil (length bytes.now) sector_bytes + 4)
             (D.facts self.old.disk) (D.facts self.new.disk)) }

@@ -1,6 +1,8 @@
+// The spellings of root and entry sectors, and which root is chosen.
+
 mod choices;
-mod entries;
-mod roots;
+mod entry_sectors;
+mod root_sectors;
 
 use sector_disk::SECTOR_BYTES;
 use std::process::Abort;

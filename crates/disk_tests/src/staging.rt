@@ -1,6 +1,6 @@
 // What stands in which sector, and what is read back.
-use crate::{commit, read_bytes, stage};
 use extents::Extent;
+use passes::{commit, read_bytes, stage};
 use sector_disk::{Disk, Memory, SECTOR_BYTES};
 use std::test::Fail;
 

@@ -1,6 +1,6 @@
 // What a stop leaves, and which calls a fuse fails. Contents are told by their byte: a sector of
 // the byte 2 alone is content 2.
-use crate::{CallCount, Disk, DiskFault, Fuse, Memory, SECTOR_BYTES};
+use sector_disk::{CallCount, Disk, DiskFault, Fuse, Liar, Memory, SECTOR_BYTES};
 use std::alloc::Global;
 use std::process::Abort;
 use std::test::Fail;
@@ -365,6 +365,28 @@ fn a_fuse_passes_on_the_failures_behind_it(rt: HostRuntime) -> Result<(), Fail> 
     );
     let memory = fuse.into_inner().into_inner();
     assert_eq!(rt; choices(&rt, &memory, 0), 3);
+    Ok(())
+}
+
+#[test]
+fn a_liar_gives_its_answers_in_turn_and_keeps_nothing(rt: HostRuntime) -> Result<(), Fail> {
+    let mut answers = Vec::new(rt.alloc());
+    for content in [3, 1, 2] {
+        answers.push([content; SECTOR_BYTES])?;
+    }
+    let mut liar = Liar::new(2, answers);
+    assert_eq!(rt; liar.sectors(), 2);
+    for (at, content) in [(0, 3), (0, 1), (1, 2), (1, 3)] {
+        assert_eq!(rt; read(&rt, &mut liar, at), Some(content), "sector {at}");
+    }
+    write(&rt, &mut liar, 1, 7)?;
+    liar.sync()?;
+    assert_eq!(rt; read(&rt, &mut liar, 1), Some(1), "the fifth read");
+
+    let mut silent = Liar::new(1, Vec::new(rt.alloc()));
+    write(&rt, &mut silent, 0, 7)?;
+    assert_eq!(rt; read(&rt, &mut silent, 0), Some(0), "no answer is zeros");
+    assert_eq!(rt; read(&rt, &mut silent, 0), Some(0), "also the second time");
     Ok(())
 }
 

@@ -1,4 +1,8 @@
-use super::*;
+// What a layout gives out and takes back.
+
+use extents::{
+    ClaimRefusal, Extent, Layout, MOST_EXTENTS, MOST_SECTORS, ROOT_SECTORS, TakeRefusal,
+};
 use std::alloc::Global;
 use std::test::Fail;
 

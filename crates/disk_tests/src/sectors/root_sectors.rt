@@ -1,5 +1,5 @@
 use super::changed;
-use crate::{Root, Slot, decode_root, encode_root};
+use roots::{Root, Slot, decode_root, encode_root};
 use sector_disk::SECTOR_BYTES;
 
 // A disk of 8 sectors: formatted, then a library is installed (data 2, entry 3), and replaced

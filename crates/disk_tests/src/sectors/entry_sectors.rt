@@ -1,6 +1,6 @@
 use super::changed;
-use crate::{Entry, MOST_NAME_BYTES, decode_entry, encode_entry};
 use extents::{Extent, MOST_EXTENTS};
+use roots::{Entry, MOST_NAME_BYTES, decode_entry, encode_entry};
 use sector_disk::SECTOR_BYTES;
 
 const UNUSED: Extent = Extent { start: 0, count: 0 };

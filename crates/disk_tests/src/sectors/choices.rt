@@ -1,4 +1,4 @@
-use crate::{ChooseRefusal, Root, Slot, choose, slot_of};
+use roots::{ChooseRefusal, Root, Slot, choose, slot_of};
 
 fn root(generation: u64) -> Root {
     Root::new(generation, 8, &[], &[])
