@@ -44,3 +44,9 @@ pub none_misplaced : (file table : List ℕ) → ((k : ℕ) → k < length (relo
 none_misplaced file table none =
     list_any_none (is_misplaced file) (relocations_in table) (λ k d lt.
     ap (is_misplaced file) (get_or_relocations_in table k d (omega (arith, length_relocations_in table, lt))) ∙ none k lt)
+
+-- for one relocation
+pub ruleset of_one = (fine_by_type, misplaced_by)
+
+-- for the relocations of a table
+pub ruleset of_a_table = (length_relocations_in, some_misplaced, none_misplaced)

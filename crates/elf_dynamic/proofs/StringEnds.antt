@@ -34,3 +34,6 @@ drop_min zero (x ∷ xs) =
 drop_min (suc n) (x ∷ xs) =
     let e : min (suc n) (length (x ∷ xs)) ≡ suc (min n (length xs)) = omega arith in
     ap (λ k. drop k (x ∷ xs)) e ∙ drop_min n xs
+
+-- for a string of a table
+pub ruleset ends = (take_front, front_short, drop_min)

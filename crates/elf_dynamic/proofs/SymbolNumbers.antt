@@ -81,3 +81,6 @@ needed_counted file = length-mapped (string_at (string_table file)) (needed_offs
     length-mapped : {X Y : Type 0} (f : X → Y) (xs : List X) → length (map f xs) ≡ length xs
     length-mapped f [] = refl
     length-mapped f (x ∷ xs) = ap suc (length-mapped f xs)
+
+-- for the needed names by number
+pub ruleset needed_by_number = (needed_counted, needed_numbered)

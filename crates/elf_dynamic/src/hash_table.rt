@@ -30,7 +30,6 @@ pub(crate) fn word(table: &[u8], i: usize) -> u32
 
 impl<'a> HashTable<'a> {
     /// The hash table of a file, if it can be read.
-    #[tactic(auto, unfolding(crate::specs::HashTable::hash_head_bytes, crate::specs::HashTable::hash_bytes, crate::specs::HashTable::hash_table, crate::specs::HashTable::bucket_count, crate::specs::HashTable::chain_count))]
     pub(crate) fn find(dynamic: &Dynamic<'a>) -> Option<HashTable<'a>>
         ensures { MatchOption result (has_bad_hash dynamic.now ≡ true)
             (λ table. (has_bad_hash dynamic.now ≡ false) × IsHashTable dynamic.now table) }

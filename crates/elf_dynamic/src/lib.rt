@@ -17,8 +17,6 @@ mod strings;
 mod symbol;
 mod symbols;
 mod tables;
-#[cfg(test)]
-mod tests;
 
 pub use elf_file::{LoadSegments, ObjectRefusal, ProgramHeader};
 pub use object::Object;

@@ -32,7 +32,7 @@ impl<'a> Tables<'a> {
     }
 
     /// The name of the needed library number `i`.
-    #[tactic(auto, using(crate::proofs::SymbolNumbers::needed_counted, crate::proofs::SymbolNumbers::needed_numbered))]
+    #[tactic(auto, using(crate::proofs::SymbolNumbers::needed_by_number))]
     pub(crate) fn needed(&self, i: usize) -> &'a [u8]
         requires { i < length (needed self.now) }
         ensures { slice_get (needed self.now) i ≡ Some result.now }

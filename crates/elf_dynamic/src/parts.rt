@@ -65,7 +65,6 @@ fn table_bytes<'a>(dynamic: &Dynamic<'a>, place: Tag, size: Tag) -> Option<&'a [
 
 impl<'a> Parts<'a> {
     /// The tables of a file, if they can be read.
-    #[tactic(auto, unfolding(crate::specs::Strings::string_table, crate::specs::Symbol::symbol_table, crate::specs::Relocation::table))]
     pub(crate) fn find(dynamic: &Dynamic<'a>) -> Option<Parts<'a>>
         ensures { MatchOption result (has_bad_range dynamic.now ≡ true)
             (λ parts. (has_bad_range dynamic.now ≡ false) × HasParts dynamic.now parts) }

@@ -13,7 +13,7 @@ const WRITTEN: u64 = 8;
 
 /// Whether a relocation writes where no PT_LOAD has memory. `last` is the PT_LOAD that the one
 /// before needed: it is tried first, and then the index of all of them.
-#[tactic(auto, using(crate::proofs::Misplaced::fine_by_type, crate::proofs::Misplaced::misplaced_by))]
+#[tactic(auto, using(crate::proofs::Misplaced::of_one))]
 fn is_misplaced(
     segments: &Segments<'_>,
     last: &mut Option<ProgramHeader>,
@@ -41,7 +41,7 @@ fn is_misplaced(
 }
 
 /// Whether a relocation of a table writes where no PT_LOAD has memory.
-#[tactic(auto, using(crate::proofs::TableEntries::length_relocations_in, crate::proofs::Misplaced::some_misplaced, crate::proofs::Misplaced::none_misplaced))]
+#[tactic(auto, using(crate::proofs::Misplaced::of_a_table))]
 pub(crate) fn has_misplaced_in(segments: &Segments<'_>, table: &[u8]) -> bool
     ensures { result ≡ list_any (is_misplaced segments.now) (relocations_in table.now) }
 {

@@ -15,7 +15,7 @@ fn string_length(bytes: &[u8]) -> usize
 }
 
 /// The string at an offset of a table, up to its zero byte. As long as the string.
-#[tactic(auto, using(crate::proofs::StringEnds::take_front, crate::proofs::StringEnds::front_short, crate::proofs::StringEnds::drop_min), unfolding(crate::specs::Strings::string_at))]
+#[tactic(auto, using(crate::proofs::StringEnds::ends), unfolding(crate::specs::Strings::string_at))]
 pub(crate) fn string_at(table: &[u8], offset: usize) -> &[u8]
     ensures { result.now ≡ string_at table.now offset }
 {

@@ -17,7 +17,6 @@ use elf_file::ObjectRefusal;
 
 impl<'a> Tables<'a> {
     /// Tests the symbols.
-    #[tactic(auto, unfolding(crate::specs::Refusal::symbol_refusal, crate::specs::Symbol::symbols, crate::specs::Symbol::has_common_symbol, crate::specs::Symbol::has_tls_symbol, crate::specs::Symbol::has_ifunc_symbol, crate::specs::Symbol::has_bad_binding))]
     pub(crate) fn test_symbols(&self) -> Result<(), ObjectRefusal>
         ensures { MatchResult result (λ _. symbol_refusal self.now ≡ None)
             (λ refusal. symbol_refusal self.now ≡ Some refusal) }

@@ -103,7 +103,6 @@ impl<'a> Tables<'a> {
     }
 
     /// Whether a symbol's name isn't in the string table.
-    #[tactic(auto, unfolding(crate::specs::Strings::has_bad_symbol_name, crate::specs::Symbol::symbols))]
     fn has_bad_symbol_name(&self) -> bool
         ensures { result ≡ has_bad_symbol_name self.now }
     {

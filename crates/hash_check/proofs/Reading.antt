@@ -83,3 +83,6 @@ taken_with_memory file h = (
   unrefused (first_refusal file) (none_at (file_tests file) 0 h),
   inr (good-words file (when_none BadHashTable (has_bad_hash_table file) (none_at (file_tests file) 2 h))),
 )
+
+-- for each answer of reading a file
+pub ruleset first_refusals = (taken, of_object, of_names, of_table)

@@ -12,7 +12,7 @@ use std::alloc::Global;
 impl<'a> Admitted<'a> {
     /// Reads a file and admits it, or gives the refusal of the first of all tests that applies. It
     /// costs what `Object::read` and `Admitted::admit` cost.
-    #[tactic(auto, using(crate::proofs::Reading::taken, crate::proofs::Reading::of_object, crate::proofs::Reading::of_names, crate::proofs::Reading::of_table))]
+    #[tactic(auto, using(crate::proofs::Reading::first_refusals))]
     pub fn read(alloc: Global, file: &'a [u8]) -> Result<Admitted<'a>, ReadRefusal>
         ensures ok { OnOk result (first_file_refusal file.now ≡ None) }
         ensures same { IfOk result (λ admitted. admitted ≡ file.now) }

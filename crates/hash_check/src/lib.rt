@@ -22,8 +22,6 @@ mod refusal;
 mod search;
 mod soname;
 mod table;
-#[cfg(test)]
-mod tests;
 mod walk;
 
 pub use admitted::Admitted;

@@ -5,7 +5,5 @@
 #![tactic(auto)]
 
 mod name;
-#[cfg(test)]
-mod tests;
 
 pub use name::Name;

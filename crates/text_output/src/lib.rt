@@ -10,8 +10,6 @@ mod decimal;
 mod fault;
 mod hexadecimal;
 mod name;
-#[cfg(test)]
-mod tests;
 
 pub use buffer::{OutputBuffer, PIECE};
 pub use fault::WriteFault;

@@ -1,8 +1,7 @@
 // The rows of the hash, and the search by chains beside a plain one.
 
-use super::*;
-use crate::export::is_exported;
 use elf_dynamic::{Object, ObjectRefusal};
+use hash_check::{AdmitRefusal, Admitted, FileRefusal, ReadRefusal, elf_hash};
 use std::alloc::Global;
 
 /// A library named q with two buckets, which exports f and g and refers to u.
@@ -33,6 +32,18 @@ fn put_words(file: &mut [u8], n: u32) {
         }
         rest /= 5;
     }
+}
+
+/// Whether a symbol is exported, by the numbers of the standard.
+fn is_exported(object: &Object<'_>, i: u32) -> bool {
+    if i == 0 || i >= object.symbol_count() {
+        return false;
+    }
+    let symbol = object.symbol(i);
+    (symbol.binding() == 1 || symbol.binding() == 2)
+        && symbol.section != 0
+        && symbol.kind() <= 2
+        && (symbol.visibility() == 0 || symbol.visibility() == 3)
 }
 
 /// Whether the walk from a word meets an index, in as many steps as there are symbols.

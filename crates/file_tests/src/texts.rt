@@ -1,10 +1,10 @@
 // What no clause says: outside values of each text, that calls succeed, that a writer's fault comes
 // out and that nothing goes to the writer behind one, and how many writes a text takes.
 
-use crate::{LINE, OutputBuffer, write_name};
 use std::alloc::Global;
 use std::io::{self, ErrorKind, Write};
 use std::test::Fail;
+use text_output::{LINE, OutputBuffer, write_name};
 
 /// A writer that takes a number of writes, and fails at the next.
 #[derive(Drop)]

@@ -1,6 +1,6 @@
 // What no clause says: a copy that has its memory is made.
 
-use crate::Name;
+use names::Name;
 use std::test::Fail;
 
 #[test]

@@ -1,7 +1,7 @@
 // What a whole file gives: each accessor once, at a file made by hand, with the values that
 // `readelf -W -d --use-dynamic -s -r` prints of it.
 
-use super::*;
+use elf_dynamic::{Object, R_X86_64_64, R_X86_64_RELATIVE};
 use std::test::Fail;
 
 /// A library `lib.so` that needs `a` and `bc`, with a function `f` and an absolute, weak, protected
