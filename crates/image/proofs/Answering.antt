@@ -13,7 +13,7 @@ use Rattle.scope.specs.Refusal.{IsRefusal}
 use Rattle.scope.specs.declared.refusal.OrderRefusal.{OrderRefusal}
 use Rattle.scope.specs.declared.refusal.OrderRefusal.TheVariants as order
 use Rattle.image.specs.Placement.{objects_of, is_good_base}
-use Rattle.image.specs.Refusal.{placed_refusal, missing_by, of_order, bind_refusal, WantsMemory, IsAnswer, IsFirstOrWantsMemory}
+use Rattle.image.specs.Refusal.{placed_refusal, missing_by, of_order, program_refusal, bind_refusal, WantsMemory, IsProgramAnswer, IsAnswer, IsPlacedAnswer}
 use Rattle.image.specs.declared.refusal.BindRefusal.{BindRefusal}
 use Rattle.image.specs.declared.refusal.BindRefusal.TheVariants.{Program, BadBase, Missing, NoRoom, Undefined, OutOfMemory}
 
@@ -35,6 +35,46 @@ behind file base libraries preloads taken good =
 alone-by : (o : Option BindRefusal) → first_of (o ∷ []) ≡ o
 alone-by None = refl
 alone-by (Some e) = refl
+
+-- a program that is taken by itself
+pub program-taken : (file : List ℕ) (base : ℕ) → program_refusal file base ≡ None → first_file_refusal file ≡ None
+unfolding program_refusal
+program-taken file base h = by (first_file_refusal file) (is_good_base file base) h
+  where
+    by : (o : Option FileRefusal) (good : Bool) → first_of (option_map Program o ∷ (BadBase when not good) ∷ []) ≡ None → o ≡ None
+    by None good h = refl
+    by (Some r) good h = cc
+
+pub program-based : (file : List ℕ) (base : ℕ) → program_refusal file base ≡ None → is_good_base file base ≡ true
+unfolding program_refusal
+program-based file base h = by (first_file_refusal file) (is_good_base file base) h
+  where
+    by : (o : Option FileRefusal) (good : Bool) → first_of (option_map Program o ∷ (BadBase when not good) ∷ []) ≡ None → good ≡ true
+    by o true h = refl
+    by None false h = cc
+    by (Some r) false h = cc
+
+own-first : (file : List ℕ) (base : ℕ) (libraries : List Named) (preloads : List ℕ) (e : BindRefusal) → program_refusal file base ≡ Some e
+    → bind_refusal file base libraries preloads ≡ Some e
+unfolding program_refusal bind_refusal
+own-first file base libraries preloads e h =
+    by (first_file_refusal file) (is_good_base file base) (option_map missing_by (missing file libraries preloads) ∷ placed_refusal (objects_of file base libraries preloads) ∷ []) h
+  where
+    by : (o : Option FileRefusal) (good : Bool) (rest : List (Option BindRefusal)) → first_of (option_map Program o ∷ (BadBase when not good) ∷ []) ≡ Some e
+        → first_of (option_map Program o ∷ (BadBase when not good) ∷ rest) ≡ Some e
+    by (Some r) good rest h = h
+    by None false rest h = h
+    by None true rest h = cc
+
+-- the answer where a program isn't taken by itself
+pub program-answer : (file : List ℕ) (base : ℕ) (libraries : List Named) (preloads : List ℕ) (e : BindRefusal) → IsProgramAnswer file base e
+    → IsAnswer file base libraries preloads e
+program-answer file base libraries preloads (Program r) h = own-first file base libraries preloads (Program r) h
+program-answer file base libraries preloads BadBase h = own-first file base libraries preloads BadBase h
+program-answer file base libraries preloads (Missing needer name) h = own-first file base libraries preloads (Missing needer name) h
+program-answer file base libraries preloads NoRoom h = own-first file base libraries preloads NoRoom h
+program-answer file base libraries preloads (Undefined object symbol) h = own-first file base libraries preloads (Undefined object symbol) h
+program-answer file base libraries preloads OutOfMemory h = h
 
 -- a library is missing
 missing-is : (file : List ℕ) (base : ℕ) (libraries : List Named) (preloads : List ℕ) (need : Need) → first_file_refusal file ≡ None → is_good_base file base ≡ true
@@ -79,9 +119,9 @@ memory-by file base libraries preloads OutOfMemory w h = w
 -- the answer where its objects aren't bound
 pub placed-answer : (file : List ℕ) (base : ℕ) (libraries : List Named) (preloads : List ℕ) (e : BindRefusal) → first_file_refusal file ≡ None
     → bind_refusal file base libraries preloads ≡ placed_refusal (objects_of file base libraries preloads)
-    → IsFirstOrWantsMemory (placed_refusal (objects_of file base libraries preloads)) e → IsAnswer file base libraries preloads e
+    → IsPlacedAnswer (objects_of file base libraries preloads) e → IsAnswer file base libraries preloads e
 placed-answer file base libraries preloads e taken is (inl h) = answer-by file base libraries preloads e (taken_with_memory file taken) (is ∙ h)
-placed-answer file base libraries preloads e taken is (inr h) = memory-by file base libraries preloads e (taken_with_memory file taken) h
+placed-answer file base libraries preloads e taken is (inr h) = memory-by file base libraries preloads e (taken_with_memory file taken) h.0
 
 -- the first object is the program
 pub program-first : (file : List ℕ) (libraries : List Named) (preloads : List ℕ) → file_at (load_order file libraries preloads) 0 ≡ file

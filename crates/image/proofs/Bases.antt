@@ -1,15 +1,15 @@
 -- Objects at bases, and where placement puts them.
-use Rattle.std.proofs.Common.{◌≡◌, ℕ, ◌+◌, ◌-◌, ◌%◌, ◌<◌, ◌≤◌, Bool, true, false, List, [], ◌∷◌, length, map, drop, get_or, Some, None, refl, sym, ap, ◌∙◌, subst, arith, suc, zero, nat_lt}
+use Rattle.std.proofs.Common.{◌≡◌, ℕ, ◌+◌, ◌<◌, ◌≤◌, Bool, true, false, List, [], ◌∷◌, length, map, drop, get_or, refl, sym, ap, ◌∙◌, subst, arith, suc, zero, nat_lt}
 use Rattle.std.specs.Prelude.{◌||◌}
 use Rattle.std.specs.Int.{next_multiple_of}
-use Rattle.std.specs.List.{All, list_any}
+use Rattle.std.specs.List.{All}
 use Rattle.std.proofs.lemmas.Bool.Decides.{nat_tests}
 use Rattle.std.proofs.lemmas.List.{drop_more, drop_all, get_or-map}
-use Rattle.elf_dynamic.specs.Refusal.{first_refusal}
 use Rattle.scope.specs.Objects.{Named, IsTaken, IsOrder}
 use Rattle.scope.specs.Objects as order
 use Rattle.image.specs.Constant.{MEMORY_LIMIT}
-use Rattle.image.specs.Placement.{Placed, placed_at, place, place_after, named, unit, reach, end_of, ends_too_high, lacks_room}
+use Rattle.image.specs.Placement.{Placed, placed_at, place, place_after, named, unit, reach, ends_too_high, lacks_room}
+use Rattle.image.specs.Refusal.{PlacesWantMemory}
 use Rattle.image.specs.Relocating.{base_at, file_at, name_at}
 use Rattle.image.specs.inside.Layout.{AllAccepted, IsPlaced, Stacked, with_bases}
 use Rattle.image.proofs.Placing.{ends-low}
@@ -198,6 +198,12 @@ pub init-full : (base : ℕ) (os : List Named) → 0 < length os → MEMORY_LIMI
 init-full base os some high =
     let end = base + reach (order.file_at os 0) in
     first-room base os some ∙ ap (λ b. b || lacks_room (place_after end (drop 1 os))) (above end MEMORY_LIMIT high)
+
+-- the program by itself has room
+pub first-fits : (base end : ℕ) (os : List Named) → 0 < length os → end ≡ base + reach (order.file_at os 0) → end ≤ MEMORY_LIMIT
+    → PlacesWantMemory (place base os)
+first-fits base end [] some is low = absurd (omega (arith, some))
+first-fits base end (o ∷ os) some is low = ap (λ n. nat_lt MEMORY_LIMIT n || false) (sym is) ∙ ap (λ b. b || false) (below end MEMORY_LIMIT low)
 
 -- and behind the next object, which stands at `base` and ends at `new`
 pub step-bases : (end base new i : ℕ) (os : List Named) → i < length os → base ≡ next_multiple_of end (unit (order.file_at os i)) → new ≡ base + reach (order.file_at os i)

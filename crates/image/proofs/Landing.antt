@@ -1,5 +1,5 @@
 -- Where the relocations of accepted files write, and which symbols they name.
-use Rattle.std.proofs.Common.{◌≡◌, ℕ, ◌+◌, ◌<◌, ◌≤◌, Bool, true, false, cond, List, length, map, Option, Some, None, refl, ap, ◌∙◌, sym, subst, arith, get_or}
+use Rattle.std.proofs.Common.{◌≡◌, ℕ, ◌+◌, ◌<◌, Bool, true, false, cond, List, length, Option, Some, None, refl, ap, ◌∙◌, subst, arith}
 use Rattle.std.specs.Prelude.{slice_get, ◌||◌, ◌&&◌, ◌==◌, ◌%◌, ◌^◌, IfSome, is_none, nat_le}
 use Rattle.std.specs.Option.{option_map}
 use Rattle.std.specs.List.{list_any}
@@ -16,9 +16,8 @@ use Rattle.elf_dynamic.specs.Relocation.{is_writing, lacks_symbol, has_bad_symbo
 use Rattle.elf_dynamic.specs.Refusal.{refusals, first_refusal, relocation_tests, relocation_refusal}
 use Rattle.elf_dynamic.specs.declared.relocation.Relocation.{Relocation}
 use Rattle.elf_dynamic.proofs.Accepted.{places}
-use Rattle.image.specs.Constant.{MEMORY_LIMIT}
 use Rattle.image.specs.Heading.{Heading}
-use Rattle.image.specs.Placement.{Placed, reach}
+use Rattle.image.specs.Placement.{Placed}
 use Rattle.image.specs.Relocating.{Write, base_at, file_at, relocations_of, symbol_value, value_of, write_of, is_undefined}
 use Rattle.image.specs.inside.Layout.{AllAccepted, Stacked, Lands, room_in}
 use Rattle.image.proofs.Placing.{placed-any, place-reached}

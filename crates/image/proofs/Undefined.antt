@@ -1,6 +1,6 @@
 -- The first relocation that is undefined, among those that are left.
 use Rattle.std.proofs.Common.{◌≡◌, ℕ, ◌+◌, ◌<◌, ◌≤◌, Bool, true, false, cond, List, [], ◌∷◌, length, drop, map, Some, None, refl, sym, ap, ◌∙◌, Option, arith, zero-add, inl, inr}
-use Rattle.std.specs.Prelude.{slice_get}
+use Rattle.std.specs.Prelude.{slice_get, ◌||◌}
 use Rattle.std.specs.List.{find, range_with_len}
 use Rattle.std.specs.Option.{option_map}
 use Rattle.std.proofs.lemmas.List.{drop_more, drop_all}
@@ -8,8 +8,8 @@ use Rattle.std.proofs.lemmas.List.FromFn.{get_or-range_with_len, length-range_wi
 use Rattle.std.proofs.lemmas.Option.{get_or_from_slice_get, slice_get_within}
 use Rattle.elf_file.specs.FirstOf.{◌when◌, first_of}
 use Rattle.elf_dynamic.specs.declared.relocation.Relocation.{Relocation}
-use Rattle.image.specs.Placement.{Placed, lacks_room}
-use Rattle.image.specs.Refusal.{undefined_by, undefined_in, undefined_refusal, placed_refusal, IsFirstOrWantsMemory}
+use Rattle.image.specs.Placement.{Placed, ends_too_high, lacks_room}
+use Rattle.image.specs.Refusal.{undefined_by, undefined_in, undefined_refusal, placed_refusal, PlacesWantMemory, IsFirstOrWantsMemory, IsPlacedAnswer}
 use Rattle.image.specs.Relocating.{first_undefined}
 use Rattle.image.specs.declared.refusal.BindRefusal.{BindRefusal}
 use Rattle.image.specs.declared.refusal.BindRefusal.TheVariants.{NoRoom}
@@ -85,3 +85,17 @@ placed-room objects h = room-by (lacks_room objects) (undefined_refusal objects)
 pub placed-left : (objects : List Placed) → lacks_room objects ≡ false → placed_refusal objects ≡ undefined_refusal objects
 unfolding placed_refusal
 placed-left objects h = left-by (lacks_room objects) (undefined_refusal objects) h
+
+-- where there is room, the first has some by itself
+pub some-fits : (objects : List Placed) → lacks_room objects ≡ false → PlacesWantMemory objects
+some-fits [] h = refl
+some-fits (o ∷ rest) h = by (ends_too_high o) (lacks_room rest) h
+  where
+    by : (first others : Bool) → (first || others) ≡ false → (first || false) ≡ false
+    by true others h = cc
+    by false others h = refl
+
+-- want of memory in place of any answer, where memory is wanted
+pub placed-wants : (objects : List Placed) (e : BindRefusal) → PlacesWantMemory objects → IsFirstOrWantsMemory (placed_refusal objects) e → IsPlacedAnswer objects e
+placed-wants objects e w (inl h) = inl h
+placed-wants objects e w (inr h) = inr (h, w)

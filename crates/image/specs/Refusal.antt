@@ -1,5 +1,5 @@
 -- Why a program isn't bound, and where want of memory may be answered.
-use Rattle.std.specs.Prelude.{ℕ, ◌≡◌, ◌⊎◌, List, [], ◌∷◌, map, length, not, true, Option, Some}
+use Rattle.std.specs.Prelude.{ℕ, ◌≡◌, ◌⊎◌, List, [], ◌∷◌, ◌++◌, map, length, take, not, true, false, Option, Some}
 use Rattle.std.specs.List.{range_with_len}
 use Rattle.std.specs.Option.{option_map}
 use Rattle.elf_file.specs.FirstOf.{◌when◌, first_of}
@@ -46,16 +46,24 @@ abbrev pub of_order : OrderRefusal → BindRefusal
 of_order (order.Missing needer name) = Missing needer name
 of_order order.OutOfMemory = OutOfMemory
 
--- The tests of a program, in their order:
+-- The tests of a program by itself, in their order:
 -- B1: the file is refused, by the first of all tests on files that applies;
--- B2: the base is no multiple of the program's unit;
+-- B2: the base is no multiple of the program's unit.
+abbrev pub program_tests : List ℕ → ℕ → List (Option BindRefusal)
+program_tests file base = option_map Program (first_file_refusal file) ∷ (BadBase when not (is_good_base file base)) ∷ []
+
+-- the refusal of a program by itself: that of the first of these that applies
+unfoldable pub program_refusal : List ℕ → ℕ → Option BindRefusal
+program_refusal file base = first_of (program_tests file base)
+
+-- The tests of a program, in their order:
+-- B1 and B2: those of the program by itself;
 -- B3: a library that is needed isn't there: the first such one;
 -- B4 and B5: those of its objects in memory.
 abbrev pub bind_tests : List ℕ → ℕ → List Named → List ℕ → List (Option BindRefusal)
 bind_tests file base libraries preloads =
-    option_map Program (first_file_refusal file)
-    ∷ (BadBase when not (is_good_base file base))
-    ∷ option_map missing_by (missing file libraries preloads)
+    program_tests file base
+    ++ option_map missing_by (missing file libraries preloads)
     ∷ placed_refusal (objects_of file base libraries preloads)
     ∷ []
 
@@ -72,6 +80,11 @@ alone_refusal file base = bind_refusal file base [] []
 abbrev pub WantsMemory : List ℕ → Type 0
 WantsMemory file = ReadNeedsMemory file
 
+-- an answer where a program isn't taken by itself
+abbrev pub IsProgramAnswer : List ℕ → ℕ → BindRefusal → Type 0
+IsProgramAnswer file base OutOfMemory = WantsMemory file
+IsProgramAnswer file base answer = program_refusal file base ≡ Some answer
+
 -- an answer where no image is given: the refusal, or want of memory where memory is wanted
 abbrev pub IsAnswer : List ℕ → ℕ → List Named → List ℕ → BindRefusal → Type 0
 IsAnswer file base libraries preloads OutOfMemory = WantsMemory file
@@ -81,9 +94,18 @@ IsAnswer file base libraries preloads answer = bind_refusal file base libraries 
 abbrev pub IsOrWantsMemory : BindRefusal → BindRefusal → Type 0
 IsOrWantsMemory refusal answer = (answer ≡ refusal) ⊎ (answer ≡ OutOfMemory)
 
--- no room for objects in memory, or want of memory in its place
+-- Where want of memory may be answered for objects in load order: where the memory of the first by itself doesn't end
+-- too high, which is told before any memory is taken.
+abbrev pub PlacesWantMemory : List Placed → Type 0
+PlacesWantMemory objects = lacks_room (take 1 objects) ≡ false
+
+-- no room for objects in memory, or want of memory where memory is wanted
 abbrev pub IsPlaceAnswer : List Placed → BindRefusal → Type 0
-IsPlaceAnswer objects answer = ((answer ≡ NoRoom) × (lacks_room objects ≡ true)) ⊎ (answer ≡ OutOfMemory)
+IsPlaceAnswer objects answer = ((answer ≡ NoRoom) × (lacks_room objects ≡ true)) ⊎ ((answer ≡ OutOfMemory) × PlacesWantMemory objects)
+
+-- the refusal of objects in memory, or want of memory where memory is wanted
+abbrev pub IsPlacedAnswer : List Placed → BindRefusal → Type 0
+IsPlacedAnswer objects answer = (placed_refusal objects ≡ Some answer) ⊎ ((answer ≡ OutOfMemory) × PlacesWantMemory objects)
 
 -- the refusal that stands, or want of memory in place of any answer
 abbrev pub IsFirstOrWantsMemory : Option BindRefusal → BindRefusal → Type 0

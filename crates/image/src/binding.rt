@@ -7,7 +7,7 @@ ghost use Rattle.image.specs.Image.{heading, image_byte, image_of, object_of, se
 ghost use Rattle.image.specs.Loading.{all_loaded};
 ghost use Rattle.image.specs.Placement.{is_good_base, place};
 ghost use Rattle.image.specs.Refusal.{placed_refusal, undefined_refusal};
-ghost use Rattle.image.specs.Refusal.{IsFirstOrWantsMemory};
+ghost use Rattle.image.specs.Refusal.{IsFirstOrWantsMemory, IsPlacedAnswer};
 ghost use Rattle.image.specs.inside.Layout.{Rising};
 
 use crate::image::Image;
@@ -78,10 +78,9 @@ pub fn bind(alloc: Global, order: &Order<'_>, base: u64) -> Result<Image, BindRe
     requires { is_good_base (file_at order.now 0) base ≡ true }
 
     // An image only where no test applies; else the refusal of the first that does, or want of
-    // memory.
+    // memory where the program's own memory doesn't end too high.
     ensures accepted { OnOk result (placed_refusal (place base order.now) ≡ None) }
-    ensures refused { IfErr result
-        (IsFirstOrWantsMemory (placed_refusal (place base order.now))) }
+    ensures refused { IfErr result (IsPlacedAnswer (place base order.now)) }
 
     // Its objects and its segments, with their bytes.
     ensures ok { IfOk result (λ image. image ≡ image_of (place base order.now)) }

@@ -1,12 +1,12 @@
 // Where objects may stand.
 
-ghost use Rattle.std.specs.Prelude.{◌≡◌, ◌+◌, ◌<◌, ◌≤◌, map, true, false, IfOk, OnOk, IfErr};
+ghost use Rattle.std.specs.Prelude.{◌≡◌, ◌+◌, ◌<◌, ◌≤◌, map, true, false, IfOk, OnOk, IfErr, OnErr};
 ghost use Rattle.std.specs.Prelude.{MatchOption};
 ghost use Rattle.std.specs.Int.{next_multiple_of};
 ghost use Rattle.scope.specs.Objects.{file_at, IsOrder};
 ghost use Rattle.image.specs.Constant.{MEMORY_LIMIT};
 ghost use Rattle.image.specs.Placement.{unit, reach, is_good_base, lacks_room, place};
-ghost use Rattle.image.specs.Refusal.{IsPlaceAnswer};
+ghost use Rattle.image.specs.Refusal.{IsPlaceAnswer, PlacesWantMemory};
 
 use crate::refusal::BindRefusal;
 use elf_dynamic::Object;
@@ -107,6 +107,7 @@ fn fitting_bases(
         (lacks_room (place base order.now) ≡ true)
         (λ bases. (bases.items ≡ map (λ p. p.base) (place base order.now))
         × (lacks_room (place base order.now) ≡ false))) }
+    ensures memory { OnErr result (PlacesWantMemory (place base order.now)) }
 {
     let count = order.count();
     let Some(mut end) = end_at(order.object(0).object(), base) else {
@@ -132,7 +133,8 @@ pub fn place(alloc: Global, order: &Order<'_>, base: u64) -> Result<Vec<u64>, Bi
     ensures order { IsOrder order.now }
     ensures ok { IfOk result (λ bases. bases.items ≡ map (λ p. p.base) (place base order.now)) }
 
-    // Bases only where no memory ends above the limit; else that, or want of memory.
+    // Bases only where no memory ends above the limit; else that, or want of memory where the
+    // program's own doesn't.
     ensures room { OnOk result (lacks_room (place base order.now) ≡ false) }
     ensures refused { IfErr result (IsPlaceAnswer (place base order.now)) }
 {

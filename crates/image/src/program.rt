@@ -7,6 +7,7 @@ ghost use Rattle.scope.specs.LoadOrder.{names_of};
 ghost use Rattle.image.specs.Byte.{byte_of};
 ghost use Rattle.image.specs.Image.{image_byte, image_of};
 ghost use Rattle.image.specs.Placement.{alone, objects_of};
+ghost use Rattle.image.specs.Refusal.{program_refusal, IsProgramAnswer};
 ghost use Rattle.image.specs.Refusal.{bind_refusal, alone_refusal, IsAnswer};
 
 use crate::binding::bind;
@@ -17,12 +18,68 @@ use hash_check::{Admitted, ReadRefusal};
 use scope::{Library, load_order};
 use std::alloc::Global;
 
+/// Reads and admits a program and tests its base, which takes none of the other objects. Gives the
+/// program, or the first of these: its file is refused (B1), the base is no multiple of its unit
+/// (B2). It costs what `Admitted::read` does.
+#[tactic(auto, unfolding(crate::specs::Refusal::program_refusal))]
+pub fn admit_program(alloc: Global, file: &[u8], base: u64) -> Result<Admitted<'_>, BindRefusal>
+
+    // A program only where neither test applies.
+    ensures accepted { OnOk result (program_refusal file.now base ≡ None) }
+    ensures same { IfOk result (λ program. program ≡ file.now) }
+
+    // Else the refusal of the first that does, or want of memory where admission takes memory.
+    ensures refused { IfErr result (IsProgramAnswer file.now base) }
+{
+    let program = match Admitted::read(alloc, file) {
+        Ok(program) => program,
+        Err(ReadRefusal::File(refusal)) => return Err(BindRefusal::Program(refusal)),
+        Err(ReadRefusal::OutOfMemory) => return Err(BindRefusal::OutOfMemory),
+    };
+    if !good_base(&program, base) {
+        return Err(BindRefusal::BadBase);
+    }
+    Ok(program)
+}
+
+/// Binds a program that is admitted at a base that is good for it, as `bind_program` does: from B3
+/// on.
+pub fn bind_admitted(
+    alloc: Global,
+    program: &Admitted<'_>,
+    base: u64,
+    libraries: &[Library<'_>],
+    preloads: &[usize],
+) -> Result<Image, BindRefusal>
+    requires program { program_refusal program.now base ≡ None }
+    requires names { IsDistinct bytes_eq (names_of libraries.now) }
+    requires preloads { All (λ p. p < length libraries.now) preloads.now }
+    requires distinct { IsDistinct nat_eq preloads.now }
+
+    // An image only where no test applies.
+    ensures accepted { OnOk result
+        (bind_refusal program.now base libraries.now preloads.now ≡ None) }
+
+    // Else the refusal of the first that does, or want of memory.
+    ensures refused { IfErr result (IsAnswer program.now base libraries.now preloads.now) }
+
+    // Its objects and its segments, with their bytes.
+    ensures ok { IfOk result (λ image. image
+        ≡ image_of (objects_of program.now base libraries.now preloads.now)) }
+
+    // Every address has in it the byte that is defined for that address, or none where none is.
+    ensures bytes { IfOk result (λ image. (a : ℕ) → image_byte image a
+        ≡ byte_of (objects_of program.now base libraries.now preloads.now) a) }
+{
+    let order = load_order(alloc, program, libraries, preloads)?;
+    bind(alloc, &order, base)
+}
+
 /// Binds a program at a base with libraries of different names, the preloads among them, by their
 /// numbers, before what it needs. Gives its image or the first of these: the file is refused (B1),
 /// the base is no multiple of the program's unit (B2), a needed library isn't there (B3), memory
 /// would end above 2^47 - 4,096 (B4), a relocation's symbol is undefined (B5). Admission costs what
 /// `Admitted::read` does, load order what `load_order` does, and the rest what `bind` does.
-#[tactic(auto, unfolding(crate::specs::Refusal::bind_refusal))]
 pub fn bind_program(
     alloc: Global,
     file: &[u8],
@@ -49,16 +106,8 @@ pub fn bind_program(
     ensures bytes { IfOk result (λ image. (a : ℕ) → image_byte image a
         ≡ byte_of (objects_of file.now base libraries.now preloads.now) a) }
 {
-    let program = match Admitted::read(alloc, file) {
-        Ok(program) => program,
-        Err(ReadRefusal::File(refusal)) => return Err(BindRefusal::Program(refusal)),
-        Err(ReadRefusal::OutOfMemory) => return Err(BindRefusal::OutOfMemory),
-    };
-    if !good_base(&program, base) {
-        return Err(BindRefusal::BadBase);
-    }
-    let order = load_order(alloc, &program, libraries, preloads)?;
-    bind(alloc, &order, base)
+    let program = admit_program(alloc, file, base)?;
+    bind_admitted(alloc, &program, base, libraries, preloads)
 }
 
 /// Binds a program that needs no library, as `bind_program` does without libraries and preloads: a

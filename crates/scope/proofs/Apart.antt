@@ -96,6 +96,9 @@ distinct-raised [] h = tt
 distinct-raised (p ∷ ps) h = (raised p ps h.0, distinct-raised ps h.1)
 
 -- level 0, of preloads that differ
-pub grown-level_0 : (preloads : List ℕ) → IsDistinct nat_eq preloads → grown (0 ∷ []) (map (λ p. p + 1) preloads) ≡ level_0 preloads
+pub distinct-level_0 : (preloads : List ℕ) → IsDistinct nat_eq preloads → IsDistinct nat_eq (level_0 preloads)
 unfolding IsDistinct
-grown-level_0 preloads h = grown-apart (0 ∷ []) (map (λ p. p + 1) preloads) (above_0 preloads, distinct-raised preloads h)
+distinct-level_0 preloads h = (above_0 preloads, distinct-raised preloads h)
+
+pub grown-level_0 : (preloads : List ℕ) → IsDistinct nat_eq preloads → grown (0 ∷ []) (map (λ p. p + 1) preloads) ≡ level_0 preloads
+grown-level_0 preloads h = grown-apart (0 ∷ []) (map (λ p. p + 1) preloads) (distinct-level_0 preloads h)

@@ -14,21 +14,25 @@ grown_by-distinct ps q distinct = by (is_among ps q) refl
     by true e = distinct
     by false e = IsDistinct-push nat_eq_equiv ps q distinct e
 
-grown-distinct : (ps qs : List ℕ) → IsDistinct nat_eq ps → IsDistinct nat_eq (grown ps qs)
+pub grown-distinct : (ps qs : List ℕ) → IsDistinct nat_eq ps → IsDistinct nat_eq (grown ps qs)
 unfolding grown
 grown-distinct ps [] distinct = distinct
 grown-distinct ps (q ∷ qs) distinct = grown-distinct (grown_by ps q) qs (grown_by-distinct ps q distinct)
 
 module _ (needs : ℕ → List ℕ) where
+  -- nor where the next level is joined to those up to one
+  pub next-distinct : (earlier level : List ℕ) → IsDistinct nat_eq earlier → IsDistinct nat_eq (earlier ++ next_level needs earlier level)
+  unfolding next_level
+  next-distinct earlier level distinct = subst (IsDistinct nat_eq) (grown_is earlier (flat_map needs level)) (grown-distinct earlier (flat_map needs level) distinct)
+
   more-distinct : (n : ℕ) (earlier level : List ℕ) → IsDistinct nat_eq earlier → IsDistinct nat_eq (earlier ++ concat (levels_after needs n earlier level))
-  unfolding levels_after next_level
+  unfolding levels_after
   more-distinct zero earlier level distinct = subst (IsDistinct nat_eq) (sym (append-nil earlier)) distinct
   more-distinct (suc n) earlier level distinct =
       let next : List ℕ = next_level needs earlier level in
       let rest : List ℕ = concat (levels_after needs n (earlier ++ next) next) in
       subst (IsDistinct nat_eq) (append_assoc earlier next rest)
-      (more-distinct n (earlier ++ next) next
-      (subst (IsDistinct nat_eq) (grown_is earlier (flat_map needs level)) (grown-distinct earlier (flat_map needs level) distinct)))
+      (more-distinct n (earlier ++ next) next (next-distinct earlier level distinct))
 
   -- no object stands twice in the levels joined, where none does in level 0
   pub joined_levels-distinct : (n : ℕ) (first : List ℕ) → IsDistinct nat_eq first → IsDistinct nat_eq (joined_levels needs n first)

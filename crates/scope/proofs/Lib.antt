@@ -6,3 +6,8 @@ pub mod Naming
 pub mod Missing
 pub mod Queueing
 pub mod DistinctLevels
+pub mod LevelsLemmas
+pub mod RenumberedLevels
+pub mod LoadOrderLemmas
+pub mod EnoughLemmas
+pub mod LookupLemmas

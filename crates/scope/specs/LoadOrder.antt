@@ -12,6 +12,7 @@ use Rattle.scope.specs.Levels.{joined_levels}
 abbrev pub available : List ℕ → List Named → List Named
 available program libraries = record { name = program_name; file = program } ∷ libraries
 
+-- the names that objects go by
 abbrev pub names_of : List Named → List (List ℕ)
 names_of objects = map (λ o. o.name) objects
 

@@ -20,6 +20,7 @@ is_own s = (binding_of s == STB_LOCAL) || (is_defined s && not (visibility_of s 
 abbrev pub is_withheld : Symbol → Bool
 is_withheld s = not (is_defined s) && ((visibility_of s == STV_HIDDEN) || (visibility_of s == STV_INTERNAL))
 
+-- its binding is STB_WEAK: 0 stands for it where it isn't found
 abbrev pub is_weak : Symbol → Bool
 is_weak s = binding_of s == STB_WEAK
 

@@ -1,6 +1,6 @@
 use Rattle.std.proofs.Common.{◌≡◌, ℕ, List, Some, None, ap, ◌∙◌, sym, subst, inl, inr, Option}
 use Rattle.std.specs.Prelude.{IfOk, IfErr, OnOk}
-use Rattle.std.proofs.lemmas.Result.{err_from_is_err_and}
+use Rattle.std.proofs.lemmas.Result.{err_from_is_err_and, MatchResult-weaker}
 use Rattle.image.specs.Byte.{byte_of}
 use Rattle.image.specs.Image.{image_byte, image_of}
 use Rattle.image.specs.Placement.{Placed, place}
@@ -8,7 +8,7 @@ use Rattle.image.specs.Refusal.{placed_refusal, undefined_refusal, IsFirstOrWant
 use Rattle.image.specs.declared.refusal.BindRefusal.{BindRefusal}
 use Rattle.image.specs.inside.Layout.{with_bases}
 use Rattle.image.proofs.Bases.{is-placed, with-place}
-use Rattle.image.proofs.Undefined.{placed-room, placed-left}
+use Rattle.image.proofs.Undefined.{placed-room, placed-left, placed-wants, some-fits}
 use Rattle.image.proofs.binding.bind.Goals as goal
 
 pub returns-in_err-bases-clause-refused : goal.returns-in_err-bases-clause-refused
@@ -18,7 +18,7 @@ returns-in_err-bases-clause-refused c =
     rw (p.1, p.2)
     (elim c.in_err-bases.ensures.refused [
       | inl h ↦ inl (placed-room objects h.1 ∙ ap (λ (e : BindRefusal). Some e) (sym h.0))
-      | inr is ↦ inr is
+      | inr h ↦ inr h
     ])
 
 pub new-objects-requires : goal.new-objects-requires
@@ -36,7 +36,8 @@ returns-clause-refused c =
     let objects = place c.args.base c.args.order.now in
     let same : c.new-objects.result ≡ objects = c.new-objects.ensures ∙ ap (with_bases c.args.order.now) c.in_ok-bases.ensures.ok ∙ with-place c.args.base c.args.order.now in
     let refusal : undefined_refusal c.new-objects.result ≡ placed_refusal objects = ap undefined_refusal same ∙ sym (placed-left objects c.in_ok-bases.ensures.room) in
-    subst (λ (o : Option BindRefusal). IfErr c.image_at.result (IsFirstOrWantsMemory o)) refusal c.image_at.ensures.refused
+    MatchResult-weaker c.image_at.result (subst (λ (o : Option BindRefusal). IfErr c.image_at.result (IsFirstOrWantsMemory o)) refusal c.image_at.ensures.refused)
+    (λ x h. h) (λ e h. placed-wants objects e (some-fits objects c.in_ok-bases.ensures.room) h)
 
 pub returns-clause-ok : goal.returns-clause-ok
 returns-clause-ok c =

@@ -1,4 +1,4 @@
-use Rattle.std.proofs.Common.{List, map, ap, ◌∙◌, sym}
+use Rattle.std.proofs.Common.{List, map, ap, ◌∙◌}
 use Rattle.image.specs.Image.{ImageSegment, heading, segments_byte}
 use Rattle.image.specs.Placement.{Placed}
 use Rattle.image.specs.Relocating.{all_writes, last_write_at, written_or}

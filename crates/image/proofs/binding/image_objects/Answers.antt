@@ -1,9 +1,9 @@
-use Rattle.std.proofs.Common.{◌≡◌, ◌+◌, ◌<◌, ◌++◌, [], ◌∷◌, List, length, map, take, ap, ◌∙◌, sym, arith}
+use Rattle.std.proofs.Common.{◌<◌, ◌++◌, [], ◌∷◌, List, length, map, take, ap, ◌∙◌, sym, arith}
 use Rattle.std.proofs.lemmas.List.{take_all}
 use Rattle.elf_file.specs.Segment.{loads}
 use Rattle.image.specs.Image.{object_of}
 use Rattle.image.specs.Placement.{Placed}
-use Rattle.image.specs.Relocating.{base_at, file_at, name_at}
+use Rattle.image.specs.Relocating.{base_at, name_at}
 use Rattle.image.specs.declared.object.ImageObject.{ImageObject}
 use Rattle.image.proofs.Stacking.{mapped-more}
 use Rattle.image.proofs.binding.image_objects.Goals as goal

@@ -1,10 +1,10 @@
-use Rattle.std.proofs.Common.{◌≡◌, ◌+◌, ◌<◌, ◌≤◌, ◌++◌, List, ℕ, length, map, take, ap, ◌∙◌, sym, arith}
+use Rattle.std.proofs.Common.{◌<◌, ◌++◌, List, length, map, take, ap, ◌∙◌, sym, arith}
 use Rattle.std.proofs.lemmas.List.{map-append, take_all}
 use Rattle.elf_file.specs.Segment.{loads}
 use Rattle.image.specs.Image.{ImageSegment}
 use Rattle.image.specs.Loading.{all_loaded, loaded_at, loaded_of}
 use Rattle.image.specs.Placement.{Placed, reach}
-use Rattle.image.specs.Relocating.{base_at, file_at}
+use Rattle.image.specs.Relocating.{base_at}
 use Rattle.image.specs.inside.Layout.{fresh}
 use Rattle.image.proofs.Stacking.{low-at, loaded-more, placed_of}
 use Rattle.image.proofs.load.load.Goals as goal

@@ -1,9 +1,10 @@
-use Rattle.std.proofs.Common.{◌≡◌, ◌+◌, ◌<◌, ◌≤◌, ◌++◌, [], ◌∷◌, List, ℕ, length, drop, ap, ◌∙◌, sym, subst, arith, append_assoc, append-nil}
+use Rattle.std.proofs.Common.{◌≡◌, ◌+◌, ◌<◌, ◌++◌, [], ◌∷◌, List, ℕ, length, drop, ap, ◌∙◌, sym, subst, arith, append_assoc, append-nil}
+use Rattle.std.proofs.lemmas.Result.{err_from_is_err_and}
 use Rattle.scope.specs.Objects.{file_at}
 use Rattle.image.specs.Constant.{MEMORY_LIMIT}
 use Rattle.image.specs.Placement.{Placed, reach, unit, place_after, lacks_room}
 use Rattle.std.specs.Int.{next_multiple_of}
-use Rattle.image.proofs.Bases.{bases_of, order-some, init-bases, init-room, init-full, step-bases, step-room, step-full, none-behind}
+use Rattle.image.proofs.Bases.{bases_of, order-some, init-bases, init-room, first-fits, step-bases, step-room, step-full, none-behind}
 use Rattle.image.proofs.placement.fitting_bases.Goals as goal
 
 pub loop-i-init : goal.loop-i-init
@@ -61,3 +62,27 @@ returns-in_default-place_behind-clause-ok c =
     let high : MEMORY_LIMIT < next_multiple_of c.loop-i.end (unit (file_at os i)) + reach (file_at os i) =
     subst (λ f. MEMORY_LIMIT < next_multiple_of c.loop-i.end (unit f) + reach f) same c.in_default-place_behind.ensures in
     c.loop-i.invariant.room ∙ step-full c.loop-i.end i os (omega (arith, c.count-count.ensures.count)) high
+
+pub returns-in_err-bases-clause-memory : goal.returns-in_err-bases-clause-memory
+returns-in_err-bases-clause-memory c =
+    let os = c.args.order.now in
+    let same : c.object-2.result.now ≡ file_at os 0 = c.object-2.ensures.same ∙ c.object.ensures.file in
+    let is : c.in-Some.end ≡ c.args.base + reach (file_at os 0) = c.in-Some.ensures.0 ∙ ap (λ f. c.args.base + reach f) same in
+    let p = err_from_is_err_and c.from_residual.result c.from_residual.ensures.1 in
+    rw p.1 (first-fits c.args.base c.in-Some.end os (order-some os c.count-count.ensures.order) is c.in-Some.ensures.1)
+
+pub returns-in_err-push-clause-memory : goal.returns-in_err-push-clause-memory
+returns-in_err-push-clause-memory c =
+    let os = c.args.order.now in
+    let same : c.object-2.result.now ≡ file_at os 0 = c.object-2.ensures.same ∙ c.object.ensures.file in
+    let is : c.in-Some.end ≡ c.args.base + reach (file_at os 0) = c.in-Some.ensures.0 ∙ ap (λ f. c.args.base + reach f) same in
+    let p = err_from_is_err_and c.from_residual-in_err-push.result c.from_residual-in_err-push.ensures.1 in
+    rw p.1 (first-fits c.args.base c.in-Some.end os (order-some os c.count-count.ensures.order) is c.in-Some.ensures.1)
+
+pub returns-in_err-push-2-clause-memory : goal.returns-in_err-push-2-clause-memory
+returns-in_err-push-2-clause-memory c =
+    let os = c.args.order.now in
+    let same : c.object-2.result.now ≡ file_at os 0 = c.object-2.ensures.same ∙ c.object.ensures.file in
+    let is : c.in-Some.end ≡ c.args.base + reach (file_at os 0) = c.in-Some.ensures.0 ∙ ap (λ f. c.args.base + reach f) same in
+    let p = err_from_is_err_and c.from_residual-in_err-push-2.result c.from_residual-in_err-push-2.ensures.1 in
+    rw p.1 (first-fits c.args.base c.in-Some.end os (order-some os c.count-count.ensures.order) is c.in-Some.ensures.1)

@@ -1,4 +1,4 @@
-use Rattle.std.proofs.Common.{◌≡◌, ◌≤◌, ℕ, map, drop, length}
+use Rattle.std.proofs.Common.{◌≡◌, ℕ, map, drop, length}
 use Rattle.std.specs.List.{flat_map, range_with_len}
 use Rattle.elf_file.specs.FirstOf.{first_of}
 use Rattle.image.specs.Image.{heading, segments_byte}

@@ -1,4 +1,4 @@
-use Rattle.std.proofs.Common.{◌≡◌, ◌+◌, ◌<◌, ◌≤◌, ◌++◌, [], ◌∷◌, List, ℕ, Some, length, map, take, ap, ◌∙◌, sym, refl, subst, arith, inl, inr}
+use Rattle.std.proofs.Common.{◌≡◌, ◌+◌, ◌<◌, ◌++◌, [], ◌∷◌, List, ℕ, Some, length, take, ap, ◌∙◌, sym, refl, subst, arith, inl, inr}
 use Rattle.std.specs.Prelude.{slice_get, IfSome}
 use Rattle.std.specs.List.{filter_map}
 use Rattle.std.proofs.lemmas.List.{take_all}
@@ -7,7 +7,7 @@ use Rattle.elf_dynamic.specs.Strings.{name_of}
 use Rattle.elf_dynamic.specs.Symbol.{symbols}
 use Rattle.elf_dynamic.specs.declared.relocation.Relocation.{Relocation}
 use Rattle.image.specs.Heading.{Heading}
-use Rattle.image.specs.Image.{heading, segments_byte}
+use Rattle.image.specs.Image.{segments_byte}
 use Rattle.image.specs.Placement.{Placed}
 use Rattle.image.specs.Refusal.{undefined_by}
 use Rattle.image.specs.Relocating.{file_at, first_undefined, is_undefined, relocations_of, write_of, last_write_at, written_or}

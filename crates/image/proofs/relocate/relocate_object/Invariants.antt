@@ -1,4 +1,4 @@
-use Rattle.std.proofs.Common.{◌≡◌, ◌≤◌, ℕ, map, take, drop}
+use Rattle.std.proofs.Common.{◌≡◌, ℕ, map, take, drop}
 use Rattle.std.specs.List.{filter_map, find}
 use Rattle.image.specs.Image.{heading, segments_byte}
 use Rattle.image.specs.Relocating.{is_undefined, first_undefined, write_of, relocations_of, last_write_at, written_or}

@@ -1,4 +1,4 @@
-use Rattle.std.proofs.Common.{◌≡◌, ◌∙◌, Some, ap}
+use Rattle.std.proofs.Common.{◌∙◌, Some, ap}
 use Rattle.scope.specs.declared.target.Target.{Target}
 use Rattle.image.proofs.Targets.{placed-there}
 use Rattle.image.proofs.placed.PlacedOrder.symbol_value.Goals as goal

@@ -1,4 +1,4 @@
-use Rattle.std.proofs.Common.{List, ℕ, length, map, ◌<◌, ◌≡◌, ◌∙◌, sym, subst, arith}
+use Rattle.std.proofs.Common.{List, ℕ, length, ◌<◌, ◌≡◌, sym, subst, arith}
 use Rattle.std.specs.Prelude.{MatchResult, Some, None}
 use Rattle.elf_dynamic.specs.Symbol.{symbols}
 use Rattle.scope.specs.Objects.{Named}
