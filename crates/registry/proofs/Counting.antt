@@ -2,7 +2,7 @@
 use Rattle.std.proofs.Common.{◌≡◌, ◌+◌, ℕ, List, [], ◌∷◌, ap, sym, ◌∙◌, arith, cond}
 use Rattle.std.specs.Prelude.{count_by}
 use Rattle.std.proofs.lemmas.List.Sums.{sum_by-cons}
-use Rattle.registry.specs.Request.{Request, install, replace, remove, set_preloads, list}
+use Rattle.registry.specs.Request.{Request, install, replace, remove, set_preloads, bind, list}
 use Rattle.registry.specs.Phase.{Kept}
 use Rattle.registry.specs.Runs.{Steps, Run, last_of}
 use Rattle.registry.specs.Step.{StepInMemory, is_acknowledged}
@@ -27,12 +27,20 @@ step_counted k (install bytes) Done k' h = ap (λ s. s.generation) h.0.3.state
 step_counted k (replace bytes) Done k' h = ap (λ s. s.generation) h.0.3.state
 step_counted k (remove name) Done k' h = ap (λ s. s.generation) h.0.3.state
 step_counted k (set_preloads names) Done k' h = ap (λ s. s.generation) h.0.3.state
+step_counted k (bind program base) Done k' h = let no : Done ≡ reply.Bound _ = h.0.2 in cc
 step_counted k list Done k' h = let no : Done ≡ reply.Listing _ = h.0.2 in cc
 step_counted k (install bytes) (reply.Listing l) k' h = let no : reply.Listing l ≡ Done = h.0.2 in cc
 step_counted k (replace bytes) (reply.Listing l) k' h = let no : reply.Listing l ≡ Done = h.0.2 in cc
 step_counted k (remove name) (reply.Listing l) k' h = let no : reply.Listing l ≡ Done = h.0.2 in cc
 step_counted k (set_preloads names) (reply.Listing l) k' h = let no : reply.Listing l ≡ Done = h.0.2 in cc
+step_counted k (bind program base) (reply.Listing l) k' h = let no : reply.Listing l ≡ reply.Bound _ = h.0.2 in cc
 step_counted k list (reply.Listing l) k' h = none k.state.generation k'.state.generation (ap (λ s. s.generation) h.0.3.state)
+step_counted k (install bytes) (reply.Bound i) k' h = let no : reply.Bound i ≡ Done = h.0.2 in cc
+step_counted k (replace bytes) (reply.Bound i) k' h = let no : reply.Bound i ≡ Done = h.0.2 in cc
+step_counted k (remove name) (reply.Bound i) k' h = let no : reply.Bound i ≡ Done = h.0.2 in cc
+step_counted k (set_preloads names) (reply.Bound i) k' h = let no : reply.Bound i ≡ Done = h.0.2 in cc
+step_counted k (bind program base) (reply.Bound i) k' h = none k.state.generation k'.state.generation (ap (λ s. s.generation) h.0.3.state)
+step_counted k list (reply.Bound i) k' h = let no : reply.Bound i ≡ reply.Listing _ = h.0.2 in cc
 
 added : (a b c n m : ℕ) → b ≡ a + n → c ≡ b + m → c ≡ a + (n + m)
 added a b c n m h g = omega (arith, h, g)

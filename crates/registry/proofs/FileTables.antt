@@ -1,6 +1,6 @@
 -- The table of files as the list that definitions see.
 use Rattle.std.proofs.Common.{◌≡◌, ℕ, ◌+◌, ◌-◌, Bool, true, false, cond, List, [], ◌∷◌, ◌++◌, map, length, sum_by, is_some, Option, Some, None, refl, sym, ap, ◌∙◌, nat_eq, arith}
-use Rattle.std.specs.Prelude.{◌||◌}
+use Rattle.std.specs.Prelude.{◌||◌, bytes_eq, position}
 use Rattle.std.specs.Cmp.Lexicographic.{pointwise}
 use Rattle.std.specs.List.{fold}
 use Rattle.std.specs.Map.{lookup, values_of, remove_entry, set_value}
@@ -9,6 +9,7 @@ use Rattle.indexmap.specs.IndexMap.{IndexMap, insert_entry}
 use Rattle.indexmap.proofs.CallerLemmas.{insert_entry-new}
 use Rattle.std.proofs.lemmas.List.{map-append}
 use Rattle.std.proofs.lemmas.List.Sums.{sum_by-cons}
+use Rattle.scope.proofs.Naming.{position_of}
 use Rattle.registry.specs.Library.{Library}
 use Rattle.registry.specs.State.{names_of, has_name, cost}
 use Rattle.registry.specs.Step.{with_bytes, without}
@@ -33,6 +34,13 @@ module _ {A : Type 0} where
   pub found : (name : List ℕ) (es : List (Vec ℕ A × List ℕ)) → is_some (lookup (λ k. pointwise nat_eq name k.items) es) ≡ has_name (names_of (map library_of es)) name
   found name [] = refl
   found name (e ∷ es) = either (pointwise nat_eq name e.0.items) e.1 (lookup (λ k. pointwise nat_eq name k.items) es) (found name es)
+
+  -- the number of a name in the table is its number among the names
+  pub number_in : (name : List ℕ) (es : List (Vec ℕ A × List ℕ))
+      → position (λ k. pointwise nat_eq name k.items) (map (λ e. e.0) es) ≡ position (bytes_eq name) (names_of (map library_of es))
+  number_in name es =
+      position_of (λ (e : Vec ℕ A × List ℕ). e.0) (λ k. pointwise nat_eq name k.items) es
+      ∙ sym (position_of library_of (λ l. bytes_eq name l.name) es) ∙ sym (position_of (λ (l : Library). l.name) (bytes_eq name) (map library_of es))
 
   -- what is left is the room without the costs
   pub room : (es : List (Vec ℕ A × List ℕ)) (n : ℕ) → fold (λ room bytes. room - cost (length bytes)) n (values_of es) ≡ n - sum_by (λ l. cost (length l.bytes)) (map library_of es)

@@ -1,3 +1,4 @@
+pub mod Bindings
 pub mod Counting
 pub mod FileTables
 pub mod LibraryLists

@@ -15,10 +15,10 @@ use Rattle.registry.proofs.Names.{same, differ, or_left, or_right}
 abbrev pub Own : List Library → Type 0
 Own ls = AllPairs (λ a b. a.name ≢ b.name) ls
 
-own_head : (l : Library) (ls : List Library) → Own (l ∷ ls) → All (λ m. l.name ≢ m.name) ls
+pub own_head : (l : Library) (ls : List Library) → Own (l ∷ ls) → All (λ m. l.name ≢ m.name) ls
 own_head l ls own k d lt = own zero (suc k) d (omega arith) (omega (arith, lt))
 
-own_tail : (l : Library) (ls : List Library) → Own (l ∷ ls) → Own ls
+pub own_tail : (l : Library) (ls : List Library) → Own (l ∷ ls) → Own ls
 own_tail l ls own i j d lt within = own (suc i) (suc j) d (omega (arith, lt)) (omega (arith, within))
 
 own_none : Own []

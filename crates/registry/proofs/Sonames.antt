@@ -23,7 +23,7 @@ map_none : {A B : Type 0} (f : A → B) (o : Option A) → option_map f o ≡ No
 map_none f None h = refl
 map_none f (Some a) h = cc
 
-file_taken : (file : List ℕ) → library_refusal file ≡ None → first_file_refusal file ≡ None
+pub file_taken : (file : List ℕ) → library_refusal file ≡ None → first_file_refusal file ≡ None
 unfolding library_refusal
 file_taken file h = none_at (library_tests file) 0 h
 

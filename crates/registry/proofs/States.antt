@@ -10,7 +10,7 @@ use Rattle.elf_file.proofs.FirstOf.{none_at, when_none}
 use Rattle.registry.specs.Limits.{most_libraries, most_preloads}
 use Rattle.registry.specs.Library.{Library, IsLibrary, library_refusal, name_of}
 use Rattle.registry.specs.State.{State, IsState, names_of, has_name, empty_state}
-use Rattle.registry.specs.Request.{Request, install, replace, remove, set_preloads, list}
+use Rattle.registry.specs.Request.{Request, install, replace, remove, set_preloads, bind, list}
 use Rattle.registry.specs.Tests.{tests_of, is_installed, has_most, has_repeat}
 use Rattle.registry.specs.Phase.{Kept, Phase, phase_of, table_of}
 use Rattle.registry.specs.Runs.{Steps, Run, last_of}
@@ -112,6 +112,7 @@ accepted_kept p (install bytes) is h = installed_kept p bytes is h
 accepted_kept p (replace bytes) is h = replaced_kept p bytes is h
 accepted_kept p (remove name) is h = removed_kept p name is h
 accepted_kept p (set_preloads names) is h = preloaded_kept p names is h
+accepted_kept p (bind program base) is h = is
 accepted_kept p list is h = is
 
 either_kept : (p : Phase) (q : Request) (s : State) → IsState p.state → refusal_at p q ≡ None → (s ≡ p.state) ⊎ (s ≡ accepted p.state q) → IsState s
@@ -125,10 +126,12 @@ step_kept p (install bytes) (Refused refusal.Device) p' step is = either_kept p 
 step_kept p (replace bytes) (Refused refusal.Device) p' step is = either_kept p (replace bytes) p'.state is step.1.untested step.1.state
 step_kept p (remove name) (Refused refusal.Device) p' step is = either_kept p (remove name) p'.state is step.1.untested step.1.state
 step_kept p (set_preloads names) (Refused refusal.Device) p' step is = either_kept p (set_preloads names) p'.state is step.1.untested step.1.state
+step_kept p (bind program base) (Refused refusal.Device) p' step is = subst IsState (sym step.1.same.state) is
 step_kept p list (Refused refusal.Device) p' step is = absurd step.1
 step_kept p q (Refused refusal.OutOfMemory) p' step is = subst IsState (sym step.2.state) is
 step_kept p q (Refused r) p' step is = subst IsState (sym step.2.state) is
 step_kept p q Done p' step is = subst IsState (sym step.3.state) (accepted_kept p q is step.1)
+step_kept p q (reply.Bound image) p' step is = subst IsState (sym step.3.state) (accepted_kept p q is step.1)
 step_kept p q (reply.Listing listing) p' step is = subst IsState (sym step.3.state) (accepted_kept p q is step.1)
 
 -- and so does each run in memory

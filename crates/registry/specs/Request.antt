@@ -11,6 +11,8 @@ pub data Request : Type 0 where
   remove : List ℕ → Request
   -- names in their order
   set_preloads : List (List ℕ) → Request
+  -- the bytes of a program's file, and its base
+  bind : List ℕ → ℕ → Request
   list : Request
 
 -- what a command of the program asks
@@ -19,4 +21,5 @@ request_of (command.Install bytes) = install bytes.now
 request_of (command.Replace bytes) = replace bytes.now
 request_of (command.Remove name) = remove name.now
 request_of (command.SetPreloads names) = set_preloads (map (λ n. n.now) names.now)
+request_of (command.Bind program base) = bind program.now base
 request_of command.List = list

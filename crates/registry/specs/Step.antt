@@ -1,14 +1,19 @@
 -- What a command does (own).
 use Rattle.std.specs.Prelude.{Result, Ok, Err, ◌≡◌, ◌<◌, ℕ, ◌+◌, List, [], ◌∷◌, ◌++◌, Option, Some, None, ◌⊎◌, IsTrue, IsFalse, Bool, true, false, if◌then◌else◌, bytes_eq}
+use Rattle.std.specs.Option.{option_map}
 use Rattle.hash_check.specs.FileRefusal.{ReadNeedsMemory}
+use Rattle.image.specs.Byte.{byte_of}
+use Rattle.image.specs.Image.{image_byte}
+use Rattle.image.specs.Refusal.{program_refusal}
 use Rattle.registry.specs.Library.{Library, name_of}
 use Rattle.registry.specs.State.{State}
 use Rattle.registry.specs.Table.{listed}
-use Rattle.registry.specs.Request.{Request, install, replace, remove, set_preloads, list}
+use Rattle.registry.specs.Request.{Request, install, replace, remove, set_preloads, bind, list}
 use Rattle.registry.specs.Tests.{first_refusal}
+use Rattle.registry.specs.Binding.{bound_objects, bound_image, binding_refusal}
 use Rattle.registry.specs.Phase.{Kept, Phase, phase_of, table_of}
 use Rattle.registry.specs.declared.refusal.Refusal.{Refusal}
-use Rattle.registry.specs.declared.refusal.Refusal.TheVariants.{OutOfMemory, Device, Reopen, Fragmented, BadGeometry}
+use Rattle.registry.specs.declared.refusal.Refusal.TheVariants.{Bind, OutOfMemory, Device, Reopen, Fragmented, BadGeometry}
 use Rattle.registry.specs.declared.reply.Reply.{Reply}
 use Rattle.registry.specs.declared.reply.Reply.TheVariants.{Done, Refused}
 use Rattle.registry.specs.declared.reply.Reply.TheVariants as reply
@@ -33,23 +38,33 @@ accepted s (install bytes) = next s (s.libraries ++ record { name = name_of byte
 accepted s (replace bytes) = next s (with_bytes (name_of bytes) bytes s.libraries) s.preloads
 accepted s (remove name) = next s (without name s.libraries) s.preloads
 accepted s (set_preloads names) = next s s.libraries names
+accepted s (bind program base) = s
 accepted s list = s
 
 -- what an accepted command is answered
 abbrev pub reply_of : State → Request → Reply
+reply_of s (bind program base) = reply.Bound (bound_image s program base)
 reply_of s list = reply.Listing (listed s)
 reply_of s request = Done
 
--- the refusal of a command by the first of its tests that applies
+-- The answer is this one. Each address has in an image the byte that is defined for it.
+abbrev pub IsReply : State → Request → Reply → Type 0
+IsReply s (bind program base) (reply.Bound image) = (image ≡ bound_image s program base) × ((a : ℕ) → image_byte image a ≡ byte_of (bound_objects s program base) a)
+IsReply s request answer = answer ≡ reply_of s request
+
+-- the refusal of a command by the first of its tests that applies, or none where it is accepted
 abbrev pub refusal_at : Phase → Request → Option Refusal
+refusal_at p (bind program base) = option_map Bind (binding_refusal p.state program base)
 refusal_at p request = first_refusal (table_of p) request
 
--- What takes memory: to admit a file that passes all tests before those of admission, and to tell what is listed.
+-- What takes memory: to admit a file that passes all tests before those of admission, and to tell what is listed. A bind
+-- takes more behind the admission of its program, before which it answers the refusals of the program's object alone.
 abbrev pub NeedsMemory : Request → Type 0
 NeedsMemory (install bytes) = ReadNeedsMemory bytes
 NeedsMemory (replace bytes) = ReadNeedsMemory bytes
 NeedsMemory (remove name) = ⊥
 NeedsMemory (set_preloads names) = ⊥
+NeedsMemory (bind program base) = ReadNeedsMemory program
 NeedsMemory list = Unit {0}
 
 -- the state is this one now, and no write or sync failed
@@ -66,8 +81,15 @@ pub record Breaks (p : Phase) (request : Request) (p' : Phase) : Type 0 where
   pub untested : refusal_at p request ≡ None
   pub state : (p'.state ≡ p.state) ⊎ (p'.state ≡ accepted p.state request)
 
--- what a failed call of the disk leaves: a listing makes none
+-- A read of a bind failed: nothing changed, and the disk need not be opened. B1 and B2 come before all reads.
+pub record LacksRead (p : Phase) (program : List ℕ) (base : ℕ) (p' : Phase) : Type 0 where
+  pub risen : p.failures < p'.failures
+  pub untested : program_refusal program base ≡ None
+  pub same : Leads p p.state p'
+
+-- what a failed call of the disk leaves: a bind only reads, and a listing makes no call
 abbrev pub LeavesFailed : Phase → Request → Phase → Type 0
+LeavesFailed p (bind program base) p' = LacksRead p program base p'
 LeavesFailed p list p' = ⊥
 LeavesFailed p request p' = Breaks p request p'
 
@@ -77,7 +99,7 @@ Step p request (Refused Reopen) p' = IsTrue p.failed × Leads p p.state p'
 Step p request (Refused Device) p' = IsFalse p.failed × LeavesFailed p request p'
 Step p request (Refused OutOfMemory) p' = IsFalse p.failed × NeedsMemory request × Leads p p.state p'
 Step p request (Refused refusal) p' = IsFalse p.failed × (refusal_at p request ≡ Some refusal) × Leads p p.state p'
-Step p request answer p' = IsFalse p.failed × (refusal_at p request ≡ None) × (answer ≡ reply_of p.state request) × Leads p (accepted p.state request) p'
+Step p request answer p' = IsFalse p.failed × (refusal_at p request ≡ None) × IsReply p.state request answer × Leads p (accepted p.state request) p'
 
 -- the reply that a change's result makes
 abbrev pub answer_of : Result (Unit {0}) Refusal → Reply

@@ -7,7 +7,7 @@ use Rattle.registry.specs.Limits.{most_libraries, most_preloads, last_generation
 use Rattle.registry.specs.Library.{library_refusal, name_of}
 use Rattle.registry.specs.State.{has_name, cost}
 use Rattle.registry.specs.Table.{Table}
-use Rattle.registry.specs.Request.{Request, install, replace, remove, set_preloads, list}
+use Rattle.registry.specs.Request.{Request, install, replace, remove, set_preloads, bind, list}
 use Rattle.registry.specs.declared.refusal.Refusal.{Refusal}
 use Rattle.registry.specs.declared.refusal.Refusal.TheVariants.{Object, AlreadyInstalled, NotInstalled, InPreloads, RepeatedPreload, TooManyPreloads, Full, Fragmented, TooMany, GenerationEnd}
 
@@ -74,14 +74,15 @@ preload_tests t names =
     ∷ (GenerationEnd when is_last t)
     ∷ []
 
--- the tests of a command; none refuses a listing
+-- the tests of a command that read no file; none refuses a bind or a listing
 abbrev pub tests_of : Table → Request → List (Option Refusal)
 tests_of t (install bytes) = install_tests t bytes
 tests_of t (replace bytes) = replace_tests t bytes
 tests_of t (remove name) = remove_tests t name
 tests_of t (set_preloads names) = preload_tests t names
+tests_of t (bind program base) = []
 tests_of t list = []
 
--- the refusal of a command by the first of its tests that applies, or none where it is accepted
+-- the refusal of a command by the first of these tests that applies
 abbrev pub first_refusal : Table → Request → Option Refusal
 first_refusal t request = first_of (tests_of t request)

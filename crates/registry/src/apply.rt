@@ -3,8 +3,9 @@
 ghost use Rattle.std.specs.Prelude.{◌≡◌, map, IfOk, OnErr};
 ghost use Rattle.registry.specs.Request.{request_of};
 ghost use Rattle.registry.specs.Runs.{Run};
+ghost use Rattle.registry.specs.State.{IsState};
 ghost use Rattle.registry.specs.Step.{Step, StepInMemory, answer_of, IsDiskless};
-ghost use Rattle.registry.specs.inside.View.{held_phase, kept_of};
+ghost use Rattle.registry.specs.inside.View.{held_phase, kept_of, state_of};
 
 use crate::command::Command;
 use crate::held::Held;
@@ -25,6 +26,7 @@ fn reply(change: Result<(), Refusal>) -> Reply
 impl Held {
     /// Applies a command.
     pub(crate) fn apply(&mut self, command: &Command<'_>) -> Reply
+        requires { IsState (state_of self.old) }
         ensures step { Step (held_phase self.old) (request_of command.now) result
             (held_phase self.new) }
         ensures diskless { IsDiskless result }
@@ -34,12 +36,14 @@ impl Held {
             Command::Replace(bytes) => reply(self.replace(bytes)),
             Command::Remove(name) => reply(self.remove(name)),
             Command::SetPreloads(names) => reply(self.set_preloads(names)),
+            Command::Bind { program, base } => self.bind(program, *base),
             Command::List => self.list(),
         }
     }
 
     /// Applies commands one after the other.
     pub(crate) fn run(&mut self, commands: &[Command<'_>]) -> Result<Vec<Reply>, AllocError>
+        requires { IsState (state_of self.old) }
         ensures ok { IfOk result (λ replies. Run StepInMemory (kept_of self.old)
             (map request_of commands.now) replies.items (kept_of self.new)) }
         ensures err { OnErr result (self.new ≡ self.old) }

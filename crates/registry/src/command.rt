@@ -11,6 +11,13 @@ pub enum Command<'a> {
     Remove(&'a [u8]),
     /// Sets the names of the preloads, in their order.
     SetPreloads(&'a [&'a [u8]]),
+    /// Binds a program with the libraries and the preloads: the bytes of its file, and its base.
+    Bind {
+        /// The bytes of its file.
+        program: &'a [u8],
+        /// The address at which it starts.
+        base: u64,
+    },
     /// Lists the libraries and the preloads.
     List,
 }

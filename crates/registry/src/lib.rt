@@ -6,6 +6,7 @@
 #![tactic(auto)]
 
 mod apply;
+mod bind;
 mod change;
 mod command;
 mod cost;
@@ -30,3 +31,5 @@ pub use listing::Listing;
 pub use refusal::Refusal;
 pub use registry::Registry;
 pub use reply::Reply;
+pub use soname::library_name;
+pub use words::{are_too_many, has_repeat};

@@ -1,10 +1,12 @@
 // The table of libraries.
 
 ghost use Rattle.std.specs.Prelude.{◌≡◌, ◌-◌, ◌≤◌, ◌++◌, [], ◌∷◌};
-ghost use Rattle.std.specs.Prelude.{false, map, length, All, IfOk, OnOk, OnErr};
+ghost use Rattle.std.specs.Prelude.{false, map, length, position, bytes_eq, All, IfOk, OnOk, OnErr};
 ghost use Rattle.std.specs.List.{fold};
 ghost use Rattle.indexmap.specs.IndexMap.{values};
 ghost use Rattle.elf_file.specs.Constant.{LARGEST_FILE};
+ghost use Rattle.hash_check.specs.FileRefusal.{first_file_refusal};
+ghost use Rattle.registry.specs.Binding.{object_of};
 ghost use Rattle.registry.specs.Library.{IsLibrary};
 ghost use Rattle.registry.specs.inside.Entry.{library_of};
 ghost use Rattle.registry.specs.State.{names_of, has_name, cost, free_beside};
@@ -15,6 +17,7 @@ use crate::cost::cost;
 use crate::file::File;
 use indexmap::IndexMap;
 use names::Name;
+use scope::Library;
 use std::alloc::{AllocError, Global};
 use std::marker::Model;
 
@@ -63,6 +66,7 @@ fn key_of(alloc: Global, name: &[u8]) -> Result<Vec<u8>, AllocError>
 fn add_file(files: &mut Files, alloc: Global, name: &[u8], bytes: &[u8]) -> Result<(), AllocError>
     requires absent { has_name (names_of (map library_of files.old.entries)) name.now ≡ false }
     requires size { length bytes.now ≤ LARGEST_FILE }
+    requires taken { first_file_refusal bytes.now ≡ None }
     ensures ok { OnOk result (map library_of files.new.entries
         ≡ map library_of files.old.entries ++ record { name = name.now; bytes = bytes.now } ∷ []) }
     ensures err { OnErr result (files.new.entries ≡ files.old.entries) }
@@ -150,6 +154,25 @@ impl Libraries {
         ensures { self.new ≡ without name.now self.old }
     {
         take_file(&mut self.files, name);
+    }
+
+    /// The number of the one of this name.
+    pub(crate) fn number(&self, name: &[u8]) -> Option<usize>
+        ensures { result ≡ position (bytes_eq name.now) (names_of self.now) }
+    {
+        self.files.get_index_of(name)
+    }
+
+    /// All of them, each read and admitted.
+    pub(crate) fn admitted(&self, alloc: Global) -> Result<Vec<Library<'_>>, AllocError>
+        ensures { IfOk result (λ v. v.items ≡ map object_of self.now) }
+    {
+        let mut admitted = Vec::with_capacity(alloc, self.files.len())?;
+        for (name, kept) in self.files.iter() {
+            let object = kept.admitted(alloc)?;
+            admitted.push(Library { name, object })?;
+        }
+        Ok(admitted)
     }
 
     /// Their names, and the lengths of their files in bytes.

@@ -1,10 +1,12 @@
 // The names of the preloads.
 
-ghost use Rattle.std.specs.Prelude.{◌≡◌, ◌≤◌, [], map, length, All, IfOk};
+ghost use Rattle.std.specs.Prelude.{◌≡◌, ◌≤◌, [], map, length, position, bytes_eq, All, IfOk};
+ghost use Rattle.std.specs.List.{filter_map};
 ghost use Rattle.hash_check.specs.Soname.{NAME_LIMIT};
 ghost use Rattle.registry.specs.Limits.{most_preloads};
-ghost use Rattle.registry.specs.State.{has_name};
+ghost use Rattle.registry.specs.State.{has_name, names_of};
 
+use crate::libraries::Libraries;
 use crate::short_name::ShortName;
 use arrayvec::ArrayVec;
 use names::Name;
@@ -61,6 +63,18 @@ impl Preloads {
         }
     }
 
+    /// Their numbers among libraries.
+    pub(crate) fn numbers(
+        &self,
+        alloc: Global,
+        libraries: &Libraries,
+    ) -> Result<Vec<usize>, AllocError>
+        ensures { IfOk result (λ v. v.items
+            ≡ filter_map (λ n. position (bytes_eq n) (names_of libraries.now)) self.now) }
+    {
+        numbers_of(alloc, self.names.as_slice(), libraries)
+    }
+
     /// Copies of the names.
     pub(crate) fn copies(&self, alloc: Global) -> Result<Vec<Name>, AllocError>
         ensures { IfOk result (λ v. v.items ≡ self.now) }
@@ -78,4 +92,19 @@ fn copies_of(alloc: Global, names: &[ShortName]) -> Result<Vec<Name>, AllocError
         copies.push(Name::copy_of(alloc, name.as_bytes())?)?;
     }
     Ok(copies)
+}
+
+/// The numbers of these names among libraries.
+fn numbers_of(
+    alloc: Global,
+    names: &[ShortName],
+    libraries: &Libraries,
+) -> Result<Vec<usize>, AllocError>
+    ensures { IfOk result (λ v. v.items
+        ≡ filter_map (λ n. position (bytes_eq n) (names_of libraries.now)) names.now) }
+{
+    names
+        .iter()
+        .filter_map(|name| libraries.number(name.as_bytes()))
+        .collect(alloc)
 }

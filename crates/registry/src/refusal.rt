@@ -1,10 +1,11 @@
 // Why a command was refused.
 
 use hash_check::FileRefusal;
+use image::BindRefusal;
 use std::alloc::AllocError;
 
 /// Why a command was refused, or a registry wasn't made.
-#[derive(Clone, Copy, Debug, PartialEq, Eq)]
+#[derive(Debug, Drop, PartialEq, Eq)]
 pub enum Refusal {
     /// C1: the file is no library.
     Object(FileRefusal),
@@ -18,6 +19,8 @@ pub enum Refusal {
     RepeatedPreload,
     /// C6: there are over 16 names.
     TooManyPreloads,
+    /// B1 to B5: the program isn't bound, for this reason, which is never want of memory.
+    Bind(BindRefusal),
     /// S1: a call of the disk failed.
     Device,
     /// S2: a write or a sync failed before.
@@ -44,5 +47,19 @@ impl From<AllocError> for Refusal {
 
     fn from(_: AllocError) -> Refusal {
         Refusal::OutOfMemory
+    }
+}
+
+impl From<BindRefusal> for Refusal {
+    ghost use Rattle.std.specs.Prelude.{◌≡◌};
+    ghost use Rattle.registry.specs.Binding.{of_bind};
+
+    ghost from_gives = { λ e refusal. refusal ≡ of_bind e };
+
+    fn from(refusal: BindRefusal) -> Refusal {
+        match refusal {
+            BindRefusal::OutOfMemory => Refusal::OutOfMemory,
+            refusal => Refusal::Bind(refusal),
+        }
     }
 }

@@ -71,7 +71,8 @@ impl Registry {
         })
     }
 
-    /// Applies a command. Removing a library and setting the preloads take no memory.
+    /// Applies a command. Removing a library and setting the preloads take no memory. A bind tests
+    /// the program by itself, then reads and admits each library once.
     pub fn apply(&mut self, command: &Command<'_>) -> Reply
         ensures step { Step (phase_of self.old) (request_of command.now) result
             (phase_of self.new) }

@@ -2,14 +2,17 @@
 
 use crate::listing::Listing;
 use crate::refusal::Refusal;
+use image::Image;
 
 /// What a command is answered.
-#[derive(Debug, Drop)]
+#[derive(Drop)]
 pub enum Reply {
     /// The change was accepted.
     Done,
     /// The libraries and the preloads.
     Listing(Listing),
+    /// The image of the program.
+    Bound(Image),
     /// The command was refused.
     Refused(Refusal),
 }

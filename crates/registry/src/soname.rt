@@ -3,7 +3,7 @@
 ghost use Rattle.std.specs.Prelude.{◌≡◌, None, IfOk, IfErr, OnOk};
 ghost use Rattle.hash_check.specs.FileRefusal.{ReadNeedsMemory};
 ghost use Rattle.registry.specs.Library.{library_refusal, name_of, IsLibrary};
-ghost use Rattle.registry.specs.inside.Reading.{IsLibraryRefusal};
+ghost use Rattle.registry.specs.Reading.{IsLibraryRefusal};
 
 use crate::refusal::Refusal;
 use hash_check::{Admitted, FileRefusal, ReadRefusal};
@@ -11,7 +11,7 @@ use std::alloc::Global;
 
 /// Reads a file and admits it as a library, and gives its name. It costs what `Admitted::read`
 /// costs.
-pub(crate) fn library_name<'a>(alloc: Global, file: &'a [u8]) -> Result<&'a [u8], Refusal>
+pub fn library_name<'a>(alloc: Global, file: &'a [u8]) -> Result<&'a [u8], Refusal>
     ensures ok { OnOk result (library_refusal file.now ≡ None) }
     ensures name { IfOk result (λ name. name.now ≡ name_of file.now) }
     ensures library { IfOk result (λ name.

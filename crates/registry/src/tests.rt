@@ -1,32 +1,60 @@
 // That a command which has its memory is done, and rows of the step table.
 
 use crate::{Command, Refusal, Registry, Reply};
+use image::BindRefusal;
 use std::alloc::Global;
 use std::test::Fail;
 
 /// How many bytes the library has.
-const SIZE: usize = 344;
+const SIZE: usize = 376;
 
-/// Where the two bytes of its name are.
-const NAME: usize = 217;
+/// Where the two bytes of its name are, and the lowest byte of the address of f.
+const NAME: usize = 0xf9;
 
-/// A library without symbols, named a.
+const ADDRESS: usize = 0xe8;
+
+/// A library named a, with a weak function f at 0x170.
 const LIBRARY: &[u8; SIZE] =
-    b"\x7fELF\x02\x01\x01\0\0\0\0\0\0\0\0\0\x03\0>\0\x01\0\0\0\0\0\0\0\0\0\0\0@\0\0\0\0\0\0\
-    \0\0\0\0\0\0\0\0\0\0\0\0\0@\08\0\x02\0\0\0\0\0\0\0\x01\0\0\0\x06\0\0\0\0\0\0\0\0\0\0\
-    \0\0\0\0\0\0\0\0\0\0\0\0\0\0\0\0\0X\x01\0\0\0\0\0\0X\x01\0\0\0\0\0\0\0\x10\0\0\0\0\0\
-    \0\x02\0\0\0\x06\0\0\0\xe0\0\0\0\0\0\0\0\xe0\0\0\0\0\0\0\0\xe0\0\0\0\0\0\0\0p\0\0\0\0\
-    \0\0\0p\0\0\0\0\0\0\0\x08\0\0\0\0\0\0\0\x01\0\0\0\x01\0\0\0\0\0\0\0\0\0\0\0\0\0\0\0\0\
-    \0\0\0\0\0\0\0\0\0\0\0\0\0\0\0\0\0\0\0\0a\0\0\0\0\0\0\x0e\0\0\0\0\0\0\0\x01\0\0\0\0\0\
-    \0\0\x04\0\0\0\0\0\0\0\xb0\0\0\0\0\0\0\0\x05\0\0\0\0\0\0\0\xd8\0\0\0\0\0\0\0\x06\0\0\
-    \0\0\0\0\0\xc0\0\0\0\0\0\0\0\x0a\0\0\0\0\0\0\0\x04\0\0\0\0\0\0\0\x0b\0\0\0\0\0\0\0\x18\
-    \0\0\0\0\0\0\0\0\0\0\0\0\0\0\0\0\0\0\0\0\0\0\0\0\0\0\0\0\0\0\0";
+    b"\x7fELF\x02\x01\x01\0\0\0\0\0\0\0\0\0\x03\0>\0\x01\0\0\0\0\0\0\0\0\0\0\0@\0\0\0\0\0\0\0\0\0\
+    \0\0\0\0\0\0\0\0\0\0@\08\0\x02\0\0\0\0\0\0\0\x01\0\0\0\x06\0\0\0\0\0\0\0\0\0\0\0\0\0\0\0\0\0\
+    \0\0\0\0\0\0\0\0\0\0x\x01\0\0\0\0\0\0x\x01\0\0\0\0\0\0\0\x10\0\0\0\0\0\0\x02\0\0\0\x06\0\0\0\
+    \0\x01\0\0\0\0\0\0\0\x01\0\0\0\0\0\0\0\x01\0\0\0\0\0\0p\0\0\0\0\0\0\0p\0\0\0\0\0\0\0\x08\0\0\
+    \0\0\0\0\0\x01\0\0\0\x02\0\0\0\x01\0\0\0\0\0\0\0\0\0\0\0\0\0\0\0\0\0\0\0\0\0\0\0\0\0\0\0\0\0\
+    \0\0\0\0\0\0\0\0\0\0\x03\0\0\0\x22\0\x01\0p\x01\0\0\0\0\0\0\x08\0\0\0\0\0\0\0\0a\0f\0\0\0\0\
+    \x0e\0\0\0\0\0\0\0\x01\0\0\0\0\0\0\0\x04\0\0\0\0\0\0\0\xb0\0\0\0\0\0\0\0\x05\0\0\0\0\0\0\0\
+    \xf8\0\0\0\0\0\0\0\x06\0\0\0\0\0\0\0\xc8\0\0\0\0\0\0\0\x0a\0\0\0\0\0\0\0\x05\0\0\0\0\0\0\0\
+    \x0b\0\0\0\0\0\0\0\x18\0\0\0\0\0\0\0\0\0\0\0\0\0\0\0\0\0\0\0\0\0\0\0\0\0\0\0\0\0\0\0";
+
+/// How many bytes the program has.
+const PROGRAM_SIZE: usize = 464;
+
+/// A program that needs a and b, whose relocation writes the address of f at 0x1c8.
+const PROGRAM: &[u8; PROGRAM_SIZE] =
+    b"\x7fELF\x02\x01\x01\0\0\0\0\0\0\0\0\0\x03\0>\0\x01\0\0\0\0\0\0\0\0\0\0\0@\0\0\0\0\0\0\0\0\0\
+    \0\0\0\0\0\0\0\0\0\0@\08\0\x02\0\0\0\0\0\0\0\x01\0\0\0\x06\0\0\0\0\0\0\0\0\0\0\0\0\0\0\0\0\0\
+    \0\0\0\0\0\0\0\0\0\0\xd0\x01\0\0\0\0\0\0\xd0\x01\0\0\0\0\0\0\0\x10\0\0\0\0\0\0\x02\0\0\0\x06\
+    \0\0\0\x18\x01\0\0\0\0\0\0\x18\x01\0\0\0\0\0\0\x18\x01\0\0\0\0\0\0\xb0\0\0\0\0\0\0\0\xb0\0\0\
+    \0\0\0\0\0\x08\0\0\0\0\0\0\0\x01\0\0\0\x02\0\0\0\x01\0\0\0\0\0\0\0\0\0\0\0\0\0\0\0\0\0\0\0\0\
+    \0\0\0\0\0\0\0\0\0\0\0\0\0\0\0\0\0\0\0\x05\0\0\0\x10\0\0\0\0\0\0\0\0\0\0\0\0\0\0\0\0\0\0\0\0a\
+    \0b\0f\0\0\xc8\x01\0\0\0\0\0\0\x01\0\0\0\x01\0\0\0\0\0\0\0\0\0\0\0\x01\0\0\0\0\0\0\0\x01\0\0\
+    \0\0\0\0\0\x01\0\0\0\0\0\0\0\x03\0\0\0\0\0\0\0\x04\0\0\0\0\0\0\0\xb0\0\0\0\0\0\0\0\x05\0\0\0\
+    \0\0\0\0\xf8\0\0\0\0\0\0\0\x06\0\0\0\0\0\0\0\xc8\0\0\0\0\0\0\0\x0a\0\0\0\0\0\0\0\x07\0\0\0\0\
+    \0\0\0\x0b\0\0\0\0\0\0\0\x18\0\0\0\0\0\0\0\x07\0\0\0\0\0\0\0\0\x01\0\0\0\0\0\0\x08\0\0\0\0\0\
+    \0\0\x18\0\0\0\0\0\0\0\x09\0\0\0\0\0\0\0\x18\0\0\0\0\0\0\0\0\0\0\0\0\0\0\0\0\0\0\0\0\0\0\0\0\
+    \0\0\0\0\0\0\0";
 
 /// The library under a name of two bytes, or of one where the second is 0.
 fn library(first: u8, second: u8) -> [u8; SIZE] {
     let mut file = *LIBRARY;
     file[NAME] = first;
     file[NAME + 1] = second;
+    file
+}
+
+/// The library named b, with f at this address, below 0x200.
+fn other(address: u8) -> [u8; SIZE] {
+    let mut file = library(b'b', 0);
+    file[ADDRESS] = address;
     file
 }
 
@@ -38,11 +66,68 @@ fn registry(alloc: Global, sectors: u32) -> Result<Registry, Fail> {
     }
 }
 
-/// The refusal of a change, if it is refused.
-fn refusal(registry: &mut Registry, change: Command<'_>) -> Option<Refusal> {
-    match registry.apply(&change) {
-        Reply::Refused(refusal) => Some(refusal),
-        Reply::Done | Reply::Listing(_) => None,
+/// The number of a refusal.
+fn number(refusal: &Refusal) -> &'static str {
+    match refusal {
+        Refusal::AlreadyInstalled => "C2",
+        Refusal::NotInstalled => "C3",
+        Refusal::InPreloads => "C4",
+        Refusal::RepeatedPreload => "C5",
+        Refusal::TooManyPreloads => "C6",
+        Refusal::Full => "S7",
+        Refusal::TooMany => "S9",
+        Refusal::Bind(BindRefusal::Program(_)) => "B1",
+        Refusal::Bind(BindRefusal::BadBase) => "B2",
+        Refusal::Bind(BindRefusal::Missing { .. }) => "B3",
+        _ => "another",
+    }
+}
+
+/// What a command is answered: the number of its refusal.
+fn answer(registry: &mut Registry, command: Command<'_>) -> &'static str {
+    match registry.apply(&command) {
+        Reply::Done => "ok",
+        Reply::Listing(_) => "listing",
+        Reply::Bound(_) => "image",
+        Reply::Refused(refusal) => number(&refusal),
+    }
+}
+
+/// Binds the program.
+const BIND: Command<'_> = Command::Bind {
+    program: PROGRAM,
+    base: 0x10000,
+};
+
+/// Whether the program lacks the library of this name.
+fn lacks(registry: &mut Registry, library: &[u8]) -> bool {
+    match registry.apply(&BIND) {
+        Reply::Refused(Refusal::Bind(BindRefusal::Missing { needer, name })) => {
+            needer.as_bytes() == b"/program".as_slice() && name.as_bytes() == library
+        }
+        _ => false,
+    }
+}
+
+/// What the first bytes of the program are answered at a base that isn't good.
+fn cut_answer(registry: &mut Registry, size: usize) -> &'static str {
+    match PROGRAM.get(..size) {
+        Some(program) => answer(
+            registry,
+            Command::Bind {
+                program,
+                base: 0x10001,
+            },
+        ),
+        None => "short",
+    }
+}
+
+/// The two low bytes of the address of f that are written into the program, where it is bound.
+fn written(registry: &mut Registry) -> Option<[u8; 2]> {
+    match registry.apply(&BIND) {
+        Reply::Bound(image) => Some([image.byte(0x101c8)?, image.byte(0x101c9)?]),
+        _ => None,
     }
 }
 
@@ -68,37 +153,19 @@ fn changes_are_refused_in_the_order_of_the_tests(rt: HostRuntime) -> Result<(), 
     let a: &[u8] = b"a";
     let z: &[u8] = b"z";
     let file = library(b'a', 0);
-    assert_eq!(rt; refusal(&mut of, Command::Install(&file)), None);
-    assert_eq!(rt;
-        refusal(&mut of, Command::Install(&file)),
-        Some(Refusal::AlreadyInstalled)
-    );
-    assert_eq!(rt; refusal(&mut of, Command::SetPreloads(&[a])), None);
+    assert_eq!(rt; answer(&mut of, Command::Install(&file)), "ok");
+    assert_eq!(rt; answer(&mut of, Command::Install(&file)), "C2");
+    assert_eq!(rt; answer(&mut of, Command::SetPreloads(&[a])), "ok");
     assert!(rt; lists(&mut of, &[a], &[a]));
-    assert_eq!(rt;
-        refusal(&mut of, Command::Remove(a)),
-        Some(Refusal::InPreloads)
-    );
-    assert_eq!(rt;
-        refusal(&mut of, Command::SetPreloads(&[a; 17])),
-        Some(Refusal::TooManyPreloads)
-    );
+    assert_eq!(rt; answer(&mut of, Command::Remove(a)), "C4");
+    assert_eq!(rt; answer(&mut of, Command::SetPreloads(&[a; 17])), "C6");
     // A name that isn't installed and stands twice
-    assert_eq!(rt;
-        refusal(&mut of, Command::SetPreloads(&[z, z])),
-        Some(Refusal::RepeatedPreload)
-    );
-    assert_eq!(rt;
-        refusal(&mut of, Command::SetPreloads(&[z])),
-        Some(Refusal::NotInstalled)
-    );
-    assert_eq!(rt; refusal(&mut of, Command::SetPreloads(&[])), None);
-    assert_eq!(rt; refusal(&mut of, Command::Replace(&file)), None);
-    assert_eq!(rt; refusal(&mut of, Command::Remove(a)), None);
-    assert_eq!(rt;
-        refusal(&mut of, Command::Replace(&file)),
-        Some(Refusal::NotInstalled)
-    );
+    assert_eq!(rt; answer(&mut of, Command::SetPreloads(&[z, z])), "C5");
+    assert_eq!(rt; answer(&mut of, Command::SetPreloads(&[z])), "C3");
+    assert_eq!(rt; answer(&mut of, Command::SetPreloads(&[])), "ok");
+    assert_eq!(rt; answer(&mut of, Command::Replace(&file)), "ok");
+    assert_eq!(rt; answer(&mut of, Command::Remove(a)), "ok");
+    assert_eq!(rt; answer(&mut of, Command::Replace(&file)), "C3");
     assert!(rt; lists(&mut of, &[], &[]));
     Ok(())
 }
@@ -109,16 +176,10 @@ fn a_file_may_cost_all_free_sectors(rt: HostRuntime) -> Result<(), Fail> {
     let file = library(b'a', 0);
     let mut padded = file.to_vec(rt.alloc())?;
     padded.resize(2561, 0)?;
-    assert_eq!(rt;
-        refusal(&mut of, Command::Install(&padded)),
-        Some(Refusal::Full)
-    );
+    assert_eq!(rt; answer(&mut of, Command::Install(&padded)), "S7");
     padded.truncate(2560);
-    assert_eq!(rt; refusal(&mut of, Command::Install(&padded)), None);
-    assert_eq!(rt;
-        refusal(&mut of, Command::Replace(&file)),
-        Some(Refusal::Full)
-    );
+    assert_eq!(rt; answer(&mut of, Command::Install(&padded)), "ok");
+    assert_eq!(rt; answer(&mut of, Command::Replace(&file)), "S7");
     Ok(())
 }
 
@@ -145,15 +206,54 @@ fn a_run_keeps_the_order_of_those_that_stay(rt: HostRuntime) -> Result<(), Fail>
 #[test]
 fn the_101st_library_is_refused(rt: HostRuntime) -> Result<(), Fail> {
     let mut of = registry(rt.alloc(), 1000)?;
-    for i in 0..100u8 {
-        let file = library(b'a' + i / 10, b'0' + i % 10);
-        assert_eq!(rt; refusal(&mut of, Command::Install(&file)), None);
+    for i in 0..98u8 {
+        let file = library(b'c' + i / 10, b'0' + i % 10);
+        assert_eq!(rt; answer(&mut of, Command::Install(&file)), "ok");
     }
+    for file in [library(b'a', 0), other(0x74)] {
+        assert_eq!(rt; answer(&mut of, Command::Install(&file)), "ok");
+    }
+    assert_eq!(rt; written(&mut of), Some([0x70, 0x11]));
     let file = library(b'z', 0);
-    assert_eq!(rt;
-        refusal(&mut of, Command::Install(&file)),
-        Some(Refusal::TooMany)
-    );
+    assert_eq!(rt; answer(&mut of, Command::Install(&file)), "S9");
+    Ok(())
+}
+
+#[test]
+fn a_bind_lacks_what_is_not_installed(rt: HostRuntime) -> Result<(), Fail> {
+    let mut of = registry(rt.alloc(), 64)?;
+    assert!(rt; lacks(&mut of, b"a"));
+    assert_eq!(rt; answer(&mut of, Command::Install(&library(b'a', 0))), "ok");
+    assert!(rt; lacks(&mut of, b"b"));
+    assert_eq!(rt; answer(&mut of, Command::Install(&other(0x74))), "ok");
+    assert_eq!(rt; written(&mut of), Some([0x70, 0x11]));
+    assert_eq!(rt; answer(&mut of, Command::Remove(b"b")), "ok");
+    assert!(rt; lacks(&mut of, b"b"));
+    assert!(rt; lists(&mut of, &[b"a"], &[]));
+    Ok(())
+}
+
+#[test]
+fn a_bind_follows_preloads_and_replacements(rt: HostRuntime) -> Result<(), Fail> {
+    let mut of = registry(rt.alloc(), 64)?;
+    assert_eq!(rt; answer(&mut of, Command::Install(&library(b'a', 0))), "ok");
+    assert_eq!(rt; answer(&mut of, Command::Install(&other(0x74))), "ok");
+    assert_eq!(rt; answer(&mut of, Command::SetPreloads(&[b"b"])), "ok");
+    assert_eq!(rt; written(&mut of), Some([0x74, 0x11]));
+    assert_eq!(rt; answer(&mut of, Command::Replace(&other(0x78))), "ok");
+    assert_eq!(rt; written(&mut of), Some([0x78, 0x11]));
+    assert_eq!(rt; answer(&mut of, Command::SetPreloads(&[])), "ok");
+    assert_eq!(rt; written(&mut of), Some([0x70, 0x11]));
+    Ok(())
+}
+
+#[test]
+fn a_program_is_tested_before_its_libraries(rt: HostRuntime) -> Result<(), Fail> {
+    let mut of = registry(rt.alloc(), 8)?;
+    for size in [63, 64, 65, 463] {
+        assert_eq!(rt; cut_answer(&mut of, size), "B1");
+    }
+    assert_eq!(rt; cut_answer(&mut of, PROGRAM_SIZE), "B2");
     Ok(())
 }
 

@@ -23,14 +23,14 @@ fn has_name(names: &[&[u8]], name: &[u8]) -> bool
 }
 
 /// Whether there are more names than there may be preloads.
-pub(crate) fn are_too_many(names: &[&[u8]]) -> bool
+pub fn are_too_many(names: &[&[u8]]) -> bool
     ensures { result ≡ nat_lt most_preloads (length (map (λ n. n.now) names.now)) }
 {
     names.len() > MOST_PRELOADS
 }
 
 /// Whether a name stands twice.
-pub(crate) fn has_repeat(names: &[&[u8]]) -> bool
+pub fn has_repeat(names: &[&[u8]]) -> bool
     ensures { result ≡ has_repeat (map (λ n. n.now) names.now) }
 {
     match names {

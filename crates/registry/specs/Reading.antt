@@ -5,6 +5,7 @@ use Rattle.registry.specs.Library.{library_refusal}
 use Rattle.registry.specs.declared.refusal.Refusal.{Refusal}
 use Rattle.registry.specs.declared.refusal.Refusal.TheVariants.{Object, OutOfMemory}
 
+-- the first test that applies, or want of the memory that admission takes
 abbrev pub IsLibraryRefusal : List ℕ → Refusal → Type 0
 IsLibraryRefusal file (Object refusal) = library_refusal file ≡ Some refusal
 IsLibraryRefusal file OutOfMemory = ReadNeedsMemory file
