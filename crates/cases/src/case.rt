@@ -1,9 +1,11 @@
 // A case: a call, and its answer.
 
 use crate::answer::is_wanted;
+use crate::bind::{bind_text, order_text, word_text};
 use crate::file::changed_file;
 use crate::library::{admit_text, find_text, hash_text, library_text};
 use crate::number::parse_number;
+use crate::script::runs_so;
 use crate::view::view_text;
 use crate::words::ends_so;
 use anyhow::{Context, Result, bail};
@@ -43,6 +45,9 @@ fn answer<R: Files + AllocGlobal>(rt: &R, call: &str) -> Result<Vec<u8>> {
     match call.split_once(' ') {
         Some(("image", words)) => image_text(rt, words),
         Some(("byte", words)) => byte_text(rt, words),
+        Some(("bind", words)) => bind_text(rt, words),
+        Some(("order", words)) => order_text(rt, words),
+        Some(("word", words)) => word_text(rt, words),
         Some(("admit", words)) => admit_text(rt, words),
         Some(("library", words)) => library_text(rt, words),
         Some(("view", words)) => view_text(rt, words),
@@ -54,6 +59,9 @@ fn answer<R: Files + AllocGlobal>(rt: &R, call: &str) -> Result<Vec<u8>> {
 
 /// Whether a call gives an answer.
 fn gives<R: Files + AllocGlobal>(rt: &R, call: &str, wanted: &str) -> Result<bool> {
+    if let Some(words) = call.strip_prefix("script ") {
+        return runs_so(rt, words, wanted);
+    }
     match call.strip_prefix("words") {
         Some(words) => ends_so(rt, words, wanted),
         None => is_wanted(rt, &answer(rt, call)?, wanted),

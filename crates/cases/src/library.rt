@@ -58,7 +58,7 @@ pub(crate) fn library_text<R: Files + AllocGlobal>(rt: &R, words: &str) -> Resul
 }
 
 /// The bytes of a name: a word, or `bytes=BYTES`.
-fn name_bytes(alloc: Global, word: &str) -> Result<Vec<u8>> {
+pub(crate) fn name_bytes(alloc: Global, word: &str) -> Result<Vec<u8>> {
     match word.strip_prefix("bytes=") {
         Some(digits) => Ok(hex::decode(alloc, digits)?),
         None => Ok(Vec::from_slice(alloc, word.as_bytes())?),

@@ -4,11 +4,15 @@
 #![tactic(auto)]
 
 mod answer;
+mod bind;
 mod case;
 mod file;
 mod library;
 mod list;
 mod number;
+mod preload;
+mod script;
+mod shelf;
 mod view;
 mod words;
 

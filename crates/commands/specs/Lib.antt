@@ -1,8 +1,12 @@
+pub mod Answer
 pub mod Base
 pub mod File
+pub mod Line
 pub mod Printed
 pub mod Refusal
+pub mod Reply
 pub mod RunImage
+pub mod Script
 pub mod Status
 pub mod Words
 pub mod inside

@@ -1,1 +1,4 @@
+pub mod Asked
 pub mod Ends
+pub mod Progress
+pub mod Short

@@ -1,24 +1,36 @@
 //! What the program `rlibreg` does with words, lines and files, for whoever links it.
 //!
-//! `run_image` is the work over bytes and a writer, and has the text as its contract. `run_words`
-//! reads the words of a command line, opens files and gives the exit status; `run_arguments` takes
-//! the words of the process.
+//! `run_image` and `run_script` are the work over bytes, readers and writers, and have their texts
+//! as their contracts. `run_words` reads the words of a command line, opens files and gives the
+//! exit status; `read_arguments` has the words of the process, and `run_arguments` does the same
+//! with them.
 #![tactic(auto)]
 
+mod answer;
+mod applies;
 mod arguments;
+mod asked;
 mod base;
 mod command;
 mod fault;
 mod file;
 mod message;
+mod reading;
 mod refusal;
+mod reply;
+mod script;
 mod show;
 mod status;
+mod summary;
 #[cfg(test)]
 mod tests;
+mod word;
 
-pub use arguments::run_arguments;
+pub use applies::Applies;
+pub use arguments::{read_arguments, run_arguments};
 pub use command::run_words;
 pub use fault::ScriptFault;
-pub use refusal::write_file_refusal;
+pub use refusal::{write_file_refusal, write_refusal};
+pub use script::run_script;
 pub use show::{Shown, run_image};
+pub use summary::Summary;

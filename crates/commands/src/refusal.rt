@@ -15,7 +15,7 @@ use std::io::Write;
 use text_output::{LINE, OutputBuffer, WriteFault};
 
 /// A line on its way to a writer.
-type Line = OutputBuffer<LINE>;
+pub(crate) type Line = OutputBuffer<LINE>;
 
 /// The line of want of memory.
 const MEMORY_LINE: &[u8] = b"refused S11 OutOfMemory\n";
@@ -93,7 +93,7 @@ fn put_object_refusal<W: Write>(
 }
 
 /// The number and the name of the refusal of a file, and what follows them.
-fn put_file_refusal<W: Write>(
+pub(crate) fn put_file_refusal<W: Write>(
     line: &mut Line,
     out: &mut W,
     refusal: FileRefusal,
@@ -157,7 +157,7 @@ fn put_named<W: Write>(
 }
 
 /// The line of an answer to a bind that gives no image.
-fn put_refusal<W: Write>(
+pub(crate) fn put_refusal<W: Write>(
     line: &mut Line,
     out: &mut W,
     refusal: &BindRefusal,
@@ -190,7 +190,7 @@ fn put_refusal<W: Write>(
 
 /// Writes the line of an answer to a bind that gives no image: with one write, but for names that
 /// are longer than a line's buffer.
-pub(crate) fn write_refusal<W: Write>(out: &mut W, refusal: &BindRefusal) -> Result<(), ScriptFault>
+pub fn write_refusal<W: Write>(out: &mut W, refusal: &BindRefusal) -> Result<(), ScriptFault>
     ensures ok { OnOk result
         (Appends (W.contents out.old) (W.contents out.new) (refusal_text refusal.now)) }
     ensures err { IfErr result (λ fault. fault ≡ ScriptFault.Write) }

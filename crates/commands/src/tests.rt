@@ -4,5 +4,6 @@ mod files;
 mod large;
 mod lines;
 mod samples;
+mod scripts;
 mod statuses;
 mod streams;

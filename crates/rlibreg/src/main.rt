@@ -2,12 +2,13 @@
 //! none.
 #![tactic(auto)]
 
-use commands::run_arguments;
+use commands::{read_arguments, run_arguments};
 use std::process::ExitCode;
 
 fn main(rt: HostRuntime) -> ExitCode {
     let mut input = rt.stdin();
     let mut output = rt.stdout();
     let mut errors = rt.stderr();
-    ExitCode::from(run_arguments(&rt, &mut input, &mut output, &mut errors))
+    let words = read_arguments(&rt);
+    ExitCode::from(run_arguments(&rt, rt.alloc(), words, &mut input, &mut output, &mut errors))
 }

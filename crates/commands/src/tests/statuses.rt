@@ -1,6 +1,6 @@
 // Statuses and messages that no case shows.
 
-use crate::arguments::run_read;
+use crate::arguments::run_arguments;
 use crate::command::show_read;
 use crate::file::FileFault;
 use crate::status::{Status, status_of};
@@ -26,7 +26,7 @@ fn run(rt: &HostRuntime, words: io::Result<Vec<String>>) -> Ended {
     let mut input: &[u8] = &[];
     let mut output = Vec::new(rt.alloc());
     let mut errors = Vec::new(rt.alloc());
-    let status = run_read(rt, rt.alloc(), words, &mut input, &mut output, &mut errors);
+    let status = run_arguments(rt, rt.alloc(), words, &mut input, &mut output, &mut errors);
     Ended {
         status,
         output,

@@ -1,5 +1,5 @@
-use Rattle.std.proofs.Common.{◌++◌, List, ℕ, codes}
-use Rattle.std.specs.Io.KnownBytes.{Appends, append_known}
+use Rattle.std.proofs.Common.{◌++◌, codes}
+use Rattle.std.specs.Io.KnownBytes.{append_known}
 use Rattle.std.proofs.KnownBytes.{Appends-trans}
 use Rattle.text_output.specs.Name.{name_text}
 use Rattle.commands.proofs.Then.{then}

@@ -1,0 +1,434 @@
+#!/usr/bin/env python3
+"""Writes the list `data/scripts.txt`, and the scripts and outputs that it names.
+
+    python3 crates/cases/make/scripts.py
+
+Expected outputs come from `Model` below, a second reading of what a registry does that shares nothing with the program,
+with `binder.py` for what it binds; where a table has an output of its own, worked out by hand, the two have to agree.
+"""
+
+import re
+
+import rules
+from binder import Binder
+from make import BASE, DATA, write_list
+from samples import DEFINED, FUNC, GLOBAL, R_64, WEAK, Object, Symbol, build
+
+MOST_LIBRARIES, MOST_PRELOADS, SECTOR = 100, 16, 512
+HEX = re.compile(rb'(?:[0-9a-fA-F]{2})+')
+NAME = re.compile(rb'[\x21-\x7e]+')
+BASE_WORD = re.compile(rb'0x[0-9a-fA-F]{1,16}')
+
+
+class Model:
+    """A registry of a number of sectors: its libraries in the order of installation, and the names of its preloads."""
+
+    def __init__(self, sectors):
+        self.sectors, self.libraries, self.preloads = sectors, [], []
+
+    def names(self):
+        return [name for name, _ in self.libraries]
+
+    def is_full(self, file):
+        def cost(data):
+            return (len(data) + SECTOR - 1) // SECTOR + 1
+        return cost(file) > self.sectors - 2 - sum(cost(data) for _, data in self.libraries)
+
+    def install(self, file):
+        refusal = rules.library_refusal(file)
+        if refusal:
+            return f'refused C1 {refusal}\n'
+        name = soname(file)
+        if name in self.names():
+            return 'refused C2 AlreadyInstalled\n'
+        if len(self.libraries) == MOST_LIBRARIES:
+            return 'refused S9 TooMany\n'
+        if self.is_full(file):
+            return 'refused S7 Full\n'
+        self.libraries.append((name, file))
+        return 'ok\n'
+
+    def replace(self, file):
+        refusal = rules.library_refusal(file)
+        if refusal:
+            return f'refused C1 {refusal}\n'
+        if soname(file) not in self.names():
+            return 'refused C3 NotInstalled\n'
+        if self.is_full(file):
+            return 'refused S7 Full\n'
+        self.libraries[self.names().index(soname(file))] = (soname(file), file)
+        return 'ok\n'
+
+    def remove(self, name):
+        if name not in self.names():
+            return 'refused C3 NotInstalled\n'
+        if name in self.preloads:
+            return 'refused C4 InPreloads\n'
+        del self.libraries[self.names().index(name)]
+        return 'ok\n'
+
+    def preload(self, names):
+        if len(names) > MOST_PRELOADS:
+            return 'refused C6 TooManyPreloads\n'
+        if len(set(names)) < len(names):
+            return 'refused C5 RepeatedPreload\n'
+        if any(name not in self.names() for name in names):
+            return 'refused C3 NotInstalled\n'
+        self.preloads = names
+        return 'ok\n'
+
+    def list(self):
+        lines = [f'library {rules.printed_name(name)} {len(file)}\n' for name, file in self.libraries]
+        return ''.join(lines + [f'preload {rules.printed_name(name)}\n' for name in self.preloads]) + 'end\n'
+
+    def bind(self, base, program):
+        return Binder().text(program, base, self.libraries, self.preloads)
+
+    def answer(self, line):
+        command, *words = line.split(b' ')
+        if command in (b'install', b'replace') and len(words) == 1 and HEX.fullmatch(words[0]):
+            file = bytes.fromhex(words[0].decode())
+            return self.install(file) if command == b'install' else self.replace(file)
+        if command == b'remove' and len(words) == 1 and NAME.fullmatch(words[0]):
+            return self.remove(words[0])
+        if command == b'preload' and all(NAME.fullmatch(word) for word in words):
+            return self.preload(words)
+        if command == b'list' and not words:
+            return self.list()
+        if command == b'bind' and len(words) == 2 and BASE_WORD.fullmatch(words[0]) and HEX.fullmatch(words[1]):
+            return self.bind(int(words[0][2:], 16), bytes.fromhex(words[1].decode()))
+        return 'refused L1 BadLine\n'
+
+
+def soname(file):
+    elf = rules.Elf(file)
+    return elf.string(elf.value(rules.SONAME))
+
+
+def output(sectors, text):
+    """The number of lines, that of refused ones, and what is written."""
+    model, answers = Model(sectors), []
+    *whole, cut = text.split(b'\n')
+    answers = [model.answer(line) for line in whole] + (['refused L2 CutLine\n'] if cut else [])
+    return len(answers), sum(answer.startswith('refused') for answer in answers), ''.join(answers)
+
+
+def library(name, **parts):
+    return build(Object(soname=name, **parts))[0]
+
+
+def padded(file, length):
+    return file + bytes(length - len(file))
+
+
+def spelt(file):
+    return file.hex().encode()
+
+
+def install(file):
+    return b'install ' + spelt(file)
+
+
+def replace(file):
+    return b'replace ' + spelt(file)
+
+
+def bind(file, base=BASE):
+    return b'bind 0x%x %s' % (base, spelt(file))
+
+
+def of_folder(name):
+    return (DATA / name).read_bytes()
+
+
+def image_lines(name):
+    """The lines of the text of an image that another list has as an answer."""
+    return (DATA / name).read_text().splitlines()
+
+
+A, B, C, X, Y, Z = (library(name) for name in (b'a', b'b', b'c', b'x', b'y', b'z'))
+
+
+def stored(name, sectors, lines, wanted=None, end=b'\n'):
+    """A case of a script that is a file; `wanted` is its output where that was worked out by hand."""
+    text = b'\n'.join(lines) + end
+    count, refused, answers = output(sectors, text)
+    if wanted is not None:
+        assert answers == ''.join(line + '\n' for line in wanted), (name, answers)
+    (DATA / f'{name}.script').write_bytes(text)
+    (DATA / f'{name}.output').write_text(answers)
+    return f'script {sectors} {name}.script => {count} {refused} file {name}.output'
+
+
+def short(text, wanted, sectors=64):
+    """A case of a script that is spelt; `wanted` is its output, worked out by hand: at most a line."""
+    count, refused, answers = output(sectors, text)
+    assert answers == wanted + ('\n' if wanted else ''), (text, answers)
+    return f'script {sectors} bytes={text.hex()} => {count} {refused} {wanted or "nothing"}'
+
+
+def seen(name, sectors, lines, wanted, end=b'\n'):
+    """A case of a script that is a file; `wanted` are lines of its output in their order, worked out by hand."""
+    case = stored(name, sectors, lines, end=end)
+    rest = iter((DATA / f'{name}.output').read_text().splitlines())
+    for line in wanted:
+        assert line in rest, (name, line)
+    return case
+
+
+def bad(*lines):
+    return [short(line + b'\n', 'refused L1 BadLine') for line in lines]
+
+
+def rows():
+    first = [install(A), install(A), b'preload a', b'list', b'remove a', b'preload' + 17 * b' a', b'preload a a',
+             b'preload z', b'preload', b'remove a', b'list']
+    wanted = ['ok', 'refused C2 AlreadyInstalled', 'ok', 'library a 344', 'preload a', 'end', 'refused C4 InPreloads',
+              'refused C6 TooManyPreloads', 'refused C5 RepeatedPreload', 'refused C3 NotInstalled', 'ok', 'ok', 'end']
+    three = [install(X), install(Y), install(Z), b'preload z x', b'remove y', b'list']
+    left = ['ok', 'ok', 'ok', 'ok', 'ok', 'library x 344', 'library z 344', 'preload z', 'preload x', 'end']
+    assert len(A) == 344
+    return [
+        ('Each command of a registry, and most of its refusals.', [stored('script-commands', 64, first, wanted)]),
+        ('The empty script; half a byte; an empty line; a last line without a newline.', [
+            short(b'', ''), short(b'install 7f4\n', 'refused L1 BadLine'), short(b'\n', 'refused L1 BadLine'),
+            stored('script-cut', 64, [b'remove a', b'list'], ['refused C3 NotInstalled', 'refused L2 CutLine'], end=b'')]),
+        ('The list closes up, and the preloads keep their names and their order.', [stored('script-remove', 64, three, left)]),
+    ]
+
+
+def bad_lines():
+    name = b'x' * 241
+    return [
+        ('Two spaces, a space in front, a space behind.', bad(
+            b'remove  a', b'install  00', b'preload a  b', b'preload  a', b' list', b' remove a', b'list ', b'remove a ',
+            b'preload ', b'preload a ', b'install 00 ', b' ', b'  ')),
+        ('Tabs, and a carriage return before the newline.', bad(
+            b'list\t', b'\tlist', b'remove\ta', b'preload\ta', b'install\t00', b'list\r', b'remove a\r', b'preload\r', b'install 00\r', b'\r')),
+        ('NUL and bytes that are not visible in a name.', bad(
+            b'remove \0', b'remove a\0', b'remove a\x7f', b'remove a\x80', b'remove \xc3\xa9', b'preload a \xff', b'preload \x01',
+            b'preload a\tb', b'\0', b'list\0')),
+        ('Words that are no command.', bad(
+            b'List', b'LIST', b'INSTALL 00', b'Remove a', b'lists', b'lis', b'preloads', b'preloada', b'unload a', b'format 8', b'image a 0x0',
+            b'script', b'#', b'ok')),
+        ('No digits, half a byte, a space between digits, what is no digit.', bad(
+            b'install', b'install ', b'install 0', b'install 000', b'install 00 00', b'install 0 0', b'install 0g', b'install 0x00',
+            b'install -0', b'replace', b'replace ', b'replace 0', b'replace 00 ', b'replace zz', b'install \xef\xbc\x90\xef\xbc\x90')),
+        ('Commands with a word too few or too many.', bad(
+            b'remove', b'remove ', b'remove a b', b'list a', b'list list', b'install00', b'removea')),
+        ('A script of one byte: a newline, and a line that is cut.', [
+            short(b'\n', 'refused L1 BadLine'), short(b'l', 'refused L2 CutLine'), short(b' ', 'refused L2 CutLine')]),
+        ('A line that is cut is not run, whatever stands in it.', [
+            short(b'list', 'refused L2 CutLine'), short(b'preload', 'refused L2 CutLine'), short(b'no line', 'refused L2 CutLine')]),
+        ('Nothing stands behind the last newline.', [short(b'list\n', 'end'), short(b'preload\n', 'ok')]),
+        ('A name of a line may be of any length, and have any visible byte.', [
+            short(b'remove ' + name + b'\n', 'refused C3 NotInstalled'),
+            short(b'preload ' + name + b'\n', 'refused C3 NotInstalled'),
+            short(b'remove /\n', 'refused C3 NotInstalled'), short(b'remove \\x41\n', 'refused C3 NotInstalled'),
+            short(b'remove !~\n', 'refused C3 NotInstalled')]),
+        ('Digits of either case.', [
+            stored('script-digits', 64, [b'install ' + spelt(A).upper(), b'list'], ['ok', 'library a 344', 'end']),
+            short(b'install aBcDeF\n', 'refused C1 E1 TooShort'), short(b'replace AbCdEf\n', 'refused C1 E1 TooShort')]),
+    ]
+
+
+def many_libraries():
+    names = [bytes([ord('a') + k // 10, ord('0') + k % 10]) for k in range(101)]
+    lines = [install(library(name)) for name in names] + [replace(library(names[99])), install(library(names[0])), b'list',
+             b'remove ' + names[0], install(library(names[100])), b'list']
+    listed = [f'library {name.decode()} 344' for name in names]
+    wanted = (['ok'] * 100 + ['refused S9 TooMany', 'ok', 'refused C2 AlreadyInstalled'] + listed[:100] + ['end', 'ok', 'ok']
+              + listed[1:] + ['end'])
+    assert all(len(library(name)) == 344 for name in names)
+    sixteen = b' '.join([b'preload'] + names[:16])
+    preloads = [install(library(name)) for name in names[:17]] + [sixteen, sixteen + b' ' + names[16], b'list']
+    told = ['ok'] * 18 + ['refused C6 TooManyPreloads'] + listed[:17] + [f'preload {n.decode()}' for n in names[:16]] + ['end']
+    return [
+        ('100 libraries and the 101st: it is refused until one is removed, and one that is there may be replaced.',
+         [stored('script-hundred', 4096, lines, wanted)]),
+        ('16 preloads and 17.', [stored('script-preloads', 64, preloads, told)]),
+    ]
+
+
+def sectors():
+    full = [
+        # Six sectors are free: five of bytes, and one for the entry.
+        stored('script-full', 8, [install(padded(A, 2561)), install(padded(A, 2560)), b'list', replace(A), install(B), b'remove a',
+                                  install(A), install(B), install(C), replace(padded(A, 513)), b'list'],
+               ['refused S7 Full', 'ok', 'library a 2560', 'end', 'refused S7 Full', 'refused S7 Full', 'ok', 'ok', 'ok', 'ok',
+                'refused S7 Full', 'library a 344', 'library b 344', 'library c 344', 'end'])]
+    tight = [
+        # The file that is replaced isn't free: four sectors are, of 8 without its two and the two of the registry.
+        stored('script-replace-full', 8, [install(A), replace(padded(A, 1537)), replace(padded(A, 1536)), b'list'],
+               ['ok', 'refused S7 Full', 'ok', 'library a 1536', 'end'])]
+    return [
+        ('Eight sectors: a library that takes all that are free, and one byte more; what replaces it has no room beside it.', full),
+        ('A file may take the sectors that are free beside the one that it replaces, and not one more.', tight),
+    ]
+
+
+def refusals():
+    changed = bytearray(A)
+    changed[16] = 2
+    pair = [Symbol(b'f', GLOBAL, FUNC, DEFINED), Symbol(b'f', GLOBAL, FUNC, DEFINED)]
+    typed = build(Object(soname=b'a', relocations=[(37, 0, 0, 0)]))[0]
+    lines = [b'install 7f', install(bytes(changed)), install(library(b'a', symbols=pair)), install(typed), install(library(b'a/b')),
+             install(build(Object())[0]), replace(library(b'a', symbols=pair)), replace(bytes(changed)), install(A),
+             install(library(b'a', symbols=pair)), replace(B), replace(A), b'remove b', b'preload b b', b'preload a b', b'preload a',
+             b'remove a', b'list']
+    wanted = ['refused C1 E1 TooShort', 'refused C1 E7 BadType', 'refused C1 E28 DuplicateDefinition',
+              'refused C1 E30 RelocationType 37', 'refused C1 E33 BadSoname', 'refused C1 E33 BadSoname',
+              'refused C1 E28 DuplicateDefinition', 'refused C1 E7 BadType', 'ok', 'refused C1 E28 DuplicateDefinition',
+              'refused C3 NotInstalled', 'ok', 'refused C3 NotInstalled', 'refused C5 RepeatedPreload', 'refused C3 NotInstalled', 'ok',
+              'refused C4 InPreloads', 'library a 344', 'preload a', 'end']
+    order = [b'preload' + 17 * b' z', b'preload z z', b'preload z', b'remove z', install(A), b'preload a z z', b'preload z a']
+    answers = ['refused C6 TooManyPreloads', 'refused C5 RepeatedPreload', 'refused C3 NotInstalled', 'refused C3 NotInstalled', 'ok',
+               'refused C5 RepeatedPreload', 'refused C3 NotInstalled']
+    names = [b'\\', b'!~', b'libc.so.6']
+    spelt_names = [install(library(name)) for name in names] + [b'preload \\', b'list', b'remove \\x5c', b'preload', b'remove \\', b'list']
+    told = ['ok'] * 4 + ['library \\x5c 344', 'library !~ 344', 'library libc.so.6 352', 'preload \\x5c', 'end', 'refused C3 NotInstalled',
+                         'ok', 'ok', 'library !~ 344', 'library libc.so.6 352', 'end']
+    return [
+        ('Files that are no libraries, and each refusal of a name; the file is tested first.', [stored('script-refused', 64, lines, wanted)]),
+        ('The order of the tests of preloads: their number, then repeats, then names that are not there.',
+         [stored('script-order', 64, order, answers)]),
+        ('Names are printed with a backslash as \\x5c, and read as they are.', [stored('script-names', 64, spelt_names, told)]),
+        ('A replaced library keeps its place; a script goes on after every refusal; the last line is cut.', [
+            stored('script-places', 64, [install(A), install(B), install(C), b'', replace(padded(A, 400)), b'list all', b'list', b'remove b',
+                                         install(B), b'list', b'lis'],
+                   ['ok', 'ok', 'ok', 'refused L1 BadLine', 'ok', 'refused L1 BadLine', 'library a 400', 'library b 344', 'library c 344',
+                    'end', 'ok', 'ok', 'library a 400', 'library c 344', 'library b 344', 'end', 'refused L2 CutLine'], end=b'')]),
+    ]
+
+
+# The libraries a and b with a function f each, a's weak, and the program that needs both and writes f's value into its
+# last eight bytes, at 0x1c8.
+WEAK_F = library(b'a', symbols=[Symbol(b'f', WEAK, FUNC, DEFINED)])
+LATER_F = library(b'a', symbols=[Symbol(b'f', WEAK, FUNC, DEFINED, 4)])
+STRONG_F = library(b'b', symbols=[Symbol(b'f', GLOBAL, FUNC, DEFINED)])
+ASKING = library(None, needed=[b'a', b'b'], symbols=[Symbol(b'f')], relocations=[(R_64, 0, 1, 0)])
+START = ['object 0x0000000000010000 /program', 'segment 0x0000000000010000 464 rw-']
+
+
+def with_f(address, *order):
+    """Lines of the image of ASKING: f's address in its last line, and the names behind it, a page each."""
+    word = '0' * 16 + address.to_bytes(8, 'little').hex()
+    return START + [word] + [f'object 0x{0x11000 + 0x1000 * i:016x} {name}' for i, name in enumerate(order)] + ['end']
+
+
+def needing(name, *needed):
+    return library(name, needed=list(needed))
+
+
+def binds():
+    minimal, alone = of_folder('minimal.so'), image_lines('minimal.image')
+    seven = [needing(b'p', b'c'), needing(b'a', b'c', b'd'), needing(b'b', b'd', b'e'), C, library(b'd'), library(b'e')]
+    levels = needing(None, b'a', b'b')
+    assert WEAK_F == of_folder('first.so') and ASKING == of_folder('asking.so')
+    return [
+        ('Binds over an empty registry: a program without needs, with digits of either case; it isn\'t installed by that.', [
+            stored('script-bind-alone', 64, [bind(minimal), b'bind 0x0000000000010000 ' + spelt(minimal).upper(), b'list',
+                                             bind(of_folder('linked.so'), 0x7f0000000000), b'list'],
+                   alone + alone + ['end'] + image_lines('linked.image') + ['end'])]),
+        ('Binds over what is installed: seven objects in load order behind a preload, in another order of installation.', [
+            stored('script-bind-levels', 64, [install(file) for file in reversed(seven)] + [b'preload p', bind(levels)],
+                   ['ok'] * 7 + image_lines('levels.image'))]),
+        ('Each bind has what stands: the first definition is a\'s; behind the preload b it is b\'s; of an a that was replaced it is\n'
+         'its new one; without b there is none; b again comes behind. No bind changes what is listed.', [
+            seen('script-bind-state', 64, [
+                install(WEAK_F), install(STRONG_F), bind(ASKING), b'list', b'preload b', bind(ASKING), b'preload', replace(LATER_F),
+                bind(ASKING), b'remove b', bind(ASKING), install(STRONG_F), bind(ASKING), b'list'],
+                ['ok', 'ok'] + image_lines('first.image') + ['library a 376', 'library b 376', 'end', 'ok']
+                + with_f(0x11170, 'b', 'a') + ['ok', 'ok'] + with_f(0x11174, 'a', 'b') + ['ok', 'refused B3 Missing /program b', 'ok']
+                + with_f(0x11174, 'a', 'b') + ['library a 376', 'library b 376', 'end'])]),
+        ('A library of two segments, of header types that are not read; one with symbol versions is refused.', [
+            stored('script-bind-segments', 64, [
+                install(of_folder('w.so')), install(A), bind(needing(None, b'w', b'a')), replace(of_folder('w-verneed.so')), b'list'],
+                ['ok', 'ok'] + image_lines('two-segments.image') + ['refused C1 E17 SymbolVersions', 'library w 4112', 'library a 344',
+                                                                    'end'])]),
+        ('A protected function of a library, which is its own.', [
+            stored('script-bind-protected', 64, [install(WEAK_F), install(of_folder('protected.so')), bind(ASKING)],
+                   ['ok', 'ok'] + image_lines('protected.image'))]),
+    ]
+
+
+def refused_binds():
+    minimal, top = of_folder('minimal.so'), 0x7ffffffff000
+    pair = [Symbol(b'f', GLOBAL, FUNC, DEFINED), Symbol(b'f', GLOBAL, FUNC, DEFINED)]
+    typed = library(None, relocations=[(37, 0, 0, 0)])
+    changed = bytearray(minimal)
+    changed[16] = 2
+    asks_g = library(b'a', symbols=[Symbol(b'g')], relocations=[(R_64, 0, 1, 0)])
+    files = [(ASKING, 'B3 Missing /program a'), (ASKING[:63], 'B1 E1 TooShort'), (ASKING[:64], 'B1 E10 BadProgramHeaders'),
+             (ASKING[:65], 'B1 E10 BadProgramHeaders'), (ASKING[:463], 'B1 E12 BadSegment'), (bytes(changed), 'B1 E7 BadType'),
+             (library(None, symbols=pair), 'B1 E28 DuplicateDefinition'), (typed, 'B1 E30 RelocationType 37')]
+    needs_a, needs_b, asks = needing(None, b'a'), needing(b'a', b'b'), library(None, symbols=[Symbol(b'f')], relocations=[(R_64, 0, 1, 0)])
+    return [
+        ('A program over an empty registry, its cuts, and other files that are no programs.', [
+            stored('script-bind-files', 64, [bind(file) for file, _ in files], [f'refused {told}' for _, told in files])]),
+        ('The file is tested before the base.', [
+            short(b'bind 0x1 00\n', 'refused B1 E1 TooShort'), short(b'bind 0x10001 7f454c46\n', 'refused B1 E1 TooShort')]),
+        ('Bases, the limit of memory, names that are not installed, symbols that nobody defines; the base is tested before the\n'
+         'needs, these before the room, and that before symbols.', [
+            stored('script-bind-refused', 64, [
+                bind(minimal, BASE + 1), bind(ASKING, BASE + 0x800), bind(minimal, top), bind(needs_a, top), bind(asks, top), bind(asks),
+                install(needs_b), bind(needs_a), bind(ASKING), bind(needs_a, BASE + 8), b'remove a', install(asks_g), bind(needs_a),
+                bind(needs_a, top - 0x1000), bind(needs_a, top), install(B), b'preload b', bind(asks), bind(minimal, top - 0x1000),
+                b'list'],
+                ['refused B2 BadBase', 'refused B2 BadBase', 'refused B4 NoRoom', 'refused B3 Missing /program a', 'refused B4 NoRoom',
+                 'refused B5 Undefined /program f', 'ok', 'refused B3 Missing a b', 'refused B3 Missing /program b', 'refused B2 BadBase',
+                 'ok', 'ok', 'refused B5 Undefined a g', 'refused B4 NoRoom', 'refused B4 NoRoom', 'ok', 'ok', 'refused B5 Undefined /program f',
+                 'refused B4 NoRoom', 'library a 448', 'library b 344', 'preload b', 'end'])]),
+        ('Names are printed as in an image: a blank, a byte above 0x7e, the empty name.', [
+            stored('script-bind-names', 64, [bind(needing(None, name)) for name in (b'a b', b'\xff\\', b'')],
+                   ['refused B3 Missing /program a\\x20b', 'refused B3 Missing /program \\xff\\x5c', 'refused B3 Missing /program \\e'])]),
+    ]
+
+
+def bind_lines():
+    return [
+        ('A base of 1 to 16 digits of either case.', [short(line + b'\n', 'refused B1 E1 TooShort') for line in (
+            b'bind 0x0 00', b'bind 0x10000 00', b'bind 0xaBcDeF 00', b'bind 0xffffffffffffffff 00', b'bind 0xFFFFFFFFFFFFFFFF fF')]),
+        ('No base, one without digits, of 17 digits, without 0x, with another sign in it.', bad(
+            b'bind', b'bind ', b'bind 00', b'bind 0x 00', b'bind 0x00000000000000000 00', b'bind 0x10000000000000000 00', b'bind 0X0 00',
+            b'bind 0 00', b'bind 65536 00', b'bind 10000 00', b'bind 0xg 00', b'bind 0x+1 00', b'bind 0x-1 00', b'bind +0x1 00',
+            b'bind -0x1 00', b'bind 0x1_0 00', b'bind 0x0x0 00', b'bind x0 00', b'bind 0x0\0 00', b'bind \xff 00', b'bind 0x\xef\xbc\x90 00',
+            b'bind 0b1 00', b'bind 0x1h 00', b'bind 0x0. 00')),
+        ('No program, half a byte, what is no digit, the words the other way round, one too many.', bad(
+            b'bind 0x0', b'bind 0x0 ', b'bind 0x0 0', b'bind 0x0 000', b'bind 0x0 0g', b'bind 0x0 0x00', b'bind 0x0 00 00', b'bind 0x0 0 0',
+            b'bind 00 0x0', b'bind 0x0 a', b'bind 0x0 /program', b'bind 0x0 \xef\xbc\x90\xef\xbc\x90')),
+        ('Two spaces, a space in front or behind, tabs, a carriage return, other words.', bad(
+            b'bind  0x0 00', b'bind 0x0  00', b' bind 0x0 00', b'bind 0x0 00 ', b'bind 0x0 00\r', b'bind\t0x0 00', b'bind 0x0\t00',
+            b'bind0x0 00', b'Bind 0x0 00', b'BIND 0x0 00', b'binds 0x0 00', b'bin 0x0 00', b'bind a 0x0 00', b'bind 0x0 00\0')),
+        ('A bind that is cut isn\'t run.', [short(b'bind 0x0 00', 'refused L2 CutLine'), short(b'bind 0x0 ', 'refused L2 CutLine')]),
+    ]
+
+
+def sessions():
+    """The worked example: a library with its program, a preload that takes its place, and what is left without it."""
+    return [('A whole script: libraries, a program, a preload, a better library, lines that are refused, the last one cut.', [
+        seen('script-session', 64, [
+            b'list', install(WEAK_F), install(STRONG_F), install(WEAK_F), b'list', bind(ASKING), b'preload b', b'remove b', bind(ASKING),
+            b'preload', replace(padded(LATER_F, 1000)), b'list', bind(ASKING, 0x7f0000000000), b'bind 10000 00', bind(ASKING[:63]), b'remove b',
+            bind(ASKING), b'remove a', b'list', b'list'],
+            ['end', 'ok', 'ok', 'refused C2 AlreadyInstalled', 'library a 376', 'library b 376', 'end'] + with_f(0x11170, 'a', 'b')
+            + ['ok', 'refused C4 InPreloads'] + with_f(0x11170, 'b', 'a') + ['ok', 'ok', 'library a 1000', 'library b 376', 'end',
+               'object 0x00007f0000000000 /program', 'segment 0x00007f0000000000 464 rw-', '0000000000000000741100000' + '07f0000',
+               'object 0x00007f0000001000 a', 'object 0x00007f0000002000 b', 'end', 'refused L1 BadLine', 'refused B1 E1 TooShort', 'ok',
+               'refused B3 Missing /program b', 'ok', 'end', 'refused L2 CutLine'], end=b'')])]
+
+
+def wrong():
+    """Cases that are wrong on purpose, and stand because they differ."""
+    line = 'script 64 script-commands.script =/>'
+    whole = (DATA / 'script-commands.output').stat().st_size
+    return [('Wrong on purpose: a number of lines or of refusals, an output cut by a byte, that of another script, no output.', [
+        f'{line} 10 5 file script-commands.output', f'{line} 12 5 file script-commands.output',
+        f'{line} 11 4 file script-commands.output', f'{line} 11 6 file script-commands.output', f'{line} 5 11 file script-commands.output',
+        f'{line} 11 5 file script-commands.output cut={whole - 1}', f'{line} 11 5 file script-order.output', f'{line} 11 5 nothing',
+        'script 64 script-full.script =/> 11 4 file script-full.output', 'script 8 bytes=6c6973740a =/> 1 0 ok'])]
+
+
+if __name__ == '__main__':
+    write_list('scripts.txt', rows() + bad_lines() + many_libraries() + sectors() + refusals() + binds() + refused_binds()
+               + bind_lines() + sessions() + wrong())

@@ -1,0 +1,58 @@
+// The preloads of a case.
+
+ghost use Rattle.std.specs.Prelude.{◌≡◌, ◌↔◌, ◌<◌, IsTrue, AllPairs, true, false, nat_eq};
+ghost use Rattle.std.specs.List.{All, IsDistinct};
+
+use anyhow::{Result, bail};
+use scope::Library;
+use std::alloc::Global;
+
+/// The number of the library that goes by a name.
+fn number_of(libraries: &[Library<'_>], name: &str) -> Option<usize> {
+    libraries
+        .iter()
+        .position(|library| library.name() == name.as_bytes())
+}
+
+/// The numbers of the libraries of these names, between which a space stands.
+pub(crate) fn preloads_of(
+    alloc: Global,
+    libraries: &[Library<'_>],
+    names: &str,
+) -> Result<Vec<usize>> {
+    let mut numbers = Vec::new(alloc);
+    for name in names.split_whitespace() {
+        let Some(number) = number_of(libraries, name) else {
+            bail!("no library {name}");
+        };
+        numbers.push(number)?;
+    }
+    Ok(numbers)
+}
+
+/// Whether no value stands twice, each compared with those before it.
+fn differ<T: PartialEq>(values: &[T]) -> bool
+    ensures { IsTrue result ↔ AllPairs (λ a b. T.eq a b ≡ false) values.now }
+{
+    for (i, value) in values.iter().enumerate() {
+        if values[..i].contains(value) {
+            return false;
+        }
+    }
+    true
+}
+
+/// Whether no two of some numbers are the same.
+fn are_distinct(numbers: &[usize]) -> bool
+    ensures { result ≡ true → IsDistinct nat_eq numbers.now }
+{
+    differ(numbers)
+}
+
+/// Whether some numbers are different numbers of `count` libraries.
+pub(crate) fn are_preloads(numbers: &[usize], count: usize) -> bool
+    ensures below { result ≡ true → All (λ p. p < count) numbers.now }
+    ensures distinct { result ≡ true → IsDistinct nat_eq numbers.now }
+{
+    numbers.iter().all(|number| *number < count) && are_distinct(numbers)
+}

@@ -1,0 +1,59 @@
+-- What a line of a script asks (own).
+use Rattle.std.specs.Prelude.{ℕ, ◌+◌, ◌==◌, Bool, ◌&&◌, not, nat_le, if◌then◌else◌, List, [], ◌∷◌, length, take, take_while, drop, codes, bytes_eq, Option, Some, None}
+use Rattle.std.specs.List.{list_all, slice_split}
+use Rattle.std.specs.Option.{option_map}
+use Rattle.std.specs.Result.{result_ok}
+use Rattle.hex.specs.Hex.{decode_of}
+use Rattle.registry.specs.Request.{Request, install, replace, remove, set_preloads, bind, list}
+use Rattle.commands.specs.Base.{base_of}
+
+-- HEX: one or more pairs of hexadecimal digits of either case, and the bytes that they spell
+abbrev pub hex_bytes : List ℕ → Option (List ℕ)
+hex_bytes word = if length word == 0 then None else result_ok (decode_of word)
+
+-- a byte that a NAME may have
+abbrev pub is_visible : ℕ → Bool
+is_visible b = nat_le 0x21 b && nat_le b 0x7e
+
+-- NAME: one or more visible bytes
+abbrev pub is_name : List ℕ → Bool
+is_name word = not (length word == 0) && list_all is_visible word
+
+abbrev pub named : List ℕ → Option (List ℕ)
+named word = if is_name word then Some word else None
+
+-- any number of NAMEs, each behind a space
+abbrev pub names_behind : List ℕ → Option (List (List ℕ))
+names_behind [] = Some []
+names_behind (b ∷ rest) =
+    let words = slice_split (λ b. b == 32) rest in
+    if (b == 32) && list_all is_name words then Some words else None
+
+-- the bytes in front of the first space; all where there is none
+abbrev pub word_in_front : List ℕ → List ℕ
+word_in_front bytes = take_while (λ b. not (b == 32)) bytes
+
+abbrev pub bound_at : Option ℕ → Option (List ℕ) → Option Request
+bound_at (Some base) (Some program) = Some (bind program base)
+bound_at base program = None
+
+-- BASE and HEX with a space between
+abbrev pub bind_behind : List ℕ → Option Request
+bind_behind rest =
+    let word = word_in_front rest in
+    bound_at (base_of word) (hex_bytes (drop (length word + 1) rest))
+
+-- a line begins so
+abbrev pub has_front : List ℕ → List ℕ → Bool
+has_front front line = bytes_eq (take (length front) line) front
+
+-- what a line without its newline asks: none of these forms asks nothing
+abbrev pub meaning : List ℕ → Option Request
+meaning line =
+    if has_front (codes "install ") line then option_map install (hex_bytes (drop 8 line))
+    else if has_front (codes "replace ") line then option_map replace (hex_bytes (drop 8 line))
+    else if has_front (codes "remove ") line then option_map remove (named (drop 7 line))
+    else if has_front (codes "preload") line then option_map set_preloads (names_behind (drop 7 line))
+    else if has_front (codes "bind ") line then bind_behind (drop 5 line)
+    else if bytes_eq line (codes "list") then Some list
+    else None

@@ -1,0 +1,67 @@
+-- What a script does (own).
+use Rattle.std.specs.Prelude.{◌≡◌, ◌≢◌, ℕ, List, [], ◌∷◌, ◌++◌, length, count_by, All, Option, IfSome}
+use Rattle.std.specs.List.{flat_map}
+use Rattle.std.specs.Io.{StopsAt}
+use Rattle.std.specs.Io.Iter.{u64_saturate}
+use Rattle.std.specs.Io.KnownBytes.{Appends}
+use Rattle.registry.specs.Request.{Request}
+use Rattle.registry.specs.Runs.{Run}
+use Rattle.registry.specs.declared.reply.Reply.{Reply}
+use Rattle.commands.specs.Answer.{LineStep, output, is_refused}
+use Rattle.commands.specs.declared.answer.Answer.{Answer}
+use Rattle.commands.specs.declared.answer.Answer.TheVariants.{CutLine}
+use Rattle.commands.specs.declared.fault.ScriptFault.{ScriptFault}
+use Rattle.commands.specs.declared.fault.ScriptFault.TheVariants.{Write}
+use Rattle.commands.specs.declared.summary.Summary.{Summary}
+
+-- no newline is among these bytes
+abbrev pub IsLine : List ℕ → Type 0
+IsLine bytes = All (λ b. b ≢ 10) bytes
+
+-- a line with its newline
+abbrev pub ended : List ℕ → List ℕ
+ended line = line ++ 10 ∷ []
+
+-- what is answered to the bytes behind the last newline: nothing where there are none
+abbrev pub cut_answer : List ℕ → List Answer
+cut_answer [] = []
+cut_answer (byte ∷ bytes) = CutLine ∷ []
+
+-- The numbers of a summary: of all answers, and of those that count as refused. Each stays at the greatest u64.
+pub record Counts (summary : Summary) (answers : List Answer) : Type 0 where
+  pub lines : summary.lines ≡ u64_saturate (length answers)
+  pub refused : summary.refused ≡ u64_saturate (count_by is_refused answers)
+
+-- The streams of a script: what the reader has yet to give, and what the writer holds before and after, where they tell it.
+pub record Streams : Type 0 where
+  pub unread : Option (List ℕ)
+  pub before : Option (List ℕ)
+  pub after : Option (List ℕ)
+
+module _ {S : Type 0} (step : S → Request → Reply → S → Type 0) where
+  -- All was read: these lines, each with its newline, and what stands behind the last one. The lines were answered one
+  -- after the other, each by a step from the registry that the one before it left, and the texts of all answers were
+  -- appended.
+  pub record Ends (io : Streams) (s s' : S) (summary : Summary) (whole : List (List ℕ)) (cut : List ℕ) (answers : List Answer) : Type 0 where
+    pub read : IfSome io.unread (λ text. text ≡ flat_map ended whole ++ cut)
+    pub lines : All IsLine whole
+    pub rest : IsLine cut
+    pub run : Run (LineStep step) s whole answers s'
+    pub written : Appends io.before io.after (output (answers ++ cut_answer cut))
+    pub counts : Counts summary (answers ++ cut_answer cut)
+
+  -- These lines were read and answered, and of the next one at most that line, with or without its newline, was read,
+  -- and it was not applied. The answers' texts were appended, unless it is the writer that failed.
+  pub record Breaks (io : Streams) (s s' : S) (fault : ScriptFault) (whole : List (List ℕ)) (part : List ℕ) (answers : List Answer) : Type 0 where
+    pub read : IfSome io.unread (λ text. (others : List ℕ) × (text ≡ flat_map ended whole ++ part ++ others))
+    pub lines : All IsLine whole
+    pub one_at_most : StopsAt part 10
+    pub run : Run (LineStep step) s whole answers s'
+    pub written : fault ≢ Write → Appends io.before io.after (output answers)
+
+  -- there are such lines and answers
+  abbrev pub Finishes : Streams → S → S → Summary → Type 0
+  Finishes io s s' summary = (whole : List (List ℕ)) × (cut : List ℕ) × (answers : List Answer) × Ends io s s' summary whole cut answers
+
+  abbrev pub Stops : Streams → S → S → ScriptFault → Type 0
+  Stops io s s' fault = (whole : List (List ℕ)) × (part : List ℕ) × (answers : List Answer) × Breaks io s s' fault whole part answers

@@ -1,0 +1,9 @@
+-- The texts of replies that go through a line's buffer.
+use Rattle.std.specs.Prelude.{ℕ, List, []}
+use Rattle.registry.specs.declared.reply.Reply.{Reply}
+use Rattle.registry.specs.declared.reply.Reply.TheVariants.{Bound}
+use Rattle.commands.specs.Reply.{reply_text}
+
+abbrev pub short_text : Reply → List ℕ
+short_text (Bound image) = []
+short_text reply = reply_text reply

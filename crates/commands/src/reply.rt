@@ -1,0 +1,189 @@
+// The text of a reply.
+
+ghost use Rattle.std.specs.Prelude.{◌≡◌, ◌++◌, codes, true, OnOk, OnErr, IfErr};
+ghost use Rattle.std.specs.List.{flat_map};
+ghost use Rattle.std.specs.Io.KnownBytes.{Appends};
+ghost use Rattle.text_output.specs.Sends.{Sends};
+ghost use Rattle.text_output.specs.Name.{name_text};
+ghost use Rattle.std.specs.Fmt.{decimal};
+ghost use Rattle.commands.specs.Reply.{command_refusal_name, command_refusal_detail};
+ghost use Rattle.commands.specs.Reply.{command_refusal_text, library_text, preload_text};
+ghost use Rattle.commands.specs.Reply.{listing_text, plain_refusal_text, reply_text};
+ghost use Rattle.commands.specs.inside.Short.{short_text};
+
+use crate::fault::ScriptFault;
+use crate::refusal::{Line, put_file_refusal, put_refusal};
+use names::Name;
+use registry::{Listing, Refusal, Reply};
+use std::io::Write;
+use text_output::WriteFault;
+
+/// The number of a refusal and its name.
+fn command_refusal_name(refusal: &Refusal) -> &'static [u8]
+    ensures { result.now ≡ command_refusal_name refusal.now }
+{
+    match refusal {
+        Refusal::Object(_) => b"C1 ",
+        Refusal::AlreadyInstalled => b"C2 AlreadyInstalled",
+        Refusal::NotInstalled => b"C3 NotInstalled",
+        Refusal::InPreloads => b"C4 InPreloads",
+        Refusal::RepeatedPreload => b"C5 RepeatedPreload",
+        Refusal::TooManyPreloads => b"C6 TooManyPreloads",
+        Refusal::Device => b"S1 Device",
+        Refusal::Reopen => b"S2 Reopen",
+        Refusal::BadGeometry => b"S6 BadGeometry",
+        Refusal::Full => b"S7 Full",
+        Refusal::Fragmented => b"S8 Fragmented",
+        Refusal::TooMany => b"S9 TooMany",
+        Refusal::GenerationEnd => b"S10 GenerationEnd",
+        Refusal::OutOfMemory => b"S11 OutOfMemory",
+        Refusal::Bind(_) => b"",
+    }
+}
+
+/// What follows the name: of a file, the number and the name of its refusal.
+fn put_detail<W: Write>(line: &mut Line, out: &mut W, refusal: &Refusal) -> Result<(), WriteFault>
+    ensures ok { OnOk result (Sends (W.contents out.old) line.old (W.contents out.new) line.new
+        (command_refusal_detail refusal.now)) }
+    ensures err { OnErr result (line.new.failed ≡ true) }
+{
+    match refusal {
+        Refusal::Object(refusal) => put_file_refusal(line, out, *refusal),
+        _ => Ok(()),
+    }
+}
+
+/// The line of a refusal that isn't of a bind.
+fn put_plain_refusal<W: Write>(
+    line: &mut Line,
+    out: &mut W,
+    refusal: &Refusal,
+) -> Result<(), WriteFault>
+    ensures ok { OnOk result (Sends (W.contents out.old) line.old (W.contents out.new) line.new
+        (plain_refusal_text refusal.now)) }
+    ensures err { OnErr result (line.new.failed ≡ true) }
+{
+    line.put(out, b"refused ")?;
+    line.put(out, command_refusal_name(refusal))?;
+    put_detail(line, out, refusal)?;
+    line.put(out, b"\n")?;
+    Ok(())
+}
+
+/// The line of a refusal.
+fn put_command_refusal<W: Write>(
+    line: &mut Line,
+    out: &mut W,
+    refusal: &Refusal,
+) -> Result<(), WriteFault>
+    ensures ok { OnOk result (Sends (W.contents out.old) line.old (W.contents out.new) line.new
+        (command_refusal_text refusal.now)) }
+    ensures err { OnErr result (line.new.failed ≡ true) }
+{
+    match refusal {
+        Refusal::Bind(refusal) => put_refusal(line, out, refusal),
+        _ => put_plain_refusal(line, out, refusal),
+    }
+}
+
+/// The line of a library.
+fn put_library<W: Write>(
+    line: &mut Line,
+    out: &mut W,
+    name: &Name,
+    length: u32,
+) -> Result<(), WriteFault>
+    ensures ok { OnOk result (Sends (W.contents out.old) line.old (W.contents out.new) line.new
+        (codes "library " ++ name_text name.now ++ codes " " ++ decimal length ++ codes "\n")) }
+    ensures err { OnErr result (line.new.failed ≡ true) }
+{
+    line.put(out, b"library ")?;
+    line.put_name(out, name.as_bytes())?;
+    line.put(out, b" ")?;
+    line.put_decimal(out, u64::from(length))?;
+    line.put(out, b"\n")?;
+    Ok(())
+}
+
+/// The line of a preload.
+fn put_preload<W: Write>(line: &mut Line, out: &mut W, name: &Name) -> Result<(), WriteFault>
+    ensures ok { OnOk result (Sends (W.contents out.old) line.old (W.contents out.new) line.new
+        (preload_text name.now)) }
+    ensures err { OnErr result (line.new.failed ≡ true) }
+{
+    line.put(out, b"preload ")?;
+    line.put_name(out, name.as_bytes())?;
+    line.put(out, b"\n")?;
+    Ok(())
+}
+
+/// The lines of libraries.
+fn put_libraries<W: Write>(
+    line: &mut Line,
+    out: &mut W,
+    libraries: &[(Name, u32)],
+) -> Result<(), WriteFault>
+    ensures ok { OnOk result (Sends (W.contents out.old) line.old (W.contents out.new) line.new
+        (flat_map library_text libraries.now)) }
+    ensures err { OnErr result (line.new.failed ≡ true) }
+{
+    for library in libraries {
+        put_library(line, out, &library.0, library.1)?;
+    }
+    Ok(())
+}
+
+/// The lines of preloads.
+fn put_preloads<W: Write>(line: &mut Line, out: &mut W, preloads: &[Name]) -> Result<(), WriteFault>
+    ensures ok { OnOk result (Sends (W.contents out.old) line.old (W.contents out.new) line.new
+        (flat_map preload_text preloads.now)) }
+    ensures err { OnErr result (line.new.failed ≡ true) }
+{
+    for preload in preloads {
+        put_preload(line, out, preload)?;
+    }
+    Ok(())
+}
+
+/// The libraries, the preloads, and the line `end`.
+fn put_listing<W: Write>(line: &mut Line, out: &mut W, listing: &Listing) -> Result<(), WriteFault>
+    ensures ok { OnOk result (Sends (W.contents out.old) line.old (W.contents out.new) line.new
+        (listing_text listing.now)) }
+    ensures err { OnErr result (line.new.failed ≡ true) }
+{
+    put_libraries(line, out, &listing.libraries)?;
+    put_preloads(line, out, &listing.preloads)?;
+    line.put(out, b"end\n")?;
+    Ok(())
+}
+
+/// The text of a reply; of an image nothing, since that has a writer of its own.
+fn put_reply<W: Write>(line: &mut Line, out: &mut W, reply: &Reply) -> Result<(), WriteFault>
+    ensures ok { OnOk result (Sends (W.contents out.old) line.old (W.contents out.new) line.new
+        (short_text reply.now)) }
+    ensures err { OnErr result (line.new.failed ≡ true) }
+{
+    match reply {
+        Reply::Done => line.put(out, b"ok\n"),
+        Reply::Listing(listing) => put_listing(line, out, listing),
+        Reply::Bound(_) => Ok(()),
+        Reply::Refused(refusal) => put_command_refusal(line, out, refusal),
+    }
+}
+
+/// Writes the text of a reply: with one write, but for an image, and for a listing that is longer
+/// than a line's buffer. It takes no memory.
+pub(crate) fn write_reply<W: Write>(out: &mut W, reply: &Reply) -> Result<(), ScriptFault>
+    ensures ok { OnOk result
+        (Appends (W.contents out.old) (W.contents out.new) (reply_text reply.now)) }
+    ensures err { IfErr result (λ fault. fault ≡ ScriptFault.Write) }
+{
+    if let Reply::Bound(image) = reply {
+        image.write_text(out)?;
+        return Ok(());
+    }
+    let mut line = Line::new();
+    put_reply(&mut line, out, reply)?;
+    line.send(out)?;
+    Ok(())
+}

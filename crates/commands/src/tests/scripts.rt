@@ -1,0 +1,210 @@
+// Scripts over streams that fail, and each form of line once.
+
+ghost use Rattle.std.specs.Prelude.{⊤};
+
+use crate::tests::streams::Full;
+use crate::{Applies, ScriptFault, Summary, run_script};
+use registry::{Command, Registry, Reply};
+use std::alloc::Global;
+use std::io;
+use std::io::{ErrorKind, Read};
+use std::test::Fail;
+
+/// Done to every command, and what was asked.
+#[derive(Drop)]
+struct Asked {
+    /// A letter for each command.
+    letters: Vec<u8>,
+}
+
+impl Applies for Asked {
+    ghost step = { λ _ _ _ _. ⊤ };
+
+    fn apply(&mut self, command: &Command<'_>) -> Reply {
+        let letter = match command {
+            Command::Install(_) => b'i',
+            Command::Replace(_) => b'r',
+            Command::Remove(_) => b'd',
+            Command::SetPreloads(_) => b'p',
+            Command::Bind { .. } => b'b',
+            Command::List => b'l',
+        };
+        let _ = self.letters.push(letter);
+        Reply::Done
+    }
+}
+
+/// A reader that gives these texts one after the other, and then fails or is at its end.
+#[derive(Drop)]
+struct Texts<'a> {
+    texts: &'a [&'a str],
+    /// How many of them were given.
+    given: usize,
+    last: Option<ErrorKind>,
+}
+
+impl Read for Texts<'_> {
+    fn read(&mut self, buf: &mut [u8]) -> io::Result<usize> {
+        let Some(text) = self.texts.get(self.given) else {
+            return match self.last {
+                Some(kind) => Err(io::Error::from(kind)),
+                None => Ok(0),
+            };
+        };
+        let count = text.len().min(buf.len());
+        buf[..count].copy_from_slice(&text.as_bytes()[..count]);
+        self.given = self.given.saturating_add(1);
+        Ok(count)
+    }
+}
+
+/// What a script does over a reader of these texts.
+fn run_texts(
+    alloc: Global,
+    texts: &[&str],
+    last: Option<ErrorKind>,
+    asked: &mut Asked,
+    output: &mut Vec<u8>,
+) -> Result<Summary, ScriptFault> {
+    let mut reader = Texts {
+        texts,
+        given: 0,
+        last,
+    };
+    run_script(alloc, &mut reader, output, asked)
+}
+
+#[test]
+fn each_form_of_line_asks_its_command(rt: HostRuntime) -> Result<(), Fail> {
+    let alloc = rt.alloc();
+    let mut asked = Asked {
+        letters: Vec::new(alloc),
+    };
+    let mut output = Vec::new(alloc);
+    let texts = [
+        "install 0aF",
+        "F\nrepl",
+        "ace 00\nremove !~\n",
+        "preload\npreload a b\nbind 0x",
+        "1 00\nlist\n",
+        "list \n\nlist",
+    ];
+    let summary = run_texts(alloc, &texts, None, &mut asked, &mut output)?;
+    assert_eq!(rt; summary.lines, 10);
+    assert_eq!(rt; summary.refused, 3);
+    assert_eq!(rt; asked.letters.as_slice(), b"irdppbl".as_slice());
+    assert_eq!(rt;
+        output.as_slice(),
+        b"ok\nok\nok\nok\nok\nok\nok\n\
+        refused L1 BadLine\nrefused L1 BadLine\nrefused L2 CutLine\n"
+            .as_slice()
+    );
+    Ok(())
+}
+
+#[test]
+fn a_reader_fails_after_these_lines(rt: HostRuntime) -> Result<(), Fail> {
+    let alloc = rt.alloc();
+    let rows: [(&[&str], ErrorKind, &str, ScriptFault); 6] = [
+        // At once, in the middle of a line, and between lines.
+        (&[], ErrorKind::Other, "", ScriptFault::Read),
+        (&["li"], ErrorKind::Other, "", ScriptFault::Read),
+        (&["list\npreload"], ErrorKind::Other, "l", ScriptFault::Read),
+        (
+            &["list\npre", "load\n"],
+            ErrorKind::Other,
+            "lp",
+            ScriptFault::Read,
+        ),
+        (
+            &["list\n", "list\nlist"],
+            ErrorKind::Other,
+            "ll",
+            ScriptFault::Read,
+        ),
+        // For want of memory.
+        (
+            &["list\n"],
+            ErrorKind::OutOfMemory,
+            "l",
+            ScriptFault::OutOfMemory,
+        ),
+    ];
+    for (texts, last, letters, wanted) in rows {
+        let mut asked = Asked {
+            letters: Vec::new(alloc),
+        };
+        let mut output = Vec::new(alloc);
+        let fault = run_texts(alloc, texts, Some(last), &mut asked, &mut output).err();
+        assert_eq!(rt; fault, Some(wanted));
+        assert_eq!(rt; asked.letters.as_slice(), letters.as_bytes());
+        assert_eq!(rt; output.len(), letters.len().saturating_mul(3));
+    }
+    Ok(())
+}
+
+#[test]
+fn a_writer_fails_at_each_write(rt: HostRuntime) -> Result<(), Fail> {
+    let alloc = rt.alloc();
+    let text = "list\nno line\nlist\npreload\nlis";
+    let done = Summary {
+        lines: 5,
+        refused: 2,
+    };
+    for (room, applied, wanted) in [
+        (0, 1, Err(ScriptFault::Write)),
+        (2, 1, Err(ScriptFault::Write)),
+        (3, 1, Err(ScriptFault::Write)),
+        (21, 1, Err(ScriptFault::Write)),
+        (22, 2, Err(ScriptFault::Write)),
+        (24, 2, Err(ScriptFault::Write)),
+        (25, 3, Err(ScriptFault::Write)),
+        (28, 3, Err(ScriptFault::Write)),
+        (46, 3, Err(ScriptFault::Write)),
+        (47, 3, Ok(done)),
+    ] {
+        let mut asked = Asked {
+            letters: Vec::new(alloc),
+        };
+        let mut out = Full::with_room(room);
+        let ended = run_script(alloc, &mut text.as_bytes(), &mut out, &mut asked);
+        assert_eq!(rt; ended, wanted);
+        assert_eq!(rt; asked.letters.len(), applied);
+    }
+    Ok(())
+}
+
+#[test]
+fn a_registry_runs_a_script(rt: HostRuntime) -> Result<(), Fail> {
+    let alloc = rt.alloc();
+    let Ok(mut registry) = Registry::new(alloc, 8) else {
+        return Err("refused".into());
+    };
+    let text = "list\nremove a\npreload a a\npreload z\npreload\ninstall 00\n";
+    let mut output = Vec::new(alloc);
+    let summary = run_script(alloc, &mut text.as_bytes(), &mut output, &mut registry)?;
+    assert_eq!(rt; summary.lines, 6);
+    assert_eq!(rt; summary.refused, 4);
+    assert_eq!(rt;
+        output.as_slice(),
+        b"end\nrefused C3 NotInstalled\nrefused C5 RepeatedPreload\nrefused C3 NotInstalled\nok\n\
+        refused C1 E1 TooShort\n"
+            .as_slice()
+    );
+    Ok(())
+}
+
+#[test]
+fn a_line_of_33_mib_is_read_once(rt: HostRuntime) -> Result<(), Fail> {
+    let alloc = rt.alloc();
+    let mut asked = Asked {
+        letters: Vec::new(alloc),
+    };
+    let mut text = vec![in alloc; b'0'; 33 * 1024 * 1024]?;
+    text.extend_from_slice(b"\nlist\n")?;
+    let mut output = Vec::new(alloc);
+    let summary = run_script(alloc, &mut text.as_slice(), &mut output, &mut asked)?;
+    assert_eq!(rt; (summary.lines, summary.refused), (2, 1));
+    assert_eq!(rt; output.as_slice(), b"refused L1 BadLine\nok\n".as_slice());
+    Ok(())
+}
