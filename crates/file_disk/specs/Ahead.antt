@@ -1,0 +1,15 @@
+-- The sectors that were read from the file and are kept.
+use Rattle.std.specs.Prelude.{◌≡◌, ◌*◌, ◌-◌, ◌+◌, ◌&&◌, ◌⊎◌, ℕ, nat_le, nat_lt, Option, None, Some, if◌then◌else◌, slice_range}
+use Rattle.sector_disk.specs.Disk.{Sector}
+use Rattle.file_disk.specs.declared.ahead.Ahead.{Ahead}
+
+-- what the file gave for sector k, where it is kept
+abbrev pub ahead_at : Ahead → ℕ → Option Sector
+ahead_at ahead k =
+    if nat_le ahead.start k && nat_lt (k - ahead.start) ahead.count
+    then Some (slice_range ahead.bytes.items ((k - ahead.start) * 512) ((k - ahead.start) * 512 + 512))
+    else None
+
+-- what is kept of sector k is as it was, or nothing
+abbrev pub IsForgotten : Ahead → Ahead → ℕ → Type 0
+IsForgotten old new k = (ahead_at new k ≡ ahead_at old k) ⊎ (ahead_at new k ≡ None)

@@ -1,0 +1,5 @@
+pub mod Ahead
+pub mod FileDisk
+pub mod Gathered
+pub mod Transfer
+pub mod inside

@@ -1,0 +1,113 @@
+// Sectors in a row that were read from the file, some of them ahead of being asked for.
+ghost use Rattle.std.specs.Prelude.{◌≡◌, ◌≤◌, vec_len};
+
+use crate::transfer::read_at;
+use sector_disk::{DiskFault, SECTOR_BYTES};
+use std::alloc::{AllocError, Global};
+use std::io::{Read, Seek};
+
+/// How many sectors are read at once at most: 1 MiB.
+const ROOM: usize = 2048;
+
+/// How many are read at once where the sector isn't the next one: 4 KiB.
+const FIRST: usize = 8;
+
+/// Sectors in a row, with what the file gave for them.
+#[derive(Drop)]
+pub(crate) struct Ahead {
+    start: u32,
+    count: usize,
+    // How many sectors the last read asked for.
+    asked: usize,
+    bytes: Vec<u8>,
+    ghost room: { vec_len bytes ≡ 1048576 },
+    ghost filled: { count ≤ 2048 },
+    ghost asks: { asked ≤ 2048 },
+}
+
+impl Ahead {
+    ghost use Rattle.std.specs.Prelude.{◌*◌, ◌<◌, ℕ, None, IfOk, IfSome, OnOk, OnErr};
+    ghost use Rattle.std.specs.Prelude.{length, option_copied};
+    ghost use Rattle.file_disk.specs.Ahead.{ahead_at, IsForgotten};
+
+    /// None are there. Takes the memory for all that may be.
+    pub(crate) fn new(alloc: Global) -> Result<Ahead, AllocError>
+        ensures { IfOk result (λ ahead. (k : ℕ) → ahead_at ahead k ≡ None) }
+    {
+        Ok(Ahead {
+            start: 0,
+            count: 0,
+            asked: FIRST,
+            bytes: vec![in alloc; 0; ROOM * SECTOR_BYTES]?,
+        })
+    }
+
+    /// What the file gave for a sector.
+    pub(crate) fn get(&self, at: u32) -> Option<&[u8]>
+        ensures content { option_copied result ≡ ahead_at self.now at }
+        ensures size { IfSome result (λ content. length content.now ≡ 512) }
+    {
+        if at < self.start {
+            return None;
+        }
+        let place = (at - self.start) as usize;
+        if place < self.count {
+            let from = place * SECTOR_BYTES;
+            Some(&self.bytes[from..from + SECTOR_BYTES])
+        } else {
+            None
+        }
+    }
+
+    /// Forgets a sector, and with it all others.
+    pub(crate) fn forget(&mut self, at: u32)
+        ensures here { ahead_at self.new at ≡ None }
+        ensures others { (k : ℕ) → IsForgotten self.old self.new k }
+    {
+        if self.get(at).is_some() {
+            self.count = 0;
+        }
+    }
+
+    // How many sectors to ask for: twice as many as before where the sector is the next one.
+    fn ask(&mut self, at: u32)
+        ensures some { 0 < self.new.asked }
+        ensures most { self.new.asked ≤ 2048 }
+        ensures start { self.new.start ≡ self.old.start }
+        ensures bytes { self.new.bytes ≡ self.old.bytes }
+        ensures count { self.new.count ≡ 0 }
+    {
+        let is_next = self.count > 0 && at as usize == self.start as usize + self.count;
+        self.asked = if is_next {
+            (2 * self.asked).clamp(FIRST, ROOM)
+        } else {
+            FIRST
+        };
+        self.count = 0;
+    }
+
+    /// Reads a sector, and as many behind it as are worth it, but no more than `most` in all.
+    pub(crate) fn fill<F: Read + Seek>(
+        &mut self,
+        file: &mut F,
+        at: u32,
+        most: usize,
+    ) -> Result<(), DiskFault>
+        requires { 0 < most }
+        ensures start { OnOk result (self.new.start ≡ at) }
+        ensures some { OnOk result (0 < self.new.count) }
+        ensures most { OnOk result (self.new.count ≤ most) }
+        ensures err { OnErr result ((k : ℕ) → ahead_at self.new k ≡ None) }
+    {
+        self.ask(at);
+        let end = self.asked.min(most) * SECTOR_BYTES;
+        let read = read_at(file, at, &mut self.bytes, end)?;
+        self.start = at;
+        self.count = read / SECTOR_BYTES;
+        if self.count > 0 {
+            Ok(())
+        } else {
+            Err(DiskFault::Failed)
+        }
+    }
+}

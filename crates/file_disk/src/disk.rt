@@ -1,0 +1,301 @@
+// A disk over a file.
+ghost use Rattle.file_disk.specs.inside.Apart.{IsApart};
+
+use crate::ahead::Ahead;
+use crate::gathered::Gathered;
+use crate::transfer::{has_sectors, write_at};
+use sector_disk::{CallCount, Disk, DiskFault, SECTOR_BYTES};
+use std::alloc::{AllocError, Global};
+use std::fs::OpenFile;
+use std::io::{Read, Seek, Write};
+
+/// A disk over a file. Of its honesty nothing is claimed.
+///
+/// What is written waits in memory until a sector that isn't its neighbour is written, until 1 MiB
+/// waits, or until the next sync; reads give it from the time of its write on. What waits when the
+/// disk is dropped is lost, as by a power cut. Once a write or a sync has failed, all later ones
+/// fail: the system may have dropped what it couldn't write, and say nothing of it at the next
+/// sync.
+#[derive(Drop)]
+pub struct FileDisk<F> {
+    file: F,
+    sectors: u32,
+    gathered: Gathered,
+    ahead: Ahead,
+    failed: bool,
+    calls: CallCount,
+    // What is kept as the file gave it is never what a write has replaced.
+    ghost apart: { IsApart gathered ahead },
+}
+
+impl<F: Drop> FileDisk<F> {
+    ghost use Rattle.std.specs.Prelude.{◌≡◌, IfOk};
+    ghost use Rattle.file_disk.specs.FileDisk.{file_facts, file_of, IsNew};
+
+    /// A disk of so many sectors over an open file, which has them. Takes all the memory that the
+    /// disk ever has: 2 MiB.
+    pub(crate) fn new(alloc: Global, file: F, sectors: u32) -> Result<FileDisk<F>, AllocError>
+        ensures sectors { IfOk result (λ disk. (file_facts disk).sectors ≡ sectors) }
+        ensures new { IfOk result (λ disk. IsNew disk) }
+    {
+        Ok(FileDisk {
+            file,
+            sectors,
+            gathered: Gathered::new(alloc)?,
+            ahead: Ahead::new(alloc)?,
+            failed: false,
+            calls: CallCount::new(),
+        })
+    }
+
+    /// The file. What waits is lost.
+    pub fn into_file(self) -> F
+        ensures { result ≡ file_of self }
+    {
+        let FileDisk { file, .. } = self;
+        file
+    }
+}
+
+impl<F: Write + Seek + OpenFile> FileDisk<F> {
+    ghost use Rattle.std.specs.Prelude.{◌≡◌, ◌⊎◌, ℕ, None, true, OnOk, OnErr, is_err};
+    ghost use Rattle.file_disk.specs.FileDisk.{file_facts, has_failed, file_of, kept, IsSame};
+    ghost use Rattle.file_disk.specs.FileDisk.{WaitsNot, WaitsSame, IsGiven, IsGathered};
+    ghost use Rattle.file_disk.specs.Gathered.{has_room};
+
+    // Has all later writes and syncs fail.
+    fn fail(&mut self) -> Result<(), DiskFault>
+        ensures calls { self.new.calls ≡ self.old.calls }
+        ensures sectors { self.new.sectors ≡ self.old.sectors }
+        ensures same { IsSame self.old self.new }
+        ensures failed { has_failed self.new ≡ true }
+        ensures err { is_err result ≡ true }
+    {
+        self.failed = true;
+        Err(DiskFault::Failed)
+    }
+
+    // Gives all that waits to the file, if that still has its length: a write past the end of one
+    // that was cut would hide it.
+    fn flush(&mut self) -> Result<(), DiskFault>
+        ensures calls { self.new.calls ≡ self.old.calls }
+        ensures sectors { self.new.sectors ≡ self.old.sectors }
+        ensures ahead { self.new.ahead ≡ self.old.ahead }
+        ensures waits { OnOk result (WaitsNot self.new) }
+        ensures count { OnOk result (self.new.gathered.count ≡ 0) }
+        ensures given { OnOk result
+            (IsGiven F.stream_position F.contents self.old (file_of self.new)) }
+        ensures ok { OnOk result (has_failed self.new ≡ has_failed self.old) }
+        ensures err { OnErr result (has_failed self.new ≡ true) }
+        ensures same { OnErr result (WaitsSame self.old self.new) }
+    {
+        if self.gathered.is_empty() {
+            return Ok(());
+        }
+        if has_sectors(&self.file, self.sectors) {
+            let bytes = self.gathered.bytes();
+            if write_at(&mut self.file, self.gathered.start(), bytes).is_ok() {
+                self.gathered.clear();
+                return Ok(());
+            }
+        }
+        self.fail()
+    }
+
+    // Gives what waits to the file where a sector has no room beside it.
+    fn make_room(&mut self, at: u32) -> Result<(), DiskFault>
+        ensures calls { self.new.calls ≡ self.old.calls }
+        ensures sectors { self.new.sectors ≡ self.old.sectors }
+        ensures ahead { self.new.ahead ≡ self.old.ahead }
+        ensures room { OnOk result (has_room self.new.gathered at ≡ true) }
+        ensures moved { OnOk result
+            (((self.new.file ≡ self.old.file) × (self.new.gathered ≡ self.old.gathered))
+            ⊎ (WaitsNot self.new
+            × IsGiven F.stream_position F.contents self.old (file_of self.new))) }
+        ensures ok { OnOk result (has_failed self.new ≡ has_failed self.old) }
+        ensures err { OnErr result (has_failed self.new ≡ true) }
+        ensures same { OnErr result (WaitsSame self.old self.new) }
+    {
+        if self.gathered.has_room(at) {
+            return Ok(());
+        }
+        self.flush()
+    }
+
+    // Has a sector wait with this content.
+    fn gather(&mut self, at: u32, from: &[u8; SECTOR_BYTES]) -> Result<(), DiskFault>
+        ensures calls { self.new.calls ≡ self.old.calls }
+        ensures sectors { self.new.sectors ≡ self.old.sectors }
+        ensures ok { OnOk result
+            (IsGathered F.stream_position F.contents self.old self.new at from.now) }
+        ensures forgotten { OnOk result (kept self.new at ≡ None) }
+        ensures kept { (k : ℕ) → (kept self.new k ≡ kept self.old k) ⊎ (kept self.new k ≡ None) }
+        ensures same { OnErr result (WaitsSame self.old self.new) }
+        ensures failed { has_failed self.new ≡ is_err result }
+        ensures stays { has_failed self.old ≡ true → is_err result ≡ true }
+    {
+        if self.failed {
+            return Err(DiskFault::Failed);
+        }
+        self.make_room(at)?;
+        self.ahead.forget(at);
+        self.gathered.put(at, from);
+        Ok(())
+    }
+
+    // Brings all that was written to the medium.
+    fn settle(&mut self) -> Result<(), DiskFault>
+        ensures calls { self.new.calls ≡ self.old.calls }
+        ensures sectors { self.new.sectors ≡ self.old.sectors }
+        ensures ahead { self.new.ahead ≡ self.old.ahead }
+        ensures waits { OnOk result (WaitsNot self.new) }
+        ensures given { OnOk result
+            (IsGiven F.stream_position F.contents self.old (file_of self.new)) }
+        ensures failed { has_failed self.new ≡ is_err result }
+        ensures stays { has_failed self.old ≡ true → is_err result ≡ true }
+    {
+        if self.failed {
+            return Err(DiskFault::Failed);
+        }
+        self.flush()?;
+        if has_sectors(&self.file, self.sectors) && self.file.sync_all().is_ok() {
+            return Ok(());
+        }
+        self.fail()
+    }
+}
+
+impl<F: Read + Seek> FileDisk<F> {
+    ghost use Rattle.std.specs.Prelude.{◌≡◌, ◌<◌, ◌*◌, None, false};
+    ghost use Rattle.std.specs.Prelude.{IsSome, IfSome, OnOk, is_err};
+    ghost use Rattle.file_disk.specs.FileDisk.{file_facts, has_failed, file_of, waiting, kept, WaitsSame};
+
+    // Reads a sector from the file and some behind it, but none that waits.
+    fn read_ahead(&mut self, at: u32) -> Result<(), DiskFault>
+        requires inside { at < (file_facts self.old).sectors }
+        requires waits_not { waiting self.old at ≡ None }
+        ensures calls { self.new.calls ≡ self.old.calls }
+        ensures sectors { self.new.sectors ≡ self.old.sectors }
+        ensures waits { self.new.gathered ≡ self.old.gathered }
+        ensures failed { has_failed self.new ≡ has_failed self.old }
+        ensures ok { OnOk result (IsSome (kept self.new at)) }
+    {
+        let sectors = self.sectors;
+        let start = self.gathered.start();
+        let end = if at < start && !self.gathered.is_empty() {
+            start
+        } else {
+            sectors
+        };
+        let most = (end.max(at + 1) - at) as usize;
+        self.ahead.fill(&mut self.file, at, most)
+    }
+
+    // Gives the content of a sector.
+    fn fetch(&mut self, at: u32, into: &mut [u8; SECTOR_BYTES]) -> Result<(), DiskFault>
+        requires inside { at < (file_facts self.old).sectors }
+        ensures calls { self.new.calls ≡ self.old.calls }
+        ensures sectors { self.new.sectors ≡ self.old.sectors }
+        ensures same { WaitsSame self.old self.new }
+        ensures failed { has_failed self.new ≡ has_failed self.old }
+        ensures waiting { IfSome (waiting self.old at)
+            (λ content. (is_err result ≡ false) × (into.new ≡ content)) }
+        ensures kept { waiting self.old at ≡ None → IfSome (kept self.old at)
+            (λ content. (is_err result ≡ false) × (into.new ≡ content)) }
+    {
+        if let Some(content) = self.gathered.get(at) {
+            *into = *content;
+            return Ok(());
+        }
+        if self.ahead.get(at).is_none() {
+            self.read_ahead(at)?;
+        }
+        match self.ahead.get(at) {
+            Some(content) => {
+                into.copy_from_slice(content);
+                Ok(())
+            }
+            None => Err(DiskFault::Failed),
+        }
+    }
+}
+
+impl<F: Read + Write + Seek + OpenFile> Disk for FileDisk<F> {
+    ghost use Rattle.std.specs.Prelude.{◌≡◌, ◌⊎◌, ◌<◌, ◌*◌, ℕ, None, true, false};
+    ghost use Rattle.std.specs.Prelude.{IsTrue, IfSome, OnOk, OnErr, is_err};
+    ghost use Rattle.sector_disk.specs.Disk.{IsCall, IsRead, IsWrite, IsSync};
+    ghost use Rattle.file_disk.specs.FileDisk.{file_facts, has_failed, file_of, waiting, kept};
+    ghost use Rattle.file_disk.specs.FileDisk.{WaitsNot, WaitsSame, IsGiven, IsGathered};
+
+    ghost facts = { file_facts };
+
+    ghost holds_now = { λ disk honest. Prim.cc };
+
+    ghost whole_sectors = { λ disk honest. Prim.cc };
+
+    fn sectors(&self) -> u32 {
+        self.sectors
+    }
+
+    /// Reads a sector: what waits for it, else what the file gave for it, else what the file
+    /// gives. A failure here lets later writes and syncs be.
+    fn read(&mut self, at: u32, into: &mut [u8; SECTOR_BYTES]) -> Result<(), DiskFault>
+        requires { at < (file_facts self.old).sectors }
+        ensures calls { IsCall (file_facts self.old) (file_facts self.new) result }
+        ensures honest { IsTrue (file_facts self.old).honest
+            → IsRead (file_facts self.old) (file_facts self.new) at into.new result }
+
+        // What was written is read back before the file has it, and without the file.
+        ensures waiting { IfSome (waiting self.old at)
+            (λ content. (is_err result ≡ false) × (into.new ≡ content)) }
+        ensures kept { waiting self.old at ≡ None → IfSome (kept self.old at)
+            (λ content. (is_err result ≡ false) × (into.new ≡ content)) }
+        ensures same { WaitsSame self.old self.new }
+        ensures failed { has_failed self.new ≡ has_failed self.old }
+    {
+        let reply = self.fetch(at, into);
+        self.calls.end_call(&reply);
+        reply
+    }
+
+    /// Has a sector wait with this content. What waited is given to the file first where there is
+    /// no room for it; where that fails, so does this call.
+    fn write(&mut self, at: u32, from: &[u8; SECTOR_BYTES]) -> Result<(), DiskFault>
+        requires { at < (file_facts self.old).sectors }
+        ensures calls { IsCall (file_facts self.old) (file_facts self.new) result }
+        ensures honest { IsTrue (file_facts self.old).honest
+            → IsWrite (file_facts self.old) (file_facts self.new) at from.now result }
+        ensures ok { OnOk result
+            (IsGathered F.stream_position F.contents self.old self.new at from.now) }
+
+        // No content from before it is kept.
+        ensures forgotten { OnOk result (kept self.new at ≡ None) }
+        ensures kept { (k : ℕ) → (kept self.new k ≡ kept self.old k) ⊎ (kept self.new k ≡ None) }
+        ensures same { OnErr result (WaitsSame self.old self.new) }
+
+        // Where it fails, all later writes and syncs fail.
+        ensures failed { has_failed self.new ≡ is_err result }
+        ensures stays { has_failed self.old ≡ true → is_err result ≡ true }
+    {
+        let reply = self.gather(at, from);
+        self.calls.end_call(&reply);
+        reply
+    }
+
+    /// Gives all that waits to the file, and has the system bring it to the medium.
+    fn sync(&mut self) -> Result<(), DiskFault>
+        ensures calls { IsCall (file_facts self.old) (file_facts self.new) result }
+        ensures honest { IsTrue (file_facts self.old).honest
+            → IsSync (file_facts self.old) (file_facts self.new) result }
+        ensures waits { OnOk result (WaitsNot self.new) }
+        ensures given { OnOk result
+            (IsGiven F.stream_position F.contents self.old (file_of self.new)) }
+        ensures kept { (k : ℕ) → kept self.new k ≡ kept self.old k }
+        ensures failed { has_failed self.new ≡ is_err result }
+        ensures stays { has_failed self.old ≡ true → is_err result ≡ true }
+    {
+        let reply = self.settle();
+        self.calls.end_call(&reply);
+        reply
+    }
+}

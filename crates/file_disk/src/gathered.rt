@@ -1,0 +1,111 @@
+// Neighbouring sectors that were written, and wait to be given to the file at once.
+ghost use Rattle.std.specs.Prelude.{◌≡◌, ◌≤◌, vec_len};
+
+use sector_disk::SECTOR_BYTES;
+use std::alloc::{AllocError, Global};
+
+/// How many sectors wait at most: 1 MiB.
+const ROOM: usize = 2048;
+
+/// Sectors in a row, each with the content that was written to it last.
+#[derive(Drop)]
+pub(crate) struct Gathered {
+    start: u32,
+    count: usize,
+    contents: Vec<[u8; SECTOR_BYTES]>,
+    ghost room: { vec_len contents ≡ 2048 },
+    ghost filled: { count ≤ 2048 },
+}
+
+impl Gathered {
+    ghost use Rattle.std.specs.Prelude.{◌≢◌, ℕ, None, Some, true, IfOk, option_copied};
+    ghost use Rattle.std.specs.List.{flat_map};
+    ghost use Rattle.file_disk.specs.Gathered.{gathered_sectors, gathered_at, has_room};
+
+    /// None wait. Takes the memory for all that may.
+    pub(crate) fn new(alloc: Global) -> Result<Gathered, AllocError>
+        ensures { IfOk result (λ gathered. (k : ℕ) → gathered_at gathered k ≡ None) }
+    {
+        Ok(Gathered {
+            start: 0,
+            count: 0,
+            contents: vec![in alloc; [0; SECTOR_BYTES]; ROOM]?,
+        })
+    }
+
+    /// The number of the first of them.
+    pub(crate) fn start(&self) -> u32
+        ensures { result ≡ self.now.start }
+    {
+        self.start
+    }
+
+    /// Whether none wait.
+    pub(crate) fn is_empty(&self) -> bool
+        ensures none { result ≡ true → (k : ℕ) → gathered_at self.now k ≡ None }
+        ensures count { result ≡ true → self.now.count ≡ 0 }
+    {
+        self.count == 0
+    }
+
+    /// The content of a sector that waits.
+    pub(crate) fn get(&self, at: u32) -> Option<&[u8; SECTOR_BYTES]>
+        ensures { option_copied result ≡ gathered_at self.now at }
+    {
+        if at < self.start {
+            return None;
+        }
+        let place = (at - self.start) as usize;
+        if place < self.count {
+            Some(&self.contents[place])
+        } else {
+            None
+        }
+    }
+
+    /// Whether the sector can wait with them: it is one of them, or the next one and there is
+    /// room, or none wait.
+    pub(crate) fn has_room(&self, at: u32) -> bool
+        ensures { result ≡ has_room self.now at }
+    {
+        if self.count == 0 {
+            return true;
+        }
+        if at < self.start {
+            return false;
+        }
+        let place = (at - self.start) as usize;
+        place <= self.count && place < ROOM
+    }
+
+    /// The sector waits with this content.
+    pub(crate) fn put(&mut self, at: u32, from: &[u8; SECTOR_BYTES])
+        requires { has_room self.old at ≡ true }
+        ensures here { gathered_at self.new at ≡ Some from.now }
+        ensures others { (k : ℕ) → k ≢ at → gathered_at self.new k ≡ gathered_at self.old k }
+    {
+        if self.count == 0 {
+            self.start = at;
+        }
+        let place = (at - self.start) as usize;
+        if place == self.count {
+            self.count += 1;
+        }
+        self.contents[place] = *from;
+    }
+
+    /// The bytes of all of them, in a row.
+    pub(crate) fn bytes(&self) -> &[u8]
+        ensures { result.now ≡ flat_map (λ content. content) (gathered_sectors self.now) }
+    {
+        self.contents[..self.count].as_flattened()
+    }
+
+    /// None wait any more.
+    pub(crate) fn clear(&mut self)
+        ensures none { (k : ℕ) → gathered_at self.new k ≡ None }
+        ensures count { self.new.count ≡ 0 }
+    {
+        self.count = 0;
+    }
+}

@@ -1,0 +1,82 @@
+// Bytes to and from a file, at the place of a sector.
+ghost use Rattle.std.specs.Prelude.{◌≡◌, ◌*◌, ◌≤◌, IfOk, OnOk, length};
+ghost use Rattle.file_disk.specs.Transfer.{IsAt, IsWrittenAt};
+
+use sector_disk::{DiskFault, SECTOR_BYTES};
+use std::fs::OpenFile;
+use std::io::{ErrorKind, Read, Seek, SeekFrom, Write};
+
+/// Whether a file is a regular one of so many sectors.
+pub(crate) fn has_sectors<F: OpenFile>(file: &F, sectors: u32) -> bool {
+    match file.metadata() {
+        Ok(found) => found.is_file() && found.len() == u64::from(sectors) * SECTOR_BYTES as u64,
+        Err(_) => false,
+    }
+}
+
+// Goes to the first byte of a sector.
+fn seek_to<F: Seek>(file: &mut F, at: u32) -> Result<(), DiskFault>
+    ensures { OnOk result (IsAt F.stream_position file.old file.new (512 * at)) }
+{
+    match file.seek(SeekFrom::Start(u64::from(at) * SECTOR_BYTES as u64)) {
+        Ok(_) => Ok(()),
+        Err(_) => Err(DiskFault::Failed),
+    }
+}
+
+/// Writes all bytes from the first one of a sector on, also where the file takes few at a time or
+/// a signal interrupts.
+pub(crate) fn write_at<F: Write + Seek>(
+    file: &mut F,
+    at: u32,
+    bytes: &[u8],
+) -> Result<(), DiskFault>
+    ensures { OnOk result (IsWrittenAt F.stream_position F.contents file.old file.new
+        (512 * at) bytes.now) }
+{
+    seek_to(file, at)?;
+    match file.write_all(bytes) {
+        Ok(()) => Ok(()),
+        Err(_) => Err(DiskFault::Failed),
+    }
+}
+
+// Reads until so many bytes are there, the file ends or a read fails, and says how many came.
+fn read_most<F: Read>(file: &mut F, bytes: &mut [u8], most: usize) -> usize
+    requires { most ≤ length bytes.old }
+    ensures size { length bytes.new ≡ length bytes.old }
+    ensures most { result ≤ most }
+{
+    let mut count = 0;
+    for _ in 0..u64::MAX {
+        if count >= most {
+            return count;
+        }
+        match file.read(&mut bytes[count..most]) {
+            Ok(0) => return count,
+            Ok(more) => count += more,
+            Err(e) => {
+                if e.kind() != ErrorKind::Interrupted {
+                    return count;
+                }
+            }
+        }
+    }
+    count
+}
+
+/// Reads so many bytes from the first one of a sector on, or as many as there are or can be read,
+/// and says how many came.
+pub(crate) fn read_at<F: Read + Seek>(
+    file: &mut F,
+    at: u32,
+    bytes: &mut [u8],
+    most: usize,
+) -> Result<usize, DiskFault>
+    requires { most ≤ length bytes.old }
+    ensures size { length bytes.new ≡ length bytes.old }
+    ensures most { IfOk result (λ count. count ≤ most) }
+{
+    seek_to(file, at)?;
+    Ok(read_most(file, bytes, most))
+}
