@@ -1,0 +1,109 @@
+-- Files of a store that are admitted one after the other.
+use Rattle.std.proofs.Common.{◌≡◌, ◌<◌, ◌≤◌, ℕ, ◌+◌, List, [], length, get_or, map, take, sum_by, All, IsTrue, refl, sym, ap, subst, ◌∙◌, arith, ⊎_elim}
+use Rattle.std.proofs.lemmas.List.{get_or-map, length-map}
+use Rattle.std.proofs.lemmas.List.Sums.{sum_by_more}
+use Rattle.std.proofs.lemmas.Bool.{cases_lt}
+use Rattle.sector_disk.specs.Disk.{DiskFacts, Mixture, LeavesOnly, AreCallsExactly}
+use Rattle.sector_disk.proofs.Moments.{goes_on, weaken, left_now, at_rest, no_calls, more_calls, exactly_none, exactly_sum}
+use Rattle.roots.specs.declared.entry.Entry.{Entry}
+use Rattle.store.specs.State.{Blob, State}
+use Rattle.store.specs.Stands.{no_blob}
+use Rattle.store.specs.Opened.{Opened, IsAt}
+use Rattle.store.specs.declared.refusal.StoreRefusal.{StoreRefusal}
+use Rattle.store.specs.declared.refusal.StoreRefusal.TheVariants as refusal
+use Rattle.registry.specs.Library.{Library, IsLibrary}
+use Rattle.disk_registry.specs.Stands.{library_of, file_sectors}
+use Rattle.disk_registry.specs.inside.Reading.{IsRead, IsReadRefusal}
+
+-- The files before this position were read, each once, and are libraries.
+pub record AdmittedSoFar {D : Type 0} (facts : D → DiskFacts) (start now : Opened D) (position : ℕ) : Type 0 where
+  pub read : IsRead facts start now
+  pub each : (s : State) → IsAt facts start s → (k : ℕ) → k < position → IsLibrary (library_of (get_or s.blobs k no_blob))
+  pub calls : AreCallsExactly (sum_by file_sectors (take position start.entries)) (facts start.disk) (facts now.disk)
+
+-- one that isn't a library
+pub one_refused : (s : State) (position : ℕ) → position < length s.blobs → (IsLibrary (library_of (get_or s.blobs position no_blob)) → ⊥) → All IsLibrary (map library_of s.blobs) → ⊥
+one_refused s position lt isnt all =
+    isnt (subst IsLibrary (get_or-map library_of s.blobs position no_blob (library_of no_blob) lt) (all position (library_of no_blob) (omega (arith, lt, length-map s.blobs library_of))))
+
+-- a library that has the name and the bytes of a byte string
+pub same_library : (P : Library → Type 0) (name bytes : List ℕ) (blob : Blob) → name ≡ blob.name → bytes ≡ blob.bytes → P (record { name = name; bytes = bytes }) → P (library_of blob)
+same_library P name bytes blob named is p =
+    let same : ◌≡◌ {A = Library} (record { name = name; bytes = bytes }) (library_of blob) = λ i. record { name = named i; bytes = is i } in
+    subst P same p
+
+module _ {D : Type 0} {facts : D → DiskFacts} where
+  pub read_none : (start : Opened D) → IsRead facts start start
+  read_none start = record {
+    leaves = λ honest. at_rest (facts start.disk) (Mixture (facts start.disk)) (λ m mixture. mixture);
+    same = λ s at. at;
+    root = refl;
+    entries = refl;
+    failed = refl;
+    calls = no_calls (facts start.disk);
+  }
+
+  -- and then more
+  pub read_more : {start mid new : Opened D} → IsRead facts start mid → IsRead facts mid new → IsRead facts start new
+  read_more {start = start} {mid = mid} first second = record {
+    leaves = λ is.
+        let so_far = first.leaves is in
+        goes_on (Mixture (facts start.disk)) so_far
+        (weaken (Mixture (facts mid.disk)) (Mixture (facts start.disk)) (left_now (Mixture (facts start.disk)) so_far) (second.leaves (subst IsTrue (sym first.calls.honest) is)));
+    same = λ s at. second.same s (first.same s at);
+    root = second.root ∙ first.root;
+    entries = second.entries ∙ first.entries;
+    failed = second.failed ∙ first.failed;
+    calls = more_calls first.calls second.calls;
+  }
+
+  -- what refuses more refuses the whole
+  pub refused_more : {start mid : Opened D} (new : Opened D) (e : StoreRefusal) → IsRead facts start mid → IsReadRefusal facts mid new e → IsReadRefusal facts start new e
+  refused_more new refusal.Device first is = omega (arith, is, first.calls.failures)
+  refused_more new refusal.Reopen first is = subst IsTrue first.failed is
+  refused_more new refusal.Damaged first is = tt
+  refused_more new refusal.OutOfMemory first is = tt
+  refused_more new refusal.NotFormatted first is = is
+  refused_more new refusal.AlreadyFormatted first is = is
+  refused_more new refusal.BadGeometry first is = is
+  refused_more new refusal.Full first is = is
+  refused_more new refusal.Fragmented first is = is
+  refused_more new refusal.TooMany first is = is
+  refused_more new refusal.GenerationEnd first is = is
+
+  pub none_admitted : (start : Opened D) → AdmittedSoFar facts start start 0
+  none_admitted start = record {
+    read = read_none start;
+    each = λ s at k lt. absurd (omega (arith, lt));
+    calls = exactly_none (facts start.disk);
+  }
+
+  -- one file more
+  pub one_admitted : {start mid new : Opened D} {position : ℕ} → position < length start.entries → AdmittedSoFar facts start mid position → IsRead facts mid new
+      → ((s : State) → IsAt facts mid s → IsLibrary (library_of (get_or s.blobs position no_blob)))
+      → ((d : Entry) → AreCallsExactly (file_sectors (get_or mid.entries position d)) (facts mid.disk) (facts new.disk))
+      → AdmittedSoFar facts start new (position + 1)
+  one_admitted {start = start} {mid = mid} {position = position} lt so_far read library calls = record {
+    read = read_more so_far.read read;
+    each = λ s at k within. ⊎_elim
+        (λ below. so_far.each s at k below)
+        (λ le. let same : position ≡ k = omega (arith, le, within) in subst (λ i. IsLibrary (library_of (get_or s.blobs i no_blob))) same (library s (so_far.read.same s at)))
+        (cases_lt k position);
+    calls = exactly_sum so_far.calls (calls some)
+        (ap (λ entries. sum_by file_sectors (take position start.entries) + file_sectors (get_or entries position some)) so_far.read.entries
+        ∙ sym (sum_by_more file_sectors start.entries position some lt));
+  }
+    where
+      some : Entry
+      some = record { file_length = 0; name_length = 0; extent_count = 0; name = []; extents = [] }
+
+  -- all of them
+  pub all_admitted : {start now : Opened D} {position : ℕ} → AdmittedSoFar facts start now position → (s : State) → IsAt facts start s → length s.blobs ≤ position → All IsLibrary (map library_of s.blobs)
+  all_admitted so_far s at le k d lt =
+      let within : k < length s.blobs = omega (arith, lt, length-map s.blobs library_of) in
+      subst IsLibrary (sym (get_or-map library_of s.blobs k no_blob d within)) (so_far.each s at k (omega (arith, within, le)))
+
+  -- a reading behind calls that keep what a stop may leave
+  pub leaves_after : {start : DiskFacts} {old new : Opened D} → IsTrue start.honest → (facts old.disk).honest ≡ start.honest → LeavesOnly start (facts old.disk) (Mixture start) → IsRead facts old new → LeavesOnly start (facts new.disk) (Mixture start)
+  leaves_after {start = start} {old = old} honest same so_far read =
+      goes_on (Mixture start) so_far (weaken (Mixture (facts old.disk)) (Mixture start) (left_now (Mixture start) so_far) (read.leaves (subst IsTrue (sym same) honest)))

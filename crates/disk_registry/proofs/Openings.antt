@@ -1,0 +1,87 @@
+-- What an opening finds, and where it stands for no state of a registry.
+use Rattle.std.proofs.Common.{◌≡◌, ◌⊎◌, inl, inr, ⊎_elim, List, map, length, All, IsFalse, refl, sym, subst, ◌∙◌}
+use Rattle.std.proofs.lemmas.List.Elements.{All-nil}
+use Rattle.std.proofs.lemmas.Bool.{false≢true}
+use Rattle.sector_disk.specs.Disk.{Sector, DiskFacts, Mixture, LeavesOnly}
+use Rattle.sector_disk.proofs.Moments.{weaken}
+use Rattle.store.specs.State as store
+use Rattle.store.specs.Stands as sectors
+use Rattle.store.specs.Opened as opened
+use Rattle.store.specs.Opening as opening
+use Rattle.store.specs.Opening.{IsGeometry, HasRootMagic}
+use Rattle.store.specs.declared.refusal.StoreRefusal.{StoreRefusal}
+use Rattle.store.specs.declared.refusal.StoreRefusal.TheVariants as refusal
+use Rattle.store.proofs.StandsLemmas as sectors_lemmas
+use Rattle.store.proofs.Openings.{current_magic}
+use Rattle.registry.specs.Library.{IsLibrary}
+use Rattle.registry.specs.State.{State, empty_state}
+use Rattle.disk_registry.specs.Stands.{Stands, stored, library_of}
+use Rattle.disk_registry.specs.Opened.{IsAt}
+use Rattle.disk_registry.specs.Opening.{RefusesOpen}
+use Rattle.disk_registry.specs.inside.Reading.{IsReadRefusal}
+use Rattle.disk_registry.proofs.States.{registry_of, stored_of, libraries_back}
+
+-- an empty store is an empty registry
+pub either_empty : {old new : DiskFacts} → LeavesOnly old new (λ m. Mixture old m ⊎ sectors.Stands m store.empty_state) → LeavesOnly old new (λ m. Mixture old m ⊎ Stands m empty_state)
+either_empty {old = old} leaves = weaken (λ m. Mixture old m ⊎ sectors.Stands m store.empty_state) (λ m. Mixture old m ⊎ Stands m empty_state)
+    (λ m. ⊎_elim (λ mixture. inl mixture) (λ stands. inr (record { blobs = stands; libraries = All-nil IsLibrary }))) leaves
+
+-- a store whose byte strings are libraries is a registry
+pub stands_of : (m : List Sector) (t : store.State) → sectors.Stands m t → All IsLibrary (map library_of t.blobs) → Stands m (registry_of t)
+stands_of m t stands libraries = record { blobs = subst (sectors.Stands m) (sym (stored_of t)) stands; libraries = libraries }
+
+pub at_of : {D : Type 0} (facts : D → DiskFacts) (kept : opened.Opened D) (t : store.State) → opened.IsAt facts kept t → All IsLibrary (map library_of t.blobs) → IsAt facts kept (registry_of t)
+at_of facts kept t at libraries = record { blobs = subst (opened.IsAt facts kept) (sym (stored_of t)) at; libraries = libraries }
+
+pub libraries_stored : (s : State) → All IsLibrary s.libraries → All IsLibrary (map library_of (stored s).blobs)
+libraries_stored s libraries = subst (All IsLibrary) (sym (libraries_back s.libraries)) libraries
+
+-- what a reading may refuse where every file is a library
+pub refuses_only : {D : Type 0} (facts : D → DiskFacts) (old new : opened.Opened D) (e : StoreRefusal) → IsReadRefusal facts old new e → (e ≡ refusal.Damaged → ⊥) → IsFalse old.failed → (e ≡ refusal.Device) ⊎ (e ≡ refusal.OutOfMemory)
+refuses_only facts old new refusal.Device is intact usable = inl refl
+refuses_only facts old new refusal.OutOfMemory is intact usable = inr refl
+refuses_only facts old new refusal.Damaged is intact usable = absurd (intact refl)
+refuses_only facts old new refusal.Reopen is intact usable = absurd (false≢true (sym usable ∙ is))
+refuses_only facts old new refusal.NotFormatted is intact usable = absurd is
+refuses_only facts old new refusal.AlreadyFormatted is intact usable = absurd is
+refuses_only facts old new refusal.BadGeometry is intact usable = absurd is
+refuses_only facts old new refusal.Full is intact usable = absurd is
+refuses_only facts old new refusal.Fragmented is intact usable = absurd is
+refuses_only facts old new refusal.TooMany is intact usable = absurd is
+refuses_only facts old new refusal.GenerationEnd is intact usable = absurd is
+
+-- sectors with a file that is no library stand for no state of a registry
+no_state : (m : List Sector) (t : store.State) → sectors.Stands m t → (All IsLibrary (map library_of t.blobs) → ⊥) → (s : State) → Stands m s → ⊥
+no_state m t stands none s is =
+    none (subst (λ t. All IsLibrary (map library_of t.blobs)) (sectors_lemmas.one_state m (stored s) t is.blobs stands) (libraries_stored s is.libraries))
+
+has_magic : (m : List Sector) (t : store.State) → sectors.Stands m t → HasRootMagic m
+has_magic m t (root, entries, by) = current_magic m root by.intact.current
+
+-- what is refused after the store was opened
+pub refuses_files : {D : Type 0} (facts : D → DiskFacts) (old new : opened.Opened D) (m : List Sector) (t : store.State) (e : StoreRefusal) → IsReadRefusal facts old new e → IsFalse old.failed → IsGeometry (length m) → sectors.Stands m t → (e ≡ refusal.Damaged → All IsLibrary (map library_of t.blobs) → ⊥) → RefusesOpen m e
+refuses_files facts old new m t refusal.Device is usable geometry stands damaged = geometry
+refuses_files facts old new m t refusal.OutOfMemory is usable geometry stands damaged = geometry
+refuses_files facts old new m t refusal.Damaged is usable geometry stands damaged = (geometry, has_magic m t stands, no_state m t stands (damaged refl))
+refuses_files facts old new m t refusal.Reopen is usable geometry stands damaged = absurd (false≢true (sym usable ∙ is))
+refuses_files facts old new m t refusal.NotFormatted is usable geometry stands damaged = absurd is
+refuses_files facts old new m t refusal.AlreadyFormatted is usable geometry stands damaged = absurd is
+refuses_files facts old new m t refusal.BadGeometry is usable geometry stands damaged = absurd is
+refuses_files facts old new m t refusal.Full is usable geometry stands damaged = absurd is
+refuses_files facts old new m t refusal.Fragmented is usable geometry stands damaged = absurd is
+refuses_files facts old new m t refusal.TooMany is usable geometry stands damaged = absurd is
+refuses_files facts old new m t refusal.GenerationEnd is usable geometry stands damaged = absurd is
+
+-- what opening the store refuses
+pub refuses_store : (m : List Sector) (e : StoreRefusal) → opening.RefusesOpen m e → RefusesOpen m e
+refuses_store m refusal.Damaged is = (is.0, is.1, λ s stands. is.2 (stored s) stands.blobs)
+refuses_store m refusal.BadGeometry is = is
+refuses_store m refusal.NotFormatted is = is
+refuses_store m refusal.Device is = is
+refuses_store m refusal.OutOfMemory is = is
+refuses_store m refusal.Reopen is = is
+refuses_store m refusal.AlreadyFormatted is = is
+refuses_store m refusal.Full is = is
+refuses_store m refusal.Fragmented is = is
+refuses_store m refusal.TooMany is = is
+refuses_store m refusal.GenerationEnd is = is

@@ -1,0 +1,4 @@
+pub mod Stands
+pub mod Opened
+pub mod Opening
+pub mod inside

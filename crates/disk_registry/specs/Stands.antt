@@ -1,0 +1,34 @@
+-- What a list of sectors stands for as a registry (own).
+use Rattle.std.specs.Prelude.{ℕ, List, map, All}
+use Rattle.std.specs.Int.{div_ceil}
+use Rattle.sector_disk.specs.Disk.{Sector, sector_bytes}
+use Rattle.roots.specs.declared.entry.Entry.{Entry}
+use Rattle.store.specs.State as store
+use Rattle.store.specs.Stands as sectors
+use Rattle.registry.specs.Library.{Library, IsLibrary}
+use Rattle.registry.specs.State.{State}
+
+-- a library as the named byte string that a store keeps
+abbrev pub blob_of : Library → store.Blob
+blob_of l = record { name = l.name; bytes = l.bytes }
+
+-- the state of a registry as that of the store that keeps it
+abbrev pub stored : State → store.State
+stored s = record {
+  generation = s.generation;
+  blobs = map blob_of s.libraries;
+  preloads = s.preloads;
+}
+
+-- a named byte string as a library
+abbrev pub library_of : store.Blob → Library
+library_of blob = record { name = blob.name; bytes = blob.bytes }
+
+-- how many sectors the file of an entry takes
+abbrev pub file_sectors : Entry → ℕ
+file_sectors entry = div_ceil entry.file_length sector_bytes
+
+-- The sectors stand for the state of a registry: for its libraries as named byte strings, each of them a file that no test refuses, under its SONAME.
+pub record Stands (m : List Sector) (s : State) : Type 0 where
+  pub blobs : sectors.Stands m (stored s)
+  pub libraries : All IsLibrary s.libraries

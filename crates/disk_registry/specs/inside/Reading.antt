@@ -1,0 +1,24 @@
+-- What reading the files of a store does to it.
+use Rattle.std.specs.Prelude.{◌≡◌, ◌<◌, IsTrue}
+use Rattle.sector_disk.specs.Disk.{DiskFacts, Mixture, LeavesOnly, AreCalls}
+use Rattle.store.specs.State.{State}
+use Rattle.store.specs.Opened.{Opened, IsAt}
+use Rattle.store.specs.declared.refusal.StoreRefusal.{StoreRefusal}
+use Rattle.store.specs.declared.refusal.StoreRefusal.TheVariants.{Device, Reopen, Damaged, OutOfMemory}
+
+-- it keeps what a stop may leave, and the state
+pub record IsRead {D : Type 0} (facts : D → DiskFacts) (old new : Opened D) : Type 0 where
+  pub leaves : IsTrue (facts old.disk).honest → LeavesOnly (facts old.disk) (facts new.disk) (Mixture (facts old.disk))
+  pub same : (s : State) → IsAt facts old s → IsAt facts new s
+  pub root : new.root ≡ old.root
+  pub entries : new.entries ≡ old.entries
+  pub failed : new.failed ≡ old.failed
+  pub calls : AreCalls (facts old.disk) (facts new.disk)
+
+-- what it may be refused with, on any disk
+abbrev pub IsReadRefusal : {D : Type 0} → (D → DiskFacts) → Opened D → Opened D → StoreRefusal → Type 0
+IsReadRefusal facts old new Device = (facts old.disk).failures < (facts new.disk).failures
+IsReadRefusal facts old new Reopen = IsTrue old.failed
+IsReadRefusal facts old new Damaged = Unit
+IsReadRefusal facts old new OutOfMemory = Unit
+IsReadRefusal facts old new other = ⊥

@@ -1,0 +1,47 @@
+// Making a registry.
+use crate::kept::Registry;
+use sector_disk::Disk;
+use std::alloc::Global;
+use store::{Store, StoreRefusal};
+
+impl<D: Disk> Registry<D> {
+    ghost use Rattle.std.specs.Prelude.{◌≡◌, ◌<◌, ◌⊎◌, IsTrue, IfOk, IfErr, OnOk};
+    ghost use Rattle.sector_disk.specs.Disk.{Mixture, LeavesOnly, AreCallsExactly, AreCallsAtMost};
+    ghost use Rattle.store.specs.Opened.{disk_after};
+    ghost use Rattle.store.specs.Opening.{IsGeometry, HasRootMagic};
+    ghost use Rattle.store.specs.Opening.{RefusesFormat, IsRefusalOfFormat};
+    ghost use Rattle.registry.specs.State.{empty_state};
+    ghost use Rattle.disk_registry.specs.Opened.{IsAt};
+    ghost use Rattle.disk_registry.specs.Stands.{Stands};
+
+    /// Makes an empty registry on a disk where no root was written yet. It writes one sector. Where
+    /// it refuses it hands the disk back.
+    pub fn format(alloc: Global, disk: D) -> Result<Registry<D>, (StoreRefusal, D)>
+        // A stop at any moment leaves what it could leave before, or the empty registry.
+        ensures any_moment { IsTrue (D.facts disk).honest
+            → LeavesOnly (D.facts disk) (D.facts (disk_after result))
+            (λ m. Mixture (D.facts disk) m ⊎ Stands m empty_state) }
+        ensures ok { IsTrue (D.facts disk).honest
+            → IfOk result (λ registry. IsAt D.facts registry empty_state) }
+        ensures unformatted { IsTrue (D.facts disk).honest
+            → OnOk result (HasRootMagic (D.facts disk).now → ⊥) }
+        ensures refused { IsTrue (D.facts disk).honest
+            → IfErr result (λ e. RefusesFormat (D.facts disk).now e.0) }
+
+        // On any disk
+        ensures geometry { IfOk result (λ _. IsGeometry (D.facts disk).sectors) }
+        ensures refusals { IfErr result (λ e. IsRefusalOfFormat (D.facts disk).sectors e.0) }
+        ensures device { IfErr result (λ e. e.0 ≡ StoreRefusal.Device
+            → (D.facts disk).failures < (D.facts e.1).failures) }
+        ensures untouched { IfErr result (λ e.
+            (e.0 ≡ StoreRefusal.BadGeometry) ⊎ (e.0 ≡ StoreRefusal.OutOfMemory) → e.1 ≡ disk) }
+        ensures calls { AreCallsAtMost 5 (D.facts disk) (D.facts (disk_after result)) }
+        ensures all_calls { IfOk result (λ registry.
+            AreCallsExactly 5 (D.facts disk) (D.facts registry.disk)) }
+    {
+        match Store::format(alloc, disk) {
+            Ok(store) => Ok(Registry { alloc, store }),
+            Err(refused) => Err(refused),
+        }
+    }
+}

@@ -1,0 +1,58 @@
+// Opening a registry again.
+use crate::admit::admit_files;
+use crate::kept::Registry;
+use sector_disk::Disk;
+use std::alloc::Global;
+use store::{Store, StoreRefusal};
+
+impl<D: Disk> Registry<D> {
+    ghost use Rattle.std.specs.Prelude.{◌≡◌, ◌+◌, ◌<◌, ◌⊎◌, IsTrue, IfOk, IfErr, MatchResult, length};
+    ghost use Rattle.std.specs.Prelude.{sum_by};
+    ghost use Rattle.sector_disk.specs.Disk.{Mixture, LeavesOnly, AreCalls, AreCallsExactly};
+    ghost use Rattle.store.specs.Opened.{disk_after};
+    ghost use Rattle.store.specs.Opening.{IsGeometry, IsRefusalOfOpen};
+    ghost use Rattle.registry.specs.State.{State};
+    ghost use Rattle.disk_registry.specs.Opened.{IsAt};
+    ghost use Rattle.disk_registry.specs.Opening.{RefusesOpen};
+    ghost use Rattle.disk_registry.specs.Stands.{Stands, file_sectors};
+
+    /// Opens the registry that a disk holds, after a stop too. It writes nothing: it syncs, and
+    /// reads the two root sectors, one sector an entry, and each file once, which it admits and
+    /// lets go before the next. Where it refuses it hands the disk back.
+    pub fn open(alloc: Global, disk: D) -> Result<Registry<D>, (StoreRefusal, D)>
+        // A stop at any moment leaves what it could leave before.
+        ensures any_moment { IsTrue (D.facts disk).honest → LeavesOnly (D.facts disk)
+            (D.facts (disk_after result)) (Mixture (D.facts disk)) }
+
+        // The registry is at the state for which what reads give stands: every mixture does.
+        ensures ok { IsTrue (D.facts disk).honest → IfOk result (λ registry.
+            (s : State) × Stands (D.facts disk).now s × IsAt D.facts registry s) }
+        ensures stands { IsTrue (D.facts disk).honest → (s : State) → Stands (D.facts disk).now s
+            → MatchResult result (λ registry. IsAt D.facts registry s) (λ e.
+            (e.0 ≡ StoreRefusal.Device) ⊎ (e.0 ≡ StoreRefusal.OutOfMemory)) }
+        ensures refused { IsTrue (D.facts disk).honest
+            → IfErr result (λ e. RefusesOpen (D.facts disk).now e.0) }
+
+        // On any disk
+        ensures geometry { IfOk result (λ _. IsGeometry (D.facts disk).sectors) }
+        ensures refusals { IfErr result (λ e. IsRefusalOfOpen (D.facts disk).sectors e.0) }
+        ensures device { IfErr result (λ e. e.0 ≡ StoreRefusal.Device
+            → (D.facts disk).failures < (D.facts e.1).failures) }
+        ensures untouched { IfErr result (λ e. e.0 ≡ StoreRefusal.BadGeometry → e.1 ≡ disk) }
+        ensures calls { AreCalls (D.facts disk) (D.facts (disk_after result)) }
+        ensures all_calls { IfOk result (λ registry. AreCallsExactly
+            (3 + length registry.entries + sum_by file_sectors registry.entries)
+            (D.facts disk) (D.facts registry.disk)) }
+    {
+        match Store::open(alloc, disk) {
+            Ok(store) => {
+                let mut store = store;
+                match admit_files(alloc, &mut store) {
+                    Ok(()) => Ok(Registry { alloc, store }),
+                    Err(refusal) => Err((refusal, store.into_disk())),
+                }
+            }
+            Err(refused) => Err(refused),
+        }
+    }
+}
