@@ -16,12 +16,12 @@ CRATES = [
     ('names', 'Names of their own'), ('text_output', 'Text on its way to a writer'), ('elf_file', 'Files'),
     ('elf_dynamic', 'Symbols and relocations of files'), ('hash_check', 'Admission and the search of names'),
     ('scope', 'Load order and lookup'), ('image', 'Images'), ('registry', 'The registry and its step table'),
-    ('commands', 'The program'), ('sector_disk', 'The disk model'),
+    ('commands', 'The program'), ('sector_disk', 'The disk model'), ('file_disk', 'A disk over a file'),
     ('extents', 'Free and claimed sectors'), ('roots', 'Root and entry sectors'), ('passes', 'Passes over a disk'), ('store', 'Named byte strings')]
 STANDARD = re.compile(r'\(([^()]*(?:\([^()]*\)[^()]*)*)\)')
 VALUE = re.compile(r'^\S+ = (0x[0-9a-f]+|[0-9]+)$')
 FIELD = re.compile(r'^[pe]_[a-z]+')
-NAME = re.compile(r'^(?:(?:abbrev|unfoldable) pub|pub (?:record|data)|pub) (\S+)')
+NAME = re.compile(r'^(?:(?:abbrev|unfoldable) pub|pub (?:record|data)|pub) (?!use )(\S+)')
 
 
 def section_of(text):

@@ -1,0 +1,181 @@
+#!/usr/bin/env python3
+"""Makes the programs with libraries that docs/PERFORMANCE.md measures, in the folder that is named, and times them.
+
+    python3 bench/libraries.py FOLDER            makes the files, and a list of two cases for each
+    python3 bench/libraries.py FOLDER CASES      runs each list by the program CASES, five times, least time
+
+A list `NAME.txt` has one case, which binds the program and reads one word; `NAME-unbound.txt` has the same at a base
+that is refused once all files are read and admitted, so that the difference is load order, placement and relocation.
+Beside them stands the time of `cp` of a file as long as the image's bytes.
+"""
+
+import resource
+import struct
+import subprocess
+import sys
+import time
+from pathlib import Path
+
+RUNS, PAGE = 5, 0x1000
+IDENT = bytes.fromhex('7f454c46020101000000000000000000')
+GLOBAL_FUNC, GLOBAL = 0x12, 0x10
+
+
+def elf_hash(name):
+    h = 0
+    for byte in name:
+        h = (h << 4) + byte
+        h = (h ^ (h & 0xf0000000) >> 24) & 0x0fffffff
+    return h
+
+
+def hash_table(names, buckets):
+    """A hash table that has the symbols of these names, from number 1 on, in so many buckets; without buckets one that
+    has none of them."""
+    heads, chains = [0] * (buckets or 1), [0] * (len(names) + 1)
+    for i, name in enumerate(names, 1) if buckets else ():
+        at = elf_hash(name) % buckets
+        chains[i], heads[at] = heads[at], i
+    return struct.pack(f'<{2 + len(heads) + len(chains)}I', len(heads), len(chains), *heads, *chains)
+
+
+def padded(part):
+    return part + bytes(-len(part) % 8)
+
+
+class Made:
+    """An object of one writable segment: its tables, `data` bytes, and `behind` bytes of memory behind the file, into which
+    its relocations write. An export has its value in the memory behind the file too."""
+
+    def __init__(self, soname=None, needed=(), exports=(), undefined=(), relocations=(), data=0, behind=0):
+        strings, places = b'\0', []
+        for name in ([] if soname is None else [soname]) + list(needed) + list(exports) + list(undefined):
+            places.append(len(strings))
+            strings += name + b'\0'
+        own, wanted = len([soname] if soname else []), len(needed)
+        table = 64 + 112
+        words = padded(hash_table(list(exports) + list(undefined), len(exports)))
+        symbols = table + len(words)
+        text = symbols + 24 * (1 + len(exports) + len(undefined))
+        rela = text + len(padded(strings))
+        dynamic = rela + 24 * len(relocations)
+        entries = [(1, p) for p in places[own:own + wanted]] + [(14, p) for p in places[:own]]
+        entries += [(4, table), (5, text), (6, symbols), (10, len(strings)), (11, 24)]
+        entries += [(7, rela), (8, 24 * len(relocations)), (9, 24)] if relocations else []
+        entries += [(0, 0)]
+        end = dynamic + 16 * len(entries) + data
+        self.memory = end = (end + 7) // 8 * 8
+        rows = [struct.pack('<IBBHQQ', p, GLOBAL_FUNC, 0, 1, end + 8 * i, 8) for i, p in enumerate(places[own + wanted:][:len(exports)])]
+        rows += [struct.pack('<IBBHQQ', p, GLOBAL, 0, 0, 0, 0) for p in places[own + wanted + len(exports):]]
+        headers = [(1, 6, 0, 0, end, end + behind, PAGE), (2, 6, dynamic, dynamic, 16 * len(entries), 16 * len(entries), 8)]
+        file = IDENT + struct.pack('<HHIQQQIHHHHHH', 3, 62, 1, 0, 64, 0, 0, 64, 56, 2, 0, 0, 0)
+        file += b''.join(struct.pack('<IIQQQQQQ', k, f, o, a, a, s, m, n) for k, f, o, a, s, m, n in headers)
+        file += words + bytes(24) + b''.join(rows) + padded(strings)
+        file += b''.join(struct.pack('<QQq', end + place, symbol << 32 | kind, addend) for kind, place, symbol, addend in relocations)
+        file += b''.join(struct.pack('<QQ', *entry) for entry in entries)
+        self.file, self.size = file + bytes(end - len(file)), end + behind
+
+
+def name(i):
+    return b'lib%02d' % i
+
+
+def symbol(i):
+    return b's%05d' % i
+
+
+def chain():
+    """100 libraries, each of which needs the next; the program needs the first."""
+    return Made(needed=[name(0)], behind=8), [Made(name(i), [name(i + 1)] if i < 99 else [], behind=8) for i in range(100)]
+
+
+def mesh():
+    """100 libraries, each of which needs all."""
+    everyone = [name(i) for i in range(100)]
+    return Made(needed=[name(0)], behind=8), [Made(name(i), everyone, behind=8) for i in range(100)]
+
+
+def exports():
+    """A library with 100,000 exports, and a program with 600,000 relocations that name 50,000 of them."""
+    library = Made(name(0), exports=[symbol(i) for i in range(100_000)], behind=800_000)
+    relocations = [(1 if i % 3 else 6, 8 * i, 1 + i * 7919 % 50_000, i) for i in range(600_000)]
+    return Made(needed=[name(0)], undefined=[symbol(2 * i) for i in range(50_000)], relocations=relocations, behind=4_800_000), [library]
+
+
+def one_symbol():
+    """A program of 16 MiB, nearly all of it relocations of one symbol, which the last of 100 libraries exports."""
+    libraries = [Made(name(i), exports=[b'other'], behind=8) for i in range(99)] + [Made(name(99), exports=[b'wanted'], behind=8)]
+    count = (16_777_216 - 8_000) // 24
+    relocations = [(1, 8 * i, 1, i) for i in range(count)]
+    return Made(needed=[name(i) for i in range(100)], undefined=[b'wanted'], relocations=relocations, behind=8 * count), libraries
+
+
+def megabytes():
+    """100 libraries of 1 MiB each."""
+    libraries = [Made(name(i), exports=[symbol(i)], data=1_048_576 - 512, behind=8) for i in range(100)]
+    return Made(needed=[name(i) for i in range(100)], undefined=[symbol(99)], relocations=[(1, 0, 1, 0)], behind=8), libraries
+
+
+def many_lookups():
+    """99 libraries with 2,000 exports each of other names, and a program that names 5,000 exports of the last one."""
+    libraries = [Made(name(i), exports=[b'n%02d%s' % (i, symbol(k)) for k in range(2_000)], behind=16_000) for i in range(99)]
+    last = Made(name(99), exports=[symbol(i) for i in range(5_000)], behind=40_000)
+    relocations = [(1, 8 * i, 1 + i % 5_000, 0) for i in range(50_000)]
+    return Made(needed=[name(i) for i in range(100)], undefined=[symbol(i) for i in range(5_000)], relocations=relocations,
+                behind=400_000), libraries + [last]
+
+
+MADE = [chain, mesh, exports, one_symbol, megabytes, many_lookups]
+
+
+def make(folder):
+    for maker in MADE:
+        program, libraries = maker()
+        place = folder / maker.__name__
+        place.mkdir(parents=True, exist_ok=True)
+        (place / 'program').write_bytes(program.file)
+        for i, library in enumerate(libraries):
+            (place / f'{i:02}').write_bytes(library.file)
+        rest = ''.join(f' + {i:02}' for i in range(len(libraries)))
+        address = 0x10000 + program.size - 8
+        (place / 'bound.txt').write_text(f'word 0x{address:x} program 0x10000{rest} =/> none\n')
+        (place / 'unbound.txt').write_text(f'word 0x{address:x} program 0x10001{rest} => refused B2 BadBase\n')
+        size = program.size + sum(library.size for library in libraries)
+        (place / 'bytes').write_bytes(bytes(range(256)) * (size // 256))
+        print(maker.__name__, sum(len(o.file) for o in [program] + libraries), 'bytes in files,', size, 'bytes in the image')
+
+
+def least(words, place):
+    """The least real time and the least of user + system of some runs."""
+    rows = []
+    for _ in range(RUNS):
+        before, start = resource.getrusage(resource.RUSAGE_CHILDREN), time.perf_counter()
+        said = subprocess.run(words, cwd=place, check=True, capture_output=True, text=True).stdout
+        real, after = time.perf_counter() - start, resource.getrusage(resource.RUSAGE_CHILDREN)
+        assert words[0] == 'cp' or said == '1 cases, 0 differ\n', said
+        rows.append((real, after.ru_utime + after.ru_stime - before.ru_utime - before.ru_stime))
+    return [min(row[k] for row in rows) for k in (0, 1)]
+
+
+def peak(words, place):
+    """The most memory of a run, in MiB."""
+    said = subprocess.run(['/usr/bin/time', '-f', '%M', *words], cwd=place, check=True, capture_output=True, text=True).stderr
+    return int(said.split()[-1]) / 1024
+
+
+def run(folder, program):
+    for maker in MADE:
+        place = folder / maker.__name__
+        bound, unbound = least([program, 'bound.txt'], place), least([program, 'unbound.txt'], place)
+        copied = least(['cp', 'bytes', 'copy'], place)
+        image, memory = (place / 'bytes').stat().st_size / 2**20, peak([program, 'bound.txt'], place)
+        print(f'{maker.__name__:12} image {image:6.1f} MiB, memory {memory:6.1f} MiB; bound {bound[0]:.3f} ({bound[1]:.3f}), '
+              f'unbound {unbound[0]:.3f} ({unbound[1]:.3f}), cp {copied[0]:.3f} ({copied[1]:.3f}); '
+              f'binding alone {bound[1] - unbound[1]:.3f}, of cp {(bound[1] - unbound[1]) / max(copied[1], 0.001):.1f}', flush=True)
+
+
+if __name__ == '__main__':
+    if len(sys.argv) == 2:
+        make(Path(sys.argv[1]))
+    else:
+        run(Path(sys.argv[1]), str(Path(sys.argv[2]).resolve()))
