@@ -5,13 +5,19 @@ use std::alloc::Global;
 use std::process::Abort;
 use std::test::Fail;
 
-fn write<D: Disk>(rt: &impl Abort, disk: &mut D, at: u32, content: u8) -> Result<(), DiskFault> {
+/// Fills a sector with a byte.
+pub(crate) fn write<D: Disk>(
+    rt: &impl Abort,
+    disk: &mut D,
+    at: u32,
+    content: u8,
+) -> Result<(), DiskFault> {
     assert!(rt; at < disk.sectors(), "sector {at}");
     disk.write(at, &[content; SECTOR_BYTES])
 }
 
-// The content of a sector, or None where the disk failed.
-fn read<D: Disk>(rt: &impl Abort, disk: &mut D, at: u32) -> Option<u8> {
+/// The content of a sector, or None where the disk failed.
+pub(crate) fn read<D: Disk>(rt: &impl Abort, disk: &mut D, at: u32) -> Option<u8> {
     assert!(rt; at < disk.sectors(), "sector {at}");
     let mut sector = [99; SECTOR_BYTES];
     if disk.read(at, &mut sector).is_err() {
