@@ -17,7 +17,14 @@ CRATES = [
     ('elf_dynamic', 'Symbols and relocations of files'), ('hash_check', 'Admission and the search of names'),
     ('scope', 'Load order and lookup'), ('image', 'Images'), ('registry', 'The registry and its step table'),
     ('commands', 'The program'), ('sector_disk', 'The disk model'), ('file_disk', 'A disk over a file'),
-    ('extents', 'Free and claimed sectors'), ('roots', 'Root and entry sectors'), ('passes', 'Passes over a disk'), ('store', 'Named byte strings')]
+    ('extents', 'Free and claimed sectors'), ('roots', 'Root and entry sectors'), ('passes', 'Passes over a disk'), ('store', 'Named byte strings'),
+    ('disk_registry', 'The registry on a disk')]
+REMARKS = {
+    'scope': "Levels, load order and lookup are pinned down from outside by the lemmas that the crate's README lists: "
+             '`proofs/LevelsLemmas.antt`, `LoadOrderLemmas.antt`, `LookupLemmas.antt`.',
+    'commands': 'From the toolchain: `decode_of` of the crate `hex`; `slice_split`, `flat_map`, `list_all`; `Appends`, '
+                '`StopsAt`, `u64_saturate`.',
+}
 STANDARD = re.compile(r'\(([^()]*(?:\([^()]*\)[^()]*)*)\)')
 VALUE = re.compile(r'^\S+ = (0x[0-9a-f]+|[0-9]+)$')
 FIELD = re.compile(r'^[pe]_[a-z]+')
@@ -82,7 +89,7 @@ def table_of(crate, title):
     inside = sorted(path.stem for path in (folder / 'inside').glob('*.antt'))
     if inside:
         files = ', '.join(f'`{name}.antt`' for name in inside)
-        lines += ['', f'`inside/` ({files}) need not be believed: it says what the code keeps.']
+        lines += ['', f'`inside/` ({files}) need not be believed: it says what the code keeps. {REMARKS.get(crate, "")}'.rstrip()]
     return '\n'.join(lines + ['', ''])
 
 

@@ -1,15 +1,21 @@
 -- What a command ends with.
-use Rattle.std.proofs.Common.{◌≡◌, ◌<◌, ℕ, List, length, Option, Some, Result, Ok, Err, ap}
+use Rattle.std.proofs.Common.{◌≡◌, ◌≢◌, ◌<◌, ℕ, List, length, Option, Some, Result, Ok, Err, ap}
 use Rattle.std.specs.Prelude.{IfOk, MatchResult, is_some}
+use Rattle.image.specs.declared.refusal.BindRefusal.TheVariants as bind_refusal
+use Rattle.registry.specs.declared.refusal.Refusal.{Refusal}
+use Rattle.registry.specs.declared.refusal.Refusal.TheVariants as refusal
+use Rattle.registry.specs.declared.reply.Reply.{Reply}
+use Rattle.registry.specs.declared.reply.Reply.TheVariants as reply
 use Rattle.commands.specs.declared.file.FileFault.{FileFault}
 use Rattle.commands.specs.declared.file.FileFault.TheVariants.{CannotRead, OutOfMemory}
 use Rattle.commands.specs.declared.status.Status.{Status}
 use Rattle.commands.specs.declared.status.Status.TheVariants.{Done, Refused, BadWords, Failed, NoMemory}
 use Rattle.commands.specs.File.{read_limit}
-use Rattle.commands.specs.inside.Ends.{Ends, IsShown, IsNotRead}
+use Rattle.commands.specs.Status.{reply_status, refusal_status}
+use Rattle.commands.specs.inside.Ends.{ImageEnds, IsShown, IsNotRead}
 
 shown_ends : (file : List ℕ) (base : ℕ) (asked : Option ℕ) (before after : Option (List ℕ)) (status : Status) → asked ≡ Some base
-    → length file < read_limit → IsShown file base before after status → Ends asked before after status
+    → length file < read_limit → IsShown file base before after status → ImageEnds asked before after status
 shown_ends file base asked before after Done e short h = (base, e, (file, short, h))
 shown_ends file base asked before after Refused e short h = (base, e, (file, short, h))
 shown_ends file base asked before after BadWords e short h = absurd h
@@ -17,7 +23,7 @@ shown_ends file base asked before after Failed e short h = ap is_some e
 shown_ends file base asked before after NoMemory e short h = (ap is_some e, h.1)
 
 unread_ends : (fault : FileFault) (base : ℕ) (asked : Option ℕ) (before after : Option (List ℕ)) (status : Status) → asked ≡ Some base
-    → IsNotRead fault before after status → Ends asked before after status
+    → IsNotRead fault before after status → ImageEnds asked before after status
 unread_ends CannotRead base asked before after Failed e h = ap is_some e
 unread_ends CannotRead base asked before after Done e h = let no = h.0 in cc
 unread_ends CannotRead base asked before after Refused e h = let no = h.0 in cc
@@ -33,6 +39,36 @@ unread_ends OutOfMemory base asked before after BadWords e h = absurd h
 pub read_ends : {V : Type 0} (items : V → List ℕ) (read : Result V FileFault) (base : ℕ) (asked : Option ℕ) (before after : Option (List ℕ)) (status : Status)
     → asked ≡ Some base → IfOk read (λ v. length (items v) < read_limit)
     → MatchResult read (λ v. IsShown (items v) base before after status) (λ f. IsNotRead f before after status)
-    → Ends asked before after status
+    → ImageEnds asked before after status
 read_ends items (Ok v) base asked before after status e short h = shown_ends (items v) base asked before after status e short h
 read_ends items (Err f) base asked before after status e short h = unread_ends f base asked before after status e h
+
+-- no reply is about words
+refusal_answers : (r : Refusal) → refusal_status r ≢ BadWords
+refusal_answers refusal.OutOfMemory h = cc
+refusal_answers (refusal.Bind bind_refusal.OutOfMemory) h = cc
+refusal_answers (refusal.Object e) h = cc
+refusal_answers refusal.AlreadyInstalled h = cc
+refusal_answers refusal.NotInstalled h = cc
+refusal_answers refusal.InPreloads h = cc
+refusal_answers refusal.RepeatedPreload h = cc
+refusal_answers refusal.TooManyPreloads h = cc
+refusal_answers refusal.Device h = cc
+refusal_answers refusal.Reopen h = cc
+refusal_answers refusal.Damaged h = cc
+refusal_answers refusal.BadGeometry h = cc
+refusal_answers refusal.Full h = cc
+refusal_answers refusal.Fragmented h = cc
+refusal_answers refusal.TooMany h = cc
+refusal_answers refusal.GenerationEnd h = cc
+refusal_answers (refusal.Bind (bind_refusal.Program e)) h = cc
+refusal_answers (refusal.Bind bind_refusal.BadBase) h = cc
+refusal_answers (refusal.Bind (bind_refusal.Missing needer name)) h = cc
+refusal_answers (refusal.Bind bind_refusal.NoRoom) h = cc
+refusal_answers (refusal.Bind (bind_refusal.Undefined object symbol)) h = cc
+
+pub reply_answers : (r : Reply) → reply_status r ≢ BadWords
+reply_answers (reply.Refused r) h = refusal_answers r h
+reply_answers reply.Done h = cc
+reply_answers (reply.Listing listing) h = cc
+reply_answers (reply.Bound bound) h = cc

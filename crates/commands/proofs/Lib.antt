@@ -4,5 +4,8 @@ pub mod Fronts
 pub mod Ascii
 pub mod Lines
 pub mod ReadLines
+pub mod Pages
 pub mod Scripts
 pub mod Then
+pub mod Seen
+pub mod Statuses

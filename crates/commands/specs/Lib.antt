@@ -1,12 +1,16 @@
 pub mod Answer
 pub mod Base
+pub mod Disk
+pub mod DiskStep
 pub mod File
 pub mod Line
+pub mod Outcome
 pub mod Printed
 pub mod Refusal
 pub mod Reply
 pub mod RunImage
 pub mod Script
+pub mod Sectors
 pub mod Status
 pub mod Words
 pub mod inside

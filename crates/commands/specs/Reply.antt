@@ -1,47 +1,38 @@
 -- The text of a reply of a registry (own).
-use Rattle.std.specs.Prelude.{ℕ, List, [], ◌++◌, codes, Bool, true, false}
+use Rattle.std.specs.Prelude.{ℕ, List, ◌++◌, codes}
 use Rattle.std.specs.List.{flat_map}
 use Rattle.std.specs.Fmt.{decimal}
 use Rattle.text_output.specs.Name.{name_text}
 use Rattle.registry.specs.Table.{Listed}
 use Rattle.registry.specs.declared.refusal.Refusal.{Refusal}
-use Rattle.registry.specs.declared.refusal.Refusal.TheVariants.{Object, AlreadyInstalled, NotInstalled, InPreloads, RepeatedPreload, TooManyPreloads, Device, Reopen, BadGeometry, Full, Fragmented, TooMany, GenerationEnd, OutOfMemory, Bind}
+use Rattle.registry.specs.declared.refusal.Refusal.TheVariants.{Object, AlreadyInstalled, NotInstalled, InPreloads, RepeatedPreload, TooManyPreloads, Device, Reopen, Damaged, BadGeometry, Full, Fragmented, TooMany, GenerationEnd, OutOfMemory, Bind}
 use Rattle.registry.specs.declared.reply.Reply.{Reply}
 use Rattle.registry.specs.declared.reply.Reply.TheVariants.{Done, Listing, Bound, Refused}
 use Rattle.image.specs.Text.{image_text}
 use Rattle.commands.specs.Refusal.{file_refusal_text, refusal_text}
 
--- the number of a refusal and its name; that of a file has the number and the name of the file's refusal, and that of a bind a line of its own
-abbrev pub command_refusal_name : Refusal → List ℕ
-command_refusal_name (Object refusal) = codes "C1 "
-command_refusal_name AlreadyInstalled = codes "C2 AlreadyInstalled"
-command_refusal_name NotInstalled = codes "C3 NotInstalled"
-command_refusal_name InPreloads = codes "C4 InPreloads"
-command_refusal_name RepeatedPreload = codes "C5 RepeatedPreload"
-command_refusal_name TooManyPreloads = codes "C6 TooManyPreloads"
-command_refusal_name Device = codes "S1 Device"
-command_refusal_name Reopen = codes "S2 Reopen"
-command_refusal_name BadGeometry = codes "S6 BadGeometry"
-command_refusal_name Full = codes "S7 Full"
-command_refusal_name Fragmented = codes "S8 Fragmented"
-command_refusal_name TooMany = codes "S9 TooMany"
-command_refusal_name GenerationEnd = codes "S10 GenerationEnd"
-command_refusal_name OutOfMemory = codes "S11 OutOfMemory"
-command_refusal_name (Bind refusal) = []
+-- the line of a refusal, by its number, its name and what follows them
+abbrev pub refused_line : List ℕ → List ℕ
+refused_line said = codes "refused " ++ said ++ codes "\n"
 
--- what follows: of a file, the number and the name of its refusal
-abbrev pub command_refusal_detail : Refusal → List ℕ
-command_refusal_detail (Object refusal) = file_refusal_text refusal
-command_refusal_detail refusal = []
-
--- the line of a refusal that isn't of a bind
-abbrev pub plain_refusal_text : Refusal → List ℕ
-plain_refusal_text refusal = codes "refused " ++ command_refusal_name refusal ++ command_refusal_detail refusal ++ codes "\n"
-
--- the line of a refusal; that of a bind has the text that it has without a registry
+-- the line of a refusal; behind C1 stands that of a library's file, and that of a bind has the text that it has without a registry
 abbrev pub command_refusal_text : Refusal → List ℕ
+command_refusal_text (Object refusal) = refused_line (codes "C1 " ++ file_refusal_text refusal)
+command_refusal_text AlreadyInstalled = refused_line (codes "C2 AlreadyInstalled")
+command_refusal_text NotInstalled = refused_line (codes "C3 NotInstalled")
+command_refusal_text InPreloads = refused_line (codes "C4 InPreloads")
+command_refusal_text RepeatedPreload = refused_line (codes "C5 RepeatedPreload")
+command_refusal_text TooManyPreloads = refused_line (codes "C6 TooManyPreloads")
 command_refusal_text (Bind refusal) = refusal_text refusal
-command_refusal_text refusal = plain_refusal_text refusal
+command_refusal_text Device = refused_line (codes "S1 Device")
+command_refusal_text Reopen = refused_line (codes "S2 Reopen")
+command_refusal_text Damaged = refused_line (codes "S5 Damaged")
+command_refusal_text BadGeometry = refused_line (codes "S6 BadGeometry")
+command_refusal_text Full = refused_line (codes "S7 Full")
+command_refusal_text Fragmented = refused_line (codes "S8 Fragmented")
+command_refusal_text TooMany = refused_line (codes "S9 TooMany")
+command_refusal_text GenerationEnd = refused_line (codes "S10 GenerationEnd")
+command_refusal_text OutOfMemory = refused_line (codes "S11 OutOfMemory")
 
 -- the line of a library: its name, and the length of its file
 abbrev pub library_text : List ℕ × ℕ → List ℕ

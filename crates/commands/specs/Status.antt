@@ -1,6 +1,14 @@
 -- Exit statuses.
-use Rattle.std.specs.Prelude.{ℕ, Result, Ok, Err}
+use Rattle.std.specs.Prelude.{ℕ, ◌==◌, Result, Ok, Err, if◌then◌else◌, nat_lt}
+use Rattle.image.specs.declared.refusal.BindRefusal.TheVariants as bind
+use Rattle.registry.specs.declared.refusal.Refusal.{Refusal}
+use Rattle.registry.specs.declared.refusal.Refusal.TheVariants as refusal
+use Rattle.registry.specs.declared.reply.Reply.{Reply}
+use Rattle.registry.specs.declared.reply.Reply.TheVariants as reply
+use Rattle.store.specs.declared.refusal.StoreRefusal.{StoreRefusal}
+use Rattle.store.specs.declared.refusal.StoreRefusal.TheVariants as store
 use Rattle.commands.specs.declared.fault.ScriptFault.{ScriptFault}
+use Rattle.commands.specs.declared.fault.ScriptFault.TheVariants as fault
 use Rattle.commands.specs.declared.show.Shown.{Shown}
 use Rattle.commands.specs.declared.show.Shown.TheVariants as shown
 use Rattle.commands.specs.declared.status.Status.{Status}
@@ -14,9 +22,42 @@ status_number BadWords = 2
 status_number Failed = 3
 status_number NoMemory = 4
 
+-- the one of the greater number
+abbrev pub greatest : Status → Status → Status
+greatest a b = if nat_lt (status_number a) (status_number b) then b else a
+
 -- what showing an image ends with
 abbrev pub status_of : Result Shown ScriptFault → Status
 status_of (Ok shown.Image) = Done
 status_of (Ok shown.Refused) = Refused
 status_of (Ok shown.NoMemory) = NoMemory
 status_of (Err fault) = Failed
+
+-- what a refusal of a command ends with: S1 and S2 are failures, and S11 is want of memory
+abbrev pub refusal_status : Refusal → Status
+refusal_status refusal.Device = Failed
+refusal_status refusal.Reopen = Failed
+refusal_status refusal.OutOfMemory = NoMemory
+refusal_status (refusal.Bind bind.OutOfMemory) = NoMemory
+refusal_status other = Refused
+
+-- what a reply ends with
+abbrev pub reply_status : Reply → Status
+reply_status (reply.Refused refusal) = refusal_status refusal
+reply_status other = Done
+
+-- what a disk that isn't made a registry, or isn't opened as one, ends with
+abbrev pub disk_status : StoreRefusal → Status
+disk_status store.Device = Failed
+disk_status store.Reopen = Failed
+disk_status store.OutOfMemory = NoMemory
+disk_status other = Refused
+
+-- what a script that ended early ends with
+abbrev pub fault_status : ScriptFault → Status
+fault_status fault.OutOfMemory = NoMemory
+fault_status other = Failed
+
+-- what lines end with of which so many were refused
+abbrev pub lines_status : ℕ → Status
+lines_status refused = if refused == 0 then Done else Refused

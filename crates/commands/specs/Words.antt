@@ -1,8 +1,68 @@
--- The words of a command line.
-use Rattle.std.specs.Prelude.{ℕ, List, [], ◌∷◌, Option, None, if◌then◌else◌, bytes_eq, codes}
-use Rattle.commands.specs.Base.{base_of}
+-- Which command the words of a command line are (own).
+use Rattle.std.specs.Prelude.{ℕ, List, [], ◌∷◌, Option, Some, None, map, string_bytes, if◌then◌else◌, bytes_eq, codes}
+use Rattle.std.specs.Option.{option_map}
+use Rattle.commands.specs.Sectors.{sectors_of}
+use Rattle.commands.specs.declared.action.Action.{Action}
+use Rattle.commands.specs.declared.action.Action.TheVariants as action
 
--- the base at which words ask for an image: of `image PROGRAM BASE`, where BASE is read
-abbrev pub base_asked : List (List ℕ) → Option ℕ
-base_asked (command ∷ program ∷ base ∷ []) = if bytes_eq command (codes "image") then base_of base else None
-base_asked words = None
+-- a command of the program with its words in their order: each word is its bytes, and SECTORS its number
+pub data CommandLine : Type 0 where
+  image : List ℕ → List ℕ → CommandLine
+  format : List ℕ → ℕ → CommandLine
+  install : List ℕ → List ℕ → CommandLine
+  replace : List ℕ → List ℕ → CommandLine
+  remove : List ℕ → List ℕ → CommandLine
+  preload : List ℕ → List (List ℕ) → CommandLine
+  list : List ℕ → CommandLine
+  bind : List ℕ → List ℕ → List ℕ → CommandLine
+  script : List ℕ → CommandLine
+
+-- commands of one word, of two and of three: any words stand there, and neither one more nor one fewer
+abbrev pub of_one : (List ℕ → CommandLine) → List (List ℕ) → Option CommandLine
+of_one command (a ∷ []) = Some (command a)
+of_one command words = None
+
+abbrev pub of_two : (List ℕ → List ℕ → CommandLine) → List (List ℕ) → Option CommandLine
+of_two command (a ∷ b ∷ []) = Some (command a b)
+of_two command words = None
+
+abbrev pub of_three : (List ℕ → List ℕ → List ℕ → CommandLine) → List (List ℕ) → Option CommandLine
+of_three command (a ∷ b ∷ c ∷ []) = Some (command a b c)
+of_three command words = None
+
+-- DISK SECTORS
+abbrev pub format_behind : List (List ℕ) → Option CommandLine
+format_behind (disk ∷ sectors ∷ []) = option_map (format disk) (sectors_of sectors)
+format_behind words = None
+
+-- DISK, and any number of NAMEs
+abbrev pub preload_behind : List (List ℕ) → Option CommandLine
+preload_behind (disk ∷ names) = Some (preload disk names)
+preload_behind [] = None
+
+-- the command that words are: the first of them is its name, and what stands behind it are its words
+abbrev pub command_line : List (List ℕ) → Option CommandLine
+command_line (name ∷ words) =
+    if bytes_eq name (codes "image") then of_two image words
+    else if bytes_eq name (codes "format") then format_behind words
+    else if bytes_eq name (codes "install") then of_two install words
+    else if bytes_eq name (codes "replace") then of_two replace words
+    else if bytes_eq name (codes "remove") then of_two remove words
+    else if bytes_eq name (codes "preload") then preload_behind words
+    else if bytes_eq name (codes "list") then of_one list words
+    else if bytes_eq name (codes "bind") then of_three bind words
+    else if bytes_eq name (codes "script") then of_one script words
+    else None
+command_line [] = None
+
+-- the command that the code reads
+abbrev pub line_of : Action → CommandLine
+line_of (action.Image program base) = image program.now base.now
+line_of (action.Format disk sectors) = format disk.now sectors
+line_of (action.Install disk file) = install disk.now file.now
+line_of (action.Replace disk file) = replace disk.now file.now
+line_of (action.Remove disk name) = remove disk.now name.now
+line_of (action.Preload disk names) = preload disk.now (map (λ name. string_bytes name) names.now)
+line_of (action.List disk) = list disk.now
+line_of (action.Bind disk program base) = bind disk.now program.now base.now
+line_of (action.Script disk) = script disk.now

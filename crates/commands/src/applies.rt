@@ -4,9 +4,13 @@ ghost use Rattle.registry.specs.Request.{Request, request_of};
 ghost use Rattle.registry.specs.Step.{StepInMemory};
 ghost use Rattle.registry.specs.declared.reply.Reply.{Reply};
 
+use crate::status::reply_status;
+use crate::watched::Watched;
 use registry::{Command, Registry, Reply};
+use sector_disk::Disk;
 
-/// What applies commands: a registry in memory, and whatever else answers as its own steps say.
+/// What applies commands: a registry in memory or on a disk, and whatever else answers as its own
+/// steps say.
 pub trait Applies {
     /// What may be answered to a request, from one value to the next.
     ghost step: { Self → Request → Reply → Self → Type 0 };
@@ -21,5 +25,28 @@ impl Applies for Registry {
 
     fn apply(&mut self, command: &Command<'_>) -> Reply {
         Registry::apply(self, command)
+    }
+}
+
+impl<D: Disk> Applies for disk_registry::Registry<D> {
+    ghost use Rattle.commands.specs.DiskStep.{DiskStep};
+
+    ghost step = { DiskStep D.facts };
+
+    fn apply(&mut self, command: &Command<'_>) -> Reply {
+        disk_registry::Registry::apply(self, command)
+    }
+}
+
+impl<G: Applies> Applies for Watched<G> {
+    ghost use Rattle.commands.specs.inside.Watched.{WatchedStep};
+
+    ghost step = { WatchedStep G.step };
+
+    #[tactic(auto, using(crate::proofs::Statuses::watched_answers))]
+    fn apply(&mut self, command: &Command<'_>) -> Reply {
+        let reply = self.registry.apply(command);
+        self.worst = self.worst.greatest(reply_status(&reply));
+        reply
     }
 }

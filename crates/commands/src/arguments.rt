@@ -1,15 +1,16 @@
 // The words of the process.
 
-ghost use Rattle.std.specs.Prelude.{◌≡◌, ◌≢◌, ◌≤◌, ◌==◌, ℕ, Some, map, string_bytes, is_none};
+ghost use Rattle.std.specs.Prelude.{◌≡◌, ◌≢◌, ◌≤◌, ◌==◌, Some, map, string_bytes};
 ghost use Rattle.std.specs.Prelude.{IfOk, IfErr};
 ghost use Rattle.std.specs.IoError.{error_kind};
-ghost use Rattle.commands.specs.Printed.{PrintsImage, PrintsRefusal};
+ghost use Rattle.commands.specs.Outcome.{are_bad, IsDone, IsRefused, LacksMemory};
 ghost use Rattle.commands.specs.Refusal.{memory_text};
-ghost use Rattle.commands.specs.Words.{base_asked};
+ghost use Rattle.commands.specs.Words.{command_line};
 ghost use Rattle.std.specs.Io.KnownBytes.{Appends};
 
-use crate::command::{no_memory, run_words};
+use crate::command::run_words;
 use crate::message::bad_command_line;
+use crate::unread::no_memory;
 use std::alloc::Global;
 use std::io::{ErrorKind, Read, Write};
 use std::rt::{Env, Files};
@@ -36,23 +37,37 @@ pub fn run_arguments<R: Files, I: Read, O: Write, E: Write>(
     errors: &mut E,
 ) -> u8
     ensures most { result ≤ 4 }
-    ensures done { result ≡ 0 → (base : ℕ)
-        × PrintsImage base (O.contents output.old) (O.contents output.new) }
-    ensures refused { result ≡ 1 → (base : ℕ)
-        × PrintsRefusal base (O.contents output.old) (O.contents output.new) }
 
-    // Of words that were read: 2 exactly where they are no command, or BASE isn't read.
+    // Of words that were read
+    ensures done { IfOk words (λ list. result ≡ 0
+        → IsDone (command_line (map (λ word. string_bytes word) list.items)) (record {
+          unread = I.remaining input.old;
+          before = O.contents output.old;
+          after = O.contents output.new;
+        })) }
+    ensures refused { IfOk words (λ list. result ≡ 1
+        → IsRefused (command_line (map (λ word. string_bytes word) list.items)) (record {
+          unread = I.remaining input.old;
+          before = O.contents output.old;
+          after = O.contents output.new;
+        })) }
     ensures bad_words { IfOk words (λ list. (result == 2)
-        ≡ is_none (base_asked (map (λ word. string_bytes word) list.items))) }
+        ≡ are_bad (command_line (map (λ word. string_bytes word) list.items))) }
+    ensures memory { IfOk words (λ list. result ≡ 4
+        → LacksMemory (command_line (map (λ word. string_bytes word) list.items)) (record {
+          unread = I.remaining input.old;
+          before = O.contents output.old;
+          after = O.contents output.new;
+        })) }
 
     // Of words that weren't: 3 or 4 where memory was refused, and else 2.
     ensures no_memory { IfErr words (λ e. error_kind e ≡ ErrorKind.OutOfMemory
         → 3 ≤ result) }
+    ensures said { IfErr words (λ e. result ≡ 4
+        → Appends (O.contents output.old) (O.contents output.new) memory_text) }
     ensures not_text { IfErr words (λ e. error_kind e ≢ ErrorKind.OutOfMemory → result ≡ 2) }
 
     ensures same { result ≡ 2 → O.contents output.new ≡ O.contents output.old }
-    ensures memory { result ≡ 4
-        → Appends (O.contents output.old) (O.contents output.new) memory_text }
     ensures silent { result ≢ 2 → result ≢ 3
         → E.contents errors.new ≡ E.contents errors.old }
 {

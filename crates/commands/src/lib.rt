@@ -6,26 +6,34 @@
 //! with them.
 #![tactic(auto)]
 
+mod action;
 mod answer;
 mod applies;
 mod arguments;
 mod asked;
 mod base;
 mod command;
+mod disk;
 mod fault;
 mod file;
 mod message;
+mod on_disk;
 mod reading;
 mod refusal;
 mod reply;
 mod script;
+mod script_on_disk;
+mod sectors;
 mod show;
 mod status;
 mod summary;
 #[cfg(test)]
 mod tests;
+mod unread;
+mod watched;
 mod word;
 
+pub use action::{Action, read_words};
 pub use applies::Applies;
 pub use arguments::{read_arguments, run_arguments};
 pub use command::run_words;

@@ -122,17 +122,18 @@ pub fn write_file_refusal<W: Write>(out: &mut W, refusal: FileRefusal) -> Result
     Ok(())
 }
 
-/// The line of the refusal of a program's file.
-fn put_program_refusal<W: Write>(
+/// The line of the refusal of a file, behind a front.
+pub(crate) fn put_file_line<W: Write>(
     line: &mut Line,
     out: &mut W,
+    front: &[u8],
     refusal: FileRefusal,
 ) -> Result<(), WriteFault>
     ensures ok { OnOk result (Sends (W.contents out.old) line.old (W.contents out.new) line.new
-        (codes "refused B1 " ++ file_refusal_text refusal ++ codes "\n")) }
+        (front.now ++ file_refusal_text refusal ++ codes "\n")) }
     ensures err { OnErr result (line.new.failed ≡ true) }
 {
-    line.put(out, b"refused B1 ")?;
+    line.put(out, front)?;
     put_file_refusal(line, out, refusal)?;
     line.put(out, b"\n")
 }
@@ -167,7 +168,7 @@ pub(crate) fn put_refusal<W: Write>(
     ensures err { OnErr result (line.new.failed ≡ true) }
 {
     match refusal {
-        BindRefusal::Program(refusal) => put_program_refusal(line, out, *refusal),
+        BindRefusal::Program(refusal) => put_file_line(line, out, b"refused B1 ", *refusal),
         BindRefusal::BadBase => line.put(out, b"refused B2 BadBase\n"),
         BindRefusal::Missing { needer, name } => put_named(
             line,

@@ -6,68 +6,26 @@ ghost use Rattle.std.specs.Io.KnownBytes.{Appends};
 ghost use Rattle.text_output.specs.Sends.{Sends};
 ghost use Rattle.text_output.specs.Name.{name_text};
 ghost use Rattle.std.specs.Fmt.{decimal};
-ghost use Rattle.commands.specs.Reply.{command_refusal_name, command_refusal_detail};
 ghost use Rattle.commands.specs.Reply.{command_refusal_text, library_text, preload_text};
-ghost use Rattle.commands.specs.Reply.{listing_text, plain_refusal_text, reply_text};
+ghost use Rattle.commands.specs.Reply.{listing_text, refused_line, reply_text};
 ghost use Rattle.commands.specs.inside.Short.{short_text};
 
 use crate::fault::ScriptFault;
-use crate::refusal::{Line, put_file_refusal, put_refusal};
+use crate::refusal::{Line, put_file_line, put_refusal};
 use names::Name;
 use registry::{Listing, Refusal, Reply};
 use std::io::Write;
 use text_output::WriteFault;
 
-/// The number of a refusal and its name.
-fn command_refusal_name(refusal: &Refusal) -> &'static [u8]
-    ensures { result.now ≡ command_refusal_name refusal.now }
-{
-    match refusal {
-        Refusal::Object(_) => b"C1 ",
-        Refusal::AlreadyInstalled => b"C2 AlreadyInstalled",
-        Refusal::NotInstalled => b"C3 NotInstalled",
-        Refusal::InPreloads => b"C4 InPreloads",
-        Refusal::RepeatedPreload => b"C5 RepeatedPreload",
-        Refusal::TooManyPreloads => b"C6 TooManyPreloads",
-        Refusal::Device => b"S1 Device",
-        Refusal::Reopen => b"S2 Reopen",
-        Refusal::BadGeometry => b"S6 BadGeometry",
-        Refusal::Full => b"S7 Full",
-        Refusal::Fragmented => b"S8 Fragmented",
-        Refusal::TooMany => b"S9 TooMany",
-        Refusal::GenerationEnd => b"S10 GenerationEnd",
-        Refusal::OutOfMemory => b"S11 OutOfMemory",
-        Refusal::Bind(_) => b"",
-    }
-}
-
-/// What follows the name: of a file, the number and the name of its refusal.
-fn put_detail<W: Write>(line: &mut Line, out: &mut W, refusal: &Refusal) -> Result<(), WriteFault>
+/// The line of a refusal of which this is all that is said.
+fn put_plain_refusal<W: Write>(line: &mut Line, out: &mut W, said: &[u8]) -> Result<(), WriteFault>
     ensures ok { OnOk result (Sends (W.contents out.old) line.old (W.contents out.new) line.new
-        (command_refusal_detail refusal.now)) }
-    ensures err { OnErr result (line.new.failed ≡ true) }
-{
-    match refusal {
-        Refusal::Object(refusal) => put_file_refusal(line, out, *refusal),
-        _ => Ok(()),
-    }
-}
-
-/// The line of a refusal that isn't of a bind.
-fn put_plain_refusal<W: Write>(
-    line: &mut Line,
-    out: &mut W,
-    refusal: &Refusal,
-) -> Result<(), WriteFault>
-    ensures ok { OnOk result (Sends (W.contents out.old) line.old (W.contents out.new) line.new
-        (plain_refusal_text refusal.now)) }
+        (refused_line said.now)) }
     ensures err { OnErr result (line.new.failed ≡ true) }
 {
     line.put(out, b"refused ")?;
-    line.put(out, command_refusal_name(refusal))?;
-    put_detail(line, out, refusal)?;
-    line.put(out, b"\n")?;
-    Ok(())
+    line.put(out, said)?;
+    line.put(out, b"\n")
 }
 
 /// The line of a refusal.
@@ -81,8 +39,22 @@ fn put_command_refusal<W: Write>(
     ensures err { OnErr result (line.new.failed ≡ true) }
 {
     match refusal {
+        Refusal::Object(refusal) => put_file_line(line, out, b"refused C1 ", *refusal),
+        Refusal::AlreadyInstalled => put_plain_refusal(line, out, b"C2 AlreadyInstalled"),
+        Refusal::NotInstalled => put_plain_refusal(line, out, b"C3 NotInstalled"),
+        Refusal::InPreloads => put_plain_refusal(line, out, b"C4 InPreloads"),
+        Refusal::RepeatedPreload => put_plain_refusal(line, out, b"C5 RepeatedPreload"),
+        Refusal::TooManyPreloads => put_plain_refusal(line, out, b"C6 TooManyPreloads"),
         Refusal::Bind(refusal) => put_refusal(line, out, refusal),
-        _ => put_plain_refusal(line, out, refusal),
+        Refusal::Device => put_plain_refusal(line, out, b"S1 Device"),
+        Refusal::Reopen => put_plain_refusal(line, out, b"S2 Reopen"),
+        Refusal::Damaged => put_plain_refusal(line, out, b"S5 Damaged"),
+        Refusal::BadGeometry => put_plain_refusal(line, out, b"S6 BadGeometry"),
+        Refusal::Full => put_plain_refusal(line, out, b"S7 Full"),
+        Refusal::Fragmented => put_plain_refusal(line, out, b"S8 Fragmented"),
+        Refusal::TooMany => put_plain_refusal(line, out, b"S9 TooMany"),
+        Refusal::GenerationEnd => put_plain_refusal(line, out, b"S10 GenerationEnd"),
+        Refusal::OutOfMemory => put_plain_refusal(line, out, b"S11 OutOfMemory"),
     }
 }
 

@@ -13,7 +13,7 @@ use crate::fault::ScriptFault;
 use crate::reading::{Got, read_line};
 use crate::summary::Summary;
 use std::alloc::Global;
-use std::io::{BufRead, BufReader, Read, Write};
+use std::io::{BufReader, Read, Write};
 
 /// How many bytes are read at once.
 const PAGE: usize = 0x10000;
@@ -38,48 +38,6 @@ fn answer_whole<W: Write, G: Applies>(
     };
     write_answer(writer, &answer)?;
     Ok(is_refused(&answer))
-}
-
-/// Answers line after line.
-fn run_lines<R: BufRead, W: Write, G: Applies>(
-    alloc: Global,
-    reader: &mut R,
-    writer: &mut W,
-    registry: &mut G,
-) -> Result<Summary, ScriptFault>
-    ensures ok { IfOk result (Finishes G.step (record {
-      unread = R.remaining reader.old;
-      before = W.contents writer.old;
-      after = W.contents writer.new;
-    })
-        registry.old registry.new) }
-    ensures err { IfErr result (Stops G.step (record {
-      unread = R.remaining reader.old;
-      before = W.contents writer.old;
-      after = W.contents writer.new;
-    })
-        registry.old registry.new) }
-{
-    let mut line = Vec::new(alloc);
-    let mut summary = Summary {
-        lines: 0,
-        refused: 0,
-    };
-    for _ in 0..u64::MAX {
-        match read_line(reader, &mut line)? {
-            Got::Whole => {
-                let refused = answer_whole(alloc, &line, writer, registry)?;
-                summary.count(refused);
-            }
-            Got::Cut => {
-                write_answer(writer, &Answer::CutLine)?;
-                summary.count(true);
-                return Ok(summary);
-            }
-            Got::End => return Ok(summary),
-        }
-    }
-    Err(ScriptFault::Read)
 }
 
 /// Runs a script: each line that has a newline gets its reply's text, or `refused L1 BadLine`
@@ -108,8 +66,27 @@ pub fn run_script<R: Read, W: Write, G: Applies>(
     })
         registry.old registry.new) }
 {
-    match BufReader::with_capacity(alloc, PAGE, reader) {
-        Ok(mut pages) => run_lines(alloc, &mut pages, writer, registry),
-        Err(_) => Err(ScriptFault::OutOfMemory),
+    let Ok(mut pages) = BufReader::with_capacity(alloc, PAGE, reader) else {
+        return Err(ScriptFault::OutOfMemory);
+    };
+    let mut line = Vec::new(alloc);
+    let mut summary = Summary {
+        lines: 0,
+        refused: 0,
+    };
+    for _ in 0..u64::MAX {
+        match read_line(&mut pages, &mut line)? {
+            Got::Whole => {
+                let refused = answer_whole(alloc, &line, writer, registry)?;
+                summary.count(refused);
+            }
+            Got::Cut => {
+                write_answer(writer, &Answer::CutLine)?;
+                summary.count(true);
+                return Ok(summary);
+            }
+            Got::End => return Ok(summary),
+        }
     }
+    Err(ScriptFault::Read)
 }

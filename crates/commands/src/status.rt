@@ -1,21 +1,25 @@
 // How a run of the program ends.
 
 ghost use Rattle.std.specs.Prelude.{◌≡◌};
-ghost use Rattle.commands.specs.Status.{status_number, status_of};
+ghost use Rattle.commands.specs.Status.{status_number, greatest, status_of, refusal_status};
+ghost use Rattle.commands.specs.Status.{reply_status, disk_status, fault_status, lines_status};
 
 use crate::fault::ScriptFault;
 use crate::show::Shown;
+use image::BindRefusal;
+use registry::{Refusal, Reply};
+use store::StoreRefusal;
 
 /// The exit status of the program.
 #[derive(Clone, Copy, Debug, PartialEq, Eq)]
 pub(crate) enum Status {
     /// Done.
     Done = 0,
-    /// The program was refused.
+    /// The command, or a line of the script, was refused.
     Refused = 1,
     /// The words aren't a command, or BASE isn't read.
     BadWords = 2,
-    /// A file or a standard stream failed.
+    /// The disk, a file or a standard stream failed.
     Failed = 3,
     /// Memory was refused.
     NoMemory = 4,
@@ -28,6 +32,17 @@ impl Status {
     {
         self as u8
     }
+
+    /// The one of the greater number.
+    pub(crate) fn greatest(self, other: Status) -> Status
+        ensures { result ≡ greatest self other }
+    {
+        if self.number() < other.number() {
+            other
+        } else {
+            self
+        }
+    }
 }
 
 /// What showing an image ends with.
@@ -39,5 +54,58 @@ pub(crate) fn status_of(shown: Result<Shown, ScriptFault>) -> Status
         Ok(Shown::Refused) => Status::Refused,
         Ok(Shown::NoMemory) => Status::NoMemory,
         Err(_) => Status::Failed,
+    }
+}
+
+/// What a refusal of a command ends with.
+fn refusal_status(refusal: &Refusal) -> Status
+    ensures { result ≡ refusal_status refusal.now }
+{
+    match refusal {
+        Refusal::Device | Refusal::Reopen => Status::Failed,
+        Refusal::OutOfMemory | Refusal::Bind(BindRefusal::OutOfMemory) => Status::NoMemory,
+        _ => Status::Refused,
+    }
+}
+
+/// What a reply ends with.
+pub(crate) fn reply_status(reply: &Reply) -> Status
+    ensures { result ≡ reply_status reply.now }
+{
+    match reply {
+        Reply::Refused(refusal) => refusal_status(refusal),
+        _ => Status::Done,
+    }
+}
+
+/// What a disk that isn't made a registry, or isn't opened as one, ends with.
+pub(crate) fn disk_status(refusal: StoreRefusal) -> Status
+    ensures { result ≡ disk_status refusal }
+{
+    match refusal {
+        StoreRefusal::Device | StoreRefusal::Reopen => Status::Failed,
+        StoreRefusal::OutOfMemory => Status::NoMemory,
+        _ => Status::Refused,
+    }
+}
+
+/// What a script that ended early ends with.
+pub(crate) fn fault_status(fault: ScriptFault) -> Status
+    ensures { result ≡ fault_status fault }
+{
+    match fault {
+        ScriptFault::OutOfMemory => Status::NoMemory,
+        ScriptFault::Read | ScriptFault::Write => Status::Failed,
+    }
+}
+
+/// What lines end with of which so many were refused.
+pub(crate) fn lines_status(refused: u64) -> Status
+    ensures { result ≡ lines_status refused }
+{
+    if refused == 0 {
+        Status::Done
+    } else {
+        Status::Refused
     }
 }

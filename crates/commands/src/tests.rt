@@ -1,9 +1,13 @@
 // What no case can say: streams that fail, memory that is refused, and the largest texts.
 
+mod disks;
 mod files;
 mod large;
 mod lines;
+mod runs;
 mod samples;
 mod scripts;
 mod statuses;
 mod streams;
+mod watched;
+mod words;

@@ -1,3 +1,15 @@
+pub mod Applying
+pub mod Changed
 pub mod Files
+pub mod Forms
+pub mod Names
 pub mod Openings
+pub mod Putting
+pub mod Puts
+pub mod Running
 pub mod States
+pub mod Tested
+pub mod StateNames
+pub mod NamedPlaces
+pub mod FilesRead
+pub mod Bindings

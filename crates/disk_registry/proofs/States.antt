@@ -1,12 +1,23 @@
 -- The state of a registry and that of the store that keeps it.
-use Rattle.std.proofs.Common.{◌≡◌, List, [], ◌∷◌, map, refl, sym, ap, ◌∙◌}
-use Rattle.sector_disk.specs.Disk.{Sector}
+use Rattle.std.proofs.Common.{◌≡◌, ◌↔◌, ◌==◌, ◌<◌, ℕ, Bool, All, true, false, List, [], ◌∷◌, length, get_or, map, cond, ltb, IsTrue, inl, inr, ⊎_elim, refl, sym, ap, subst, ◌∙◌, arith}
+use Rattle.std.specs.List.{list_any}
+use Rattle.std.proofs.lemmas.Bool.{cases_lt}
+use Rattle.std.proofs.lemmas.List.{get_or-map, length-map, length-take-le}
+use Rattle.sector_disk.specs.Disk.{Sector, sector, DiskFacts, Mixture, HoldsNow}
+use Rattle.roots.specs.declared.root.Root.{Root}
+use Rattle.roots.specs.Root.{RootHasSpelling, listed_preloads}
+use Rattle.roots.specs.Choice.{IsCurrent}
+use Rattle.store.specs.Opened as opened
 use Rattle.store.specs.State as store
 use Rattle.store.specs.Stands as sectors
+use Rattle.store.specs.Stands.{no_blob, names_at, name_of}
+use Rattle.store.proofs.Queries as queries
 use Rattle.store.proofs.StandsLemmas as sectors_lemmas
 use Rattle.registry.specs.Library.{Library}
-use Rattle.registry.specs.State.{State}
+use Rattle.registry.specs.State.{State, IsState, has_name}
+use Rattle.disk_registry.specs.Opened.{IsAt}
 use Rattle.disk_registry.specs.Stands.{Stands, stored, blob_of, library_of}
+use Rattle.disk_registry.proofs.Names.{name_stands, same_preload}
 
 -- the state of a registry that a store's state is
 abbrev pub registry_of : store.State → State
@@ -34,3 +45,97 @@ stored_once s t same = sym (registry_of_stored s) ∙ ap registry_of same ∙ re
 -- Sectors stand for at most one state.
 pub one_state : (m : List Sector) (s t : State) → Stands m s → Stands m t → s ≡ t
 one_state m s t a b = stored_once s t (sectors_lemmas.one_state m (stored s) (stored t) a.blobs b.blobs)
+
+-- a current root has a spelling
+current_fits : (sector0 sector1 : List ℕ) (root : Root) → IsCurrent sector0 sector1 root → RootHasSpelling root
+current_fits sector0 sector1 root (inl alone) = alone.0.has_spelling
+current_fits sector0 sector1 root (inr (even, odd, spells0, spells1, successive, is)) = subst RootHasSpelling (sym is) (by (ltb even.generation odd.generation))
+  where
+    by : (b : Bool) → RootHasSpelling (cond b odd even)
+    by true = spells1.has_spelling
+    by false = spells0.has_spelling
+
+module _ {D : Type 0} (facts : D → DiskFacts) (registry : opened.Opened D) (s : State) (at : IsAt facts registry s) where
+  -- what a stop may leave of a registry at a state stands for it
+  pub mixture_stands : (m : List Sector) → Mixture (facts registry.disk) m → Stands m s
+  mixture_stands m mixture = record { blobs = (registry.root, registry.entries, at.blobs.stands m mixture); libraries = at.libraries }
+
+  module _ (holds : IsTrue (facts registry.disk).honest → HoldsNow (facts registry.disk)) where
+    now_stands : sectors.StandsBy (facts registry.disk).now registry.root registry.entries (stored s)
+    now_stands = at.blobs.stands (facts registry.disk).now (holds at.blobs.honest)
+
+    -- the root's number of sectors is the disk's
+    pub same_sectors : registry.root.sectors ≡ (facts registry.disk).sectors
+    same_sectors = now_stands.intact.size ∙ (holds at.blobs.honest).size
+
+    root_fits : RootHasSpelling registry.root
+    root_fits = current_fits (sector (facts registry.disk).now 0) (sector (facts registry.disk).now 1) registry.root now_stands.intact.current
+
+    pub count_is : length registry.entries ≡ length (stored s).blobs
+    count_is = queries.count_is facts registry (stored s) holds at.blobs
+
+    preloads_are : s.preloads ≡ names_at (stored s).blobs (listed_preloads registry.root)
+    preloads_are = queries.preloads_are facts registry (stored s) holds at.blobs
+
+    count_libraries : length s.libraries ≡ length registry.entries
+    count_libraries = sym (length-map s.libraries blob_of) ∙ sym count_is
+
+    library_name_is : (i : ℕ) (d : Library) → i < length s.libraries → (get_or s.libraries i d).name ≡ name_of (get_or registry.entries i queries.no_entry)
+    library_name_is i d lt =
+        ap (λ blob. blob.name) (sym (get_or-map blob_of s.libraries i d no_blob lt))
+        ∙ sym (queries.name_is facts registry (stored s) holds at.blobs i queries.no_entry (omega (arith, lt, count_libraries)))
+
+    preload_inside : (k : ℕ) → k < length (listed_preloads registry.root) → get_or (listed_preloads registry.root) k 0 < length (stored s).blobs
+    preload_inside k lt = omega (arith, root_fits.preloads.listed.used k 0 lt, now_stands.intact.listed.count, count_is)
+
+    preloads_inside : All (λ p. p < length (stored s).blobs) (listed_preloads registry.root)
+    preloads_inside k d lt = omega (arith, root_fits.preloads.listed.used k d lt, now_stands.intact.listed.count, count_is)
+
+    -- a position is that of a preload where its name is that of one
+    pub same_preload_name : (name : List ℕ) (position : ℕ) → ((p : ℕ) → (position ≡ p) ↔ ((p < length (stored s).blobs) × ((get_or (stored s).blobs p no_blob).name ≡ name)))
+        → list_any (λ p. p == position) (listed_preloads registry.root) ≡ has_name s.preloads name
+    same_preload_name name position at_name = same_preload s name position (listed_preloads registry.root) preloads_inside at_name ∙ ap (λ ns. has_name ns name) (sym preloads_are)
+
+    length_preloads : length s.preloads ≡ length (listed_preloads registry.root)
+    length_preloads = ap length preloads_are ∙ length-map (listed_preloads registry.root) (λ i. (get_or (stored s).blobs i no_blob).name)
+
+    preload_is : (k : ℕ) (d : List ℕ) → k < length (listed_preloads registry.root) → get_or s.preloads k d ≡ (get_or (stored s).blobs (get_or (listed_preloads registry.root) k 0) no_blob).name
+    preload_is k d lt = ap (λ ns. get_or ns k d) preloads_are ∙ get_or-map (λ i. (get_or (stored s).blobs i no_blob).name) (listed_preloads registry.root) k 0 d lt
+
+    -- What a registry on a disk is at is a state as the commands have it.
+    pub is_state : IsState s
+    is_state = record {
+      libraries = at.libraries;
+      own_names = λ i j d lt within. λ same.
+          now_stands.intact.names i j queries.no_entry lt (omega (arith, within, count_libraries))
+          (sym (library_name_is i d (omega (arith, lt, within))) ∙ same ∙ library_name_is j d within);
+      few = omega (arith, count_libraries, now_stands.intact.listed.count, root_fits.entry_sectors.listed.room);
+      installed = λ k d lt.
+          let k_lt : k < length (listed_preloads registry.root) = omega (arith, lt, length_preloads) in
+          name_stands s (get_or s.preloads k d) (get_or (listed_preloads registry.root) k 0) (preload_inside k k_lt) (sym (preload_is k d k_lt));
+      once = λ i j d lt within. λ same.
+          let j_lt : j < length (listed_preloads registry.root) = omega (arith, within, length_preloads) in
+          let i_lt : i < length (listed_preloads registry.root) = omega (arith, lt, j_lt) in
+          root_fits.preloads.distinct i j 0 lt j_lt
+          (one_position (get_or (listed_preloads registry.root) i 0) (get_or (listed_preloads registry.root) j 0) (preload_inside i i_lt) (preload_inside j j_lt)
+          (sym (preload_is i d i_lt) ∙ same ∙ preload_is j d j_lt));
+      few_preloads = omega (arith, length_preloads, length-listed, root_fits.preloads.listed.room);
+    }
+      where
+        length-listed : length (listed_preloads registry.root) ≡ registry.root.preload_count
+        length-listed = length-take-le registry.root.preload_count registry.root.preloads (omega (arith, root_fits.preloads.listed.room, root_fits.preloads.listed.size))
+
+        one_position : (p q : ℕ) → p < length (stored s).blobs → q < length (stored s).blobs → (get_or (stored s).blobs p no_blob).name ≡ (get_or (stored s).blobs q no_blob).name → p ≡ q
+        one_position p q p_lt q_lt same =
+            let own = now_stands.intact.names in
+            let p_in : p < length registry.entries = omega (arith, p_lt, count_is) in
+            let q_in : q < length registry.entries = omega (arith, q_lt, count_is) in
+            let named : name_of (get_or registry.entries p queries.no_entry) ≡ name_of (get_or registry.entries q queries.no_entry) =
+            queries.name_is facts registry (stored s) holds at.blobs p queries.no_entry p_in ∙ same ∙ sym (queries.name_is facts registry (stored s) holds at.blobs q queries.no_entry q_in) in
+            ⊎_elim
+            (λ before. absurd (own p q queries.no_entry before q_in named))
+            (λ le. ⊎_elim
+            (λ behind. absurd (own q p queries.no_entry behind p_in (sym named)))
+            (λ le'. let same : p ≡ q = omega (arith, le, le') in same)
+            (cases_lt q p))
+            (cases_lt p q)

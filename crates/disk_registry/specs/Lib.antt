@@ -1,4 +1,10 @@
 pub mod Stands
 pub mod Opened
 pub mod Opening
+pub mod Phase
+pub mod Applied
+pub mod Binding
+pub mod Calls
+pub mod Ran
+pub mod Refusals
 pub mod inside

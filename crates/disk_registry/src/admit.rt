@@ -16,7 +16,7 @@ use std::alloc::Global;
 use store::{Store, StoreRefusal};
 
 /// Sees that a file is a library of this name.
-fn admit_file(alloc: Global, name: &[u8], file: &[u8]) -> Result<(), StoreRefusal>
+pub(crate) fn admit_file(alloc: Global, name: &[u8], file: &[u8]) -> Result<(), StoreRefusal>
     ensures ok { OnOk result (IsLibrary (record { name = name.now; bytes = file.now })) }
     ensures damaged { IfErr result (λ e. e ≡ StoreRefusal.Damaged
         → IsLibrary (record { name = name.now; bytes = file.now }) → ⊥) }

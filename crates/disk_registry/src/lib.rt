@@ -7,11 +7,30 @@
 #![tactic(auto)]
 
 mod admit;
+mod apply;
+mod bind;
+mod bound;
+mod change;
 mod format;
 mod kept;
+mod library_file;
+mod list;
+mod needed;
+mod needs;
 mod open;
+mod put;
+mod reading;
+mod refusal;
 
 pub use kept::Registry;
 
 #[cfg(test)]
+mod apply_tests;
+#[cfg(test)]
+mod bind_tests;
+#[cfg(test)]
+mod change_tests;
+#[cfg(test)]
 mod open_tests;
+#[cfg(test)]
+mod put_tests;

@@ -7,7 +7,7 @@ use std::test::Fail;
 use store::{Store, StoreRefusal};
 
 /// How many bytes the library has.
-const SIZE: usize = 344;
+pub(crate) const SIZE: usize = 344;
 
 /// Where the two bytes of its name are.
 const NAME: usize = 217;
@@ -25,7 +25,7 @@ const LIBRARY: &[u8; SIZE] =
     \0\0\0\0\0\0\0\0\0\0\0\0\0\0\0\0\0\0\0\0\0\0\0\0\0\0\0\0\0\0\0";
 
 /// The library under a name of one byte.
-fn library(name: u8) -> [u8; SIZE] {
+pub(crate) fn library(name: u8) -> [u8; SIZE] {
     let mut file = *LIBRARY;
     file[NAME] = name;
     file
@@ -63,7 +63,7 @@ fn put<D: Disk>(rt: &impl Abort, store: &mut Store<D>, name: u8, bytes: &[u8]) -
 }
 
 // A disk of 16 sectors with these files under the names a and b.
-fn filled(rt: &impl Abort, alloc: Global, a: &[u8], b: &[u8]) -> Result<Memory, Fail> {
+pub(crate) fn filled(rt: &impl Abort, alloc: Global, a: &[u8], b: &[u8]) -> Result<Memory, Fail> {
     let Ok(mut store) = Store::format(alloc, Memory::new(alloc, 16)?) else {
         return Err("format refused".into());
     };

@@ -34,7 +34,7 @@ none_made p q f (suc n) a none =
 not_in_memory : (file : List ℕ) (address size : ℕ)
     → ((j : ℕ) → j < header_count file → is_load (program_header file j) ≡ true → is_in_memory_part address size (program_header file j) ≡ false)
     → is_in_memory file address size ≡ false
-unfolding is_in_memory loads program_headers
+unfolding is_in_memory loads
 not_in_memory file address size none =
     none_made (is_in_memory_part address size) is_load (program_header file) (header_count file) 0 (λ j ge lt is. none j (omega (arith, lt)) is)
 

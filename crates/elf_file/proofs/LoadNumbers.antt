@@ -46,13 +46,13 @@ loads_before_more file k =
 
 -- all PT_LOADs stand before the end of the program headers
 pub loads_before_all : (file : List ℕ) → loads_before file (header_count file) ≡ length (loads file)
-unfolding loads_before loads program_headers
+unfolding loads_before loads
 loads_before_all file = refl
 
 -- a PT_LOAD has the number of those before it
 pub load_at : (file : List ℕ) (j : ℕ) → j < header_count file → is_load (program_header file j) ≡ true
     → slice_get (loads file) (loads_before file j) ≡ Some (program_header file j)
-unfolding loads_before loads program_headers
+unfolding loads_before loads
 load_at file j lt is =
     let n : ℕ = header_count file - j - 1 in
     let whole : header_count file ≡ j + suc n = omega arith in
@@ -149,7 +149,7 @@ loads_from_end file k e =
 
 -- all are left at the start
 pub loads_from_start : (file : List ℕ) → loads_from file 0 ≡ loads file
-unfolding loads_from loads program_headers
+unfolding loads_from loads
 loads_from_start file =
     let z : header_count file - 0 ≡ header_count file = omega arith in
     ap (λ n. filter is_load (map (program_header file) (range_with_len 0 n))) z

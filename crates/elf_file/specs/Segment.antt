@@ -25,7 +25,7 @@ unfoldable pub program_header : List ℕ → ℕ → ProgramHeader
 program_header file i = header_at file (headers_offset file + PROGRAM_HEADER_SIZE * i)
 
 -- all program headers, in their order
-unfoldable pub program_headers : List ℕ → List ProgramHeader
+abbrev pub program_headers : List ℕ → List ProgramHeader
 program_headers file = map (program_header file) (range_with_len 0 (header_count file))
 
 -- PT_LOAD

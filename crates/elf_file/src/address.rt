@@ -27,7 +27,7 @@ fn is_in_file_part(address: u64, size: u64, h: ProgramHeader) -> bool
 impl Headers<'_> {
     /// The PT_LOAD that has so many bytes at an address in its file part. One pass over the program
     /// headers.
-    #[tactic(auto, unfolding(crate::specs::Address::find_file_part, crate::specs::Segment::loads, crate::specs::Segment::program_headers))]
+    #[tactic(auto, unfolding(crate::specs::Address::find_file_part, crate::specs::Segment::loads))]
     fn find_file_part(&self, address: u64, size: u64) -> Option<ProgramHeader>
         ensures { result ≡ find_file_part self.now address size }
     {

@@ -65,7 +65,7 @@ fn is_out_of_order(first: ProgramHeader, next: ProgramHeader) -> bool
 }
 
 impl Headers<'_> {
-    #[tactic(auto, unfolding(crate::specs::Segment::has_tls_segment, crate::specs::Segment::program_headers))]
+    #[tactic(auto, unfolding(crate::specs::Segment::has_tls_segment))]
     pub(crate) fn has_tls_segment(&self) -> bool
         ensures { result ≡ has_tls_segment self.now }
     {
@@ -74,7 +74,7 @@ impl Headers<'_> {
             .any(|h| h.kind == PT_TLS)
     }
 
-    #[tactic(auto, unfolding(crate::specs::Segment::has_load, crate::specs::Segment::program_headers))]
+    #[tactic(auto, unfolding(crate::specs::Segment::has_load))]
     fn has_load(&self) -> bool
         ensures { result ≡ has_load self.now }
     {
@@ -83,7 +83,7 @@ impl Headers<'_> {
             .any(|h| h.kind == PT_LOAD)
     }
 
-    #[tactic(auto, unfolding(crate::specs::Segment::has_bad_load, crate::specs::Segment::program_headers))]
+    #[tactic(auto, unfolding(crate::specs::Segment::has_bad_load))]
     fn has_bad_load(&self) -> bool
         ensures { result ≡ has_bad_load self.now }
     {
@@ -99,7 +99,7 @@ impl Headers<'_> {
         !self.has_load() || self.has_bad_load()
     }
 
-    #[tactic(auto, unfolding(crate::specs::Segment::has_high_segment, crate::specs::Segment::program_headers))]
+    #[tactic(auto, unfolding(crate::specs::Segment::has_high_segment))]
     fn has_high_segment(&self) -> bool
         ensures { result ≡ has_high_segment self.now }
     {
@@ -114,7 +114,7 @@ impl Headers<'_> {
         self.file().len() > LARGEST_FILE || self.has_high_segment()
     }
 
-    #[tactic(auto, unfolding(crate::specs::Segment::has_bad_order, crate::specs::Segment::loads, crate::specs::Segment::program_headers))]
+    #[tactic(auto, unfolding(crate::specs::Segment::has_bad_order, crate::specs::Segment::loads))]
     pub(crate) fn has_bad_order(&self) -> bool
         ensures { result ≡ has_bad_order self.now }
     {
@@ -130,7 +130,7 @@ impl Headers<'_> {
     }
 
     /// How many PT_DYNAMICs there are.
-    #[tactic(auto, unfolding(crate::specs::Dynamic::dynamic_count, crate::specs::Segment::program_headers))]
+    #[tactic(auto, unfolding(crate::specs::Dynamic::dynamic_count))]
     pub(crate) fn dynamic_count(&self) -> usize
         ensures { result ≡ dynamic_count self.now }
     {
@@ -141,7 +141,7 @@ impl Headers<'_> {
     }
 
     /// The first PT_DYNAMIC.
-    #[tactic(auto, unfolding(crate::specs::Dynamic::find_dynamic, crate::specs::Segment::program_headers))]
+    #[tactic(auto, unfolding(crate::specs::Dynamic::find_dynamic))]
     pub(crate) fn find_dynamic(&self) -> Option<ProgramHeader>
         ensures { result ≡ find_dynamic self.now }
     {

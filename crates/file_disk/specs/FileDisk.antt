@@ -1,14 +1,12 @@
 -- What is said of a disk over a file.
-use Rattle.std.specs.Prelude.{◌≡◌, ◌≢◌, ◌*◌, ◌⊎◌, ℕ, Bool, false, List, [], Option, None, Some, IsSome}
+use Rattle.std.specs.Prelude.{◌≡◌, ◌≢◌, ◌*◌, ◌⊎◌, ℕ, Bool, false, List, Option, None, Some}
 use Rattle.std.specs.List.{flat_map}
 use Rattle.sector_disk.specs.CallCount.{unknown_disk}
 use Rattle.sector_disk.specs.Disk.{Sector, DiskFacts}
-use Rattle.file_disk.specs.declared.ahead.Ahead.{Ahead}
 use Rattle.file_disk.specs.declared.disk.FileDisk.{FileDisk}
-use Rattle.file_disk.specs.declared.gathered.Gathered.{Gathered}
-use Rattle.file_disk.specs.Ahead.{ahead_at}
+use Rattle.file_disk.specs.Ahead.{ahead_at, sector_among, IsKeptOf}
 use Rattle.file_disk.specs.Gathered.{gathered_sectors, gathered_at}
-use Rattle.file_disk.specs.Transfer.{IsWrittenAt}
+use Rattle.file_disk.specs.Transfer.{IsWrittenAt, IsReadAt}
 
 -- it isn't known to be honest: nothing is said but its size and its calls
 abbrev pub file_facts : {F : Type 0} → FileDisk F → DiskFacts
@@ -62,3 +60,10 @@ pub record IsNew {F : Type 0} (disk : FileDisk F) : Type 0 where
   pub failed : has_failed disk ≡ false
   pub waits : WaitsNot disk
   pub kept : (k : ℕ) → kept disk k ≡ None
+
+-- Sector `at` was asked for: the file went to its place, and the content is the first sector of the bytes that were read there. What is kept lies in these bytes.
+pub record IsFetched {F : Type 0} (position : F → Option ℕ) (remaining : F → Option (List ℕ)) (old new : FileDisk F) (at : ℕ) (content : Sector) : Type 0 where
+  pub bytes : List ℕ
+  pub read : IsReadAt position remaining old.file new.file (512 * at) bytes
+  pub is : content ≡ sector_among bytes at at
+  pub kept : IsKeptOf new.ahead bytes at

@@ -28,7 +28,9 @@ pub(crate) struct Ahead {
 impl Ahead {
     ghost use Rattle.std.specs.Prelude.{◌*◌, ◌<◌, ℕ, None, IfOk, IfSome, OnOk, OnErr};
     ghost use Rattle.std.specs.Prelude.{length, option_copied};
-    ghost use Rattle.file_disk.specs.Ahead.{ahead_at, IsForgotten};
+    ghost use Rattle.std.specs.Prelude.{List};
+    ghost use Rattle.file_disk.specs.Ahead.{ahead_at, sector_among, IsForgotten, IsKeptOf};
+    ghost use Rattle.file_disk.specs.Transfer.{IsReadAt};
 
     /// None are there. Takes the memory for all that may be.
     pub(crate) fn new(alloc: Global) -> Result<Ahead, AllocError>
@@ -97,6 +99,9 @@ impl Ahead {
         ensures start { OnOk result (self.new.start ≡ at) }
         ensures some { OnOk result (0 < self.new.count) }
         ensures most { OnOk result (self.new.count ≤ most) }
+        ensures read { OnOk result ((bytes : List ℕ)
+            × IsReadAt F.stream_position F.remaining file.old file.new (512 * at) bytes
+            × IsKeptOf self.new bytes at) }
         ensures err { OnErr result ((k : ℕ) → ahead_at self.new k ≡ None) }
     {
         self.ask(at);

@@ -166,9 +166,12 @@ impl<F: Write + Seek + OpenFile> FileDisk<F> {
 }
 
 impl<F: Read + Seek> FileDisk<F> {
-    ghost use Rattle.std.specs.Prelude.{◌≡◌, ◌<◌, ◌*◌, None, false};
+    ghost use Rattle.std.specs.Prelude.{◌≡◌, ◌<◌, ◌*◌, ◌⊎◌, ℕ, List, None, false};
     ghost use Rattle.std.specs.Prelude.{IsSome, IfSome, OnOk, is_err};
-    ghost use Rattle.file_disk.specs.FileDisk.{file_facts, has_failed, file_of, waiting, kept, WaitsSame};
+    ghost use Rattle.file_disk.specs.Ahead.{IsKeptOf};
+    ghost use Rattle.file_disk.specs.FileDisk.{file_facts, has_failed, file_of, waiting, kept};
+    ghost use Rattle.file_disk.specs.FileDisk.{IsSame, WaitsSame, IsFetched};
+    ghost use Rattle.file_disk.specs.Transfer.{IsReadAt};
 
     // Reads a sector from the file and some behind it, but none that waits.
     fn read_ahead(&mut self, at: u32) -> Result<(), DiskFault>
@@ -179,6 +182,9 @@ impl<F: Read + Seek> FileDisk<F> {
         ensures waits { self.new.gathered ≡ self.old.gathered }
         ensures failed { has_failed self.new ≡ has_failed self.old }
         ensures ok { OnOk result (IsSome (kept self.new at)) }
+        ensures read { OnOk result ((bytes : List ℕ) × IsReadAt F.stream_position F.remaining
+            (file_of self.old) (file_of self.new) (512 * at) bytes
+            × IsKeptOf self.new.ahead bytes at) }
     {
         let sectors = self.sectors;
         let start = self.gathered.start();
@@ -202,6 +208,10 @@ impl<F: Read + Seek> FileDisk<F> {
             (λ content. (is_err result ≡ false) × (into.new ≡ content)) }
         ensures kept { waiting self.old at ≡ None → IfSome (kept self.old at)
             (λ content. (is_err result ≡ false) × (into.new ≡ content)) }
+        ensures buffered { IsSome (waiting self.old at) ⊎ IsSome (kept self.old at)
+            → IsSame self.old self.new }
+        ensures fetched { waiting self.old at ≡ None → kept self.old at ≡ None → OnOk result
+            (IsFetched F.stream_position F.remaining self.old self.new at into.new) }
     {
         if let Some(content) = self.gathered.get(at) {
             *into = *content;
@@ -222,10 +232,11 @@ impl<F: Read + Seek> FileDisk<F> {
 
 impl<F: Read + Write + Seek + OpenFile> Disk for FileDisk<F> {
     ghost use Rattle.std.specs.Prelude.{◌≡◌, ◌⊎◌, ◌<◌, ◌*◌, ℕ, None, true, false};
-    ghost use Rattle.std.specs.Prelude.{IsTrue, IfSome, OnOk, OnErr, is_err};
+    ghost use Rattle.std.specs.Prelude.{IsTrue, IsSome, IfSome, OnOk, OnErr, is_err};
     ghost use Rattle.sector_disk.specs.Disk.{IsCall, IsRead, IsWrite, IsSync};
     ghost use Rattle.file_disk.specs.FileDisk.{file_facts, has_failed, file_of, waiting, kept};
-    ghost use Rattle.file_disk.specs.FileDisk.{WaitsNot, WaitsSame, IsGiven, IsGathered};
+    ghost use Rattle.file_disk.specs.FileDisk.{IsSame, WaitsNot, WaitsSame, IsGiven, IsGathered};
+    ghost use Rattle.file_disk.specs.FileDisk.{IsFetched};
 
     ghost facts = { file_facts };
 
@@ -250,6 +261,12 @@ impl<F: Read + Write + Seek + OpenFile> Disk for FileDisk<F> {
             (λ content. (is_err result ≡ false) × (into.new ≡ content)) }
         ensures kept { waiting self.old at ≡ None → IfSome (kept self.old at)
             (λ content. (is_err result ≡ false) × (into.new ≡ content)) }
+        ensures buffered { IsSome (waiting self.old at) ⊎ IsSome (kept self.old at)
+            → IsSame self.old self.new }
+
+        // Else the file was asked for it, at its place.
+        ensures fetched { waiting self.old at ≡ None → kept self.old at ≡ None → OnOk result
+            (IsFetched F.stream_position F.remaining self.old self.new at into.new) }
         ensures same { WaitsSame self.old self.new }
         ensures failed { has_failed self.new ≡ has_failed self.old }
     {

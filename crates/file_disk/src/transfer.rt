@@ -1,6 +1,7 @@
 // Bytes to and from a file, at the place of a sector.
-ghost use Rattle.std.specs.Prelude.{◌≡◌, ◌*◌, ◌≤◌, IfOk, OnOk, length};
-ghost use Rattle.file_disk.specs.Transfer.{IsAt, IsWrittenAt};
+ghost use Rattle.std.specs.Prelude.{◌≡◌, ◌*◌, ◌≤◌, IfOk, OnOk, length, take};
+ghost use Rattle.std.specs.Io.KnownBytes.{Consumes};
+ghost use Rattle.file_disk.specs.Transfer.{IsAt, IsWrittenAt, IsReadAt};
 
 use sector_disk::{DiskFault, SECTOR_BYTES};
 use std::fs::OpenFile;
@@ -46,6 +47,7 @@ fn read_most<F: Read>(file: &mut F, bytes: &mut [u8], most: usize) -> usize
     requires { most ≤ length bytes.old }
     ensures size { length bytes.new ≡ length bytes.old }
     ensures most { result ≤ most }
+    ensures read { Consumes (F.remaining file.old) (F.remaining file.new) (take result bytes.new) }
 {
     let mut count = 0;
     for _ in 0..u64::MAX {
@@ -76,6 +78,8 @@ pub(crate) fn read_at<F: Read + Seek>(
     requires { most ≤ length bytes.old }
     ensures size { length bytes.new ≡ length bytes.old }
     ensures most { IfOk result (λ count. count ≤ most) }
+    ensures read { IfOk result (λ count. IsReadAt F.stream_position F.remaining file.old file.new
+        (512 * at) (take count bytes.new)) }
 {
     seek_to(file, at)?;
     Ok(read_most(file, bytes, most))

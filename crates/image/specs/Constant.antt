@@ -13,10 +13,10 @@ MEMORY_LIMIT = 2 ^ 47 - 4096
 abbrev pub PF_X : ℕ
 PF_X = 1
 
--- p_flags: it may be written
+-- p_flags: it may be written (gABI chapter 5)
 abbrev pub PF_W : ℕ
 PF_W = 2
 
--- p_flags: it may be read
+-- p_flags: it may be read (gABI chapter 5)
 abbrev pub PF_R : ℕ
 PF_R = 4

@@ -20,6 +20,15 @@ pub(crate) enum Change {
     Choose(&'static [u8]),
 }
 
+// Where the byte strings of these names stand.
+fn positions_of(alloc: Global, store: &Store<Powered>, names: &[u8]) -> Result<Vec<usize>> {
+    let mut positions = Vec::new(alloc);
+    for name in names {
+        positions.push(store.position(&[*name]).context("no such name")?)?;
+    }
+    Ok(positions)
+}
+
 impl Change {
     /// How many calls of the disk it makes: the sectors of the bytes, the entry, a sync, the root,
     /// a sync.
@@ -60,13 +69,7 @@ impl Change {
                 put_over(store, &[name], &content(alloc, !name, length)?)
             }
             Change::Delete(name) => delete(store, &[name]),
-            Change::Choose(names) => {
-                let mut positions = Vec::new(alloc);
-                for name in names {
-                    positions.push(store.position(&[*name]).context("no such name")?)?;
-                }
-                set_preloads(store, &positions)
-            }
+            Change::Choose(names) => set_preloads(store, &positions_of(alloc, store, names)?),
         }
     }
 }

@@ -3,8 +3,8 @@
 use crate::disk::whole;
 use crate::sectors::put_sector;
 use crate::tally::Tally;
-use anyhow::{Result, bail};
-use extents::Extent;
+use anyhow::{Context, Result, bail};
+use extents::{Extent, MOST_EXTENTS};
 use roots::{Entry, Root, encode_entry, encode_root};
 use sector_disk::{Disk, Memory, SECTOR_BYTES};
 use std::alloc::Global;
@@ -37,16 +37,17 @@ fn put_entry(disk: &mut Memory, at: u32, entry: &Entry) -> Result<()> {
     put_sector(disk, at, &encode_entry(entry))
 }
 
-fn extent(start: u32, count: u32) -> Extent {
-    Extent { start, count }
-}
-
-// The entry of so many bytes under a name, in these extents.
-fn entry(name: u8, length: u32, extents: &[Extent]) -> Result<Entry> {
-    if extents.len() > 32 {
-        bail!("too many extents");
+// The entry of so many bytes under a name, in these extents: the first sector of each and how many.
+fn entry(name: u8, length: u32, places: &[(u32, u32)]) -> Result<Entry> {
+    let mut extents = [Extent { start: 0, count: 0 }; MOST_EXTENTS];
+    for (extent, (start, count)) in extents.iter_mut().zip(places) {
+        *extent = Extent {
+            start: *start,
+            count: *count,
+        };
     }
-    Ok(Entry::new(&[name], length, extents))
+    let used = extents.get(..places.len()).context("too many extents")?;
+    Ok(Entry::new(&[name], length, used))
 }
 
 // A disk of 8 sectors whose roots of generations 0 and 1 say that it has so many, and whose later
@@ -60,59 +61,35 @@ fn with_entries(alloc: Global, sectors: u32, first: &Entry, second: &Entry) -> R
     Ok(disk)
 }
 
+// Names, lengths and extents of first entries, and whether the disk opens. The second entry is `b`,
+// with 512 bytes in sector 5.
+const ENTRIES: [(&str, u8, u32, &[(u32, u32)], bool); 8] = [
+    ("two good extents", b'a', 600, &[(4, 1), (2, 1)], true),
+    ("no gap", b'a', 1536, &[(2, 3)], true),
+    ("one sector twice", b'a', 600, &[(2, 1), (2, 1)], false),
+    ("a sector of two entries", b'a', 600, &[(4, 2)], false),
+    ("its own entry's sector", b'a', 64, &[(6, 1)], false),
+    ("the other entry's sector", b'a', 64, &[(7, 1)], false),
+    ("past the disk", b'a', 64, &[(8, 1)], false),
+    ("two of one name", b'b', 64, &[(2, 1)], false),
+];
+
 /// Extents that are good, and those that clash with something.
 fn open_entries<R: Print + AllocGlobal>(rt: &R, tally: &mut Tally) -> Result<()> {
-    let other = entry(b'b', 512, &[extent(5, 1)])?;
-    let cases: [(&str, Entry, Option<StoreRefusal>); 8] = [
-        (
-            "two good extents",
-            entry(b'a', 600, &[extent(4, 1), extent(2, 1)])?,
-            None,
-        ),
-        ("no gap", entry(b'a', 1536, &[extent(2, 3)])?, None),
-        (
-            "one sector twice in an entry",
-            entry(b'a', 600, &[extent(2, 1), extent(2, 1)])?,
-            Some(StoreRefusal::Damaged),
-        ),
-        (
-            "a sector of two entries",
-            entry(b'a', 600, &[extent(4, 2)])?,
-            Some(StoreRefusal::Damaged),
-        ),
-        (
-            "its own entry's sector",
-            entry(b'a', 64, &[extent(6, 1)])?,
-            Some(StoreRefusal::Damaged),
-        ),
-        (
-            "the other entry's sector",
-            entry(b'a', 64, &[extent(7, 1)])?,
-            Some(StoreRefusal::Damaged),
-        ),
-        (
-            "past the disk",
-            entry(b'a', 64, &[extent(8, 1)])?,
-            Some(StoreRefusal::Damaged),
-        ),
-        (
-            "two of one name",
-            entry(b'b', 64, &[extent(2, 1)])?,
-            Some(StoreRefusal::Damaged),
-        ),
-    ];
-    for (what, first, wanted) in &cases {
-        let disk = with_entries(rt.alloc(), 8, first, &other)?;
-        let right = refusal_of_open(rt.alloc(), disk) == *wanted;
-        tally.count(rt, right, what, "entries")?;
+    let other = entry(b'b', 512, &[(5, 1)])?;
+    for (what, name, length, extents, opens) in ENTRIES {
+        let disk = with_entries(rt.alloc(), 8, &entry(name, length, extents)?, &other)?;
+        let wanted = (!opens).then_some(StoreRefusal::Damaged);
+        let right = refusal_of_open(rt.alloc(), disk) == wanted;
+        tally.count(rt, right, &what, "entries")?;
     }
     Ok(())
 }
 
 // Roots that say another size than the disk has.
 fn open_sizes<R: Print + AllocGlobal>(rt: &R, tally: &mut Tally) -> Result<()> {
-    let first = entry(b'a', 64, &[extent(2, 1)])?;
-    let second = entry(b'b', 64, &[extent(3, 1)])?;
+    let first = entry(b'a', 64, &[(2, 1)])?;
+    let second = entry(b'b', 64, &[(3, 1)])?;
     for sectors in [8, 9, 16, 4_194_304] {
         let disk = with_entries(rt.alloc(), sectors, &first, &second)?;
         let wanted = (sectors != 8).then_some(StoreRefusal::Damaged);

@@ -13,7 +13,7 @@ use Rattle.registry.specs.Tests.{first_refusal}
 use Rattle.registry.specs.Binding.{bound_objects, bound_image, binding_refusal}
 use Rattle.registry.specs.Phase.{Kept, Phase, phase_of, table_of}
 use Rattle.registry.specs.declared.refusal.Refusal.{Refusal}
-use Rattle.registry.specs.declared.refusal.Refusal.TheVariants.{Bind, OutOfMemory, Device, Reopen, Fragmented, BadGeometry}
+use Rattle.registry.specs.declared.refusal.Refusal.TheVariants.{Bind, OutOfMemory, Device, Reopen, Damaged, Fragmented, BadGeometry}
 use Rattle.registry.specs.declared.reply.Reply.{Reply}
 use Rattle.registry.specs.declared.reply.Reply.TheVariants.{Done, Refused}
 use Rattle.registry.specs.declared.reply.Reply.TheVariants as reply
@@ -106,10 +106,11 @@ abbrev pub answer_of : Result (Unit {0}) Refusal → Reply
 answer_of (Ok done) = Done
 answer_of (Err refusal) = Refused refusal
 
--- an answer that needs no disk: neither S1 nor S2 nor S8, and S6 is answered to no command
+-- an answer that needs no disk: neither S1 nor S2 nor S5 nor S8, and S6 is answered to no command
 abbrev pub IsDiskless : Reply → Type 0
 IsDiskless (Refused Device) = ⊥
 IsDiskless (Refused Reopen) = ⊥
+IsDiskless (Refused Damaged) = ⊥
 IsDiskless (Refused Fragmented) = ⊥
 IsDiskless (Refused BadGeometry) = ⊥
 IsDiskless answer = Unit {0}

@@ -22,8 +22,6 @@ mod reply;
 mod short_name;
 mod soname;
 mod tested;
-#[cfg(test)]
-mod tests;
 mod words;
 
 pub use command::Command;

@@ -25,6 +25,8 @@ pub enum Refusal {
     Device,
     /// S2: a write or a sync failed before.
     Reopen,
+    /// S5: what was read is no library of its name, which an honest disk never gives.
+    Damaged,
     /// S6: there are fewer than 8 or more than 4,194,304 sectors.
     BadGeometry,
     /// S7: the file costs more sectors than are free.

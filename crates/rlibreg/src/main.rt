@@ -1,5 +1,5 @@
-//! The program `rlibreg`: prints the memory image of a program, or says by number why there is
-//! none.
+//! The program `rlibreg`: keeps a registry of shared libraries on a disk, and prints the memory
+//! image of a program bound over it, or says by number why not.
 #![tactic(auto)]
 
 use commands::{read_arguments, run_arguments};

@@ -39,7 +39,7 @@ pub record AreEnough (program : List ℕ) (libraries : List Named) (preloads : L
       → place_of (names_of read) name ≡ None → place_of (names_of libraries) name ≡ None
 
 -- the place of a name among names that differ
-place_of-distinct : (names : List (List ℕ)) (k : ℕ) → IsDistinct bytes_eq names → k < length names → place_of names (get_or names k []) ≡ Some (k + 1)
+pub place_of-distinct : (names : List (List ℕ)) (k : ℕ) → IsDistinct bytes_eq names → k < length names → place_of names (get_or names k []) ≡ Some (k + 1)
 place_of-distinct names k distinct lt =
     let name : List ℕ = get_or names k [] in
     let is : position_or_len (bytes_eq name) names ≡ k =
@@ -59,7 +59,7 @@ same-place names i j distinct lti ltj same = ⊎_elim
     (cases_order i j)
 
 -- the object at a place behind the first
-object_later : (first : Named) (rest : List Named) (i : ℕ) (d : Named) → i < length rest → object_at (first ∷ rest) (suc i) ≡ get_or rest i d
+pub object_later : (first : Named) (rest : List Named) (i : ℕ) (d : Named) → i < length rest → object_at (first ∷ rest) (suc i) ≡ get_or rest i d
 object_later first rest i d lt =
     ap (λ n. let o : Named = record { name = n; file = get_or (map (λ (r : Named). r.file) rest) i [] } in o) (get_or-map (λ (r : Named). r.name) rest i d [] lt)
     ∙ ap (λ f. let o : Named = record { name = (get_or rest i d).name; file = f } in o) (get_or-map (λ (r : Named). r.file) rest i d [] lt)

@@ -10,4 +10,5 @@ pub mod LevelsLemmas
 pub mod RenumberedLevels
 pub mod LoadOrderLemmas
 pub mod EnoughLemmas
+pub mod ReadLemmas
 pub mod LookupLemmas

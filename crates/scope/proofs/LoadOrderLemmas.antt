@@ -47,7 +47,7 @@ module _ {X Y : Type 0} (f : X → Option Y) where
           (λ later. let r = more later in (r.0, contains-later r.0 x xs r.1, r.2))
           (contains-cons y w (filter_map f xs) g)
 
-  in_filter_map : (xs : List X) (x : X) (y : Y) → Contains xs x → f x ≡ Some y → Contains (filter_map f xs) y
+  pub in_filter_map : (xs : List X) (x : X) (y : Y) → Contains xs x → f x ≡ Some y → Contains (filter_map f xs) y
   in_filter_map [] x y (k, lt, is) e = absurd (omega (arith, lt))
   in_filter_map (z ∷ zs) x y h e = ⊎_elim
       (λ same. subst (λ o. Contains (cons_option o (filter_map f zs)) y) (sym (ap f same ∙ e)) (contains-here y (filter_map f zs)))
@@ -58,7 +58,7 @@ module _ {X Y : Type 0} (f : X → Option Y) where
       behind None g = g
       behind (Some w) g = contains-later y w (filter_map f zs) g
 
-contains-map : {X Y : Type 0} (f : X → Y) (xs : List X) (x : X) → Contains xs x → Contains (map f xs) (f x)
+pub contains-map : {X Y : Type 0} (f : X → Y) (xs : List X) (x : X) → Contains xs x → Contains (map f xs) (f x)
 contains-map f [] x (k, lt, is) = absurd (omega (arith, lt))
 contains-map f (z ∷ zs) x h = ⊎_elim
     (λ same. subst (λ w. Contains (w ∷ map f zs) (f x)) (sym (ap f same)) (contains-here (f x) (map f zs)))
@@ -114,7 +114,7 @@ module _ (program : List ℕ) (libraries : List Named) where
       let r = place_of-is (names_of libraries) name p e in
       omega (arith, r.1, r.2, length-map libraries (λ (o : Named). o.name))
 
-  place-name : (name : List ℕ) (p : ℕ) → place_of (names_of libraries) name ≡ Some p → name_at (available program libraries) p ≡ name
+  pub place-name : (name : List ℕ) (p : ℕ) → place_of (names_of libraries) name ≡ Some p → name_at (available program libraries) p ≡ name
   place-name name p e =
       let r = place_of-is (names_of libraries) name p e in
       ap (λ q. name_at (available program libraries) q) r.1 ∙ later program_name (names_of libraries) r.0 ∙ r.3

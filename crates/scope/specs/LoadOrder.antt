@@ -8,11 +8,11 @@ use Rattle.scope.specs.Objects.{Named, program_name, name_at, file_at}
 use Rattle.scope.specs.Levels.{joined_levels}
 
 -- A program and the libraries that are installed, in one list. An object is told by its place in it: 0 is the program,
--- and p + 1 the library number p.
+-- and p + 1 the library number p (own).
 abbrev pub available : List ℕ → List Named → List Named
 available program libraries = record { name = program_name; file = program } ∷ libraries
 
--- the names that objects go by
+-- the names that objects go by (own)
 abbrev pub names_of : List Named → List (List ℕ)
 names_of objects = map (λ o. o.name) objects
 

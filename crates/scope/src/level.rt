@@ -8,7 +8,7 @@ use crate::places::Places;
 use std::alloc::{AllocError, Global};
 
 /// The program and the preloads, of `count` libraries, with room for all libraries.
-pub(crate) fn first_level(
+pub fn first_level(
     alloc: Global,
     count: usize,
     preloads: &[usize],

@@ -18,12 +18,12 @@ mod places;
 mod refusal;
 mod resolution;
 mod target;
-#[cfg(test)]
-mod tests;
 
+pub use level::first_level;
 pub use library::Library;
 pub use loading::load_order;
 pub use order::Order;
+pub use places::Places;
 pub use refusal::OrderRefusal;
 pub use resolution::resolve;
 pub use target::{Target, Undefined};

@@ -7,10 +7,11 @@ ghost use Rattle.scope.specs.inside.Places.{AreApart};
 use std::alloc::{AllocError, Global};
 use std::marker::Model;
 
-/// Places below a limit in the order in which they were added, each once. Contracts see the limit
-/// and the places.
+/// Places below a limit in the order in which they were added, each once: the queue of a walk, for
+/// callers too that find needed libraries one after the other. Contracts see the limit and the
+/// places.
 #[derive(Drop)]
-pub(crate) struct Places {
+pub struct Places {
     places: Vec<usize>,
     flags: Vec<bool>,
 }
@@ -28,7 +29,7 @@ impl Model for Places {
 
 impl Places {
     /// None yet.
-    pub(crate) fn new(alloc: Global, limit: usize) -> Result<Places, AllocError>
+    pub fn new(alloc: Global, limit: usize) -> Result<Places, AllocError>
         ensures { IfOk result (λ q. q ≡ record { limit = limit; places = [] }) }
     {
         let flags = vec![in alloc; false; limit]?;
@@ -37,7 +38,7 @@ impl Places {
     }
 
     /// How many there are.
-    pub(crate) fn count(&self) -> usize
+    pub fn count(&self) -> usize
         ensures count { result ≡ length self.now.places }
         ensures few { length self.now.places ≤ self.now.limit }
         ensures apart { AreApart self.now.limit self.now.places }
@@ -46,7 +47,7 @@ impl Places {
     }
 
     /// The place number `i`.
-    pub(crate) fn at(&self, i: usize) -> usize
+    pub fn at(&self, i: usize) -> usize
         requires { i < length self.now.places }
         ensures at { result ≡ slice_index self.now.places i }
         ensures below { result < self.now.limit }
@@ -55,7 +56,7 @@ impl Places {
     }
 
     /// Adds a place, unless it is there.
-    pub(crate) fn add(&mut self, place: usize) -> Result<(), AllocError>
+    pub fn add(&mut self, place: usize) -> Result<(), AllocError>
         requires { place < self.old.limit }
         ensures { OnOk result (self.new
             ≡ record { limit = self.old.limit; places = grown_by self.old.places place }) }
@@ -68,7 +69,7 @@ impl Places {
     }
 
     /// All of them.
-    pub(crate) fn into_vec(self) -> Vec<usize>
+    pub fn into_vec(self) -> Vec<usize>
         ensures places { result.items ≡ self.places }
         ensures apart { AreApart self.limit result.items }
     {

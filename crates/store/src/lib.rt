@@ -28,16 +28,3 @@ mod used;
 
 pub use refusal::StoreRefusal;
 pub use store::Store;
-
-#[cfg(test)]
-mod change_tests;
-#[cfg(test)]
-mod liar_tests;
-#[cfg(test)]
-mod open_tests;
-#[cfg(test)]
-mod put_tests;
-#[cfg(test)]
-mod read_tests;
-#[cfg(test)]
-mod tests;

@@ -1,7 +1,7 @@
 // The roots that follow one, and the commit of such a root.
-ghost use Rattle.std.specs.Prelude.{◌≡◌, ◌+◌, ◌-◌, ◌<◌, ◌≤◌, ◌^◌, ◌⊎◌, List, length, map, set, take, All};
+ghost use Rattle.std.specs.Prelude.{◌≡◌, ◌+◌, ◌-◌, ◌<◌, ◌≤◌, ◌^◌, ◌⊎◌, List, length};
 ghost use Rattle.std.specs.List.{remove};
-ghost use Rattle.std.specs.Prelude.{IsTrue, OnOk};
+ghost use Rattle.std.specs.Prelude.{map, set, take, All, IsTrue, OnOk};
 ghost use Rattle.extents.specs.Limits.{root_sectors};
 ghost use Rattle.sector_disk.specs.Disk.{Sector, Mixture, LeavesOnly};
 ghost use Rattle.passes.specs.Calls.{AreCallsInRow};

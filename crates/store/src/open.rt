@@ -7,8 +7,8 @@ use sector_disk::Disk;
 use std::alloc::Global;
 
 impl<D: Disk> Store<D> {
-    ghost use Rattle.std.specs.Prelude.{◌≡◌, ◌+◌, ◌<◌, ◌⊎◌, IsTrue, IsFalse, IfOk, IfErr, MatchResult};
-    ghost use Rattle.std.specs.Prelude.{length};
+    ghost use Rattle.std.specs.Prelude.{◌≡◌, ◌+◌, ◌<◌, ◌⊎◌, IsTrue, IsFalse, IfOk, IfErr};
+    ghost use Rattle.std.specs.Prelude.{MatchResult, length};
     ghost use Rattle.sector_disk.specs.Disk.{Mixture, LeavesOnly, AreCallsExactly, AreCallsAtMost};
     ghost use Rattle.roots.specs.Limits.{most_libraries};
     ghost use Rattle.store.specs.Opened.{IsAt, disk_after};

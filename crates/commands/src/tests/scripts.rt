@@ -2,7 +2,8 @@
 
 ghost use Rattle.std.specs.Prelude.{⊤};
 
-use crate::tests::streams::Full;
+use crate::tests::samples::of_segments;
+use crate::tests::streams::{Full, Stops};
 use crate::{Applies, ScriptFault, Summary, run_script};
 use registry::{Command, Registry, Reply};
 use std::alloc::Global;
@@ -170,6 +171,39 @@ fn a_writer_fails_at_each_write(rt: HostRuntime) -> Result<(), Fail> {
         let ended = run_script(alloc, &mut text.as_bytes(), &mut out, &mut asked);
         assert_eq!(rt; ended, wanted);
         assert_eq!(rt; asked.letters.len(), applied);
+    }
+    Ok(())
+}
+
+#[test]
+fn a_writer_fails_within_an_image(rt: HostRuntime) -> Result<(), Fail> {
+    let alloc = rt.alloc();
+    let program = hex::encode(alloc, of_segments(alloc, 2_000)?.as_slice())?;
+    let script = format!(in alloc; "list\nbind 0x0 {program}\nlist\n")?;
+    let mut text = Vec::new(alloc);
+    let Ok(mut registry) = Registry::new(alloc, 8) else {
+        return Err("refused".into());
+    };
+    let done = run_script(alloc, &mut script.as_bytes(), &mut text, &mut registry)?;
+    assert_eq!(rt; (done.lines, done.refused), (3, 0));
+    assert!(rt; text.len() > 72_000);
+    // A line, two pieces of the image, a line; and the same where no write takes more than 8 KiB.
+    for (most, count) in [(usize::MAX, 4), (8192, 11)] {
+        for writes in 0..count + 1 {
+            let mut out = Stops {
+                writes,
+                most,
+                taken: Vec::new(alloc),
+            };
+            let ended = run_script(alloc, &mut script.as_bytes(), &mut out, &mut registry);
+            if writes < count {
+                assert_eq!(rt; ended, Err(ScriptFault::Write));
+                assert!(rt; out.taken.len() < text.len());
+            } else {
+                assert_eq!(rt; ended, Ok(done));
+            }
+            assert!(rt; text.starts_with(&out.taken));
+        }
     }
     Ok(())
 }

@@ -1,9 +1,10 @@
 // Statuses and messages that no case shows.
 
-use crate::arguments::run_arguments;
 use crate::command::show_read;
 use crate::file::FileFault;
 use crate::status::{Status, status_of};
+use crate::tests::runs;
+use crate::tests::runs::Ended;
 use crate::tests::samples::of_segments;
 use crate::tests::streams::Full;
 use crate::{ScriptFault, Shown, run_words};
@@ -13,25 +14,9 @@ use std::{fs, io};
 
 const MEMORY: &[u8] = b"refused S11 OutOfMemory\n";
 
-/// The status of a command line, and what it writes.
-#[derive(Drop)]
-struct Ended {
-    status: u8,
-    output: Vec<u8>,
-    errors: Vec<u8>,
-}
-
-/// Runs words that were read, or not.
+/// Runs words that were read, or not, over no input.
 fn run(rt: &HostRuntime, words: io::Result<Vec<String>>) -> Ended {
-    let mut input: &[u8] = &[];
-    let mut output = Vec::new(rt.alloc());
-    let mut errors = Vec::new(rt.alloc());
-    let status = run_arguments(rt, rt.alloc(), words, &mut input, &mut output, &mut errors);
-    Ended {
-        status,
-        output,
-        errors,
-    }
+    runs::run(rt, words, "")
 }
 
 /// Words.
@@ -101,6 +86,7 @@ fn words_that_are_read(rt: HostRuntime) -> Result<(), Fail> {
         b"refused B1 E13 TooLarge\n".as_slice()
     );
     assert_eq!(rt; ended.errors.len(), 0);
+    fs::remove_file(&rt, "long.so")?;
     Ok(())
 }
 
@@ -142,5 +128,6 @@ fn output_that_fails(rt: HostRuntime) -> Result<(), Fail> {
             assert_eq!(rt; errors.len(), 0);
         }
     }
+    fs::remove_file(&rt, "program.so")?;
     Ok(())
 }

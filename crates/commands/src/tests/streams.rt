@@ -60,3 +60,27 @@ impl Write for Full {
         Ok(())
     }
 }
+
+/// A writer that takes so many writes, of each at most so many bytes, and then fails.
+#[derive(Drop)]
+pub(crate) struct Stops {
+    pub(crate) writes: usize,
+    pub(crate) most: usize,
+    pub(crate) taken: Vec<u8>,
+}
+
+impl Write for Stops {
+    fn write(&mut self, bytes: &[u8]) -> io::Result<usize> {
+        if self.writes == 0 {
+            return Err(io::Error::from(ErrorKind::StorageFull));
+        }
+        self.writes -= 1;
+        let count = bytes.len().min(self.most);
+        self.taken.extend_from_slice(&bytes[..count])?;
+        Ok(count)
+    }
+
+    fn flush(&mut self) -> io::Result<()> {
+        Ok(())
+    }
+}

@@ -5,6 +5,8 @@ use Rattle.store.specs.State.{State}
 use Rattle.store.specs.Opened.{Opened, IsAt}
 use Rattle.store.specs.declared.refusal.StoreRefusal.{StoreRefusal}
 use Rattle.store.specs.declared.refusal.StoreRefusal.TheVariants.{Device, Reopen, Damaged, OutOfMemory}
+use Rattle.registry.specs.declared.refusal.Refusal.{Refusal}
+use Rattle.registry.specs.declared.refusal.Refusal.TheVariants as registry
 
 -- it keeps what a stop may leave, and the state
 pub record IsRead {D : Type 0} (facts : D → DiskFacts) (old new : Opened D) : Type 0 where
@@ -22,3 +24,10 @@ IsReadRefusal facts old new Reopen = IsTrue old.failed
 IsReadRefusal facts old new Damaged = Unit
 IsReadRefusal facts old new OutOfMemory = Unit
 IsReadRefusal facts old new other = ⊥
+
+-- the same in the registry's words: the last line stands for S5, and for what no reading refuses
+abbrev pub refusal_of_read : StoreRefusal → Refusal
+refusal_of_read Device = registry.Device
+refusal_of_read Reopen = registry.Reopen
+refusal_of_read OutOfMemory = registry.OutOfMemory
+refusal_of_read other = registry.Damaged

@@ -1,4 +1,4 @@
-use Rattle.std.proofs.Common.{◌≡◌, inl, inr, ⊎_elim, ap, ◌∙◌}
+use Rattle.std.proofs.Common.{inl, inr, ⊎_elim, ap, ◌∙◌}
 use Rattle.file_disk.specs.Gathered.{gathered_at}
 use Rattle.file_disk.proofs.disk.FileDisk.gather.Goals as goal
 

@@ -1,0 +1,83 @@
+#!/usr/bin/env python3
+"""Makes the scripts that docs/PERFORMANCE.md measures, in the folder that is named, and times them.
+
+    python3 bench/scripts.py FOLDER            makes the scripts
+    python3 bench/scripts.py FOLDER PROGRAM    runs each by PROGRAM, from standard input to /dev/null, five times
+"""
+
+import subprocess
+import sys
+from pathlib import Path
+
+from libraries import Made, chain, many_lookups, megabytes, mesh, name
+
+RUNS, MIB = 5, 1 << 20
+LINES = 200_000
+
+
+def install(file):
+    return b'install ' + file.hex().encode()
+
+
+def binding(made, times):
+    """The libraries of a program, and then so many binds of it."""
+    program, libraries = made
+    return [install(library.file) for library in libraries] + [b'bind 0x10000 ' + program.file.hex().encode()] * times
+
+
+def small():
+    """Four libraries of few bytes."""
+    return [install(Made(name(i), behind=8).file) for i in range(4)]
+
+
+def of_length(length, i=0):
+    """A library of so many bytes."""
+    return install(Made(name(i), behind=8).file.ljust(length, b'\1'))
+
+
+def made():
+    """The lines of each script."""
+    yield 'list_and_preload', small() + [b'list', b'preload lib01 lib03', b'list', b'preload'] * (LINES // 4)
+    yield 'list', small() + [b'list'] * LINES
+    yield 'preload', small() + [b'preload lib01 lib03', b'preload'] * (LINES // 2)
+    yield 'bad_lines', [b'no line'] * LINES
+    yield 'list_of_100', binding(chain(), 0) + [b'list'] * LINES
+    for mib in 1, 4, 16:
+        yield f'install_{mib}_mib', [of_length(mib * MIB)]
+    yield 'installs', [of_length(MIB, i) for i in range(100)]
+    for maker in chain, mesh, many_lookups, megabytes:
+        for times in 0, 1, 11:
+            yield f'{maker.__name__}_{times}', binding(maker(), times)
+    yield 'no_line', [33 * MIB * b'0']
+    yield 'no_digit', [b'install ' + 33 * MIB * b'0' + b'g0']
+    yield 'odd_digits', [b'install ' + 33 * MIB * b'0' + b'0']
+    yield 'names', [b'preload' + 33 * MIB // 2 * b' a']
+    yield 'no_name', [b'preload' + 33 * MIB // 2 * b' a' + b' ']
+    yield 'short_lines', [b''] * (33 * MIB)
+
+
+def times(script, program):
+    """The processor time of each run, and the most memory of one, in MiB."""
+    runs = []
+    for _ in range(RUNS):
+        with script.open('rb') as lines:
+            said = subprocess.run(['/usr/bin/time', '-f', '%U %S %e %M', program], stdin=lines, stdout=subprocess.DEVNULL,
+                                  stderr=subprocess.PIPE, check=True, text=True).stderr.splitlines()
+        user, system, real, memory = said[-1].split()
+        runs.append((float(user) + float(system), float(real), int(memory) / 1024, said[0]))
+    return min(runs), max(run[2] for run in runs)
+
+
+def main():
+    folder = Path(sys.argv[1])
+    folder.mkdir(parents=True, exist_ok=True)
+    if len(sys.argv) == 2:
+        for script, lines in made():
+            (folder / script).write_bytes(b''.join(line + b'\n' for line in lines))
+    else:
+        for script in sorted(folder.iterdir()):
+            (processor, real, _, said), memory = times(script, str(Path(sys.argv[2]).resolve()))
+            print(f'{script.name:16} {script.stat().st_size / MIB:7.1f} MiB: {processor:.2f} s ({real:.2f}), {memory:.1f} MiB; {said}', flush=True)
+
+
+main()

@@ -1,0 +1,13 @@
+//! Tests of the crates that bind programs and keep libraries, through their public calls: what no
+//! clause and no case of the program `cases` says. They stand apart, since a crate that has tests
+//! is proved once more with them.
+#![tactic(auto)]
+
+#[cfg(test)]
+mod bytes;
+#[cfg(test)]
+mod images;
+#[cfg(test)]
+mod orders;
+#[cfg(test)]
+mod registries;

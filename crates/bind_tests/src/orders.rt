@@ -1,0 +1,199 @@
+// What no clause says: where memory is ample, an order is given. And the search by chains beside a
+// plain one.
+
+ghost use Rattle.std.specs.Prelude.{◌<◌, length};
+ghost use Rattle.elf_dynamic.specs.Symbol.{symbols};
+ghost use Rattle.scope.specs.Objects.{file_at};
+
+use crate::bytes::put;
+use elf_dynamic::Symbol;
+use hash_check::Admitted;
+use scope::{Library, Order, Target, load_order, resolve};
+use std::alloc::{AllocError, Global};
+use std::test::Fail;
+
+/// The front of a file whose dynamic section stands behind it: the names a, b, c, d, e, p, f and z,
+/// and a symbol f that it exports.
+const FRONT: &[u8] =
+    b"\x7fELF\x02\x01\x01\0\0\0\0\0\0\0\0\0\x03\0>\0\x01\0\0\0\0\0\0\0\0\0\0\0@\0\0\0\0\0\0\0\
+      \0\0\0\0\0\0\0\0\0\0\0\0@\08\0\x02\0\0\0\0\0\0\0\x01\0\0\0\x06\0\0\0\0\0\0\0\0\0\0\0\0\0\
+      \0\0\0\0\0\0\0\0\0\0\0\0\0\0\0\0\0\0\0\0\0\0\0\0\0\0\0\0\0\0\0\x10\0\0\0\0\0\0\x02\0\0\0\
+      \x06\0\0\0\x10\x01\0\0\0\0\0\0\x10\x01\0\0\0\0\0\0\x10\x01\0\0\0\0\0\0\0\0\0\0\0\0\0\0\0\
+      \0\0\0\0\0\0\0\x08\0\0\0\0\0\0\0\x01\0\0\0\x02\0\0\0\x01\0\0\0\0\0\0\0\0\0\0\0\0\0\0\0\0\
+      \0\0\0\0\0\0\0\0\0\0\0\0\0\0\0\0\0\0\0\0\0\0\0\x0d\0\0\0\x12\0\x01\0\0\0\0\0\0\0\0\0\x08\
+      \0\0\0\0\0\0\0\0a\0b\0c\0d\0e\0p\0f\0z\0\0\0\0\0\0\0\0";
+
+/// What stands in the dynamic section behind the needed libraries.
+const TAIL: &[u8] =
+    b"\x04\0\0\0\0\0\0\0\xb0\0\0\0\0\0\0\0\x05\0\0\0\0\0\0\0\xf8\0\0\0\0\0\0\0\x06\0\0\0\0\0\0\
+      \0\xc8\0\0\0\0\0\0\0\x0a\0\0\0\0\0\0\0\x11\0\0\0\0\0\0\0\x0b\0\0\0\0\0\0\0\x18\0\0\0\0\0\
+      \0\0\0\0\0\0\0\0\0\0\0\0\0\0\0\0\0\0";
+
+/// Where the front has the binding and the type of f, its visibility, and its section.
+const INFO_AT: usize = 228;
+
+const VISIBILITY_AT: usize = 229;
+
+const SECTION_AT: usize = 230;
+
+/// The names of the front, in their order.
+const LETTERS: &[u8] = b"abcdepfz";
+
+/// A file that needs libraries of one letter each.
+fn file(alloc: Global, needs: &[u8]) -> Result<Vec<u8>, AllocError> {
+    let mut bytes = Vec::from_slice(alloc, FRONT)?;
+    for letter in needs {
+        let number = LETTERS.iter().take_while(|l| **l != *letter).count() as u64;
+        bytes.extend_from_slice(&1u64.to_le_bytes())?;
+        bytes.extend_from_slice(&number.wrapping_mul(2).wrapping_add(1).to_le_bytes())?;
+    }
+    bytes.extend_from_slice(TAIL)?;
+    let whole = (bytes.len() as u64).to_le_bytes();
+    let section = (bytes.len() as u64)
+        .saturating_sub(FRONT.len() as u64)
+        .to_le_bytes();
+    for (at, number) in [(96, whole), (104, whole), (152, section), (160, section)] {
+        put(&mut bytes, at, &number);
+    }
+    Ok(bytes)
+}
+
+/// A file whose f has the binding, the visibility and the section of a number below 24: each of
+/// LOCAL, GLOBAL and WEAK with each of the four visibilities, undefined and defined.
+fn file_of_kind(alloc: Global, needs: &[u8], number: u8) -> Result<Vec<u8>, AllocError> {
+    let mut bytes = file(alloc, needs)?;
+    put(&mut bytes, INFO_AT, &[number % 3 * 16 + 2]);
+    put(&mut bytes, VISIBILITY_AT, &[number / 3 % 4]);
+    put(&mut bytes, SECTION_AT, &[number / 12 % 2]);
+    Ok(bytes)
+}
+
+/// Whether other objects get a symbol.
+fn is_exported(symbol: Symbol) -> bool {
+    (symbol.binding() == 1 || symbol.binding() == 2)
+        && symbol.section != 0
+        && symbol.kind() <= 2
+        && (symbol.visibility() == 0 || symbol.visibility() == 3)
+}
+
+/// The first definition of a name, by looking at every symbol of every object.
+fn plain_lookup(order: &Order<'_>, name: &[u8]) -> Option<Target> {
+    for object in 0..order.count() {
+        let file = order.object(object).object();
+        for symbol in 1..file.symbol_count() {
+            if is_exported(file.symbol(symbol)) && file.name_of(symbol) == name {
+                return Some(Target::At { object, symbol });
+            }
+        }
+    }
+    None
+}
+
+/// The target of a symbol by its binding, its visibility, its section and the plain lookup.
+fn plain_target(order: &Order<'_>, object: usize, symbol: u32) -> Option<Target>
+    requires object { object < length order.now }
+    requires symbol { symbol < length (symbols (file_at order.now object)) }
+{
+    let file = order.object(object).object();
+    let entry = file.symbol(symbol);
+    let own = Some(Target::At { object, symbol });
+    let found = plain_lookup(order, file.name_of(symbol));
+    let weak = if entry.binding() == 2 {
+        Some(Target::Zero)
+    } else {
+        None
+    };
+    match (entry.section, entry.visibility()) {
+        _ if symbol == 0 => Some(Target::Zero),
+        _ if entry.binding() == 0 => own,
+        (0, 1 | 2) => weak,
+        (0, _) | (_, 0) => found.or(weak),
+        _ => own,
+    }
+}
+
+/// Whether `resolve` gives the plain target of each symbol of a program that needs a and b.
+fn resolves_plainly(alloc: Global, program: &[u8], a: &[u8], b: &[u8]) -> Result<bool, Fail> {
+    let program = Admitted::read(alloc, program)?;
+    let libraries = [
+        Library {
+            name: b"a",
+            object: Admitted::read(alloc, a)?,
+        },
+        Library {
+            name: b"b",
+            object: Admitted::read(alloc, b)?,
+        },
+    ];
+    let order = load_order(alloc, &program, &libraries, &[])?;
+    for object in 0..order.count() {
+        for symbol in 0..order.object(object).object().symbol_count() {
+            let plain = plain_target(&order, object, symbol);
+            if resolve(&order, object, symbol).ok() != plain {
+                return Ok(false);
+            }
+        }
+    }
+    Ok(order.count() == 3)
+}
+
+#[test]
+fn resolves_as_the_plain_lookup_does(rt: HostRuntime) -> Result<(), Fail> {
+    let alloc = rt.alloc();
+    let b = file(alloc, b"")?;
+    for of_program in 0..24 {
+        let program = file_of_kind(alloc, b"ab", of_program)?;
+        for of_a in 0..24 {
+            let a = file_of_kind(alloc, b"", of_a)?;
+            assert!(rt;
+                resolves_plainly(alloc, &program, &a, &b)?,
+                "{of_program} {of_a}"
+            );
+        }
+    }
+    Ok(())
+}
+
+/// The names in load order, one after another, of a program with the libraries a, b and c, the last
+/// of which is preloaded.
+fn names_in_order(
+    alloc: Global,
+    program: &[u8],
+    a: &[u8],
+    b: &[u8],
+    c: &[u8],
+) -> Result<Vec<u8>, Fail> {
+    let program = Admitted::read(alloc, program)?;
+    let libraries = [
+        Library {
+            name: b"a",
+            object: Admitted::read(alloc, a)?,
+        },
+        Library {
+            name: b"b",
+            object: Admitted::read(alloc, b)?,
+        },
+        Library {
+            name: b"c",
+            object: Admitted::read(alloc, c)?,
+        },
+    ];
+    let order = load_order(alloc, &program, &libraries, &[2])?;
+    let mut names = Vec::new(alloc);
+    for i in 0..order.count() {
+        names.extend_from_slice(order.name(i))?;
+    }
+    Ok(names)
+}
+
+#[test]
+fn orders_by_levels(rt: HostRuntime) -> Result<(), Fail> {
+    let alloc = rt.alloc();
+    let program = file(alloc, b"abba")?;
+    let a = file(alloc, b"ca")?;
+    let b = file(alloc, b"")?;
+    let c = file(alloc, b"b")?;
+    let names = names_in_order(alloc, &program, &a, &b, &c)?;
+    assert_eq!(rt; names.as_slice(), b"/programcab".as_slice());
+    Ok(())
+}

@@ -1,0 +1,85 @@
+-- A script over something that is seen in part.
+use Rattle.std.proofs.Common.{◌≡◌, ℕ, List, [], ◌∷◌, map, ap, refl, subst, inl, inr, ◌∙◌}
+use Rattle.registry.specs.Request.{Request}
+use Rattle.registry.specs.Runs.{last_of, Steps, Run}
+use Rattle.registry.specs.declared.reply.Reply.{Reply}
+use Rattle.commands.specs.Answer.{LineStep}
+use Rattle.commands.specs.Outcome.{Worsens}
+use Rattle.commands.specs.Status.{greatest, lines_status, fault_status}
+use Rattle.commands.specs.declared.status.Status.{Status}
+use Rattle.commands.specs.declared.status.Status.TheVariants.{Done}
+use Rattle.commands.specs.inside.Ends.{IsRun}
+use Rattle.commands.specs.Script.{Streams, Finishes, Stops}
+use Rattle.commands.specs.declared.answer.Answer.{Answer}
+use Rattle.commands.specs.declared.answer.Answer.TheVariants.{Replied, BadLine, CutLine}
+use Rattle.commands.specs.declared.fault.ScriptFault.{ScriptFault}
+use Rattle.commands.specs.declared.summary.Summary.{Summary}
+use Rattle.commands.specs.declared.watched.Watched.{Watched}
+use Rattle.commands.specs.inside.Watched.{WatchedStep}
+
+module _ {S T : Type 0} (f : S → T) (step : S → Request → Reply → S → Type 0) (seen : T → Request → Reply → T → Type 0) (keeps : (s s' : S) (q : Request) (r : Reply) → step s q r s' → seen (f s) q r (f s')) where
+  line_seen : (s s' : S) (line : List ℕ) (answer : Answer) → LineStep step s line answer s' → LineStep seen (f s) line answer (f s')
+  line_seen s s' line (Replied reply) h = (h.0, h.1, keeps s s' h.0 reply h.2)
+  line_seen s s' line BadLine h = (h.0, ap f h.1)
+  line_seen s s' line CutLine h = absurd h
+
+  steps_seen : (s : S) (lines : List (List ℕ)) (answers : List Answer) (states : List S) → Steps (LineStep step) s lines answers states → Steps (LineStep seen) (f s) lines answers (map f states)
+  steps_seen s [] [] [] h = tt
+  steps_seen s (q ∷ qs) (r ∷ rs) (t ∷ ts) h = (line_seen s t q r h.0, steps_seen t qs rs ts h.1)
+  steps_seen s [] [] (t ∷ ts) h = absurd h
+  steps_seen s [] (r ∷ rs) ts h = absurd h
+  steps_seen s (q ∷ qs) [] ts h = absurd h
+  steps_seen s (q ∷ qs) (r ∷ rs) [] h = absurd h
+
+  last_seen : (s : S) (states : List S) → f (last_of s states) ≡ last_of (f s) (map f states)
+  last_seen s [] = refl
+  last_seen s (t ∷ ts) = last_seen t ts
+
+  run_seen : (s s' : S) (lines : List (List ℕ)) (answers : List Answer) → Run (LineStep step) s lines answers s' → Run (LineStep seen) (f s) lines answers (f s')
+  run_seen s s' lines answers h = (map f h.0, steps_seen s lines answers h.0 h.1, ap f h.2 ∙ last_seen s h.0)
+
+  pub finishes_seen : (io : Streams) (s s' : S) (summary : Summary) → Finishes step io s s' summary → Finishes seen io (f s) (f s') summary
+  finishes_seen io s s' summary h =
+      let e = h.3 in (
+        h.0,
+        h.1,
+        h.2,
+        record {
+          read = e.read;
+          lines = e.lines;
+          rest = e.rest;
+          run = run_seen s s' h.0 h.2 e.run;
+          written = e.written;
+          counts = e.counts;
+        },
+      )
+
+  pub stops_seen : (io : Streams) (s s' : S) (fault : ScriptFault) → Stops step io s s' fault → Stops seen io (f s) (f s') fault
+  stops_seen io s s' fault h =
+      let e = h.3 in (
+        h.0,
+        h.1,
+        h.2,
+        record {
+          read = e.read;
+          lines = e.lines;
+          one_at_most = e.one_at_most;
+          run = run_seen s s' h.0 h.2 e.run;
+          written = e.written;
+        },
+      )
+
+module _ {G : Type 0} (step : G → Request → Reply → G → Type 0) (io : Streams) (w w' : Watched G) where
+  -- of a registry whose replies are watched the greatest status is seen
+  pub watched_finishes : (summary : Summary) → Finishes (WatchedStep step) io w w' summary → Finishes Worsens io w.worst w'.worst summary
+  watched_finishes summary h = finishes_seen (λ v. v.worst) (WatchedStep step) Worsens (λ s s' q r k. k.1) io w w' summary h
+
+  pub watched_stops : (fault : ScriptFault) → Stops (WatchedStep step) io w w' fault → Stops Worsens io w.worst w'.worst fault
+  watched_stops fault h = stops_seen (λ v. v.worst) (WatchedStep step) Worsens (λ s s' q r k. k.1) io w w' fault h
+
+  -- a script that was run to its end, or ended early, from a registry none of whose replies was watched
+  pub runs_through : (summary : Summary) (status : Status) → w.worst ≡ Done → Finishes (WatchedStep step) io w w' summary → status ≡ greatest w'.worst (lines_status summary.refused) → IsRun io status
+  runs_through summary status e h is = inl (w'.worst, summary, subst (λ s. Finishes Worsens io s w'.worst summary) e (watched_finishes summary h), is)
+
+  pub ends_early : (fault : ScriptFault) (status : Status) → w.worst ≡ Done → Stops (WatchedStep step) io w w' fault → status ≡ greatest w'.worst (fault_status fault) → IsRun io status
+  ends_early fault status e h is = inr (w'.worst, fault, subst (λ s. Stops Worsens io s w'.worst fault) e (watched_stops fault h), is)

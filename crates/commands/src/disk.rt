@@ -1,0 +1,126 @@
+// The disk of a command: opened or made over a file, or why not.
+
+ghost use Rattle.std.specs.Prelude.{◌≡◌, ◌++◌, codes, true, false, OnOk, OnErr, IfErr};
+ghost use Rattle.std.specs.Io.KnownBytes.{Appends};
+ghost use Rattle.text_output.specs.Sends.{Sends};
+ghost use Rattle.commands.specs.Disk.{disk_refusal_name, disk_refusal_text};
+ghost use Rattle.commands.specs.inside.Ends.{IsTurnedAway, is_told};
+
+use crate::fault::ScriptFault;
+use crate::message::cannot_read;
+use crate::refusal::Line;
+use crate::status::{Status, disk_status};
+use disk_registry::Registry;
+use file_disk::{FileDisk, OpenFault};
+use std::alloc::Global;
+use std::io::Write;
+use std::rt::Files;
+use store::StoreRefusal;
+
+/// Why there is no registry to ask.
+#[derive(Clone, Copy, Debug, PartialEq, Eq)]
+pub(crate) enum NoRegistry {
+    /// The file can't be opened or made.
+    CannotOpen,
+    /// The disk was refused.
+    Refused(StoreRefusal),
+}
+
+/// Why a file is no disk, in these words: a length that isn't that of whole sectors, or not of
+/// those that were asked for, is S6.
+fn no_disk(fault: OpenFault) -> NoRegistry {
+    match fault {
+        OpenFault::CannotOpen => NoRegistry::CannotOpen,
+        OpenFault::BadLength => NoRegistry::Refused(StoreRefusal::BadGeometry),
+        OpenFault::OutOfMemory => NoRegistry::Refused(StoreRefusal::OutOfMemory),
+    }
+}
+
+/// Opens the registry on the disk that a file is.
+pub(crate) fn open_registry<R: Files>(
+    rt: &R,
+    alloc: Global,
+    path: &str,
+) -> Result<Registry<FileDisk<R::File>>, NoRegistry> {
+    let disk = match FileDisk::open(rt, alloc, path) {
+        Ok(disk) => disk,
+        Err(fault) => return Err(no_disk(fault)),
+    };
+    match Registry::open(alloc, disk) {
+        Ok(registry) => Ok(registry),
+        Err((refusal, _)) => Err(NoRegistry::Refused(refusal)),
+    }
+}
+
+/// Makes an empty registry on the disk of so many sectors that a file is, and makes the file where
+/// none stands.
+pub(crate) fn make_registry<R: Files>(
+    rt: &R,
+    alloc: Global,
+    path: &str,
+    sectors: u32,
+) -> Result<(), NoRegistry> {
+    let disk: FileDisk<R::File> = match FileDisk::make(rt, alloc, path, sectors) {
+        Ok(disk) => disk,
+        Err(fault) => return Err(no_disk(fault)),
+    };
+    match Registry::format(alloc, disk) {
+        Ok(registry) => {
+            drop(registry.into_disk());
+            Ok(())
+        }
+        Err((refusal, _)) => Err(NoRegistry::Refused(refusal)),
+    }
+}
+
+/// The number of a refusal and its name.
+fn disk_refusal_name(refusal: StoreRefusal) -> &'static [u8]
+    ensures { result.now ≡ disk_refusal_name refusal }
+{
+    match refusal {
+        StoreRefusal::Device => b"S1 Device",
+        StoreRefusal::Reopen => b"S2 Reopen",
+        StoreRefusal::NotFormatted => b"S3 NotFormatted",
+        StoreRefusal::AlreadyFormatted => b"S4 AlreadyFormatted",
+        StoreRefusal::Damaged => b"S5 Damaged",
+        StoreRefusal::BadGeometry => b"S6 BadGeometry",
+        StoreRefusal::Full => b"S7 Full",
+        StoreRefusal::Fragmented => b"S8 Fragmented",
+        StoreRefusal::TooMany => b"S9 TooMany",
+        StoreRefusal::GenerationEnd => b"S10 GenerationEnd",
+        StoreRefusal::OutOfMemory => b"S11 OutOfMemory",
+    }
+}
+
+/// Writes the line of a refusal, with one write.
+fn write_disk_refusal<O: Write>(out: &mut O, refusal: StoreRefusal) -> Result<(), ScriptFault>
+    ensures ok { OnOk result
+        (Appends (O.contents out.old) (O.contents out.new) (disk_refusal_text refusal)) }
+    ensures err { IfErr result (λ fault. fault ≡ ScriptFault.Write) }
+{
+    let mut line = Line::new();
+    line.put(out, b"refused ")?;
+    line.put(out, disk_refusal_name(refusal))?;
+    line.put(out, b"\n")?;
+    line.send(out)?;
+    Ok(())
+}
+
+/// Says why there is no registry.
+pub(crate) fn turn_away<O: Write, E: Write>(
+    why: NoRegistry,
+    path: &str,
+    output: &mut O,
+    errors: &mut E,
+) -> Status
+    ensures ends { IsTurnedAway (O.contents output.old) (O.contents output.new) result }
+    ensures silent { is_told result ≡ false → E.contents errors.new ≡ E.contents errors.old }
+{
+    match why {
+        NoRegistry::CannotOpen => cannot_read(errors, path),
+        NoRegistry::Refused(refusal) => match write_disk_refusal(output, refusal) {
+            Ok(()) => disk_status(refusal),
+            Err(_) => Status::Failed,
+        },
+    }
+}

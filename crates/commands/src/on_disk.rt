@@ -1,0 +1,183 @@
+// The commands of a registry on a disk.
+
+ghost use Rattle.std.specs.Prelude.{◌≡◌, false, map, string_bytes, IfOk};
+ghost use Rattle.registry.specs.Request.{request_of};
+ghost use Rattle.registry.specs.declared.reply.Reply.{Reply};
+ghost use Rattle.commands.specs.Base.{base_of};
+ghost use Rattle.commands.specs.inside.Ends.{BindEnds, IsFormatted, IsWritten, Replied, is_told};
+
+use crate::applies::Applies;
+use crate::base::parse_base;
+use crate::disk::{make_registry, open_registry, turn_away};
+use crate::file::read_file;
+use crate::message::bad_base;
+use crate::reply::write_reply;
+use crate::status::{Status, reply_status};
+use crate::unread::{no_memory, not_read};
+use registry::{Command, Reply};
+use std::alloc::{AllocError, Global};
+use std::io::Write;
+use std::rt::Files;
+
+/// Applies a command, and writes the reply.
+pub(crate) fn answer<G: Applies, O: Write>(
+    registry: &mut G,
+    command: &Command<'_>,
+    output: &mut O,
+) -> Status
+    ensures { (reply : Reply) × G.step registry.old (request_of command.now) reply registry.new
+        × IsWritten reply (O.contents output.old) (O.contents output.new) result }
+{
+    let reply = registry.apply(command);
+    match write_reply(output, &reply) {
+        Ok(()) => reply_status(&reply),
+        Err(_) => Status::Failed,
+    }
+}
+
+/// Applies a command to the registry on a disk, and writes the reply.
+pub(crate) fn ask<R: Files, O: Write, E: Write>(
+    rt: &R,
+    alloc: Global,
+    disk: &str,
+    command: &Command<'_>,
+    output: &mut O,
+    errors: &mut E,
+) -> Status
+    ensures ends { Replied (O.contents output.old) (O.contents output.new) result }
+    ensures silent { is_told result ≡ false → E.contents errors.new ≡ E.contents errors.old }
+{
+    match open_registry(rt, alloc, disk) {
+        Ok(registry) => {
+            let mut registry = registry;
+            let status = answer(&mut registry, command, output);
+            drop(registry.into_disk());
+            status
+        }
+        Err(why) => turn_away(why, disk, output, errors),
+    }
+}
+
+/// `format DISK SECTORS`.
+pub(crate) fn format<R: Files, O: Write, E: Write>(
+    rt: &R,
+    alloc: Global,
+    disk: &str,
+    sectors: u32,
+    output: &mut O,
+    errors: &mut E,
+) -> Status
+    ensures ends { IsFormatted (O.contents output.old) (O.contents output.new) result }
+    ensures silent { is_told result ≡ false → E.contents errors.new ≡ E.contents errors.old }
+{
+    match make_registry(rt, alloc, disk, sectors) {
+        Ok(()) => match write_reply(output, &Reply::Done) {
+            Ok(()) => Status::Done,
+            Err(_) => Status::Failed,
+        },
+        Err(why) => turn_away(why, disk, output, errors),
+    }
+}
+
+/// `install DISK FILE`. The file is read before the disk is opened.
+pub(crate) fn install<R: Files, O: Write, E: Write>(
+    rt: &R,
+    alloc: Global,
+    disk: &str,
+    file: &str,
+    output: &mut O,
+    errors: &mut E,
+) -> Status
+    ensures ends { Replied (O.contents output.old) (O.contents output.new) result }
+    ensures silent { is_told result ≡ false → E.contents errors.new ≡ E.contents errors.old }
+{
+    match read_file(rt, alloc, file) {
+        Ok(bytes) => ask(rt, alloc, disk, &Command::Install(&bytes), output, errors),
+        Err(fault) => not_read(fault, file, output, errors),
+    }
+}
+
+/// `replace DISK FILE`. The file is read before the disk is opened.
+pub(crate) fn replace<R: Files, O: Write, E: Write>(
+    rt: &R,
+    alloc: Global,
+    disk: &str,
+    file: &str,
+    output: &mut O,
+    errors: &mut E,
+) -> Status
+    ensures ends { Replied (O.contents output.old) (O.contents output.new) result }
+    ensures silent { is_told result ≡ false → E.contents errors.new ≡ E.contents errors.old }
+{
+    match read_file(rt, alloc, file) {
+        Ok(bytes) => ask(rt, alloc, disk, &Command::Replace(&bytes), output, errors),
+        Err(fault) => not_read(fault, file, output, errors),
+    }
+}
+
+/// The bytes of names.
+fn bytes_of(alloc: Global, names: &[String]) -> Result<Vec<&[u8]>, AllocError>
+    ensures { IfOk result (λ list. map (λ name. name.now) list.items
+        ≡ map (λ name. string_bytes name) names.now) }
+{
+    names.iter().map(|name| name.as_bytes()).collect(alloc)
+}
+
+/// `preload DISK [NAME]..`.
+pub(crate) fn preload<R: Files, O: Write, E: Write>(
+    rt: &R,
+    alloc: Global,
+    disk: &str,
+    names: &[String],
+    output: &mut O,
+    errors: &mut E,
+) -> Status
+    ensures ends { Replied (O.contents output.old) (O.contents output.new) result }
+    ensures silent { is_told result ≡ false → E.contents errors.new ≡ E.contents errors.old }
+{
+    match bytes_of(alloc, names) {
+        Ok(names) => ask(
+            rt,
+            alloc,
+            disk,
+            &Command::SetPreloads(&names),
+            output,
+            errors,
+        ),
+        Err(_) => no_memory(output),
+    }
+}
+
+/// `bind DISK PROGRAM BASE`. BASE is read before any file is opened, and the program before the
+/// disk is.
+pub(crate) fn bind<R: Files, O: Write, E: Write>(
+    rt: &R,
+    alloc: Global,
+    disk: &str,
+    program: &str,
+    base: &str,
+    output: &mut O,
+    errors: &mut E,
+) -> Status
+    ensures ends { BindEnds (base_of base.now) (O.contents output.old) (O.contents output.new)
+        result }
+    ensures silent { is_told result ≡ false → E.contents errors.new ≡ E.contents errors.old }
+{
+    let Some(base) = parse_base(base) else {
+        return bad_base(errors);
+    };
+    match read_file(rt, alloc, program) {
+        Ok(bytes) => ask(
+            rt,
+            alloc,
+            disk,
+            &Command::Bind {
+                program: &bytes,
+                base,
+            },
+            output,
+            errors,
+        ),
+        Err(fault) => not_read(fault, program, output, errors),
+    }
+}

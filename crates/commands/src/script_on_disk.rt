@@ -1,0 +1,69 @@
+// `script DISK`.
+
+ghost use Rattle.std.specs.Prelude.{◌≡◌, ◌≢◌, false};
+ghost use Rattle.commands.specs.inside.Ends.{IsRun, ScriptEnds, is_told};
+ghost use Rattle.commands.specs.declared.status.Status.TheVariants.{BadWords, Done};
+
+use crate::applies::Applies;
+use crate::disk::{open_registry, turn_away};
+use crate::script::run_script;
+use crate::status::{Status, fault_status, lines_status};
+use crate::watched::Watched;
+use std::alloc::Global;
+use std::io::{Read, Write};
+use std::rt::Files;
+
+/// Runs a script over a registry none of whose replies was watched yet, and gives the greatest
+/// status of all that happened.
+#[tactic(auto, using(crate::proofs::Statuses::after_lines, crate::proofs::Statuses::after_fault))]
+pub(crate) fn run_watched<I: Read, O: Write, G: Applies>(
+    alloc: Global,
+    input: &mut I,
+    output: &mut O,
+    watched: &mut Watched<G>,
+) -> Status
+    requires { watched.old.worst ≡ Done }
+    ensures run { IsRun (record {
+      unread = I.remaining input.old;
+      before = O.contents output.old;
+      after = O.contents output.new;
+    }) result }
+    ensures answers { result ≢ BadWords }
+{
+    match run_script(alloc, input, output, watched) {
+        Ok(summary) => watched.worst.greatest(lines_status(summary.refused)),
+        Err(fault) => watched.worst.greatest(fault_status(fault)),
+    }
+}
+
+/// `script DISK`: from the input to the output.
+#[tactic(auto, using(crate::proofs::Statuses::run_ends, crate::proofs::Statuses::away_script))]
+pub(crate) fn script<R: Files, I: Read, O: Write, E: Write>(
+    rt: &R,
+    alloc: Global,
+    disk: &str,
+    input: &mut I,
+    output: &mut O,
+    errors: &mut E,
+) -> Status
+    ensures ends { ScriptEnds (record {
+      unread = I.remaining input.old;
+      before = O.contents output.old;
+      after = O.contents output.new;
+    }) result }
+    ensures silent { is_told result ≡ false → E.contents errors.new ≡ E.contents errors.old }
+{
+    match open_registry(rt, alloc, disk) {
+        Ok(registry) => {
+            let mut watched = Watched {
+                registry,
+                worst: Status::Done,
+            };
+            let status = run_watched(alloc, input, output, &mut watched);
+            let Watched { registry, worst: _ } = watched;
+            drop(registry.into_disk());
+            status
+        }
+        Err(why) => turn_away(why, disk, output, errors),
+    }
+}

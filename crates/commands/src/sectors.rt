@@ -1,0 +1,52 @@
+// The word SECTORS of a command line.
+
+ghost use Rattle.std.specs.Prelude.{◌≡◌, Some, None, if◌then◌else◌};
+ghost use Rattle.std.specs.List.{list_all};
+ghost use Rattle.std.specs.Char.{is_ascii_digit};
+ghost use Rattle.std.specs.Str.Parse.{digits_value};
+ghost use Rattle.commands.specs.Sectors.{is_decimal, is_geometry, sectors_of};
+
+/// The longest spelling of a number of sectors.
+const MOST_DIGITS: usize = 7;
+
+/// Whether all bytes are decimal digits.
+fn are_digits(bytes: &[u8]) -> bool
+    ensures { result ≡ list_all is_ascii_digit bytes.now }
+{
+    bytes.iter().all(|b| b.is_ascii_digit())
+}
+
+/// Whether a word is 1 to 7 decimal digits.
+fn is_decimal(word: &str) -> bool
+    ensures { result ≡ is_decimal word.now }
+{
+    !word.is_empty() && word.len() <= MOST_DIGITS && are_digits(word.as_bytes())
+}
+
+/// The number that decimal digits spell.
+fn number_of(word: &str) -> Option<u32>
+    ensures { result ≡ (if is_decimal word.now then Some (digits_value 10 word.now) else None) }
+{
+    if is_decimal(word) {
+        u32::from_str_radix(word, 10).ok()
+    } else {
+        None
+    }
+}
+
+/// Whether a registry may have so many sectors.
+fn is_geometry(sectors: u32) -> bool
+    ensures { result ≡ is_geometry sectors }
+{
+    sectors >= 8 && sectors <= 4_194_304
+}
+
+/// Reads SECTORS: 1 to 7 decimal digits of a value from 8 to 4,194,304.
+pub(crate) fn parse_sectors(word: &str) -> Option<u32>
+    ensures { result ≡ sectors_of word.now }
+{
+    match number_of(word) {
+        Some(sectors) if is_geometry(sectors) => Some(sectors),
+        _ => None,
+    }
+}

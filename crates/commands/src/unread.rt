@@ -1,0 +1,36 @@
+// A file that wasn't read.
+
+ghost use Rattle.std.specs.Prelude.{◌≡◌, false};
+ghost use Rattle.commands.specs.inside.Ends.{IsNotRead, SaysNoMemory, is_told};
+
+use crate::file::FileFault;
+use crate::message::cannot_read;
+use crate::refusal::write_memory;
+use crate::status::Status;
+use std::io::Write;
+
+/// Writes that memory was refused.
+pub(crate) fn no_memory<O: Write>(output: &mut O) -> Status
+    ensures { SaysNoMemory (O.contents output.old) (O.contents output.new) result }
+{
+    match write_memory(output) {
+        Ok(()) => Status::NoMemory,
+        Err(_) => Status::Failed,
+    }
+}
+
+/// Says why a file wasn't read.
+pub(crate) fn not_read<O: Write, E: Write>(
+    fault: FileFault,
+    path: &str,
+    output: &mut O,
+    errors: &mut E,
+) -> Status
+    ensures ends { IsNotRead fault (O.contents output.old) (O.contents output.new) result }
+    ensures silent { is_told result ≡ false → E.contents errors.new ≡ E.contents errors.old }
+{
+    match fault {
+        FileFault::CannotRead => cannot_read(errors, path),
+        FileFault::OutOfMemory => no_memory(output),
+    }
+}

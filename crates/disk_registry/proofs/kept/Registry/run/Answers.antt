@@ -1,0 +1,44 @@
+use Rattle.std.proofs.Common.{◌≡◌, ◌++◌, [], ◌∷◌, ◌+◌, List, map, take, sym, ap, subst, ◌∙◌, arith, true, is_ok, rules, get_or}
+use Rattle.std.proofs.lemmas.List.{take_more, take_all, map-append}
+use Rattle.registry.specs.Request.{Request, request_of}
+use Rattle.registry.specs.declared.command.Command.{Command}
+use Rattle.registry.specs.declared.command.Command.TheVariants as command
+use Rattle.registry.specs.declared.reply.Reply.{Reply}
+use Rattle.disk_registry.specs.Ran.{RunsOver}
+use Rattle.disk_registry.proofs.Running.{runs_none, runs_turn}
+use Rattle.disk_registry.proofs.kept.Registry.run.Goals as goal
+
+pub loop-command-init : goal.loop-command-init
+loop-command-init g c = record {
+  count = search rules;
+  room = search rules;
+  runs = λ s at. subst (λ rs. RunsOver g.D.Disk.facts c.args.self.now c.args.self.now s [] rs) (sym c.in_ok-replies.ensures.items) (runs_none g.D.Disk.facts c.args.self.now s at);
+}
+
+pub loop-command-preserved : goal.loop-command-preserved
+loop-command-preserved g c =
+    let ok : is_ok c.push.result ≡ true = c.push.ensures.succeeds (omega arith) in
+    let items : c.push.new.self.items ≡ c.loop-command.replies.items ++ c.apply-reply.result ∷ [] = rw ok at c.push.ensures.items in
+    let none : Command = command.Install (record { ref_ptr = (0, 0); now = [] }) in
+    let i = c.loop-command.command-index in
+    let xs = c.args.commands.now in
+    let asked = request_of (get_or xs i none) in
+    let more : map request_of (take (i + 1) xs) ≡ map request_of (take i xs) ++ asked ∷ [] =
+    ap (map request_of) (take_more xs i none c.loop-command-test.true) ∙ map-append request_of (take i xs) (get_or xs i none ∷ []) in
+    let facts = g.D.Disk.facts in
+    let old = c.args.self.now in
+    let new = c.apply-reply.new.self in
+    record {
+      count = search rules;
+      room = search rules;
+      runs = λ s at.
+          subst (λ (l : List Reply). RunsOver facts old new s (map request_of (take (i + 1) xs)) l) (sym items)
+          (subst (λ (l : List Request). RunsOver facts old new s l (c.loop-command.replies.items ++ c.apply-reply.result ∷ [])) (sym more)
+          (runs_turn facts old c.loop-command.self new s (map request_of (take i xs)) c.loop-command.replies.items asked c.apply-reply.result (c.loop-command.invariant.runs s at)
+          c.apply-reply.ensures.applied (λ failed. (c.apply-reply.ensures.reopen.1 failed, c.apply-reply.ensures.failed failed))));
+    }
+
+pub returns-clause-ok : goal.returns-clause-ok
+returns-clause-ok g c s at =
+    subst (λ l. RunsOver g.D.Disk.facts c.args.self.now c.loop-command.self s (map request_of l) c.loop-command.replies.items)
+    (take_all c.loop-command.command-index c.args.commands.now (omega (arith, c.loop-command-test.false))) (c.loop-command.invariant.runs s at)

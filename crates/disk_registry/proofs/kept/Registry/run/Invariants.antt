@@ -1,0 +1,13 @@
+use Rattle.std.proofs.Common.{◌≡◌, ◌≤◌, map, take, length, vec_len, vec_capacity}
+use Rattle.registry.specs.Request.{request_of}
+use Rattle.registry.specs.State.{State}
+use Rattle.disk_registry.specs.Opened.{IsAt}
+use Rattle.disk_registry.specs.Ran.{RunsOver}
+use Rattle.disk_registry.proofs.kept.Registry.run.Given as goal
+
+abbrev pub invariant-loop-command : goal.invariant-loop-command
+invariant-loop-command g l = record {
+  count : vec_len l.replies ≡ l.command-index;
+  room : length l.commands ≤ vec_capacity l.replies;
+  runs : (s : State) → IsAt g.D.Disk.facts l.fn.self s → RunsOver g.D.Disk.facts l.fn.self l.self s (map request_of (take l.command-index l.commands)) l.replies.items;
+}

@@ -1,0 +1,33 @@
+-- What a command does to a registry on a disk (own).
+use Rattle.std.specs.Prelude.{◌≡◌, ◌⊎◌, IsTrue, List, None}
+use Rattle.sector_disk.specs.Disk.{Sector, DiskFacts, LeavesOnly}
+use Rattle.store.specs.Opened.{Opened}
+use Rattle.registry.specs.State.{State}
+use Rattle.registry.specs.Request.{Request}
+use Rattle.registry.specs.Phase.{Phase}
+use Rattle.registry.specs.Step.{Step, accepted, refusal_at}
+use Rattle.registry.specs.declared.refusal.Refusal.TheVariants.{Device}
+use Rattle.registry.specs.declared.reply.Reply.{Reply}
+use Rattle.registry.specs.declared.reply.Reply.TheVariants.{Refused}
+use Rattle.disk_registry.specs.Stands.{Stands}
+use Rattle.disk_registry.specs.Opened.{IsAt}
+use Rattle.disk_registry.specs.Phase.{phase_of}
+
+-- A change that a failing device cut off may be found done: only one that no test refuses.
+abbrev pub InFlight : Phase → Request → Reply → List Sector → Type 0
+InFlight p request answer m = (answer ≡ Refused Device) × (refusal_at p request ≡ None) × Stands m (accepted p.state request)
+
+-- What a stop within a command may leave: the state before it, the state after it, or what the device had in flight.
+abbrev pub MayLeave : Phase → Request → Reply → State → List Sector → Type 0
+MayLeave p request answer s' m = Stands m p.state ⊎ Stands m s' ⊎ InFlight p request answer m
+
+-- A command was answered so, and led from a state to another.
+pub record Applied {D : Type 0} (facts : D → DiskFacts) (old new : Opened D) (s s' : State) (request : Request) (answer : Reply) : Type 0 where
+  pub step : Step (phase_of facts old s) request answer (phase_of facts new s')
+  pub any_moment : LeavesOnly (facts old.disk) (facts new.disk) (MayLeave (phase_of facts old s) request answer s')
+  -- the registry is at the state after, unless a write or a sync failed: then the state is taken to be the one before
+  pub kept : IsAt facts new s' ⊎ (IsTrue new.failed × (s' ≡ s))
+
+-- the same, with the state after it
+abbrev pub Applies : {D : Type 0} → (D → DiskFacts) → Opened D → Opened D → State → Request → Reply → Type 0
+Applies facts old new s request answer = (s' : State) × Applied facts old new s s' request answer

@@ -1,0 +1,16 @@
+-- Where a registry on a disk stands between two commands (own).
+use Rattle.sector_disk.specs.Disk.{DiskFacts}
+use Rattle.store.specs.Opened.{Opened}
+use Rattle.store.specs.Step.{longest_free}
+use Rattle.registry.specs.State.{State}
+use Rattle.registry.specs.Phase.{Phase}
+
+-- the phase of a registry at a state, in the words of the step table
+abbrev pub phase_of : {D : Type 0} → (D → DiskFacts) → Opened D → State → Phase
+phase_of facts registry s = record {
+  sectors = (facts registry.disk).sectors;
+  longest = longest_free registry;
+  failures = (facts registry.disk).failures;
+  failed = registry.failed;
+  state = s;
+}

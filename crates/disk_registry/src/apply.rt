@@ -1,0 +1,74 @@
+// Commands are applied to a registry on a disk.
+ghost use Rattle.std.specs.Prelude.{◌≡◌};
+ghost use Rattle.registry.specs.Step.{answer_of};
+
+use crate::kept::Registry;
+use registry::{Command, Refusal, Reply};
+use sector_disk::Disk;
+use std::alloc::AllocError;
+
+/// The reply that a change's result makes.
+fn reply(change: Result<(), Refusal>) -> Reply
+    ensures { result ≡ answer_of change }
+{
+    match change {
+        Ok(()) => Reply::Done,
+        Err(refusal) => Reply::Refused(refusal),
+    }
+}
+
+impl<D: Disk> Registry<D> {
+    ghost use Rattle.std.specs.Prelude.{◌≡◌, ◌<◌, ◌↔◌, map, IsTrue, IfOk, OnErr};
+    ghost use Rattle.sector_disk.specs.Disk.{AreCalls, AreCallsExactly};
+    ghost use Rattle.registry.specs.Request.{request_of};
+    ghost use Rattle.registry.specs.State.{State};
+    ghost use Rattle.disk_registry.specs.Applied.{Applies};
+    ghost use Rattle.disk_registry.specs.Calls.{IfAccepted, calls_of};
+    ghost use Rattle.disk_registry.specs.Opened.{IsAt};
+    ghost use Rattle.disk_registry.specs.Ran.{RunsOver};
+
+    /// Applies a command. Removing a library and setting the preloads take no memory; a listing
+    /// makes no call of the disk; a bind reads the files of the program's load order.
+    pub fn apply(&mut self, command: &Command<'_>) -> Reply
+        // A step of the table; a stop at any moment leaves the state from before it or the one
+        // after, also where a call failed.
+        ensures applied { (s : State) → IsAt D.facts self.old s
+            → Applies D.facts self.old self.new s (request_of command.now) result }
+        ensures all_calls { (s : State) → IsAt D.facts self.old s → IfAccepted result
+            (AreCallsExactly (calls_of s (request_of command.now))
+            (D.facts self.old.disk) (D.facts self.new.disk)) }
+
+        // On any disk. After a failed write or sync the disk has to be opened again.
+        ensures reopen { (result ≡ Reply.Refused Refusal.Reopen) ↔ IsTrue self.old.failed }
+        ensures failed { IsTrue self.old.failed → self.new ≡ self.old }
+        ensures device { result ≡ Reply.Refused Refusal.Device
+            → (D.facts self.old.disk).failures < (D.facts self.new.disk).failures }
+        ensures calls { AreCalls (D.facts self.old.disk) (D.facts self.new.disk) }
+    {
+        match command {
+            Command::Install(bytes) => reply(self.install(bytes)),
+            Command::Replace(bytes) => reply(self.replace(bytes)),
+            Command::Remove(name) => reply(self.remove(name)),
+            Command::SetPreloads(names) => reply(self.set_preloads(names)),
+            Command::Bind { program, base } => self.bind(program, *base),
+            Command::List => self.list(),
+        }
+    }
+
+    /// Applies commands one after the other, and gives one reply for each. Where memory for the
+    /// replies is refused, nothing is applied.
+    pub fn run(&mut self, commands: &[Command<'_>]) -> Result<Vec<Reply>, AllocError>
+        // Steps of the table, one after the other; a stop at any moment leaves a state on the way,
+        // or the change that a failing device cut off.
+        ensures ok { IfOk result (λ replies. (s : State) → IsAt D.facts self.old s → RunsOver
+            D.facts self.old self.new s (map request_of commands.now) replies.items) }
+        ensures err { OnErr result (self.new ≡ self.old) }
+    {
+        let mut replies = Vec::with_capacity(self.alloc, commands.len())?;
+        for command in commands {
+            let reply = self.apply(command);
+            replies.push(reply).unwrap();
+        }
+        Ok(replies)
+    }
+}

@@ -1,0 +1,39 @@
+// Reading a library's file.
+ghost use Rattle.std.specs.Prelude.{◌≡◌, ◌<◌, length, slice_index_or, IfOk, IfErr};
+ghost use Rattle.sector_disk.specs.Disk.{AreCallsExactly};
+ghost use Rattle.roots.specs.declared.entry.Entry.{Entry};
+ghost use Rattle.store.specs.Opened.{IsAt};
+ghost use Rattle.store.specs.Stands.{name_of, no_blob};
+ghost use Rattle.store.specs.State.{State};
+ghost use Rattle.registry.specs.Library.{IsLibrary};
+ghost use Rattle.disk_registry.specs.Binding.{data_sectors};
+ghost use Rattle.disk_registry.specs.Stands.{library_of};
+ghost use Rattle.disk_registry.specs.inside.Reading.{IsRead, IsReadRefusal};
+
+use crate::library_file::LibraryFile;
+use sector_disk::Disk;
+use std::alloc::Global;
+use store::{Store, StoreRefusal};
+
+/// Reads the file at this position, and sees that it is a library of its name.
+pub(crate) fn read_library<D: Disk>(
+    alloc: Global,
+    store: &mut Store<D>,
+    position: usize,
+) -> Result<LibraryFile, StoreRefusal>
+    requires { position < length store.old.entries }
+    ensures read { IsRead D.facts store.old store.new }
+    ensures name { (d : Entry) → IfOk result (λ file. file.name
+        ≡ name_of (slice_index_or store.old.entries position d)) }
+    ensures ok { (s : State) → IsAt D.facts store.old s → IfOk result (λ file.
+        file ≡ library_of (slice_index_or s.blobs position no_blob)) }
+    ensures damaged { (s : State) → IsAt D.facts store.old s
+        → IfErr result (λ e. e ≡ StoreRefusal.Damaged
+        → IsLibrary (library_of (slice_index_or s.blobs position no_blob)) → ⊥) }
+    ensures refusals { IfErr result (IsReadRefusal D.facts store.old store.new) }
+    ensures all_calls { IfOk result (λ file. AreCallsExactly (data_sectors file.bytes)
+        (D.facts store.old.disk) (D.facts store.new.disk)) }
+{
+    let bytes = store.read_blob(alloc, position)?;
+    LibraryFile::new(alloc, store.name(position), bytes)
+}
