@@ -130,7 +130,10 @@ fn after_a_failed_call_of_a_run_all_answers_are_reopen(rt: HostRuntime) -> Resul
         for call in *calls {
             for late in [false, true] {
                 let (answers, disk) = run_cut(rt.alloc(), *call, late)?;
-                assert!(rt; holds_one(rt.alloc(), disk, *before, *after)?, "call {call}");
+                assert!(rt;
+                    holds_one(rt.alloc(), disk, *before, *after)?,
+                    "call {call}"
+                );
                 for (answer, wanted) in answers.iter().zip(wanted) {
                     assert_eq!(rt; told(answer), *wanted, "call {call}");
                 }

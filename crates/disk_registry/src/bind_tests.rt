@@ -45,12 +45,7 @@ fn add_entry(bytes: &mut Vec<u8>, tag: u64, letter: u8) -> Result<(), AllocError
 
 /// A file that needs libraries of one letter each, with a name of one letter if it is a library,
 /// padded to so many bytes.
-fn file(
-    alloc: Global,
-    name: Option<u8>,
-    needs: &[u8],
-    size: usize,
-) -> Result<Vec<u8>, AllocError> {
+fn file(alloc: Global, name: Option<u8>, needs: &[u8], size: usize) -> Result<Vec<u8>, AllocError> {
     let mut bytes = Vec::from_slice(alloc, FRONT)?;
     for letter in needs {
         add_entry(&mut bytes, 1, *letter)?;
@@ -95,10 +90,20 @@ fn registry_of(number: usize) -> Case {
         2 => (&[(b'a', b"", 1)], b"", b"z", 0),
         3 => (&[(b'a', b"ce", 1), (b'b', b"", 2)], b"", b"adb", 3),
         // One after the other, and a third that isn't needed.
-        4 => (&[(b'a', b"", 1), (b'b', b"", 2), (b'c', b"", 4)], b"", b"ba", 3),
+        4 => (
+            &[(b'a', b"", 1), (b'b', b"", 2), (b'c', b"", 4)],
+            b"",
+            b"ba",
+            3,
+        ),
         // Needed twice, by itself, and in a ring.
         5 => (&[(b'a', b"b", 1), (b'b', b"ab", 1)], b"", b"aa", 2),
-        6 => (&[(b'a', b"b", 1), (b'b', b"c", 1), (b'c', b"a", 1)], b"", b"b", 3),
+        6 => (
+            &[(b'a', b"b", 1), (b'b', b"c", 1), (b'c', b"a", 1)],
+            b"",
+            b"b",
+            3,
+        ),
         // Level by level, with a preload that needs something.
         7 => (
             &[
@@ -115,7 +120,12 @@ fn registry_of(number: usize) -> Case {
         ),
         // Preloads alone, in their order, needed too.
         8 => (&[(b'a', b"", 1), (b'b', b"", 2)], b"ba", b"", 3),
-        9 => (&[(b'a', b"", 1), (b'b', b"a", 2), (b'c', b"", 1)], b"ca", b"ab", 4),
+        9 => (
+            &[(b'a', b"", 1), (b'b', b"a", 2), (b'c', b"", 1)],
+            b"ca",
+            b"ab",
+            4,
+        ),
         // A preload that lacks what it needs, behind one that has it.
         10 => (&[(b'a', b"z", 1), (b'b', b"a", 1)], b"ba", b"p", 2),
         // A chain to its end.
@@ -286,7 +296,10 @@ fn a_bind_reads_what_it_needs_once(rt: HostRuntime) -> Result<(), Fail> {
         let case = registry_of(number);
         for call in 1..10 {
             let told = fails(&rt, alloc, &case, call)?;
-            assert!(rt; told == (call <= case.reads), "call {call} of case {number}");
+            assert!(rt;
+                told == (call <= case.reads),
+                "call {call} of case {number}"
+            );
         }
     }
     Ok(())

@@ -25,11 +25,7 @@ fn place_of<D: Disk>(store: &Store<D>, name: &[u8]) -> Option<usize>
 }
 
 /// Adds the place of the file of this name, if there is one.
-fn add_named<D: Disk>(
-    places: &mut Places,
-    store: &Store<D>,
-    name: &[u8],
-) -> Result<(), AllocError>
+fn add_named<D: Disk>(places: &mut Places, store: &Store<D>, name: &[u8]) -> Result<(), AllocError>
     requires { places.old.limit ≡ length store.now.entries + 1 }
     ensures { OnOk result (places.new ≡ record {
       limit = places.old.limit;

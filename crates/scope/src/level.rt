@@ -8,11 +8,7 @@ use crate::places::Places;
 use std::alloc::{AllocError, Global};
 
 /// The program and the preloads, of `count` libraries, with room for all libraries.
-pub fn first_level(
-    alloc: Global,
-    count: usize,
-    preloads: &[usize],
-) -> Result<Places, AllocError>
+pub fn first_level(alloc: Global, count: usize, preloads: &[usize]) -> Result<Places, AllocError>
     requires room { count + 1 < 2 ^ 64 }
     requires preloads { All (λ p. p < count) preloads.now }
     requires distinct { IsDistinct nat_eq preloads.now }
