@@ -23,14 +23,3 @@ mod reading;
 mod refusal;
 
 pub use kept::Registry;
-
-#[cfg(test)]
-mod apply_tests;
-#[cfg(test)]
-mod bind_tests;
-#[cfg(test)]
-mod change_tests;
-#[cfg(test)]
-mod open_tests;
-#[cfg(test)]
-mod put_tests;
