@@ -5,6 +5,7 @@ pub mod Ascii
 pub mod Lines
 pub mod ReadLines
 pub mod Pages
+pub mod ScriptRuns
 pub mod Scripts
 pub mod Then
 pub mod Seen

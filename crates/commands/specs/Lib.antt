@@ -1,6 +1,7 @@
 pub mod Answer
 pub mod Base
 pub mod Disk
+pub mod DiskScript
 pub mod DiskStep
 pub mod File
 pub mod Line

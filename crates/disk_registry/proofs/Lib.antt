@@ -7,6 +7,7 @@ pub mod Openings
 pub mod Putting
 pub mod Puts
 pub mod Running
+pub mod Answering
 pub mod States
 pub mod Tested
 pub mod StateNames

@@ -18,17 +18,19 @@ fn reply(change: Result<(), Refusal>) -> Reply
 }
 
 impl<D: Disk> Registry<D> {
-    ghost use Rattle.std.specs.Prelude.{◌≡◌, ◌<◌, ◌↔◌, map, IsTrue, IfOk, OnErr};
-    ghost use Rattle.sector_disk.specs.Disk.{AreCalls, AreCallsExactly};
+    ghost use Rattle.std.specs.Prelude.{◌≡◌, map, IfOk, OnErr};
+    ghost use Rattle.sector_disk.specs.Disk.{AreCallsExactly};
     ghost use Rattle.registry.specs.Request.{request_of};
     ghost use Rattle.registry.specs.State.{State};
+    ghost use Rattle.disk_registry.specs.Answered.{Answered, AreAnswered};
     ghost use Rattle.disk_registry.specs.Applied.{Applies};
     ghost use Rattle.disk_registry.specs.Calls.{IfAccepted, calls_of};
     ghost use Rattle.disk_registry.specs.Opened.{IsAt};
     ghost use Rattle.disk_registry.specs.Ran.{RunsOver};
 
-    /// Applies a command. Removing a library and setting the preloads take no memory; a listing
-    /// makes no call of the disk; a bind reads the files of the program's load order.
+    /// Applies a command. On an honest disk the answer is a step of the step table, and a refusal
+    /// the first that applies there. Removing a library and setting the preloads take no memory; a
+    /// listing makes no call of the disk; a bind reads the files of the program's load order.
     pub fn apply(&mut self, command: &Command<'_>) -> Reply
         // A step of the table; a stop at any moment leaves the state from before it or the one
         // after, also where a call failed.
@@ -38,12 +40,7 @@ impl<D: Disk> Registry<D> {
             (AreCallsExactly (calls_of s (request_of command.now))
             (D.facts self.old.disk) (D.facts self.new.disk)) }
 
-        // On any disk. After a failed write or sync the disk has to be opened again.
-        ensures reopen { (result ≡ Reply.Refused Refusal.Reopen) ↔ IsTrue self.old.failed }
-        ensures failed { IsTrue self.old.failed → self.new ≡ self.old }
-        ensures device { result ≡ Reply.Refused Refusal.Device
-            → (D.facts self.old.disk).failures < (D.facts self.new.disk).failures }
-        ensures calls { AreCalls (D.facts self.old.disk) (D.facts self.new.disk) }
+        ensures on_any_disk { Answered D.facts self.old self.new (request_of command.now) result }
     {
         match command {
             Command::Install(bytes) => reply(self.install(bytes)),
@@ -63,6 +60,10 @@ impl<D: Disk> Registry<D> {
         ensures ok { IfOk result (λ replies. (s : State) → IsAt D.facts self.old s → RunsOver
             D.facts self.old self.new s (map request_of commands.now) replies.items) }
         ensures err { OnErr result (self.new ≡ self.old) }
+
+        // One answer for each command.
+        ensures on_any_disk { IfOk result (λ replies. AreAnswered D.facts self.old self.new
+            (map request_of commands.now) replies.items) }
     {
         let mut replies = Vec::with_capacity(self.alloc, commands.len())?;
         for command in commands {

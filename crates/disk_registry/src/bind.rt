@@ -30,6 +30,7 @@ impl<D: Disk> Registry<D> {
     ghost use Rattle.registry.specs.Request.{bind};
     ghost use Rattle.registry.specs.State.{State};
     ghost use Rattle.registry.specs.Step.{Step};
+    ghost use Rattle.disk_registry.specs.Answered.{IsBindAnswer, IsBindRefusal};
     ghost use Rattle.disk_registry.specs.Applied.{Applied};
     ghost use Rattle.disk_registry.specs.Binding.{bind_sectors, bound_answer, IfBound};
     ghost use Rattle.disk_registry.specs.Opened.{IsAt};
@@ -43,6 +44,7 @@ impl<D: Disk> Registry<D> {
         ensures step { (s : State) → IsAt D.facts self.old s → Step (phase_of D.facts self.old s)
             (bind program.now base) (bound_answer result) (phase_of D.facts self.new s) }
         ensures read { IsRead D.facts self.old self.new }
+        ensures refusals { IfErr result IsBindRefusal }
         ensures reopen { result ≡ Err Refusal.Reopen → IsTrue self.old.failed }
         ensures device { result ≡ Err Refusal.Device
             → (D.facts self.old.disk).failures < (D.facts self.new.disk).failures }
@@ -67,6 +69,7 @@ impl<D: Disk> Registry<D> {
         ensures read { IsRead D.facts self.old self.new }
         ensures failed { IsTrue self.old.failed → (result ≡ Err Refusal.Reopen)
             × (self.new ≡ self.old) }
+        ensures refusals { IfErr result IsBindRefusal }
         ensures reopen { result ≡ Err Refusal.Reopen → IsTrue self.old.failed }
         ensures device { result ≡ Err Refusal.Device
             → (D.facts self.old.disk).failures < (D.facts self.new.disk).failures }
@@ -98,6 +101,7 @@ impl<D: Disk> Registry<D> {
         ensures alone { program_refusal program.now base ≢ None → self.new ≡ self.old }
         ensures failed { IsTrue self.old.failed → (result ≡ Reply.Refused Refusal.Reopen)
             × (self.new ≡ self.old) }
+        ensures answers { IsBindAnswer result }
         ensures reopen { result ≡ Reply.Refused Refusal.Reopen → IsTrue self.old.failed }
         ensures device { result ≡ Reply.Refused Refusal.Device
             → (D.facts self.old.disk).failures < (D.facts self.new.disk).failures }

@@ -10,13 +10,12 @@ const MOST_PRELOADS: usize = 16;
 
 impl<D: Disk> Registry<D> {
     ghost use Rattle.std.specs.Prelude.{◌≡◌, ◌≢◌, ◌==◌, ◌<◌, ◌≤◌, ◌↔◌, true, not, map, length, All};
-    ghost use Rattle.std.specs.Prelude.{IsTrue, IsFalse, IfSome, IsNone, IfOk, IfErr, OnOk};
+    ghost use Rattle.std.specs.Prelude.{IsTrue, IfSome, IsNone, IfOk, IfErr, OnOk};
     ghost use Rattle.std.specs.List.{list_any};
     ghost use Rattle.elf_file.specs.FirstOf.{◌when◌};
     ghost use Rattle.extents.specs.Extent.{AreDistinct};
     ghost use Rattle.roots.specs.Limits.{most_preloads};
     ghost use Rattle.roots.specs.Root.{listed_preloads};
-    ghost use Rattle.sector_disk.specs.Disk.{AreCallsExactly, AreCallsAtMost};
     ghost use Rattle.store.specs.Stands.{names_at};
     ghost use Rattle.store.specs.Step.{HasName, IsNoPreload};
     ghost use Rattle.registry.specs.Phase.{table_of};
@@ -25,10 +24,12 @@ impl<D: Disk> Registry<D> {
     ghost use Rattle.registry.specs.Step.{Step, refusal_at, answer_of};
     ghost use Rattle.registry.specs.Tests.{has_repeat, is_installed, is_last};
     ghost use Rattle.registry.specs.declared.reply.Reply.TheVariants.{Refused};
+    ghost use Rattle.disk_registry.specs.Answered.{IsRemoveRefusal, IsPreloadsRefusal};
     ghost use Rattle.disk_registry.specs.Applied.{Applies};
     ghost use Rattle.disk_registry.specs.Opened.{IsAt};
     ghost use Rattle.disk_registry.specs.Phase.{phase_of};
     ghost use Rattle.disk_registry.specs.Stands.{stored};
+    ghost use Rattle.disk_registry.specs.inside.Changed.{Changed};
     ghost use Rattle.disk_registry.specs.inside.Named.{AreNamed};
 
     /// Whether the library at this position is a preload.
@@ -51,6 +52,7 @@ impl<D: Disk> Registry<D> {
             → IfErr result (λ refusal. Step (phase_of D.facts self.now s) (remove name.now)
             (Refused refusal) (phase_of D.facts self.now s)) }
         ensures reopen { (result ≡ Err Refusal.Reopen) ↔ IsTrue self.now.failed }
+        ensures refusals { IfErr result IsRemoveRefusal }
         ensures device { result ≢ Err Refusal.Device }
         ensures present { OnOk result (HasName self.now name.now) }
         ensures no_preload { OnOk result (IsNoPreload self.now name.now) }
@@ -72,16 +74,7 @@ impl<D: Disk> Registry<D> {
         ensures applied { (s : State) → IsAt D.facts self.old s
             → Applies D.facts self.old self.new s (remove name.now) (answer_of result) }
 
-        // On any disk. After a failed call the registry has to be opened again.
-        ensures reopen { (result ≡ Err Refusal.Reopen) ↔ IsTrue self.old.failed }
-        ensures device { IfErr result (λ e. e ≡ Refusal.Device
-            → ((D.facts self.old.disk).failures < (D.facts self.new.disk).failures)
-            × IsTrue self.new.failed) }
-        ensures same { IfErr result (λ e. e ≢ Refusal.Device → self.new ≡ self.old) }
-        ensures usable { OnOk result (IsFalse self.new.failed) }
-        ensures all_calls { OnOk result
-            (AreCallsExactly 2 (D.facts self.old.disk) (D.facts self.new.disk)) }
-        ensures calls { AreCallsAtMost 2 (D.facts self.old.disk) (D.facts self.new.disk) }
+        ensures on_any_disk { Changed D.facts self.old self.new 2 IsRemoveRefusal result }
     {
         self.test_remove(name)?;
         match self.store.delete(name) {
@@ -123,6 +116,7 @@ impl<D: Disk> Registry<D> {
             (set_preloads (map (λ n. n.now) names.now)) (Refused refusal)
             (phase_of D.facts self.now s)) }
         ensures reopen { (result ≡ Err Refusal.Reopen) ↔ IsTrue self.now.failed }
+        ensures refusals { IfErr result IsPreloadsRefusal }
         ensures device { result ≢ Err Refusal.Device }
         ensures state { (s : State) → IsAt D.facts self.now s → IfOk result (λ positions.
             names_at (stored s).blobs positions.items ≡ map (λ n. n.now) names.now) }
@@ -152,16 +146,7 @@ impl<D: Disk> Registry<D> {
             → Applies D.facts self.old self.new s (set_preloads (map (λ n. n.now) names.now))
             (answer_of result) }
 
-        // On any disk. After a failed call the registry has to be opened again.
-        ensures reopen { (result ≡ Err Refusal.Reopen) ↔ IsTrue self.old.failed }
-        ensures device { IfErr result (λ e. e ≡ Refusal.Device
-            → ((D.facts self.old.disk).failures < (D.facts self.new.disk).failures)
-            × IsTrue self.new.failed) }
-        ensures same { IfErr result (λ e. e ≢ Refusal.Device → self.new ≡ self.old) }
-        ensures usable { OnOk result (IsFalse self.new.failed) }
-        ensures all_calls { OnOk result
-            (AreCallsExactly 2 (D.facts self.old.disk) (D.facts self.new.disk)) }
-        ensures calls { AreCallsAtMost 2 (D.facts self.old.disk) (D.facts self.new.disk) }
+        ensures on_any_disk { Changed D.facts self.old self.new 2 IsPreloadsRefusal result }
     {
         let positions = self.test_preloads(names)?;
         match self.store.set_preloads(positions.as_slice()) {

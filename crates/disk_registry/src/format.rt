@@ -5,7 +5,7 @@ use std::alloc::Global;
 use store::{Store, StoreRefusal};
 
 impl<D: Disk> Registry<D> {
-    ghost use Rattle.std.specs.Prelude.{◌≡◌, ◌<◌, ◌⊎◌, IsTrue, IfOk, IfErr, OnOk};
+    ghost use Rattle.std.specs.Prelude.{◌≡◌, ◌<◌, ◌⊎◌, IsTrue, IsFalse, IfOk, IfErr, OnOk};
     ghost use Rattle.sector_disk.specs.Disk.{Mixture, LeavesOnly, AreCallsExactly, AreCallsAtMost};
     ghost use Rattle.store.specs.Opened.{disk_after};
     ghost use Rattle.store.specs.Opening.{IsGeometry, HasRootMagic};
@@ -14,8 +14,8 @@ impl<D: Disk> Registry<D> {
     ghost use Rattle.disk_registry.specs.Opened.{IsAt};
     ghost use Rattle.disk_registry.specs.Stands.{Stands};
 
-    /// Makes an empty registry on a disk where no root was written yet. It writes one sector. Where
-    /// it refuses it hands the disk back.
+    /// Makes an empty registry on a disk where no root was written yet. It writes one sector. It
+    /// refuses with S6, S11, S4 or S1, and hands the disk back.
     pub fn format(alloc: Global, disk: D) -> Result<Registry<D>, (StoreRefusal, D)>
         // A stop at any moment leaves what it could leave before, or the empty registry.
         ensures any_moment { IsTrue (D.facts disk).honest
@@ -28,8 +28,14 @@ impl<D: Disk> Registry<D> {
         ensures refused { IsTrue (D.facts disk).honest
             → IfErr result (λ e. RefusesFormat (D.facts disk).now e.0) }
 
+        // A disk that was formatted before stays as it was.
+        ensures left_alone { IsTrue (D.facts disk).honest
+            → IfErr result (λ e. e.0 ≡ StoreRefusal.AlreadyFormatted → LeavesOnly
+            (D.facts disk) (D.facts e.1) (Mixture (D.facts disk))) }
+
         // On any disk
         ensures geometry { IfOk result (λ _. IsGeometry (D.facts disk).sectors) }
+        ensures usable { IfOk result (λ registry. IsFalse registry.failed) }
         ensures refusals { IfErr result (λ e. IsRefusalOfFormat (D.facts disk).sectors e.0) }
         ensures device { IfErr result (λ e. e.0 ≡ StoreRefusal.Device
             → (D.facts disk).failures < (D.facts e.1).failures) }

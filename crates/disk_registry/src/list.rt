@@ -10,6 +10,7 @@ impl<D: Disk> Registry<D> {
     ghost use Rattle.registry.specs.Request.{list};
     ghost use Rattle.registry.specs.State.{State};
     ghost use Rattle.registry.specs.Table.{entry_of, listed};
+    ghost use Rattle.disk_registry.specs.Answered.{IsListAnswer};
     ghost use Rattle.disk_registry.specs.Applied.{Applies};
     ghost use Rattle.disk_registry.specs.Opened.{IsAt};
 
@@ -59,6 +60,7 @@ impl<D: Disk> Registry<D> {
 
         // On any disk
         ensures reopen { (result ≡ Reply.Refused Refusal.Reopen) ↔ IsTrue self.now.failed }
+        ensures answers { IsListAnswer result }
         ensures device { result ≡ Reply.Refused Refusal.Device → ⊥ }
     {
         if self.store.has_failed() {

@@ -6,8 +6,8 @@ use std::alloc::Global;
 use store::{Store, StoreRefusal};
 
 impl<D: Disk> Registry<D> {
-    ghost use Rattle.std.specs.Prelude.{◌≡◌, ◌+◌, ◌<◌, ◌⊎◌, IsTrue, IfOk, IfErr, MatchResult};
-    ghost use Rattle.std.specs.Prelude.{length, sum_by};
+    ghost use Rattle.std.specs.Prelude.{◌≡◌, ◌+◌, ◌<◌, ◌⊎◌, IsTrue, IsFalse, IfOk, IfErr};
+    ghost use Rattle.std.specs.Prelude.{MatchResult, length, sum_by};
     ghost use Rattle.sector_disk.specs.Disk.{Mixture, LeavesOnly, AreCalls, AreCallsExactly};
     ghost use Rattle.store.specs.Opened.{disk_after};
     ghost use Rattle.store.specs.Opening.{IsGeometry, IsRefusalOfOpen};
@@ -18,7 +18,8 @@ impl<D: Disk> Registry<D> {
 
     /// Opens the registry that a disk holds, after a stop too. It writes nothing: it syncs, and
     /// reads the two root sectors, one sector an entry, and each file once, which it admits and
-    /// lets go before the next. Where it refuses it hands the disk back.
+    /// lets go before the next. It refuses with S6, S3, S5, S1 or S11, and hands the disk back; S5
+    /// is told too where a file isn't a library of its entry's name.
     pub fn open(alloc: Global, disk: D) -> Result<Registry<D>, (StoreRefusal, D)>
         // A stop at any moment leaves what it could leave before.
         ensures any_moment { IsTrue (D.facts disk).honest → LeavesOnly (D.facts disk)
@@ -35,6 +36,7 @@ impl<D: Disk> Registry<D> {
 
         // On any disk
         ensures geometry { IfOk result (λ _. IsGeometry (D.facts disk).sectors) }
+        ensures usable { IfOk result (λ registry. IsFalse registry.failed) }
         ensures refusals { IfErr result (λ e. IsRefusalOfOpen (D.facts disk).sectors e.0) }
         ensures device { IfErr result (λ e. e.0 ≡ StoreRefusal.Device
             → (D.facts disk).failures < (D.facts e.1).failures) }
@@ -45,8 +47,7 @@ impl<D: Disk> Registry<D> {
             (D.facts disk) (D.facts registry.disk)) }
     {
         match Store::open(alloc, disk) {
-            Ok(store) => {
-                let mut store = store;
+            Ok(mut store) => {
                 match admit_files(alloc, &mut store) {
                     Ok(()) => Ok(Registry { alloc, store }),
                     Err(refusal) => Err((refusal, store.into_disk())),

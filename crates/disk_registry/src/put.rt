@@ -5,15 +5,16 @@ use registry::{Refusal, library_name};
 use sector_disk::Disk;
 
 impl<D: Disk> Registry<D> {
-    ghost use Rattle.std.specs.Prelude.{◌≡◌, ◌≢◌, ◌+◌, ◌<◌, ◌↔◌, Err, IsTrue, IsFalse, IfErr};
-    ghost use Rattle.std.specs.Prelude.{OnOk, length};
+    ghost use Rattle.std.specs.Prelude.{◌+◌, length};
     ghost use Rattle.std.specs.Int.{div_ceil};
-    ghost use Rattle.sector_disk.specs.Disk.{sector_bytes, AreCallsExactly, AreCallsAtMost};
+    ghost use Rattle.sector_disk.specs.Disk.{sector_bytes};
     ghost use Rattle.registry.specs.Request.{install, replace};
     ghost use Rattle.registry.specs.State.{State};
     ghost use Rattle.registry.specs.Step.{answer_of};
+    ghost use Rattle.disk_registry.specs.Answered.{IsInstallRefusal, IsReplaceRefusal};
     ghost use Rattle.disk_registry.specs.Applied.{Applies};
     ghost use Rattle.disk_registry.specs.Opened.{IsAt};
+    ghost use Rattle.disk_registry.specs.inside.Changed.{Changed};
 
     /// Installs a library: its file goes into free sectors, behind the others. It makes a call of
     /// the disk for each of its sectors, for its entry, for the root, and two to sync.
@@ -21,18 +22,8 @@ impl<D: Disk> Registry<D> {
         ensures applied { (s : State) → IsAt D.facts self.old s
             → Applies D.facts self.old self.new s (install bytes.now) (answer_of result) }
 
-        // On any disk. After a failed write or sync the disk has to be opened again.
-        ensures reopen { (result ≡ Err Refusal.Reopen) ↔ IsTrue self.old.failed }
-        ensures device { IfErr result (λ e. e ≡ Refusal.Device
-            → ((D.facts self.old.disk).failures < (D.facts self.new.disk).failures)
-            × IsTrue self.new.failed) }
-        ensures same { IfErr result (λ e. e ≢ Refusal.Device → self.new ≡ self.old) }
-        ensures usable { OnOk result (IsFalse self.new.failed) }
-        ensures all_calls { OnOk result (AreCallsExactly
-            (div_ceil (length bytes.now) sector_bytes + 4)
-            (D.facts self.old.disk) (D.facts self.new.disk)) }
-        ensures calls { AreCallsAtMost (div_ceil (length bytes.now) sector_bytes + 4)
-            (D.facts self.old.disk) (D.facts self.new.disk) }
+        ensures on_any_disk { Changed D.facts self.old self.new
+            (div_ceil (length bytes.now) sector_bytes + 4) IsInstallRefusal result }
     {
         if self.store.has_failed() {
             return Err(Refusal::Reopen);
@@ -53,18 +44,8 @@ impl<D: Disk> Registry<D> {
         ensures applied { (s : State) → IsAt D.facts self.old s
             → Applies D.facts self.old self.new s (replace bytes.now) (answer_of result) }
 
-        // On any disk. After a failed write or sync the disk has to be opened again.
-        ensures reopen { (result ≡ Err Refusal.Reopen) ↔ IsTrue self.old.failed }
-        ensures device { IfErr result (λ e. e ≡ Refusal.Device
-            → ((D.facts self.old.disk).failures < (D.facts self.new.disk).failures)
-            × IsTrue self.new.failed) }
-        ensures same { IfErr result (λ e. e ≢ Refusal.Device → self.new ≡ self.old) }
-        ensures usable { OnOk result (IsFalse self.new.failed) }
-        ensures all_calls { OnOk result (AreCallsExactly
-            (div_ceil (length bytes.now) sector_bytes + 4)
-            (D.facts self.old.disk) (D.facts self.new.disk)) }
-        ensures calls { AreCallsAtMost (div_ceil (length bytes.now) sector_bytes + 4)
-            (D.facts self.old.disk) (D.facts self.new.disk) }
+        ensures on_any_disk { Changed D.facts self.old self.new
+            (div_ceil (length bytes.now) sector_bytes + 4) IsReplaceRefusal result }
     {
         if self.store.has_failed() {
             return Err(Refusal::Reopen);

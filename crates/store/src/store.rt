@@ -65,6 +65,11 @@ impl<D: Disk> Store<D> {
         ensures refused { IsTrue (D.facts disk).honest
             → IfErr result (λ e. RefusesFormat (D.facts disk).now e.0) }
 
+        // A disk that was formatted before stays as it was.
+        ensures left_alone { IsTrue (D.facts disk).honest
+            → IfErr result (λ e. e.0 ≡ StoreRefusal.AlreadyFormatted → LeavesOnly
+            (D.facts disk) (D.facts e.1) (Mixture (D.facts disk))) }
+
         // On any disk
         ensures usable { IfOk result (λ store. IsFalse store.failed) }
         ensures geometry { IfOk result (λ _. IsGeometry (D.facts disk).sectors) }

@@ -2,6 +2,7 @@ use Rattle.std.proofs.Common.{◌≡◌, ◌≤◌, map, take, length, vec_len, 
 use Rattle.registry.specs.Request.{request_of}
 use Rattle.registry.specs.State.{State}
 use Rattle.disk_registry.specs.Opened.{IsAt}
+use Rattle.disk_registry.specs.Answered.{AreAnswered}
 use Rattle.disk_registry.specs.Ran.{RunsOver}
 use Rattle.disk_registry.proofs.kept.Registry.run.Given as goal
 
@@ -10,4 +11,5 @@ invariant-loop-command g l = record {
   count : vec_len l.replies ≡ l.command-index;
   room : length l.commands ≤ vec_capacity l.replies;
   runs : (s : State) → IsAt g.D.Disk.facts l.fn.self s → RunsOver g.D.Disk.facts l.fn.self l.self s (map request_of (take l.command-index l.commands)) l.replies.items;
+  answered : AreAnswered g.D.Disk.facts l.fn.self l.self (map request_of (take l.command-index l.commands)) l.replies.items;
 }
