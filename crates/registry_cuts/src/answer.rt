@@ -1,0 +1,99 @@
+// Answers of a registry as they can be compared.
+
+use anyhow::{Result, bail};
+use registry::{Listing, Refusal, Reply};
+use std::alloc::Global;
+
+/// What a command was answered: what is listed or bound, and the refusal.
+#[derive(Drop, PartialEq)]
+pub(crate) struct Answer {
+    pub(crate) text: Vec<u8>,
+    pub(crate) refusal: Option<Refusal>,
+    /// How many calls of the disk an opening of what is listed makes.
+    pub(crate) opening: u64,
+}
+
+// How many sectors a file of so many bytes takes.
+fn sectors_of(length: u32) -> u64 {
+    u64::from(length).div_ceil(512)
+}
+
+// How many calls of the disk an opening makes: a sync, two root sectors, and of each library the
+// entry and the file.
+fn opening_calls(listing: &Listing) -> u64 {
+    let mut calls = 3u64;
+    for (_, length) in &listing.libraries {
+        calls = calls.saturating_add(sectors_of(*length)).saturating_add(1);
+    }
+    calls
+}
+
+/// How many sectors a bind reads of what is listed: those of the library that is needed, and those
+/// of the preloads. Libraries need none.
+pub(crate) fn reads_of(listing: &Listing, needed: u8) -> u64 {
+    let mut reads = 0u64;
+    for (name, length) in &listing.libraries {
+        let name = name.as_bytes();
+        if name == [needed].as_slice()
+            || listing.preloads.iter().any(|one| one.as_bytes() == name)
+        {
+            reads = reads.saturating_add(sectors_of(*length));
+        }
+    }
+    reads
+}
+
+// The libraries with their lengths, and the preloads.
+fn listing_text(alloc: Global, listing: &Listing) -> Result<Vec<u8>> {
+    let mut text = Vec::new(alloc);
+    for (name, length) in &listing.libraries {
+        text.extend_from_slice(name.as_bytes())?;
+        text.extend_from_slice(&length.to_le_bytes())?;
+    }
+    for name in &listing.preloads {
+        text.push(b'/')?;
+        text.extend_from_slice(name.as_bytes())?;
+    }
+    Ok(text)
+}
+
+impl Answer {
+    /// What a reply says.
+    pub(crate) fn of(alloc: Global, reply: Reply) -> Result<Answer> {
+        let mut text = Vec::new(alloc);
+        let mut opening = 0;
+        let mut refused = None;
+        match reply {
+            Reply::Done => {}
+            Reply::Listing(listing) => {
+                opening = opening_calls(&listing);
+                text = listing_text(alloc, &listing)?;
+            }
+            Reply::Bound(image) => {
+                if image.write_text(&mut text).is_err() {
+                    bail!("no memory for a text");
+                }
+            }
+            Reply::Refused(refusal) => refused = Some(refusal),
+        }
+        Ok(Answer {
+            text,
+            refusal: refused,
+            opening,
+        })
+    }
+
+    /// What replies say.
+    pub(crate) fn all(alloc: Global, replies: Vec<Reply>) -> Result<Vec<Answer>> {
+        let mut answers = Vec::new(alloc);
+        for reply in replies {
+            answers.push(Answer::of(alloc, reply)?)?;
+        }
+        Ok(answers)
+    }
+
+    /// Whether it refuses, and so.
+    pub(crate) fn is(&self, refusal: &Refusal) -> bool {
+        self.refusal.as_ref() == Some(refusal)
+    }
+}

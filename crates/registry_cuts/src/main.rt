@@ -1,0 +1,25 @@
+//! The program `registry_cuts`: cuts the power of registries at every call of their disk, opens
+//! every mixture that is left, and compares what is listed and bound with what may stand.
+#![tactic(auto)]
+
+mod answer;
+mod change;
+mod cut;
+mod groups;
+mod life;
+mod mixture;
+mod opening;
+mod power;
+mod probe;
+mod scenario;
+mod seen;
+mod step;
+mod table;
+mod tally;
+mod trial;
+
+use anyhow::Result;
+
+fn main(rt: HostRuntime) -> Result<()> {
+    groups::run(&rt)
+}

@@ -1,0 +1,142 @@
+// Disks that a cut has left: opened as they are, after each stop, and with an opening that is cut.
+
+use crate::mixture::Mixtures;
+use crate::power::Cut;
+use crate::probe::Probe;
+use crate::seen::{Seen, look, look_behind};
+use crate::table::{Wanted, Which};
+use crate::tally::Tally;
+use anyhow::Result;
+use disk_registry::Registry;
+use sector_disk::{Fuse, Memory};
+use store::StoreRefusal;
+
+/// What stands before a change and after it, and what is asked to see it.
+#[derive(Clone, Copy)]
+pub(crate) struct Sides<'a> {
+    pub(crate) old: &'a Seen,
+    pub(crate) new: &'a Seen,
+    pub(crate) probe: &'a Probe,
+}
+
+impl Sides<'_> {
+    fn allow(&self, which: Which, seen: &Seen) -> bool {
+        match which {
+            Which::Old => *seen == *self.old,
+            Which::New => *seen == *self.new,
+            Which::Either => *seen == *self.old || *seen == *self.new,
+        }
+    }
+
+    /// What a disk shows that is opened again at once.
+    pub(crate) fn reopened(&self, wanted: Wanted) -> &Seen {
+        match wanted.reopened {
+            Which::Old => self.old,
+            _ => self.new,
+        }
+    }
+}
+
+/// Opens all that a stop of the disk may leave.
+pub(crate) fn open_mixtures<R: Print + AllocGlobal>(
+    rt: &R,
+    tally: &mut Tally,
+    disk: &Memory,
+    cut: Cut,
+    sides: Sides<'_>,
+    which: Which,
+) -> Result<()> {
+    let mut mixtures = Mixtures::of(rt.alloc(), disk)?;
+    let mut old = false;
+    let mut new = false;
+    for _ in 0..mixtures.count()? {
+        let left = look(rt.alloc(), mixtures.next(disk)?, sides.probe)?;
+        old = old || left == *sides.old;
+        new = new || left == *sides.new;
+        tally.count(rt, sides.allow(which, &left), &cut, "a mixture")?;
+    }
+    // Both are seen where both may stand.
+    if which == Which::Either && !(old && new) {
+        tally.count(rt, false, &cut, "one state alone")?;
+    }
+    Ok(())
+}
+
+// Opens a disk with one call cut: S1, and the disk behind its fuse.
+fn cut_open<R: Print + AllocGlobal>(
+    rt: &R,
+    tally: &mut Tally,
+    disk: &Memory,
+    cut: Cut,
+) -> Result<Fuse<Memory>> {
+    let (is_cut, disk) = match Registry::open(rt.alloc(), cut.of(disk.copy()?)) {
+        Ok(registry) => (false, registry.into_disk()),
+        Err((refusal, disk)) => (refusal == StoreRefusal::Device, disk),
+    };
+    tally.count(rt, is_cut, &cut, "the answer to a cut opening")?;
+    Ok(disk)
+}
+
+// Cuts one call of the opening: the same stands afterwards.
+fn cut_opening<R: Print + AllocGlobal>(
+    rt: &R,
+    tally: &mut Tally,
+    disk: &Memory,
+    cut: Cut,
+    sides: Sides<'_>,
+    wanted: Wanted,
+) -> Result<()> {
+    let left = cut_open(rt, tally, disk, cut)?;
+    if !cut.forever {
+        let again = look_behind(rt.alloc(), left, sides.probe)?;
+        let right = again == *sides.reopened(wanted);
+        return tally.count(rt, right, &cut, "opened again on the same disk");
+    }
+    // The first call is the sync: once it reached the disk, no stop leaves another state.
+    let synced = cut.call > 1 || cut.late;
+    let which = if synced {
+        wanted.reopened
+    } else {
+        wanted.stopped
+    };
+    open_mixtures(rt, tally, &left.into_inner(), cut, sides, which)
+}
+
+/// Cuts each call of an opening of this disk.
+pub(crate) fn cut_openings<R: Print + AllocGlobal>(
+    rt: &R,
+    tally: &mut Tally,
+    disk: &Memory,
+    sides: Sides<'_>,
+    wanted: Wanted,
+) -> Result<()> {
+    for call in 1..=sides.reopened(wanted).opening_calls() {
+        for late in [false, true] {
+            for forever in [false, true] {
+                let cut = Cut {
+                    opening: 0,
+                    call,
+                    late,
+                    forever,
+                };
+                cut_opening(rt, tally, disk, cut, sides, wanted)?;
+            }
+        }
+    }
+    Ok(())
+}
+
+/// Opens a disk that a cut has left, at once and after each stop.
+pub(crate) fn open_left<R: Print + AllocGlobal>(
+    rt: &R,
+    tally: &mut Tally,
+    disk: &Memory,
+    cut: Cut,
+    sides: Sides<'_>,
+    wanted: Wanted,
+) -> Result<()> {
+    let again = look(rt.alloc(), disk.copy()?, sides.probe)?;
+    let right = again == *sides.reopened(wanted);
+    tally.count(rt, right, &cut, "opened again")?;
+    open_mixtures(rt, tally, disk, cut, sides, wanted.stopped)
+}

@@ -1,0 +1,62 @@
+// Commands one by one, as a registry in memory answers them.
+
+use crate::answer::{Answer, reads_of};
+use crate::change::{Ask, Change};
+use anyhow::{Result, bail};
+use registry::{Command, Registry, Reply};
+use std::alloc::Global;
+
+/// A command, what it is to be answered, and how many calls of the disk it makes.
+#[derive(Drop)]
+pub(crate) struct Step {
+    pub(crate) ask: Ask,
+    pub(crate) answer: Answer,
+    pub(crate) calls: u64,
+}
+
+// How many sectors a bind reads; of other commands none are asked.
+fn reads(plain: &mut Registry, change: Change) -> u64 {
+    match (plain.apply(&Command::List), change) {
+        (Reply::Listing(listing), Change::Bind(needed)) => reads_of(&listing, needed),
+        _ => 0,
+    }
+}
+
+/// A registry in memory after these commands, with room for as much as a disk of so many sectors.
+pub(crate) fn plain_after(alloc: Global, sectors: u32, changes: &[Change]) -> Result<Registry> {
+    let Ok(mut plain) = Registry::new(alloc, sectors) else {
+        bail!("no such size");
+    };
+    for change in changes {
+        let ask = Ask::of(alloc, *change)?;
+        if !matches!(plain.apply(&ask.command()), Reply::Done) {
+            bail!("a command was refused");
+        }
+    }
+    Ok(plain)
+}
+
+impl Step {
+    /// Gives the command to a registry in memory.
+    pub(crate) fn of(alloc: Global, plain: &mut Registry, change: Change) -> Result<Step> {
+        let ask = Ask::of(alloc, change)?;
+        let reads = reads(plain, change);
+        let reply = plain.apply(&ask.command());
+        let calls = match &reply {
+            Reply::Done => ask.calls(),
+            Reply::Bound(_) => reads,
+            _ => 0,
+        };
+        let answer = Answer::of(alloc, reply)?;
+        Ok(Step { ask, answer, calls })
+    }
+
+    pub(crate) fn is_bind(&self) -> bool {
+        matches!(self.ask.change, Change::Bind(_))
+    }
+
+    /// Whether it is a change that is done.
+    pub(crate) fn is_done(&self) -> bool {
+        self.calls > 0 && !self.is_bind()
+    }
+}

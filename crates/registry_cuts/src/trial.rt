@@ -1,0 +1,146 @@
+// A command, cut at each of its calls of the disk.
+
+use crate::cut::{Ending, FORMAT_CALLS, cut_command, cut_format};
+use crate::opening::{Sides, cut_openings, open_left};
+use crate::power::Cut;
+use crate::probe::Probe;
+use crate::seen::{Seen, look_behind};
+use crate::step::Step;
+use crate::table::{Wanted, by_table};
+use crate::tally::Tally;
+use anyhow::Result;
+use registry::Refusal;
+use sector_disk::Memory;
+use std::alloc::Global;
+
+/// What stands before a change and after it, and what is asked to see it.
+#[derive(Drop)]
+pub(crate) struct States {
+    pub(crate) old: Seen,
+    pub(crate) new: Seen,
+    pub(crate) probe: Probe,
+}
+
+/// A command on a disk; None where the disk is formatted.
+#[derive(Drop)]
+pub(crate) struct Trial {
+    pub(crate) disk: Memory,
+    pub(crate) step: Option<Step>,
+    pub(crate) states: States,
+}
+
+impl Trial {
+    /// Whether it is a change that is done.
+    pub(crate) fn is_done(&self) -> bool {
+        self.step.as_ref().is_none_or(|step| step.is_done())
+    }
+
+    fn sides(&self) -> Sides<'_> {
+        Sides {
+            old: &self.states.old,
+            new: &self.states.new,
+            probe: &self.states.probe,
+        }
+    }
+
+    // How many calls of the disk are made before.
+    fn opening(&self) -> u64 {
+        match &self.step {
+            None => 0,
+            Some(_) => self.states.old.opening_calls(),
+        }
+    }
+
+    // How many calls of the disk it makes.
+    fn calls(&self) -> u64 {
+        match &self.step {
+            None => FORMAT_CALLS,
+            Some(step) => step.calls,
+        }
+    }
+
+    fn end(&self, alloc: Global, cut: Cut) -> Result<Ending> {
+        let disk = self.disk.copy()?;
+        match &self.step {
+            None => cut_format(alloc, disk, cut),
+            Some(step) => cut_command(alloc, disk, cut, &step.ask, &self.states.probe),
+        }
+    }
+
+    // Whether the answers to a command are those that are wanted. Behind a bind that failed comes
+    // the same bind, as if nothing had failed; behind a change all is answered S2.
+    fn is_answered(&self, ending: &Ending, cut: Cut) -> bool {
+        let Some(step) = &self.step else {
+            return ending.answer.is(&Refusal::Device) == (cut.call <= FORMAT_CALLS);
+        };
+        if cut.call > step.calls {
+            return ending.answer == step.answer;
+        }
+        let right = match (step.is_bind(), cut.forever) {
+            (true, false) => ending.are_behind(&step.answer),
+            (true, true) => ending.are_refused_behind(&Refusal::Device),
+            _ => ending.are_refused_behind(&Refusal::Reopen),
+        };
+        right && ending.answer.is(&Refusal::Device)
+    }
+
+    // Does it once, with one call cut, and opens what is left.
+    fn cut<R: Print + AllocGlobal>(
+        &self,
+        rt: &R,
+        tally: &mut Tally,
+        cut: Cut,
+        wanted: Wanted,
+    ) -> Result<()> {
+        let ending = self.end(rt.alloc(), cut)?;
+        tally.count(rt, self.is_answered(&ending, cut), &cut, "the answers")?;
+        let disk = ending.disk.into_inner();
+        open_left(rt, tally, &disk, cut, self.sides(), wanted)?;
+        if cut.forever {
+            cut_openings(rt, tally, &disk, self.sides(), wanted)?;
+        }
+        Ok(())
+    }
+
+    // Opens again on the disk that failed once, without taking it out of its fuse.
+    fn go_on<R: Print + AllocGlobal>(
+        &self,
+        rt: &R,
+        tally: &mut Tally,
+        cut: Cut,
+        wanted: Wanted,
+    ) -> Result<()> {
+        let ending = self.end(rt.alloc(), cut)?;
+        let again = look_behind(rt.alloc(), ending.disk, &self.states.probe)?;
+        let right = again == *self.sides().reopened(wanted);
+        tally.count(rt, right, &cut, "opened on the same disk")
+    }
+
+    /// Cuts each call of the disk, early and late, for ever and once, and none.
+    pub(crate) fn cut_all<R: Print + AllocGlobal>(
+        &self,
+        rt: &R,
+        tally: &mut Tally,
+        wrong: bool,
+    ) -> Result<()> {
+        for call in 1..=self.calls().saturating_add(1) {
+            for late in [false, true] {
+                let table = by_table(call, self.calls(), late);
+                let wanted = if wrong { table.exchanged() } else { table };
+                for forever in [false, true] {
+                    let cut = Cut {
+                        opening: self.opening(),
+                        call,
+                        late,
+                        forever,
+                    };
+                    self.cut(rt, tally, cut, wanted)?;
+                    if !forever && call <= self.calls() {
+                        self.go_on(rt, tally, cut, wanted)?;
+                    }
+                }
+            }
+        }
+        Ok(())
+    }
+}
