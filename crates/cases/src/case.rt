@@ -2,6 +2,7 @@
 
 use crate::answer::is_wanted;
 use crate::bind::{bind_text, order_text, word_text};
+use crate::disk::leaves_so;
 use crate::file::changed_file;
 use crate::library::{admit_text, find_text, hash_text, library_text};
 use crate::number::parse_number;
@@ -62,8 +63,11 @@ fn gives<R: Files + AllocGlobal>(rt: &R, call: &str, wanted: &str) -> Result<boo
     if let Some(words) = call.strip_prefix("script ") {
         return runs_so(rt, words, wanted);
     }
+    if let Some(words) = call.strip_prefix("on ") {
+        return leaves_so(rt, words, wanted);
+    }
     match call.strip_prefix("words") {
-        Some(words) => ends_so(rt, words, wanted),
+        Some(words) => ends_so(rt, words, &[], wanted),
         None => is_wanted(rt, &answer(rt, call)?, wanted),
     }
 }

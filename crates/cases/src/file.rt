@@ -2,7 +2,6 @@
 
 use crate::number::parse_number;
 use anyhow::{Context, Result};
-use std::alloc::Global;
 use std::fs;
 use std::rt::Files;
 
@@ -14,16 +13,25 @@ fn put(bytes: &mut [u8], at: usize, new: &[u8]) -> Result<()> {
     Ok(())
 }
 
-/// Makes a change: `cut=LENGTH`, `pad=LENGTH` with zeros, or `OFFSET=BYTES`.
-fn change(alloc: Global, bytes: &mut Vec<u8>, what: &str, value: &str) -> Result<()> {
+/// Bytes that are spelt, or behind `@` those of a file of the folder.
+fn new_bytes<R: Files + AllocGlobal>(rt: &R, value: &str) -> Result<Vec<u8>> {
+    match value.strip_prefix('@') {
+        Some(name) => fs::read(rt, name).context(format_args!("the file {name}")),
+        None => Ok(hex::decode(rt.alloc(), value)?),
+    }
+}
+
+/// Makes a change: `cut=LENGTH`, `pad=LENGTH` with zeros, `OFFSET=BYTES` or `OFFSET=@NAME`.
+fn change<R: Files + AllocGlobal>(
+    rt: &R,
+    bytes: &mut Vec<u8>,
+    what: &str,
+    value: &str,
+) -> Result<()> {
     match what {
         "cut" => bytes.truncate(parse_number(value)? as usize),
         "pad" => bytes.resize(parse_number(value)? as usize, 0)?,
-        _ => put(
-            bytes,
-            parse_number(what)? as usize,
-            &hex::decode(alloc, value)?,
-        )?,
+        _ => put(bytes, parse_number(what)? as usize, &new_bytes(rt, value)?)?,
     }
     Ok(())
 }
@@ -44,7 +52,7 @@ pub(crate) fn changed_file<R: Files + AllocGlobal>(rt: &R, words: &str) -> Resul
         let (what, value) = word
             .split_once('=')
             .context(format_args!("the change {word}"))?;
-        change(rt.alloc(), &mut bytes, what, value)?;
+        change(rt, &mut bytes, what, value)?;
     }
     Ok(bytes)
 }

@@ -6,6 +6,7 @@
 mod answer;
 mod bind;
 mod case;
+mod disk;
 mod file;
 mod library;
 mod list;

@@ -16,11 +16,17 @@ fn listed(alloc: Global, words: &str) -> Result<Vec<String>> {
     Ok(list)
 }
 
-/// Whether a command line ends as it is wanted: `STATUS ANSWER` where ANSWER goes to the output and
-/// nothing to standard error, `STATUS error ANSWER` where it goes to standard error alone.
-pub(crate) fn ends_so<R: Files + AllocGlobal>(rt: &R, words: &str, wanted: &str) -> Result<bool> {
+/// Whether a command line ends over an input as it is wanted: `STATUS ANSWER` where ANSWER goes to
+/// the output and nothing to standard error, `STATUS error ANSWER` where it goes to standard error
+/// alone.
+pub(crate) fn ends_so<R: Files + AllocGlobal>(
+    rt: &R,
+    words: &str,
+    input: &[u8],
+    wanted: &str,
+) -> Result<bool> {
     let list = listed(rt.alloc(), words)?;
-    let mut input: &[u8] = &[];
+    let mut input = input;
     let mut output = Vec::new(rt.alloc());
     let mut errors = Vec::new(rt.alloc());
     let status = run_words(rt, rt.alloc(), &list, &mut input, &mut output, &mut errors);
