@@ -4,6 +4,7 @@ use Rattle.std.specs.Io.KnownBytes.{Appends}
 use Rattle.registry.specs.Request.{Request}
 use Rattle.registry.specs.declared.reply.Reply.{Reply}
 use Rattle.store.specs.declared.refusal.StoreRefusal.{StoreRefusal}
+use Rattle.disk_registry.specs.Answered.{IsChangeAnswer, IsInstallRefusal, IsReplaceRefusal, IsRemoveRefusal, IsPreloadsRefusal, IsListAnswer, IsBindAnswer}
 use Rattle.commands.specs.Base.{base_of}
 use Rattle.commands.specs.Disk.{disk_refusal_text}
 use Rattle.commands.specs.Printed.{PrintsImage, PrintsRefusal}
@@ -11,7 +12,7 @@ use Rattle.commands.specs.Refusal.{memory_text}
 use Rattle.commands.specs.Reply.{reply_text}
 use Rattle.commands.specs.Script.{Streams, Finishes, Stops}
 use Rattle.commands.specs.Status.{greatest, reply_status, disk_status, fault_status, lines_status}
-use Rattle.commands.specs.Words.{CommandLine, image, format, bind, script}
+use Rattle.commands.specs.Words.{CommandLine, image, format, install, replace, remove, preload, list, bind, script}
 use Rattle.commands.specs.declared.fault.ScriptFault.{ScriptFault}
 use Rattle.commands.specs.declared.status.Status.{Status}
 use Rattle.commands.specs.declared.status.Status.TheVariants.{Done, Refused, NoMemory}
@@ -24,9 +25,19 @@ are_bad (Some (bind disk program base)) = is_none (base_of base)
 are_bad (Some line) = false
 are_bad None = true
 
--- from what the output held before to what it holds after, exactly the text of a reply that ends with this status was appended
-abbrev pub Replies : Status → Option (List ℕ) → Option (List ℕ) → Type 0
-Replies status before after = (reply : Reply) × (reply_status reply ≡ status) × Appends before after (reply_text reply)
+-- how a command of a registry on a disk may be answered: a change by `ok`, `list` by a listing, `bind` by an image, and each by its own refusals
+abbrev pub MayReply : CommandLine → Reply → Type 0
+MayReply (install disk file) = IsChangeAnswer IsInstallRefusal
+MayReply (replace disk file) = IsChangeAnswer IsReplaceRefusal
+MayReply (remove disk name) = IsChangeAnswer IsRemoveRefusal
+MayReply (preload disk names) = IsChangeAnswer IsPreloadsRefusal
+MayReply (list disk) = IsListAnswer
+MayReply (bind disk program base) = IsBindAnswer
+MayReply line = λ reply. ⊥
+
+-- from what the output held before to what it holds after, exactly the text of such a reply was appended, which ends with this status
+abbrev pub Replies : (Reply → Type 0) → Status → Option (List ℕ) → Option (List ℕ) → Type 0
+Replies MayBe status before after = (reply : Reply) × MayBe reply × (reply_status reply ≡ status) × Appends before after (reply_text reply)
 
 -- exactly the line was appended of why a disk isn't made a registry, or isn't opened as one, which ends with this status
 abbrev pub TurnsAway : Status → Option (List ℕ) → Option (List ℕ) → Type 0
@@ -49,7 +60,7 @@ abbrev pub IsDone : Option CommandLine → Streams → Type 0
 IsDone (Some (image program base)) io = (b : ℕ) × (base_of base ≡ Some b) × PrintsImage b io.before io.after
 IsDone (Some (format disk sectors)) io = Appends io.before io.after (codes "ok\n")
 IsDone (Some (script disk)) io = RunsThrough io Done
-IsDone (Some line) io = Replies Done io.before io.after
+IsDone (Some line) io = Replies (MayReply line) Done io.before io.after
 IsDone None io = ⊥
 
 -- 1: it was refused
@@ -57,7 +68,7 @@ abbrev pub IsRefused : Option CommandLine → Streams → Type 0
 IsRefused (Some (image program base)) io = (b : ℕ) × (base_of base ≡ Some b) × PrintsRefusal b io.before io.after
 IsRefused (Some (format disk sectors)) io = TurnsAway Refused io.before io.after
 IsRefused (Some (script disk)) io = RunsThrough io Refused ⊎ TurnsAway Refused io.before io.after
-IsRefused (Some line) io = Replies Refused io.before io.after ⊎ TurnsAway Refused io.before io.after
+IsRefused (Some line) io = Replies (MayReply line) Refused io.before io.after ⊎ TurnsAway Refused io.before io.after
 IsRefused None io = ⊥
 
 -- 4: memory was refused, for a line of a script or for a reply to one too

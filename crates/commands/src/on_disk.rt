@@ -3,6 +3,9 @@
 ghost use Rattle.std.specs.Prelude.{◌≡◌, false, map, string_bytes, IfOk};
 ghost use Rattle.registry.specs.Request.{request_of};
 ghost use Rattle.registry.specs.declared.reply.Reply.{Reply};
+ghost use Rattle.disk_registry.specs.Answered.{IsAnswerTo, IsChangeAnswer};
+ghost use Rattle.disk_registry.specs.Answered.{IsInstallRefusal, IsReplaceRefusal};
+ghost use Rattle.disk_registry.specs.Answered.{IsPreloadsRefusal};
 ghost use Rattle.commands.specs.Base.{base_of};
 ghost use Rattle.commands.specs.inside.Ends.{BindEnds, IsFormatted, IsWritten, Replied, is_told};
 
@@ -44,7 +47,8 @@ pub(crate) fn ask<R: Files, O: Write, E: Write>(
     output: &mut O,
     errors: &mut E,
 ) -> Status
-    ensures ends { Replied (O.contents output.old) (O.contents output.new) result }
+    ensures ends { Replied (IsAnswerTo (request_of command.now))
+        (O.contents output.old) (O.contents output.new) result }
     ensures silent { is_told result ≡ false → E.contents errors.new ≡ E.contents errors.old }
 {
     match open_registry(rt, alloc, disk) {
@@ -88,7 +92,8 @@ pub(crate) fn install<R: Files, O: Write, E: Write>(
     output: &mut O,
     errors: &mut E,
 ) -> Status
-    ensures ends { Replied (O.contents output.old) (O.contents output.new) result }
+    ensures ends { Replied (IsChangeAnswer IsInstallRefusal)
+        (O.contents output.old) (O.contents output.new) result }
     ensures silent { is_told result ≡ false → E.contents errors.new ≡ E.contents errors.old }
 {
     match read_file(rt, alloc, file) {
@@ -106,7 +111,8 @@ pub(crate) fn replace<R: Files, O: Write, E: Write>(
     output: &mut O,
     errors: &mut E,
 ) -> Status
-    ensures ends { Replied (O.contents output.old) (O.contents output.new) result }
+    ensures ends { Replied (IsChangeAnswer IsReplaceRefusal)
+        (O.contents output.old) (O.contents output.new) result }
     ensures silent { is_told result ≡ false → E.contents errors.new ≡ E.contents errors.old }
 {
     match read_file(rt, alloc, file) {
@@ -132,7 +138,8 @@ pub(crate) fn preload<R: Files, O: Write, E: Write>(
     output: &mut O,
     errors: &mut E,
 ) -> Status
-    ensures ends { Replied (O.contents output.old) (O.contents output.new) result }
+    ensures ends { Replied (IsChangeAnswer IsPreloadsRefusal)
+        (O.contents output.old) (O.contents output.new) result }
     ensures silent { is_told result ≡ false → E.contents errors.new ≡ E.contents errors.old }
 {
     match bytes_of(alloc, names) {

@@ -7,6 +7,7 @@ use Rattle.commands.specs.declared.file.FileFault.TheVariants.{CannotRead, OutOf
 use Rattle.commands.specs.declared.show.Shown.TheVariants as shown
 use Rattle.commands.specs.declared.status.Status.{Status}
 use Rattle.commands.specs.declared.status.Status.TheVariants.{Done, Refused, BadWords, Failed, NoMemory}
+use Rattle.disk_registry.specs.Answered.{IsBindAnswer}
 use Rattle.commands.specs.Outcome.{are_bad, IsDone, IsRefused, LacksMemory, Replies, TurnsAway, RunsThrough, EndsEarly}
 use Rattle.commands.specs.Printed.{PrintsImage, PrintsRefusal}
 use Rattle.commands.specs.Refusal.{memory_text}
@@ -69,18 +70,18 @@ IsTurnedAway before after NoMemory = Appends before after memory_text
 abbrev pub IsWritten : Reply → Option (List ℕ) → Option (List ℕ) → Status → Type 0
 IsWritten reply before after status = ((status ≡ reply_status reply) × Appends before after (reply_text reply)) ⊎ (status ≡ Failed)
 
--- what a command on a disk ends with
-abbrev pub Replied : Option (List ℕ) → Option (List ℕ) → Status → Type 0
-Replied before after Done = Replies Done before after
-Replied before after Refused = Replies Refused before after ⊎ TurnsAway Refused before after
-Replied before after BadWords = ⊥
-Replied before after Failed = Unit {0}
-Replied before after NoMemory = Appends before after memory_text
+-- what a command on a disk ends with that may be answered so
+abbrev pub Replied : (Reply → Type 0) → Option (List ℕ) → Option (List ℕ) → Status → Type 0
+Replied MayBe before after Done = Replies MayBe Done before after
+Replied MayBe before after Refused = Replies MayBe Refused before after ⊎ TurnsAway Refused before after
+Replied MayBe before after BadWords = ⊥
+Replied MayBe before after Failed = Unit {0}
+Replied MayBe before after NoMemory = Appends before after memory_text
 
 -- what a bind on a disk ends with, by the base that was asked for
 abbrev pub BindEnds : Option ℕ → Option (List ℕ) → Option (List ℕ) → Status → Type 0
 BindEnds asked before after BadWords = (asked ≡ None) × (after ≡ before)
-BindEnds asked before after status = (is_some asked ≡ true) × Replied before after status
+BindEnds asked before after status = (is_some asked ≡ true) × Replied IsBindAnswer before after status
 
 -- what making a registry ends with
 abbrev pub IsFormatted : Option (List ℕ) → Option (List ℕ) → Status → Type 0
