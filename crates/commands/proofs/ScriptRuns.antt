@@ -8,8 +8,8 @@ use Rattle.registry.specs.Runs.{Steps, Run, last_of}
 use Rattle.registry.specs.State.{State}
 use Rattle.registry.specs.declared.reply.Reply.{Reply}
 use Rattle.disk_registry.specs.Answered.{AreAnswered}
-use Rattle.disk_registry.specs.Ran.{RunsOver}
-use Rattle.disk_registry.proofs.Running.{runs_none, runs_turn}
+use Rattle.disk_registry.proofs.RanSoFar.{RunsSoFar}
+use Rattle.disk_registry.proofs.Running.{runs_none, runs_turn, runs_over}
 use Rattle.commands.specs.Answer.{LineStep}
 use Rattle.commands.specs.DiskScript.{asked, replied, LinesRan, FinishesOnDisk, StopsOnDisk}
 use Rattle.commands.specs.DiskStep.{DiskStep}
@@ -30,21 +30,21 @@ asks_none f x xs e = rw e refl
 module _ {D : Type 0} (facts : D → DiskFacts) where
   -- lines that were answered behind a run
   runs_lines : (old mid : Opened D) (s : State) (qs : List Request) (rs : List Reply) (lines : List (List ℕ)) (answers : List Answer) (states : List (Opened D))
-      → RunsOver facts old mid s qs rs → Steps (LineStep (DiskStep facts)) mid lines answers states → RunsOver facts old (last_of mid states) s (qs ++ asked lines) (rs ++ replied answers)
+      → RunsSoFar facts old mid s qs rs → Steps (LineStep (DiskStep facts)) mid lines answers states → RunsSoFar facts old (last_of mid states) s (qs ++ asked lines) (rs ++ replied answers)
   runs_lines old mid s qs rs [] [] [] so_far h =
-      subst (λ (l : List Request). RunsOver facts old mid s l (rs ++ [])) (sym (append-nil qs))
-      (subst (λ (l : List Reply). RunsOver facts old mid s qs l) (sym (append-nil rs)) so_far)
+      subst (λ (l : List Request). RunsSoFar facts old mid s l (rs ++ [])) (sym (append-nil qs))
+      (subst (λ (l : List Reply). RunsSoFar facts old mid s qs l) (sym (append-nil rs)) so_far)
   runs_lines old mid s qs rs (line ∷ lines) (Replied reply ∷ answers) (t ∷ ts) so_far h =
       let step = h.0.2 in
       let q = h.0.0 in
-      let next = runs_turn facts old mid t s qs rs q reply so_far step.applied (λ failed. (step.on_any_disk.reopen.1 failed, step.on_any_disk.failed failed)) in
+      let next = runs_turn facts old mid t s qs rs q reply so_far step.applied step.all_calls step.on_any_disk in
       let all = runs_lines old t s (qs ++ q ∷ []) (rs ++ reply ∷ []) lines answers ts next h.1 in
-      subst (λ (l : List Request). RunsOver facts old (last_of t ts) s l (rs ++ reply ∷ replied answers))
+      subst (λ (l : List Request). RunsSoFar facts old (last_of t ts) s l (rs ++ reply ∷ replied answers))
       (append_assoc qs (q ∷ []) (asked lines) ∙ ap (λ l. qs ++ l) (sym (asks meaning line lines q h.0.1)))
-      (subst (λ (l : List Reply). RunsOver facts old (last_of t ts) s ((qs ++ q ∷ []) ++ asked lines) l) (append_assoc rs (reply ∷ []) (replied answers)) all)
+      (subst (λ (l : List Reply). RunsSoFar facts old (last_of t ts) s ((qs ++ q ∷ []) ++ asked lines) l) (append_assoc rs (reply ∷ []) (replied answers)) all)
   runs_lines old mid s qs rs (line ∷ lines) (BadLine ∷ answers) (t ∷ ts) so_far h =
-      let all = runs_lines old t s qs rs lines answers ts (subst (λ (k : Opened D). RunsOver facts old k s qs rs) (sym h.0.1) so_far) h.1 in
-      subst (λ (l : List Request). RunsOver facts old (last_of t ts) s (qs ++ l) (rs ++ replied answers)) (sym (asks_none meaning line lines h.0.0)) all
+      let all = runs_lines old t s qs rs lines answers ts (subst (λ (k : Opened D). RunsSoFar facts old k s qs rs) (sym h.0.1) so_far) h.1 in
+      subst (λ (l : List Request). RunsSoFar facts old (last_of t ts) s (qs ++ l) (rs ++ replied answers)) (sym (asks_none meaning line lines h.0.0)) all
   runs_lines old mid s qs rs (line ∷ lines) (CutLine ∷ answers) (t ∷ ts) so_far h = absurd h.0
   runs_lines old mid s qs rs [] [] (t ∷ ts) so_far h = absurd h
   runs_lines old mid s qs rs [] (y ∷ answers) ts so_far h = absurd h
@@ -70,7 +70,7 @@ module _ {D : Type 0} (facts : D → DiskFacts) where
   -- lines that were answered one after the other are a run of their commands
   pub lines_ran : (old new : Opened D) (lines : List (List ℕ)) (answers : List Answer) → Run (LineStep (DiskStep facts)) old lines answers new → LinesRan facts old new lines answers
   lines_ran old new lines answers run = subst (λ (k : Opened D). LinesRan facts old k lines answers) (sym run.2) (record {
-    runs = λ s at. runs_lines old old s [] [] lines answers run.0 (runs_none facts old s at) run.1;
+    runs = λ s at. runs_over facts old (last_of old run.0) s (asked lines) (replied answers) (runs_lines old old s [] [] lines answers run.0 (runs_none facts old s at) run.1);
     on_any_disk = are_answered old lines answers run.0 run.1;
   })
 

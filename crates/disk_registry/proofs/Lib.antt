@@ -1,3 +1,4 @@
+pub mod Acknowledging
 pub mod Applying
 pub mod Changed
 pub mod Files
@@ -6,7 +7,9 @@ pub mod Names
 pub mod Openings
 pub mod Putting
 pub mod Puts
+pub mod RanSoFar
 pub mod Running
+pub mod RunExamples
 pub mod Answering
 pub mod States
 pub mod Tested

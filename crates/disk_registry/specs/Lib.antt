@@ -3,6 +3,7 @@ pub mod Opened
 pub mod Opening
 pub mod Phase
 pub mod Applied
+pub mod Acknowledged
 pub mod Answered
 pub mod Binding
 pub mod Calls

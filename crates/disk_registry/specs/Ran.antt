@@ -1,38 +1,73 @@
 -- What commands do to a registry on a disk, one after the other (own).
-use Rattle.std.specs.Prelude.{◌≡◌, ◌⊎◌, IsTrue, List, [], ◌∷◌}
-use Rattle.sector_disk.specs.Disk.{Sector, DiskFacts, Mixture, LeavesOnly}
+use Rattle.std.specs.Prelude.{◌≡◌, ◌⊎◌, ◌+◌, ◌<◌, ◌≤◌, ℕ, IsTrue, List, length, take, Some, slice_get}
+use Rattle.sector_disk.specs.Disk.{Sector, DiskFacts, MixtureAt, Mixture, KeepsPast, AreCallsExactly}
 use Rattle.store.specs.Opened.{Opened}
 use Rattle.registry.specs.State.{State}
 use Rattle.registry.specs.Request.{Request}
-use Rattle.registry.specs.Phase.{Phase}
-use Rattle.registry.specs.Runs.{Steps, last_of}
-use Rattle.registry.specs.Step.{Step}
+use Rattle.registry.specs.Runs.{Steps, last_of, after}
 use Rattle.registry.specs.declared.reply.Reply.{Reply}
+use Rattle.registry.specs.declared.reply.Reply.TheVariants.{Done}
 use Rattle.disk_registry.specs.Stands.{Stands}
 use Rattle.disk_registry.specs.Opened.{IsAt}
-use Rattle.disk_registry.specs.Phase.{phase_of}
-use Rattle.disk_registry.specs.Applied.{InFlight}
+use Rattle.disk_registry.specs.Applied.{Applied}
+use Rattle.disk_registry.specs.Answered.{Answered}
+use Rattle.disk_registry.specs.Calls.{IfAccepted, calls_of}
+use Rattle.disk_registry.specs.Acknowledged.{acknowledged, state_after, AreAccepted}
 
--- What a stop within a run may leave: a state on its way, or what the device had in flight.
-abbrev pub MayLeaveWithin : Phase → List Request → List Reply → List Phase → List Sector → Type 0
-MayLeaveWithin p [] [] [] m = Stands m p.state
-MayLeaveWithin p (request ∷ requests) (answer ∷ answers) (t ∷ ts) m = Stands m p.state ⊎ InFlight p request answer m ⊎ MayLeaveWithin t requests answers ts m
-MayLeaveWithin p requests answers ts m = ⊥
+-- a registry between two commands, and its state: after a failed write or sync, the state that it was at before
+pub record Point (D : Type 0) : Type 0 where
+  pub registry : Opened D
+  pub state : State
 
--- one of the commands of a run was cut off by the device, and is found done
-abbrev pub WasInFlight : Phase → List Request → List Reply → List Phase → List Sector → Type 0
-WasInFlight p (request ∷ requests) (answer ∷ answers) (t ∷ ts) m = InFlight p request answer m ⊎ WasInFlight t requests answers ts m
-WasInFlight p requests answers ts m = ⊥
+abbrev pub point : {D : Type 0} → Opened D → State → Point D
+point registry s = record { registry = registry; state = s }
 
--- Commands were answered so, and led from a state through these phases, one after each command.
-pub record Ran {D : Type 0} (facts : D → DiskFacts) (old new : Opened D) (s s' : State) (requests : List Request) (answers : List Reply) (phases : List Phase) : Type 0 where
-  pub steps : Steps Step (phase_of facts old s) requests answers phases
-  pub last : phase_of facts new s' ≡ last_of (phase_of facts old s) phases
-  pub any_moment : LeavesOnly (facts old.disk) (facts new.disk) (MayLeaveWithin (phase_of facts old s) requests answers phases)
-  -- at the end the registry is at the last state, unless a write or a sync failed: then it may be found after that command too
-  pub kept : IsAt facts new s' ⊎ IsTrue new.failed
-  pub found : (m : List Sector) → Mixture (facts new.disk) m → Stands m s' ⊎ WasInFlight (phase_of facts old s) requests answers phases m
+-- what is said of its disk
+abbrev pub disk_at : {D : Type 0} → (D → DiskFacts) → Point D → DiskFacts
+disk_at facts p = facts p.registry.disk
 
--- the same, with the states
+-- A command is applied to a registry that is at its state; an accepted one makes exactly its calls of the disk.
+pub record AppliesAt {D : Type 0} (facts : D → DiskFacts) (p : Point D) (request : Request) (answer : Reply) (p' : Point D) : Type 0 where
+  pub at : IsAt facts p.registry p.state
+  pub applied : Applied facts p.registry p'.registry p.state p'.state request answer
+  pub calls : IfAccepted answer (AreCallsExactly (calls_of p.state request) (disk_at facts p) (disk_at facts p'))
+
+-- One command of a run: it is answered as on any disk, and it is applied; or a write or a sync has failed before, and nothing is done.
+pub record Goes {D : Type 0} (facts : D → DiskFacts) (p : Point D) (request : Request) (answer : Reply) (p' : Point D) : Type 0 where
+  pub answered : Answered facts p.registry p'.registry request answer
+  pub applied : AppliesAt facts p request answer p' ⊎ (IsTrue p.registry.failed × (p' ≡ p))
+
+-- What is found after commands that began at a state: whatever a stop leaves stands for the state after the accepted ones, which are all that were acknowledged, and perhaps one that was answered S1.
+abbrev pub FindsAccepted : {D : Type 0} → (D → DiskFacts) → Opened D → State → List Request → List Reply → Type 0
+FindsAccepted facts new s requests answers = (m : List Sector) → Mixture (facts new.disk) m → (commands : List Request) × AreAccepted requests answers commands × Stands m (state_after s commands)
+
+module _ {D : Type 0} (facts : D → DiskFacts) (start : Point D) (requests : List Request) (answers : List Reply) (points : List (Point D)) where
+  -- the last of the first k commands has begun by this moment
+  abbrev pub HasBegun : ℕ → ℕ → Type 0
+  HasBegun k moment = (i : ℕ) → i + 1 ≡ k → (disk_at facts (after start points i)).time ≤ moment
+
+  -- Every command that was acknowledged by this moment is among the first k: one behind them that is answered Done ends later.
+  abbrev pub HoldsAcknowledged : ℕ → ℕ → Type 0
+  HoldsAcknowledged k moment = (i : ℕ) → k ≤ i → slice_get answers i ≡ Some Done → moment < (disk_at facts (after start points (i + 1))).time
+
+  -- What a stop at a moment leaves: the state after the accepted ones of the first k commands, all begun by then, which hold every one acknowledged by then.
+  abbrev pub LeavesAccepted : ℕ → List Sector → Type 0
+  LeavesAccepted moment m = (k : ℕ) × (k ≤ length answers) × HasBegun k moment × HoldsAcknowledged k moment
+      × (commands : List Request) × AreAccepted (take k requests) (take k answers) commands × Stands m (state_after start.state commands)
+
+  -- Commands were answered so, and led from a registry through these others, one after each command.
+  pub record Ran (end : Point D) : Type 0 where
+    pub steps : Steps (Goes facts) start requests answers points
+    pub last : end ≡ last_of start points
+    -- the state after the first k commands is the one after the acknowledged ones among them
+    pub states : (k : ℕ) → (after start points k).state ≡ state_after start.state (acknowledged (take k requests) (take k answers))
+    -- at the end the registry is at the last state, unless a write or a sync failed
+    pub kept : IsAt facts end.registry end.state ⊎ IsTrue end.registry.failed
+    -- what was left before is left as it was, and at each moment since, the end and failed calls among them, a stop leaves a state after accepted commands
+    pub past : KeepsPast (disk_at facts start) (disk_at facts end)
+    pub any_moment : (moment : ℕ) (m : List Sector) → (disk_at facts start).time ≤ moment → moment ≤ (disk_at facts end).time → MixtureAt (disk_at facts end) moment m → LeavesAccepted moment m
+    pub found : FindsAccepted facts end.registry start.state requests answers
+
+-- the same, with the registries and states on the way
 abbrev pub RunsOver : {D : Type 0} → (D → DiskFacts) → Opened D → Opened D → State → List Request → List Reply → Type 0
-RunsOver facts old new s requests answers = (s' : State) × (phases : List Phase) × Ran facts old new s s' requests answers phases
+RunsOver facts old new s requests answers = (s' : State) × (points : List (Point _)) × Ran facts (point old s) requests answers points (point new s')

@@ -55,8 +55,9 @@ impl<D: Disk> Registry<D> {
     /// Applies commands one after the other, and gives one reply for each. Where memory for the
     /// replies is refused, nothing is applied.
     pub fn run(&mut self, commands: &[Command<'_>]) -> Result<Vec<Reply>, AllocError>
-        // Steps of the table, one after the other; a stop at any moment leaves a state on the way,
-        // or the change that a failing device cut off.
+        // Each command is applied to the registry that the one before left. What a stop leaves at
+        // any moment is the state after a prefix of the accepted commands that holds every one
+        // acknowledged by then; at the end it is the state after all accepted commands.
         ensures ok { IfOk result (λ replies. (s : State) → IsAt D.facts self.old s → RunsOver
             D.facts self.old self.new s (map request_of commands.now) replies.items) }
         ensures err { OnErr result (self.new ≡ self.old) }

@@ -25,9 +25,11 @@ impl<D: Disk> Registry<D> {
         ensures any_moment { IsTrue (D.facts disk).honest → LeavesOnly (D.facts disk)
             (D.facts (disk_after result)) (Mixture (D.facts disk)) }
 
-        // The registry is at the state for which what reads give stands: every mixture does.
+        // The registry is at the state for which what reads give stands, and they stand for no
+        // other: every mixture stands for it.
         ensures ok { IsTrue (D.facts disk).honest → IfOk result (λ registry.
-            (s : State) × Stands (D.facts disk).now s × IsAt D.facts registry s) }
+            (s : State) × Stands (D.facts disk).now s × IsAt D.facts registry s
+            × ((other : State) → Stands (D.facts disk).now other → other ≡ s)) }
         ensures stands { IsTrue (D.facts disk).honest → (s : State) → Stands (D.facts disk).now s
             → MatchResult result (λ registry. IsAt D.facts registry s) (λ e.
             (e.0 ≡ StoreRefusal.Device) ⊎ (e.0 ≡ StoreRefusal.OutOfMemory)) }

@@ -7,7 +7,7 @@ use crate::opens::{format, open};
 use crate::scripts::{LINES, answers, script};
 use crate::sectors::Harm::{Byte, Zeros};
 use crate::sectors::{Harm, Sectors, disk_of, harmed, one_library, sectors_of};
-use commands::{ScriptFault, Summary, run_script};
+use commands::{ScriptFault, Summary, run_script_on_disk};
 use disk_registry::Registry;
 use registry::Command;
 use sector_disk::{Liar, Memory};
@@ -147,7 +147,7 @@ fn run(
         Ok(registry) => {
             let mut registry = registry;
             let mut reader = script;
-            let ended = run_script(alloc, &mut reader, output, &mut registry);
+            let ended = run_script_on_disk(alloc, &mut reader, output, &mut registry);
             let _ = registry.into_disk();
             Ok(ended)
         }

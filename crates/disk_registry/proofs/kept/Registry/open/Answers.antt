@@ -1,9 +1,9 @@
 use Rattle.std.proofs.Common.{length, sym, subst}
 use Rattle.sector_disk.specs.Disk.{Mixture, LeavesOnly}
 use Rattle.store.specs.Opening.{IsGeometry}
-use Rattle.disk_registry.specs.Stands.{stored}
+use Rattle.disk_registry.specs.Stands.{Stands, stored}
 use Rattle.disk_registry.proofs.Files.{leaves_after}
-use Rattle.disk_registry.proofs.States.{registry_of}
+use Rattle.disk_registry.proofs.States.{registry_of, one_state}
 use Rattle.disk_registry.proofs.Openings.{stands_of, at_of, libraries_stored, refuses_only, refuses_files, refuses_store}
 use Rattle.disk_registry.proofs.kept.Registry.open.Goals as goal
 
@@ -14,10 +14,13 @@ returns-in-Ok-admit_files-clause-any_moment g c honest =
 pub returns-in-Ok-admit_files-clause-ok : goal.returns-in-Ok-admit_files-clause-ok
 returns-in-Ok-admit_files-clause-ok g c honest =
     let found = c.in-Ok.ensures.ok honest in
-    let libraries = c.in-Ok-admit_files.ensures.ok found.0 found.2 in (
+    let libraries = c.in-Ok-admit_files.ensures.ok found.0 found.2 in
+    let now = (g.D.Disk.facts c.args.disk).now in
+    let stands : Stands now (registry_of found.0) = stands_of now found.0 found.1 libraries in (
       registry_of found.0,
-      stands_of (g.D.Disk.facts c.args.disk).now found.0 found.1 libraries,
+      stands,
       at_of g.D.Disk.facts c.admit_files.new.store found.0 (c.admit_files.ensures.read.same found.0 found.2) libraries,
+      (λ other others. one_state now other (registry_of found.0) others stands),
     )
 
 pub returns-in-Ok-admit_files-clause-stands : goal.returns-in-Ok-admit_files-clause-stands

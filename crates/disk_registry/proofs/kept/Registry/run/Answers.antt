@@ -6,15 +6,16 @@ use Rattle.registry.specs.declared.command.Command.TheVariants as command
 use Rattle.registry.specs.declared.reply.Reply.{Reply}
 use Rattle.disk_registry.specs.Answered.{AreAnswered}
 use Rattle.disk_registry.specs.Ran.{RunsOver}
+use Rattle.disk_registry.proofs.RanSoFar.{RunsSoFar}
 use Rattle.disk_registry.proofs.Answering.{answered_more}
-use Rattle.disk_registry.proofs.Running.{runs_none, runs_turn}
+use Rattle.disk_registry.proofs.Running.{runs_none, runs_turn, runs_over}
 use Rattle.disk_registry.proofs.kept.Registry.run.Goals as goal
 
 pub loop-command-init : goal.loop-command-init
 loop-command-init g c = record {
   count = search rules;
   room = search rules;
-  runs = λ s at. subst (λ rs. RunsOver g.D.Disk.facts c.args.self.now c.args.self.now s [] rs) (sym c.in_ok-replies.ensures.items) (runs_none g.D.Disk.facts c.args.self.now s at);
+  runs = λ s at. subst (λ rs. RunsSoFar g.D.Disk.facts c.args.self.now c.args.self.now s [] rs) (sym c.in_ok-replies.ensures.items) (runs_none g.D.Disk.facts c.args.self.now s at);
   answered = subst (λ rs. AreAnswered g.D.Disk.facts c.args.self.now c.args.self.now [] rs) (sym c.in_ok-replies.ensures.items) refl;
 }
 
@@ -35,10 +36,10 @@ loop-command-preserved g c =
       count = search rules;
       room = search rules;
       runs = λ s at.
-          subst (λ (l : List Reply). RunsOver facts old new s (map request_of (take (i + 1) xs)) l) (sym items)
-          (subst (λ (l : List Request). RunsOver facts old new s l (c.loop-command.replies.items ++ c.apply-reply.result ∷ [])) (sym more)
+          subst (λ (l : List Reply). RunsSoFar facts old new s (map request_of (take (i + 1) xs)) l) (sym items)
+          (subst (λ (l : List Request). RunsSoFar facts old new s l (c.loop-command.replies.items ++ c.apply-reply.result ∷ [])) (sym more)
           (runs_turn facts old c.loop-command.self new s (map request_of (take i xs)) c.loop-command.replies.items asked c.apply-reply.result (c.loop-command.invariant.runs s at)
-          c.apply-reply.ensures.applied (λ failed. (c.apply-reply.ensures.on_any_disk.reopen.1 failed, c.apply-reply.ensures.on_any_disk.failed failed))));
+          c.apply-reply.ensures.applied c.apply-reply.ensures.all_calls c.apply-reply.ensures.on_any_disk));
       answered =
           subst (λ (l : List Reply). AreAnswered facts old new (map request_of (take (i + 1) xs)) l) (sym items)
           (subst (λ (l : List Request). AreAnswered facts old new l (c.loop-command.replies.items ++ c.apply-reply.result ∷ [])) (sym more)
@@ -49,7 +50,8 @@ loop-command-preserved g c =
 pub returns-clause-ok : goal.returns-clause-ok
 returns-clause-ok g c s at =
     subst (λ l. RunsOver g.D.Disk.facts c.args.self.now c.loop-command.self s (map request_of l) c.loop-command.replies.items)
-    (take_all c.loop-command.command-index c.args.commands.now (omega (arith, c.loop-command-test.false))) (c.loop-command.invariant.runs s at)
+    (take_all c.loop-command.command-index c.args.commands.now (omega (arith, c.loop-command-test.false)))
+    (runs_over g.D.Disk.facts c.args.self.now c.loop-command.self s (map request_of (take c.loop-command.command-index c.args.commands.now)) c.loop-command.replies.items (c.loop-command.invariant.runs s at))
 
 pub returns-clause-on_any_disk : goal.returns-clause-on_any_disk
 returns-clause-on_any_disk g c =

@@ -1,0 +1,42 @@
+// A script over a registry on a disk.
+
+ghost use Rattle.std.specs.Prelude.{IfOk, IfErr};
+ghost use Rattle.commands.specs.DiskScript.{FinishesOnDisk, StopsOnDisk};
+
+use crate::fault::ScriptFault;
+use crate::script::run_script;
+use crate::summary::Summary;
+use disk_registry::Registry;
+use sector_disk::Disk;
+use std::alloc::Global;
+use std::io::{Read, Write};
+
+/// Runs a script over a registry on a disk, as `run_script` does over whatever applies commands,
+/// and says what that is to the disk: the commands of the lines that were answered are a run. On an
+/// honest disk, wherever the script ends, a stop at any moment leaves the state after a prefix of
+/// the accepted commands that holds every one acknowledged by then.
+pub fn run_script_on_disk<R: Read, W: Write, D: Disk>(
+    alloc: Global,
+    reader: &mut R,
+    writer: &mut W,
+    registry: &mut Registry<D>,
+) -> Result<Summary, ScriptFault>
+    // All was read, and the commands of the lines are a run.
+    ensures ok { IfOk result (FinishesOnDisk D.facts (record {
+      unread = R.remaining reader.old;
+      before = W.contents writer.old;
+      after = W.contents writer.new;
+    })
+        registry.old registry.new) }
+
+    // It ended early: the commands of the lines that were answered are a run, and no other was
+    // applied.
+    ensures err { IfErr result (StopsOnDisk D.facts (record {
+      unread = R.remaining reader.old;
+      before = W.contents writer.old;
+      after = W.contents writer.new;
+    })
+        registry.old registry.new) }
+{
+    run_script(alloc, reader, writer, registry)
+}
