@@ -3,7 +3,8 @@
 
     python3 bench/definitions.py
 
-What stands before the line `<!-- tables -->` of the document is kept.
+What stands before the line `<!-- tables -->` of the document is kept. Constants share the comment of the first of them;
+any other definition without one is told.
 """
 
 import re
@@ -70,6 +71,8 @@ def rows_of(path):
                 rows.append([[listed], sentence(text), section])
             else:
                 rows[-1][0].append(listed)
+                if not value:
+                    print(f'{path.relative_to(ROOT)}: {name} has no comment of its own')
             comment = []
         elif line == '':
             comment = []

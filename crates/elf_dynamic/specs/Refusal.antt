@@ -10,14 +10,15 @@ use Rattle.elf_dynamic.specs.Strings.{has_bad_string}
 use Rattle.elf_dynamic.specs.Symbol.{has_common_symbol, has_tls_symbol, has_ifunc_symbol, has_bad_binding}
 use Rattle.elf_dynamic.specs.Relocation.{first_unsupported_type, has_bad_symbol, has_bad_place}
 
--- E22 and E23: the tables, and the strings
+-- the tests of the tables and the strings, E22 and E23, in their order
 abbrev pub table_tests : List ℕ → List (Option ObjectRefusal)
 table_tests file = (BadRange when has_bad_range file) ∷ (BadString when has_bad_string file) ∷ []
 
+-- the first of E22 and E23 that applies, or none
 unfoldable pub table_refusal : List ℕ → Option ObjectRefusal
 table_refusal file = first_of (table_tests file)
 
--- E24 to E27: the symbols
+-- the tests of the symbols, E24 to E27, in their order
 abbrev pub symbol_tests : List ℕ → List (Option ObjectRefusal)
 symbol_tests file =
     (CommonSymbol when has_common_symbol file)
@@ -26,10 +27,11 @@ symbol_tests file =
     ∷ (BadBinding when has_bad_binding file)
     ∷ []
 
+-- the first of E24 to E27 that applies, or none
 unfoldable pub symbol_refusal : List ℕ → Option ObjectRefusal
 symbol_refusal file = first_of (symbol_tests file)
 
--- E30 to E32: the relocations
+-- the tests of the relocations, E30 to E32, in their order
 abbrev pub relocation_tests : List ℕ → List (Option ObjectRefusal)
 relocation_tests file =
     option_map RelocationType (first_unsupported_type file)
@@ -37,12 +39,14 @@ relocation_tests file =
     ∷ (RelocationPlace when has_bad_place file)
     ∷ []
 
+-- the first of E30 to E32 that applies, or none
 unfoldable pub relocation_refusal : List ℕ → Option ObjectRefusal
 relocation_refusal file = first_of (relocation_tests file)
 
--- the refusal of a file, or none where it is accepted
+-- the refusals of a file by what E1 to E21, E22 and E23, E24 to E27, and E30 to E32 test, in this order
 abbrev pub refusals : List ℕ → List (Option ObjectRefusal)
 refusals file = file_refusal file ∷ table_refusal file ∷ symbol_refusal file ∷ relocation_refusal file ∷ []
 
+-- the refusal of a file, or none where it is accepted
 unfoldable pub first_refusal : List ℕ → Option ObjectRefusal
 first_refusal file = first_of (refusals file)

@@ -65,6 +65,7 @@ is_common s = (s.section == SHN_COMMON) || (type_of s == STT_COMMON)
 unfoldable pub has_common_symbol : List ℕ → Bool
 has_common_symbol file = list_any is_common (tested_symbols file)
 
+-- a thread-local symbol, by its type
 abbrev pub is_tls : Symbol → Bool
 is_tls s = type_of s == STT_TLS
 
@@ -72,6 +73,7 @@ is_tls s = type_of s == STT_TLS
 unfoldable pub has_tls_symbol : List ℕ → Bool
 has_tls_symbol file = list_any is_tls (tested_symbols file)
 
+-- an indirect function, by its type
 abbrev pub is_ifunc : Symbol → Bool
 is_ifunc s = type_of s == STT_GNU_IFUNC
 

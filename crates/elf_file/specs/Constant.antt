@@ -5,18 +5,23 @@ use Rattle.std.specs.Prelude.{ℕ}
 abbrev pub ELF_MAGIC : ℕ
 ELF_MAGIC = 0x464c457f
 
+-- EI_CLASS of files of 64 bits
 abbrev pub ELFCLASS64 : ℕ
 ELFCLASS64 = 2
 
+-- EI_DATA of little endian files
 abbrev pub ELFDATA2LSB : ℕ
 ELFDATA2LSB = 1
 
+-- EI_VERSION and e_version of the current version
 abbrev pub EV_CURRENT : ℕ
 EV_CURRENT = 1
 
+-- EI_OSABI of the System V ABI
 abbrev pub ELFOSABI_SYSV : ℕ
 ELFOSABI_SYSV = 0
 
+-- EI_OSABI of its GNU extensions
 abbrev pub ELFOSABI_GNU : ℕ
 ELFOSABI_GNU = 3
 
@@ -24,6 +29,7 @@ ELFOSABI_GNU = 3
 abbrev pub ET_DYN : ℕ
 ET_DYN = 3
 
+-- e_machine of x86-64
 abbrev pub EM_X86_64 : ℕ
 EM_X86_64 = 62
 
@@ -39,7 +45,7 @@ FILE_HEADER_SIZE = 64
 abbrev pub PROGRAM_HEADER_SIZE : ℕ
 PROGRAM_HEADER_SIZE = 56
 
--- p_type
+-- types of segments, by p_type
 abbrev pub PT_LOAD : ℕ
 PT_LOAD = 1
 
@@ -61,7 +67,7 @@ SYMBOL_SIZE = 24
 abbrev pub RELOCATION_SIZE : ℕ
 RELOCATION_SIZE = 24
 
--- d_tag
+-- tags of the dynamic section, by d_tag
 abbrev pub DT_NULL : ℕ
 DT_NULL = 0
 

@@ -44,10 +44,11 @@ entry section i = entry_at section (DYNAMIC_ENTRY_SIZE * i)
 unfoldable pub whole_entries : List ℕ → List Entry
 whole_entries section = map (entry section) (range_with_len 0 (length section / DYNAMIC_ENTRY_SIZE))
 
--- DT_NULL
+-- an entry that ends the section: DT_NULL
 abbrev pub is_null : Entry → Bool
 is_null e = e.tag == DT_NULL
 
+-- an entry that has this tag
 abbrev pub has_tag : ℕ → Entry → Bool
 has_tag tag e = e.tag == tag
 

@@ -7,7 +7,7 @@ use Rattle.elf_file.specs.Dynamic.{has_bad_dynamic, has_duplicate_tag, has_symbo
 use Rattle.elf_file.specs.declared.refusal.ObjectRefusal.{ObjectRefusal}
 use Rattle.elf_file.specs.declared.refusal.ObjectRefusal.TheVariants.{TooShort, BadMagic, BadClass, BadData, BadVersion, BadOsAbi, BadType, BadMachine, BadHeaderSize, BadProgramHeaders, TlsSegment, BadSegment, TooLarge, SegmentOrder, BadDynamic, DuplicateTag, SymbolVersions, UnsupportedTag, NoHashTable, MissingTag, BadEntrySize}
 
--- E1 to E10: the file header
+-- the tests of the file header, E1 to E10, in their order
 abbrev pub header_tests : List ℕ → List (Option ObjectRefusal)
 header_tests file =
     (TooShort when is_too_short file)
@@ -22,10 +22,11 @@ header_tests file =
     ∷ (BadProgramHeaders when has_bad_program_headers file)
     ∷ []
 
+-- the first of E1 to E10 that applies, or none
 unfoldable pub header_refusal : List ℕ → Option ObjectRefusal
 header_refusal file = first_of (header_tests file)
 
--- E11 to E14: the program headers
+-- the tests of the program headers, E11 to E14, in their order
 abbrev pub segment_tests : List ℕ → List (Option ObjectRefusal)
 segment_tests file =
     (TlsSegment when has_tls_segment file)
@@ -34,10 +35,11 @@ segment_tests file =
     ∷ (SegmentOrder when has_bad_order file)
     ∷ []
 
+-- the first of E11 to E14 that applies, or none
 unfoldable pub segment_refusal : List ℕ → Option ObjectRefusal
 segment_refusal file = first_of (segment_tests file)
 
--- E15 to E21: the dynamic section and its tags
+-- the tests of the dynamic section and its tags, E15 to E21, in their order
 abbrev pub tag_tests : List ℕ → List (Option ObjectRefusal)
 tag_tests file =
     (BadDynamic when has_bad_dynamic file)
@@ -49,12 +51,14 @@ tag_tests file =
     ∷ (BadEntrySize when has_bad_entry_size file)
     ∷ []
 
+-- the first of E15 to E21 that applies, or none
 unfoldable pub tag_refusal : List ℕ → Option ObjectRefusal
 tag_refusal file = first_of (tag_tests file)
 
--- E1 to E21: the refusal of a file by its headers, its segments and its tags, or none
+-- the refusals of a file by its header, by its program headers and by its tags, in this order
 abbrev pub file_refusals : List ℕ → List (Option ObjectRefusal)
 file_refusals file = header_refusal file ∷ segment_refusal file ∷ tag_refusal file ∷ []
 
+-- the first of E1 to E21 that applies, or none
 unfoldable pub file_refusal : List ℕ → Option ObjectRefusal
 file_refusal file = first_of (file_refusals file)

@@ -9,19 +9,23 @@ sector_bytes = 512
 abbrev pub root_sectors : ℕ
 root_sectors = 2
 
--- how many sectors a registry may have
+-- the fewest sectors that a registry may have
 abbrev pub least_sectors : ℕ
 least_sectors = 8
 
+-- the most sectors that a registry may have
 abbrev pub most_sectors : ℕ
 most_sectors = 4194304
 
+-- a registry may have so many sectors
 abbrev pub is_geometry : ℕ → Bool
 is_geometry sectors = nat_le least_sectors sectors && nat_le sectors most_sectors
 
+-- how many libraries a registry may have
 abbrev pub most_libraries : ℕ
 most_libraries = 100
 
+-- how many preloads a registry may have
 abbrev pub most_preloads : ℕ
 most_preloads = 16
 

@@ -9,6 +9,7 @@ pub record Kept : Type 0 where
   pub sectors : ℕ
   pub state : State
 
+-- what contracts see of a registry, on a disk or in memory: its state, and what is known of the disk
 pub record Phase : Type 0 where
   pub sectors : ℕ
   -- how many free sectors lie in as many of the longest runs as a file may have extents
@@ -19,7 +20,7 @@ pub record Phase : Type 0 where
   pub failed : Bool
   pub state : State
 
--- in memory there is no disk that could fail, and the free sectors are one run
+-- where a registry in memory stands: there is no disk that could fail, and the free sectors are one run
 abbrev pub phase_of : Kept → Phase
 phase_of kept = record {
   sectors = kept.sectors;
@@ -29,6 +30,7 @@ phase_of kept = record {
   state = kept.state;
 }
 
+-- what the tests of a command read of it
 abbrev pub table_of : Phase → Table
 table_of p = record {
   generation = p.state.generation;

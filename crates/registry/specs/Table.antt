@@ -12,6 +12,7 @@ pub record Listed : Type 0 where
   pub libraries : List (List ℕ × ℕ)
   pub preloads : List (List ℕ)
 
+-- what is listed of a state
 abbrev pub listed : State → Listed
 listed s = record { libraries = map entry_of s.libraries; preloads = s.preloads }
 

@@ -73,10 +73,11 @@ pub record SpellsRoot (bytes : List ℕ) (root : Root) : Type 0 where
   pub has_spelling : RootHasSpelling root
   pub spelling : bytes ≡ root_bytes root
 
--- what a root lists: the sectors of the entries, and the positions of the preloads
+-- the sectors of the entries that a root lists
 abbrev pub listed_sectors : Root → List ℕ
 listed_sectors root = take root.library_count (entry_places root.list)
 
+-- the positions of the preloads that a root lists
 abbrev pub listed_preloads : Root → List ℕ
 listed_preloads root = take root.preload_count root.preloads
 
