@@ -125,6 +125,14 @@ def symbols():
     hidden, _ = made('hidden.so', Object(soname=b'q', symbols=[export(b'f', visibility=HIDDEN)] * 2))
     twice, _ = made('twice.so', Object(soname=b'q', symbols=[export(b'f')] * 2))
     weak, _ = made('weak.so', Object(soname=b'q', symbols=[export(b'f'), export(b'f', binding=WEAK)]))
+    # The second symbol's name is the first one's, at one place of the strings: an offset, and nothing twice.
+    def at_one_place(name, first=(), second=(), soname=None):
+        file, at = made(f'place-{name}.so', Object(soname=soname, symbols=[export(b'f', **dict(first)), export(b'g', **dict(second))]))
+        symbol = at['symbols'] + 24
+        return changed(file, (symbol + 24, file.bytes()[symbol:symbol + 4]))
+    place, place_library = at_one_place('program'), at_one_place('library', soname=b'q')
+    place_weak = at_one_place('weak', second={'binding': WEAK})
+    place_local, place_undefined = at_one_place('local', {'binding': LOCAL}), at_one_place('undefined', second={'section': UNDEFINED})
     local, _ = made('local.so', Object(soname=b'q', symbols=[export(b'f', binding=LOCAL), export(b'f')]))
     prefix, _ = made('prefix.so', Object(soname=b'q', symbols=[export(b'fg'), export(b'f'), export(b'')]))
     write_list('admission-symbols.txt', [
@@ -137,6 +145,11 @@ def symbols():
         ('Two symbols of one name: refused where both are exported, also where one is weak.', [
             library(hidden, ''), find(hidden, b'f', 0), library(twice, 'E28 DuplicateDefinition'),
             library(weak, 'E28 DuplicateDefinition'), library(local, ''), find(local, b'f', 2)]),
+        ('Two exports whose names stand at one place of the strings: refused, as a library and as a program, also where one is\n'
+         'weak. Where one of the two isn\'t exported they are taken, and the other is found.', [
+            library(place_library, 'E28 DuplicateDefinition'), admit(place, 'E28 DuplicateDefinition'),
+            image(place, wanted='B1 E28 DuplicateDefinition'), admit(place_weak, 'E28 DuplicateDefinition'),
+            admit(place_local, ''), find(place_local, b'f', 2), admit(place_undefined, ''), find(place_undefined, b'f', 1)]),
         ('A name that is the beginning of another one; the empty name; absent names.', [
             find(prefix, b'f', 2), find(prefix, b'fg', 1), find(prefix, b'', 3), find(prefix, b'g', 0),
             find(prefix, b'fgh', 0), find(prefix, b'a name', 0)]),
@@ -166,6 +179,10 @@ def tables():
     right, _ = made('bucket-0.so', Object(soname=b'q', symbols=[export(b'f')], hash_words=[2, 2, 1, 0, 0, 0]))
     both, _ = made('bucket-both.so', Object(soname=b'q', symbols=[export(b'f')], hash_words=[2, 2, 1, 1, 0, 0]))
     before, _ = made('undefined-before.so', Object(soname=b'q', symbols=[Symbol(b'u'), export(b'f')]))
+    # Five buckets for three symbols: f, whose hash is 102, belongs under number 2, and g, whose hash is 103, under number 3.
+    wide, at5 = made('five-buckets.so', Object(
+        soname=b'q', symbols=[export(b'f'), export(b'g')], hash_words=[5, 3, 0, 0, 1, 2, 0, 0, 0, 0]))
+    under = lambda *words: changed(wide, (at5['hash'] + 8, b''.join(u32(w) for w in words)))
     empty, _ = made('no-symbols.so', Object(soname=b'q'))
     nothing, _ = made('no-buckets.so', Object(soname=b'q', hash_words=[0, 1, 0]))
     none, _ = made('no-chains.so', Object(soname=b'q', hash_words=[1, 0, 0]))
@@ -187,6 +204,14 @@ def tables():
             library(changed(fg, (chain + 4, u32(0))), bad)]),
         ('An export under another bucket than its own, under its own, and under both.', [
             library(wrong, bad), library(right, ''), library(both, '')]),
+        ('More buckets than symbols: each export under its own; under another one\'s; under none; a word that is no symbol\'s index,\n'
+         'in a bucket that no name belongs to; a ring, from such a bucket too; and the same in a program.', [
+            library(wide, ''), find(wide, b'f', 1), find(wide, b'g', 2), find(wide, b'z', 0),
+            library(under(0, 0, 2, 1, 0), bad), library(under(1, 2, 0, 0, 0), bad), library(under(0, 0, 0, 0, 0), bad),
+            library(under(3, 0, 1, 2, 0), bad), library(under(0, 0, 1, 2, 0xffffffff), bad),
+            library(under(0, 0, 1, 2, 0, 0, 1, 0), bad), library(under(2, 0, 1, 1, 0, 0, 2, 2), bad),
+            library(under(2, 1, 1, 2, 1, 0, 0, 0), ''), admit(under(0, 0, 2, 1, 0), bad),
+            image(under(0, 0, 2, 1, 0), wanted='B1 ' + bad)]),
         ('A bucket into the middle of another one\'s chain.', [library(middle, ''), find(middle, b'g', 2), find(middle, b'h', 3)]),
         ('An undefined symbol on a chain.', [library(before, ''), find(before, b'f', 2), find(before, b'u', 0)]),
         ('No symbols; no buckets; no chains, so that the bucket\'s word isn\'t below their number.', [

@@ -147,6 +147,17 @@ def load_orders():
     deep = [lib('a', 'c'), lib('b', 'd'), lib('c', 'd'), lib('d')]
     last = dict(a=lib('a', 'x'), b=lib('b', 'y'), p=lib('p', 'z'), c=lib('c', 'x'))
     many = kept('needs-1000-times.so', Object(needed=[b'a'], entries=[(1, 1)] * 999))
+    sixteen = 'abcdefghijklmnop'
+    wide = kept('needs-16.so', Object(needed=[n.encode() for n in sixteen]))
+    chain = [lib(n, m) for n, m in zip(sixteen, sixteen[1:])] + [lib('p')]
+    hundred = [f'l{i:02}' for i in range(100)]
+    kept('needs-one-of-100.so', Object(b'l00', [b'l01']))
+    ring = [near(Case('needs-one-of-100.so'), Object(n.encode(), [m.encode()])) for n, m in zip(hundred, hundred[1:] + hundred[:1])]
+    first = kept('program-of-100.so', Object(needed=[b'l00']))
+    long = b'n' * 241
+    needs_long = kept('needs-241.so', Object(needed=[long]))
+    kept('needs-both-long.so', Object(b'm' * 240, [long]))
+    asks_long = kept('needs-240.so', Object(needed=[b'm' * 240]))
     named = kept('program-named.so', Object(b'p', [b'p']))
     write_list('binds-order.txt', [
         ('The program, the preloads, then level by level what these need. The program needs a and b, the preload p needs c,\n'
@@ -188,6 +199,18 @@ def load_orders():
             refused(Bind(prog('ab'), [lib('a', 'c'), last['b'], last['c']]), 'B3 Missing b y'),
             refused(Bind(prog('ab'), [lib('a', 'cx'), last['b'], last['c']]), 'B3 Missing a x'),
             refused(Bind(prog(''), [lib('b', 'ay')], ['b']), 'B3 Missing b a')]),
+        ('Seventeen objects: a program that needs sixteen libraries, and one at the head of a chain of them, in their order of\n'
+         'installation and in another; sixteen preloads. Then a program and a hundred libraries, each of which needs the next.', [
+            order(Bind(wide, [lib(n) for n in sixteen]), *sixteen),
+            order(Bind(prog('a'), chain), *sixteen), order(Bind(prog('a'), chain[::-1]), *sixteen),
+            order(Bind(prog(''), [lib(n) for n in sixteen], list(sixteen[::-1])), *sixteen[::-1]),
+            refused(Bind(wide, [lib(n) for n in sixteen[:-1]]), 'B3 Missing /program p'),
+            refused(Bind(prog('a'), chain[:-1]), 'B3 Missing o p'),
+            order(Bind(first, ring), *hundred), refused(Bind(first, ring[:-1]), 'B3 Missing l98 l99')]),
+        ('A needed name of 241 bytes, which no library has; that of a library of 240 bytes, which is found and needs the former.', [
+            refused(Bind(needs_long), 'B3 Missing /program ' + 'n' * 241),
+            refused(Bind(asks_long), 'B3 Missing /program ' + 'm' * 240),
+            refused(Bind(asks_long, [Case('needs-both-long.so')]), 'B3 Missing ' + 'm' * 240 + ' ' + 'n' * 241)]),
         ('What a library that isn\'t loaded needs isn\'t missing.', [order(Bind(prog('c'), [lib('c'), last['a']]), 'c')]),
         ('The program\'s own SONAME is no name: a library of this name is another object, of the same bytes here.', [
             refused(Bind(named), 'B3 Missing /program p'), order(Bind(named, [named]), 'p'),
