@@ -12,8 +12,9 @@ use Rattle.std.proofs.lemmas.Map.Keys.{IsDistinct-push, apart_from_distinct}
 use Rattle.std.proofs.lemmas.Map.Steps.{length-le_from_distinct_below}
 use Rattle.scope.specs.Levels.{is_among}
 use Rattle.scope.specs.LoadOrder.{level_0}
-use Rattle.scope.specs.inside.Growing.{grown_by, grown}
-use Rattle.scope.specs.inside.Places.{AreApart, AreTold}
+use Rattle.scope.specs.Queue.{grown_by, AreApart}
+use Rattle.scope.specs.inside.Growing.{grown}
+use Rattle.scope.specs.inside.Places.{AreTold}
 
 -- there are at most as many as the limit says
 pub few : (limit : ℕ) (places : List ℕ) → AreApart limit places → length places ≤ limit

@@ -4,7 +4,8 @@ use Rattle.std.specs.List.{IsDistinct, flat_map, concat}
 use Rattle.std.proofs.lemmas.Cmp.{nat_eq_equiv}
 use Rattle.std.proofs.lemmas.Map.Keys.{IsDistinct-push}
 use Rattle.scope.specs.Levels.{is_among, next_level, levels_after, levels, joined_levels}
-use Rattle.scope.specs.inside.Growing.{grown_by, grown}
+use Rattle.scope.specs.Queue.{grown_by}
+use Rattle.scope.specs.inside.Growing.{grown}
 use Rattle.scope.proofs.Growing.{grown_is}
 
 grown_by-distinct : (ps : List ℕ) (q : ℕ) → IsDistinct nat_eq ps → IsDistinct nat_eq (grown_by ps q)

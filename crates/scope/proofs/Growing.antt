@@ -5,7 +5,8 @@ use Rattle.std.proofs.lemmas.List.{take-append-le}
 use Rattle.std.proofs.lemmas.List.Folds.{list_any-append}
 use Rattle.std.proofs.lemmas.List.Sums.{fold-append}
 use Rattle.scope.specs.Levels.{is_among, first_occurrences, without}
-use Rattle.scope.specs.inside.Growing.{grown_by, grown}
+use Rattle.scope.specs.Queue.{grown_by}
+use Rattle.scope.specs.inside.Growing.{grown}
 
 pick : (f : ℕ → Bool) (x : ℕ) (xs : List ℕ) (b : Bool) → filter f (cond b (x ∷ xs) xs) ≡ cond (b && f x) (x ∷ filter f xs) (filter f xs)
 pick f x xs true = refl

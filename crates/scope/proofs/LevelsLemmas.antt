@@ -11,7 +11,7 @@ use Rattle.std.proofs.lemmas.List.{take-append-le}
 use Rattle.std.proofs.lemmas.List.Elements.{All-append, All-push, All-from_get_or, Contains-get_or}
 use Rattle.std.proofs.lemmas.List.Folds.{list_any-append}
 use Rattle.std.proofs.lemmas.Map.Keys.{IsDistinct-push}
-use Rattle.scope.specs.inside.Places.{AreApart}
+use Rattle.scope.specs.Queue.{AreApart}
 use Rattle.scope.specs.inside.Growing.{grown}
 use Rattle.scope.proofs.Growing.{grown_is, grown-append}
 use Rattle.scope.proofs.Apart.{few}

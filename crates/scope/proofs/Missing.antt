@@ -10,7 +10,8 @@ use Rattle.elf_dynamic.specs.Strings.{needed}
 use Rattle.scope.specs.Objects.{Named}
 use Rattle.std.proofs.lemmas.List.Elements.{filter_map-append}
 use Rattle.scope.specs.LoadOrder.{Need, place_of, needed_by, is_missing}
-use Rattle.scope.specs.inside.Growing.{grown, grown_by}
+use Rattle.scope.specs.Queue.{grown_by}
+use Rattle.scope.specs.inside.Growing.{grown}
 use Rattle.scope.proofs.Growing.{grown-push}
 
 abbrev pub is_absent : List (List ℕ) → List ℕ → Bool

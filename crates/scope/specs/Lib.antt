@@ -1,6 +1,7 @@
 pub mod Objects
 pub mod Levels
 pub mod LoadOrder
+pub mod Queue
 pub mod Refusal
 pub mod Lookup
 pub mod Target

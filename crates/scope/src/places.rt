@@ -1,8 +1,8 @@
 // A queue of places.
 
-ghost use Rattle.std.specs.Prelude.{◌≡◌, ◌<◌, ◌≤◌, [], length, slice_index, IfOk, OnOk};
-ghost use Rattle.scope.specs.inside.Growing.{grown_by};
-ghost use Rattle.scope.specs.inside.Places.{AreApart};
+ghost use Rattle.std.specs.Prelude.{◌≡◌, ◌<◌, ◌≤◌, [], length, slice_index, false, IfOk, OnOk, OnErr};
+ghost use Rattle.scope.specs.Levels.{is_among};
+ghost use Rattle.scope.specs.Queue.{grown_by, AreApart};
 
 use std::alloc::{AllocError, Global};
 use std::marker::Model;
@@ -18,7 +18,8 @@ pub struct Places {
 
 impl Model for Places {
     ghost use Rattle.std.specs.Prelude.{length};
-    ghost use Rattle.scope.specs.inside.Places.{Queue, AreTold};
+    ghost use Rattle.scope.specs.Queue.{Queue};
+    ghost use Rattle.scope.specs.inside.Places.{AreTold};
 
     ghost Value = { Queue };
 
@@ -55,11 +56,15 @@ impl Places {
         self.places[i]
     }
 
-    /// Adds a place, unless it is there.
+    /// Adds a place, unless it is there: that takes no memory.
     pub fn add(&mut self, place: usize) -> Result<(), AllocError>
         requires { place < self.old.limit }
-        ensures { OnOk result (self.new
+        ensures ok { OnOk result (self.new
             ≡ record { limit = self.old.limit; places = grown_by self.old.places place }) }
+
+        // Only a place that isn't there takes memory, and where that is refused nothing changed.
+        ensures err { OnErr result (is_among self.old.places place ≡ false) }
+        ensures same { OnErr result (self.new ≡ self.old) }
     {
         if !self.flags[place] {
             self.places.push(place)?;

@@ -5,8 +5,8 @@ use Rattle.elf_dynamic.specs.Strings.{needed}
 use Rattle.scope.specs.Objects.{Named}
 use Rattle.scope.specs.LoadOrder.{available, names_of, place_of, needs_of, level_0, object_at, needed_by, is_missing, missing}
 use Rattle.scope.specs.Refusal.{IsRefusal}
+use Rattle.scope.specs.Queue.{Queue}
 use Rattle.scope.specs.inside.Growing.{grown}
-use Rattle.scope.specs.inside.Places.{Queue}
 use Rattle.scope.proofs.Growing.{grown-longer}
 use Rattle.scope.proofs.Reaching.{reached-start}
 use Rattle.scope.proofs.Queueing.{IsReached, listed, first_missing, reached-more, clear-more, refused-at, places-end, missing-end}

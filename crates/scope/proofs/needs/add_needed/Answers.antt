@@ -8,8 +8,8 @@ use Rattle.std.proofs.lemmas.List.{length_push}
 use Rattle.elf_dynamic.specs.Strings.{needed}
 use Rattle.scope.specs.LoadOrder.{Need, place_of, needed_by, is_missing}
 use Rattle.scope.specs.Refusal.{IsRefusal}
-use Rattle.scope.specs.inside.Growing.{grown, grown_by}
-use Rattle.scope.specs.inside.Places.{Queue}
+use Rattle.scope.specs.Queue.{grown_by, Queue}
+use Rattle.scope.specs.inside.Growing.{grown}
 use Rattle.scope.proofs.Growing.{grown-nil}
 use Rattle.scope.proofs.Missing.{is_absent, find-more, find-here, missing-by, needs-more}
 use Rattle.scope.proofs.needs.add_needed.Goals as goal
@@ -33,7 +33,7 @@ loop-name-preserved c =
     let count : length (c.loop-name.yielded ++ c.in-Some.name ∷ []) ≡ k + 1 = length_push c.loop-name.yielded c.in-Some.name in
     record {
       places =
-          c.in_ok-add-in-Some-place_of.ensures
+          c.in_ok-add-in-Some-place_of.ensures.ok
           ∙ ap (λ (q : Queue). let r : Queue = record { limit = q.limit; places = grown_by q.places c.in-Some-place_of.place } in r) c.loop-name.invariant.places
           ∙ ap (λ l. let r : Queue = record { limit = c.args.places.now.limit; places = l } in r)
           (sym (needs-more c.args.places.now.places names needs k c.in-Some-place_of.place name turn.0 here)

@@ -1,6 +1,7 @@
 use Rattle.std.proofs.Common.{◌<◌, Bool, false, true, length, set, List, ℕ, subst, sym, ◌∙◌}
 use Rattle.std.proofs.lemmas.List.{get_or_default}
-use Rattle.scope.specs.inside.Places.{AreTold, Queue}
+use Rattle.scope.specs.Queue.{Queue}
+use Rattle.scope.specs.inside.Places.{AreTold}
 use Rattle.scope.proofs.Apart.{told-more}
 use Rattle.scope.proofs.places.Places.add.Goals as goal
 

@@ -1,5 +1,5 @@
 use Rattle.std.proofs.Common.{◌≤◌, length, subst}
-use Rattle.scope.specs.inside.Places.{Queue}
+use Rattle.scope.specs.Queue.{Queue}
 use Rattle.scope.proofs.Apart.{few}
 use Rattle.scope.proofs.places.Places.count.Goals as goal
 
