@@ -90,7 +90,8 @@ fn segments_and_relocations_are_those_of_the_file(rt: HostRuntime) -> Result<(),
         (0, 544, 544)
     );
     assert_eq!(rt; object.segments().count(), 1);
-    assert_eq!(rt; object.contents(load), LIBRARY.as_slice());
+    assert_eq!(rt; object.contents(0), LIBRARY.as_slice());
+    assert_eq!(rt; object.contents_of(load), LIBRARY.as_slice());
     assert_eq!(rt; object.rela_count(), 2);
     let first = object.rela(0);
     assert_eq!(rt;

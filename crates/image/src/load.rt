@@ -38,7 +38,11 @@ fn load_object(
         ++ map fresh (map (loaded_at base object.now) (loads object.now))) }
 {
     for header in object.segments() {
-        let bytes = fresh_bytes(alloc, object.contents(header), header.memory_size as usize)?;
+        let bytes = fresh_bytes(
+            alloc,
+            object.contents_of(header),
+            header.memory_size as usize,
+        )?;
         let permissions = Permissions::of_flags(header.flags);
         segments.push(Segment::new(base + header.address, permissions, bytes))?;
     }

@@ -18,7 +18,7 @@ fresh_bytes-requires c =
     let road = YieldsList-from_first (λ (x : ProgramHeader). x) (λ (hs : List ProgramHeader). hs) (loads file) (c.into_iter-header-iterator.ensures.into_iter_gives ∙ c.segments-header-items.ensures.segments) in
     let turn = YieldsList-turn road c.loop-header.yielded _ c.loop-header.yielded_by _ _ h c.in-Some.is c.next.ensures.steps in
     let at : slice_get (loads file) (length c.loop-header.yielded) ≡ Some h = slice_get_read (loads file) (length (loads file)) (length c.loop-header.yielded) h refl turn.0 turn.1 in
-    omega (arith, ap length c.contents.ensures.contents, contents-fit file (length c.loop-header.yielded) h c.contents.ensures.accepted at)
+    omega (arith, ap length c.contents_of.ensures.contents, contents-fit file (length c.loop-header.yielded) h c.contents_of.ensures.accepted at)
 
 pub overflow_add-base : goal.overflow_add-base
 overflow_add-base c =
@@ -36,7 +36,7 @@ loop-header-preserved c =
     let start : List ImageSegment = c.args.segments.now.items in
     let h : ProgramHeader = c.in-Some.header in
     let done : List ProgramHeader = c.loop-header.yielded in
-    let bytes = c.in_ok-bytes.ensures ∙ ap (λ bs. bs ++ replicate (h.memory_size - length bs) 0) c.contents.ensures.contents in
+    let bytes = c.in_ok-bytes.ensures ∙ ap (λ bs. bs ++ replicate (h.memory_size - length bs) 0) c.contents_of.ensures.contents in
     let new : ImageSegment = c.new.result in
     let view : new ≡ fresh (loaded_at base file h) =
     c.new.ensures
