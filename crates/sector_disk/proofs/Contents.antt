@@ -3,7 +3,7 @@ use Rattle.std.proofs.Common.{◌≡◌, ℕ, ◌+◌, ◌<◌, List, [], ◌∷
 use Rattle.std.proofs.lemmas.List.{take_more}
 use Rattle.sector_disk.specs.declared.written.Written.{Written}
 use Rattle.sector_disk.specs.Disk.{Sector}
-use Rattle.sector_disk.specs.inside.Written.{contents}
+use Rattle.sector_disk.specs.Written.{contents}
 
 pub contents-append : (start : List Sector) (writes : List Written) (w : Written) → contents start (writes ++ w ∷ []) ≡ set (contents start writes) w.at w.content
 contents-append start [] w = refl

@@ -7,10 +7,10 @@ use Rattle.std.specs.List.{Contains, filter}
 use Rattle.sector_disk.specs.declared.moment.Moment.{Moment}
 use Rattle.sector_disk.specs.declared.written.Written.{Written}
 use Rattle.sector_disk.specs.Disk.{Sector, sector, DiskFacts, MayLeave, KeepsPast, IsUnchanged, LeavesNoMore, LeavesNowAlone, GrowsBy, StartsWith}
-use Rattle.sector_disk.specs.inside.Written.{contents, written_to, choices}
+use Rattle.sector_disk.specs.Written.{contents, written_to, choices}
 use Rattle.sector_disk.specs.inside.WrittenLaws.{length-contents, written_to_same, written_to_other, now_chosen}
 use Rattle.sector_disk.specs.Memory.{IsPicked}
-use Rattle.sector_disk.specs.inside.Moments.{moment_at, facts_of}
+use Rattle.sector_disk.specs.Moments.{moment_at, facts_of}
 use Rattle.sector_disk.specs.inside.MemoryLaws.{left_now, now_leaves}
 
 -- what a moment knows of the disk, but for whether its call failed

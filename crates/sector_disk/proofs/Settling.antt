@@ -4,7 +4,7 @@ use Rattle.std.proofs.lemmas.Bool.{cases_eq}
 use Rattle.std.proofs.lemmas.List.{get_or-set_same, get_or-set_other}
 use Rattle.sector_disk.specs.declared.written.Written.{Written}
 use Rattle.sector_disk.specs.Disk.{Sector, sector}
-use Rattle.sector_disk.specs.inside.Written.{written_to}
+use Rattle.sector_disk.specs.Written.{written_to}
 use Rattle.sector_disk.specs.inside.WrittenLaws.{written_to_same, written_to_other}
 
 -- what a sector comes to hold: with number 0 what it holds, else the write of that number

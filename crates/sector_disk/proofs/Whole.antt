@@ -4,7 +4,7 @@ use Rattle.std.proofs.lemmas.List.Elements.{All-contains, All-replicate, All-fro
 use Rattle.sector_disk.specs.declared.written.Written.{Written}
 use Rattle.sector_disk.specs.Disk.{Sector, sector, sector_bytes, IsWhole}
 use Rattle.sector_disk.specs.Memory.{IsPicked}
-use Rattle.sector_disk.specs.inside.Written.{choices}
+use Rattle.sector_disk.specs.Written.{choices}
 use Rattle.sector_disk.specs.inside.MemoryLaws.{choices_whole}
 use Rattle.sector_disk.proofs.Kept.{among_picked}
 

@@ -2,8 +2,8 @@
 use Rattle.std.specs.Prelude.{◌≡◌, ◌≢◌, ◌<◌, ◌%◌, ℕ, List, [], ◌∷◌, ◌++◌, length}
 use Rattle.sector_disk.specs.declared.memory.Memory.{Memory}
 use Rattle.sector_disk.specs.Disk.{Sector, sector, DiskFacts}
-use Rattle.sector_disk.specs.inside.Moments.{facts_of}
-use Rattle.sector_disk.specs.inside.Written.{choices}
+use Rattle.sector_disk.specs.Moments.{facts_of}
+use Rattle.sector_disk.specs.Written.{choices}
 
 -- what is said of a disk in memory
 abbrev pub memory_facts : Memory → DiskFacts

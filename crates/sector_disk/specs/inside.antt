@@ -1,6 +1,4 @@
--- What the code keeps, and what follows of it. Nobody has to believe it.
+-- What follows of what is said of the two disks. Nobody has to believe it.
 pub mod FuseLaws
 pub mod MemoryLaws
-pub mod Moments
-pub mod Written
 pub mod WrittenLaws

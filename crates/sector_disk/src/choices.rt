@@ -2,7 +2,7 @@
 ghost use Rattle.std.specs.Prelude.{◌≡◌, ◌<◌, ◌≤◌, ◌+◌, ◌%◌, ◌^◌, ◌∷◌, ℕ};
 ghost use Rattle.std.specs.Prelude.{length, slice_index_or, All, drop};
 ghost use Rattle.sector_disk.specs.Disk.{sector};
-ghost use Rattle.sector_disk.specs.inside.Written.{written_to, choices};
+ghost use Rattle.sector_disk.specs.Written.{written_to, choices};
 ghost use Rattle.sector_disk.specs.Memory.{IsPicked};
 
 use crate::disk::SECTOR_BYTES;

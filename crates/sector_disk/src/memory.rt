@@ -2,7 +2,7 @@
 ghost use Rattle.std.specs.Prelude.{◌≡◌, ◌<◌, ◌≤◌, ◌^◌, ℕ};
 ghost use Rattle.std.specs.Prelude.{length, All, drop, slice_index_or, IfOk, replicate};
 ghost use Rattle.sector_disk.specs.Disk.{IsWhole};
-ghost use Rattle.sector_disk.specs.inside.Written.{contents, written_to};
+ghost use Rattle.sector_disk.specs.Written.{contents, written_to};
 
 use crate::choices::{mix, uncount};
 use crate::disk::{Disk, DiskFault, SECTOR_BYTES};

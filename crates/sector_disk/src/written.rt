@@ -1,6 +1,6 @@
 // Writes to sectors, and what they make of the contents.
 ghost use Rattle.std.specs.Prelude.{◌≡◌, ◌<◌, length, All};
-ghost use Rattle.sector_disk.specs.inside.Written.{contents};
+ghost use Rattle.sector_disk.specs.Written.{contents};
 
 use crate::disk::SECTOR_BYTES;
 

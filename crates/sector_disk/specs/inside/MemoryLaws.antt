@@ -8,8 +8,8 @@ use Rattle.sector_disk.specs.declared.moment.Moment.{Moment}
 use Rattle.sector_disk.specs.declared.memory.Memory.{Memory}
 use Rattle.sector_disk.specs.declared.written.Written.{Written}
 use Rattle.sector_disk.specs.Disk.{Sector, sector, IsWhole, HoldsNow, HasWholeSectors}
-use Rattle.sector_disk.specs.inside.Moments.{moment_at, facts_of}
-use Rattle.sector_disk.specs.inside.Written.{contents, written_to, choices}
+use Rattle.sector_disk.specs.Moments.{moment_at, facts_of}
+use Rattle.sector_disk.specs.Written.{contents, written_to, choices}
 use Rattle.sector_disk.specs.inside.WrittenLaws.{length-contents, now_chosen}
 use Rattle.sector_disk.specs.Memory.{memory_facts}
 

@@ -5,7 +5,7 @@ use Rattle.std.proofs.lemmas.List.{length-set, get_or-set_same, get_or-set_other
 use Rattle.std.specs.List.{Contains}
 use Rattle.sector_disk.specs.declared.written.Written.{Written}
 use Rattle.sector_disk.specs.Disk.{Sector, sector}
-use Rattle.sector_disk.specs.inside.Written.{contents, written_to, choices}
+use Rattle.sector_disk.specs.Written.{contents, written_to, choices}
 
 pub length-contents : (start : List Sector) (writes : List Written) → length (contents start writes) ≡ length start
 length-contents start [] = refl

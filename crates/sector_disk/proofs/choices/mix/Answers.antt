@@ -1,7 +1,7 @@
 use Rattle.std.proofs.Common.{◌≡◌, ◌+◌, ◌%◌, ◌∙◌, ◌∷◌, ap, subst, arith, length, get_or, take, drop}
 use Rattle.std.proofs.lemmas.List.{length-drop}
 use Rattle.sector_disk.specs.Disk.{sector}
-use Rattle.sector_disk.specs.inside.Written.{contents, written_to, choices}
+use Rattle.sector_disk.specs.Written.{contents, written_to, choices}
 use Rattle.sector_disk.proofs.Kept.{length-written_to}
 use Rattle.sector_disk.proofs.choices.mix.Goals as goal
 

@@ -1,7 +1,7 @@
 use Rattle.std.proofs.Common.{◌≡◌, ◌+◌, ◌-◌, ◌<◌, ◌≤◌, [], ◌∷◌, List, ℕ, length, get_or, set, drop, sym, ◌∙◌, ap, subst, arith}
 use Rattle.std.proofs.lemmas.List.{drop_more, length-set}
 use Rattle.sector_disk.specs.declared.written.Written.{Written}
-use Rattle.sector_disk.specs.inside.Written.{written_to}
+use Rattle.sector_disk.specs.Written.{written_to}
 use Rattle.sector_disk.proofs.Settling.{settled, settled_made, settled_passed, less_made}
 use Rattle.sector_disk.proofs.choices.settle.Goals as goal
 use Rattle.sector_disk.proofs.choices.settle.Goals.{then-numbers-at-eq1, else-numbers-at-eq1}

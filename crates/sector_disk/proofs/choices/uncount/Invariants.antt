@@ -1,5 +1,5 @@
 use Rattle.std.proofs.Common.{◌≡◌, ℕ, ◌<◌, length, get_or, drop}
-use Rattle.sector_disk.specs.inside.Written.{written_to}
+use Rattle.sector_disk.specs.Written.{written_to}
 use Rattle.sector_disk.proofs.choices.uncount.Given as goal
 
 abbrev pub invariant-loop-write : goal.invariant-loop-write

@@ -1,5 +1,5 @@
 use Rattle.std.proofs.Common.{◌≡◌, take}
-use Rattle.sector_disk.specs.inside.Written.{contents}
+use Rattle.sector_disk.specs.Written.{contents}
 use Rattle.sector_disk.proofs.written.apply.Given as goal
 
 abbrev pub invariant-loop-write : goal.invariant-loop-write

@@ -2,7 +2,7 @@ use Rattle.std.proofs.Common.{All, replicate, get_or, length, drop, ap, sym, ◌
 use Rattle.std.proofs.lemmas.List.{get_or-replicate, length-replicate}
 use Rattle.std.proofs.lemmas.List.Elements.{All-replicate}
 use Rattle.sector_disk.specs.Disk.{Sector, sector_bytes, IsWhole}
-use Rattle.sector_disk.specs.inside.Written.{written_to}
+use Rattle.sector_disk.specs.Written.{written_to}
 use Rattle.sector_disk.proofs.Whole.{zeros_whole}
 use Rattle.sector_disk.proofs.memory.Memory.new.Goals as goal
 

@@ -3,7 +3,7 @@ use Rattle.std.proofs.lemmas.List.{with_items_is}
 use Rattle.std.specs.Vec.{with_items}
 use Rattle.sector_disk.specs.declared.written.Written.{Written}
 use Rattle.sector_disk.specs.Disk.{Sector, sector, IsWhole}
-use Rattle.sector_disk.specs.inside.Written.{contents, written_to, choices}
+use Rattle.sector_disk.specs.Written.{contents, written_to, choices}
 use Rattle.sector_disk.specs.inside.WrittenLaws.{length-contents}
 use Rattle.sector_disk.specs.Memory.{memory_choices, IsPicked}
 use Rattle.sector_disk.specs.inside.MemoryLaws.{left_now}

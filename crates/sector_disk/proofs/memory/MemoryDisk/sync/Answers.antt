@@ -1,6 +1,6 @@
 use Rattle.std.proofs.Common.{◌≡◌, ◌∙◌, ap, length, refl, sym, subst}
 use Rattle.sector_disk.specs.Disk.{LeavesNoMore, LeavesNowAlone}
-use Rattle.sector_disk.specs.inside.Moments.{facts_of}
+use Rattle.sector_disk.specs.Moments.{facts_of}
 use Rattle.sector_disk.proofs.Kept.{keeps_past_to, no_more, alone}
 use Rattle.sector_disk.proofs.memory.MemoryDisk.sync.Goals as goal
 

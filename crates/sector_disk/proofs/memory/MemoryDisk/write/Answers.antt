@@ -4,10 +4,10 @@ use Rattle.std.proofs.lemmas.List.Elements.{All-push, All-weaker}
 use Rattle.sector_disk.specs.declared.moment.Moment.{Moment}
 use Rattle.sector_disk.specs.declared.written.Written.{Written}
 use Rattle.sector_disk.specs.Disk.{GrowsBy, IsUnchanged, IsWhole}
-use Rattle.sector_disk.specs.inside.Written.{contents, written_to}
+use Rattle.sector_disk.specs.Written.{contents, written_to}
 use Rattle.sector_disk.specs.inside.WrittenLaws.{length-contents}
 use Rattle.sector_disk.specs.Memory.{memory_facts}
-use Rattle.sector_disk.specs.inside.Moments.{facts_of}
+use Rattle.sector_disk.specs.Moments.{facts_of}
 use Rattle.sector_disk.proofs.Contents.{contents-append}
 use Rattle.sector_disk.proofs.Kept.{keeps_past_to, unchanged, grows, length-written_to, counted_more}
 use Rattle.sector_disk.proofs.Whole.{is_whole}

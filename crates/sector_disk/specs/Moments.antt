@@ -3,7 +3,7 @@ use Rattle.std.specs.Prelude.{ℕ, List, take, length, true, false, slice_index_
 use Rattle.sector_disk.specs.declared.moment.Moment.{Moment}
 use Rattle.sector_disk.specs.declared.written.Written.{Written}
 use Rattle.sector_disk.specs.Disk.{Sector, DiskFacts}
-use Rattle.sector_disk.specs.inside.Written.{contents, choices}
+use Rattle.sector_disk.specs.Written.{contents, choices}
 
 -- the mark of a moment: of a past one, or else of the present one
 abbrev pub moment_at : List Written → ℕ → List Moment → ℕ → Moment
