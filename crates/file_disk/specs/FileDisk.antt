@@ -42,11 +42,10 @@ pub record IsSame {F : Type 0} (old new : FileDisk F) : Type 0 where
   pub gathered : new.gathered ≡ old.gathered
   pub ahead : new.ahead ≡ old.ahead
 
--- All that waited was given to the file, at its place; or nothing waited.
-abbrev pub IsGiven : {F : Type 0} → (F → Option ℕ) → (F → Option (List ℕ)) → FileDisk F → F → Type 0
-IsGiven position contents old file =
-    WaitsNot old
-    ⊎ IsWrittenAt position contents old.file file (512 * old.gathered.start) (flat_map (λ content. content) (gathered_sectors old.gathered))
+-- All that waited was given to the file, at its place. Where nothing waited the file is as it was.
+pub record IsGiven {F : Type 0} (position : F → Option ℕ) (contents : F → Option (List ℕ)) (old : FileDisk F) (file : F) : Type 0 where
+  pub idle : WaitsNot old → file ≡ old.file
+  pub given : WaitsNot old ⊎ IsWrittenAt position contents old.file file (512 * old.gathered.start) (flat_map (λ content. content) (gathered_sectors old.gathered))
 
 -- Sector `at` waits with this content. Each other one waits as before, and the file is as it was; or no other one waits, and all that waited was given to the file.
 pub record IsGathered {F : Type 0} (position : F → Option ℕ) (contents : F → Option (List ℕ)) (old new : FileDisk F) (at : ℕ) (content : Sector) : Type 0 where

@@ -37,6 +37,7 @@ impl<F: Drop> FileDisk<F> {
     pub(crate) fn new(alloc: Global, file: F, sectors: u32) -> Result<FileDisk<F>, AllocError>
         ensures sectors { IfOk result (λ disk. (file_facts disk).sectors ≡ sectors) }
         ensures new { IfOk result (λ disk. IsNew disk) }
+        ensures file { IfOk result (λ disk. file_of disk ≡ file) }
     {
         Ok(FileDisk {
             file,
@@ -76,7 +77,31 @@ impl<F: Write + Seek + OpenFile> FileDisk<F> {
     }
 
     // Gives all that waits to the file, if that still has its length: a write past the end of one
-    // that was cut would hide it.
+    // that was cut would hide it. It waits on.
+    fn give(&mut self) -> Result<(), DiskFault>
+        ensures calls { self.new.calls ≡ self.old.calls }
+        ensures sectors { self.new.sectors ≡ self.old.sectors }
+        ensures ahead { self.new.ahead ≡ self.old.ahead }
+        ensures gathered { self.new.gathered ≡ self.old.gathered }
+        ensures given { OnOk result
+            (IsGiven F.stream_position F.contents self.old (file_of self.new)) }
+        ensures idle { WaitsNot self.old → file_of self.new ≡ file_of self.old }
+        ensures ok { OnOk result (has_failed self.new ≡ has_failed self.old) }
+        ensures err { OnErr result (has_failed self.new ≡ true) }
+    {
+        if self.gathered.is_empty() {
+            return Ok(());
+        }
+        if has_sectors(&self.file, self.sectors) {
+            let bytes = self.gathered.bytes();
+            if write_at(&mut self.file, self.gathered.start(), bytes).is_ok() {
+                return Ok(());
+            }
+        }
+        self.fail()
+    }
+
+    // Gives all that waits to the file, and has none of it wait any more.
     fn flush(&mut self) -> Result<(), DiskFault>
         ensures calls { self.new.calls ≡ self.old.calls }
         ensures sectors { self.new.sectors ≡ self.old.sectors }
@@ -89,17 +114,9 @@ impl<F: Write + Seek + OpenFile> FileDisk<F> {
         ensures err { OnErr result (has_failed self.new ≡ true) }
         ensures same { OnErr result (WaitsSame self.old self.new) }
     {
-        if self.gathered.is_empty() {
-            return Ok(());
-        }
-        if has_sectors(&self.file, self.sectors) {
-            let bytes = self.gathered.bytes();
-            if write_at(&mut self.file, self.gathered.start(), bytes).is_ok() {
-                self.gathered.clear();
-                return Ok(());
-            }
-        }
-        self.fail()
+        self.give()?;
+        self.gathered.clear();
+        Ok(())
     }
 
     // Gives what waits to the file where a sector has no room beside it.
@@ -143,7 +160,7 @@ impl<F: Write + Seek + OpenFile> FileDisk<F> {
         Ok(())
     }
 
-    // Brings all that was written to the medium.
+    // Brings all that was written to the medium. It waits until it is there.
     fn settle(&mut self) -> Result<(), DiskFault>
         ensures calls { self.new.calls ≡ self.old.calls }
         ensures sectors { self.new.sectors ≡ self.old.sectors }
@@ -151,14 +168,17 @@ impl<F: Write + Seek + OpenFile> FileDisk<F> {
         ensures waits { OnOk result (WaitsNot self.new) }
         ensures given { OnOk result
             (IsGiven F.stream_position F.contents self.old (file_of self.new)) }
+        ensures same { OnErr result (WaitsSame self.old self.new) }
+        ensures idle { WaitsNot self.old → file_of self.new ≡ file_of self.old }
         ensures failed { has_failed self.new ≡ is_err result }
         ensures stays { has_failed self.old ≡ true → is_err result ≡ true }
     {
         if self.failed {
             return Err(DiskFault::Failed);
         }
-        self.flush()?;
+        self.give()?;
         if has_sectors(&self.file, self.sectors) && self.file.sync_all().is_ok() {
+            self.gathered.clear();
             return Ok(());
         }
         self.fail()
@@ -299,7 +319,8 @@ impl<F: Read + Write + Seek + OpenFile> Disk for FileDisk<F> {
         reply
     }
 
-    /// Gives all that waits to the file, and has the system bring it to the medium.
+    /// Gives all that waits to the file, and has the system bring it to the medium. It waits until
+    /// that is done.
     fn sync(&mut self) -> Result<(), DiskFault>
         ensures calls { IsCall (file_facts self.old) (file_facts self.new) result }
         ensures honest { IsTrue (file_facts self.old).honest
@@ -308,6 +329,12 @@ impl<F: Read + Write + Seek + OpenFile> Disk for FileDisk<F> {
         ensures given { OnOk result
             (IsGiven F.stream_position F.contents self.old (file_of self.new)) }
         ensures kept { (k : ℕ) → kept self.new k ≡ kept self.old k }
+
+        // Where it fails, what waited is read back as before.
+        ensures same { OnErr result (WaitsSame self.old self.new) }
+
+        // Where nothing waits there is nothing to give.
+        ensures idle { WaitsNot self.old → file_of self.new ≡ file_of self.old }
         ensures failed { has_failed self.new ≡ is_err result }
         ensures stays { has_failed self.old ≡ true → is_err result ≡ true }
     {

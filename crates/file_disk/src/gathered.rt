@@ -18,7 +18,7 @@ pub(crate) struct Gathered {
 }
 
 impl Gathered {
-    ghost use Rattle.std.specs.Prelude.{◌≢◌, ℕ, None, Some, true, IfOk, option_copied};
+    ghost use Rattle.std.specs.Prelude.{◌≢◌, ℕ, None, Some, true, false, IfOk, option_copied};
     ghost use Rattle.std.specs.List.{flat_map};
     ghost use Rattle.file_disk.specs.Gathered.{gathered_sectors, gathered_at, has_room};
 
@@ -43,6 +43,7 @@ impl Gathered {
     /// Whether none wait.
     pub(crate) fn is_empty(&self) -> bool
         ensures none { result ≡ true → (k : ℕ) → gathered_at self.now k ≡ None }
+        ensures some { result ≡ false → gathered_at self.now self.now.start ≢ None }
         ensures count { result ≡ true → self.now.count ≡ 0 }
     {
         self.count == 0

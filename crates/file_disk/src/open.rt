@@ -1,6 +1,6 @@
 // Opening and making the file of a disk.
 ghost use Rattle.std.specs.Prelude.{◌≡◌, ◌≢◌, ◌*◌, ◌<◌, ◌^◌, ℕ, IfOk, IfSome, IfNone};
-ghost use Rattle.file_disk.specs.FileDisk.{file_facts, IsNew};
+ghost use Rattle.file_disk.specs.FileDisk.{file_facts, file_of, IsNew};
 ghost use Rattle.file_disk.specs.declared.open.OpenFault.TheVariants.{OutOfMemory};
 
 use crate::disk::FileDisk;
@@ -101,7 +101,8 @@ fn sync_folder<R: Files>(rt: &R, path: &str) -> Result<(), OpenFault> {
 impl<F: Read + Write + Seek + OpenFile + Drop> FileDisk<F> {
     /// A disk over an open file: it has as many sectors as the file has now.
     pub fn over(alloc: Global, file: F) -> Result<FileDisk<F>, OpenFault>
-        ensures { IfOk result (λ disk. IsNew disk) }
+        ensures new { IfOk result (λ disk. IsNew disk) }
+        ensures file { IfOk result (λ disk. file_of disk ≡ file) }
     {
         let length = match file.metadata() {
             Ok(found) if found.is_file() => found.len(),

@@ -1,0 +1,21 @@
+use Rattle.std.proofs.Common.{◌≡◌, ◌-◌, ◌&&◌, ◌<◌, ℕ, Bool, true, false, Option, Some, None, if◌then◌else◌, nat_le, nat_lt, refl, sym, ◌∙◌, arith}
+use Rattle.std.specs.Cmp.Derive.{both_true}
+use Rattle.std.proofs.lemmas.Bool.{eqb-false, lt-ltb, le-leb}
+use Rattle.std.proofs.lemmas.Option.{none-some}
+use Rattle.sector_disk.specs.Disk.{Sector, sector}
+use Rattle.file_disk.proofs.gathered.Gathered.is_empty.Goals as goal
+
+-- where the test holds there is something
+where_true : {X : Type 0} (b : Bool) (x : X) → b ≡ true → ◌≡◌ {A = Option X} (if b then Some x else None) (Some x)
+where_true true x is = refl
+where_true false x is = absurd cc
+
+-- The first of them waits.
+pub returns-clause-some : goal.returns-clause-some
+returns-clause-some g isnt = λ none.
+    let gathered = g.args.self.now in
+    let start : ℕ = gathered.start in
+    let some : 0 < gathered.count = omega (arith, eqb-false gathered.count 0 isnt) in
+    let first : Sector = sector gathered.contents.items (start - start) in
+    let test : (nat_le start start && nat_lt (start - start) gathered.count) ≡ true = both_true (le-leb start start (omega arith)) (lt-ltb (start - start) gathered.count (omega (arith, some))) in
+    none-some first (sym none ∙ where_true _ first test)
