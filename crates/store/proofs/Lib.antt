@@ -8,6 +8,7 @@ pub mod Frees
 pub mod News
 pub mod Openings
 pub mod OwnNames
+pub mod Placing
 pub mod Preloads
 pub mod Puts
 pub mod Queries

@@ -2,5 +2,6 @@ pub mod State
 pub mod Stands
 pub mod Opened
 pub mod Opening
+pub mod Placed
 pub mod Step
 pub mod inside

@@ -3,7 +3,6 @@ use Rattle.std.specs.Prelude.{◌≡◌, ◌≢◌, ℕ, ◌+◌, ◌-◌, ◌<�
 use Rattle.std.specs.Int.{IsInRange}
 use Rattle.extents.specs.Extent.{sector_count}
 use Rattle.extents.specs.Longest.{longest_runs}
-use Rattle.extents.specs.Used.{layout_of}
 use Rattle.roots.specs.Limits.{least_file_bytes, most_file_bytes, most_name_bytes, most_libraries}
 use Rattle.roots.specs.declared.entry.Entry.{Entry}
 use Rattle.roots.specs.Entry.{IsNameByte}
@@ -13,8 +12,8 @@ use Rattle.store.specs.declared.refusal.StoreRefusal.TheVariants.{Device, Reopen
 use Rattle.extents.specs.declared.refusal.TakeRefusal.{TakeRefusal}
 use Rattle.extents.specs.declared.refusal.TakeRefusal.TheVariants as take
 use Rattle.store.specs.State.{Blob, State, cost, free}
-use Rattle.store.specs.Opened.{Opened}
-use Rattle.store.specs.Stands.{name_of, used}
+use Rattle.store.specs.Opened.{Opened, layout_in_use}
+use Rattle.store.specs.Stands.{name_of}
 
 -- what can be a name: 1 to 240 visible characters without `/`
 pub record IsName (name : List ℕ) : Type 0 where
@@ -85,7 +84,7 @@ last_generation = 2 ^ 64 - 1
 
 -- how many sectors the longest free runs of the disk have, as many runs as a byte string may have extents
 abbrev pub longest_free : {D : Type 0} → Opened D → ℕ
-longest_free store = sector_count (longest_runs (layout_of store.root.sectors (used store.root store.entries)))
+longest_free store = sector_count (longest_runs (layout_in_use store))
 
 -- The first reason to refuse bytes that are put in place of others, or none: on a disk of so many sectors, whose longest free runs have so many.
 abbrev pub refusal_of_put : (sectors longest : ℕ) → State → List ℕ → Option StoreRefusal

@@ -23,6 +23,10 @@ impl<D: Disk> Store<D> {
         ensures any_moment { IsTrue (D.facts disk).honest → LeavesOnly (D.facts disk)
             (D.facts (disk_after result)) (Mixture (D.facts disk)) }
 
+        // What reads give stays, also where a call fails.
+        ensures now { IsTrue (D.facts disk).honest
+            → (D.facts (disk_after result)).now ≡ (D.facts disk).now }
+
         // The store is at the state for which what reads give stands: every mixture stands for it.
         ensures ok { IsTrue (D.facts disk).honest → IfOk result (λ store.
             (s : State) × Stands (D.facts disk).now s × IsAt D.facts store s) }

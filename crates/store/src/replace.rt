@@ -13,6 +13,7 @@ impl<D: Disk> Store<D> {
     ghost use Rattle.sector_disk.specs.Disk.{sector_bytes};
     ghost use Rattle.sector_disk.specs.Disk.{LeavesOnly, AreCallsExactly, AreCallsAtMost};
     ghost use Rattle.store.specs.Opened.{IsAt};
+    ghost use Rattle.store.specs.Placed.{IsPutOver};
     ghost use Rattle.store.specs.Stands.{Stands};
     ghost use Rattle.store.specs.State.{State};
     ghost use Rattle.store.specs.Step.{HasName, IsFileSize, with_bytes, longest_free};
@@ -32,6 +33,10 @@ impl<D: Disk> Store<D> {
             → OnOk result (IsAt D.facts self.new (with_bytes name.now bytes.now s)) }
         ensures refused { (s : State) → IsAt D.facts self.old s → IsExactAnswer
             (refusal_of_put self.old.root.sectors (longest_free self.old) s bytes.now) result }
+
+        // It takes the sectors of the bytes first, and then that of the entry.
+        ensures placed { OnOk result
+            (IsPutOver self.old self.new name.now (div_ceil (length bytes.now) sector_bytes)) }
 
         // On any disk. After a failed call the store has to be opened again.
         ensures reopen { (result ≡ Err StoreRefusal.Reopen) ↔ IsTrue self.old.failed }

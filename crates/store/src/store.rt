@@ -46,6 +46,7 @@ impl<D: Disk> Store<D> {
     ghost use Rattle.store.specs.Opened.{IsAt, disk_after};
     ghost use Rattle.store.specs.Opening.{IsGeometry, HasRootMagic};
     ghost use Rattle.store.specs.Opening.{RefusesFormat, IsRefusalOfFormat};
+    ghost use Rattle.store.specs.Placed.{IsPutBehind};
     ghost use Rattle.store.specs.Stands.{Stands};
     ghost use Rattle.store.specs.State.{State, empty_state};
     ghost use Rattle.store.specs.Step.{IsName, IsFileSize, LacksName, with_new};
@@ -69,6 +70,9 @@ impl<D: Disk> Store<D> {
         ensures left_alone { IsTrue (D.facts disk).honest
             → IfErr result (λ e. e.0 ≡ StoreRefusal.AlreadyFormatted → LeavesOnly
             (D.facts disk) (D.facts e.1) (Mixture (D.facts disk))) }
+        ensures now { IsTrue (D.facts disk).honest
+            → IfErr result (λ e. e.0 ≢ StoreRefusal.Device
+            → (D.facts e.1).now ≡ (D.facts disk).now) }
 
         // On any disk
         ensures usable { IfOk result (λ store. IsFalse store.failed) }
@@ -116,6 +120,10 @@ impl<D: Disk> Store<D> {
             → OnOk result (IsAt D.facts self.new (with_new name.now bytes.now s)) }
         ensures refused { (s : State) → IsAt D.facts self.old s → IsAnswer
             (refusal_of_new self.old.root.sectors (longest_free self.old) s bytes.now) result }
+
+        // It takes the sectors of the bytes first, and then that of the entry.
+        ensures placed { OnOk result
+            (IsPutBehind self.old self.new (div_ceil (length bytes.now) sector_bytes)) }
 
         // On any disk. After a failed call the store has to be opened again.
         ensures reopen { (result ≡ Err StoreRefusal.Reopen) ↔ IsTrue self.old.failed }

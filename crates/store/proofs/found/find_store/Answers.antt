@@ -18,7 +18,7 @@ returns-in_err-entries-clause-refused g c honest =
     let geometry = subst IsGeometry (c.requires.sectors ∙ sym (g.met.D.Disk.holds_now _ honest).size) c.requires.geometry in
     let unlisted = subst (λ m. c.in_err-entries.field-0.0 ≡ Damaged → (entries : List Entry) → IsListed m c.in_ok-root.root entries → ⊥) (c.read_root.ensures.now honest) (c.in_err-entries.ensures.unlisted honest_mid) in
     let p = err_from_is_err_and c.from_residual-in_err-entries.result c.from_residual-in_err-entries.ensures.1 in
-    rw (p.1, p.2) (entries_refused now c.in_ok-root.root geometry (c.in_ok-root.ensures.current honest) c.in_err-entries.field-0.0 c.in_err-entries.ensures.refusals unlisted)
+    rw (p.1, p.2) (entries_refused now c.in_ok-root.root geometry (c.in_ok-root.ensures.current honest) (c.in_ok-root.ensures.root.1 ∙ c.requires.sectors ∙ sym (g.met.D.Disk.holds_now _ honest).size) c.in_err-entries.field-0.0 c.in_err-entries.ensures.refusals unlisted)
 
 pub returns-then-not-have_own_names-clause-any_moment : goal.returns-then-not-have_own_names-clause-any_moment
 returns-then-not-have_own_names-clause-any_moment g c honest =

@@ -1,4 +1,5 @@
-use Rattle.std.proofs.Common.{◌≡◌, ◌≢◌, ◌⊎◌, false, inl, ◌*◌, ◌≤◌, ◌∷◌, ◌++◌, [], All, length, IsTrue, Ok, Err, refl, sym, subst, ap, ◌∙◌, arith}
+use Rattle.std.proofs.Common.{◌≡◌, ◌≢◌, ◌⊎◌, false, inl, ℕ, ◌+◌, ◌*◌, ◌≤◌, ◌∷◌, ◌++◌, [], All, length, IsTrue, Ok, Err, refl, sym, subst, ap, ◌∙◌, arith}
+use Rattle.std.specs.Int.{div_ceil}
 use Rattle.std.proofs.lemmas.Grind.{div_ceil_times}
 use Rattle.std.proofs.lemmas.Result.{err_from_is_err_and}
 use Rattle.sector_disk.specs.Disk.{LeavesOnly}
@@ -7,13 +8,17 @@ use Rattle.extents.specs.Extent.{AreDistinct, one_sector, places, sector_count}
 use Rattle.extents.specs.Layout.{AllClaimed, IsInside, with_flag}
 use Rattle.extents.proofs.PlacesLemmas.{distinct-places}
 use Rattle.extents.specs.Longest.{longest_runs}
-use Rattle.store.specs.Opened.{IsAt}
-use Rattle.store.specs.Stands.{Stands, StandsBy, name_of, used}
+use Rattle.store.specs.Opened.{IsAt, layout_in_use}
+use Rattle.roots.specs.Root.{listed_sectors, listed_preloads}
+use Rattle.roots.proofs.RootLemmas.{listed_sectors-root_of_lists}
+use Rattle.store.specs.Placed.{IsTaken}
+use Rattle.store.specs.Stands.{Stands, StandsBy, name_of, extents_of, used}
 use Rattle.extents.specs.Used.{layout_of}
 use Rattle.store.specs.Step.{LacksName, with_new, longest_free, refusal_of_new, refusal_of_take, IsAnswer}
 use Rattle.store.specs.inside.Kept.{IsKept}
 use Rattle.store.specs.inside.Room.{IsNew}
 use Rattle.store.proofs.News.{next_fits, next_kept, room_behind, entry_elsewhere, new_put, length-blobs}
+use Rattle.store.proofs.Placing.{taken_so}
 use Rattle.store.proofs.Rooms.{inside_mid}
 use Rattle.store.proofs.Frees.{free_is, longest_is, put_refused, put_taken, answers_take, new_as_put}
 use Rattle.store.proofs.store.Store.put_new.Goals as goal
@@ -220,3 +225,19 @@ returns-clause-refused g c s at_entry =
     (let first = few ∙ put_taken c.self.inside.root.sectors (sector_count (longest_runs (layout_of c.self.inside.root.sectors (used c.self.inside.root c.self.inside.entries.items)))) s c.args.bytes.now usable c.in_ok-room.room
     (λ is. omega (arith, (c.in_ok-room.ensures.full).0 is, free, c.sectors_of.ensures), λ lt. (c.in_ok-room.ensures.full).1 (omega (arith, lt, free, c.sectors_of.ensures))) (λ is. let both = (c.in_ok-room.ensures.fragmented).0 is in (omega (arith, both.0, free, c.sectors_of.ensures), omega (arith, both.1, longest, c.sectors_of.ensures)), λ both. (c.in_ok-room.ensures.fragmented).1 (omega (arith, both.0, free, c.sectors_of.ensures), omega (arith, both.1, longest, c.sectors_of.ensures))) in
     subst (λ refusal. IsAnswer refusal (Ok tt)) (sym first) tt)
+
+pub returns-clause-placed : goal.returns-clause-placed
+returns-clause-placed g c =
+    let entry = c.new_entry-entry.result in
+    let at : ℕ = c.in_ok-room.room.entry in
+    let its = c.new_entry-entry.ensures.extents ∙ c.as_slice.ensures.value in
+    let taken = taken_so c.self.inside.root c.self.inside.entries.items c.self.inside.layout c.self.invariant.0 c.sectors_of.ensures its c.in_ok-room.ensures.ok.given.inside c.in_ok-room.ensures.taken in
+    record {
+      entry = entry;
+      at = at;
+      taken = subst (λ store. IsTaken (layout_in_use store) (div_ceil (length c.args.bytes.now) 512) (extents_of entry) at) c.self.view_is taken;
+      entries = c.in-Ok.ensures.items ∙ ap (λ l. l ++ entry ∷ []) c.reserve.ensures.items ∙ ap (λ store. store.entries ++ entry ∷ []) c.self.view_is;
+      listed = ap listed_sectors c.with_entry-root.ensures
+          ∙ listed_sectors-root_of_lists (c.self.inside.root.generation + 1) c.self.inside.root.sectors (listed_sectors c.self.inside.root ++ at ∷ []) (listed_preloads c.self.inside.root)
+          ∙ ap (λ store. listed_sectors store.root ++ at ∷ []) c.self.view_is;
+    }

@@ -1,4 +1,5 @@
-use Rattle.std.proofs.Common.{◌≡◌, ◌≢◌, ◌⊎◌, false, ◌*◌, ◌≤◌, ◌∷◌, ◌++◌, All, get_or, set, length, IsTrue, Ok, Err, refl, sym, subst, ap, ◌∙◌, arith}
+use Rattle.std.proofs.Common.{◌≡◌, ◌≢◌, ◌⊎◌, false, ℕ, ◌+◌, ◌<◌, ◌*◌, ◌≤◌, ◌∷◌, ◌++◌, All, get_or, set, length, IsTrue, Ok, Err, refl, sym, subst, ap, ◌∙◌, arith}
+use Rattle.std.specs.Int.{div_ceil}
 use Rattle.std.proofs.lemmas.Grind.{div_ceil_times}
 use Rattle.std.proofs.lemmas.List.{get_or_default}
 use Rattle.std.proofs.lemmas.Result.{err_from_is_err_and}
@@ -11,9 +12,11 @@ use Rattle.extents.specs.Used.{layout_of}
 use Rattle.extents.proofs.LayoutLemmas.{length-with_flags}
 use Rattle.extents.proofs.PlacesLemmas.{distinct-places}
 use Rattle.roots.specs.declared.entry.Entry.{Entry}
-use Rattle.roots.specs.Root.{listed_sectors}
+use Rattle.roots.specs.Root.{listed_sectors, listed_preloads}
 use Rattle.roots.specs.Entry.{EntryHasSpelling}
-use Rattle.store.specs.Opened.{IsAt}
+use Rattle.roots.proofs.RootLemmas.{listed_sectors-root_of_lists}
+use Rattle.store.specs.Opened.{IsAt, layout_in_use}
+use Rattle.store.specs.Placed.{IsTaken}
 use Rattle.store.specs.Stands.{Stands, name_of, extents_of, data_sectors, used}
 use Rattle.store.specs.Step.{HasName, with_bytes, longest_free, refusal_of_put, refusal_of_take, IsExactAnswer}
 use Rattle.store.specs.inside.Kept.{IsKept}
@@ -23,6 +26,7 @@ use Rattle.store.proofs.News.{claims_room, room_behind, entry_elsewhere}
 use Rattle.store.proofs.Releases.{first_claimed, rest_inside, rest_claimed, rest_once, used_inside, released_claims}
 use Rattle.store.proofs.Removals.{no_entry}
 use Rattle.store.proofs.Replacements.{IsReplacement, named_is_name, replacement_next, replacement_put, replacement_used, replacement_parts}
+use Rattle.store.proofs.Placing.{taken_so}
 use Rattle.store.proofs.Rooms.{inside_mid}
 use Rattle.store.proofs.store.Store.put_over.Goals as goal
 
@@ -316,3 +320,26 @@ returns-clause-refused g c s at_entry =
     (λ is. omega (arith, (c.in_ok-room.ensures.full).0 is, free, c.sectors_of.ensures), λ lt. (c.in_ok-room.ensures.full).1 (omega (arith, lt, free, c.sectors_of.ensures))) (λ is. let both = (c.in_ok-room.ensures.fragmented).0 is in (omega (arith, both.0, free, c.sectors_of.ensures), omega (arith, both.1, longest, c.sectors_of.ensures)), λ both. (c.in_ok-room.ensures.fragmented).1 (omega (arith, both.0, free, c.sectors_of.ensures), omega (arith, both.1, longest, c.sectors_of.ensures))) in
     subst (λ store. IsExactAnswer (refusal_of_put store.root.sectors (longest_free store) s c.args.bytes.now) (Ok tt)) c.self.view_is
     (subst (λ refusal. IsExactAnswer refusal (Ok tt)) (sym first) tt)
+
+pub returns-clause-placed : goal.returns-clause-placed
+returns-clause-placed g c =
+    let entries = c.self.inside.entries.items in
+    let position : ℕ = c.in-Some.position in
+    let entry = c.new_entry-entry.result in
+    let at : ℕ = c.in_ok-room.room.entry in
+    let its = c.new_entry-entry.ensures.extents ∙ c.as_slice.ensures.value in
+    let taken = taken_so c.self.inside.root entries c.self.inside.layout c.self.invariant.0 c.sectors_of.ensures its c.in_ok-room.ensures.ok.given.inside c.in_ok-room.ensures.taken in
+    let inside : position < length entries = omega (arith, c.in-Some.ensures.some.0, ap length c.deref.ensures.value) in
+    let named : (d : Entry) → name_of (get_or entries position d) ≡ c.args.name.now = λ d. subst (λ l. name_of (get_or l position d) ≡ c.args.name.now) c.deref.ensures.value (c.in-Some.ensures.some.1 d) in
+    record {
+      position = position;
+      inside = subst (λ store. position < length store.entries) c.self.view_is inside;
+      named = λ d. subst (λ store. name_of (get_or store.entries position d) ≡ c.args.name.now) c.self.view_is (named d);
+      entry = entry;
+      at = at;
+      taken = subst (λ store. IsTaken (layout_in_use store) (div_ceil (length c.args.bytes.now) 512) (extents_of entry) at) c.self.view_is taken;
+      entries = ap (λ store. set store.entries position entry) c.self.view_is;
+      listed = ap listed_sectors c.with_entry_at-root.ensures
+          ∙ listed_sectors-root_of_lists (c.self.inside.root.generation + 1) c.self.inside.root.sectors (set (listed_sectors c.self.inside.root) position at) (listed_preloads c.self.inside.root)
+          ∙ ap (λ store. set (listed_sectors store.root) position at) c.self.view_is;
+    }

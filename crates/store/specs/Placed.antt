@@ -1,0 +1,35 @@
+-- Where a put puts its bytes and its entry: into which of the free sectors.
+use Rattle.std.specs.Prelude.{◌≡◌, ℕ, ◌<◌, Bool, true, List, [], ◌∷◌, ◌++◌, length, set, slice_index_or}
+use Rattle.extents.specs.declared.extent.Extent.{Extent}
+use Rattle.extents.specs.Layout.{IsLowestFree, with_flags}
+use Rattle.extents.specs.Taken.{taken}
+use Rattle.roots.specs.declared.entry.Entry.{Entry}
+use Rattle.roots.specs.Root.{listed_sectors}
+use Rattle.roots.specs.Entry.{name_of, extents_of}
+use Rattle.store.specs.Opened.{Opened, layout_in_use}
+
+-- Of this layout so many sectors for bytes are taken first, as `take` gives them, and then one for the entry, as `take_one` gives it: the lowest that is free then.
+pub record IsTaken (layout : List Bool) (need : ℕ) (extents : List Extent) (at : ℕ) : Type 0 where
+  pub bytes : extents ≡ taken need layout
+  pub entry : IsLowestFree (with_flags true extents layout) at
+
+-- One more entry stands behind the others. Its bytes and the entry itself are in sectors that were taken of those that weren't in use.
+pub record IsPutBehind {D : Type 0} (old new : Opened D) (need : ℕ) : Type 0 where
+  pub entry : Entry
+  -- its sector
+  pub at : ℕ
+  pub taken : IsTaken (layout_in_use old) need (extents_of entry) at
+  pub entries : new.entries ≡ old.entries ++ entry ∷ []
+  pub listed : listed_sectors new.root ≡ listed_sectors old.root ++ at ∷ []
+
+-- Another entry stands in the place of the one of this name, and its sector in the place of that one's. They are taken beside the old sectors, which are still in use.
+pub record IsPutOver {D : Type 0} (old new : Opened D) (name : List ℕ) (need : ℕ) : Type 0 where
+  pub position : ℕ
+  pub inside : position < length old.entries
+  pub named : (d : Entry) → name_of (slice_index_or old.entries position d) ≡ name
+  pub entry : Entry
+  -- its sector
+  pub at : ℕ
+  pub taken : IsTaken (layout_in_use old) need (extents_of entry) at
+  pub entries : new.entries ≡ set old.entries position entry
+  pub listed : listed_sectors new.root ≡ set (listed_sectors old.root) position at
