@@ -29,7 +29,7 @@ REMARKS = {
 STANDARD = re.compile(r'\(([^()]*(?:\([^()]*\)[^()]*)*)\)')
 VALUE = re.compile(r'^\S+ = (0x[0-9a-f]+|[0-9]+)$')
 FIELD = re.compile(r'^[pe]_[a-z]+')
-NAME = re.compile(r'^(?:(?:abbrev|unfoldable) pub|pub (?:record|data)|pub) (?!use )(\S+)')
+NAME = re.compile(r'^(?:(?:  )?(?:(?:abbrev|unfoldable) pub|pub (?:record|data))|pub) (?!use )(\S+)')
 
 
 def section_of(text):
@@ -59,8 +59,8 @@ def rows_of(path):
     rows, comment = [], []
     for number, line in enumerate(lines[k:], k + 1):
         named = NAME.match(line)
-        if line.startswith('-- '):
-            comment.append(line[3:].strip())
+        if re.match(r'(  )?-- ', line):
+            comment.append(line.strip()[3:])
         elif named:
             name = named.group(1).strip('◌') if named.group(1) != '◌' else named.group(1)
             value = VALUE.match(lines[number]) if number < len(lines) else None
@@ -74,7 +74,7 @@ def rows_of(path):
                 if not value:
                     print(f'{path.relative_to(ROOT)}: {name} has no comment of its own')
             comment = []
-        elif line == '':
+        elif not line.startswith('infix'):
             comment = []
     return rows
 

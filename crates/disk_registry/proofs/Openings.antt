@@ -8,7 +8,7 @@ use Rattle.store.specs.State as store
 use Rattle.store.specs.Stands as sectors
 use Rattle.store.specs.Opened as opened
 use Rattle.store.specs.Opening as opening
-use Rattle.store.specs.Opening.{IsGeometry, HasRootMagic}
+use Rattle.store.specs.Opening.{IsGeometry, HasRootMagic, HasCurrentRoot}
 use Rattle.store.specs.declared.refusal.StoreRefusal.{StoreRefusal}
 use Rattle.store.specs.declared.refusal.StoreRefusal.TheVariants as refusal
 use Rattle.store.proofs.StandsLemmas as sectors_lemmas
@@ -58,10 +58,13 @@ no_state m t stands none s is =
 has_magic : (m : List Sector) (t : store.State) → sectors.Stands m t → HasRootMagic m
 has_magic m t (root, entries, by) = current_magic m root by.intact.current
 
+has_root : (m : List Sector) (t : store.State) → sectors.Stands m t → HasCurrentRoot m
+has_root m t (root, entries, by) = (root, by.intact.current, by.intact.size)
+
 -- what is refused after the store was opened
 pub refuses_files : {D : Type 0} (facts : D → DiskFacts) (old new : opened.Opened D) (m : List Sector) (t : store.State) (e : StoreRefusal) → IsReadRefusal facts old new e → IsFalse old.failed → IsGeometry (length m) → sectors.Stands m t → (e ≡ refusal.Damaged → All IsLibrary (map library_of t.blobs) → ⊥) → RefusesOpen m e
 refuses_files facts old new m t refusal.Device is usable geometry stands damaged = geometry
-refuses_files facts old new m t refusal.OutOfMemory is usable geometry stands damaged = geometry
+refuses_files facts old new m t refusal.OutOfMemory is usable geometry stands damaged = (geometry, has_root m t stands)
 refuses_files facts old new m t refusal.Damaged is usable geometry stands damaged = (geometry, has_magic m t stands, no_state m t stands (damaged refl))
 refuses_files facts old new m t refusal.Reopen is usable geometry stands damaged = absurd (false≢true (sym usable ∙ is))
 refuses_files facts old new m t refusal.NotFormatted is usable geometry stands damaged = absurd is
@@ -78,7 +81,7 @@ refuses_store m refusal.Damaged is = (is.0, is.1, λ s stands. is.2 (stored s) s
 refuses_store m refusal.BadGeometry is = is
 refuses_store m refusal.NotFormatted is = is
 refuses_store m refusal.Device is = is
-refuses_store m refusal.OutOfMemory is = is.0
+refuses_store m refusal.OutOfMemory is = is
 refuses_store m refusal.Reopen is = is
 refuses_store m refusal.AlreadyFormatted is = is
 refuses_store m refusal.Full is = is

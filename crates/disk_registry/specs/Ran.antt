@@ -19,6 +19,7 @@ pub record Point (D : Type 0) : Type 0 where
   pub registry : Opened D
   pub state : State
 
+-- such a point
 abbrev pub point : {D : Type 0} → Opened D → State → Point D
 point registry s = record { registry = registry; state = s }
 
