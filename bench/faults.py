@@ -7,6 +7,7 @@ or kills the program at it. Wants strace.
 After each run the disk, as a whole machine still has it, is listed, and a program is bound from it: both have to be as
 before the command or as after it, and as after it where the command answered `ok`; of `format` they may also be as for
 a file of zeros, which can be formatted, or for an empty file, which has to be removed. It prints, for each command and each kind of fault, how many runs ended how.
+Before that come the standard streams that are closed or fail (`streams.py`).
 """
 
 import collections
@@ -16,6 +17,7 @@ import sys
 from pathlib import Path
 
 from libraries import Made
+from streams import try_streams
 
 SECTORS = '64'
 # Where a call fails before the program's own code runs, the loader of the C library says so and exits with 127.
@@ -25,11 +27,12 @@ FAULTS = ('error=EIO', 'error=ENOSPC', 'error=EINTR', 'signal=KILL')
 
 
 def made_files(folder):
-    """Two libraries, the second also with other bytes, and a program that needs both."""
+    """Two libraries, the second also with other bytes, a program that needs the first, and one that needs none."""
     files = {
         'a.so': Made(b'a', exports=[b'fa'], data=600),
         'b.so': Made(b'b', exports=[b'fb'], data=900),
         'b2.so': Made(b'b', exports=[b'other', b'fb'], data=2500),
+        'alone': Made(),
         'program': Made(needed=[b'a'], undefined=[b'fa'], relocations=[(0, 1, 1, 0)], behind=64),
     }
     for name, made in files.items():
@@ -106,6 +109,7 @@ def main():
     one = bench.disk.read_bytes()
     bench.done('install', 'disk', 'b.so')
     two = bench.disk.read_bytes()
+    held = try_streams(bench.program, folder, one, two)
     commands = [
         (['format', 'disk', SECTORS], None), (['install', 'disk', 'b.so'], one), (['replace', 'disk', 'b2.so'], two),
         (['remove', 'disk', 'b'], two), (['preload', 'disk', 'b', 'a'], two),
@@ -116,6 +120,7 @@ def main():
             told = ', '.join(f'{count} {told}, {which}, status {status}' for (told, which, status), count in sorted(ends.items(), key=str))
             print(f"{words[0]} with {fault}: {sum(ends.values())} runs: {told}", flush=True)
     shutil.rmtree(folder)
+    sys.exit(0 if held else 1)
 
 
 if __name__ == '__main__':

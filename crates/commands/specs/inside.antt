@@ -1,3 +1,4 @@
+pub mod Access
 pub mod Asked
 pub mod Ends
 pub mod Progress

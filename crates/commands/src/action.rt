@@ -5,6 +5,7 @@ ghost use Rattle.std.specs.Option.{option_map};
 ghost use Rattle.commands.specs.Words.{command_line, line_of, format_behind, preload_behind};
 ghost use Rattle.commands.specs.Words.{of_one, of_two, of_three};
 ghost use Rattle.commands.specs.Words.{image, install, replace, remove, list, bind, script};
+ghost use Rattle.commands.specs.inside.Access.{disk_of};
 
 use crate::sectors::parse_sectors;
 
@@ -73,6 +74,25 @@ pub enum Action<'a> {
         /// The path of the disk.
         disk: &'a str,
     },
+}
+
+impl<'a> Action<'a> {
+    /// The path of the disk, of a command that has one.
+    pub(crate) fn disk(&self) -> Option<&'a str>
+        ensures { option_map (λ disk. disk.now) result ≡ disk_of (line_of self.now) }
+    {
+        match *self {
+            Action::Image { .. } => None,
+            Action::Format { disk, .. }
+            | Action::Install { disk, .. }
+            | Action::Replace { disk, .. }
+            | Action::Remove { disk, .. }
+            | Action::Preload { disk, .. }
+            | Action::List { disk }
+            | Action::Bind { disk, .. }
+            | Action::Script { disk } => Some(disk),
+        }
+    }
 }
 
 /// PROGRAM BASE.

@@ -1,21 +1,23 @@
 // A command line.
 
-ghost use Rattle.std.specs.Prelude.{◌≡◌, ◌≢◌, ◌≤◌, ◌==◌, Some, None, false, map, string_bytes};
+ghost use Rattle.std.specs.Prelude.{◌≡◌, ◌≢◌, ◌≤◌, ◌==◌, Some, None, true, false, map, string_bytes};
 ghost use Rattle.std.specs.Prelude.{MatchResult, vec_len, ◌<◌, IfOk};
 ghost use Rattle.commands.specs.Base.{base_of};
 ghost use Rattle.commands.specs.File.{read_limit};
 ghost use Rattle.commands.specs.Outcome.{are_bad, IsDone, IsRefused, LacksMemory};
+ghost use Rattle.commands.specs.Script.{Streams};
 ghost use Rattle.commands.specs.Words.{command_line, line_of};
 ghost use Rattle.commands.specs.inside.Ends.{Ends, ImageEnds, IsNotRead, IsShown, is_told};
 
 use crate::action::{Action, read_words};
 use crate::base::parse_base;
 use crate::file::{FileFault, read_file};
-use crate::message::{bad_base, bad_command_line};
+use crate::message::{bad_base, bad_command_line, cannot_read};
 use crate::on_disk::{ask, bind, format, install, preload, replace};
 use crate::script_on_disk::script;
 use crate::show::run_image;
 use crate::status::{Status, status_of};
+use crate::streams::{Behind, behind_streams};
 use crate::unread::not_read;
 use registry::Command;
 use std::alloc::Global;
@@ -100,6 +102,56 @@ fn run_action<R: Files, I: Read, O: Write, E: Write>(
     }
 }
 
+/// Whether the BASE of a command isn't read.
+fn has_bad_base(action: &Action<'_>) -> bool
+    ensures { result ≡ are_bad (Some (line_of action.now)) }
+{
+    match *action {
+        Action::Image { base, .. } | Action::Bind { base, .. } => parse_base(base).is_none(),
+        _ => false,
+    }
+}
+
+/// Turns a command away whose disk is the file behind a standard stream, and says so, but where the
+/// message would be written into that file.
+fn keep_away<E: Write>(action: &Action<'_>, disk: &str, behind: Behind, errors: &mut E) -> Status
+    ensures ends { (io : Streams) → io.after ≡ io.before
+        → Ends (Some (line_of action.now)) io result }
+    ensures told { is_told result ≡ true }
+{
+    match (has_bad_base(action), behind) {
+        (true, Behind::Errors) => Status::BadWords,
+        (false, Behind::Errors) => Status::Failed,
+        (true, _) => bad_base(errors),
+        (false, _) => cannot_read(errors, disk),
+    }
+}
+
+/// Does a command, unless what it says would be written into its disk.
+fn run_apart<R: Files, I: Read, O: Write, E: Write>(
+    rt: &R,
+    alloc: Global,
+    action: &Action<'_>,
+    input: &mut I,
+    output: &mut O,
+    errors: &mut E,
+) -> Status
+    ensures ends { Ends (Some (line_of action.now)) (record {
+      unread = I.remaining input.old;
+      before = O.contents output.old;
+      after = O.contents output.new;
+    }) result }
+    ensures silent { is_told result ≡ false → E.contents errors.new ≡ E.contents errors.old }
+{
+    let Some(disk) = action.disk() else {
+        return run_action(rt, alloc, action, input, output, errors);
+    };
+    match behind_streams(rt, disk) {
+        Behind::Other => run_action(rt, alloc, action, input, output, errors),
+        behind => keep_away(action, disk, behind, errors),
+    }
+}
+
 /// Does the command that the words are.
 fn run_command<R: Files, I: Read, O: Write, E: Write>(
     rt: &R,
@@ -117,7 +169,7 @@ fn run_command<R: Files, I: Read, O: Write, E: Write>(
     ensures silent { is_told result ≡ false → E.contents errors.new ≡ E.contents errors.old }
 {
     match read_words(words) {
-        Some(action) => run_action(rt, alloc, &action, input, output, errors),
+        Some(action) => run_apart(rt, alloc, &action, input, output, errors),
         None => bad_command_line(errors),
     }
 }

@@ -6,6 +6,7 @@ ghost use Rattle.text_output.specs.Sends.{Sends};
 ghost use Rattle.commands.specs.Disk.{disk_refusal_name, disk_refusal_text};
 ghost use Rattle.commands.specs.inside.Ends.{IsTurnedAway, is_told};
 
+use crate::access::Access;
 use crate::fault::ScriptFault;
 use crate::message::cannot_read;
 use crate::refusal::Line;
@@ -36,13 +37,27 @@ fn no_disk(fault: OpenFault) -> NoRegistry {
     }
 }
 
+/// Opens the disk that a file is.
+fn open_disk<R: Files>(
+    rt: &R,
+    alloc: Global,
+    path: &str,
+    access: Access,
+) -> Result<FileDisk<R::File>, OpenFault> {
+    match access {
+        Access::Reading => FileDisk::open_read_only(rt, alloc, path),
+        Access::Writing => FileDisk::open(rt, alloc, path),
+    }
+}
+
 /// Opens the registry on the disk that a file is.
 pub(crate) fn open_registry<R: Files>(
     rt: &R,
     alloc: Global,
     path: &str,
+    access: Access,
 ) -> Result<Registry<FileDisk<R::File>>, NoRegistry> {
-    let disk = match FileDisk::open(rt, alloc, path) {
+    let disk = match open_disk(rt, alloc, path, access) {
         Ok(disk) => disk,
         Err(fault) => return Err(no_disk(fault)),
     };

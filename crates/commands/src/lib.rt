@@ -6,6 +6,7 @@
 //! with them.
 #![tactic(auto)]
 
+mod access;
 mod action;
 mod answer;
 mod applies;
@@ -27,6 +28,7 @@ mod script_on_disk;
 mod sectors;
 mod show;
 mod status;
+mod streams;
 mod summary;
 #[cfg(test)]
 mod tests;
@@ -43,4 +45,5 @@ pub use fault::ScriptFault;
 pub use refusal::{write_file_refusal, write_refusal};
 pub use script::run_script;
 pub use show::{Shown, run_image};
+pub use streams::StandardStreams;
 pub use summary::Summary;

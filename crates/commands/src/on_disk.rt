@@ -9,6 +9,7 @@ ghost use Rattle.disk_registry.specs.Answered.{IsPreloadsRefusal};
 ghost use Rattle.commands.specs.Base.{base_of};
 ghost use Rattle.commands.specs.inside.Ends.{BindEnds, IsFormatted, IsWritten, Replied, is_told};
 
+use crate::access::access_of;
 use crate::applies::Applies;
 use crate::base::parse_base;
 use crate::disk::{make_registry, open_registry, turn_away};
@@ -51,7 +52,7 @@ pub(crate) fn ask<R: Files, O: Write, E: Write>(
         (O.contents output.old) (O.contents output.new) result }
     ensures silent { is_told result ≡ false → E.contents errors.new ≡ E.contents errors.old }
 {
-    match open_registry(rt, alloc, disk) {
+    match open_registry(rt, alloc, disk, access_of(command)) {
         Ok(registry) => {
             let mut registry = registry;
             let status = answer(&mut registry, command, output);

@@ -4,6 +4,7 @@ ghost use Rattle.std.specs.Prelude.{◌≡◌, ◌≢◌, false};
 ghost use Rattle.commands.specs.inside.Ends.{IsRun, ScriptEnds, is_told};
 ghost use Rattle.commands.specs.declared.status.Status.TheVariants.{BadWords, Done};
 
+use crate::access::Access;
 use crate::applies::Applies;
 use crate::disk::{open_registry, turn_away};
 use crate::script::run_script;
@@ -53,7 +54,7 @@ pub(crate) fn script<R: Files, I: Read, O: Write, E: Write>(
     }) result }
     ensures silent { is_told result ≡ false → E.contents errors.new ≡ E.contents errors.old }
 {
-    match open_registry(rt, alloc, disk) {
+    match open_registry(rt, alloc, disk, Access::Writing) {
         Ok(registry) => {
             let mut watched = Watched {
                 registry,

@@ -1,5 +1,6 @@
 // Opening and making the file of a disk.
-ghost use Rattle.std.specs.Prelude.{◌≡◌, ◌≢◌, ◌*◌, ◌<◌, ◌^◌, ℕ, IfOk, IfSome, IfNone};
+ghost use Rattle.std.specs.Prelude.{◌≡◌, ◌≢◌, ◌*◌, ◌<◌, ◌^◌, ℕ, true, IfOk, IfSome, IfNone};
+ghost use Rattle.std.specs.Fs.{new_options, with_read, with_write};
 ghost use Rattle.file_disk.specs.FileDisk.{file_facts, file_of, IsNew};
 ghost use Rattle.file_disk.specs.declared.open.OpenFault.TheVariants.{OutOfMemory};
 
@@ -49,11 +50,37 @@ fn sectors_in(length: u64) -> Option<u32>
     }
 }
 
+/// Reading alone, of a file that stands.
+fn reading() -> OpenOptions
+    ensures { result ≡ with_read new_options true }
+{
+    let mut how = OpenOptions::new();
+    how.read(true);
+    how
+}
+
+/// Reading and writing, of a file that stands: it isn't made, and none of its bytes are cut.
+fn writing() -> OpenOptions
+    ensures { result ≡ with_write (with_read new_options true) true }
+{
+    let mut how = reading();
+    how.write(true);
+    how
+}
+
 /// Opens a file for reading and writing, or where writing isn't allowed for reading alone.
 fn open_file<R: Files>(rt: &R, path: &str) -> io::Result<R::File> {
-    match OpenOptions::new().read(true).write(true).open(rt, path) {
-        Err(e) if is_denied(e.kind()) => File::open(rt, path),
+    match writing().open(rt, path) {
+        Err(e) if is_denied(e.kind()) => reading().open(rt, path),
         opened => opened,
+    }
+}
+
+/// Whether a regular file has this name.
+fn is_regular<R: Files>(rt: &R, path: &str) -> bool {
+    match fs::metadata(rt, path) {
+        Ok(found) => found.is_file(),
+        Err(_) => false,
     }
 }
 
@@ -124,11 +151,29 @@ impl<F: Read + Write + Seek + OpenFile + Drop> FileDisk<F> {
     ) -> Result<FileDisk<F>, OpenFault>
         ensures { IfOk result (λ disk. IsNew disk) }
     {
-        match fs::metadata(rt, path) {
-            Ok(found) if found.is_file() => {}
-            _ => return Err(OpenFault::CannotOpen),
+        if !is_regular(rt, path) {
+            return Err(OpenFault::CannotOpen);
         }
         match open_file(rt, path) {
+            Ok(file) => FileDisk::over(alloc, file),
+            Err(_) => Err(OpenFault::CannotOpen),
+        }
+    }
+
+    /// Opens the disk that a file is for reading alone, so that nothing that this process does can
+    /// write into the file: syncs succeed until a sector was written, and fail from then on. What
+    /// is no regular file isn't opened.
+    pub fn open_read_only<R: Files<File = F>>(
+        rt: &R,
+        alloc: Global,
+        path: &str,
+    ) -> Result<FileDisk<F>, OpenFault>
+        ensures { IfOk result (λ disk. IsNew disk) }
+    {
+        if !is_regular(rt, path) {
+            return Err(OpenFault::CannotOpen);
+        }
+        match reading().open(rt, path) {
             Ok(file) => FileDisk::over(alloc, file),
             Err(_) => Err(OpenFault::CannotOpen),
         }

@@ -2,13 +2,19 @@
 //! image of a program bound over it, or says by number why not.
 #![tactic(auto)]
 
-use commands::{read_arguments, run_arguments};
+use commands::{StandardStreams, read_arguments, run_arguments};
 use std::process::ExitCode;
 
 fn main(rt: HostRuntime) -> ExitCode {
     let mut input = rt.stdin();
     let mut output = rt.stdout();
     let mut errors = rt.stderr();
+    let streams = match StandardStreams::hold(&rt, &mut errors) {
+        Ok(streams) => streams,
+        Err(status) => return ExitCode::from(status),
+    };
     let words = read_arguments(&rt);
-    ExitCode::from(run_arguments(&rt, rt.alloc(), words, &mut input, &mut output, &mut errors))
+    let status = run_arguments(&rt, rt.alloc(), words, &mut input, &mut output, &mut errors);
+    streams.release();
+    ExitCode::from(status)
 }

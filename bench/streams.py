@@ -1,0 +1,271 @@
+"""Runs each command of the program `rlibreg` with standard streams that are closed, that fail, or that are the disk
+itself, and with DISK, FILE and PROGRAM given as numbers of open files; `faults.py` calls it.
+
+After each run the disk has, byte by byte, what it had before the command or what the command alone leaves, and no other
+file has changed. It prints, for each kind of stream, how many runs ended with which status.
+"""
+
+import collections
+import itertools
+import os
+import pty
+import signal
+import socket
+import subprocess
+
+INPUT, OUTPUT, ERRORS = 0, 1, 2
+SUBSETS = [set(some) for count in (1, 2, 3) for some in itertools.combinations((INPUT, OUTPUT, ERRORS), count)]
+NAMES = {INPUT: '/dev/stdin', OUTPUT: '/dev/stdout', ERRORS: '/dev/stderr'}
+LINES = b'preload b a\nlist\n'
+WAIT = 0.5
+
+Ended = collections.namedtuple('Ended', 'status output errors disk')
+
+
+class Streams:
+    def __init__(self, program, folder, one, two):
+        self.program, self.folder, self.disk = str(program), folder, folder / 'disk'
+        zeros = bytes(len(one))
+        self.starts = {'a registry': two, 'zeros': zeros, 'no file': None}
+        self.one = one
+        self.wrong = 0
+        self.ends = collections.defaultdict(collections.Counter)
+
+    def commands(self, disk='disk', files=lambda name: name):
+        b, b2, program = files('b.so'), files('b2.so'), files('program')
+        return [
+            ['image', files('alone'), '0x100000'], ['format', disk, '64'], ['install', disk, b], ['replace', disk, b2],
+            ['remove', disk, 'b'], ['preload', disk, 'b', 'a'], ['list', disk], ['bind', disk, program, '0x100000'], ['script', disk],
+        ]
+
+    def start_of(self, words, start):
+        """An install finds a registry without its library."""
+        return self.one if words[0] == 'install' and start == 'a registry' else self.starts[start]
+
+    def put(self, content):
+        self.disk.unlink(missing_ok=True)
+        if content is not None:
+            self.disk.write_bytes(content)
+
+    def found(self):
+        return self.disk.read_bytes() if self.disk.exists() else None
+
+    def others(self):
+        return {path.name: path.read_bytes() for path in self.folder.iterdir() if path.name != 'disk'}
+
+    def run(self, words, given=None, closed=(), passed=(), ignored=False):
+        """Runs the words; `given` has open files for some of the streams."""
+        given = given or {}
+        def close():
+            for number in closed:
+                os.close(number)
+        into = {INPUT: subprocess.PIPE, OUTPUT: subprocess.PIPE, ERRORS: subprocess.PIPE, **given}
+        process = subprocess.Popen(
+            [self.program, *words], cwd=self.folder, preexec_fn=close, pass_fds=passed, restore_signals=not ignored,
+            stdin=into[INPUT], stdout=into[OUTPUT], stderr=into[ERRORS])
+        try:
+            output, errors = process.communicate(LINES if INPUT not in given else None, timeout=WAIT if given else 60)
+        except subprocess.TimeoutExpired:
+            process.kill()
+            output, errors = process.communicate()
+        except BrokenPipeError:
+            output, errors = process.stdout.read(), process.stderr.read()
+            process.wait()
+        return Ended(process.returncode, output, errors, self.found())
+
+    def plain(self, words, start, **how):
+        self.put(self.start_of(words, start))
+        return self.run(words, **how)
+
+    def check(self, kind, words, start, ended, holds, before, after):
+        """Notes how a run ended, and whether it was as it has to be."""
+        if not holds or ended.disk not in (before, after):
+            self.wrong += 1
+            print(f'WRONG: {kind}: {words} on {start}: {ended.status} {ended.output} {ended.errors}')
+        disk = 'no change' if before == after else 'as after' if ended.disk == after else 'as before'
+        self.ends[kind][(ended.status, disk)] += 1
+
+    def expected(self, words, plain, failing):
+        """The status where some streams fail: of a command that gives text to the output, or of a script that was run."""
+        reads = words[0] == 'script' and plain.output
+        return 3 if OUTPUT in failing and plain.output or INPUT in failing and reads and plain.status == 0 else plain.status
+
+    def closed_streams(self, kind, words, start, plain, **how):
+        """Each of the streams closed, each two, and all three."""
+        before = self.start_of(words, start)
+        for closed in SUBSETS:
+            self.put(before)
+            ended = self.run(words, closed=closed, **how)
+            unread = INPUT in closed and words[0] == 'script'
+            holds = ended.status == self.expected(words, plain, closed)
+            holds &= unread or ended.output == (b'' if OUTPUT in closed else plain.output)
+            holds &= unread or ended.errors == (b'' if ERRORS in closed else plain.errors)
+            holds &= ended.disk == (before if unread else plain.disk)
+            self.check(kind, words, start, ended, holds, before, plain.disk)
+
+    def closed(self):
+        for start in self.starts:
+            for words in self.commands():
+                self.closed_streams('closed, ' + start, words, start, self.plain(words, start))
+
+    def numbered(self):
+        """The same with DISK, FILE and PROGRAM as the numbers of open files."""
+        for start in ('a registry', 'zeros'):
+            for form in ('/dev/fd/%d', '/proc/self/fd/%d'):
+                for at, ordinary in enumerate(self.commands()):
+                    before = self.start_of(ordinary, start)
+                    after = self.plain(ordinary, start)
+                    opened = {}
+                    def number(name):
+                        opened[name] = os.open(self.folder / name, os.O_RDONLY)
+                        return form % opened[name]
+                    self.put(before)
+                    # The file stays the same one, since its number is open: it is written anew in its place.
+                    self.put = self.rewrite
+                    opened['disk'] = os.open(self.disk, os.O_RDWR)
+                    words = self.commands(form % opened['disk'], number)[at]
+                    passed = tuple(opened.values())
+                    plain = self.run(words, passed=passed)
+                    # The folder of such a name can't be synced, so `format` makes nothing.
+                    holds = words[0] == 'format' or (plain.status, plain.output, plain.disk) == (after.status, after.output, after.disk)
+                    self.check('numbers of files', ordinary, start, plain, holds, before, after.disk)
+                    self.closed_streams('numbers of files, closed', words, start, plain, passed=passed)
+                    del self.put
+                    for file in opened.values():
+                        os.close(file)
+
+    def rewrite(self, content):
+        with open(self.disk, 'r+b') as file:
+            file.write(content)
+            file.truncate()
+
+    def the_disk(self):
+        """The disk itself behind a stream: nothing is written, and only a message elsewhere is said."""
+        link = self.folder / 'link'
+        contents = {'a registry': self.starts['a registry'], 'zeros': self.starts['zeros'], 'an empty file': b'', '24 bytes': bytes(24)}
+        for (start, content), stream in itertools.product(contents.items(), NAMES):
+            for name, more in itertools.product(('disk', 'link', NAMES[stream], f'/proc/self/fd/{stream}', f'/dev/fd/{stream}'), (0, os.O_APPEND)):
+                for words in self.commands(name)[1:] + [['bind', name, 'program', '10'], ['install', name, 'none']]:
+                    self.put(content)
+                    os.link(self.disk, link)
+                    file = os.open(self.disk, os.O_RDWR | more)
+                    ended = self.run(words, {stream: file})
+                    os.close(file)
+                    link.unlink()
+                    message = b'rlibreg: bad base\n' if words[-1] == '10' else f'rlibreg: cannot read {name}\n'.encode()
+                    holds = ended.status == (2 if words[-1] == '10' else 3) and not ended.output
+                    holds &= ended.errors == (None if stream == ERRORS else message) or stream == OUTPUT and ended.errors == message
+                    self.check(f'the disk behind {NAMES[stream]}', words, start, ended, holds, content, content)
+
+    def files_of_streams(self):
+        """FILE and PROGRAM on standard input: reading does no harm."""
+        for at, ordinary in enumerate(self.commands()):
+            name = {'image': 'alone', 'install': 'b.so', 'replace': 'b2.so', 'bind': 'program'}.get(ordinary[0])
+            if name:
+                plain = self.plain(ordinary, 'a registry')
+                before = self.start_of(ordinary, 'a registry')
+                self.put(before)
+                with open(self.folder / name, 'rb') as file:
+                    ended = self.run(self.commands(files=lambda _: '/dev/stdin')[at], {INPUT: file})
+                self.check('FILE on standard input', ordinary, 'a registry', ended, ended == plain, before, plain.disk)
+
+    def odd(self):
+        """Streams of other kinds, with what they have to end with: None where it is only noted."""
+        for kind, stream, statuses, made, ignored in kinds():
+            for start, words in itertools.product(self.starts, self.commands()):
+                plain, before = self.plain(words, start), self.start_of(words, start)
+                self.put(before)
+                given, behind, late = made()
+                ended = self.run(words, {stream: given}, ignored=ignored) if not late else self.hung_up(words, stream, given, behind)
+                for end in (given, behind):
+                    if end is not None and not (late and end is behind):
+                        end.close() if hasattr(end, 'close') else os.close(end)
+                uses = {INPUT: words[0] == 'script' and plain.status == 0, OUTPUT: plain.output, ERRORS: plain.errors}[stream]
+                holds = ended.status in ((plain.status, *statuses) if not uses or stream == ERRORS else statuses)
+                self.check(kind, words, start, ended, holds, before, plain.disk)
+
+    def hung_up(self, words, stream, given, behind):
+        """The other end of a terminal goes before the command is run."""
+        os.close(behind)
+        return self.run(words, {stream: given})
+
+
+def full_pipe(blocking):
+    ours, theirs = os.pipe()
+    os.set_blocking(theirs, False)
+    try:
+        while True:
+            os.write(theirs, bytes(4096))
+    except BlockingIOError:
+        os.set_blocking(theirs, blocking)
+    return theirs, ours, False
+
+
+def gone_reader():
+    ours, theirs = os.pipe()
+    os.close(ours)
+    return theirs, None, False
+
+
+def gone_peer():
+    ours, theirs = socket.socketpair()
+    ours.close()
+    return theirs, None, False
+
+
+def talking_socket():
+    ours, theirs = socket.socketpair()
+    ours.sendall(LINES)
+    ours.shutdown(socket.SHUT_WR)
+    return theirs, ours, False
+
+
+def terminal():
+    ours, theirs = pty.openpty()
+    return theirs, ours, True
+
+
+def silent_pipe():
+    theirs, ours = os.pipe()
+    os.set_blocking(theirs, False)
+    return theirs, ours, False
+
+
+def folder():
+    return os.open('/', os.O_RDONLY), None, False
+
+
+def device(name, mode):
+    return lambda: (os.open(name, mode), None, False)
+
+
+def kinds():
+    """Kinds of streams: which of the three, the statuses where it is used, how it is made, and whether SIGPIPE is ignored."""
+    pipe, kill = -signal.SIGPIPE, -signal.SIGKILL
+    for stream, name in NAMES.items():
+        yield f'a folder as {name}', stream, (3,), folder, False
+        yield f'a socket as {name}', stream, (0, 1, 3), talking_socket, False
+        yield f'a terminal that has hung up as {name}', stream, (0, 3) if stream == INPUT else (3,), terminal, False
+    yield 'a pipe without a byte that does not wait as /dev/stdin', INPUT, (3,), silent_pipe, False
+    yield '/dev/full as /dev/stdout', OUTPUT, (3,), device('/dev/full', os.O_WRONLY), False
+    for stream in (OUTPUT, ERRORS):
+        yield f'a full pipe that does not wait as {NAMES[stream]}', stream, (3,), lambda: full_pipe(False), False
+        yield f'a full pipe that waits, then a kill, as {NAMES[stream]}', stream, (kill,), lambda: full_pipe(True), False
+        yield f'a pipe whose reader has gone as {NAMES[stream]}', stream, (pipe,), gone_reader, False
+        yield f'a pipe whose reader has gone as {NAMES[stream]}, SIGPIPE ignored', stream, (3,), gone_reader, True
+        yield f'a socket whose peer has gone as {NAMES[stream]}', stream, (pipe,), gone_peer, False
+        yield f'a socket whose peer has gone as {NAMES[stream]}, SIGPIPE ignored', stream, (3,), gone_peer, True
+
+
+def try_streams(program, folder, one, two):
+    """All of it, and whether it was as it has to be."""
+    streams = Streams(program, folder, one, two)
+    files = streams.others()
+    for part in (streams.closed, streams.numbered, streams.the_disk, streams.files_of_streams, streams.odd):
+        part()
+    assert streams.others() == files, 'another file has changed'
+    for kind, ends in streams.ends.items():
+        told = ', '.join(f'{count} with {status}, disk {disk}' for (status, disk), count in sorted(ends.items(), key=str))
+        print(f'{kind}: {sum(ends.values())} runs: {told}', flush=True)
+    print(f'streams: {sum(sum(ends.values()) for ends in streams.ends.values())} runs, {streams.wrong} wrong')
+    return streams.wrong == 0

@@ -1,0 +1,25 @@
+-- Which disk a command of the program has, and what a command of a registry opens it for.
+use Rattle.std.specs.Prelude.{ℕ, List, Option, Some, None}
+use Rattle.registry.specs.Request.{Request, bind, list}
+use Rattle.commands.specs.Words.{CommandLine}
+use Rattle.commands.specs.Words as words
+use Rattle.commands.specs.declared.access.Access.{Access}
+use Rattle.commands.specs.declared.access.Access.TheVariants.{Reading, Writing}
+
+-- the path of the disk: every command but `image` has one
+abbrev pub disk_of : CommandLine → Option (List ℕ)
+disk_of (words.image program base) = None
+disk_of (words.format disk sectors) = Some disk
+disk_of (words.install disk file) = Some disk
+disk_of (words.replace disk file) = Some disk
+disk_of (words.remove disk name) = Some disk
+disk_of (words.preload disk names) = Some disk
+disk_of (words.list disk) = Some disk
+disk_of (words.bind disk program base) = Some disk
+disk_of (words.script disk) = Some disk
+
+-- a listing and a bind change nothing
+abbrev pub access_of : Request → Access
+access_of list = Reading
+access_of (bind program base) = Reading
+access_of request = Writing
