@@ -53,7 +53,7 @@ class Streams:
     def others(self):
         return {path.name: path.read_bytes() for path in self.folder.iterdir() if path.name != 'disk'}
 
-    def run(self, words, given=None, closed=(), passed=(), ignored=False):
+    def run(self, words, given=None, closed=(), passed=()):
         """Runs the words; `given` has open files for some of the streams."""
         given = given or {}
         def close():
@@ -61,7 +61,7 @@ class Streams:
                 os.close(number)
         into = {INPUT: subprocess.PIPE, OUTPUT: subprocess.PIPE, ERRORS: subprocess.PIPE, **given}
         process = subprocess.Popen(
-            [self.program, *words], cwd=self.folder, preexec_fn=close, pass_fds=passed, restore_signals=not ignored,
+            [self.program, *words], cwd=self.folder, preexec_fn=close, pass_fds=passed,
             stdin=into[INPUT], stdout=into[OUTPUT], stderr=into[ERRORS])
         try:
             output, errors = process.communicate(LINES if INPUT not in given else None, timeout=WAIT if given else 60)
@@ -170,13 +170,13 @@ class Streams:
                 self.check('FILE on standard input', ordinary, 'a registry', ended, ended == plain, before, plain.disk)
 
     def odd(self):
-        """Streams of other kinds, with what they have to end with: None where it is only noted."""
-        for kind, stream, statuses, made, ignored in kinds():
+        """Streams of other kinds, with what they have to end with."""
+        for kind, stream, statuses, made in kinds():
             for start, words in itertools.product(self.starts, self.commands()):
                 plain, before = self.plain(words, start), self.start_of(words, start)
                 self.put(before)
                 given, behind, late = made()
-                ended = self.run(words, {stream: given}, ignored=ignored) if not late else self.hung_up(words, stream, given, behind)
+                ended = self.run(words, {stream: given}) if not late else self.hung_up(words, stream, given, behind)
                 for end in (given, behind):
                     if end is not None and not (late and end is behind):
                         end.close() if hasattr(end, 'close') else os.close(end)
@@ -240,21 +240,19 @@ def device(name, mode):
 
 
 def kinds():
-    """Kinds of streams: which of the three, the statuses where it is used, how it is made, and whether SIGPIPE is ignored."""
-    pipe, kill = -signal.SIGPIPE, -signal.SIGKILL
+    """Kinds of streams: which of the three, the statuses where it is used, and how it is made. A process that Python starts
+    has SIGPIPE as the system has it, so that it would end one that doesn't ignore it."""
     for stream, name in NAMES.items():
-        yield f'a folder as {name}', stream, (3,), folder, False
-        yield f'a socket as {name}', stream, (0, 1, 3), talking_socket, False
-        yield f'a terminal that has hung up as {name}', stream, (0, 3) if stream == INPUT else (3,), terminal, False
-    yield 'a pipe without a byte that does not wait as /dev/stdin', INPUT, (3,), silent_pipe, False
-    yield '/dev/full as /dev/stdout', OUTPUT, (3,), device('/dev/full', os.O_WRONLY), False
+        yield f'a folder as {name}', stream, (3,), folder
+        yield f'a socket as {name}', stream, (0, 1, 3), talking_socket
+        yield f'a terminal that has hung up as {name}', stream, (0,) if stream == INPUT else (3,), terminal
+    yield 'a pipe without a byte that does not wait as /dev/stdin', INPUT, (3,), silent_pipe
+    yield '/dev/full as /dev/stdout', OUTPUT, (3,), device('/dev/full', os.O_WRONLY)
     for stream in (OUTPUT, ERRORS):
-        yield f'a full pipe that does not wait as {NAMES[stream]}', stream, (3,), lambda: full_pipe(False), False
-        yield f'a full pipe that waits, then a kill, as {NAMES[stream]}', stream, (kill,), lambda: full_pipe(True), False
-        yield f'a pipe whose reader has gone as {NAMES[stream]}', stream, (pipe,), gone_reader, False
-        yield f'a pipe whose reader has gone as {NAMES[stream]}, SIGPIPE ignored', stream, (3,), gone_reader, True
-        yield f'a socket whose peer has gone as {NAMES[stream]}', stream, (pipe,), gone_peer, False
-        yield f'a socket whose peer has gone as {NAMES[stream]}, SIGPIPE ignored', stream, (3,), gone_peer, True
+        yield f'a full pipe that does not wait as {NAMES[stream]}', stream, (3,), lambda: full_pipe(False)
+        yield f'a full pipe that waits, then a kill, as {NAMES[stream]}', stream, (-signal.SIGKILL,), lambda: full_pipe(True)
+        yield f'a pipe whose reader has gone as {NAMES[stream]}', stream, (3,), gone_reader
+        yield f'a socket whose peer has gone as {NAMES[stream]}', stream, (3,), gone_peer
 
 
 def try_streams(program, folder, one, two):

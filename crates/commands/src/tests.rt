@@ -1,5 +1,6 @@
 // What no case can say: streams that fail, memory that is refused, and the largest texts.
 
+mod apart;
 mod disks;
 mod files;
 mod large;

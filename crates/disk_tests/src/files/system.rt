@@ -60,6 +60,36 @@ fn a_disk_is_made_written_and_opened_again(rt: HostRuntime) -> Result<(), Fail> 
 }
 
 #[test]
+fn a_disk_that_is_opened_for_reading_is_not_written(rt: HostRuntime) -> Result<(), Fail> {
+    let folder = "file_disk_test_reading";
+    let path = "file_disk_test_reading/disk";
+    let _ = fs::remove_dir_all(&rt, folder);
+    fs::create_dir(&rt, folder)?;
+    let mut disk: FileDisk<File> = FileDisk::make(&rt, rt.alloc(), path, 8)?;
+    write(&rt, &mut disk, 1, 5)?;
+    disk.sync()?;
+    let before = fs::read(&rt, path)?;
+    let mut disk: FileDisk<File> = FileDisk::open_read_only(&rt, rt.alloc(), path)?;
+    assert_eq!(rt; disk.sectors(), 8);
+    disk.sync()?;
+    assert_eq!(rt; read(&rt, &mut disk, 1), Some(5));
+    write(&rt, &mut disk, 1, 6)?;
+    assert!(rt; disk.sync().is_err());
+    let after = fs::read(&rt, path)?;
+    assert_eq!(rt; after.as_slice(), before.as_slice());
+    for none in [folder, "file_disk_test_reading/none", "/dev/null"] {
+        let opened: Result<FileDisk<File>, OpenFault> = FileDisk::open_read_only(
+            &rt,
+            rt.alloc(),
+            none,
+        );
+        assert_eq!(rt; opened.err(), Some(OpenFault::CannotOpen), "{none}");
+    }
+    fs::remove_dir_all(&rt, folder)?;
+    Ok(())
+}
+
+#[test]
 fn a_file_that_was_cut_is_not_written(rt: HostRuntime) -> Result<(), Fail> {
     let folder = "file_disk_test_cut";
     let path = "file_disk_test_cut/disk";
