@@ -19,7 +19,7 @@ use Rattle.scope.specs.LoadOrder as order
 use Rattle.scope.specs.LoadOrder.{available, needs_of, level_0, object_at, place_of, load_places, load_order}
 use Rattle.scope.specs.Objects.{Named, program_name}
 use Rattle.scope.specs.inside.Growing.{grown}
-use Rattle.scope.specs.inside.Places.{AreApart}
+use Rattle.scope.specs.Queue.{AreApart}
 use Rattle.scope.proofs.Apart.{few, distinct-level_0}
 use Rattle.scope.proofs.EnoughLemmas.{object_later}
 use Rattle.scope.proofs.Growing.{grown_is, grown-take, grown-longer}

@@ -9,7 +9,8 @@ use Rattle.std.proofs.lemmas.Map.Keys.{IsDistinct-from_apart}
 use Rattle.std.proofs.lemmas.List.Elements.{All-from_get_or, All-get_or, filter_map-append}
 use Rattle.roots.specs.declared.entry.Entry.{Entry}
 use Rattle.scope.specs.LoadOrder.{place_of}
-use Rattle.scope.specs.inside.Growing.{grown, grown_by}
+use Rattle.scope.specs.Queue.{grown_by}
+use Rattle.scope.specs.inside.Growing.{grown}
 use Rattle.scope.proofs.EnoughLemmas.{place_of-distinct}
 use Rattle.scope.proofs.Growing.{grown-append}
 use Rattle.scope.proofs.LoadOrderLemmas.{place_of-is}

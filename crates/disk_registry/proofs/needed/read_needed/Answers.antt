@@ -7,7 +7,7 @@ use Rattle.roots.specs.Root.{listed_preloads}
 use Rattle.elf_dynamic.specs.Strings.{needed}
 use Rattle.scope.specs.LoadOrder.{place_of, level_0}
 use Rattle.scope.specs.inside.Growing.{grown}
-use Rattle.scope.specs.inside.Places.{Queue, AreApart}
+use Rattle.scope.specs.Queue.{Queue, AreApart}
 use Rattle.store.proofs.Queries.{no_entry}
 use Rattle.store.specs.Stands.{name_of, no_blob}
 use Rattle.disk_registry.specs.Stands.{stored, library_of}

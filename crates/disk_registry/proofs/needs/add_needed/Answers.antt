@@ -6,7 +6,7 @@ use Rattle.std.proofs.lemmas.List.{length_push}
 use Rattle.elf_dynamic.specs.Strings.{needed}
 use Rattle.scope.specs.LoadOrder.{place_of}
 use Rattle.scope.specs.inside.Growing.{grown}
-use Rattle.scope.specs.inside.Places.{Queue}
+use Rattle.scope.specs.Queue.{Queue}
 use Rattle.scope.proofs.Growing.{grown-nil}
 use Rattle.disk_registry.proofs.NamedPlaces.{named-more}
 use Rattle.disk_registry.proofs.StateNames.{entry_names}
