@@ -31,7 +31,8 @@ abbrev pub status_of : Result Shown ScriptFault → Status
 status_of (Ok shown.Image) = Done
 status_of (Ok shown.Refused) = Refused
 status_of (Ok shown.NoMemory) = NoMemory
-status_of (Err fault) = Failed
+status_of (Err fault.OutOfMemory) = NoMemory
+status_of (Err other) = Failed
 
 -- what a refusal of a command ends with: S1 and S2 are failures, and S11 is want of memory
 abbrev pub refusal_status : Refusal → Status

@@ -53,7 +53,7 @@ pub(crate) fn status_of(shown: Result<Shown, ScriptFault>) -> Status
         Ok(Shown::Image) => Status::Done,
         Ok(Shown::Refused) => Status::Refused,
         Ok(Shown::NoMemory) => Status::NoMemory,
-        Err(_) => Status::Failed,
+        Err(fault) => fault_status(fault),
     }
 }
 
