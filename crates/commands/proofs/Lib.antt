@@ -1,3 +1,4 @@
+pub mod Asking
 pub mod Digits
 pub mod Ending
 pub mod Fronts

@@ -70,16 +70,15 @@ module _ {S T : Type 0} (f : S → T) (step : S → Request → Reply → S → 
       )
 
 module _ {G : Type 0} (step : G → Request → Reply → G → Type 0) (io : Streams) (w w' : Watched G) where
-  -- of a registry whose replies are watched the greatest status is seen
-  pub watched_finishes : (summary : Summary) → Finishes (WatchedStep step) io w w' summary → Finishes Worsens io w.worst w'.worst summary
-  watched_finishes summary h = finishes_seen (λ v. v.worst) (WatchedStep step) Worsens (λ s s' q r k. k.1) io w w' summary h
-
-  pub watched_stops : (fault : ScriptFault) → Stops (WatchedStep step) io w w' fault → Stops Worsens io w.worst w'.worst fault
-  watched_stops fault h = stops_seen (λ v. v.worst) (WatchedStep step) Worsens (λ s s' q r k. k.1) io w w' fault h
+  -- of a registry whose replies are watched its own steps and the greatest status are seen
+  abbrev seen_of : Watched G → G × Status
+  seen_of v = (v.registry, v.worst)
 
   -- a script that was run to its end, or ended early, from a registry none of whose replies was watched
-  pub runs_through : (summary : Summary) (status : Status) → w.worst ≡ Done → Finishes (WatchedStep step) io w w' summary → status ≡ greatest w'.worst (lines_status summary.refused) → IsRun io status
-  runs_through summary status e h is = inl (w'.worst, summary, subst (λ s. Finishes Worsens io s w'.worst summary) e (watched_finishes summary h), is)
+  pub runs_through : (summary : Summary) (status : Status) → w.worst ≡ Done → Finishes (WatchedStep step) io w w' summary → status ≡ greatest w'.worst (lines_status summary.refused) → IsRun step w.registry w'.registry io status
+  runs_through summary status e h is =
+      inl (w'.worst, summary, subst (λ s. Finishes (Worsens step) io (w.registry, s) (seen_of w') summary) e (finishes_seen seen_of (WatchedStep step) (Worsens step) (λ s s' q r k. k) io w w' summary h), is)
 
-  pub ends_early : (fault : ScriptFault) (status : Status) → w.worst ≡ Done → Stops (WatchedStep step) io w w' fault → status ≡ greatest w'.worst (fault_status fault) → IsRun io status
-  ends_early fault status e h is = inr (w'.worst, fault, subst (λ s. Stops Worsens io s w'.worst fault) e (watched_stops fault h), is)
+  pub ends_early : (fault : ScriptFault) (status : Status) → w.worst ≡ Done → Stops (WatchedStep step) io w w' fault → status ≡ greatest w'.worst (fault_status fault) → IsRun step w.registry w'.registry io status
+  ends_early fault status e h is =
+      inr (w'.worst, fault, subst (λ s. Stops (Worsens step) io (w.registry, s) (seen_of w') fault) e (stops_seen seen_of (WatchedStep step) (Worsens step) (λ s s' q r k. k) io w w' fault h), is)

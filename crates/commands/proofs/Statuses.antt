@@ -1,13 +1,23 @@
 -- The greatest of statuses.
-use Rattle.std.proofs.Common.{◌≡◌, ◌≢◌, ℕ, Bool, true, false, cond, nat_lt, ap, refl, inl, inr}
+use Rattle.std.proofs.Common.{◌≡◌, ◌≢◌, ℕ, Bool, true, false, cond, nat_lt, ap, refl, subst, inl, inr, ◌∙◌}
+use Rattle.registry.specs.Request.{Request}
 use Rattle.registry.specs.declared.reply.Reply.{Reply}
+use Rattle.store.specs.Opened.{Opened}
+use Rattle.file_disk.specs.FileDisk.{file_facts}
+use Rattle.file_disk.specs.declared.disk.FileDisk.{FileDisk}
+use Rattle.commands.specs.Disk.{IsOpenRefusal}
+use Rattle.commands.specs.DiskStep.{DiskStep}
+use Rattle.commands.specs.Opened.{IsOpened}
+use Rattle.commands.specs.Outcome.{EndsEarly, Runs, RunsInPart, RunsThrough}
 use Rattle.commands.specs.Script.{Streams}
+use Rattle.commands.specs.declared.disk.NoRegistry.{NoRegistry}
+use Rattle.commands.specs.declared.disk.NoRegistry.TheVariants as no
 use Rattle.commands.specs.Status.{status_number, greatest, reply_status, fault_status, lines_status}
 use Rattle.commands.specs.declared.fault.ScriptFault.{ScriptFault}
 use Rattle.commands.specs.declared.fault.ScriptFault.TheVariants as fault
 use Rattle.commands.specs.declared.status.Status.{Status}
 use Rattle.commands.specs.declared.status.Status.TheVariants.{Done, Refused, BadWords, Failed, NoMemory}
-use Rattle.commands.specs.inside.Ends.{IsRun, IsTurnedAway, ScriptEnds}
+use Rattle.commands.specs.inside.Ends.{IsNoRegistry, IsRun, IsTurnedAway, ScriptEnds}
 use Rattle.commands.proofs.Ending.{reply_answers}
 
 either : (b : Bool) (s t : Status) → s ≢ BadWords → t ≢ BadWords → cond b t s ≢ BadWords
@@ -63,20 +73,48 @@ late NoMemory fault.Read = refl
 late NoMemory fault.Write = refl
 late NoMemory fault.OutOfMemory = refl
 
--- what a script over a registry ends with is what one over a disk does
-pub run_ends : (io : Streams) (status : Status) → status ≢ BadWords → IsRun io status → ScriptEnds io status
-run_ends io Done words (inl h) = h
-run_ends io Done words (inr h) = let e = late h.0 h.1 in let is = ap is_late h.3 in cc
-run_ends io Refused words (inl h) = inl h
-run_ends io Refused words (inr h) = let e = late h.0 h.1 in let is = ap is_late h.3 in cc
-run_ends io BadWords words h = absurd (words refl)
-run_ends io Failed words h = tt
-run_ends io NoMemory words (inl h) = inl h
-run_ends io NoMemory words (inr h) = inr (inl h)
+late_end : (s t : Status) (f : ScriptFault) → t ≡ greatest s (fault_status f) → is_late t ≡ true
+late_end s t f e = ap is_late e ∙ late s f
 
-pub away_script : (io : Streams) (status : Status) → IsTurnedAway io.before io.after status → ScriptEnds io status
-away_script io Done h = absurd h
-away_script io Refused h = inr h
-away_script io BadWords h = absurd h
-away_script io Failed h = tt
-away_script io NoMemory h = inr (inr h)
+in_time : false ≡ true → ⊥
+in_time h = cc
+
+-- what a script over a registry ends with is what one over a disk does
+module _ {S : Type 0} (step : S → Request → Reply → S → Type 0) (s s' : S) (F : Type 0) (io : Streams) (through : (t : Status) → RunsThrough step s s' io t → Runs F io t) (in_part : (t : Status) → EndsEarly step s s' io t → RunsInPart F io t) where
+  ends_over : (status : Status) → status ≢ BadWords → IsRun step s s' io status → ScriptEnds F io status
+  ends_over Done words (inl h) = through Done h
+  ends_over Done words (inr h) = absurd (in_time (late_end h.0 Done h.1 h.3))
+  ends_over Refused words (inl h) = inl (through Refused h)
+  ends_over Refused words (inr h) = absurd (in_time (late_end h.0 Refused h.1 h.3))
+  ends_over BadWords words h = absurd (words refl)
+  ends_over Failed words h = tt
+  ends_over NoMemory words (inl h) = inl (through NoMemory h)
+  ends_over NoMemory words (inr h) = inr (inl (in_part NoMemory h))
+
+-- so of a registry that was opened
+pub run_ends : (F : Type 0) (disk : FileDisk F) (old new : Opened (FileDisk F)) (io : Streams) (status : Status) → IsOpened disk old → status ≢ BadWords
+    → IsRun (DiskStep file_facts) old new io status → ScriptEnds F io status
+run_ends F disk old new io status opened words h =
+    ends_over (DiskStep file_facts) old new F io
+    (λ t k. record {
+      disk = disk;
+      old = old;
+      opened = opened;
+      new = new;
+      run = k;
+    })
+    (λ t k. record {
+      disk = disk;
+      old = old;
+      opened = opened;
+      new = new;
+      run = k;
+    })
+    status words h
+
+pub away_script : (F : Type 0) (io : Streams) (why : NoRegistry) (status : Status) → IsNoRegistry IsOpenRefusal why → IsTurnedAway (λ r. why ≡ no.Refused r) io.before io.after status → ScriptEnds F io status
+away_script F io why Done is h = absurd h
+away_script F io why Refused is h = inr (h.0, subst (IsNoRegistry IsOpenRefusal) h.1 is, h.2, h.3)
+away_script F io why BadWords is h = absurd h
+away_script F io why Failed is h = tt
+away_script F io why NoMemory is h = inr (inr h)

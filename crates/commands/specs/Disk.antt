@@ -1,4 +1,4 @@
--- The text of a disk that isn't made a registry, or isn't opened as one (own).
+-- The refusals of a disk that isn't opened as a registry, or isn't made one, and their text (own).
 use Rattle.std.specs.Prelude.{ℕ, List, ◌++◌, codes}
 use Rattle.store.specs.declared.refusal.StoreRefusal.{StoreRefusal}
 use Rattle.store.specs.declared.refusal.StoreRefusal.TheVariants.{Device, Reopen, NotFormatted, AlreadyFormatted, Damaged, BadGeometry, Full, Fragmented, TooMany, GenerationEnd, OutOfMemory}
@@ -20,3 +20,20 @@ disk_refusal_name OutOfMemory = codes "S11 OutOfMemory"
 -- the line of the refusal
 abbrev pub disk_refusal_text : StoreRefusal → List ℕ
 disk_refusal_text refusal = codes "refused " ++ disk_refusal_name refusal ++ codes "\n"
+
+-- what opening may refuse with
+abbrev pub IsOpenRefusal : StoreRefusal → Type 0
+IsOpenRefusal Device = Unit
+IsOpenRefusal NotFormatted = Unit
+IsOpenRefusal Damaged = Unit
+IsOpenRefusal BadGeometry = Unit
+IsOpenRefusal OutOfMemory = Unit
+IsOpenRefusal other = ⊥
+
+-- what making one may refuse with
+abbrev pub IsFormatRefusal : StoreRefusal → Type 0
+IsFormatRefusal Device = Unit
+IsFormatRefusal AlreadyFormatted = Unit
+IsFormatRefusal BadGeometry = Unit
+IsFormatRefusal OutOfMemory = Unit
+IsFormatRefusal other = ⊥

@@ -5,6 +5,7 @@ pub mod DiskScript
 pub mod DiskStep
 pub mod File
 pub mod Line
+pub mod Opened
 pub mod Outcome
 pub mod Printed
 pub mod Refusal

@@ -1,12 +1,18 @@
 -- What the program's statuses say of what the words asked (own).
-use Rattle.std.specs.Prelude.{◌≡◌, ◌⊎◌, ℕ, List, Option, Some, None, Bool, true, false, is_none, codes}
+use Rattle.std.specs.Prelude.{◌≡◌, ◌⊎◌, ◌<◌, ℕ, List, length, Option, Some, None, Bool, true, false, is_none, codes}
 use Rattle.std.specs.Io.KnownBytes.{Appends}
 use Rattle.registry.specs.Request.{Request}
+use Rattle.registry.specs.Request as request
 use Rattle.registry.specs.declared.reply.Reply.{Reply}
+use Rattle.store.specs.Opened.{Opened}
 use Rattle.store.specs.declared.refusal.StoreRefusal.{StoreRefusal}
-use Rattle.disk_registry.specs.Answered.{IsChangeAnswer, IsInstallRefusal, IsReplaceRefusal, IsRemoveRefusal, IsPreloadsRefusal, IsListAnswer, IsBindAnswer}
+use Rattle.file_disk.specs.FileDisk.{file_facts}
+use Rattle.file_disk.specs.declared.disk.FileDisk.{FileDisk}
 use Rattle.commands.specs.Base.{base_of}
-use Rattle.commands.specs.Disk.{disk_refusal_text}
+use Rattle.commands.specs.Disk.{disk_refusal_text, IsOpenRefusal, IsFormatRefusal}
+use Rattle.commands.specs.DiskStep.{DiskStep}
+use Rattle.commands.specs.File.{read_limit}
+use Rattle.commands.specs.Opened.{IsOpened, IsMade}
 use Rattle.commands.specs.Printed.{PrintsImage, PrintsRefusal}
 use Rattle.commands.specs.Refusal.{memory_text}
 use Rattle.commands.specs.Reply.{reply_text}
@@ -25,54 +31,92 @@ are_bad (Some (bind disk program base)) = is_none (base_of base)
 are_bad (Some line) = false
 are_bad None = true
 
--- how a command of a registry on a disk may be answered: a change by `ok`, `list` by a listing, `bind` by an image, and each by its own refusals
-abbrev pub MayReply : CommandLine → Reply → Type 0
-MayReply (install disk file) = IsChangeAnswer IsInstallRefusal
-MayReply (replace disk file) = IsChangeAnswer IsReplaceRefusal
-MayReply (remove disk name) = IsChangeAnswer IsRemoveRefusal
-MayReply (preload disk names) = IsChangeAnswer IsPreloadsRefusal
-MayReply (list disk) = IsListAnswer
-MayReply (bind disk program base) = IsBindAnswer
-MayReply line = λ reply. ⊥
+-- the words are the command that reads the input
+abbrev pub reads_input : Option CommandLine → Bool
+reads_input (Some (script disk)) = true
+reads_input line = false
 
--- from what the output held before to what it holds after, exactly the text of such a reply was appended, which ends with this status
-abbrev pub Replies : (Reply → Type 0) → Status → Option (List ℕ) → Option (List ℕ) → Type 0
-Replies MayBe status before after = (reply : Reply) × MayBe reply × (reply_status reply ≡ status) × Appends before after (reply_text reply)
+-- What a command asks of a registry on a disk: with the NAMEs and the BASE of the words, and with some file's bytes where they name a file.
+abbrev pub Asks : CommandLine → Request → Type 0
+Asks (install disk file) asked = (bytes : List ℕ) × (length bytes < read_limit) × (asked ≡ request.install bytes)
+Asks (replace disk file) asked = (bytes : List ℕ) × (length bytes < read_limit) × (asked ≡ request.replace bytes)
+Asks (remove disk name) asked = asked ≡ request.remove name
+Asks (preload disk names) asked = asked ≡ request.set_preloads names
+Asks (list disk) asked = asked ≡ request.list
+Asks (bind disk program base) asked = (bytes : List ℕ) × (at : ℕ) × (length bytes < read_limit) × (base_of base ≡ Some at) × (asked ≡ request.bind bytes at)
+Asks line asked = ⊥
 
--- exactly the line was appended of why a disk isn't made a registry, or isn't opened as one, which ends with this status
-abbrev pub TurnsAway : Status → Option (List ℕ) → Option (List ℕ) → Type 0
-TurnsAway status before after = (refusal : StoreRefusal) × (disk_status refusal ≡ status) × Appends before after (disk_refusal_text refusal)
+-- A registry was opened on a disk over a file and was asked such a request, and from what the output held before to what it holds after exactly the text of its reply was appended, which ends with this status.
+pub record Replies (F : Type 0) (IsAsked : Request → Type 0) (status : Status) (before after : Option (List ℕ)) : Type 0 where
+  pub asked : Request
+  pub is_asked : IsAsked asked
+  pub disk : FileDisk F
+  pub old : Opened (FileDisk F)
+  pub opened : IsOpened disk old
+  pub reply : Reply
+  pub new : Opened (FileDisk F)
+  pub step : DiskStep file_facts old asked reply new
+  pub ends : reply_status reply ≡ status
+  pub written : Appends before after (reply_text reply)
 
--- the greatest of the statuses of a script's replies, before a reply and after it
-abbrev pub Worsens : Status → Request → Reply → Status → Type 0
-Worsens worst request reply worst' = worst' ≡ greatest worst (reply_status reply)
+-- A registry of so many sectors was made on a disk over a file, and exactly `ok` was appended.
+pub record Makes (F : Type 0) (sectors : ℕ) (before after : Option (List ℕ)) : Type 0 where
+  pub disk : FileDisk F
+  pub new : Opened (FileDisk F)
+  pub made : IsMade sectors disk new
+  pub written : Appends before after (codes "ok\n")
 
--- A script was run to its end, and exactly the texts of the answers to its lines were appended. The status is the greatest of the replies', and 1 at least where a line was refused.
-abbrev pub RunsThrough : Streams → Status → Type 0
-RunsThrough io status = (worst : Status) × (summary : Summary) × Finishes Worsens io Done worst summary × (status ≡ greatest worst (lines_status summary.refused))
+-- exactly the line was appended of why a disk isn't made a registry, or isn't opened as one: of such a refusal, which ends with this status
+abbrev pub TurnsAway : (StoreRefusal → Type 0) → Status → Option (List ℕ) → Option (List ℕ) → Type 0
+TurnsAway MayRefuse status before after = (refusal : StoreRefusal) × MayRefuse refusal × (disk_status refusal ≡ status) × Appends before after (disk_refusal_text refusal)
 
--- A script ended early, and the texts of the answers to the lines before were appended, unless it is the output that failed.
-abbrev pub EndsEarly : Streams → Status → Type 0
-EndsEarly io status = (worst : Status) × (fault : ScriptFault) × Stops Worsens io Done worst fault × (status ≡ greatest worst (fault_status fault))
+-- a step of a registry, and beside it the greatest of the statuses of a script's replies, before the reply and after it
+abbrev pub Worsens : {S : Type 0} → (S → Request → Reply → S → Type 0) → S × Status → Request → Reply → S × Status → Type 0
+Worsens step old asked reply new = step old.0 asked reply new.0 × (new.1 ≡ greatest old.1 (reply_status reply))
+
+module _ {S : Type 0} (step : S → Request → Reply → S → Type 0) (s s' : S) (io : Streams) (status : Status) where
+  -- A script was run to its end over a registry that makes these steps, and exactly the texts of the answers to its lines were appended. The status is the greatest of the replies', and 1 at least where a line was refused.
+  abbrev pub RunsThrough : Type 0
+  RunsThrough = (worst : Status) × (summary : Summary) × Finishes (Worsens step) io (s, Done) (s', worst) summary × (status ≡ greatest worst (lines_status summary.refused))
+
+  -- A script ended early, and the texts of the answers to the lines before were appended, unless it is the output that failed.
+  abbrev pub EndsEarly : Type 0
+  EndsEarly = (worst : Status) × (fault : ScriptFault) × Stops (Worsens step) io (s, Done) (s', worst) fault × (status ≡ greatest worst (fault_status fault))
+
+-- A registry was opened on a disk over a file, and a script was run over it to its end.
+pub record Runs (F : Type 0) (io : Streams) (status : Status) : Type 0 where
+  pub disk : FileDisk F
+  pub old : Opened (FileDisk F)
+  pub opened : IsOpened disk old
+  pub new : Opened (FileDisk F)
+  pub run : RunsThrough (DiskStep file_facts) old new io status
+
+-- the same of a script that ended early
+pub record RunsInPart (F : Type 0) (io : Streams) (status : Status) : Type 0 where
+  pub disk : FileDisk F
+  pub old : Opened (FileDisk F)
+  pub opened : IsOpened disk old
+  pub new : Opened (FileDisk F)
+  pub run : EndsEarly (DiskStep file_facts) old new io status
 
 -- 0: what the words ask was done
-abbrev pub IsDone : Option CommandLine → Streams → Type 0
-IsDone (Some (image program base)) io = (b : ℕ) × (base_of base ≡ Some b) × PrintsImage b io.before io.after
-IsDone (Some (format disk sectors)) io = Appends io.before io.after (codes "ok\n")
-IsDone (Some (script disk)) io = RunsThrough io Done
-IsDone (Some line) io = Replies (MayReply line) Done io.before io.after
-IsDone None io = ⊥
+abbrev pub IsDone : (F : Type 0) → Option CommandLine → Streams → Type 0
+IsDone F (Some (image program base)) io = (b : ℕ) × (base_of base ≡ Some b) × PrintsImage b io.before io.after
+IsDone F (Some (format disk sectors)) io = Makes F sectors io.before io.after
+IsDone F (Some (script disk)) io = Runs F io Done
+IsDone F (Some line) io = Replies F (Asks line) Done io.before io.after
+IsDone F None io = ⊥
 
 -- 1: it was refused
-abbrev pub IsRefused : Option CommandLine → Streams → Type 0
-IsRefused (Some (image program base)) io = (b : ℕ) × (base_of base ≡ Some b) × PrintsRefusal b io.before io.after
-IsRefused (Some (format disk sectors)) io = TurnsAway Refused io.before io.after
-IsRefused (Some (script disk)) io = RunsThrough io Refused ⊎ TurnsAway Refused io.before io.after
-IsRefused (Some line) io = Replies (MayReply line) Refused io.before io.after ⊎ TurnsAway Refused io.before io.after
-IsRefused None io = ⊥
+abbrev pub IsRefused : (F : Type 0) → Option CommandLine → Streams → Type 0
+IsRefused F (Some (image program base)) io = (b : ℕ) × (base_of base ≡ Some b) × PrintsRefusal b io.before io.after
+IsRefused F (Some (format disk sectors)) io = TurnsAway IsFormatRefusal Refused io.before io.after
+IsRefused F (Some (script disk)) io = Runs F io Refused ⊎ TurnsAway IsOpenRefusal Refused io.before io.after
+IsRefused F (Some line) io = Replies F (Asks line) Refused io.before io.after ⊎ TurnsAway IsOpenRefusal Refused io.before io.after
+IsRefused F None io = ⊥
 
 -- 4: memory was refused, for a line of a script or for a reply to one too
-abbrev pub LacksMemory : Option CommandLine → Streams → Type 0
-LacksMemory (Some (script disk)) io = RunsThrough io NoMemory ⊎ EndsEarly io NoMemory ⊎ Appends io.before io.after memory_text
-LacksMemory (Some line) io = Appends io.before io.after memory_text
-LacksMemory None io = ⊥
+abbrev pub LacksMemory : (F : Type 0) → Option CommandLine → Streams → Type 0
+LacksMemory F (Some (script disk)) io = Runs F io NoMemory ⊎ RunsInPart F io NoMemory ⊎ Appends io.before io.after memory_text
+LacksMemory F (Some line) io = Appends io.before io.after memory_text
+LacksMemory F None io = ⊥

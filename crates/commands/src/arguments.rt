@@ -1,9 +1,9 @@
 // The words of the process.
 
 ghost use Rattle.std.specs.Prelude.{◌≡◌, ◌≢◌, ◌≤◌, ◌==◌, Some, map, string_bytes};
-ghost use Rattle.std.specs.Prelude.{IfOk, IfErr};
+ghost use Rattle.std.specs.Prelude.{IfOk, IfErr, OnErr, false};
 ghost use Rattle.std.specs.IoError.{error_kind};
-ghost use Rattle.commands.specs.Outcome.{are_bad, IsDone, IsRefused, LacksMemory};
+ghost use Rattle.commands.specs.Outcome.{are_bad, reads_input, IsDone, IsRefused, LacksMemory};
 ghost use Rattle.commands.specs.Refusal.{memory_text};
 ghost use Rattle.commands.specs.Words.{command_line};
 ghost use Rattle.std.specs.Io.KnownBytes.{Appends};
@@ -40,13 +40,13 @@ pub fn run_arguments<R: Files, I: Read, O: Write, E: Write>(
 
     // Of words that were read
     ensures done { IfOk words (λ list. result ≡ 0
-        → IsDone (command_line (map (λ word. string_bytes word) list.items)) (record {
+        → IsDone R.File (command_line (map (λ word. string_bytes word) list.items)) (record {
           unread = I.remaining input.old;
           before = O.contents output.old;
           after = O.contents output.new;
         })) }
     ensures refused { IfOk words (λ list. result ≡ 1
-        → IsRefused (command_line (map (λ word. string_bytes word) list.items)) (record {
+        → IsRefused R.File (command_line (map (λ word. string_bytes word) list.items)) (record {
           unread = I.remaining input.old;
           before = O.contents output.old;
           after = O.contents output.new;
@@ -54,17 +54,22 @@ pub fn run_arguments<R: Files, I: Read, O: Write, E: Write>(
     ensures bad_words { IfOk words (λ list. (result == 2)
         ≡ are_bad (command_line (map (λ word. string_bytes word) list.items))) }
     ensures memory { IfOk words (λ list. result ≡ 4
-        → LacksMemory (command_line (map (λ word. string_bytes word) list.items)) (record {
+        → LacksMemory R.File (command_line (map (λ word. string_bytes word) list.items)) (record {
           unread = I.remaining input.old;
           before = O.contents output.old;
           after = O.contents output.new;
         })) }
+
+    ensures unread { IfOk words (λ list.
+        reads_input (command_line (map (λ word. string_bytes word) list.items)) ≡ false
+        → input.new ≡ input.old) }
 
     // Of words that weren't: 3 or 4 where memory was refused, and else 2.
     ensures no_memory { IfErr words (λ e. error_kind e ≡ ErrorKind.OutOfMemory
         → 3 ≤ result) }
     ensures said { IfErr words (λ e. result ≡ 4
         → Appends (O.contents output.old) (O.contents output.new) memory_text) }
+    ensures left_alone { OnErr words (input.new ≡ input.old) }
     ensures not_text { IfErr words (λ e. error_kind e ≢ ErrorKind.OutOfMemory → result ≡ 2) }
 
     ensures same { result ≡ 2 → O.contents output.new ≡ O.contents output.old }

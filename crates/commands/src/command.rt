@@ -1,12 +1,12 @@
 // A command line.
 
-ghost use Rattle.std.specs.Prelude.{◌≡◌, ◌≢◌, ◌≤◌, ◌==◌, Some, None, true, false, map, string_bytes};
+ghost use Rattle.std.specs.Prelude.{◌≡◌, ◌≢◌, ◌≤◌, ◌==◌, ◌⊎◌, Some, None, true, false, map, string_bytes};
 ghost use Rattle.std.specs.Prelude.{MatchResult, vec_len, ◌<◌, IfOk};
 ghost use Rattle.commands.specs.Base.{base_of};
 ghost use Rattle.commands.specs.File.{read_limit};
-ghost use Rattle.commands.specs.Outcome.{are_bad, IsDone, IsRefused, LacksMemory};
-ghost use Rattle.commands.specs.Script.{Streams};
+ghost use Rattle.commands.specs.Outcome.{are_bad, reads_input, IsDone, IsRefused, LacksMemory};
 ghost use Rattle.commands.specs.Words.{command_line, line_of};
+ghost use Rattle.commands.specs.declared.status.Status.TheVariants.{BadWords, Failed};
 ghost use Rattle.commands.specs.inside.Ends.{Ends, ImageEnds, IsNotRead, IsShown, is_told};
 
 use crate::action::{Action, read_words};
@@ -67,6 +67,7 @@ fn image<R: Files, O: Write, E: Write>(
 }
 
 /// Does a command.
+#[tactic(auto, using(crate::proofs::Asking::install_ends, crate::proofs::Asking::replace_ends, crate::proofs::Asking::remove_ends, crate::proofs::Asking::preload_ends, crate::proofs::Asking::list_ends))]
 fn run_action<R: Files, I: Read, O: Write, E: Write>(
     rt: &R,
     alloc: Global,
@@ -75,11 +76,12 @@ fn run_action<R: Files, I: Read, O: Write, E: Write>(
     output: &mut O,
     errors: &mut E,
 ) -> Status
-    ensures ends { Ends (Some (line_of action.now)) (record {
+    ensures ends { Ends R.File (Some (line_of action.now)) (record {
       unread = I.remaining input.old;
       before = O.contents output.old;
       after = O.contents output.new;
     }) result }
+    ensures unread { reads_input (Some (line_of action.now)) ≡ false → input.new ≡ input.old }
     ensures silent { is_told result ≡ false → E.contents errors.new ≡ E.contents errors.old }
 {
     match *action {
@@ -115,8 +117,8 @@ fn has_bad_base(action: &Action<'_>) -> bool
 /// Turns a command away whose disk is the file behind a standard stream, and says so, but where the
 /// message would be written into that file.
 fn keep_away<E: Write>(action: &Action<'_>, disk: &str, behind: Behind, errors: &mut E) -> Status
-    ensures ends { (io : Streams) → io.after ≡ io.before
-        → Ends (Some (line_of action.now)) io result }
+    ensures ends { ((result ≡ BadWords) × (are_bad (Some (line_of action.now)) ≡ true))
+        ⊎ ((result ≡ Failed) × (are_bad (Some (line_of action.now)) ≡ false)) }
     ensures told { is_told result ≡ true }
 {
     match (has_bad_base(action), behind) {
@@ -136,11 +138,12 @@ fn run_apart<R: Files, I: Read, O: Write, E: Write>(
     output: &mut O,
     errors: &mut E,
 ) -> Status
-    ensures ends { Ends (Some (line_of action.now)) (record {
+    ensures ends { Ends R.File (Some (line_of action.now)) (record {
       unread = I.remaining input.old;
       before = O.contents output.old;
       after = O.contents output.new;
     }) result }
+    ensures unread { reads_input (Some (line_of action.now)) ≡ false → input.new ≡ input.old }
     ensures silent { is_told result ≡ false → E.contents errors.new ≡ E.contents errors.old }
 {
     let Some(disk) = action.disk() else {
@@ -161,11 +164,13 @@ fn run_command<R: Files, I: Read, O: Write, E: Write>(
     output: &mut O,
     errors: &mut E,
 ) -> Status
-    ensures ends { Ends (command_line (map (λ word. string_bytes word) words.now)) (record {
+    ensures ends { Ends R.File (command_line (map (λ word. string_bytes word) words.now)) (record {
       unread = I.remaining input.old;
       before = O.contents output.old;
       after = O.contents output.new;
     }) result }
+    ensures unread { reads_input (command_line (map (λ word. string_bytes word) words.now)) ≡ false
+        → input.new ≡ input.old }
     ensures silent { is_told result ≡ false → E.contents errors.new ≡ E.contents errors.old }
 {
     match read_words(words) {
@@ -190,7 +195,7 @@ pub fn run_words<R: Files, I: Read, O: Write, E: Write>(
 
     // 0: exactly what the command prints was appended.
     ensures done { result ≡ 0
-        → IsDone (command_line (map (λ word. string_bytes word) words.now)) (record {
+        → IsDone R.File (command_line (map (λ word. string_bytes word) words.now)) (record {
           unread = I.remaining input.old;
           before = O.contents output.old;
           after = O.contents output.new;
@@ -198,7 +203,7 @@ pub fn run_words<R: Files, I: Read, O: Write, E: Write>(
 
     // 1: exactly a refusal, or of a script the answers to its lines.
     ensures refused { result ≡ 1
-        → IsRefused (command_line (map (λ word. string_bytes word) words.now)) (record {
+        → IsRefused R.File (command_line (map (λ word. string_bytes word) words.now)) (record {
           unread = I.remaining input.old;
           before = O.contents output.old;
           after = O.contents output.new;
@@ -213,11 +218,15 @@ pub fn run_words<R: Files, I: Read, O: Write, E: Write>(
 
     // 4: exactly the line of want of memory, or of a script the answers to its lines.
     ensures memory { result ≡ 4
-        → LacksMemory (command_line (map (λ word. string_bytes word) words.now)) (record {
+        → LacksMemory R.File (command_line (map (λ word. string_bytes word) words.now)) (record {
           unread = I.remaining input.old;
           before = O.contents output.old;
           after = O.contents output.new;
         }) }
+
+    // Only `script` reads the input.
+    ensures unread { reads_input (command_line (map (λ word. string_bytes word) words.now)) ≡ false
+        → input.new ≡ input.old }
 
     // Nothing was given to standard error but with 2 and 3.
     ensures silent { result ≢ 2 → result ≢ 3

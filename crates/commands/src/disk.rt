@@ -1,10 +1,14 @@
 // The disk of a command: opened or made over a file, or why not.
 
-ghost use Rattle.std.specs.Prelude.{◌≡◌, ◌++◌, codes, true, false, OnOk, OnErr, IfErr};
+ghost use Rattle.std.specs.Prelude.{◌≡◌, ◌++◌, codes, true, false, OnOk, OnErr, IfOk, IfErr};
 ghost use Rattle.std.specs.Io.KnownBytes.{Appends};
 ghost use Rattle.text_output.specs.Sends.{Sends};
+ghost use Rattle.store.specs.Opened.{Opened};
+ghost use Rattle.file_disk.specs.declared.disk.FileDisk.{FileDisk};
 ghost use Rattle.commands.specs.Disk.{disk_refusal_name, disk_refusal_text};
-ghost use Rattle.commands.specs.inside.Ends.{IsTurnedAway, is_told};
+ghost use Rattle.commands.specs.Disk.{IsOpenRefusal, IsFormatRefusal};
+ghost use Rattle.commands.specs.Opened.{IsOpened, IsMade};
+ghost use Rattle.commands.specs.inside.Ends.{IsNoRegistry, IsTurnedAway, is_told};
 
 use crate::access::Access;
 use crate::fault::ScriptFault;
@@ -29,7 +33,10 @@ pub(crate) enum NoRegistry {
 
 /// Why a file is no disk, in these words: a length that isn't that of whole sectors, or not of
 /// those that were asked for, is S6.
-fn no_disk(fault: OpenFault) -> NoRegistry {
+fn no_disk(fault: OpenFault) -> NoRegistry
+    ensures open { IsNoRegistry IsOpenRefusal result }
+    ensures format { IsNoRegistry IsFormatRefusal result }
+{
     match fault {
         OpenFault::CannotOpen => NoRegistry::CannotOpen,
         OpenFault::BadLength => NoRegistry::Refused(StoreRefusal::BadGeometry),
@@ -51,12 +58,16 @@ fn open_disk<R: Files>(
 }
 
 /// Opens the registry on the disk that a file is.
+#[tactic(auto, using(crate::proofs::Asking::open_refusal))]
 pub(crate) fn open_registry<R: Files>(
     rt: &R,
     alloc: Global,
     path: &str,
     access: Access,
-) -> Result<Registry<FileDisk<R::File>>, NoRegistry> {
+) -> Result<Registry<FileDisk<R::File>>, NoRegistry>
+    ensures ok { IfOk result (λ registry. (disk : FileDisk R.File) × IsOpened disk registry) }
+    ensures refused { IfErr result (IsNoRegistry IsOpenRefusal) }
+{
     let disk = match open_disk(rt, alloc, path, access) {
         Ok(disk) => disk,
         Err(fault) => return Err(no_disk(fault)),
@@ -69,12 +80,17 @@ pub(crate) fn open_registry<R: Files>(
 
 /// Makes an empty registry on the disk of so many sectors that a file is, and makes the file where
 /// none stands.
+#[tactic(auto, using(crate::proofs::Asking::format_refusal))]
 pub(crate) fn make_registry<R: Files>(
     rt: &R,
     alloc: Global,
     path: &str,
     sectors: u32,
-) -> Result<(), NoRegistry> {
+) -> Result<(), NoRegistry>
+    ensures ok { OnOk result ((disk : FileDisk R.File) × (registry : Opened (FileDisk R.File))
+        × IsMade sectors disk registry) }
+    ensures refused { IfErr result (IsNoRegistry IsFormatRefusal) }
+{
     let disk: FileDisk<R::File> = match FileDisk::make(rt, alloc, path, sectors) {
         Ok(disk) => disk,
         Err(fault) => return Err(no_disk(fault)),
@@ -128,7 +144,8 @@ pub(crate) fn turn_away<O: Write, E: Write>(
     output: &mut O,
     errors: &mut E,
 ) -> Status
-    ensures ends { IsTurnedAway (O.contents output.old) (O.contents output.new) result }
+    ensures ends { IsTurnedAway (λ refusal. why ≡ NoRegistry.Refused refusal)
+        (O.contents output.old) (O.contents output.new) result }
     ensures silent { is_told result ≡ false → E.contents errors.new ≡ E.contents errors.old }
 {
     match why {

@@ -3,10 +3,9 @@
 ghost use Rattle.std.specs.Prelude.{◌≡◌, false, map, string_bytes, IfOk};
 ghost use Rattle.registry.specs.Request.{request_of};
 ghost use Rattle.registry.specs.declared.reply.Reply.{Reply};
-ghost use Rattle.disk_registry.specs.Answered.{IsAnswerTo, IsChangeAnswer};
-ghost use Rattle.disk_registry.specs.Answered.{IsInstallRefusal, IsReplaceRefusal};
-ghost use Rattle.disk_registry.specs.Answered.{IsPreloadsRefusal};
 ghost use Rattle.commands.specs.Base.{base_of};
+ghost use Rattle.commands.specs.Outcome.{Asks};
+ghost use Rattle.commands.specs.Words as words;
 ghost use Rattle.commands.specs.inside.Ends.{BindEnds, IsFormatted, IsWritten, Replied, is_told};
 
 use crate::access::access_of;
@@ -40,6 +39,7 @@ pub(crate) fn answer<G: Applies, O: Write>(
 }
 
 /// Applies a command to the registry on a disk, and writes the reply.
+#[tactic(auto, using(crate::proofs::Asking::away_replied))]
 pub(crate) fn ask<R: Files, O: Write, E: Write>(
     rt: &R,
     alloc: Global,
@@ -48,7 +48,7 @@ pub(crate) fn ask<R: Files, O: Write, E: Write>(
     output: &mut O,
     errors: &mut E,
 ) -> Status
-    ensures ends { Replied (IsAnswerTo (request_of command.now))
+    ensures ends { Replied R.File (λ asked. asked ≡ request_of command.now)
         (O.contents output.old) (O.contents output.new) result }
     ensures silent { is_told result ≡ false → E.contents errors.new ≡ E.contents errors.old }
 {
@@ -64,6 +64,7 @@ pub(crate) fn ask<R: Files, O: Write, E: Write>(
 }
 
 /// `format DISK SECTORS`.
+#[tactic(auto, using(crate::proofs::Asking::away_formatted))]
 pub(crate) fn format<R: Files, O: Write, E: Write>(
     rt: &R,
     alloc: Global,
@@ -72,7 +73,8 @@ pub(crate) fn format<R: Files, O: Write, E: Write>(
     output: &mut O,
     errors: &mut E,
 ) -> Status
-    ensures ends { IsFormatted (O.contents output.old) (O.contents output.new) result }
+    ensures ends { IsFormatted R.File sectors (O.contents output.old) (O.contents output.new)
+        result }
     ensures silent { is_told result ≡ false → E.contents errors.new ≡ E.contents errors.old }
 {
     match make_registry(rt, alloc, disk, sectors) {
@@ -85,6 +87,7 @@ pub(crate) fn format<R: Files, O: Write, E: Write>(
 }
 
 /// `install DISK FILE`. The file is read before the disk is opened.
+#[tactic(auto, using(crate::proofs::Asking::unread_replied))]
 pub(crate) fn install<R: Files, O: Write, E: Write>(
     rt: &R,
     alloc: Global,
@@ -93,7 +96,7 @@ pub(crate) fn install<R: Files, O: Write, E: Write>(
     output: &mut O,
     errors: &mut E,
 ) -> Status
-    ensures ends { Replied (IsChangeAnswer IsInstallRefusal)
+    ensures ends { Replied R.File (Asks (words.install disk.now file.now))
         (O.contents output.old) (O.contents output.new) result }
     ensures silent { is_told result ≡ false → E.contents errors.new ≡ E.contents errors.old }
 {
@@ -104,6 +107,7 @@ pub(crate) fn install<R: Files, O: Write, E: Write>(
 }
 
 /// `replace DISK FILE`. The file is read before the disk is opened.
+#[tactic(auto, using(crate::proofs::Asking::unread_replied))]
 pub(crate) fn replace<R: Files, O: Write, E: Write>(
     rt: &R,
     alloc: Global,
@@ -112,7 +116,7 @@ pub(crate) fn replace<R: Files, O: Write, E: Write>(
     output: &mut O,
     errors: &mut E,
 ) -> Status
-    ensures ends { Replied (IsChangeAnswer IsReplaceRefusal)
+    ensures ends { Replied R.File (Asks (words.replace disk.now file.now))
         (O.contents output.old) (O.contents output.new) result }
     ensures silent { is_told result ≡ false → E.contents errors.new ≡ E.contents errors.old }
 {
@@ -131,6 +135,7 @@ fn bytes_of(alloc: Global, names: &[String]) -> Result<Vec<&[u8]>, AllocError>
 }
 
 /// `preload DISK [NAME]..`.
+#[tactic(auto, using(crate::proofs::Asking::memory_replied))]
 pub(crate) fn preload<R: Files, O: Write, E: Write>(
     rt: &R,
     alloc: Global,
@@ -139,7 +144,7 @@ pub(crate) fn preload<R: Files, O: Write, E: Write>(
     output: &mut O,
     errors: &mut E,
 ) -> Status
-    ensures ends { Replied (IsChangeAnswer IsPreloadsRefusal)
+    ensures ends { Replied R.File (Asks (words.preload disk.now (map (λ name. string_bytes name) names.now)))
         (O.contents output.old) (O.contents output.new) result }
     ensures silent { is_told result ≡ false → E.contents errors.new ≡ E.contents errors.old }
 {
@@ -158,6 +163,7 @@ pub(crate) fn preload<R: Files, O: Write, E: Write>(
 
 /// `bind DISK PROGRAM BASE`. BASE is read before any file is opened, and the program before the
 /// disk is.
+#[tactic(auto, using(crate::proofs::Asking::unread_replied, crate::proofs::Asking::bind_ends))]
 pub(crate) fn bind<R: Files, O: Write, E: Write>(
     rt: &R,
     alloc: Global,
@@ -167,8 +173,9 @@ pub(crate) fn bind<R: Files, O: Write, E: Write>(
     output: &mut O,
     errors: &mut E,
 ) -> Status
-    ensures ends { BindEnds (base_of base.now) (O.contents output.old) (O.contents output.new)
-        result }
+    ensures ends { BindEnds R.File (base_of base.now)
+        (Asks (words.bind disk.now program.now base.now))
+        (O.contents output.old) (O.contents output.new) result }
     ensures silent { is_told result ≡ false → E.contents errors.new ≡ E.contents errors.old }
 {
     let Some(base) = parse_base(base) else {

@@ -24,7 +24,7 @@ pub(crate) fn run_watched<I: Read, O: Write, G: Applies>(
     watched: &mut Watched<G>,
 ) -> Status
     requires { watched.old.worst ≡ Done }
-    ensures run { IsRun (record {
+    ensures run { IsRun G.step watched.old.registry watched.new.registry (record {
       unread = I.remaining input.old;
       before = O.contents output.old;
       after = O.contents output.new;
@@ -38,7 +38,7 @@ pub(crate) fn run_watched<I: Read, O: Write, G: Applies>(
 }
 
 /// `script DISK`: from the input to the output.
-#[tactic(auto, using(crate::proofs::Statuses::run_ends, crate::proofs::Statuses::away_script))]
+#[tactic(auto, using(crate::proofs::Statuses::away_script))]
 pub(crate) fn script<R: Files, I: Read, O: Write, E: Write>(
     rt: &R,
     alloc: Global,
@@ -47,7 +47,7 @@ pub(crate) fn script<R: Files, I: Read, O: Write, E: Write>(
     output: &mut O,
     errors: &mut E,
 ) -> Status
-    ensures ends { ScriptEnds (record {
+    ensures ends { ScriptEnds R.File (record {
       unread = I.remaining input.old;
       before = O.contents output.old;
       after = O.contents output.new;

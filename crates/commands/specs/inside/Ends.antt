@@ -7,8 +7,12 @@ use Rattle.commands.specs.declared.file.FileFault.TheVariants.{CannotRead, OutOf
 use Rattle.commands.specs.declared.show.Shown.TheVariants as shown
 use Rattle.commands.specs.declared.status.Status.{Status}
 use Rattle.commands.specs.declared.status.Status.TheVariants.{Done, Refused, BadWords, Failed, NoMemory}
-use Rattle.disk_registry.specs.Answered.{IsBindAnswer}
-use Rattle.commands.specs.Outcome.{are_bad, IsDone, IsRefused, LacksMemory, Replies, TurnsAway, RunsThrough, EndsEarly}
+use Rattle.registry.specs.Request.{Request}
+use Rattle.store.specs.declared.refusal.StoreRefusal.{StoreRefusal}
+use Rattle.commands.specs.declared.disk.NoRegistry.{NoRegistry}
+use Rattle.commands.specs.declared.disk.NoRegistry.TheVariants as no
+use Rattle.commands.specs.Disk.{IsOpenRefusal, IsFormatRefusal}
+use Rattle.commands.specs.Outcome.{are_bad, IsDone, IsRefused, LacksMemory, Replies, Makes, TurnsAway, RunsThrough, EndsEarly, Runs, RunsInPart}
 use Rattle.commands.specs.Printed.{PrintsImage, PrintsRefusal}
 use Rattle.commands.specs.Refusal.{memory_text}
 use Rattle.commands.specs.Reply.{reply_text}
@@ -18,12 +22,12 @@ use Rattle.commands.specs.Status.{reply_status}
 use Rattle.commands.specs.Words.{CommandLine}
 
 -- what words end with, by what they ask, and by what the streams gave and hold
-abbrev pub Ends : Option CommandLine → Streams → Status → Type 0
-Ends line io Done = (are_bad line ≡ false) × IsDone line io
-Ends line io Refused = (are_bad line ≡ false) × IsRefused line io
-Ends line io BadWords = (are_bad line ≡ true) × (io.after ≡ io.before)
-Ends line io Failed = are_bad line ≡ false
-Ends line io NoMemory = (are_bad line ≡ false) × LacksMemory line io
+abbrev pub Ends : (F : Type 0) → Option CommandLine → Streams → Status → Type 0
+Ends F line io Done = (are_bad line ≡ false) × IsDone F line io
+Ends F line io Refused = (are_bad line ≡ false) × IsRefused F line io
+Ends F line io BadWords = (are_bad line ≡ true) × (io.after ≡ io.before)
+Ends F line io Failed = are_bad line ≡ false
+Ends F line io NoMemory = (are_bad line ≡ false) × LacksMemory F line io
 
 -- what showing an image ends with, by the base that was asked for
 abbrev pub ImageEnds : Option ℕ → Option (List ℕ) → Option (List ℕ) → Status → Type 0
@@ -58,44 +62,49 @@ abbrev pub IsNotRead : FileFault → Option (List ℕ) → Option (List ℕ) →
 IsNotRead CannotRead before after status = (status ≡ Failed) × (after ≡ before)
 IsNotRead OutOfMemory before after status = SaysNoMemory before after status
 
+-- why there is no registry: for such a refusal, or since there is no such file
+abbrev pub IsNoRegistry : (StoreRefusal → Type 0) → NoRegistry → Type 0
+IsNoRegistry MayRefuse no.CannotOpen = Unit
+IsNoRegistry MayRefuse (no.Refused refusal) = MayRefuse refusal
+
 -- what a disk that isn't opened or made ends with
-abbrev pub IsTurnedAway : Option (List ℕ) → Option (List ℕ) → Status → Type 0
-IsTurnedAway before after Done = ⊥
-IsTurnedAway before after Refused = TurnsAway Refused before after
-IsTurnedAway before after BadWords = ⊥
-IsTurnedAway before after Failed = Unit {0}
-IsTurnedAway before after NoMemory = Appends before after memory_text
+abbrev pub IsTurnedAway : (StoreRefusal → Type 0) → Option (List ℕ) → Option (List ℕ) → Status → Type 0
+IsTurnedAway MayRefuse before after Done = ⊥
+IsTurnedAway MayRefuse before after Refused = TurnsAway MayRefuse Refused before after
+IsTurnedAway MayRefuse before after BadWords = ⊥
+IsTurnedAway MayRefuse before after Failed = Unit {0}
+IsTurnedAway MayRefuse before after NoMemory = Appends before after memory_text
 
 -- a reply was written, or the writer failed
 abbrev pub IsWritten : Reply → Option (List ℕ) → Option (List ℕ) → Status → Type 0
 IsWritten reply before after status = ((status ≡ reply_status reply) × Appends before after (reply_text reply)) ⊎ (status ≡ Failed)
 
--- what a command on a disk ends with that may be answered so
-abbrev pub Replied : (Reply → Type 0) → Option (List ℕ) → Option (List ℕ) → Status → Type 0
-Replied MayBe before after Done = Replies MayBe Done before after
-Replied MayBe before after Refused = Replies MayBe Refused before after ⊎ TurnsAway Refused before after
-Replied MayBe before after BadWords = ⊥
-Replied MayBe before after Failed = Unit {0}
-Replied MayBe before after NoMemory = Appends before after memory_text
+-- what a command on a disk ends with that asks such a request
+abbrev pub Replied : (F : Type 0) → (Request → Type 0) → Option (List ℕ) → Option (List ℕ) → Status → Type 0
+Replied F IsAsked before after Done = Replies F IsAsked Done before after
+Replied F IsAsked before after Refused = Replies F IsAsked Refused before after ⊎ TurnsAway IsOpenRefusal Refused before after
+Replied F IsAsked before after BadWords = ⊥
+Replied F IsAsked before after Failed = Unit {0}
+Replied F IsAsked before after NoMemory = Appends before after memory_text
 
 -- what a bind on a disk ends with, by the base that was asked for
-abbrev pub BindEnds : Option ℕ → Option (List ℕ) → Option (List ℕ) → Status → Type 0
-BindEnds asked before after BadWords = (asked ≡ None) × (after ≡ before)
-BindEnds asked before after status = (is_some asked ≡ true) × Replied IsBindAnswer before after status
+abbrev pub BindEnds : (F : Type 0) → Option ℕ → (Request → Type 0) → Option (List ℕ) → Option (List ℕ) → Status → Type 0
+BindEnds F asked IsAsked before after BadWords = (asked ≡ None) × (after ≡ before)
+BindEnds F asked IsAsked before after status = (is_some asked ≡ true) × Replied F IsAsked before after status
 
--- what making a registry ends with
-abbrev pub IsFormatted : Option (List ℕ) → Option (List ℕ) → Status → Type 0
-IsFormatted before after Done = Appends before after (codes "ok\n")
-IsFormatted before after status = IsTurnedAway before after status
+-- what making a registry of so many sectors ends with
+abbrev pub IsFormatted : (F : Type 0) → ℕ → Option (List ℕ) → Option (List ℕ) → Status → Type 0
+IsFormatted F sectors before after Done = Makes F sectors before after
+IsFormatted F sectors before after status = IsTurnedAway IsFormatRefusal before after status
 
 -- what a script over a registry ends with
-abbrev pub IsRun : Streams → Status → Type 0
-IsRun io status = RunsThrough io status ⊎ EndsEarly io status
+abbrev pub IsRun : {S : Type 0} → (S → Request → Reply → S → Type 0) → S → S → Streams → Status → Type 0
+IsRun step s s' io status = RunsThrough step s s' io status ⊎ EndsEarly step s s' io status
 
 -- what a script over a disk ends with
-abbrev pub ScriptEnds : Streams → Status → Type 0
-ScriptEnds io Done = RunsThrough io Done
-ScriptEnds io Refused = RunsThrough io Refused ⊎ TurnsAway Refused io.before io.after
-ScriptEnds io BadWords = ⊥
-ScriptEnds io Failed = Unit {0}
-ScriptEnds io NoMemory = RunsThrough io NoMemory ⊎ EndsEarly io NoMemory ⊎ Appends io.before io.after memory_text
+abbrev pub ScriptEnds : (F : Type 0) → Streams → Status → Type 0
+ScriptEnds F io Done = Runs F io Done
+ScriptEnds F io Refused = Runs F io Refused ⊎ TurnsAway IsOpenRefusal Refused io.before io.after
+ScriptEnds F io BadWords = ⊥
+ScriptEnds F io Failed = Unit {0}
+ScriptEnds F io NoMemory = Runs F io NoMemory ⊎ RunsInPart F io NoMemory ⊎ Appends io.before io.after memory_text

@@ -1,0 +1,236 @@
+-- What a command of a registry on a disk ends with.
+use Rattle.std.proofs.Common.{◌≡◌, ℕ, List, Option, Some, ap, refl, sym, subst, inl, inr, ⊎_elim}
+use Rattle.std.specs.Prelude.{is_some, true, false, ◌⊎◌}
+use Rattle.std.specs.Io.KnownBytes.{Appends}
+use Rattle.image.specs.declared.refusal.BindRefusal.TheVariants as bind_refusal
+use Rattle.registry.specs.Request.{Request}
+use Rattle.registry.specs.Request as request
+use Rattle.registry.specs.declared.refusal.Refusal.{Refusal}
+use Rattle.registry.specs.declared.refusal.Refusal.TheVariants as refusal
+use Rattle.registry.specs.declared.reply.Reply.{Reply}
+use Rattle.registry.specs.declared.reply.Reply.TheVariants as reply
+use Rattle.store.specs.Opened.{Opened}
+use Rattle.store.specs.declared.refusal.StoreRefusal.{StoreRefusal}
+use Rattle.store.specs.declared.refusal.StoreRefusal.TheVariants as store
+use Rattle.store.specs.Opening.{IsRefusalOfOpen, IsRefusalOfFormat}
+use Rattle.file_disk.specs.FileDisk.{file_facts}
+use Rattle.file_disk.specs.declared.disk.FileDisk.{FileDisk}
+use Rattle.commands.specs.Disk.{IsOpenRefusal, IsFormatRefusal}
+use Rattle.commands.specs.DiskStep.{DiskStep}
+use Rattle.commands.specs.Opened.{IsOpened}
+use Rattle.commands.specs.Refusal.{memory_text}
+use Rattle.commands.specs.Reply.{command_refusal_text, reply_text}
+use Rattle.commands.specs.Status.{refusal_status, reply_status}
+use Rattle.commands.specs.declared.status.Status.{Status}
+use Rattle.commands.specs.declared.status.Status.TheVariants.{Done, Refused, BadWords, Failed, NoMemory}
+use Rattle.commands.specs.Outcome.{are_bad, Asks, IsDone, IsRefused, LacksMemory, Replies, TurnsAway}
+use Rattle.commands.specs.Script.{Streams}
+use Rattle.commands.specs.Words.{CommandLine, install, replace, remove, preload, list}
+use Rattle.commands.specs.declared.disk.NoRegistry.{NoRegistry}
+use Rattle.commands.specs.declared.disk.NoRegistry.TheVariants as no
+use Rattle.commands.specs.declared.file.FileFault.{FileFault}
+use Rattle.commands.specs.declared.file.FileFault.TheVariants.{CannotRead, OutOfMemory}
+use Rattle.commands.specs.inside.Ends.{BindEnds, Ends, IsFormatted, IsNoRegistry, IsNotRead, IsTurnedAway, IsWritten, Replied, SaysNoMemory}
+use Rattle.commands.proofs.Ending.{reply_answers}
+
+-- a refusal that is want of memory has its line
+memory_refusal : (r : Refusal) → refusal_status r ≡ NoMemory → command_refusal_text r ≡ memory_text
+memory_refusal refusal.OutOfMemory h = refl
+memory_refusal (refusal.Bind bind_refusal.OutOfMemory) h = refl
+memory_refusal (refusal.Object e) h = cc
+memory_refusal refusal.AlreadyInstalled h = cc
+memory_refusal refusal.NotInstalled h = cc
+memory_refusal refusal.InPreloads h = cc
+memory_refusal refusal.RepeatedPreload h = cc
+memory_refusal refusal.TooManyPreloads h = cc
+memory_refusal refusal.Device h = cc
+memory_refusal refusal.Reopen h = cc
+memory_refusal refusal.Damaged h = cc
+memory_refusal refusal.BadGeometry h = cc
+memory_refusal refusal.Full h = cc
+memory_refusal refusal.Fragmented h = cc
+memory_refusal refusal.TooMany h = cc
+memory_refusal refusal.GenerationEnd h = cc
+memory_refusal (refusal.Bind (bind_refusal.Program e)) h = cc
+memory_refusal (refusal.Bind bind_refusal.BadBase) h = cc
+memory_refusal (refusal.Bind (bind_refusal.Missing needer name)) h = cc
+memory_refusal (refusal.Bind bind_refusal.NoRoom) h = cc
+memory_refusal (refusal.Bind (bind_refusal.Undefined object symbol)) h = cc
+
+memory_reply : (r : Reply) → reply_status r ≡ NoMemory → reply_text r ≡ memory_text
+memory_reply (reply.Refused r) h = memory_refusal r h
+memory_reply reply.Done h = cc
+memory_reply (reply.Listing listing) h = cc
+memory_reply (reply.Bound bound) h = cc
+
+-- no other status is that of a failure
+done_fails : Done ≡ Failed → ⊥
+done_fails h = cc
+
+refused_fails : Refused ≡ Failed → ⊥
+refused_fails h = cc
+
+words_fail : BadWords ≡ Failed → ⊥
+words_fail h = cc
+
+memory_fails : NoMemory ≡ Failed → ⊥
+memory_fails h = cc
+
+module _ (F : Type 0) (before after : Option (List ℕ)) where
+  -- a reply was written, or the output failed
+  written_as : (q : Request) (r : Reply) (made : (t : Status) → reply_status r ≡ t → Appends before after (reply_text r) → Replies F (λ asked. asked ≡ q) t before after)
+      → (status : Status) → IsWritten r before after status → Replied F (λ asked. asked ≡ q) before after status
+  written_as q r made Done (inl h) = made Done (sym h.0) h.1
+  written_as q r made Done (inr h) = absurd (done_fails h)
+  written_as q r made Refused (inl h) = inl (made Refused (sym h.0) h.1)
+  written_as q r made Refused (inr h) = absurd (refused_fails h)
+  written_as q r made BadWords (inl h) = absurd (reply_answers r (sym h.0))
+  written_as q r made BadWords (inr h) = absurd (words_fail h)
+  written_as q r made Failed h = tt
+  written_as q r made NoMemory (inl h) = subst (Appends before after) (memory_reply r (sym h.0)) h.1
+  written_as q r made NoMemory (inr h) = absurd (memory_fails h)
+
+  -- so of the reply of a registry that was opened
+  pub written_replied : (disk : FileDisk F) (old new : Opened (FileDisk F)) (q : Request) (r : Reply) (status : Status) → IsOpened disk old → DiskStep file_facts old q r new
+      → IsWritten r before after status → Replied F (λ asked. asked ≡ q) before after status
+  written_replied disk old new q r status opened step h =
+      written_as q r
+      (λ t e w. record {
+        asked = q;
+        is_asked = refl;
+        disk = disk;
+        old = old;
+        opened = opened;
+        reply = r;
+        new = new;
+        step = step;
+        ends = e;
+        written = w;
+      })
+      status h
+
+  -- the registry was not opened
+  pub away_replied : (IsAsked : Request → Type 0) (why : NoRegistry) (status : Status) → IsNoRegistry IsOpenRefusal why → IsTurnedAway (λ r. why ≡ no.Refused r) before after status
+      → Replied F IsAsked before after status
+  away_replied IsAsked why Done is h = absurd h
+  away_replied IsAsked why Refused is h = inr (h.0, subst (IsNoRegistry IsOpenRefusal) h.1 is, h.2, h.3)
+  away_replied IsAsked why BadWords is h = absurd h
+  away_replied IsAsked why Failed is h = tt
+  away_replied IsAsked why NoMemory is h = h
+
+  -- a request that was asked is such a request
+  such : (IsAsked : Request → Type 0) (q : Request) (status : Status) → IsAsked q → Replies F (λ asked. asked ≡ q) status before after → Replies F IsAsked status before after
+  such IsAsked q status is h = record {
+    asked = h.asked;
+    is_asked = subst IsAsked (sym h.is_asked) is;
+    disk = h.disk;
+    old = h.old;
+    opened = h.opened;
+    reply = h.reply;
+    new = h.new;
+    step = h.step;
+    ends = h.ends;
+    written = h.written;
+  }
+
+  pub replied_as : (IsAsked : Request → Type 0) (q : Request) (status : Status) → IsAsked q → Replied F (λ asked. asked ≡ q) before after status → Replied F IsAsked before after status
+  replied_as IsAsked q Done is h = such IsAsked q Done is h
+  replied_as IsAsked q Refused is (inl h) = inl (such IsAsked q Refused is h)
+  replied_as IsAsked q Refused is (inr h) = inr h
+  replied_as IsAsked q BadWords is h = absurd h
+  replied_as IsAsked q Failed is h = tt
+  replied_as IsAsked q NoMemory is h = h
+
+  -- a file was not read, or memory for names was refused
+  pub memory_replied : (IsAsked : Request → Type 0) (status : Status) → SaysNoMemory before after status → Replied F IsAsked before after status
+  memory_replied IsAsked NoMemory h = h
+  memory_replied IsAsked Failed h = tt
+  memory_replied IsAsked Done h = absurd h
+  memory_replied IsAsked Refused h = absurd h
+  memory_replied IsAsked BadWords h = absurd h
+
+  failed_replied : (IsAsked : Request → Type 0) (status : Status) → status ≡ Failed → Replied F IsAsked before after status
+  failed_replied IsAsked Failed h = tt
+  failed_replied IsAsked Done h = absurd (done_fails h)
+  failed_replied IsAsked Refused h = absurd (refused_fails h)
+  failed_replied IsAsked BadWords h = absurd (words_fail h)
+  failed_replied IsAsked NoMemory h = absurd (memory_fails h)
+
+  pub unread_replied : (IsAsked : Request → Type 0) (fault : FileFault) (status : Status) → IsNotRead fault before after status → Replied F IsAsked before after status
+  unread_replied IsAsked CannotRead status h = failed_replied IsAsked status h.0
+  unread_replied IsAsked OutOfMemory status h = memory_replied IsAsked status h
+
+  -- a registry was not made
+  pub away_formatted : (n : ℕ) (why : NoRegistry) (status : Status) → IsNoRegistry IsFormatRefusal why → IsTurnedAway (λ r. why ≡ no.Refused r) before after status → IsFormatted F n before after status
+  away_formatted n why Done is h = absurd h
+  away_formatted n why Refused is h = (h.0, subst (IsNoRegistry IsFormatRefusal) h.1 is, h.2, h.3)
+  away_formatted n why BadWords is h = absurd h
+  away_formatted n why Failed is h = tt
+  away_formatted n why NoMemory is h = h
+
+  -- a bind whose base was read
+  pub bind_ends : (at : ℕ) (asked : Option ℕ) (IsAsked : Request → Type 0) (status : Status) → asked ≡ Some at → Replied F IsAsked before after status → BindEnds F asked IsAsked before after status
+  bind_ends at asked IsAsked Done e h = (ap is_some e, h)
+  bind_ends at asked IsAsked Refused e h = (ap is_some e, h)
+  bind_ends at asked IsAsked BadWords e h = absurd h
+  bind_ends at asked IsAsked Failed e h = (ap is_some e, h)
+  bind_ends at asked IsAsked NoMemory e h = (ap is_some e, h)
+
+module _ (F : Type 0) (io : Streams) where
+  -- a command that asks so ends as the words say
+  ends_as : (line : CommandLine) → are_bad (Some line) ≡ false → (Replies F (Asks line) Done io.before io.after → IsDone F (Some line) io)
+      → (Replies F (Asks line) Refused io.before io.after ⊎ TurnsAway IsOpenRefusal Refused io.before io.after → IsRefused F (Some line) io)
+      → (Appends io.before io.after memory_text → LacksMemory F (Some line) io) → (status : Status) → Replied F (Asks line) io.before io.after status → Ends F (Some line) io status
+  ends_as line good done refused lacks Done h = (good, done h)
+  ends_as line good done refused lacks Refused h = (good, refused h)
+  ends_as line good done refused lacks BadWords h = absurd h
+  ends_as line good done refused lacks Failed h = good
+  ends_as line good done refused lacks NoMemory h = (good, lacks h)
+
+  pub install_ends : (disk file : List ℕ) (status : Status) → Replied F (Asks (install disk file)) io.before io.after status → Ends F (Some (install disk file)) io status
+  install_ends disk file status h = ends_as (install disk file) refl (λ k. k) (λ k. k) (λ k. k) status h
+
+  pub replace_ends : (disk file : List ℕ) (status : Status) → Replied F (Asks (replace disk file)) io.before io.after status → Ends F (Some (replace disk file)) io status
+  replace_ends disk file status h = ends_as (replace disk file) refl (λ k. k) (λ k. k) (λ k. k) status h
+
+  pub remove_ends : (disk name : List ℕ) (status : Status) → Replied F (λ asked. asked ≡ request.remove name) io.before io.after status → Ends F (Some (remove disk name)) io status
+  remove_ends disk name status h = ends_as (remove disk name) refl (λ k. k) (λ k. k) (λ k. k) status h
+
+  pub preload_ends : (disk : List ℕ) (names : List (List ℕ)) (status : Status) → Replied F (Asks (preload disk names)) io.before io.after status → Ends F (Some (preload disk names)) io status
+  preload_ends disk names status h = ends_as (preload disk names) refl (λ k. k) (λ k. k) (λ k. k) status h
+
+  pub list_ends : (disk : List ℕ) (status : Status) → Replied F (λ asked. asked ≡ request.list) io.before io.after status → Ends F (Some (list disk)) io status
+  list_ends disk status h = ends_as (list disk) refl (λ k. k) (λ k. k) (λ k. k) status h
+
+-- the refusals of opening a registry, and of making one, are these on any disk
+pub open_refusal : (n : ℕ) (r : StoreRefusal) → IsRefusalOfOpen n r → IsOpenRefusal r
+open_refusal n store.Device h = tt
+open_refusal n store.NotFormatted h = tt
+open_refusal n store.Damaged h = tt
+open_refusal n store.BadGeometry h = tt
+open_refusal n store.OutOfMemory h = tt
+open_refusal n store.Reopen h = absurd h
+open_refusal n store.AlreadyFormatted h = absurd h
+open_refusal n store.Full h = absurd h
+open_refusal n store.Fragmented h = absurd h
+open_refusal n store.TooMany h = absurd h
+open_refusal n store.GenerationEnd h = absurd h
+
+pub format_refusal : (n : ℕ) (r : StoreRefusal) → IsRefusalOfFormat n r → IsFormatRefusal r
+format_refusal n store.Device h = tt
+format_refusal n store.AlreadyFormatted h = tt
+format_refusal n store.BadGeometry h = tt
+format_refusal n store.OutOfMemory h = tt
+format_refusal n store.Reopen h = absurd h
+format_refusal n store.NotFormatted h = absurd h
+format_refusal n store.Damaged h = absurd h
+format_refusal n store.Full h = absurd h
+format_refusal n store.Fragmented h = absurd h
+format_refusal n store.TooMany h = absurd h
+format_refusal n store.GenerationEnd h = absurd h
+
+-- what a command ends with whose disk is the file behind a standard stream, when nothing was printed
+pub ends_away : (F : Type 0) (line : CommandLine) (io : Streams) (status : Status) → io.after ≡ io.before
+    → ((status ≡ BadWords) × (are_bad (Some line) ≡ true)) ⊎ ((status ≡ Failed) × (are_bad (Some line) ≡ false)) → Ends F (Some line) io status
+ends_away F line io status same either =
+    ⊎_elim (λ bad. subst (Ends F (Some line) io) (sym bad.0) (bad.1, same)) (λ failed. subst (Ends F (Some line) io) (sym failed.0) failed.1) either
