@@ -4,6 +4,7 @@ ghost use Rattle.std.specs.Prelude.{◌≡◌, ◌++◌, codes, true, false, OnO
 ghost use Rattle.std.specs.Io.KnownBytes.{Appends};
 ghost use Rattle.text_output.specs.Sends.{Sends};
 ghost use Rattle.store.specs.Opened.{Opened};
+ghost use Rattle.file_disk.specs.FileDisk.{IsNew};
 ghost use Rattle.file_disk.specs.declared.disk.FileDisk.{FileDisk};
 ghost use Rattle.commands.specs.Disk.{disk_refusal_name, disk_refusal_text};
 ghost use Rattle.commands.specs.Disk.{IsOpenRefusal, IsFormatRefusal};
@@ -50,7 +51,9 @@ fn open_disk<R: Files>(
     alloc: Global,
     path: &str,
     access: Access,
-) -> Result<FileDisk<R::File>, OpenFault> {
+) -> Result<FileDisk<R::File>, OpenFault>
+    ensures { IfOk result (λ disk. IsNew disk) }
+{
     match access {
         Access::Reading => FileDisk::open_read_only(rt, alloc, path),
         Access::Writing => FileDisk::open(rt, alloc, path),

@@ -1,10 +1,15 @@
 use Rattle.std.proofs.Common.{refl}
+use Rattle.commands.specs.Script.{Streams}
+use Rattle.commands.specs.Words.{line_of}
 use Rattle.commands.proofs.Asking.{ends_away}
 use Rattle.commands.proofs.command.run_apart.Goals as goal
 
 pub returns-in_default-behind_streams : goal.returns-in_default-behind_streams
-returns-in_default-behind_streams g c = record {
-  ends = ends_away _ _ _ _ refl c.keep_away.ensures.ends;
-  unread = λ other. refl;
-  silent = λ no. let yes = c.keep_away.ensures.told in cc;
-}
+returns-in_default-behind_streams g c =
+    let held = g.O.Write.contents c.args.output.now in
+    let io : Streams = record { unread = g.I.Read.remaining c.args.input.now; before = held; after = held } in
+    record {
+      ends = ends_away g.row.R-File.Denot (line_of c.args.action.now) io c.keep_away.result refl c.keep_away.ensures.ends;
+      unread = λ other. refl;
+      silent = λ no. let yes = c.keep_away.ensures.told in cc;
+    }
