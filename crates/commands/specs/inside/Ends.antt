@@ -1,5 +1,5 @@
 -- What the parts of a run end with.
-use Rattle.std.specs.Prelude.{ℕ, List, Option, Some, None, ◌≡◌, ◌⊎◌, Bool, true, false, is_some, codes}
+use Rattle.std.specs.Prelude.{ℕ, List, Option, Some, None, ◌≡◌, ◌⊎◌, Bool, true, false, is_some}
 use Rattle.std.specs.Io.KnownBytes.{Appends}
 use Rattle.registry.specs.declared.reply.Reply.{Reply}
 use Rattle.commands.specs.declared.file.FileFault.{FileFault}
