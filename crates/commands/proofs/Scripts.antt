@@ -10,7 +10,7 @@ use Rattle.registry.specs.Request.{Request}
 use Rattle.registry.specs.declared.reply.Reply.{Reply}
 use Rattle.registry.proofs.Runs.{run_more}
 use Rattle.commands.specs.Answer.{LineStep, answer_text, output, is_refused}
-use Rattle.commands.specs.Script.{IsLine, ended, Counts, Streams, Ends, Breaks, Stops}
+use Rattle.commands.specs.Script.{IsLine, ended, Counts, Streams, Ends, Breaks, Stops, StopsWriting}
 use Rattle.commands.specs.inside.Progress.{IsAll, Place, Answered, Misses}
 use Rattle.commands.specs.declared.answer.Answer.{Answer}
 use Rattle.commands.specs.declared.answer.Answer.TheVariants.{CutLine}
@@ -109,6 +109,17 @@ module _ {S : Type 0} (step : S → Request → Reply → S → Type 0) where
         written = λ h. absurd (h refl);
       },
     )
+
+    -- the same, with what had been written before
+    pub wrote_cut : (r : Place) (part : List ℕ) → Consumes q.unread r.unread part → StopsAt part 10 → StopsWriting step (streams p r) s t q.written
+    wrote_cut r part read stops =
+        (whole, part, answers, [], subst (Breaks step (streams p r) s t Write whole part) (sym (append-nil answers)) (breaks_cut r Write part refl read stops), omega arith, so_far.written)
+
+    pub wrote_line : (r : Place) (u : S) (line : List ℕ) → Consumes q.unread r.unread (ended line) → IsLine line → Misses step t u q.written r.written line Write → StopsWriting step (streams p r) s u q.written
+    unfolding breaks_line
+    wrote_line r u line read is_line missed =
+        let all = breaks_line r u line Write read is_line missed in
+        (whole ++ line ∷ [], [], answers, missed.0 ∷ [], all.3, omega arith, so_far.written)
 
     -- nothing more was read
     pub breaks_here : (fault : ScriptFault) → Breaks step (streams p q) s t fault whole [] answers

@@ -1,5 +1,5 @@
 -- What a script does (own).
-use Rattle.std.specs.Prelude.{◌≡◌, ◌≢◌, ℕ, List, [], ◌∷◌, ◌++◌, length, count_by, All, Option, IfSome}
+use Rattle.std.specs.Prelude.{◌≡◌, ◌≢◌, ◌≤◌, ℕ, List, [], ◌∷◌, ◌++◌, length, count_by, All, Option, IfSome}
 use Rattle.std.specs.List.{flat_map}
 use Rattle.std.specs.Io.{StopsAt}
 use Rattle.std.specs.Io.Iter.{u64_saturate}
@@ -65,3 +65,8 @@ module _ {S : Type 0} (step : S → Request → Reply → S → Type 0) where
 
   abbrev pub Stops : Streams → S → S → ScriptFault → Type 0
   Stops io s s' fault = (whole : List (List ℕ)) × (part : List ℕ) × (answers : List Answer) × Breaks io s s' fault whole part answers
+
+  -- The writer failed, and there was a moment by which the texts of all answers but one at most had been appended. Of the write that failed nothing is said.
+  abbrev pub StopsWriting : Streams → S → S → Option (List ℕ) → Type 0
+  StopsWriting io s s' held =
+      (whole : List (List ℕ)) × (part : List ℕ) × (sent failed : List Answer) × Breaks io s s' Write whole part (sent ++ failed) × (length failed ≤ 1) × Appends io.before held (output sent)

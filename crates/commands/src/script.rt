@@ -3,7 +3,7 @@
 ghost use Rattle.std.specs.Prelude.{◌≡◌, IfOk, IfErr};
 ghost use Rattle.std.specs.Io.KnownBytes.{Appends};
 ghost use Rattle.commands.specs.Answer.{LineStep, answer_text, is_refused};
-ghost use Rattle.commands.specs.Script.{Finishes, Stops};
+ghost use Rattle.commands.specs.Script.{Finishes, Stops, StopsWriting};
 ghost use Rattle.commands.specs.inside.Progress.{Misses};
 ghost use Rattle.commands.specs.declared.answer.Answer.{Answer};
 
@@ -65,6 +65,15 @@ pub fn run_script<R: Read, W: Write, G: Applies>(
       after = W.contents writer.new;
     })
         registry.old registry.new) }
+
+    // After a failed write: what the writer held before it.
+    ensures sent { IfErr result (λ fault. fault ≡ ScriptFault.Write
+        → (held : W) × StopsWriting G.step (record {
+          unread = R.remaining reader.old;
+          before = W.contents writer.old;
+          after = W.contents writer.new;
+        })
+        registry.old registry.new (W.contents held)) }
 {
     let Ok(mut pages) = BufReader::with_capacity(alloc, PAGE, reader) else {
         return Err(ScriptFault::OutOfMemory);

@@ -6,7 +6,7 @@ use Rattle.commands.specs.declared.fault.ScriptFault.TheVariants.{Read, OutOfMem
 use Rattle.commands.specs.declared.summary.Summary.{Summary}
 use Rattle.commands.proofs.Lines.{stops_line}
 use Rattle.commands.proofs.Pages.{unread_pages}
-use Rattle.commands.proofs.Scripts.{answered_none, answered_more, ends_cut, breaks_reading, breaks_cut, breaks_here, breaks_line, breaks_none, ends_here}
+use Rattle.commands.proofs.Scripts.{answered_none, answered_more, ends_cut, breaks_reading, breaks_cut, breaks_here, breaks_line, breaks_none, ends_here, wrote_cut, wrote_line}
 use Rattle.std.specs.Io.Buffered.{reader_remaining}
 use Rattle.commands.proofs.script.run_script.Goals as goal
 
@@ -79,3 +79,24 @@ pub returns-clause-err : goal.returns-clause-err
 returns-clause-err g c =
     let so = c.loop.invariant in
     (so.0, [], so.1, breaks_here g.G.Applies.step _ _ _ _ _ so.0 so.1 so.2 Read)
+
+pub returns-in_err-refused-in-Whole-clause-sent : goal.returns-in_err-refused-in-Whole-clause-sent
+returns-in_err-refused-in-Whole-clause-sent g c =
+    let p = err_from_is_err_and c.from_residual-in_err-refused-in-Whole.result c.from_residual-in_err-refused-in-Whole.ensures.1 in
+    let so = c.loop.invariant in
+    let line = c.read_line.new.line.items in
+    let held = g.W.Write.contents c.loop.writer in
+    let now = g.W.Write.contents c.answer_whole.new.writer in
+    let s = c.loop.registry in
+    let s' = c.answer_whole.new.registry in
+    let got = subst (GotLine (reader_remaining (λ r. g.R.Read.remaining r.now) c.loop.pages) (reader_remaining (λ r. g.R.Read.remaining r.now) c.read_line.new.reader) line) c.in-Whole.is c.in_ok-read_line.ensures.ok in
+    let missed = subst (λ l. Misses g.G.Applies.step s s' held now l c.in_err-refused-in-Whole.field-0.0) c.deref.ensures.value c.in_err-refused-in-Whole.ensures.err in
+    rw p.1 (λ is. (c.loop.writer, wrote_line g.G.Applies.step _ _ _ _ _ so.0 so.1 so.2 _ _ line got.0 got.1 (subst (Misses g.G.Applies.step s s' held now line) (sym p.2 ∙ is) missed)))
+
+pub returns-in_err-write_answer-in-Cut-clause-sent : goal.returns-in_err-write_answer-in-Cut-clause-sent
+returns-in_err-write_answer-in-Cut-clause-sent g c =
+    let p = err_from_is_err_and c.from_residual-in_err-write_answer-in-Cut.result c.from_residual-in_err-write_answer-in-Cut.ensures.1 in
+    let so = c.loop.invariant in
+    let line = c.read_line.new.line.items in
+    let got = subst (GotLine (reader_remaining (λ r. g.R.Read.remaining r.now) c.loop.pages) (reader_remaining (λ r. g.R.Read.remaining r.now) c.read_line.new.reader) line) c.in-Cut.is c.in_ok-read_line.ensures.ok in
+    rw p.1 (λ is. (c.loop.writer, wrote_cut g.G.Applies.step _ _ _ _ _ so.0 so.1 so.2 _ line got.1 (stops_line line got.2)))
