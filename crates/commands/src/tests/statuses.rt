@@ -36,7 +36,7 @@ fn numbers_of_statuses(rt: HostRuntime) {
         (Ok(Shown::NoMemory), Status::NoMemory, 4),
         (Err(ScriptFault::Write), Status::Failed, 3),
         (Err(ScriptFault::Read), Status::Failed, 3),
-        (Err(ScriptFault::OutOfMemory), Status::Failed, 3),
+        (Err(ScriptFault::OutOfMemory), Status::NoMemory, 4),
     ] {
         assert_eq!(rt; status_of(shown), status);
         assert_eq!(rt; status.number(), number);
