@@ -16,6 +16,7 @@ LineStep step s line (Replied reply) s' = (request : Request) × (meaning line �
 LineStep step s line BadLine s' = (meaning line ≡ None) × (s' ≡ s)
 LineStep step s line CutLine s' = ⊥
 
+-- the text of an answer
 abbrev pub answer_text : Answer → List ℕ
 answer_text (Replied reply) = reply_text reply
 answer_text BadLine = codes "refused L1 BadLine\n"

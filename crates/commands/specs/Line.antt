@@ -19,6 +19,7 @@ is_visible b = nat_le 0x21 b && nat_le b 0x7e
 abbrev pub is_name : List ℕ → Bool
 is_name word = not (length word == 0) && list_all is_visible word
 
+-- the name that a word is, where it is one
 abbrev pub named : List ℕ → Option (List ℕ)
 named word = if is_name word then Some word else None
 
@@ -33,6 +34,7 @@ names_behind (b ∷ rest) =
 abbrev pub word_in_front : List ℕ → List ℕ
 word_in_front bytes = take_while (λ b. not (b == 32)) bytes
 
+-- what `bind` asks with this base and these bytes of a program, where both are read
 abbrev pub bound_at : Option ℕ → Option (List ℕ) → Option Request
 bound_at (Some base) (Some program) = Some (bind program base)
 bound_at base program = None

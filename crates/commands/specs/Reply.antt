@@ -46,6 +46,7 @@ preload_text name = codes "preload " ++ name_text name ++ codes "\n"
 abbrev pub listing_text : Listed → List ℕ
 listing_text l = flat_map library_text l.libraries ++ flat_map preload_text l.preloads ++ codes "end\n"
 
+-- the text of a reply
 abbrev pub reply_text : Reply → List ℕ
 reply_text Done = codes "ok\n"
 reply_text (Listing listing) = listing_text listing

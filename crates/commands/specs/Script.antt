@@ -63,6 +63,7 @@ module _ {S : Type 0} (step : S → Request → Reply → S → Type 0) where
   abbrev pub Finishes : Streams → S → S → Summary → Type 0
   Finishes io s s' summary = (whole : List (List ℕ)) × (cut : List ℕ) × (answers : List Answer) × Ends io s s' summary whole cut answers
 
+  -- the same of a script that ended early
   abbrev pub Stops : Streams → S → S → ScriptFault → Type 0
   Stops io s s' fault = (whole : List (List ℕ)) × (part : List ℕ) × (answers : List Answer) × Breaks io s s' fault whole part answers
 

@@ -17,15 +17,17 @@ pub data CommandLine : Type 0 where
   bind : List ℕ → List ℕ → List ℕ → CommandLine
   script : List ℕ → CommandLine
 
--- commands of one word, of two and of three: any words stand there, and neither one more nor one fewer
+-- a command of one word: any word stands there, and neither one more nor one fewer
 abbrev pub of_one : (List ℕ → CommandLine) → List (List ℕ) → Option CommandLine
 of_one command (a ∷ []) = Some (command a)
 of_one command words = None
 
+-- the same of two words
 abbrev pub of_two : (List ℕ → List ℕ → CommandLine) → List (List ℕ) → Option CommandLine
 of_two command (a ∷ b ∷ []) = Some (command a b)
 of_two command words = None
 
+-- the same of three words
 abbrev pub of_three : (List ℕ → List ℕ → List ℕ → CommandLine) → List (List ℕ) → Option CommandLine
 of_three command (a ∷ b ∷ c ∷ []) = Some (command a b c)
 of_three command words = None

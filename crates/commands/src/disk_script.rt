@@ -1,7 +1,9 @@
 // A script over a registry on a disk.
 
-ghost use Rattle.std.specs.Prelude.{IfOk, IfErr};
+ghost use Rattle.std.specs.Prelude.{◌≡◌, IfOk, IfErr};
 ghost use Rattle.commands.specs.DiskScript.{FinishesOnDisk, StopsOnDisk};
+ghost use Rattle.commands.specs.DiskStep.{DiskStep};
+ghost use Rattle.commands.specs.Script.{StopsWriting};
 
 use crate::fault::ScriptFault;
 use crate::script::run_script;
@@ -37,6 +39,15 @@ pub fn run_script_on_disk<R: Read, W: Write, D: Disk>(
       after = W.contents writer.new;
     })
         registry.old registry.new) }
+
+    // After a failed write: what the writer held before it.
+    ensures sent { IfErr result (λ fault. fault ≡ ScriptFault.Write
+        → (held : W) × StopsWriting (DiskStep D.facts) (record {
+          unread = R.remaining reader.old;
+          before = W.contents writer.old;
+          after = W.contents writer.new;
+        })
+        registry.old registry.new (W.contents held)) }
 {
     run_script(alloc, reader, writer, registry)
 }
