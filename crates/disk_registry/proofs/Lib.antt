@@ -9,6 +9,7 @@ pub mod Putting
 pub mod Puts
 pub mod RanSoFar
 pub mod Running
+pub mod Rounding
 pub mod RunExamples
 pub mod Answering
 pub mod States

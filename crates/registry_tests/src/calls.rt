@@ -4,7 +4,7 @@ use disk_registry::Registry;
 use elf_file::ObjectRefusal;
 use hash_check::FileRefusal;
 use image::BindRefusal;
-use registry::{Command, Refusal, Reply};
+use registry::{Command, Listing, Refusal, Reply};
 use sector_disk::{Fuse, Memory};
 use std::alloc::{AllocError, Global};
 use std::process::Abort;
@@ -132,9 +132,14 @@ pub(crate) fn disk_after(
 
 /// Whether these libraries and preloads are listed, in this order.
 pub(crate) fn lists(registry: &mut OnMemory, held: Held) -> bool {
-    let Reply::Listing(listing) = registry.apply(&Command::List) else {
-        return false;
-    };
+    match registry.apply(&Command::List) {
+        Reply::Listing(listing) => is_listed(&listing, held),
+        _ => false,
+    }
+}
+
+/// Whether a listing has these libraries and preloads, in this order.
+pub(crate) fn is_listed(listing: &Listing, held: Held) -> bool {
     let mut same = listing.libraries.len() == held.0.len();
     for ((name, size), wanted) in listing.libraries.iter().zip(held.0) {
         same = same && name.as_bytes() == [wanted.0].as_slice() && *size == wanted.1;
