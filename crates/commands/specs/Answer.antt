@@ -9,8 +9,7 @@ use Rattle.commands.specs.Reply.{reply_text}
 use Rattle.commands.specs.declared.answer.Answer.{Answer}
 use Rattle.commands.specs.declared.answer.Answer.TheVariants.{Replied, BadLine, CutLine}
 
--- A whole line may be answered so, by a registry that makes these steps, and lead from one to another: a line that
--- asks something gets the reply of a step, any other line is bad and changes nothing, and no whole line is cut.
+-- a line is answered by the step that it asks for; one that asks nothing is bad and changes nothing
 abbrev pub LineStep : {S : Type 0} → (S → Request → Reply → S → Type 0) → S → List ℕ → Answer → S → Type 0
 LineStep step s line (Replied reply) s' = (request : Request) × (meaning line ≡ Some request) × step s request reply s'
 LineStep step s line BadLine s' = (meaning line ≡ None) × (s' ≡ s)

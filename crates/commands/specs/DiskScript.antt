@@ -30,8 +30,9 @@ reply_of answer = None
 abbrev pub replied : List Answer → List Reply
 replied answers = filter_map reply_of answers
 
--- The commands of lines were done over a disk. From each state at which the registry may be they are a run of commands: a stop at any moment leaves a state on its way, or the change that the device cut off.
+-- The commands of these lines were done over a disk.
 pub record LinesRan {D : Type 0} (facts : D → DiskFacts) (old new : Opened D) (lines : List (List ℕ)) (answers : List Answer) : Type 0 where
+  -- from each state at which the registry may be they are a run of commands
   pub runs : (s : State) → IsAt facts old s → RunsOver facts old new s (asked lines) (replied answers)
   -- on any disk one reply for each command, as it is answered there
   pub on_any_disk : AreAnswered facts old new (asked lines) (replied answers)

@@ -7,14 +7,14 @@ use Rattle.file_disk.specs.FileDisk.{file_facts, IsNew}
 use Rattle.file_disk.specs.declared.disk.FileDisk.{FileDisk}
 use Rattle.disk_registry.specs.Stands.{file_sectors}
 
--- It was opened: the disk was new and has a size that a registry may have, no write or sync has failed, and the calls since then are exactly those of opening.
+-- it was opened: on a new disk of a good size, without failure, by exactly the calls of opening
 pub record IsOpened {F : Type 0} (disk : FileDisk F) (registry : Opened (FileDisk F)) : Type 0 where
   pub new : IsNew disk
   pub geometry : IsGeometry (file_facts disk).sectors
   pub usable : IsFalse registry.failed
   pub calls : AreCallsExactly (3 + length registry.entries + sum_by file_sectors registry.entries) (file_facts disk) (file_facts registry.disk)
 
--- It was made: the disk was new and has so many sectors, no write or sync has failed, and the calls since then are exactly those of making one.
+-- it was made: on a new disk of so many sectors, without failure, by exactly the calls of making
 pub record IsMade {F : Type 0} (n : ℕ) (disk : FileDisk F) (registry : Opened (FileDisk F)) : Type 0 where
   pub new : IsNew disk
   pub sectors : (file_facts disk).sectors ≡ n

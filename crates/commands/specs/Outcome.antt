@@ -36,7 +36,7 @@ abbrev pub reads_input : Option CommandLine → Bool
 reads_input (Some (script disk)) = true
 reads_input line = false
 
--- What a command asks of a registry on a disk: with the NAMEs and the BASE of the words, and with some file's bytes where they name a file.
+-- what a command asks of a registry on a disk: with its NAMEs and BASE, and some bytes for a file
 abbrev pub Asks : CommandLine → Request → Type 0
 Asks (install disk file) asked = (bytes : List ℕ) × (length bytes < read_limit) × (asked ≡ request.install bytes)
 Asks (replace disk file) asked = (bytes : List ℕ) × (length bytes < read_limit) × (asked ≡ request.replace bytes)
@@ -46,7 +46,7 @@ Asks (list disk) asked = asked ≡ request.list
 Asks (bind disk program base) asked = (bytes : List ℕ) × (at : ℕ) × (length bytes < read_limit) × (base_of base ≡ Some at) × (asked ≡ request.bind bytes at)
 Asks line asked = ⊥
 
--- A registry was opened on a disk over a file and was asked such a request, and from what the output held before to what it holds after exactly the text of its reply was appended, which ends with this status.
+-- a registry, opened on a disk over a file, got such a request; exactly its reply was appended
 pub record Replies (F : Type 0) (IsAsked : Request → Type 0) (status : Status) (before after : Option (List ℕ)) : Type 0 where
   pub asked : Request
   pub is_asked : IsAsked asked
@@ -66,20 +66,20 @@ pub record Makes (F : Type 0) (sectors : ℕ) (before after : Option (List ℕ))
   pub made : IsMade sectors disk new
   pub written : Appends before after (codes "ok\n")
 
--- exactly the line was appended of why a disk isn't made a registry, or isn't opened as one: of such a refusal, which ends with this status
+-- exactly the line was appended that tells why a disk isn't made a registry, or isn't opened as one
 abbrev pub TurnsAway : (StoreRefusal → Type 0) → Status → Option (List ℕ) → Option (List ℕ) → Type 0
 TurnsAway MayRefuse status before after = (refusal : StoreRefusal) × MayRefuse refusal × (disk_status refusal ≡ status) × Appends before after (disk_refusal_text refusal)
 
--- a step of a registry, and beside it the greatest of the statuses of a script's replies, before the reply and after it
+-- a step of a registry, and the greatest status of a script's replies before it and after it
 abbrev pub Worsens : {S : Type 0} → (S → Request → Reply → S → Type 0) → S × Status → Request → Reply → S × Status → Type 0
 Worsens step old asked reply new = step old.0 asked reply new.0 × (new.1 ≡ greatest old.1 (reply_status reply))
 
 module _ {S : Type 0} (step : S → Request → Reply → S → Type 0) (s s' : S) (io : Streams) (status : Status) where
-  -- A script was run to its end over a registry that makes these steps, and exactly the texts of the answers to its lines were appended. The status is the greatest of the replies', and 1 at least where a line was refused.
+  -- a script ran to its end: its status is the greatest of the replies', 1 at least if one refuses
   abbrev pub RunsThrough : Type 0
   RunsThrough = (worst : Status) × (summary : Summary) × Finishes (Worsens step) io (s, Done) (s', worst) summary × (status ≡ greatest worst (lines_status summary.refused))
 
-  -- A script ended early, and the texts of the answers to the lines before were appended, unless it is the output that failed.
+  -- a script ended early: the status is the greatest of its replies and of what ended it
   abbrev pub EndsEarly : Type 0
   EndsEarly = (worst : Status) × (fault : ScriptFault) × Stops (Worsens step) io (s, Done) (s', worst) fault × (status ≡ greatest worst (fault_status fault))
 

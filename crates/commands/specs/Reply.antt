@@ -15,7 +15,7 @@ use Rattle.commands.specs.Refusal.{file_refusal_text, refusal_text}
 abbrev pub refused_line : List ℕ → List ℕ
 refused_line said = codes "refused " ++ said ++ codes "\n"
 
--- the line of a refusal; behind C1 stands that of a library's file, and that of a bind has the text that it has without a registry
+-- the line of a refusal; after C1 comes that of the file; that of a bind is as without a registry
 abbrev pub command_refusal_text : Refusal → List ℕ
 command_refusal_text (Object refusal) = refused_line (codes "C1 " ++ file_refusal_text refusal)
 command_refusal_text AlreadyInstalled = refused_line (codes "C2 AlreadyInstalled")

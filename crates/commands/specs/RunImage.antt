@@ -10,8 +10,7 @@ use Rattle.commands.specs.declared.show.Shown.{Shown}
 use Rattle.commands.specs.declared.show.Shown.TheVariants as shown
 use Rattle.commands.specs.Refusal.{refusal_text, memory_text}
 
--- From what the writer held before to what it holds after, exactly this was appended: the text of the image where the
--- program is bound at the base, that of the refusal where it isn't, or, where memory is wanted, that it was refused.
+-- exactly this was appended: the text of the image, or of the refusal, or of want of memory
 abbrev pub Shows : List ℕ → ℕ → Option (List ℕ) → Option (List ℕ) → Shown → Type 0
 Shows program base before after shown.Image = (alone_refusal program base ≡ None) × Appends before after (image_text (image_of (alone program base)))
 Shows program base before after shown.Refused = (refusal : BindRefusal) × (alone_refusal program base ≡ Some refusal) × Appends before after (refusal_text refusal)

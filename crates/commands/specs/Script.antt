@@ -27,22 +27,21 @@ abbrev pub cut_answer : List ℕ → List Answer
 cut_answer [] = []
 cut_answer (byte ∷ bytes) = CutLine ∷ []
 
--- The numbers of a summary: of all answers, and of those that count as refused. Each stays at the greatest u64.
+-- a summary counts all answers, and those that are refusals, each up to the greatest u64
 pub record Counts (summary : Summary) (answers : List Answer) : Type 0 where
   pub lines : summary.lines ≡ u64_saturate (length answers)
   pub refused : summary.refused ≡ u64_saturate (count_by is_refused answers)
 
--- The streams of a script: what the reader has yet to give, and what the writer holds before and after, where they tell it.
+-- what the reader has yet to give, and what the writer holds before and after, where they tell it
 pub record Streams : Type 0 where
   pub unread : Option (List ℕ)
   pub before : Option (List ℕ)
   pub after : Option (List ℕ)
 
 module _ {S : Type 0} (step : S → Request → Reply → S → Type 0) where
-  -- All was read: these lines, each with its newline, and what stands behind the last one. The lines were answered one
-  -- after the other, each by a step from the registry that the one before it left, and the texts of all answers were
-  -- appended.
+  -- All was read, and each line answered by a step from the registry that the one before it left.
   pub record Ends (io : Streams) (s s' : S) (summary : Summary) (whole : List (List ℕ)) (cut : List ℕ) (answers : List Answer) : Type 0 where
+    -- lines, each with its newline, and what comes after the last one
     pub read : IfSome io.unread (λ text. text ≡ flat_map ended whole ++ cut)
     pub lines : All IsLine whole
     pub rest : IsLine cut
@@ -50,13 +49,13 @@ module _ {S : Type 0} (step : S → Request → Reply → S → Type 0) where
     pub written : Appends io.before io.after (output (answers ++ cut_answer cut))
     pub counts : Counts summary (answers ++ cut_answer cut)
 
-  -- These lines were read and answered, and of the next one at most that line, with or without its newline, was read,
-  -- and it was not applied. The answers' texts were appended, unless it is the writer that failed.
+  -- These lines were read and answered; of the rest one line at most was read, and wasn't applied.
   pub record Breaks (io : Streams) (s s' : S) (fault : ScriptFault) (whole : List (List ℕ)) (part : List ℕ) (answers : List Answer) : Type 0 where
     pub read : IfSome io.unread (λ text. (others : List ℕ) × (text ≡ flat_map ended whole ++ part ++ others))
     pub lines : All IsLine whole
     pub one_at_most : StopsAt part 10
     pub run : Run (LineStep step) s whole answers s'
+    -- unless it is the writer that failed
     pub written : fault ≢ Write → Appends io.before io.after (output answers)
 
   -- there are such lines and answers
@@ -67,7 +66,7 @@ module _ {S : Type 0} (step : S → Request → Reply → S → Type 0) where
   abbrev pub Stops : Streams → S → S → ScriptFault → Type 0
   Stops io s s' fault = (whole : List (List ℕ)) × (part : List ℕ) × (answers : List Answer) × Breaks io s s' fault whole part answers
 
-  -- The writer failed, and there was a moment by which the texts of all answers but one at most had been appended. Of the write that failed nothing is said.
+  -- the writer failed, and held all answers but one at most before; the rest is open
   abbrev pub StopsWriting : Streams → S → S → Option (List ℕ) → Type 0
   StopsWriting io s s' held =
       (whole : List (List ℕ)) × (part : List ℕ) × (sent failed : List Answer) × Breaks io s s' Write whole part (sent ++ failed) × (length failed ≤ 1) × Appends io.before held (output sent)

@@ -5,7 +5,7 @@ use Rattle.commands.specs.Sectors.{sectors_of}
 use Rattle.commands.specs.declared.action.Action.{Action}
 use Rattle.commands.specs.declared.action.Action.TheVariants as action
 
--- a command of the program with its words in their order: each word is its bytes, and SECTORS its number
+-- a command of the program and its words in their order, SECTORS as a number
 pub data CommandLine : Type 0 where
   image : List ℕ → List ℕ → CommandLine
   format : List ℕ → ℕ → CommandLine
@@ -17,7 +17,7 @@ pub data CommandLine : Type 0 where
   bind : List ℕ → List ℕ → List ℕ → CommandLine
   script : List ℕ → CommandLine
 
--- a command of one word: any word stands there, and neither one more nor one fewer
+-- a command of one word: any word will do, and neither one more nor one fewer
 abbrev pub of_one : (List ℕ → CommandLine) → List (List ℕ) → Option CommandLine
 of_one command (a ∷ []) = Some (command a)
 of_one command words = None
@@ -42,7 +42,7 @@ abbrev pub preload_behind : List (List ℕ) → Option CommandLine
 preload_behind (disk ∷ names) = Some (preload disk names)
 preload_behind [] = None
 
--- the command that words are: the first of them is its name, and what stands behind it are its words
+-- the command that words are: the first is its name, and the others are its words
 abbrev pub command_line : List (List ℕ) → Option CommandLine
 command_line (name ∷ words) =
     if bytes_eq name (codes "image") then of_two image words

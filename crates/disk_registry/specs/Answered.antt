@@ -85,7 +85,7 @@ IsAnswerTo (set_preloads names) = IsChangeAnswer IsPreloadsRefusal
 IsAnswerTo (bind program base) = IsBindAnswer
 IsAnswerTo list = IsListAnswer
 
--- What a change leaves: where it is done, a registry to go on with; where the device cut it off, one that has to be opened again; where it is refused otherwise, all as it was, the disk too.
+-- a change leaves: done, a usable registry; S1, one to be opened again; else all as it was
 abbrev pub ChangeLeaves : {D : Type 0} → Opened D → Opened D → Reply → Type 0
 ChangeLeaves old new Done = IsFalse new.failed
 ChangeLeaves old new (Refused refusal) = (refusal ≡ Device → IsTrue new.failed) × (refusal ≢ Device → new ≡ old)
@@ -95,7 +95,7 @@ ChangeLeaves old new other = Unit {0}
 abbrev pub KeepsState : {D : Type 0} → Opened D → Opened D → Type 0
 KeepsState old new = (new.root ≡ old.root) × (new.entries ≡ old.entries) × (new.failed ≡ old.failed)
 
--- What a command leaves. A bind keeps what is known of the state, and all where the program is refused by itself; a listing keeps all.
+-- a command leaves what a change leaves, or, as a bind and a listing, what was known of the state
 abbrev pub Leaves : {D : Type 0} → Opened D → Opened D → Request → Reply → Type 0
 Leaves old new (install bytes) answer = ChangeLeaves old new answer
 Leaves old new (replace bytes) answer = ChangeLeaves old new answer

@@ -17,7 +17,7 @@ use Rattle.disk_registry.specs.Phase.{phase_of}
 abbrev pub InFlight : Phase → Request → Reply → List Sector → Type 0
 InFlight p request answer m = (answer ≡ Refused Device) × (refusal_at p request ≡ None) × Stands m (accepted p.state request)
 
--- What a stop within a command may leave: the state before it, the state after it, or what the device had in flight.
+-- a stop within a command may leave the state before, the state after, or the change in flight
 abbrev pub MayLeave : Phase → Request → Reply → State → List Sector → Type 0
 MayLeave p request answer s' m = Stands m p.state ⊎ Stands m s' ⊎ InFlight p request answer m
 
@@ -25,7 +25,7 @@ MayLeave p request answer s' m = Stands m p.state ⊎ Stands m s' ⊎ InFlight p
 pub record Applied {D : Type 0} (facts : D → DiskFacts) (old new : Opened D) (s s' : State) (request : Request) (answer : Reply) : Type 0 where
   pub step : Step (phase_of facts old s) request answer (phase_of facts new s')
   pub any_moment : LeavesOnly (facts old.disk) (facts new.disk) (MayLeave (phase_of facts old s) request answer s')
-  -- the registry is at the state after, unless a write or a sync failed: then the state is taken to be the one before
+  -- at the end it is at the state after; or a write or a sync failed, and that is the state before
   pub kept : IsAt facts new s' ⊎ (IsTrue new.failed × (s' ≡ s))
 
 -- the same, with the state after it

@@ -14,7 +14,7 @@ use Rattle.image.specs.Image.{MemoryImage}
 abbrev pub data_sectors : List ℕ → ℕ
 data_sectors bytes = div_ceil (length bytes) sector_bytes
 
--- how many sectors the libraries in the load order of a program take: those behind the program, which is its first object
+-- how many sectors the libraries in the load order of a program take, which begins with the program
 abbrev pub bind_sectors : State → List ℕ → ℕ
 bind_sectors s program = sum_by (λ o. data_sectors o.file) (drop 1 (load_order program (objects s) (preload_numbers s)))
 

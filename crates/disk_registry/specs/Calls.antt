@@ -8,7 +8,7 @@ use Rattle.registry.specs.declared.reply.Reply.{Reply}
 use Rattle.registry.specs.declared.reply.Reply.TheVariants.{Refused}
 use Rattle.disk_registry.specs.Binding.{bind_sectors}
 
--- How many calls an accepted command makes: a put writes the sectors of the file, its entry and the root, and syncs twice; the other changes write the root and sync; a bind reads the files of the load order.
+-- how many calls an accepted command makes: of a put one for each sector of the file, and four
 abbrev pub calls_of : State → Request → ℕ
 calls_of s (install bytes) = div_ceil (length bytes) sector_bytes + 4
 calls_of s (replace bytes) = div_ceil (length bytes) sector_bytes + 4

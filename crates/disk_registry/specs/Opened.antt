@@ -6,7 +6,7 @@ use Rattle.registry.specs.Library.{IsLibrary}
 use Rattle.registry.specs.State.{State}
 use Rattle.disk_registry.specs.Stands.{stored}
 
--- The registry is at a state: its disk is honest, no write or sync has failed, and every mixture of the disk stands for the state.
+-- at a state: the disk is honest, no write or sync failed, and every mixture stands for the state
 pub record IsAt {D : Type 0} (facts : D → DiskFacts) (registry : store.Opened D) (s : State) : Type 0 where
   pub blobs : store.IsAt facts registry (stored s)
   pub libraries : All IsLibrary s.libraries

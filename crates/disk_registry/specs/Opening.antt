@@ -7,7 +7,7 @@ use Rattle.store.specs.declared.refusal.StoreRefusal.TheVariants.{BadGeometry, N
 use Rattle.registry.specs.State.{State}
 use Rattle.disk_registry.specs.Stands.{Stands}
 
--- When `open` refuses a disk of these sectors, and how: Damaged are those with a root that stand for no state of a registry. A failing device may come where the geometry is good, and want of memory where there is a current root besides: none is taken before.
+-- how `open` may refuse these sectors: Damaged are those with a root that stand for no state
 abbrev pub RefusesOpen : List Sector → StoreRefusal → Type 0
 RefusesOpen m BadGeometry = IsGeometry (length m) → ⊥
 RefusesOpen m NotFormatted = IsGeometry (length m) × (HasRootMagic m → ⊥)

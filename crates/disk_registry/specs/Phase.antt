@@ -1,4 +1,4 @@
--- Where a registry on a disk stands between two commands (own).
+-- A registry on a disk between two commands, in the words of the step table (own).
 use Rattle.sector_disk.specs.Disk.{DiskFacts}
 use Rattle.store.specs.Opened.{Opened}
 use Rattle.store.specs.Step.{longest_free}

@@ -4,7 +4,7 @@ use Rattle.store.specs.declared.refusal.StoreRefusal.TheVariants as store
 use Rattle.registry.specs.declared.refusal.Refusal.{Refusal}
 use Rattle.registry.specs.declared.refusal.Refusal.TheVariants.{Device, Reopen, BadGeometry, Full, Fragmented, TooMany, GenerationEnd, OutOfMemory}
 
--- what a change or a reading of the store refuses, each by its own number: the last line stands for what neither refuses
+-- a refusal of the store, under its own number; the last line is for what is never refused here
 abbrev pub refusal_of : StoreRefusal → Refusal
 refusal_of store.Device = Device
 refusal_of store.Reopen = Reopen

@@ -28,7 +28,7 @@ library_of blob = record { name = blob.name; bytes = blob.bytes }
 abbrev pub file_sectors : Entry → ℕ
 file_sectors entry = div_ceil entry.file_length sector_bytes
 
--- The sectors stand for the state of a registry: for its libraries as named byte strings, each of them a file that no test refuses, under its SONAME.
+-- the sectors stand for this state, and each of its files is a library under its SONAME
 pub record Stands (m : List Sector) (s : State) : Type 0 where
   pub blobs : sectors.Stands m (stored s)
   pub libraries : All IsLibrary s.libraries

@@ -1,4 +1,4 @@
--- The two parts of a PT_LOAD, and the bytes of the file that stand at an address (gABI chapter 5, segment contents).
+-- The parts of a PT_LOAD, and the file's bytes at an address (gABI chapter 5, segment contents).
 use Rattle.std.specs.Prelude.{ℕ, ◌+◌, ◌-◌, List, [], take, drop, Option, Some, Bool, ◌==◌, ◌&&◌, nat_le, if◌then◌else◌, ◌≡◌, slice_get}
 use Rattle.std.specs.Option.{option_map}
 use Rattle.std.specs.List.{find, list_any}
@@ -25,8 +25,7 @@ bytes_of file address size h = take size (drop (h.offset + (address - h.address)
 unfoldable pub find_file_part : List ℕ → ℕ → ℕ → Option ProgramHeader
 find_file_part file address size = find (is_in_file_part address size) (loads file)
 
--- The bytes of the file at so many addresses from one on, if they can be read: they lie in the file part of one PT_LOAD.
--- No bytes can be read at any address.
+-- so many bytes at an address, if one PT_LOAD has them in its file part; 0 bytes at any address
 unfoldable pub bytes_at : List ℕ → ℕ → ℕ → Option (List ℕ)
 bytes_at file address size = if size == 0 then Some [] else option_map (bytes_of file address size) (find_file_part file address size)
 

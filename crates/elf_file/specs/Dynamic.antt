@@ -64,7 +64,7 @@ entries_in section = take_while (λ e. not (is_null e)) (whole_entries section)
 unfoldable pub entries : List ℕ → List Entry
 entries file = entries_in (dynamic_section file)
 
--- E15: not exactly one PT_DYNAMIC is present, or its bytes run past the file's end, or it has no DT_NULL
+-- E15: there isn't exactly one PT_DYNAMIC, or it runs past the file's end, or has no DT_NULL
 abbrev pub has_bad_dynamic : List ℕ → Bool
 has_bad_dynamic file = not (has_dynamic file) || not (is_ended (dynamic_section file))
 
@@ -80,8 +80,7 @@ find_entry file tag = find (has_tag tag) (entries file)
 abbrev pub is_present : List ℕ → ℕ → Bool
 is_present file tag = is_some (find_entry file tag)
 
--- The value of a tag. Where the tag is absent it is 0, and no test or accessor reads that: a table is read only where the
--- tag that places it is present, and MissingTag refuses a file where the tags beside it are absent.
+-- the value of a tag, or 0 where it is absent: then no test and no accessor reads it
 unfoldable pub tag_value : List ℕ → ℕ → ℕ
 tag_value file tag = unwrap_or (option_map (λ e. e.value) (find_entry file tag)) 0
 
@@ -120,7 +119,7 @@ abbrev pub lacks_symbol_tag : List ℕ → Bool
 lacks_symbol_tag file =
     not (is_present file DT_STRTAB) || not (is_present file DT_SYMTAB) || not (is_present file DT_STRSZ) || not (is_present file DT_SYMENT)
 
--- E20: a tag of the strings or the symbols is absent, or one beside a table of relocations that is present
+-- E20: a tag of the strings or symbols is missing, or one beside a table of relocations
 abbrev pub has_missing_tag : List ℕ → Bool
 has_missing_tag file =
     lacks_symbol_tag file
@@ -131,7 +130,7 @@ has_missing_tag file =
 abbrev pub is_part : ℕ → Bool
 is_part size = not (size % RELOCATION_SIZE == 0)
 
--- E21: symbols of another size, or a table of relocations whose entries have another size or kind or aren't whole
+-- E21: symbols of another size; or relocations of another size or kind, or a part of one
 abbrev pub has_bad_entry_size : List ℕ → Bool
 has_bad_entry_size file =
     not (tag_value file DT_SYMENT == SYMBOL_SIZE)

@@ -1,4 +1,4 @@
--- The tests of the headers, the segments and the tags in their order, each made over the whole file.
+-- The tests of headers, segments and tags in their order, each made over the whole file.
 use Rattle.std.specs.Prelude.{ℕ, List, [], ◌∷◌, Option}
 use Rattle.elf_file.specs.FirstOf.{◌when◌, first_of}
 use Rattle.elf_file.specs.Header.{is_too_short, has_bad_magic, has_bad_class, has_bad_data, has_bad_version, has_bad_os_abi, has_bad_type, has_bad_machine, has_bad_header_size, has_bad_program_headers}

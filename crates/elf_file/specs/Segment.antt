@@ -52,8 +52,7 @@ has_tls_segment file = list_any is_tls (program_headers file)
 unfoldable pub has_load : List ℕ → Bool
 has_load file = list_any is_load (program_headers file)
 
--- A PT_LOAD that breaks the rules, in a file of so many bytes: more bytes in the file than in memory, bytes past the
--- file's end, or an alignment that is no power of two or modulo which its address and its offset differ.
+-- in a file of so many bytes a PT_LOAD has a wrong file size, end or alignment
 abbrev pub is_bad_load : ℕ → ProgramHeader → Bool
 is_bad_load size h =
     is_load h

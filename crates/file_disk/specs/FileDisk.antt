@@ -47,9 +47,10 @@ pub record IsGiven {F : Type 0} (position : F → Option ℕ) (contents : F → 
   pub idle : WaitsNot old → file ≡ old.file
   pub given : WaitsNot old ⊎ IsWrittenAt position contents old.file file (512 * old.gathered.start) (flat_map (λ content. content) (gathered_sectors old.gathered))
 
--- Sector `at` waits with this content. Each other one waits as before, and the file is as it was; or no other one waits, and all that waited was given to the file.
+-- Sector `at` waits with this content.
 pub record IsGathered {F : Type 0} (position : F → Option ℕ) (contents : F → Option (List ℕ)) (old new : FileDisk F) (at : ℕ) (content : Sector) : Type 0 where
   pub here : waiting new at ≡ Some content
+  -- the others wait as before, and the file is as it was; or all of them were given to the file
   pub others : ((new.file ≡ old.file) × ((k : ℕ) → k ≢ at → waiting new k ≡ waiting old k)) ⊎ (((k : ℕ) → k ≢ at → waiting new k ≡ None) × IsGiven position contents old new.file)
 
 -- As it starts: no call was made, none has failed, nothing waits, and nothing is kept.
@@ -60,7 +61,7 @@ pub record IsNew {F : Type 0} (disk : FileDisk F) : Type 0 where
   pub waits : WaitsNot disk
   pub kept : (k : ℕ) → kept disk k ≡ None
 
--- Sector `at` was asked for: the file went to its place, and the content is the first sector of the bytes that were read there. What is kept lies in these bytes.
+-- the content is the first sector of the bytes that were read at its place; some of them are kept
 pub record IsFetched {F : Type 0} (position : F → Option ℕ) (remaining : F → Option (List ℕ)) (old new : FileDisk F) (at : ℕ) (content : Sector) : Type 0 where
   pub bytes : List ℕ
   pub read : IsReadAt position remaining old.file new.file (512 * at) bytes

@@ -1,4 +1,4 @@
--- What a file was asked for. Where a file tells its position and its bytes, these say what happened to them; a file of the system tells neither.
+-- What happened to a file that tells its position and its bytes. A file of the system tells neither
 use Rattle.std.specs.Prelude.{◌≡◌, ℕ, List, Option, Some, IfSome}
 use Rattle.std.specs.Io.KnownBytes.{Appends, Consumes}
 

@@ -5,7 +5,7 @@ use Rattle.std.specs.Prelude.{ℕ, ◌-◌, ◌^◌}
 abbrev pub PAGE : ℕ
 PAGE = 4096
 
--- the highest address that memory may end at: a page below the end of the lower half of the address space
+-- the highest end of memory: a page below the end of the lower half of the address space
 abbrev pub MEMORY_LIMIT : ℕ
 MEMORY_LIMIT = 2 ^ 47 - 4096
 

@@ -27,9 +27,7 @@ undefined_in objects own = option_map (undefined_by objects own) (first_undefine
 unfoldable pub undefined_refusal : List Placed → Option BindRefusal
 undefined_refusal objects = first_of (map (undefined_in objects) (range_with_len 0 (length objects)))
 
--- The tests of objects in memory, in their order:
--- B4: the memory of one ends too high;
--- B5: the value of a relocation is undefined: the first such one.
+-- B4: the memory of an object ends too high; B5: the first relocation whose value is undefined
 abbrev pub placed_tests : List Placed → List (Option BindRefusal)
 placed_tests objects = (NoRoom when lacks_room objects) ∷ undefined_refusal objects ∷ []
 
@@ -46,9 +44,7 @@ abbrev pub of_order : OrderRefusal → BindRefusal
 of_order (order.Missing needer name) = Missing needer name
 of_order order.OutOfMemory = OutOfMemory
 
--- The tests of a program by itself, in their order:
--- B1: the file is refused, by the first of all tests on files that applies;
--- B2: the base is no multiple of the program's unit.
+-- B1: the first test of the file that applies; B2: the base is no multiple of the program's unit
 abbrev pub program_tests : List ℕ → ℕ → List (Option BindRefusal)
 program_tests file base = option_map Program (first_file_refusal file) ∷ (BadBase when not (is_good_base file base)) ∷ []
 
@@ -56,10 +52,7 @@ program_tests file base = option_map Program (first_file_refusal file) ∷ (BadB
 unfoldable pub program_refusal : List ℕ → ℕ → Option BindRefusal
 program_refusal file base = first_of (program_tests file base)
 
--- The tests of a program, in their order:
--- B1 and B2: those of the program by itself;
--- B3: a library that is needed isn't there: the first such one;
--- B4 and B5: those of its objects in memory.
+-- B1, B2; then B3: the first needed library that isn't installed; then B4, B5 of the placed objects
 abbrev pub bind_tests : List ℕ → ℕ → List Named → List ℕ → List (Option BindRefusal)
 bind_tests file base libraries preloads =
     program_tests file base
@@ -75,8 +68,7 @@ bind_refusal file base libraries preloads = first_of (bind_tests file base libra
 abbrev pub alone_refusal : List ℕ → ℕ → Option BindRefusal
 alone_refusal file base = bind_refusal file base [] []
 
--- Where want of memory may be answered: where admission takes memory, before which only the refusals of the object by
--- itself are answered. Load order, places, names and the image take theirs behind it.
+-- where a bind may be answered with want of memory: where admission, which comes first, takes some
 abbrev pub WantsMemory : List ℕ → Type 0
 WantsMemory file = ReadNeedsMemory file
 
@@ -94,8 +86,7 @@ IsAnswer file base libraries preloads answer = bind_refusal file base libraries 
 abbrev pub IsOrWantsMemory : BindRefusal → BindRefusal → Type 0
 IsOrWantsMemory refusal answer = (answer ≡ refusal) ⊎ (answer ≡ OutOfMemory)
 
--- Where want of memory may be answered for objects in load order: where the memory of the first by itself doesn't end
--- too high, which is told before any memory is taken.
+-- where placing may be answered with want of memory: where the first object doesn't end too high
 abbrev pub PlacesWantMemory : List Placed → Type 0
 PlacesWantMemory objects = lacks_room (take 1 objects) ≡ false
 
@@ -107,6 +98,6 @@ IsPlaceAnswer objects answer = ((answer ≡ NoRoom) × (lacks_room objects ≡ t
 abbrev pub IsPlacedAnswer : List Placed → BindRefusal → Type 0
 IsPlacedAnswer objects answer = (placed_refusal objects ≡ Some answer) ⊎ ((answer ≡ OutOfMemory) × PlacesWantMemory objects)
 
--- the refusal that stands, or want of memory in place of any answer
+-- the first refusal, or want of memory in place of any answer
 abbrev pub IsFirstOrWantsMemory : Option BindRefusal → BindRefusal → Type 0
 IsFirstOrWantsMemory first answer = (first ≡ Some answer) ⊎ (answer ≡ OutOfMemory)

@@ -1,4 +1,4 @@
--- The values of symbols, and what relocations write into memory (gABI chapter 4, symbol values; psABI, relocation types).
+-- Symbols and what relocations write (gABI chapter 4, symbol values; psABI, relocation types).
 use Rattle.std.specs.Prelude.{ℕ, ◌+◌, ◌-◌, ◌%◌, ◌^◌, ◌==◌, Bool, ◌&&◌, is_none, if◌then◌else◌, List, [], length, map, reverse, get_or, slice_get, slice_index, Option, Some, None}
 use Rattle.std.specs.List.{find, flat_map, filter_map, range_with_len}
 use Rattle.std.specs.Option.{option_map, option_map_or}
@@ -14,8 +14,8 @@ use Rattle.scope.specs.declared.target.Target.TheVariants.{Zero, At}
 use Rattle.image.specs.Heading.{within}
 use Rattle.image.specs.Placement.{Placed, named}
 
--- An object is told from others by its place in load order, and not by its bytes: two may have the same. No definition
--- here asks for a place behind the last object.
+-- An object is told from others by its place in load order: two may have the same bytes.
+-- No definition here asks for a place behind the last object.
 
 -- the base of the object at a place
 abbrev pub base_at : List Placed → ℕ → ℕ
@@ -33,15 +33,15 @@ name_at objects own = get_or (map (λ o. o.name) objects) own []
 abbrev pub relocations_of : List Placed → ℕ → List Relocation
 relocations_of objects own = relocations (file_at objects own)
 
--- where a symbol of an object at a base stands: at its value if that is absolute, else at the base and its value
+-- the address of an object's symbol at a base: its value, added to the base unless it is absolute
 abbrev pub address_of : ℕ → Symbol → ℕ
 address_of base symbol = if symbol.section == SHN_ABS then symbol.value else (base + symbol.value) % 2 ^ 64
 
--- where the symbol of a number of the object at a place stands
+-- the address of the symbol of a number of the object at a place
 abbrev pub own_address : List Placed → ℕ → ℕ → ℕ
 own_address objects object symbol = option_map_or (address_of (base_at objects object)) (slice_get (symbols (file_at objects object)) symbol) 0
 
--- the value of what a symbol stands for
+-- the value of what a symbol is bound to
 abbrev pub target_value : List Placed → Target → ℕ
 target_value objects Zero = 0
 target_value objects (At object symbol) = own_address objects object symbol
@@ -50,9 +50,7 @@ target_value objects (At object symbol) = own_address objects object symbol
 unfoldable pub symbol_value : List Placed → ℕ → ℕ → Option ℕ
 symbol_value objects own symbol = option_map (target_value objects) (target (map named objects) own symbol)
 
--- The value that a relocation of the object at a place writes: R_X86_64_64 that of its symbol and the addend,
--- R_X86_64_GLOB_DAT and R_X86_64_JUMP_SLOT that of its symbol alone, R_X86_64_RELATIVE base and addend. None where its
--- symbol is undefined, and where its type writes nothing.
+-- the value that a relocation writes; none where its symbol is undefined or its type writes nothing
 abbrev pub value_of : List Placed → ℕ → Relocation → Option ℕ
 value_of objects own r =
     if r.kind == R_X86_64_RELATIVE then Some ((base_at objects own + r.addend) % 2 ^ 64)
@@ -67,7 +65,7 @@ is_undefined objects own r = is_writing r.kind && is_none (value_of objects own 
 abbrev pub first_undefined : List Placed → ℕ → Option Relocation
 first_undefined objects own = find (is_undefined objects own) (relocations_of objects own)
 
--- eight bytes that a relocation writes: from which address on, and the value that they spell, little endian
+-- eight bytes that a relocation writes: their first address, and the value, little endian
 pub record Write : Type 0 where
   pub place : ℕ
   pub value : ℕ

@@ -34,7 +34,7 @@ pub record AreSuccessive (even odd : ℕ) : Type 0 where
   pub parity1 : slot_of odd ≡ 1
   pub apart : (odd ≡ even + 1) ⊎ (even ≡ odd + 1)
 
--- A root is current in sectors 0 and 1: generation 0 alone, or the greater of two that follow each other.
+-- the root that is current in sectors 0 and 1: generation 0 alone, or the later of two neighbours
 abbrev pub IsCurrent : List ℕ → List ℕ → Root → Type 0
 IsCurrent sector0 sector1 root =
     (SpellsRoot sector0 root × (root.generation ≡ 0) × LacksMagic sector1)

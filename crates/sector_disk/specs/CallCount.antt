@@ -11,7 +11,7 @@ calls_made count = length count.failed.items
 abbrev pub calls_failed : CallCount → ℕ
 calls_failed count = length (filter (λ failed. failed) count.failed.items)
 
--- A disk of so many sectors that isn't known to be honest: nothing is said of it but its size and its calls.
+-- a disk that isn't known to be honest: nothing is said of it but its size and its calls
 abbrev pub unknown_disk : ℕ → CallCount → DiskFacts
 unknown_disk sectors count = record {
   honest = false;

@@ -1,4 +1,4 @@
--- The disk model: what contracts say of a disk, what a stop may leave of it, and what each call does to it.
+-- The disk model: what is said of a disk, what a stop may leave of it, and what each call does.
 use Rattle.std.specs.Prelude.{◌≡◌, ◌<◌, ◌≤◌, ◌+◌, ◌-◌, ◌↔◌, ◌⊎◌, ℕ, Bool, IsTrue, List, [], length, set, slice_index_or, All, Result, OnOk, OnErr}
 
 -- the bytes of a sector
@@ -35,7 +35,7 @@ pub record DiskFacts : Type 1 where
 abbrev pub MayLeave : DiskFacts → ℕ → Sector → Type 0
 MayLeave disk k c = disk.may_leave disk.time k c
 
--- A mixture of a moment: every sector with one of the contents that a stop then may leave, each picked by itself.
+-- a mixture of a moment: each sector, by itself, with a content that a stop then may leave there
 pub record MixtureAt (disk : DiskFacts) (moment : ℕ) (m : List Sector) : Type 0 where
   pub size : length m ≡ disk.sectors
   pub each : (k : ℕ) → k < disk.sectors → disk.may_leave moment k (sector m k)
@@ -52,12 +52,12 @@ LeftSince disk since m = (u : ℕ) × (since ≤ u) × (u ≤ disk.time) × Mixt
 abbrev pub HoldsNow : DiskFacts → Type 0
 HoldsNow disk = Mixture disk disk.now
 
--- Sectors are whole: what reads give, and each content that a stop might have left at some moment up to now.
+-- what reads give, and all that a stop might have left at a moment up to now, are whole sectors
 pub record HasWholeSectors (disk : DiskFacts) : Type 0 where
   pub now : (k : ℕ) → k < disk.sectors → IsWhole (sector disk.now k)
   pub left : (u k : ℕ) (c : Sector) → u ≤ disk.time → k < disk.sectors → disk.may_leave u k c → IsWhole c
 
--- Synced: a stop now leaves what reads give, and nothing else. It speaks of whole mixtures, `LeavesNowAlone` of each set by itself; where what reads give is a mixture they are the same.
+-- a stop now leaves what reads give, and nothing else (`LeavesNowAlone` says so sector by sector)
 pub record IsSynced (disk : DiskFacts) : Type 0 where
   pub each : (m : List Sector) → Mixture disk m → m ≡ disk.now
 
@@ -106,18 +106,20 @@ pub record IsRead {T E : Type 0} (old new : DiskFacts) (at : ℕ) (content : Sec
   pub same : IsUnchanged old new
   pub ok : OnOk result (content ≡ sector old.now at)
 
--- A write to an honest disk: reads give the new content, and the set of its sector grows by it. Where it fails, reads may give the old content; the set grows by at most the new one, and any set may lose contents.
+-- A write to an honest disk: reads give the new content, and the set of its sector grows by it.
 pub record IsWrite {T E : Type 0} (old new : DiskFacts) (at : ℕ) (content : Sector) (result : Result T E) : Type 0 where
   pub past : KeepsPast old new
   pub ok : OnOk result (new.now ≡ set old.now at content)
+  -- where it fails, reads may give the old content, and any set may lose contents
   pub err : OnErr result (IsOldOrSet old.now at content new.now)
   pub stop : GrowsByAtMost old new at content
   pub stop_ok : OnOk result (GrowsBy old new at content)
 
--- A sync of an honest disk: reads give the same and no set grows, and where it succeeds each set has the latest content alone. Where it fails, any set may lose contents.
+-- A sync of an honest disk: reads give the same; at Ok each set has the latest content alone.
 pub record IsSync {T E : Type 0} (old new : DiskFacts) (result : Result T E) : Type 0 where
   pub past : KeepsPast old new
   pub now : new.now ≡ old.now
+  -- where it fails, any set may lose contents
   pub stop : LeavesNoMore old new
   pub stop_ok : OnOk result (LeavesNowAlone new)
 
@@ -161,7 +163,7 @@ IsMixtureBut places disk m = (m' : List Sector) × Mixture disk m' × SameBut pl
 abbrev pub IsMixtureOrSet : DiskFacts → ℕ → Sector → List Sector → Type 0
 IsMixtureOrSet disk at content m = Mixture disk m ⊎ ((m' : List Sector) × Mixture disk m' × (m ≡ set m' at content))
 
--- The same disk by another clock, at this moment: reads give the same, and a stop now may leave the same. Nothing is said of moments before it.
+-- the same disk by another clock, at this moment; nothing is said of moments before it
 pub record IsSameDisk (old new : DiskFacts) : Type 0 where
   pub honest : new.honest ≡ old.honest
   pub sectors : new.sectors ≡ old.sectors

@@ -9,7 +9,7 @@ use Rattle.sector_disk.specs.declared.fuse.Turn.{Turn}
 use Rattle.sector_disk.specs.declared.fuse.Turn.TheVariants.{Pass, Early, Late}
 use Rattle.sector_disk.specs.Disk.{Sector, DiskFacts, IsCall, IsRead, IsWrite, IsSync}
 
--- What becomes of call number n, counted from 1: the planned one fails, early or late; with `forever` all later ones fail early; others pass.
+-- call n: the planned one fails early or late; with `forever` later ones fail early; others pass
 abbrev pub turn : Plan → ℕ → Turn
 turn plan n =
     if n == plan.call
@@ -20,7 +20,7 @@ turn plan n =
 abbrev pub reached : List Step → ℕ
 reached steps = length (filter (λ step. step.reached) steps)
 
--- The moment of the inner disk at moment u of the fuse: its present one, less the calls since u that reached it. Each of those made one moment of it, and the others none.
+-- the inner disk's moment at moment u: its present one, less the calls since u that reached it
 abbrev pub inner_moment : ℕ → List Step → ℕ → ℕ
 inner_moment time past u = time - reached (drop u past)
 
@@ -51,7 +51,7 @@ plan_of fuse = fuse.plan
 abbrev pub next_turn : {D : Type 0} → Fuse D → Turn
 next_turn fuse = turn fuse.plan (length fuse.past.items + 1)
 
--- The inner disk was asked to read, once, and gave this reply: its facts before and after are those of one read, and this is the content that the caller's buffer has then. What that disk says of its reads beyond `Disk` isn't passed on.
+-- the inner disk was asked to read, once, and gave this reply and this content
 abbrev pub WasRead : {D : Type 0} → (D → DiskFacts) → Fuse D → Fuse D → ℕ → Sector → Result (Unit {0}) DiskFault → Type 0
 WasRead facts old new at content reply =
     IsCall (facts old.inner) (facts new.inner) reply
@@ -69,7 +69,7 @@ WasSynced facts old new reply =
     IsCall (facts old.inner) (facts new.inner) reply
     × (IsTrue (facts old.inner).honest → IsSync (facts old.inner) (facts new.inner) reply)
 
--- What a call does by its turn. It passes: the inner disk was asked, and its reply is the call's. It fails early: the inner disk stays as it is. It fails late: the inner disk was asked, and its reply, whatever it was, isn't told. At an early failure of a read nothing is said of the buffer.
+-- a call passes, or fails early, before it reaches the inner disk, or late, after it was made there
 abbrev pub TakesTurn : {D : Type 0} → Turn → Fuse D → Fuse D → (Result (Unit {0}) DiskFault → Type 0) → Result (Unit {0}) DiskFault → Type 0
 TakesTurn Pass old new WasAsked result = WasAsked result
 TakesTurn Early old new WasAsked result = (new.inner ≡ old.inner) × (result ≡ Err Failed)

@@ -16,7 +16,7 @@ answers_of liar = liar.answers.items
 abbrev pub reads_of : Liar → ℕ
 reads_of liar = length liar.reads.items
 
--- what its read number k gives, counted from 0: answer k modulo their number, and zeros where there is none
+-- what read number k gives, from 0: answer k modulo their number, or zeros where there is none
 abbrev pub answer : List Sector → ℕ → Sector
 answer answers k = slice_index_or answers (k % length answers) (replicate sector_bytes 0)
 

@@ -9,7 +9,7 @@ use Rattle.sector_disk.specs.Written.{choices}
 abbrev pub memory_facts : Memory → DiskFacts
 memory_facts m = facts_of m.start.items m.writes.items m.synced m.past.items
 
--- The choices that a stop has for sector k, in the order in which it counts them: the synced content, and then each content written since, the oldest first.
+-- a stop's choices for sector k, in their order: the synced content, then each written since
 abbrev pub memory_choices : Memory → ℕ → List Sector
 memory_choices m k = choices m.start.items m.writes.items m.synced k
 

@@ -9,7 +9,7 @@ use Rattle.sector_disk.specs.Written.{contents, choices}
 abbrev pub moment_at : List Written → ℕ → List Moment → ℕ → Moment
 moment_at writes synced past u = slice_index_or past u (record { writes = length writes; synced = synced; failed = false })
 
--- A disk that began with these contents, after these writes, of which the first `synced` are synced, and after these moments.
+-- a disk with these contents at first, after these writes, of which the first `synced` are synced
 abbrev pub facts_of : List Sector → List Written → ℕ → List Moment → DiskFacts
 facts_of start writes synced past = record {
   honest = true;

@@ -12,6 +12,6 @@ contents start (write ∷ writes) = contents (set start write.at write.content) 
 abbrev pub written_to : ℕ → List Written → List Sector
 written_to k writes = map (λ write. write.content) (filter (λ write. write.at == k) writes)
 
--- The choices that a stop has for sector k after these writes, of which the first `synced` are synced: the synced content, and then each content written since.
+-- a stop's choices for sector k: the content after the `synced` writes, then each written since
 abbrev pub choices : List Sector → List Written → ℕ → ℕ → List Sector
 choices start writes synced k = sector (contents start (take synced writes)) k ∷ written_to k (drop synced writes)

@@ -8,7 +8,7 @@ use Rattle.store.specs.State.{State}
 use Rattle.extents.specs.Used.{layout_of}
 use Rattle.store.specs.Stands.{StandsBy, used}
 
--- what a store keeps: its disk, the current root, the entries that it lists, and whether a write or a sync failed
+-- what a store keeps: its disk, the current root, its entries, and whether a write or a sync failed
 pub record Opened (D : Type 0) : Type 0 where
   pub disk : D
   pub root : Root

@@ -8,12 +8,12 @@ use Rattle.roots.specs.Root.{listed_sectors}
 use Rattle.roots.specs.Entry.{name_of, extents_of}
 use Rattle.store.specs.Opened.{Opened, layout_in_use}
 
--- Of this layout so many sectors for bytes are taken first, as `take` gives them, and then one for the entry, as `take_one` gives it: the lowest that is free then.
+-- sectors of this layout are taken: the extents by `take`, then the entry's, the lowest free one
 pub record IsTaken (layout : List Bool) (need : ℕ) (extents : List Extent) (at : ℕ) : Type 0 where
   pub bytes : extents ≡ taken need layout
   pub entry : IsLowestFree (with_flags true extents layout) at
 
--- One more entry stands behind the others. Its bytes and the entry itself are in sectors that were taken of those that weren't in use.
+-- there is one more entry, the last; it and its bytes are in sectors that weren't in use
 pub record IsPutBehind {D : Type 0} (old new : Opened D) (need : ℕ) : Type 0 where
   pub entry : Entry
   -- its sector
@@ -22,7 +22,7 @@ pub record IsPutBehind {D : Type 0} (old new : Opened D) (need : ℕ) : Type 0 w
   pub entries : new.entries ≡ old.entries ++ entry ∷ []
   pub listed : listed_sectors new.root ≡ listed_sectors old.root ++ at ∷ []
 
--- Another entry stands in the place of the one of this name, and its sector in the place of that one's. They are taken beside the old sectors, which are still in use.
+-- another entry replaces the one of this name; its sectors are none of those that were in use
 pub record IsPutOver {D : Type 0} (old new : Opened D) (name : List ℕ) (need : ℕ) : Type 0 where
   pub position : ℕ
   pub inside : position < length old.entries

@@ -62,7 +62,7 @@ abbrev pub blobs_without : List ℕ → List Blob → List Blob
 blobs_without name [] = []
 blobs_without name (blob ∷ blobs) = if bytes_eq name blob.name then blobs else blob ∷ blobs_without name blobs
 
--- the state without the byte string of this name: those behind it close up, and the preloads keep their names
+-- the state without the byte string of this name: the others close up, the preloads stay
 abbrev pub without : List ℕ → State → State
 without name s = record {
   generation = s.generation + 1;
@@ -82,11 +82,11 @@ with_preloads names s = record {
 abbrev pub last_generation : ℕ
 last_generation = 2 ^ 64 - 1
 
--- how many sectors the longest free runs of the disk have, as many runs as a byte string may have extents
+-- how many sectors the 32 longest free runs have: as many runs as a byte string may have extents
 abbrev pub longest_free : {D : Type 0} → Opened D → ℕ
 longest_free store = sector_count (longest_runs (layout_in_use store))
 
--- The first reason to refuse bytes that are put in place of others, or none: on a disk of so many sectors, whose longest free runs have so many.
+-- the first reason to refuse bytes in place of others, by the size of the disk and its longest runs
 abbrev pub refusal_of_put : (sectors longest : ℕ) → State → List ℕ → Option StoreRefusal
 refusal_of_put sectors longest s bytes =
     if s.generation == last_generation then Some GenerationEnd
@@ -100,7 +100,7 @@ refusal_of_new sectors longest s bytes =
     if nat_lt (length s.blobs) most_libraries then refusal_of_put sectors longest s bytes
     else Some TooMany
 
--- How a put is answered whose first refusal this is: so, but that want of memory may stand in place of Full, Fragmented and Ok, and a failing device in place of Ok.
+-- the answers to a put with this first refusal; S11 may replace Full, Fragmented and Ok, S1 Ok
 abbrev pub IsAnswer : Option StoreRefusal → Result (Unit {0}) StoreRefusal → Type 0
 IsAnswer None (Ok done) = Unit
 IsAnswer None (Err refusal) = (refusal ≡ Device) ⊎ (refusal ≡ OutOfMemory)
@@ -113,7 +113,7 @@ IsAnswer (Some first) (Err refusal) = refusal ≡ first
 abbrev pub refusal_of_change : State → Option StoreRefusal
 refusal_of_change s = if s.generation == last_generation then Some GenerationEnd else None
 
--- How a change that takes no memory is answered whose first refusal this is: so, but that a failing device may stand in place of Ok.
+-- the answers to a change that takes no memory and has this first refusal; S1 may replace Ok
 abbrev pub IsExactAnswer : Option StoreRefusal → Result (Unit {0}) StoreRefusal → Type 0
 IsExactAnswer None (Ok done) = Unit
 IsExactAnswer None (Err refusal) = refusal ≡ Device
@@ -127,13 +127,13 @@ IsRefusalOfChange Reopen = Unit
 IsRefusalOfChange GenerationEnd = Unit
 IsRefusalOfChange other = ⊥
 
--- The refusals of a put in place of other bytes on any disk: these, and those of a change that takes no sector.
+-- The refusals of a put in place of other bytes, on any disk: one more kind than those above.
 abbrev pub IsRefusalOfPutOver : StoreRefusal → Type 0
 IsRefusalOfPutOver Full = Unit
 IsRefusalOfPutOver Fragmented = Unit
 IsRefusalOfPutOver other = IsRefusalOfChange other
 
--- The refusals of a put with a new name on any disk: these, and those of a put in place of other bytes.
+-- The refusals of a put with a new name, on any disk.
 abbrev pub IsRefusalOfPutNew : StoreRefusal → Type 0
 IsRefusalOfPutNew TooMany = Unit
 IsRefusalOfPutNew OutOfMemory = Unit

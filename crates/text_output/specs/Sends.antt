@@ -7,7 +7,7 @@ pub record Buffered : Type 0 where
   pub waiting : List ℕ
   pub failed : Bool
 
--- what the writer holds, where that is known, and behind it what waits in the buffer, grow by a text
+-- what the writer holds, if known, and then what waits in the buffer, grow by a text
 abbrev pub Sends : Option (List ℕ) → Buffered → Option (List ℕ) → Buffered → List ℕ → Type 0
 Sends held before holds after text =
     Appends (append_known held before.waiting) (append_known holds after.waiting) text

@@ -18,8 +18,7 @@ pub record InBlock (index : LoadIndex) (j : ℕ) : Type 0 where
   pub from : slice_index index.first block ≤ j
   pub to : j < slice_index index.first block + BLOCK
 
--- The index of the first n program headers. Each block begins with a PT_LOAD, each PT_LOAD is in a block, and blocks don't
--- overlap.
+-- the index of n program headers: its blocks begin with a PT_LOAD, hold all, and don't overlap
 pub record Indexes (file : List ℕ) (n : ℕ) (index : LoadIndex) : Type 0 where
   pub first_size : length index.first ≡ BLOCKS
   pub before_size : length index.before ≡ BLOCKS

@@ -41,7 +41,7 @@ abbrev pub patched_at : ImageSegment → ℕ → ℕ → ImageSegment
 patched_at s place value =
     record { address = s.address; permissions = s.permissions; bytes = with_value s.bytes (place - s.address) value }
 
--- the byte at an address after eight bytes of a value were written from a place on, over what was there
+-- the byte at an address after eight bytes of a value were written from a place on
 abbrev pub over : ℕ → ℕ → Option ℕ → ℕ → Option ℕ
 over place value old address = if within place 8 address then Some (byte_at (address - place) value) else old
 
@@ -59,7 +59,7 @@ pub record IsWhole (objects : List ImageObject) (segments : List ImageSegment) :
   pub rising : Rising 0 (map heading segments)
   pub counted : sum_by (λ o. o.segment_count) objects ≡ length segments
 
--- each object stands at or above the end of the one before it, the first at or above `from`, and all end below the limit
+-- each object begins at or above the end of the one before or `from`, and none ends too high
 abbrev pub Stacked : ℕ → List Placed → Type 0
 Stacked from [] = Unit {0}
 Stacked from (p ∷ rest) = (from ≤ p.base) × (end_of p ≤ MEMORY_LIMIT) × Stacked (end_of p) rest

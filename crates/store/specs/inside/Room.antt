@@ -25,7 +25,7 @@ pub record IsRoom (need : ℕ) (old new : List Bool) (extents : List Extent) (en
   pub claim : IsClaim mid new (one_sector entry)
   pub new_is : new ≡ with_flag true (one_sector entry) mid
 
--- Sectors that stand for s, and hold these bytes and this entry in sectors that s doesn't use, stand for s' once the root is written.
+-- sectors that stand for s, with bytes and entry beside what s uses, stand for s' with the new root
 pub record IsPut (root : Root) (entries : List Entry) (s : State) (extents : List Extent) (at : ℕ) (bytes : List ℕ) (entry : Entry) (next : Root) (others : List Entry) (s' : State) : Type 0 where
   pub unused : (k : ℕ) → Contains (at ∷ places extents) k → Contains (used root entries) k → ⊥
   pub stands : (m : List Sector) → StandsBy m root entries s
