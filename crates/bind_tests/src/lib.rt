@@ -1,6 +1,5 @@
 //! Tests of the crates that bind programs and keep libraries, through their public calls: what no
-//! clause and no case of the program `cases` says. They stand apart, since a crate that has tests
-//! is proved once more with them.
+//! clause and no case of the program `cases` says.
 #![tactic(auto)]
 
 #[cfg(test)]

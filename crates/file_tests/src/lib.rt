@@ -1,5 +1,5 @@
 //! Tests of the crates that read files and spell texts, through their public calls: what no clause
-//! says. They stand apart, since a crate that has tests is proved once more with them.
+//! says.
 #![tactic(auto)]
 
 #[cfg(test)]

@@ -1,5 +1,4 @@
-//! Tests of `store` through its public calls: what no clause says. They stand apart, since a crate
-//! that has tests is proved once more with them.
+//! Tests of `store` through its public calls: what no clause says.
 #![tactic(auto)]
 
 #[cfg(test)]
