@@ -33,7 +33,7 @@ ET_DYN = 3
 abbrev pub EM_X86_64 : ℕ
 EM_X86_64 = 62
 
--- e_phnum where the number of program headers stands elsewhere
+-- e_phnum where the number of program headers is told elsewhere
 abbrev pub PN_XNUM : ℕ
 PN_XNUM = 0xffff
 

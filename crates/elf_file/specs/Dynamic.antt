@@ -52,7 +52,7 @@ is_null e = e.tag == DT_NULL
 abbrev pub has_tag : ℕ → Entry → Bool
 has_tag tag e = e.tag == tag
 
--- a DT_NULL stands among the whole entries of a section
+-- a DT_NULL is among the whole entries of a section
 unfoldable pub is_ended : List ℕ → Bool
 is_ended section = list_any is_null (whole_entries section)
 

@@ -3,7 +3,7 @@ use Rattle.std.specs.Prelude.{ℕ, ◌+◌, ◌*◌, List, length, slice_index, 
 use Rattle.elf_file.specs.Number.{number_at}
 use Rattle.elf_file.specs.Constant.{ELF_MAGIC, ELFCLASS64, ELFDATA2LSB, EV_CURRENT, ELFOSABI_SYSV, ELFOSABI_GNU, ET_DYN, EM_X86_64, PN_XNUM, FILE_HEADER_SIZE, PROGRAM_HEADER_SIZE}
 
--- e_phoff: where the program headers stand, in bytes from the file's start
+-- e_phoff: where the program headers begin, in bytes from the file's start
 abbrev pub headers_offset : List ℕ → ℕ
 headers_offset file = number_at 8 file 32
 

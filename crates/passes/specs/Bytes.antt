@@ -1,4 +1,4 @@
--- The bytes that stand in sectors, and those that are written there.
+-- The bytes in sectors, and those that are written there.
 use Rattle.std.specs.Prelude.{ℕ, ◌+◌, ◌≤◌, List, ◌++◌, take, replicate}
 use Rattle.std.specs.List.{flat_map}
 use Rattle.extents.specs.declared.extent.Extent.{Extent}
