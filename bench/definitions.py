@@ -21,25 +21,26 @@ READING_BEGINS, READING_ENDS, ALL = '<!-- reading -->', '<!-- end of reading -->
 WIDEST = 160
 READING = [
     ('1. A disk, and what a stop leaves of it',
-     'The sectors of a disk, what each call does to them, and what is found after a stop.', [
+     'The sectors of a disk, what each call does to them, and what is found after a stop (own).', [
          'sector_disk/Disk: Sector DiskFacts MixtureAt Mixture IsCall IsRead IsWrite IsSync LeftSince LeavesOnly']),
     ('2. States, and the sectors that stand for them',
-     'What a registry holds, and which lists of sectors hold just that.', [
+     'What a registry holds, and which lists of sectors hold just that (own).', [
          'registry/Library: Library IsLibrary', 'registry/State: State', 'roots/Choice: IsCurrent',
          'store/Stands: IsIntact state_of Stands', 'disk_registry/Stands: Stands',
          'store/Opened: Opened IsAt', 'disk_registry/Opened: IsAt']),
     ('3. The step table',
-     'What a command may be answered in a state, and the state that this leaves.', [
+     'What a command may be answered in a state, and the state that this leaves (own).', [
          'registry/Request: Request', 'registry/Phase: Phase', 'registry/Tests: tests_of',
          'registry/Step: refusal_at accepted IsReply Breaks LacksRead Step']),
     ('4. Commands over a disk: one, many, a script, rounds',
-     'What a stop leaves at each moment of them, and what is found at the end.', [
+     'What a stop leaves at each moment of them, and what is found at the end (own).', [
          'disk_registry/Applied: InFlight MayLeave Applied',
          'disk_registry/Acknowledged: acknowledged AreAccepted state_after',
          'disk_registry/Ran: Goes HasBegun HoldsAcknowledged LeavesAccepted FindsAccepted Ran',
          'commands/DiskScript: LinesRan', 'disk_registry/Rounds: AlwaysStands RoundLeads']),
     ('5. Binds',
-     'Which objects a program is bound with, where they are placed, and the byte at each address.', [
+     'Which objects a program is bound with, where they are placed, and the byte at each address (gABI chapters 4 and 5, '
+     'psABI, ld.so(8); the sections are in the second part).', [
          'scope/Levels: next_level', 'scope/LoadOrder: load_order missing', 'hash_check/Export: is_exported',
          'hash_check/Definition: definition_of', 'scope/Lookup: lookup', 'scope/Target: target',
          'image/Placement: place', 'image/Relocating: value_of', 'image/Byte: byte_of', 'image/Image: image_of',
