@@ -3,7 +3,7 @@
 
     python3 bench/definitions.py
 
-The first part is READING: the definitions that the headline's clauses cite, in the order of a reading. The second part
+The first part is READING: the main definitions that the headline's clauses rest on, in the order of a reading. The second part
 has all definitions, crate by crate. What is written by hand stays: the text before `<!-- reading -->`, between
 `<!-- end of reading -->` and `<!-- all -->`. Where a definition of READING isn't there any more, nothing is written.
 
