@@ -1,5 +1,5 @@
 -- The sectors that were written and wait to be given to the file.
-use Rattle.std.specs.Prelude.{◌-◌, ◌==◌, ◌||◌, ◌&&◌, ℕ, Bool, nat_le, nat_lt, List, Option, None, Some, if◌then◌else◌, take}
+use Rattle.std.specs.Prelude.{◌-◌, ◌==◌, ◌||◌, ◌&&◌, ℕ, Bool, nat_le, nat_lt, List, Option, None, Some, if◌then◌else◌, length, take}
 use Rattle.sector_disk.specs.Disk.{Sector, sector}
 use Rattle.file_disk.specs.declared.gathered.Gathered.{Gathered}
 
@@ -14,8 +14,8 @@ gathered_at gathered k =
     then Some (sector gathered.contents.items (k - gathered.start))
     else None
 
--- Sector `at` can wait with them: none do, or it is one of them, or the next one of at most 2,048.
+-- Sector `at` can wait with them: none do, or it is one of them, or the next one and there is room.
 abbrev pub has_room : Gathered → ℕ → Bool
 has_room gathered at =
     gathered.count == 0
-    || nat_le gathered.start at && nat_le (at - gathered.start) gathered.count && nat_lt (at - gathered.start) 2048
+    || nat_le gathered.start at && nat_le (at - gathered.start) gathered.count && nat_lt (at - gathered.start) (length gathered.contents.items)

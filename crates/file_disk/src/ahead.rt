@@ -1,5 +1,5 @@
 // Sectors in a row that were read from the file, some of them ahead of being asked for.
-ghost use Rattle.std.specs.Prelude.{◌≡◌, ◌≤◌, vec_len};
+ghost use Rattle.std.specs.Prelude.{◌≡◌, ◌≤◌, ◌<◌, ◌*◌, vec_len};
 
 use crate::transfer::read_at;
 use sector_disk::{DiskFault, SECTOR_BYTES};
@@ -7,7 +7,7 @@ use std::alloc::{AllocError, Global};
 use std::io::{Read, Seek};
 
 /// How many sectors are read at once at most: 1 MiB.
-const ROOM: usize = 2048;
+const MOST: usize = 2048;
 
 /// How many are read at once where the sector isn't the next one: 4 KiB.
 const FIRST: usize = 8;
@@ -17,12 +17,16 @@ const FIRST: usize = 8;
 pub(crate) struct Ahead {
     start: u32,
     count: usize,
-    // How many sectors the last read asked for.
+    // How many sectors there is room for.
+    room: usize,
+    // How many the last read asked for.
     asked: usize,
     bytes: Vec<u8>,
-    ghost room: { vec_len bytes ≡ 1048576 },
-    ghost filled: { count ≤ 2048 },
-    ghost asks: { asked ≤ 2048 },
+    ghost some: { 0 < room },
+    ghost most: { room ≤ 2048 },
+    ghost size: { vec_len bytes ≡ room * 512 },
+    ghost filled: { count ≤ room },
+    ghost asks: { asked ≤ room },
 }
 
 impl Ahead {
@@ -32,15 +36,17 @@ impl Ahead {
     ghost use Rattle.file_disk.specs.Ahead.{ahead_at, sector_among, IsForgotten, IsKeptOf};
     ghost use Rattle.file_disk.specs.Transfer.{IsReadAt};
 
-    /// None are there. Takes the memory for all that may be.
-    pub(crate) fn new(alloc: Global) -> Result<Ahead, AllocError>
+    /// None are there. Takes the memory for all that may be, of a disk of so many sectors.
+    pub(crate) fn new(alloc: Global, sectors: u32) -> Result<Ahead, AllocError>
         ensures { IfOk result (λ ahead. (k : ℕ) → ahead_at ahead k ≡ None) }
     {
+        let room = (sectors as usize).clamp(1, MOST);
         Ok(Ahead {
             start: 0,
             count: 0,
-            asked: FIRST,
-            bytes: vec![in alloc; 0; ROOM * SECTOR_BYTES]?,
+            room,
+            asked: 0,
+            bytes: vec![in alloc; 0; room * SECTOR_BYTES]?,
         })
     }
 
@@ -74,17 +80,15 @@ impl Ahead {
     // How many sectors to ask for: twice as many as before where the sector is the next one.
     fn ask(&mut self, at: u32)
         ensures some { 0 < self.new.asked }
-        ensures most { self.new.asked ≤ 2048 }
+        ensures most { self.new.asked ≤ self.new.room }
+        ensures room { self.new.room ≡ self.old.room }
         ensures start { self.new.start ≡ self.old.start }
         ensures bytes { self.new.bytes ≡ self.old.bytes }
         ensures count { self.new.count ≡ 0 }
     {
         let is_next = self.count > 0 && at as usize == self.start as usize + self.count;
-        self.asked = if is_next {
-            (2 * self.asked).clamp(FIRST, ROOM)
-        } else {
-            FIRST
-        };
+        let asked = if is_next { 2 * self.asked } else { 0 };
+        self.asked = asked.max(FIRST).min(self.room);
         self.count = 0;
     }
 

@@ -33,7 +33,7 @@ impl<F: Drop> FileDisk<F> {
     ghost use Rattle.file_disk.specs.FileDisk.{file_facts, file_of, IsNew};
 
     /// A disk of so many sectors over an open file, which has them. Takes all the memory that the
-    /// disk ever has: 2 MiB.
+    /// disk ever has: twice what the file has, but at most 2 MiB.
     pub(crate) fn new(alloc: Global, file: F, sectors: u32) -> Result<FileDisk<F>, AllocError>
         ensures sectors { IfOk result (λ disk. (file_facts disk).sectors ≡ sectors) }
         ensures new { IfOk result (λ disk. IsNew disk) }
@@ -42,8 +42,8 @@ impl<F: Drop> FileDisk<F> {
         Ok(FileDisk {
             file,
             sectors,
-            gathered: Gathered::new(alloc)?,
-            ahead: Ahead::new(alloc)?,
+            gathered: Gathered::new(alloc, sectors)?,
+            ahead: Ahead::new(alloc, sectors)?,
             failed: false,
             calls: CallCount::new(),
         })

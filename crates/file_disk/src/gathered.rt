@@ -1,11 +1,11 @@
 // Neighbouring sectors that were written, and wait to be given to the file at once.
-ghost use Rattle.std.specs.Prelude.{◌≡◌, ◌≤◌, vec_len};
+ghost use Rattle.std.specs.Prelude.{◌≡◌, ◌≤◌, ◌<◌, vec_len};
 
 use sector_disk::SECTOR_BYTES;
 use std::alloc::{AllocError, Global};
 
 /// How many sectors wait at most: 1 MiB.
-const ROOM: usize = 2048;
+const MOST: usize = 2048;
 
 /// Sectors in a row, each with the content that was written to it last.
 #[derive(Drop)]
@@ -13,8 +13,8 @@ pub(crate) struct Gathered {
     start: u32,
     count: usize,
     contents: Vec<[u8; SECTOR_BYTES]>,
-    ghost room: { vec_len contents ≡ 2048 },
-    ghost filled: { count ≤ 2048 },
+    ghost some: { 0 < vec_len contents },
+    ghost filled: { count ≤ vec_len contents },
 }
 
 impl Gathered {
@@ -22,14 +22,15 @@ impl Gathered {
     ghost use Rattle.std.specs.List.{flat_map};
     ghost use Rattle.file_disk.specs.Gathered.{gathered_sectors, gathered_at, has_room};
 
-    /// None wait. Takes the memory for all that may.
-    pub(crate) fn new(alloc: Global) -> Result<Gathered, AllocError>
+    /// None wait. Takes the memory for all that may, on a disk of so many sectors.
+    pub(crate) fn new(alloc: Global, sectors: u32) -> Result<Gathered, AllocError>
         ensures { IfOk result (λ gathered. (k : ℕ) → gathered_at gathered k ≡ None) }
     {
+        let room = (sectors as usize).clamp(1, MOST);
         Ok(Gathered {
             start: 0,
             count: 0,
-            contents: vec![in alloc; [0; SECTOR_BYTES]; ROOM]?,
+            contents: vec![in alloc; [0; SECTOR_BYTES]; room]?,
         })
     }
 
@@ -76,7 +77,7 @@ impl Gathered {
             return false;
         }
         let place = (at - self.start) as usize;
-        place <= self.count && place < ROOM
+        place <= self.count && place < self.contents.len()
     }
 
     /// The sector waits with this content.

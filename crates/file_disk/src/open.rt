@@ -76,11 +76,11 @@ fn open_file<R: Files>(rt: &R, path: &str) -> io::Result<R::File> {
     }
 }
 
-/// Whether a regular file has this name.
-fn is_regular<R: Files>(rt: &R, path: &str) -> bool {
+/// Refuses what is no regular file, before it is opened: to open a pipe waits for its other end.
+fn refuse_others<R: Files>(rt: &R, path: &str) -> Result<(), OpenFault> {
     match fs::metadata(rt, path) {
-        Ok(found) => found.is_file(),
-        Err(_) => false,
+        Ok(found) if found.is_file() => Ok(()),
+        _ => Err(OpenFault::CannotOpen),
     }
 }
 
@@ -151,13 +151,9 @@ impl<F: Read + Write + Seek + OpenFile + Drop> FileDisk<F> {
     ) -> Result<FileDisk<F>, OpenFault>
         ensures { IfOk result (λ disk. IsNew disk) }
     {
-        if !is_regular(rt, path) {
-            return Err(OpenFault::CannotOpen);
-        }
-        match open_file(rt, path) {
-            Ok(file) => FileDisk::over(alloc, file),
-            Err(_) => Err(OpenFault::CannotOpen),
-        }
+        refuse_others(rt, path)?;
+        let file = open_file(rt, path).map_err(|_| OpenFault::CannotOpen)?;
+        FileDisk::over(alloc, file)
     }
 
     /// Opens the disk that a file is for reading alone, so that nothing that this process does can
@@ -170,13 +166,9 @@ impl<F: Read + Write + Seek + OpenFile + Drop> FileDisk<F> {
     ) -> Result<FileDisk<F>, OpenFault>
         ensures { IfOk result (λ disk. IsNew disk) }
     {
-        if !is_regular(rt, path) {
-            return Err(OpenFault::CannotOpen);
-        }
-        match reading().open(rt, path) {
-            Ok(file) => FileDisk::over(alloc, file),
-            Err(_) => Err(OpenFault::CannotOpen),
-        }
+        refuse_others(rt, path)?;
+        let file = reading().open(rt, path).map_err(|_| OpenFault::CannotOpen)?;
+        FileDisk::over(alloc, file)
     }
 
     /// Opens the disk of so many sectors that a file is, and makes one of zeros where no such file
