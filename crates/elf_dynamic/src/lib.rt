@@ -9,6 +9,7 @@
 mod hash_table;
 mod names;
 mod object;
+mod object_file;
 mod parts;
 mod place;
 mod relocation;
@@ -20,6 +21,7 @@ mod tables;
 
 pub use elf_file::{LoadSegments, ObjectRefusal, ProgramHeader};
 pub use object::Object;
+pub use object_file::ObjectFile;
 pub use relocation::{
     R_X86_64_64, R_X86_64_GLOB_DAT, R_X86_64_JUMP_SLOT, R_X86_64_NONE, R_X86_64_RELATIVE,
     Relocation,

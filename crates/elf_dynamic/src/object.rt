@@ -9,6 +9,7 @@ ghost use Rattle.elf_dynamic.specs.Strings.{string_table, needed, soname, name_o
 ghost use Rattle.elf_dynamic.specs.Symbol.{symbols};
 ghost use Rattle.elf_dynamic.specs.Refusal.{first_refusal};
 
+use crate::parts::Parts;
 use crate::relocation::Relocation;
 use crate::strings::NeededNames;
 use crate::symbol::Symbol;
@@ -48,6 +49,24 @@ impl<'a> Object<'a> {
         tables.test_symbols()?;
         tables.test_relocations()?;
         Ok(Object { tables })
+    }
+
+    /// The object that a file is which no test refuses: none of them is made again. A few passes
+    /// over the program headers, and one over the dynamic section.
+    #[tactic(auto, using(crate::proofs::Accepted::accepted_parts))]
+    pub(crate) fn of_accepted(file: &'a [u8]) -> Object<'a>
+        requires { first_refusal file.now ≡ None }
+        ensures { result ≡ file.now }
+    {
+        let Ok(dynamic) = Dynamic::read(file) else {
+            unreachable!()
+        };
+        let Some(parts) = Parts::find(&dynamic) else {
+            unreachable!()
+        };
+        Object {
+            tables: Tables::new(dynamic, parts),
+        }
     }
 
     /// How many PT_LOADs there are.

@@ -31,6 +31,14 @@ impl<'a> Model for Tables<'a> {
 }
 
 impl<'a> Tables<'a> {
+    /// The tables of a file, which were found.
+    pub(crate) fn new(dynamic: Dynamic<'a>, parts: Parts<'a>) -> Tables<'a>
+        requires { HasParts dynamic parts }
+        ensures { result ≡ dynamic.entry }
+    {
+        Tables { dynamic, parts }
+    }
+
     /// Finds the tables, and tests the strings.
     #[tactic(auto, unfolding(crate::specs::Refusal::table_refusal))]
     pub(crate) fn read(dynamic: Dynamic<'a>) -> Result<Tables<'a>, ObjectRefusal>
@@ -41,7 +49,7 @@ impl<'a> Tables<'a> {
         let Some(parts) = Parts::find(&dynamic) else {
             return Err(ObjectRefusal::BadRange);
         };
-        let tables = Tables { dynamic, parts };
+        let tables = Tables::new(dynamic, parts);
         if tables.has_bad_string() {
             return Err(ObjectRefusal::BadString);
         }

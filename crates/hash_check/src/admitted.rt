@@ -65,6 +65,14 @@ impl<'a> Admitted<'a> {
         Ok(Admitted { object })
     }
 
+    /// The admitted object that an object is which no test of admission refuses.
+    pub(crate) fn of_admitted(object: Object<'a>) -> Admitted<'a>
+        requires { admission_refusal object ≡ None }
+        ensures { result ≡ object.entry }
+    {
+        Admitted { object }
+    }
+
     /// The object.
     #[tactic(auto, using(crate::proofs::Deciding::admitted_unique))]
     pub fn object(&self) -> &Object<'a>

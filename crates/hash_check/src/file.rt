@@ -1,6 +1,7 @@
 // A file read as an admitted object.
 
 ghost use Rattle.std.specs.Prelude.{◌≡◌, None, IfOk, IfErr, OnOk};
+ghost use Rattle.hash_check.specs.Admission.{admission_refusal};
 ghost use Rattle.hash_check.specs.FileRefusal.{first_file_refusal, IsReadRefusal};
 
 use crate::admitted::Admitted;
@@ -20,7 +21,17 @@ impl<'a> Admitted<'a> {
         // Want of memory is answered only where admission takes memory.
         ensures refused { IfErr result (IsReadRefusal file.now) }
     {
-        let object = Object::read(file)?;
+        Admitted::of_object(alloc, Object::read(file)?)
+    }
+
+    /// Admits an object, with the refusals of reading a file.
+    #[tactic(auto, using(crate::proofs::Reading::first_refusals))]
+    pub(crate) fn of_object(alloc: Global, object: Object<'a>) -> Result<Admitted<'a>, ReadRefusal>
+        ensures ok { OnOk result (first_file_refusal object.entry ≡ None) }
+        ensures admitted { OnOk result (admission_refusal object.entry ≡ None) }
+        ensures same { IfOk result (λ admitted. admitted ≡ object.entry) }
+        ensures refused { IfErr result (IsReadRefusal object.entry) }
+    {
         match Admitted::admit(alloc, object) {
             Ok(admitted) => Ok(admitted),
             Err(AdmitRefusal::DuplicateDefinition) => {

@@ -7,6 +7,7 @@
 #![tactic(auto)]
 
 mod admitted;
+mod admitted_file;
 mod buckets;
 mod chains;
 mod duplicates;
@@ -25,6 +26,7 @@ mod table;
 mod walk;
 
 pub use admitted::Admitted;
+pub use admitted_file::AdmittedFile;
 pub use file_refusal::{FileRefusal, ReadRefusal};
 pub use hash::elf_hash;
 pub use refusal::AdmitRefusal;
