@@ -1,5 +1,5 @@
 // The files that a store holds, admitted one after the other.
-ghost use Rattle.std.specs.Prelude.{◌≡◌, ◌⊎◌, ◌<◌, map, sum_by, All, IfErr, OnOk};
+ghost use Rattle.std.specs.Prelude.{◌≡◌, ◌⊎◌, ◌<◌, map, sum_by, true, false, All, IfOk, IfErr, OnOk};
 ghost use Rattle.std.specs.Prelude.{length, slice_index_or};
 ghost use Rattle.sector_disk.specs.Disk.{AreCallsExactly};
 ghost use Rattle.roots.specs.declared.entry.Entry.{Entry};
@@ -10,28 +10,45 @@ ghost use Rattle.registry.specs.Library.{IsLibrary};
 ghost use Rattle.disk_registry.specs.Stands.{library_of, file_sectors};
 ghost use Rattle.disk_registry.specs.inside.Reading.{IsRead, IsReadRefusal};
 
-use registry::{Refusal, library_name};
+use hash_check::{AdmittedFile, ReadRefusal};
 use sector_disk::Disk;
 use std::alloc::Global;
 use store::{Store, StoreRefusal};
 
-/// Sees that a file is a library of this name.
-pub(crate) fn admit_file(alloc: Global, name: &[u8], file: &[u8]) -> Result<(), StoreRefusal>
-    ensures ok { OnOk result (IsLibrary (record { name = name.now; bytes = file.now })) }
+/// Whether an admitted file is a library of this name.
+fn is_library(file: &AdmittedFile, name: &[u8]) -> bool
+    ensures yes { result ≡ true → IsLibrary (record { name = name.now; bytes = file.now }) }
+    ensures no { result ≡ false → IsLibrary (record { name = name.now; bytes = file.now }) → ⊥ }
+{
+    match file.admitted().library_name() {
+        Ok(soname) => soname == name,
+        Err(_) => false,
+    }
+}
+
+/// Admits a file as a library of this name: S5 where it is none.
+pub(crate) fn admit_file(
+    alloc: Global,
+    name: &[u8],
+    bytes: Vec<u8>,
+) -> Result<AdmittedFile, StoreRefusal>
+    ensures ok { OnOk result (IsLibrary (record { name = name.now; bytes = bytes.items })) }
+    ensures same { IfOk result (λ file. file ≡ bytes.items) }
     ensures damaged { IfErr result (λ e. e ≡ StoreRefusal.Damaged
-        → IsLibrary (record { name = name.now; bytes = file.now }) → ⊥) }
+        → IsLibrary (record { name = name.now; bytes = bytes.items }) → ⊥) }
     ensures refusals { IfErr result (λ e. (e ≡ StoreRefusal.Damaged)
         ⊎ (e ≡ StoreRefusal.OutOfMemory)) }
 {
-    match library_name(alloc, file) {
-        Ok(soname) => {
-            if soname != name {
-                return Err(StoreRefusal::Damaged);
+    match AdmittedFile::read(alloc, bytes) {
+        Ok(file) => {
+            if is_library(&file, name) {
+                Ok(file)
+            } else {
+                Err(StoreRefusal::Damaged)
             }
-            Ok(())
         }
-        Err(Refusal::OutOfMemory) => Err(StoreRefusal::OutOfMemory),
-        Err(_) => Err(StoreRefusal::Damaged),
+        Err(ReadRefusal::File(_)) => Err(StoreRefusal::Damaged),
+        Err(ReadRefusal::OutOfMemory) => Err(StoreRefusal::OutOfMemory),
     }
 }
 
@@ -53,8 +70,9 @@ fn admit_at<D: Disk>(
         (file_sectors (slice_index_or store.old.entries position d))
         (D.facts store.old.disk) (D.facts store.new.disk)) }
 {
-    let file = store.read_blob(alloc, position)?;
-    admit_file(alloc, store.name(position), &file)
+    let bytes = store.read_blob(alloc, position)?;
+    admit_file(alloc, store.name(position), bytes)?;
+    Ok(())
 }
 
 /// Reads each file once, sees that it is a library of its name, and lets it go before the next.

@@ -14,13 +14,13 @@ use image::{BindRefusal, Image, bind_admitted};
 use scope::Library;
 use std::alloc::{AllocError, Global};
 
-/// The libraries that files are, each admitted once more.
+/// The libraries that files are.
 fn libraries_of(alloc: Global, files: &[LibraryFile]) -> Result<Vec<Library<'_>>, AllocError>
     ensures { IfOk result (λ v. v.items ≡ map object_of files.now) }
 {
     let mut libraries = Vec::with_capacity(alloc, files.len())?;
     for file in files {
-        libraries.push(file.library(alloc)?)?;
+        libraries.push(file.library())?;
     }
     Ok(libraries)
 }

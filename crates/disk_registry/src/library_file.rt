@@ -5,19 +5,19 @@ ghost use Rattle.registry.specs.Library.{IsLibrary};
 
 use crate::admit::admit_file;
 use elf_dynamic::Object;
-use hash_check::{Admitted, ReadRefusal};
+use hash_check::AdmittedFile;
 use names::Name;
 use scope::Library;
-use std::alloc::{AllocError, Global};
+use std::alloc::Global;
 use std::marker::Model;
 use store::StoreRefusal;
 
 /// The file of a library that was read from a disk: no test refuses it, and its name is its SONAME.
-/// Contracts see the library.
+/// It was tested once. Contracts see the library.
 #[derive(Drop)]
 pub(crate) struct LibraryFile {
     name: Name,
-    bytes: Vec<u8>,
+    file: AdmittedFile,
 }
 
 impl Model for LibraryFile {
@@ -25,9 +25,9 @@ impl Model for LibraryFile {
 
     ghost Value = { Library };
 
-    ghost view = { λ f. record { name = f.name; bytes = f.bytes.items } };
+    ghost view = { λ f. record { name = f.name; bytes = f.file } };
 
-    ghost invariant = { λ f. IsLibrary (record { name = f.name; bytes = f.bytes.items }) };
+    ghost invariant = { λ f. IsLibrary (record { name = f.name; bytes = f.file }) };
 }
 
 impl LibraryFile {
@@ -44,32 +44,25 @@ impl LibraryFile {
         ensures refusals { IfErr result (λ e. (e ≡ StoreRefusal.Damaged)
             ⊎ (e ≡ StoreRefusal.OutOfMemory)) }
     {
-        admit_file(alloc, name, &bytes)?;
+        let file = admit_file(alloc, name, bytes)?;
         let name = Name::copy_of(alloc, name)?;
-        Ok(LibraryFile { name, bytes })
+        Ok(LibraryFile { name, file })
     }
 
-    /// The object that it is. It costs what `Object::read` costs.
+    /// The object that it is. It costs what `ObjectFile::object` costs.
     pub(crate) fn object(&self) -> Object<'_>
         ensures { result ≡ self.now.bytes }
     {
-        match Object::read(&self.bytes) {
-            Ok(object) => object,
-            Err(_) => unreachable!(),
-        }
+        self.file.object()
     }
 
-    /// The library that it is, admitted once more. It costs what `Admitted::read` costs.
-    pub(crate) fn library(&self, alloc: Global) -> Result<Library<'_>, AllocError>
-        ensures { IfOk result (λ library. library ≡ object_of self.now) }
+    /// The library that it is. It costs what `ObjectFile::object` costs.
+    pub(crate) fn library(&self) -> Library<'_>
+        ensures { result ≡ object_of self.now }
     {
-        match Admitted::read(alloc, &self.bytes) {
-            Ok(object) => Ok(Library {
-                name: self.name.as_bytes(),
-                object,
-            }),
-            Err(ReadRefusal::File(_)) => unreachable!(),
-            Err(ReadRefusal::OutOfMemory) => Err(AllocError),
+        Library {
+            name: self.name.as_bytes(),
+            object: self.file.admitted(),
         }
     }
 }

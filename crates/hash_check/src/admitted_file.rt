@@ -55,8 +55,12 @@ impl AdmittedFile {
     }
 
     /// The admitted object that it is. It costs what `ObjectFile::object` costs.
+    #[tactic(auto, using(crate::proofs::Reading::first_refusals))]
     pub fn admitted(&self) -> Admitted<'_>
         ensures admitted { result ≡ self.now }
+
+        // A file that is held so is refused by no test.
+        ensures accepted { first_file_refusal self.now ≡ None }
     {
         Admitted::of_admitted(self.file.object())
     }

@@ -31,6 +31,12 @@ soname_fine : (file : List ℕ) → library_refusal file ≡ None → has_bad_so
 unfolding library_refusal
 soname_fine file h = when_none (Object BadSoname) (has_bad_soname file) (none_at (library_tests file) 1 h)
 
+-- a library's name is no bad one
+pub badly_named : (file : List ℕ) → library_refusal file ≡ None → has_bad_soname file ≡ true → ⊥
+badly_named file h bad =
+    let fine = soname_fine file h in
+    cc
+
 object_taken : (file : List ℕ) → first_file_refusal file ≡ None → first_refusal file ≡ None
 unfolding first_file_refusal
 object_taken file h = map_none Object (first_refusal file) (none_at (file_tests file) 0 h)
