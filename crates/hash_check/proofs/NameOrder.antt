@@ -1,16 +1,21 @@
 -- The order of names by parts, and what names that rise say of their symbols.
-use Rattle.std.proofs.Common.{◌≡◌, ℕ, ◌<◌, List, ◌∷◌, length, map, arith, refl, ◌∙◌, sym, ap, get_or}
+use Rattle.std.proofs.Common.{◌≡◌, ℕ, ◌<◌, ◌%◌, ◌^◌, List, ◌∷◌, length, map, arith, refl, ◌∙◌, sym, ap, get_or}
 use Rattle.std.specs.Cmp.Lexicographic.{slice_cmp}
 use Rattle.std.specs.Ordering.{nat_cmp, ordering_then, is_lt}
 use Rattle.std.specs.declared.cmp.Ordering.{Ordering}
 use Rattle.std.specs.declared.cmp.Ordering.TheVariants.{Less, Equal, Greater}
 use Rattle.std.specs.List.Sorted.{IsPermutation, IsSortedBy}
 use Rattle.std.proofs.lemmas.List.{length-map, get_or-map}
-use Rattle.hash_check.specs.inside.Names.{name_at, named, key, order, Rises, AllDiffer}
+use Rattle.hash_check.specs.inside.Names.{name_at, named, text, text_order, key, order, Rises, AllDiffer}
+use Rattle.hash_check.specs.inside.Key.{key_of}
 use Rattle.hash_check.specs.declared.names.Name.{Name}
 use Rattle.hash_check.proofs.Ordering.{Differ, differ-from-rises, rises-from-differ}
 
-order-is : (file : List ℕ) (a b : Name) → order file a b ≡ ordering_then (nat_cmp a.length b.length) (slice_cmp nat_cmp (name_at file a.symbol) (name_at file b.symbol))
+text-order-is : (file : List ℕ) (a b : Name) → text_order file a b ≡ ordering_then (nat_cmp a.length b.length) (slice_cmp nat_cmp (name_at file a.symbol) (name_at file b.symbol))
+unfolding text
+text-order-is file a b = refl
+
+order-is : (file : List ℕ) (a b : Name) → order file a b ≡ ordering_then (nat_cmp a.key b.key) (text_order file a b)
 unfolding key
 order-is file a b = refl
 
@@ -24,20 +29,26 @@ then-other Less r e = refl
 then-other Equal r e = absurd (e refl)
 then-other Greater r e = refl
 
-pub order-bytes : (file : List ℕ) (a b : Name) (o r : Ordering) → o ≡ nat_cmp a.length b.length → o ≡ Equal → r ≡ slice_cmp nat_cmp (name_at file a.symbol) (name_at file b.symbol) → r ≡ order file a b
+pub order-bytes : (file : List ℕ) (a b : Name) (o r : Ordering) → o ≡ nat_cmp a.length b.length → o ≡ Equal → r ≡ slice_cmp nat_cmp (name_at file a.symbol) (name_at file b.symbol) → r ≡ text_order file a b
 order-bytes file a b o r lengths equal bytes =
-    bytes ∙ sym (order-is file a b ∙ then-equal (nat_cmp a.length b.length) (slice_cmp nat_cmp (name_at file a.symbol) (name_at file b.symbol)) (sym lengths ∙ equal))
+    bytes ∙ sym (text-order-is file a b ∙ then-equal (nat_cmp a.length b.length) (slice_cmp nat_cmp (name_at file a.symbol) (name_at file b.symbol)) (sym lengths ∙ equal))
 
-pub order-lengths : (file : List ℕ) (a b : Name) (o : Ordering) → o ≡ nat_cmp a.length b.length → (o ≡ Equal → ⊥) → o ≡ order file a b
+pub order-lengths : (file : List ℕ) (a b : Name) (o : Ordering) → o ≡ nat_cmp a.length b.length → (o ≡ Equal → ⊥) → o ≡ text_order file a b
 order-lengths file a b o lengths other =
-    lengths ∙ sym (order-is file a b ∙ then-other (nat_cmp a.length b.length) (slice_cmp nat_cmp (name_at file a.symbol) (name_at file b.symbol)) (λ e. other (lengths ∙ e)))
+    lengths ∙ sym (text-order-is file a b ∙ then-other (nat_cmp a.length b.length) (slice_cmp nat_cmp (name_at file a.symbol) (name_at file b.symbol)) (λ e. other (lengths ∙ e)))
+
+pub order-texts : (file : List ℕ) (a b : Name) (o r : Ordering) → o ≡ nat_cmp a.key b.key → o ≡ Equal → r ≡ text_order file a b → r ≡ order file a b
+order-texts file a b o r keys equal texts = texts ∙ sym (order-is file a b ∙ then-equal (nat_cmp a.key b.key) (text_order file a b) (sym keys ∙ equal))
+
+pub order-keys : (file : List ℕ) (a b : Name) (o : Ordering) → o ≡ nat_cmp a.key b.key → (o ≡ Equal → ⊥) → o ≡ order file a b
+order-keys file a b o keys other = keys ∙ sym (order-is file a b ∙ then-other (nat_cmp a.key b.key) (text_order file a b) (λ e. other (keys ∙ e)))
 
 key-same : (file : List ℕ) (i j : ℕ) → name_at file i ≡ name_at file j → key file (named file i) ≡ key file (named file j)
-unfolding key named
-key-same file i j e = ap (λ n. length n ∷ n) e
+unfolding key text named
+key-same file i j e = ap (λ n. key_of n ∷ (length n % 2 ^ 32) ∷ n) e
 
 key-name : (file : List ℕ) (i j : ℕ) → key file (named file i) ≡ key file (named file j) → name_at file i ≡ name_at file j
-unfolding key named
+unfolding key text named
 key-name file i j e = cc
 
 -- symbols differ where their names, each with its length, do
@@ -64,7 +75,7 @@ named-differ file numbers h = record {
 }
 
 none : Name
-none = record { symbol = 0; length = 0 }
+none = record { key = 0; symbol = 0; length = 0 }
 
 -- sorted names that rise are those of symbols that all differ
 pub all-differ-from-rises : (file numbers : List ℕ) (names sorted : List Name) → names ≡ map (named file) numbers → IsPermutation names sorted → Rises file sorted → AllDiffer file numbers

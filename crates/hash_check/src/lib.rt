@@ -16,6 +16,7 @@ mod file;
 mod file_refusal;
 mod hash;
 mod jump;
+mod key;
 mod meeting;
 mod names;
 mod place;

@@ -3,18 +3,22 @@
 ghost use Rattle.std.specs.Prelude.{◌≡◌, ◌<◌, ◌≤◌, ◌+◌, ◌↔◌, length, map, IsTrue, IfOk};
 ghost use Rattle.std.specs.List.{All};
 ghost use Rattle.std.specs.Option.{ForSome};
-ghost use Rattle.hash_check.specs.inside.Names.{name_at, IsSymbol, offset_of, IsStretch};
-ghost use Rattle.hash_check.specs.inside.Names.{BeginsIn, named, order, Rises, AllDiffer};
+ghost use Rattle.hash_check.specs.inside.Names.{name_at, IsSymbol, IsLengthOf, offset_of, IsStretch};
+ghost use Rattle.hash_check.specs.inside.Names.{BeginsIn, named, text_order, order, Rises, AllDiffer};
+ghost use Rattle.hash_check.specs.inside.Names.{IsTableOf};
+ghost use Rattle.hash_check.specs.inside.Key.{key_of};
 
+use crate::key::key_of;
 use elf_dynamic::Object;
 use std::alloc::{AllocError, Global};
 use std::cmp::Ordering;
 
-/// A symbol with the length of its name in bytes.
+/// A symbol with the key of its name and the lowest 32 bits of its length in bytes.
 #[derive(Clone, Copy)]
 pub(crate) struct Name {
+    key: u64,
     symbol: u32,
-    length: usize,
+    length: u32,
 }
 
 /// A string of the string table: where it begins, and how many bytes it has.
@@ -67,6 +71,31 @@ fn stretch_of(object: &Object<'_>, last: Option<Stretch>, i: u32) -> Stretch
     }
 }
 
+/// The name of a symbol, where its length is known: its end isn't looked for.
+fn text_of<'a>(object: &Object<'a>, symbol: u32, length: usize) -> &'a [u8]
+    requires symbol { IsSymbol object.now symbol }
+    requires length { IsLengthOf object.now symbol length }
+    ensures { result.now ≡ name_at object.now symbol }
+{
+    let table = object.string_table();
+    let from = (offset_of(object, symbol) as usize).min(table.len());
+    let rest = &table[from..];
+    &rest[..length]
+}
+
+/// A symbol with its key, where the length of its name is known.
+fn name_of_length(object: &Object<'_>, symbol: u32, length: usize) -> Name
+    requires symbol { IsSymbol object.now symbol }
+    requires length { IsLengthOf object.now symbol length }
+    ensures { result ≡ named object.now symbol }
+{
+    Name {
+        key: key_of(text_of(object, symbol, length)),
+        symbol,
+        length: (length % (1 << 32)) as u32,
+    }
+}
+
 /// The names of symbols. Where these are sorted by the places of their names, each byte is looked
 /// at once: a name that begins within the one before it ends where that one does.
 fn names_of(alloc: Global, object: &Object<'_>, symbols: &[u32]) -> Result<Vec<Name>, AllocError>
@@ -80,19 +109,29 @@ fn names_of(alloc: Global, object: &Object<'_>, symbols: &[u32]) -> Result<Vec<N
         let stretch = stretch_of(object, last, symbol);
         let skipped = (offset_of(object, symbol) - stretch.from) as usize;
         let length = stretch.length - skipped;
-        names.push(Name { symbol, length })?;
+        names.push(name_of_length(object, symbol, length))?;
         last = Some(stretch);
     }
     Ok(names)
 }
 
-/// The order of two names: by their lengths, then by their bytes. No byte of two names of
-/// different lengths is read.
-fn compare(object: &Object<'_>, a: Name, b: Name) -> Ordering
-    ensures { result ≡ order object.now a b }
+/// The order of two names of one key: by their lengths, then by their bytes. No byte of two names
+/// of different lengths is read.
+fn compare_texts(object: &Object<'_>, a: Name, b: Name) -> Ordering
+    ensures { result ≡ text_order object.now a b }
 {
     match a.length.cmp(&b.length) {
         Ordering::Equal => name_at(object, a.symbol).cmp(name_at(object, b.symbol)),
+        other => other,
+    }
+}
+
+/// The order of two names: by their keys, then by their lengths, then by their bytes.
+fn compare(object: &Object<'_>, a: Name, b: Name) -> Ordering
+    ensures { result ≡ order object.now a b }
+{
+    match a.key.cmp(&b.key) {
+        Ordering::Equal => compare_texts(object, a, b),
         other => other,
     }
 }
@@ -109,10 +148,23 @@ fn rise(object: &Object<'_>, names: &[Name]) -> bool
     true
 }
 
-/// Whether no two of some symbols have the same name, by sorting the names. It takes 16 bytes a
-/// name. Names of one length at different places share no byte, so where the symbols are sorted by
-/// the places of their names, and all of these differ, each byte of the string table is compared
-/// some log n times.
+/// The names of symbols in their order. It takes 16 bytes a name. Names of one key and one length
+/// at different places share no byte, so where the symbols are sorted by the places of their
+/// names, and all of these differ, each byte of the string table is compared some log n times.
+fn sorted_names(
+    alloc: Global,
+    object: &Object<'_>,
+    symbols: &[u32],
+) -> Result<Vec<Name>, AllocError>
+    requires { All (IsSymbol object.now) symbols.now }
+    ensures { IfOk result (λ names. IsTableOf object.now symbols.now names.items) }
+{
+    let mut names = names_of(alloc, object, symbols)?;
+    names.sort_unstable_by(|a, b| compare(object, *a, *b));
+    Ok(names)
+}
+
+/// Whether no two of some symbols have the same name, by sorting the names.
 pub(crate) fn all_differ(
     alloc: Global,
     object: &Object<'_>,
@@ -121,7 +173,6 @@ pub(crate) fn all_differ(
     requires { All (IsSymbol object.now) symbols.now }
     ensures { IfOk result (λ differ. IsTrue differ ↔ AllDiffer object.now symbols.now) }
 {
-    let mut names = names_of(alloc, object, symbols)?;
-    names.sort_unstable_by(|a, b| compare(object, *a, *b));
+    let names = sorted_names(alloc, object, symbols)?;
     Ok(rise(object, &names))
 }

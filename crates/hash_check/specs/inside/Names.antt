@@ -1,13 +1,15 @@
 -- The names of the exported symbols, as they are sorted to find two that are the same.
-use Rattle.std.specs.Prelude.{ℕ, List, [], ◌∷◌, ◌≡◌, ◌≢◌, ◌<◌, ◌≤◌, ◌+◌, nat_lt, length, slice_index, slice_index_or, slice_get, if◌then◌else◌}
+use Rattle.std.specs.Prelude.{ℕ, List, [], ◌∷◌, ◌≡◌, ◌≢◌, ◌<◌, ◌≤◌, ◌+◌, ◌%◌, ◌^◌, nat_lt, length, map, slice_index, slice_index_or, slice_get, if◌then◌else◌}
 use Rattle.std.specs.Cmp.Lexicographic.{slice_cmp}
-use Rattle.std.specs.Ordering.{nat_cmp}
+use Rattle.std.specs.Ordering.{nat_cmp, is_lt}
+use Rattle.std.specs.List.Sorted.{IsPermutation, IsSortedBy}
 use Rattle.std.specs.Option.{option_map_or}
 use Rattle.std.specs.declared.cmp.Ordering.{Ordering}
 use Rattle.std.specs.declared.cmp.Ordering.TheVariants.{Less}
 use Rattle.elf_dynamic.specs.Symbol.{symbols}
 use Rattle.elf_dynamic.specs.Strings.{name_of}
 use Rattle.elf_dynamic.specs.Strings.{string_table, string_at}
+use Rattle.hash_check.specs.inside.Key.{key_of}
 use Rattle.hash_check.specs.declared.names.Name.{Name}
 use Rattle.hash_check.specs.declared.names.Stretch.{Stretch}
 
@@ -32,19 +34,35 @@ IsStretch file s = length (string_at (string_table file) s.from) ≡ s.length
 abbrev pub BeginsIn : List ℕ → ℕ → Stretch → Type 0
 BeginsIn file i s = (s.from ≤ offset_of file i) × (offset_of file i ≤ s.from + s.length)
 
--- a symbol with the length of its name
+-- a symbol with the key of its name and the lowest 32 bits of its length
 unfoldable pub named : List ℕ → ℕ → Name
-named file i = record { symbol = i; length = length (name_at file i) }
+named file i = record { key = key_of (name_at file i); symbol = i; length = length (name_at file i) % 2 ^ 32 }
 
--- names by their lengths, then by their bytes
+-- names of one key by their lengths, then by their bytes
+unfoldable pub text : List ℕ → Name → List ℕ
+text file name = name.length ∷ name_at file name.symbol
+
+abbrev pub text_order : List ℕ → Name → Name → Ordering
+text_order file a b = slice_cmp nat_cmp (text file a) (text file b)
+
+-- names by their keys, then by their lengths, then by their bytes
 unfoldable pub key : List ℕ → Name → List ℕ
-key file name = name.length ∷ name_at file name.symbol
+key file name = name.key ∷ text file name
 
 abbrev pub order : List ℕ → Name → Name → Ordering
 order file a b = slice_cmp nat_cmp (key file a) (key file b)
 
 abbrev pub nth_name : List Name → ℕ → Name
-nth_name names k = slice_index_or names k (record { symbol = 0; length = 0 })
+nth_name names k = slice_index_or names k (record { key = 0; symbol = 0; length = 0 })
+
+-- so many bytes are as long as the name of a symbol
+abbrev pub IsLengthOf : List ℕ → ℕ → ℕ → Type 0
+IsLengthOf file i n = n ≡ length (name_at file i)
+
+-- the names of symbols, sorted by their order
+pub record IsTableOf (file symbols : List ℕ) (names : List Name) : Type 0 where
+  pub moved : IsPermutation (map (named file) symbols) names
+  pub sorted : IsSortedBy (λ a b. is_lt (order file a b)) names
 
 -- each name comes before the next one
 pub record Rises (file : List ℕ) (names : List Name) : Type 0 where
