@@ -145,6 +145,8 @@ def main():
         'two_places.so': library(same_strings, exported([same[i % 2] for i in range(200_000)]), [1], line(200_000)),
         'beginnings.so': library(beginnings, exported(begun), [1], line(100_000)),
         'tails.so': library(tails, exported(range(16_000)), [1], line(16_000)),
+        'hashed_tails.so': library(tails, exported(range(16_000)), [1, 0], line(16_000)),
+        'long_tails.so': library(b'n' * 8_000_000 + b'\0', exported(range(300_000)), [1], line(300_000)),
         'needed.so': library(b'', [], [0], [0], needed=1_000_000),
     }
     for name, file in made.items():

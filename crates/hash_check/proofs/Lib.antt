@@ -3,6 +3,7 @@ pub mod Knowing
 pub mod Paths
 pub mod Climbing
 pub mod StepsLeft
+pub mod Joining
 pub mod Starting
 pub mod Sorting
 pub mod Exported

@@ -7,7 +7,7 @@ use Rattle.hash_check.specs.inside.Places.{Depth, Known, Sound, Says}
 use Rattle.hash_check.specs.declared.place.Place.{Place}
 use Rattle.hash_check.proofs.Walks.{walk-zero, depth-along, depth-unique}
 
-depth-some : (c : List ℕ) (v d : ℕ) → v ≢ 0 → Depth c v d → 0 < d
+pub depth-some : (c : List ℕ) (v d : ℕ) → v ≢ 0 → Depth c v d → 0 < d
 depth-some c v d some h = elim (cases_lt 0 d) [
   | inl lt ↦ lt
   | inr none ↦ let z : d ≡ 0 = omega arith in absurd (some (sym (walk-zero c v) ∙ ap (walk c v) (sym z) ∙ h.arrives))

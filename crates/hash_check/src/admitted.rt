@@ -44,8 +44,8 @@ impl<'a> Model for Admitted<'a> {
 impl<'a> Admitted<'a> {
     /// Admits an object, or gives the refusal of the first test that applies. It takes some 20
     /// bytes a symbol, which it gives back. Every step is linear in the file up to a logarithm,
-    /// but one: each exported name is hashed, so names that share bytes of the string table cost
-    /// the sum of their lengths.
+    /// but one: an exported name is hashed unless the walks from all buckets meet its symbol, so
+    /// names that share bytes of the string table cost the sum of their lengths.
     #[tactic(auto, unfolding(crate::specs::Admission::admission_refusal))]
     pub fn admit(alloc: Global, object: Object<'a>) -> Result<Admitted<'a>, AdmitRefusal>
         ensures ok { OnOk result (admission_refusal object.entry ≡ None) }

@@ -15,6 +15,7 @@ mod export;
 mod file;
 mod file_refusal;
 mod hash;
+mod joint;
 mod jump;
 mod key;
 mod meeting;

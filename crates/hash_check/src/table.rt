@@ -12,12 +12,13 @@ ghost use Rattle.hash_check.specs.Walk.{Ends, Meets};
 ghost use Rattle.hash_check.specs.HashTable.{AreIndices, bucket_of, HasBucket, HasIndexWords};
 ghost use Rattle.hash_check.specs.HashTable.{MeetsExports, HasGoodTable};
 ghost use Rattle.hash_check.specs.Admission.{has_good_words, has_bad_hash_table};
-ghost use Rattle.hash_check.specs.inside.Places.{Placed};
+ghost use Rattle.hash_check.specs.inside.Places.{Placed, IsJoint};
 
 use crate::buckets::Buckets;
 use crate::chains::Chains;
 use crate::export::is_exported;
 use crate::hash::elf_hash;
+use crate::joint::joint_of_all;
 use crate::meeting::is_met;
 use crate::place::{Place, first_places};
 use crate::walk::follow;
@@ -57,19 +58,25 @@ fn follow_all(
     Ok(Some(places))
 }
 
-/// Whether the symbol number `i` is met on the walk from the bucket of its name's hash.
-fn is_met_by_name(object: &Object<'_>, places: &[Option<Place>], i: u32) -> bool
+/// Whether the symbol number `i` is met on the walk from the bucket of its name's hash. The name is
+/// hashed only where not all walks meet the symbol.
+fn is_met_by_name(object: &Object<'_>, places: &[Option<Place>], joint: u32, i: u32) -> bool
     requires some { HasBucket object.now }
     requires words { HasIndexWords object.now }
     requires places { Placed (buckets object.now) (chains object.now) places.now }
+    requires joint { IsJoint (buckets object.now) (chains object.now) places.now joint }
     requires index { i < length (symbols object.now) }
     requires nonzero { 1 ≤ i }
     ensures { let from = bucket_of (buckets object.now) (elf_hash (name_of object.now i)) in
         IsTrue result ↔ Meets (chains object.now) from i }
 {
     let _count = object.symbol_count();
+    let chains = Chains::new(object);
+    if is_met(places, &chains, joint, i) {
+        return true;
+    }
     let from = Buckets::new(object).of_hash(elf_hash(object.name_of(i)));
-    is_met(places, &Chains::new(object), from, i)
+    is_met(places, &chains, from, i)
 }
 
 /// Whether each exported symbol is met on the walk from the bucket of its name's hash.
@@ -79,8 +86,9 @@ fn meets_exports(object: &Object<'_>, places: &[Option<Place>]) -> bool
     requires places { Placed (buckets object.now) (chains object.now) places.now }
     ensures { IsTrue result ↔ MeetsExports object.now }
 {
+    let joint = joint_of_all(places, &Buckets::new(object), &Chains::new(object));
     for i in 1..object.symbol_count() {
-        if is_exported(object, i) && !is_met_by_name(object, places, i) {
+        if is_exported(object, i) && !is_met_by_name(object, places, joint, i) {
             return false;
         }
     }
@@ -103,7 +111,8 @@ fn has_good_table(alloc: Global, object: &Object<'_>) -> Result<bool, AllocError
 }
 
 /// Whether the hash table isn't good. It takes some 20 bytes a symbol while it runs, follows each
-/// chain word once, hashes each exported name, and looks an exported symbol up in some log n steps.
+/// chain word once, and looks an exported symbol up in some log n steps; its name is hashed only where
+/// not all walks meet it.
 #[tactic(auto, using(crate::proofs::Deciding::bad_test, crate::proofs::Deciding::words_test))]
 pub(crate) fn has_bad_hash_table(alloc: Global, object: &Object<'_>) -> Result<bool, AllocError>
     ensures ok { IfOk result (λ bad. bad ≡ has_bad_hash_table object.now) }

@@ -2,7 +2,7 @@
 use Rattle.std.specs.Prelude.{ℕ, List, Option, Some, None, ◌≡◌, ◌≢◌, ◌<◌, ◌≤◌, ◌-◌, ◌+◌, length, slice_index, slice_index_or, set}
 use Rattle.std.proofs.Math.ListN.{replicate}
 use Rattle.std.specs.List.{All}
-use Rattle.hash_check.specs.Walk.{walk}
+use Rattle.hash_check.specs.Walk.{walk, Meets}
 use Rattle.hash_check.specs.declared.place.Place.{Place}
 
 -- the first 0 on the walk from an index comes after d steps
@@ -53,3 +53,9 @@ pub record Placed (buckets chains : List ℕ) (places : List (Option Place)) : T
   pub size : length places ≡ length chains
   pub sound : Sound chains places
   pub known : All (Known places) buckets
+
+-- the walks from all buckets meet an index, unless it is 0
+pub record IsJoint (buckets chains : List ℕ) (places : List (Option Place)) (joint : ℕ) : Type 0 where
+  pub within : joint < length chains
+  pub known : Known places joint
+  pub met : joint ≢ 0 → All (λ b. Meets chains b joint) buckets
