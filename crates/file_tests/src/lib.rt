@@ -7,6 +7,8 @@ mod accessors;
 #[cfg(test)]
 mod copies;
 #[cfg(test)]
+mod duplicates;
+#[cfg(test)]
 mod searches;
 #[cfg(test)]
 mod texts;
