@@ -1,7 +1,10 @@
 #!/usr/bin/env python3
 """Makes the libraries with large and hostile tables that docs/PERFORMANCE.md measures, in the folder that is named, and
-real.c, the source of one that gcc and ld make."""
+real.c, the source of one that gcc and ld make. Where programs are named behind it, it runs them in turn on each file of
+the folder, and prints the least user + system of seven runs of each in milliseconds."""
+import resource
 import struct
+import subprocess
 import sys
 from array import array
 from pathlib import Path
@@ -124,8 +127,31 @@ def comb(count):
     return library(strings, symbols, buckets, chains)
 
 
+def used(program, file):
+    """What a run takes of the processor, in milliseconds, or more than any where it hasn't ended after 20 seconds."""
+    before = resource.getrusage(resource.RUSAGE_CHILDREN)
+    try:
+        subprocess.run([program, str(file)], stdout=subprocess.DEVNULL, check=True, timeout=20)
+    except subprocess.TimeoutExpired:
+        return float('inf')
+    after = resource.getrusage(resource.RUSAGE_CHILDREN)
+    return 1000 * (after.ru_utime + after.ru_stime - before.ru_utime - before.ru_stime)
+
+
+def compare(folder, programs):
+    """Runs the programs in turn on each file."""
+    for file in sorted(folder.glob('*.so')):
+        least = [float('inf')] * len(programs)
+        for _ in range(7):
+            least = [min(so_far, used(program, file)) for so_far, program in zip(least, programs)]
+        print(f'{file.name:18}', '  '.join(f'{milliseconds:8.1f}' for milliseconds in least), flush=True)
+
+
 def main():
-    folder = Path(sys.argv[1])
+    folder, programs = Path(sys.argv[1]), sys.argv[2:]
+    if programs:
+        compare(folder, programs)
+        return
     folder.mkdir(parents=True, exist_ok=True)
     ring = line(300_000)
     ring[300_000] = 1
