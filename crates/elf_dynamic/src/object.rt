@@ -2,6 +2,7 @@
 
 ghost use Rattle.std.specs.Prelude.{◌≡◌, ◌<◌, length, Some, None, slice_get};
 ghost use Rattle.std.specs.Prelude.{IfSome, MatchOption, MatchResult};
+ghost use Rattle.elf_file.specs.Dynamic.{is_symbolic};
 ghost use Rattle.elf_file.specs.Segment.{loads, contents};
 ghost use Rattle.elf_dynamic.specs.Relocation.{relocations};
 ghost use Rattle.elf_dynamic.specs.HashTable.{buckets, chains};
@@ -176,6 +177,15 @@ impl<'a> Object<'a> {
         ensures accepted { first_refusal self.now ≡ None }
     {
         self.tables.soname()
+    }
+
+    /// Whether the object itself is looked in first for its own references: `DT_SYMBOLIC` is
+    /// present, or `DT_FLAGS` with `DF_SYMBOLIC` (gABI chapter 5). In constant time.
+    pub fn symbolic(&self) -> bool
+        ensures symbolic { result ≡ is_symbolic self.now }
+        ensures accepted { first_refusal self.now ≡ None }
+    {
+        self.tables.dynamic().is_symbolic()
     }
 
     /// The string table, in which the names of symbols stand at their offsets.

@@ -102,13 +102,17 @@ has_duplicate_tag file = list_any (λ tag. nat_lt 1 (tag_count file tag)) single
 abbrev pub has_symbol_versions : List ℕ → Bool
 has_symbol_versions file = is_present file DT_VERSYM || is_present file DT_VERDEF || is_present file DT_VERNEED
 
--- the flags say that the object itself is looked in first
+-- the flags say that the object itself is looked in first, whatever else they say
 abbrev pub is_flagged_symbolic : List ℕ → Bool
 is_flagged_symbolic file = is_present file DT_FLAGS && not (bit_and (tag_value file DT_FLAGS) DF_SYMBOLIC == 0)
 
--- E18: a tag or a flag is present that isn't supported
+-- the object itself is looked in first for its own references: DT_SYMBOLIC is present, or DT_FLAGS has DF_SYMBOLIC
+unfoldable pub is_symbolic : List ℕ → Bool
+is_symbolic file = is_present file DT_SYMBOLIC || is_flagged_symbolic file
+
+-- E18: relocations without addends or in short form are present
 abbrev pub has_unsupported_tag : List ℕ → Bool
-has_unsupported_tag file = is_present file DT_REL || is_present file DT_RELR || is_present file DT_SYMBOLIC || is_flagged_symbolic file
+has_unsupported_tag file = is_present file DT_REL || is_present file DT_RELR
 
 -- E19: no hash table is present
 abbrev pub has_no_hash_table : List ℕ → Bool

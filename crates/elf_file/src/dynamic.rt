@@ -6,7 +6,7 @@ ghost use Rattle.std.specs.List.{list_any, range_with_len};
 ghost use Rattle.elf_file.specs.Dynamic.{has_dynamic, dynamic_section, has_bad_dynamic};
 ghost use Rattle.elf_file.specs.Dynamic.{entry, entries, tag_count, is_present, tag_value, is_part};
 ghost use Rattle.elf_file.specs.Dynamic.{has_duplicate_tag, has_symbol_versions};
-ghost use Rattle.elf_file.specs.Dynamic.{is_flagged_symbolic, has_unsupported_tag};
+ghost use Rattle.elf_file.specs.Dynamic.{is_flagged_symbolic, is_symbolic, has_unsupported_tag};
 ghost use Rattle.elf_file.specs.Dynamic.{has_no_hash_table, lacks_symbol_tag, has_missing_tag};
 ghost use Rattle.elf_file.specs.Dynamic.{has_bad_entry_size, needed_offsets};
 ghost use Rattle.elf_file.specs.Tag.{number_of};
@@ -218,13 +218,19 @@ impl<'a> Dynamic<'a> {
         self.is_present(Tag::Flags) && self.tag_value(Tag::Flags) & DF_SYMBOLIC != 0
     }
 
+    /// Whether the object itself is looked in first for its own references (gABI chapter 5,
+    /// `DT_SYMBOLIC` and `DF_SYMBOLIC`), in constant time.
+    #[tactic(auto, unfolding(crate::specs::Dynamic::is_symbolic))]
+    pub fn is_symbolic(&self) -> bool
+        ensures { result ≡ is_symbolic self.now }
+    {
+        self.is_present(Tag::Symbolic) || self.is_flagged_symbolic()
+    }
+
     fn has_unsupported_tag(&self) -> bool
         ensures { result ≡ has_unsupported_tag self.now }
     {
-        self.is_present(Tag::Rel)
-            || self.is_present(Tag::Relr)
-            || self.is_present(Tag::Symbolic)
-            || self.is_flagged_symbolic()
+        self.is_present(Tag::Rel) || self.is_present(Tag::Relr)
     }
 
     fn has_no_hash_table(&self) -> bool

@@ -35,7 +35,7 @@ pub enum ObjectRefusal {
     DuplicateTag,
     /// E17: it has symbol versions.
     SymbolVersions,
-    /// E18: it has a tag or a flag that isn't supported.
+    /// E18: it has relocations without addends, or in short form.
     UnsupportedTag,
     /// E19: it has no SYSV hash table.
     NoHashTable,

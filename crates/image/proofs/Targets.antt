@@ -8,6 +8,7 @@ use Rattle.std.proofs.lemmas.List.{length-map}
 use Rattle.std.proofs.lemmas.Option.{slice_get_within}
 use Rattle.std.proofs.lemmas.Simd.{map-map}
 use Rattle.elf_file.specs.FirstOf.{◌when◌, first_of}
+use Rattle.elf_file.specs.Dynamic.{is_symbolic}
 use Rattle.elf_dynamic.specs.Symbol.{symbols}
 use Rattle.elf_dynamic.specs.Strings.{name_of}
 use Rattle.elf_dynamic.specs.declared.symbol.Symbol.{Symbol}
@@ -15,7 +16,7 @@ use Rattle.hash_check.specs.Definition.{is_exported_as, definition_of}
 use Rattle.hash_check.specs.Export.{is_exported}
 use Rattle.hash_check.proofs.Exported.{exported_within}
 use Rattle.scope.specs.Objects.{Named, file_at}
-use Rattle.scope.specs.Lookup.{definition_at, lookup}
+use Rattle.scope.specs.Lookup.{all_places, definition_at, lookup}
 use Rattle.scope.specs.Target.{target, target_of, is_own, is_withheld, is_weak}
 use Rattle.scope.specs.declared.target.Target.{Target}
 use Rattle.scope.specs.declared.target.Target.TheVariants.{Zero, At}
@@ -59,9 +60,16 @@ places-within : (n : ℕ) → All (λ p. p < n) (range_with_len 0 n)
 places-within n k d l =
     let m : k < n = omega (arith, l, length-range_with_len 0 n) in omega (arith, m, get_or-range_with_len 0 n k d m)
 
-lookup-there : (objects : List Named) (own : ℕ) (name : List ℕ) → IsThere objects (lookup objects own name)
+scope-there : (objects : List Named) (own : ℕ) (name : List ℕ) (s : Bool) → own < length objects
+    → IsThere objects (first_of (map (definition_at objects name) (cond s (own ∷ all_places objects) (all_places objects))))
+scope-there objects own name true within =
+    first-by objects own (definition_of (file_at objects own) name) (map (definition_at objects name) (all_places objects)) within
+    (λ i e. definition-there (file_at objects own) name i e) (first-there objects name (all_places objects) (places-within (length objects)))
+scope-there objects own name false within = first-there objects name (all_places objects) (places-within (length objects))
+
+lookup-there : (objects : List Named) (own : ℕ) (name : List ℕ) → own < length objects → IsThere objects (lookup objects own name)
 unfolding lookup
-lookup-there objects own name = first-there objects name (range_with_len 0 (length objects)) (places-within (length objects))
+lookup-there objects own name within = scope-there objects own name (is_symbolic (file_at objects own)) within
 
 weak-by : (objects : List Named) (w : Bool) → IsThere objects (Zero when w)
 weak-by objects true = tt
@@ -83,7 +91,7 @@ symbol-by objects own i true m within at = tt
 symbol-by objects own i false None within at = tt
 symbol-by objects own i false (Some s) within at =
     own-by objects own i (lookup objects own (name_of (file_at objects own) i)) (is_weak s) (is_own s) (is_withheld s) within
-    (slice_get_within (symbols (file_at objects own)) i s at) (lookup-there objects own (name_of (file_at objects own) i))
+    (slice_get_within (symbols (file_at objects own)) i s at) (lookup-there objects own (name_of (file_at objects own) i) within)
 
 pub target-there : (objects : List Named) (own i : ℕ) → own < length objects → IsThere objects (target objects own i)
 unfolding target

@@ -1,13 +1,15 @@
--- For readers and callers: lookup gives the first definition by place in load order, and none only where there is none.
-use Rattle.std.proofs.Common.{◌≡◌, ℕ, zero, suc, ◌+◌, ◌<◌, ◌≤◌, List, ◌∷◌, length, map, Option, None, Some, refl, sym, ap, ◌∙◌, ⊎_elim, arith}
+-- For readers and callers: lookup gives a symbolic object its own definition, else the first one by place in load order, and
+-- none only where there is none.
+use Rattle.std.proofs.Common.{◌≡◌, ℕ, zero, suc, ◌+◌, ◌<◌, ◌≤◌, Bool, true, false, cond, List, ◌∷◌, length, map, Option, None, Some, refl, sym, ap, ◌∙◌, ◌⊎◌, ⊎_elim, arith}
 use Rattle.std.specs.Prelude.{is_none, unwrap_or}
 use Rattle.std.specs.List.{range_with_len}
 use Rattle.std.specs.Option.{option_map}
 use Rattle.std.proofs.lemmas.Bool.{false≢true, cases_lt}
 use Rattle.elf_file.specs.FirstOf.{first_of}
+use Rattle.elf_file.specs.Dynamic.{is_symbolic}
 use Rattle.hash_check.specs.Definition.{definition_of}
 use Rattle.scope.specs.Objects.{Named, file_at}
-use Rattle.scope.specs.Lookup.{definition_at, lookup}
+use Rattle.scope.specs.Lookup.{all_places, definition_at, lookup}
 use Rattle.scope.specs.declared.target.Target.{Target}
 use Rattle.scope.specs.declared.target.Target.TheVariants.{Zero, At}
 
@@ -56,12 +58,33 @@ no_definition : (place : ℕ) (o : Option ℕ) → option_map (At place) o ≡ N
 no_definition place None e = refl
 no_definition place (Some s) e = absurd (false≢true (ap is_none e))
 
--- Whatever lookup finds is a symbol of the first object that defines the name.
-pub lookup-first : (objects : List Named) (object : ℕ) (name : List ℕ) (found : Target) → lookup objects object name ≡ Some found
+-- A symbolic object's own definition is found before every other one.
+pub lookup-own : (objects : List Named) (object : ℕ) (name : List ℕ) (symbol : ℕ) → is_symbolic (file_at objects object) ≡ true
+    → definition_of (file_at objects object) name ≡ Some symbol → lookup objects object name ≡ Some (At object symbol)
+unfolding lookup
+lookup-own objects object name symbol symbolic defines = by (is_symbolic (file_at objects object)) symbolic
+  where
+    by : (s : Bool) → s ≡ true → first_of (map (definition_at objects name) (cond s (object ∷ all_places objects) (all_places objects))) ≡ Some (At object symbol)
+    by true e = ap (λ o. first_of (option_map (At object) o ∷ map (definition_at objects name) (all_places objects))) defines
+    by false e = absurd (false≢true e)
+
+-- where an object isn't symbolic, or doesn't define the name, its scope is as good as the load order
+in_order : (objects : List Named) (object : ℕ) (name : List ℕ) (s : Bool) → (s ≡ false) ⊎ (definition_of (file_at objects object) name ≡ None)
+    → first_of (map (definition_at objects name) (cond s (object ∷ all_places objects) (all_places objects)))
+    ≡ first_of (map (definition_at objects name) (all_places objects))
+in_order objects object name false h = refl
+in_order objects object name true h = ⊎_elim
+    (λ plain. absurd (false≢true (sym plain)))
+    (λ none. ap (λ o. first_of (option_map (At object) o ∷ map (definition_at objects name) (all_places objects))) none)
+    h
+
+-- Whatever else lookup finds is a symbol of the first object that defines the name.
+pub lookup-first : (objects : List Named) (object : ℕ) (name : List ℕ) (found : Target)
+    → (is_symbolic (file_at objects object) ≡ false) ⊎ (definition_of (file_at objects object) name ≡ None) → lookup objects object name ≡ Some found
     → (place : ℕ) × (symbol : ℕ) × (found ≡ At place symbol) × IsFirstDefinition objects name place symbol
 unfolding lookup
-lookup-first objects object name found e =
-    let r = first-is (definition_at objects name) (length objects) 0 found e in
+lookup-first objects object name found order e =
+    let r = first-is (definition_at objects name) (length objects) 0 found (sym (in_order objects object name (is_symbolic (file_at objects object)) order) ∙ e) in
     by r (definition_of (file_at objects r.at) name) refl r.here
   where
     by : (r : IsFirst (definition_at objects name) 0 (length objects) found) → (o : Option ℕ) → definition_of (file_at objects r.at) name ≡ o
@@ -90,10 +113,21 @@ none-at {R} f (suc n) a e k ge lt = by (f a) refl e (λ rest later. none-at f n 
         (λ back. let same : a ≡ k = omega (arith, ge, back) in ap f (sym same) ∙ here)
         (cases_lt a k)
 
+none-behind : {R : Type 0} (o : Option R) (rest : List (Option R)) → first_of (o ∷ rest) ≡ None → first_of rest ≡ None
+none-behind None rest e = e
+none-behind (Some x) rest e = absurd (false≢true (ap is_none e))
+
+none-in_order : (objects : List Named) (object : ℕ) (name : List ℕ) (s : Bool)
+    → first_of (map (definition_at objects name) (cond s (object ∷ all_places objects) (all_places objects))) ≡ None
+    → first_of (map (definition_at objects name) (all_places objects)) ≡ None
+none-in_order objects object name false e = e
+none-in_order objects object name true e = none-behind (definition_at objects name object) (map (definition_at objects name) (all_places objects)) e
+
 -- Where lookup finds none, no object defines the name.
 pub lookup-nowhere : (objects : List Named) (object : ℕ) (name : List ℕ) → lookup objects object name ≡ None
     → (k : ℕ) → k < length objects → definition_of (file_at objects k) name ≡ None
 unfolding lookup
 lookup-nowhere objects object name e k lt =
+    let none = none-in_order objects object name (is_symbolic (file_at objects object)) e in
     no_definition k (definition_of (file_at objects k) name)
-    (none-at (definition_at objects name) (length objects) 0 e k (omega arith) (omega (arith, lt)))
+    (none-at (definition_at objects name) (length objects) 0 none k (omega arith) (omega (arith, lt)))

@@ -1,17 +1,24 @@
--- The search for a name among objects (gABI chapter 5, "Shared Object Dependencies"; ld.so(8): the first definition is
--- taken, weak or not).
-use Rattle.std.specs.Prelude.{ℕ, List, length, map, Option}
+-- The search for a name among objects (gABI chapter 5, "Shared Object Dependencies", DT_SYMBOLIC and DF_SYMBOLIC; ld.so(8):
+-- the first definition is taken, weak or not).
+use Rattle.std.specs.Prelude.{ℕ, List, ◌∷◌, length, map, Option, if◌then◌else◌}
 use Rattle.std.specs.List.{range_with_len}
 use Rattle.std.specs.Option.{option_map}
 use Rattle.elf_file.specs.FirstOf.{first_of}
+use Rattle.elf_file.specs.Dynamic.{is_symbolic}
 use Rattle.hash_check.specs.Definition.{definition_of}
 use Rattle.scope.specs.Objects.{Named, file_at}
 use Rattle.scope.specs.declared.target.Target.{Target}
 use Rattle.scope.specs.declared.target.Target.TheVariants.{At}
 
--- the places that are searched, in this order, for the symbols of the object at a place: all, in load order
+-- the places of all objects, in load order
+abbrev pub all_places : List Named → List ℕ
+all_places objects = range_with_len 0 (length objects)
+
+-- The places that are searched, in this order, for the symbols of the object at a place: all, in load order; before these
+-- the object's own, where it is symbolic.
 abbrev pub scope_of : List Named → ℕ → List ℕ
-scope_of objects object = range_with_len 0 (length objects)
+scope_of objects object =
+    if is_symbolic (file_at objects object) then object ∷ all_places objects else all_places objects
 
 -- the symbol that the object at a place exports under a name
 abbrev pub definition_at : List Named → List ℕ → ℕ → Option Target

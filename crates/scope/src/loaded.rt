@@ -1,25 +1,31 @@
 // An object in load order.
 
 ghost use Rattle.std.specs.Prelude.{◌≡◌};
+ghost use Rattle.elf_file.specs.Dynamic.{is_symbolic};
 ghost use Rattle.scope.specs.Objects.{IsTaken};
 
 use hash_check::Admitted;
 use std::marker::Model;
 
-/// An object in load order: the name that it goes by, and the object. Contracts see the name and
-/// the file's bytes.
+/// An object in load order: the name that it goes by, the object, and whether that is symbolic,
+/// which is read once here, and not once a symbol. Contracts see the name and the file's bytes.
 #[derive(Drop)]
 pub(crate) struct LoadedObject<'a> {
     name: &'a [u8],
     object: &'a Admitted<'a>,
+    symbolic: bool,
 }
 
 impl<'a> Model for LoadedObject<'a> {
+    ghost use Rattle.std.specs.Prelude.{◌≡◌};
+    ghost use Rattle.elf_file.specs.Dynamic.{is_symbolic};
     ghost use Rattle.scope.specs.Objects.{Named};
 
     ghost Value = { Named };
 
     ghost view = { λ o. record { name = o.name.now; file = o.object.now } };
+
+    ghost invariant = { λ o. o.symbolic ≡ is_symbolic o.object.now };
 }
 
 impl<'a> LoadedObject<'a> {
@@ -27,8 +33,12 @@ impl<'a> LoadedObject<'a> {
         ensures same { result ≡ record { name = name.now; file = object.now } }
         ensures taken { IsTaken object.now }
     {
-        let _object = object.object();
-        LoadedObject { name, object }
+        let symbolic = object.object().symbolic();
+        LoadedObject {
+            name,
+            object,
+            symbolic,
+        }
     }
 
     pub(crate) fn name(&self) -> &'a [u8]
@@ -41,5 +51,12 @@ impl<'a> LoadedObject<'a> {
         ensures { result.now ≡ self.now.file }
     {
         self.object
+    }
+
+    /// Whether the object itself is looked in first for its own references.
+    pub(crate) fn is_symbolic(&self) -> bool
+        ensures { result ≡ is_symbolic self.now.file }
+    {
+        self.symbolic
     }
 }

@@ -1,23 +1,55 @@
 // The search for a name among objects.
 
-ghost use Rattle.std.specs.Prelude.{◌≡◌, ℕ};
-ghost use Rattle.scope.specs.Lookup.{lookup};
+ghost use Rattle.std.specs.Prelude.{◌≡◌, ◌<◌, length, map};
+ghost use Rattle.elf_file.specs.FirstOf.{first_of};
+ghost use Rattle.hash_check.specs.Hash.{elf_hash};
+ghost use Rattle.scope.specs.Lookup.{all_places, definition_at, lookup};
 
 use crate::order::Order;
 use crate::target::Target;
 use hash_check::elf_hash;
 
-/// The first definition of a name in load order, weak or not, which is the same for all objects
-/// that ask. It hashes the name once, and follows one walk in each object up to the one that
-/// defines it.
-pub(crate) fn lookup(order: &Order<'_>, name: &[u8]) -> Option<Target>
-    ensures { (object : ℕ) → result ≡ lookup order.now object name.now }
+/// The symbol that the object at a place exports under a name of this hash.
+fn definition_at(order: &Order<'_>, place: usize, name: &[u8], hash: u32) -> Option<Target>
+    requires place { place < length order.now }
+    requires hash { hash ≡ elf_hash name.now }
+    ensures { result ≡ definition_at order.now name.now place }
 {
-    let hash = elf_hash(name);
-    for object in 0..order.count() {
-        if let Some(symbol) = order.object(object).find_hashed(name, hash).symbol {
-            return Some(Target::At { object, symbol });
+    match order.object(place).find_hashed(name, hash).symbol {
+        Some(symbol) => Some(Target::At {
+            object: place,
+            symbol,
+        }),
+        None => None,
+    }
+}
+
+/// The first definition of a name of this hash in load order, weak or not.
+fn first_definition(order: &Order<'_>, name: &[u8], hash: u32) -> Option<Target>
+    requires { hash ≡ elf_hash name.now }
+    ensures { result ≡ first_of (map (definition_at order.now name.now) (all_places order.now)) }
+{
+    for place in 0..order.count() {
+        if let Some(found) = definition_at(order, place, name, hash) {
+            return Some(found);
         }
     }
     None
+}
+
+/// The first definition of a name, weak or not, for the object at a place, that asks: in load
+/// order, and before that in the object itself where it is symbolic. It hashes the name once, and
+/// follows one walk in each object up to the one that defines it.
+#[tactic(auto, unfolding(crate::specs::Lookup::lookup))]
+pub(crate) fn lookup(order: &Order<'_>, object: usize, name: &[u8]) -> Option<Target>
+    requires { object < length order.now }
+    ensures { result ≡ lookup order.now object name.now }
+{
+    let hash = elf_hash(name);
+    if order.is_symbolic(object) {
+        if let Some(own) = definition_at(order, object, name, hash) {
+            return Some(own);
+        }
+    }
+    first_definition(order, name, hash)
 }

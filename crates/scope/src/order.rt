@@ -1,6 +1,7 @@
 // Objects in load order.
 
 ghost use Rattle.std.specs.Prelude.{◌≡◌, ◌<◌, length};
+ghost use Rattle.elf_file.specs.Dynamic.{is_symbolic};
 ghost use Rattle.scope.specs.Objects.{IsOrder, name_at, file_at};
 
 use crate::loaded::LoadedObject;
@@ -60,5 +61,13 @@ impl<'a> Order<'a> {
         ensures order { IsOrder self.now }
     {
         self.objects[i].object()
+    }
+
+    /// Whether the object number `i` is looked in first for its own references.
+    pub(crate) fn is_symbolic(&self, i: usize) -> bool
+        requires { i < length self.now }
+        ensures { result ≡ is_symbolic (file_at self.now i) }
+    {
+        self.objects[i].is_symbolic()
     }
 }
