@@ -47,7 +47,7 @@ class Made:
     """An object of one writable segment: its tables, `data` bytes, and `behind` bytes of memory behind the file, into which
     its relocations write. An export has its value in the memory behind the file too."""
 
-    def __init__(self, soname=None, needed=(), exports=(), undefined=(), relocations=(), data=0, behind=0):
+    def __init__(self, soname=None, needed=(), exports=(), undefined=(), relocations=(), data=0, behind=0, tags=()):
         strings, places = b'\0', []
         for name in ([] if soname is None else [soname]) + list(needed) + list(exports) + list(undefined):
             places.append(len(strings))
@@ -62,7 +62,7 @@ class Made:
         entries = [(1, p) for p in places[own:own + wanted]] + [(14, p) for p in places[:own]]
         entries += [(4, table), (5, text), (6, symbols), (10, len(strings)), (11, 24)]
         entries += [(7, rela), (8, 24 * len(relocations)), (9, 24)] if relocations else []
-        entries += [(0, 0)]
+        entries += list(tags) + [(0, 0)]
         end = dynamic + 16 * len(entries) + data
         self.memory = end = (end + 7) // 8 * 8
         rows = [struct.pack('<IBBHQQ', p, GLOBAL_FUNC, 0, 1, end + 8 * i, 8) for i, p in enumerate(places[own + wanted:][:len(exports)])]
@@ -102,6 +102,23 @@ def exports():
     return Made(needed=[name(0)], undefined=[symbol(2 * i) for i in range(50_000)], relocations=relocations, behind=4_800_000), [library]
 
 
+def of_itself(tags):
+    """A library with 50,000 exports and 600,000 relocations that name them, and a program that needs it."""
+    relocations = [(1 if i % 3 else 6, 8 * i, 1 + i * 7919 % 50_000, i) for i in range(600_000)]
+    library = Made(name(0), exports=[symbol(i) for i in range(50_000)], relocations=relocations, behind=4_800_000, tags=tags)
+    return Made(needed=[name(0)], behind=8), [library]
+
+
+def own_names():
+    """A library that isn't symbolic: FLAGS is 8."""
+    return of_itself([(30, 8)])
+
+
+def symbolic():
+    """The same that is symbolic: FLAGS is 2."""
+    return of_itself([(30, 2)])
+
+
 def one_symbol():
     """A program of 16 MiB, nearly all of it relocations of one symbol, which the last of 100 libraries exports."""
     libraries = [Made(name(i), exports=[b'other'], behind=8) for i in range(99)] + [Made(name(99), exports=[b'wanted'], behind=8)]
@@ -125,7 +142,7 @@ def many_lookups():
                 behind=400_000), libraries + [last]
 
 
-MADE = [chain, mesh, exports, one_symbol, megabytes, many_lookups]
+MADE = [chain, mesh, exports, own_names, symbolic, one_symbol, megabytes, many_lookups]
 
 
 def make(folder):

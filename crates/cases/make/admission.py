@@ -67,14 +67,34 @@ TABLE = [
     ([(0xf8, u8(0x05))], 'E16 DuplicateTag'), ([(0xf8, u32(0x6ffffff0))], 'E17 SymbolVersions'),
     ([(0xf8, u32(0x6ffffffc))], 'E17 SymbolVersions'), ([(0xf8, u32(0x6ffffffe))], 'E17 SymbolVersions'),
     ([(0xf8, u8(0x11))], 'E18 UnsupportedTag'), ([(0xf8, u8(0x24))], 'E18 UnsupportedTag'),
-    ([(0xf8, u8(0x10))], 'E18 UnsupportedTag'), ([(0xf8, u8(0x15))], 'E19 NoHashTable'),
-    ([(0xf8, u8(0x01))], 'E19 NoHashTable'), ([(0x108, u8(0x15))], 'E20 MissingTag'),
-    ([(0x118, u8(0x15))], 'E20 MissingTag'), ([(0x128, u8(0x15))], 'E20 MissingTag'),
-    ([(0x138, u8(0x15))], 'E20 MissingTag'), ([(0x140, u8(0x10))], 'E21 BadEntrySize'),
-    ([(0x111, u8(0x02))], 'E22 BadRange'), ([(0x130, u8(0x00))], 'E23 BadString'),
-    ([(0xe8, u8(0x25))], 'E30 RelocationType 37'), ([(0xe8, u8(0x01)), (0xec, u8(0x01))], 'E31 RelocationSymbol'),
-    ([(0xe0, u8(0x89))], 'E32 RelocationPlace'), ([(0xb0, u8(0x00))], 'E29 BadHashTable'),
+    ([(0xf8, u8(0x15))], 'E19 NoHashTable'), ([(0xf8, u8(0x01))], 'E19 NoHashTable'),
+    ([(0x108, u8(0x15))], 'E20 MissingTag'), ([(0x118, u8(0x15))], 'E20 MissingTag'),
+    ([(0x128, u8(0x15))], 'E20 MissingTag'), ([(0x138, u8(0x15))], 'E20 MissingTag'),
+    ([(0x140, u8(0x10))], 'E21 BadEntrySize'), ([(0x111, u8(0x02))], 'E22 BadRange'),
+    ([(0x130, u8(0x00))], 'E23 BadString'), ([(0xe8, u8(0x25))], 'E30 RelocationType 37'),
+    ([(0xe8, u8(0x01)), (0xec, u8(0x01))], 'E31 RelocationSymbol'), ([(0xe0, u8(0x89))], 'E32 RelocationPlace'),
+    ([(0xb0, u8(0x00))], 'E29 BadHashTable'),
 ]
+
+# Tags of two extra entries and their values, and the first refusal of an object that has them.
+NULL, SYMBOLIC, REL, DEBUG, FLAGS, RELR, VERNEED = 0, 16, 17, 21, 30, 36, 0x6ffffffe
+PAIRS = [
+    ([(SYMBOLIC, 0), (SYMBOLIC, 0)], 'E16 DuplicateTag'), ([(SYMBOLIC, 0), (SYMBOLIC, 1)], 'E16 DuplicateTag'),
+    ([(FLAGS, 2), (FLAGS, 2)], 'E16 DuplicateTag'), ([(FLAGS, 0), (FLAGS, 2)], 'E16 DuplicateTag'),
+    ([(FLAGS, 2), (FLAGS, 0)], 'E16 DuplicateTag'),
+    ([(SYMBOLIC, 0), (VERNEED, 0)], 'E17 SymbolVersions'), ([(FLAGS, 2), (VERNEED, 0)], 'E17 SymbolVersions'),
+    ([(SYMBOLIC, 0), (REL, 0)], 'E18 UnsupportedTag'), ([(REL, 0), (SYMBOLIC, 0)], 'E18 UnsupportedTag'),
+    ([(SYMBOLIC, 0), (RELR, 0)], 'E18 UnsupportedTag'), ([(RELR, 0), (SYMBOLIC, 0)], 'E18 UnsupportedTag'),
+    ([(FLAGS, 2), (REL, 0)], 'E18 UnsupportedTag'), ([(RELR, 0), (FLAGS, 10)], 'E18 UnsupportedTag'),
+    ([(FLAGS, 8), (REL, 0)], 'E18 UnsupportedTag'), ([(REL, 0), (RELR, 0)], 'E18 UnsupportedTag'),
+    ([(REL, 0), (REL, 0)], 'E16 DuplicateTag'),
+]
+TAKEN = [[(SYMBOLIC, 0), (FLAGS, 2)], [(FLAGS, 10), (SYMBOLIC, 0)], [(SYMBOLIC, (1 << 64) - 1), (FLAGS, (1 << 64) - 1)],
+         [(SYMBOLIC, 0), (DEBUG, 0)], [(DEBUG, 0), (SYMBOLIC, 7)], [(SYMBOLIC, 0), (1 << 32 | SYMBOLIC, 0)],
+         [(NULL, 0), (SYMBOLIC, 0)], [(NULL, 0), (REL, 0)], [(SYMBOLIC, 0), (NULL, 0)]]
+TRIPLES = [([(SYMBOLIC, 0), (REL, 0), (SYMBOLIC, 0)], 'E16 DuplicateTag'), ([(RELR, 0), (FLAGS, 2), (FLAGS, 8)], 'E16 DuplicateTag'),
+           ([(REL, 0), (SYMBOLIC, 0), (VERNEED, 0)], 'E17 SymbolVersions'), ([(SYMBOLIC, 0), (FLAGS, 2), (RELR, 0)], 'E18 UnsupportedTag'),
+           ([(SYMBOLIC, 0), (NULL, 0), (SYMBOLIC, 0)], ''), ([(FLAGS, 2), (NULL, 0), (REL, 0)], '')]
 
 # Changed fields of eight or four bytes.
 FIELDS = [
@@ -94,10 +114,32 @@ def table():
         ('Fields of eight or four bytes that run past every file.', [
             image(changed(m, *change), wanted='B1 ' + refusal) for change, refusal in FIELDS]),
         ('A library has a SONAME.', [admit(m, ''), library(m, 'E33 BadSoname')]),
-        ('FLAGS is read for DF_SYMBOLIC, the value 2, alone.', [
+        ('HASH made SYMBOLIC, which an object may have: what is missing is the hash table.', [
+            image(changed(m, (0xf8, u8(0x10))), wanted='B1 E19 NoHashTable')]),
+        ('FLAGS is read for DF_SYMBOLIC, the value 2, alone, and an object may have it.', [
             admit(changed(made('flags.so', Object(entries=[(30, 8)]))[0]), ''),
-            admit(made('symbolic.so', Object(entries=[(30, 10)]))[0], 'E18 UnsupportedTag')]),
-    ])
+            admit(made('symbolic.so', Object(entries=[(30, 10)]))[0], '')]),
+    ] + symbolic_tags())
+
+
+def with_entries(file, entries):
+    """A library with other entries in the place of its extra ones, which stand before the last NULL."""
+    at = len(file.bytes()) - 8 - 16 - 16 * len(entries)
+    return changed(file, (at, b''.join(u64(tag) + u64(value) for tag, value in entries)))
+
+
+def symbolic_tags():
+    """SYMBOLIC and FLAGS beside tags that are refused: as an object and as a library."""
+    pair, _ = made('symbolic-tags.so', Object(b'q', entries=[(SYMBOLIC, 0), (FLAGS, 2)]))
+    triple, _ = made('symbolic-three-tags.so', Object(b'q', entries=[(SYMBOLIC, 0), (FLAGS, 2), (DEBUG, 0)]))
+    return [
+        ('SYMBOLIC or FLAGS twice, whatever the values are, and beside versions, REL and RELR, in either order.', [
+            line for entries, refusal in PAIRS for line in (
+                admit(with_entries(pair, entries), refusal), library(with_entries(pair, entries), refusal))]),
+        ('Both tags, of any value; tags of 64 bits; what stands behind the first NULL.', [
+            line for entries in TAKEN for line in (admit(with_entries(pair, entries), ''), library(with_entries(pair, entries), ''))]),
+        ('Three entries: the order of these tests.', [admit(with_entries(triple, entries), refusal) for entries, refusal in TRIPLES]),
+    ]
 
 
 def export(name, **changes):

@@ -65,8 +65,11 @@ class Binder:
     def has_room(self, order):
         return all(o.base + o.reach() <= HIGHEST_END for o in order)
 
+    def is_symbolic(self, o):
+        return o.elf.is_symbolic()
+
     def scope(self, order, asker):
-        return order
+        return [asker] + order if self.is_symbolic(asker) else order
 
     def exported(self, o, name):
         return find(o.data, name)

@@ -145,6 +145,7 @@ def prepare():
     keep('three.disk', changed(None, 'format disk 16', f'install disk {A}', f'install disk {NAMED_Q}', f'install disk {B_520}',
                                'preload disk b a'))
     keep('gap.disk', changed(bytes_of('three.disk'), 'remove disk q'))
+    keep('symbolic.disk', changed(bytes_of('pair.disk'), 'replace disk symbolic-b.so'))
     disk = changed(None, 'format disk 204')
     for file in [library(b'x%02d' % k) for k in range(99)] + [a]:
         registry = OnDisk(disk).open()
@@ -233,10 +234,11 @@ def rows():
 FILE_REFUSALS = [
     ('empty', 'E1 TooShort'), ('minimal.image', 'E2 BadMagic'), ('real-32.o', 'E3 BadClass'), ('real-one.o', 'E7 BadType'),
     ('real-thread.so', 'E11 TlsSegment'), ('real-zeros.so', 'E13 TooLarge'), ('real-no-null.so', 'E15 BadDynamic'),
-    ('w-verneed.so', 'E17 SymbolVersions'), ('symbolic.so', 'E18 UnsupportedTag'), ('real-gnu-hash.so', 'E19 NoHashTable'),
+    ('w-verneed.so', 'E17 SymbolVersions'), ('real-rel.so', 'E18 UnsupportedTag'), ('real-gnu-hash.so', 'E19 NoHashTable'),
     ('real-gold-common.so', 'E24 CommonSymbol'), ('real-other-thread.so', 'E25 TlsSymbol'), ('real-indirect.so', 'E26 IfuncSymbol'),
     ('real-unique.so', 'E27 BadBinding'), ('twice.so', 'E28 DuplicateDefinition'), ('no-buckets.so', 'E29 BadHashTable'),
-    ('real-size.so', 'E30 RelocationType 33'), ('minimal.so', 'E33 BadSoname'), ('soname-241.so', 'E33 BadSoname')]
+    ('real-size.so', 'E30 RelocationType 33'), ('minimal.so', 'E33 BadSoname'), ('soname-241.so', 'E33 BadSoname'),
+    ('symbolic.so', 'E33 BadSoname')]
 
 
 def refusals():
@@ -464,6 +466,9 @@ def scripts():
             run(sixty_four, name, status) for name, status in (
                 ('bind-alone', 0), ('bind-levels', 0), ('bind-state', 1), ('bind-segments', 1), ('bind-protected', 0), ('bind-files', 1),
                 ('bind-refused', 1), ('bind-names', 1), ('session', 1))]),
+        ('Binds over symbolic libraries.', [
+            run(sixty_four, name, status) for name, status in (
+                ('bind-symbolic', 0), ('bind-flags', 0), ('symbolic-first', 1), ('symbolic-refused', 1))]),
         ('The hundredth library, and the 101st: the name is tested before, the generation and the room behind; one may be replaced.', [
             on(less, f'install disk {A}', '0 ok', has='0x8=64 0x208=65 0x214=64'),
             on(less + ' 0x1cc=01', 'list disk', '1 refused S5 Damaged', 'same'),
@@ -479,9 +484,36 @@ def scripts():
     ]
 
 
+def tells_b(word, *files):
+    """Sees that b's word of f, the last of its line, is this one in these texts."""
+    line = '0' * 16 + word.to_bytes(8, 'little').hex()
+    for file in files:
+        *_, of_b = (DATA / file).read_text().split('object ')
+        assert line in of_b.splitlines(), file
+
+
+def symbolic_binds(base):
+    parts = [
+        ('Symbolic libraries, which are kept as any other: one in the place of b, installed, listed and bound; in its bytes on the disk the\n'
+         'tag made FLAGS 0, 2 and 8, and REL, which no library may have.', [
+            on('pair.disk', 'replace disk symbolic-b.so', '0 ok', has='0x208=03 0x214=02 0x244=07 0xc00=@symbolic-b.so 0xf00=0600000001'),
+            on('formatted.disk', 'install disk symbolic-b.so', '0 ok', has='0x208=01 0x214=01 0x240=03 0x400=@symbolic-b.so'),
+            on('one.disk', 'install disk real-symbolic.so', '0 ok', has='0x8=02 0x14=02 0x800=@real-symbolic.so'),
+            on('symbolic.disk', 'list disk', file='symbolic.listing', after='same'),
+            on('symbolic.disk', f'bind disk asking.so {base}', '0 file symbolic.image', 'same', file='symbolic.image'),
+            on('symbolic.disk 0xda8=1e00000000000000', f'bind disk asking.so {base}', file='disk-no-flag.image', after='same'),
+            on('symbolic.disk 0xda8=1e0000000000000002', f'bind disk asking.so {base}', file='disk-flag.image', after='same'),
+            on('symbolic.disk 0xda8=1e0000000000000008', f'bind disk asking.so {base}', file='disk-other-flag.image', after='same'),
+            on('symbolic.disk 0xda8=11', 'list disk', '1 refused S5 Damaged', 'same'),
+            on('symbolic.disk 0xda8=11', f'bind disk asking.so {base}', '1 refused S5 Damaged', 'same')])]
+    tells_b(0x121d0, 'symbolic.image', 'disk-flag.image')
+    tells_b(0x11170, 'disk-no-flag.image', 'disk-other-flag.image')
+    return parts
+
+
 def binds():
     base = '0x10000'
-    return [
+    return symbolic_binds(base) + [
         ('A program over a and b, as they stand on the disk; with b as a preload its f is the first.', [
             on('pair.disk', f'bind disk asking.so {base}', '0 file first.image', 'same', file='first.image'),
             on('pair.disk 0x16=0100 0x18=0100', f'bind disk asking.so {base}', file='disk-preloaded.image', after='same'),

@@ -47,6 +47,7 @@ class Printed:
         self.name, self.base = name, None
         self.end = max(int(address, 16) + int(memory, 16) for address, memory, _ in loads)
         self.unit = max([4096] + [int(alignment, 16) for _, _, alignment in loads])
+        self.is_symbolic = re.search(r'\(SYMBOLIC\)|\(FLAGS\) .*\bSYMBOLIC\b', text) is not None
         self.needed = re.findall(r'\(NEEDED\) +Shared library: \[(.*)\]', text)
         self.symbols = [row.groups() for row in re.finditer(
             r'^ *\d+: ([0-9a-f]{16}) +\S+ (\S+) +(\S+) +(\S+) +(\S+)(?: (.*))?$', text, re.M)]
@@ -76,7 +77,8 @@ def value_of(order, o, name):
     if binding == 'LOCAL' or (section != 'UND' and visibility != 'DEFAULT'):
         return int(value, 16) + (0 if section == 'ABS' else o.base)
     if section != 'UND' or visibility in ('DEFAULT', 'PROTECTED'):
-        found = [a for a in (p.exports(name) for p in order) if a is not None]
+        scope = [o] + order if o.is_symbolic else order
+        found = [a for a in (p.exports(name) for p in scope) if a is not None]
         if found:
             return found[0]
     return 0 if binding == 'WEAK' else None

@@ -56,6 +56,8 @@ ADMITTED = [
     ('With the start files of gcc, where nothing of the C library is called.', 'real-started.so',
      f'gcc {COMPILED} -shared -s -Wl,--build-id=none,-z,noseparate-code,-z,norelro,--hash-style=sysv,-soname,started.so '
      '-o real-started.so one.c'),
+    ('Symbolic: names are looked up in the object itself first.', 'real-symbolic.so',
+     f'gcc {COMPILED} {SYSV},-Bsymbolic,-soname,q -o real-symbolic.so one.c'),
     ('A program that needs a library.', 'real-program.so',
      f'gcc {COMPILED} -nostdlib -pie -s -Wl,--build-id=none,-z,noseparate-code,-z,norelro,--hash-style=sysv,-e,_start '
      '-o real-program.so program.c other.so third.so'),
@@ -102,8 +104,6 @@ REFUSED = [
     ('Packed relocations.', 'real-relr.so',
      f'gcc {COMPILED} -nostdlib -shared -s -fuse-ld=lld -Wl,--build-id=none,--hash-style=sysv,--pack-dyn-relocs=relr,-soname,q '
      '-o real-relr.so pointer.c', 'E18 UnsupportedTag'),
-    ('Names looked up in the object itself first.', 'real-symbolic.so',
-     f'gcc {COMPILED} {SYSV},-Bsymbolic,-soname,q -o real-symbolic.so one.c', 'E18 UnsupportedTag'),
     ('An object file that isn\'t linked; one of 32 bits; a program at fixed addresses.', 'real-one.o',
      f'gcc {COMPILED} -c -o real-one.o one.c', 'E7 BadType'),
     ('', 'real-32.o', f'gcc -m32 {COMPILED} -c -o real-32.o one.c', 'E3 BadClass'),

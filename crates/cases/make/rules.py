@@ -10,6 +10,7 @@ PT_LOAD, PT_DYNAMIC, PT_TLS = 1, 2, 7
 NULL, NEEDED, PLTRELSZ, HASH, STRTAB, SYMTAB, RELA, RELASZ, RELAENT = 0, 1, 2, 4, 5, 6, 7, 8, 9
 STRSZ, SYMENT, SONAME, SYMBOLIC, REL, PLTREL, JMPREL, FLAGS, RELR = 10, 11, 14, 16, 17, 20, 23, 30, 36
 VERSYM, VERDEF, VERNEED = 0x6FFFFFF0, 0x6FFFFFFC, 0x6FFFFFFE
+DF_SYMBOLIC = 0x2
 SINGLE = [PLTRELSZ, HASH, STRTAB, SYMTAB, RELA, RELASZ, RELAENT, STRSZ, SYMENT, SONAME, SYMBOLIC, REL, PLTREL, JMPREL,
           FLAGS, RELR, VERSYM, VERDEF, VERNEED]
 LARGEST_FILE, LARGEST_ADDRESS, HIGHEST_END = 1 << 24, 1 << 26, (1 << 47) - 4096
@@ -72,6 +73,10 @@ class Elf:
         nbucket, nchain = number(self.data, at, 4), number(self.data, at + 4, 4)
         word = [number(self.data, at + 8 + 4 * i, 4) for i in range(nbucket + nchain)]
         return word[:nbucket], word[nbucket:]
+
+    def is_symbolic(self):
+        """Whether the object is looked in first for what it asks for itself."""
+        return self.value(SYMBOLIC) is not None or bool((self.value(FLAGS) or 0) & DF_SYMBOLIC)
 
     def symbol_count(self):
         return number(self.data, self.offset(self.value(HASH), 8) + 4, 4)
@@ -154,7 +159,7 @@ def dynamic_refusal(elf):
         return 'E16 DuplicateTag'
     if any(v(t) is not None for t in (VERSYM, VERDEF, VERNEED)):
         return 'E17 SymbolVersions'
-    if any(v(t) is not None for t in (REL, RELR, SYMBOLIC)) or (v(FLAGS) or 0) & 2:
+    if any(v(t) is not None for t in (REL, RELR)):
         return 'E18 UnsupportedTag'
     if v(HASH) is None:
         return 'E19 NoHashTable'

@@ -352,6 +352,42 @@ def binds():
     ]
 
 
+def symbolic_binds():
+    """The library a with a weak f, and b with its own f and a word of it, of which an entry is changed."""
+    symbolic = of_folder('symbolic-b.so')
+    entry = len(symbolic) - 16 - 32
+    assert symbolic[entry:entry + 16] == bytes([16]) + bytes(15)
+    def with_entry(tag, value):
+        return symbolic[:entry] + tag.to_bytes(8, 'little') + value.to_bytes(8, 'little') + symbolic[entry + 16:]
+    def b_word(word):
+        return '0' * 16 + word.to_bytes(8, 'little').hex()
+    own, other = b_word(0x121d0), b_word(0x11170)
+    twice = build(Object(soname=b'b', entries=[(16, 0), (16, 0)]))[0]
+    beside = [build(Object(soname=b'b', entries=[(16, 0), (tag, 0)]))[0] for tag in (17, 36)]
+    program = build(Object(symbols=[Symbol(b'f', GLOBAL, FUNC, DEFINED)], relocations=[(R_64, 0, 1, 0)], entries=[(30, 2)], needed=[b'b']))[0]
+    end = len(program) - 8
+    assert end % 16 == 8
+    return [
+        ('A symbolic library among others, which has its own f; in its place one whose flags say it, or don\'t, and symbolic again.', [
+            stored('script-bind-symbolic', 64, [install(WEAK_F), install(symbolic), bind(ASKING)], ['ok', 'ok'] + image_lines('symbolic.image')),
+            seen('script-bind-flags', 64, [
+                install(WEAK_F), install(with_entry(30, 8)), bind(ASKING), replace(with_entry(30, 2)), bind(ASKING), replace(with_entry(30, 0)),
+                bind(ASKING), replace(with_entry(30, 10)), bind(ASKING), replace(symbolic), bind(ASKING), b'list'],
+                ['ok', 'ok'] + with_f(0x11170, 'a', 'b')[:-1] + [other, 'end', 'ok'] + with_f(0x11170, 'a', 'b')[:-1] + [own, 'end', 'ok',
+                 other, 'end', 'ok', own, 'end', 'ok', own, 'end', 'library a 376', f'library b {len(symbolic)}', 'end'])]),
+        ('A symbolic preload, and a symbolic program: their f is the first of all anyway.', [
+            seen('script-symbolic-first', 64, [
+                install(WEAK_F), install(symbolic), b'preload b', bind(ASKING), bind(program), b'preload', b'remove a', bind(program), bind(ASKING)],
+                ['ok', 'ok', 'ok', b_word(0x111d0), b_word(0x111d0), 'end', 'object 0x0000000000010000 /program',
+                 b_word(BASE + end), b_word(0x111d0), 'end', 'ok', 'ok', b_word(BASE + end), b_word(0x111d0), 'end',
+                 'refused B3 Missing /program a'])]),
+        ('Tags that stand twice, and those of other relocations beside SYMBOLIC.', [
+            stored('script-symbolic-refused', 64, [install(twice), install(beside[0]), install(symbolic), replace(beside[1]), replace(twice), b'list'],
+                   ['refused C1 E16 DuplicateTag', 'refused C1 E18 UnsupportedTag', 'ok', 'refused C1 E18 UnsupportedTag',
+                    'refused C1 E16 DuplicateTag', f'library b {len(symbolic)}', 'end'])]),
+    ]
+
+
 def refused_binds():
     minimal, top = of_folder('minimal.so'), 0x7ffffffff000
     pair = [Symbol(b'f', GLOBAL, FUNC, DEFINED), Symbol(b'f', GLOBAL, FUNC, DEFINED)]
@@ -430,5 +466,5 @@ def wrong():
 
 
 if __name__ == '__main__':
-    write_list('scripts.txt', rows() + bad_lines() + many_libraries() + sectors() + refusals() + binds() + refused_binds()
-               + bind_lines() + sessions() + wrong())
+    write_list('scripts.txt', rows() + bad_lines() + many_libraries() + sectors() + refusals() + binds() + symbolic_binds()
+               + refused_binds() + bind_lines() + sessions() + wrong())
