@@ -1,43 +1,173 @@
-ghost use Rattle.std.specs.Prelude.{◌≡◌, ◌+◌, ◌<◌, ◌≤◌, ◌^◌, ◌∷◌, [], length, drop, IfSome, IfNone};
-ghost use Rattle.extents.specs.Runs.{runs_from};
-ghost use Rattle.extents.specs.Longest.{longest_runs};
+ghost use Rattle.std.specs.Prelude.{◌≡◌, ◌+◌, ◌-◌, ◌<◌, ◌≤◌, ◌^◌, ◌∷◌, ◌++◌, min, length, take, drop};
+ghost use Rattle.std.specs.Prelude.{slice_index_or, vec_len, vec_capacity, IfOk};
+ghost use Rattle.std.specs.List.{AllWithin};
+ghost use Rattle.std.specs.Vec.{vec_ptr};
+ghost use Rattle.extents.specs.Limits.{most_extents, root_sectors};
+ghost use Rattle.extents.specs.Longest.{longest_first};
+ghost use Rattle.extents.specs.inside.Kept.{IsRising, some_of};
 
 use crate::extent::Extent;
 use crate::extents::Extents;
-use crate::flags::first_with;
 use crate::limits::ROOT_SECTORS;
+use std::alloc::{AllocError, Global};
 
-/// The first free run of the sectors from `from` on.
-fn next_run(claimed: &[bool], from: usize) -> Option<Extent>
-    requires { length claimed.now < 2 ^ 32 }
-    ensures none { IfNone result (runs_from from (drop from claimed.now) ≡ []) }
-    ensures some { IfSome result (λ run. let end = run.start + run.count in
-        runs_from from (drop from claimed.now) ≡ run ∷ runs_from end (drop end claimed.now)) }
-    ensures further { IfSome result (λ run. from < run.start + run.count) }
-    ensures inside { IfSome result (λ run. run.start + run.count ≤ length claimed.now) }
+/// The runs of a disk of this many sectors, none of which is claimed: one, where there is a sector
+/// behind the roots. There is room for as many runs as the disk can have.
+pub(crate) fn one_run(alloc: Global, sectors: u32) -> Result<Vec<Extent>, AllocError>
+    ensures items { IfOk result (λ runs.
+        runs.items ≡ some_of root_sectors (sectors - root_sectors)) }
+    ensures room { IfOk result (λ runs.
+        sectors ≤ vec_capacity runs + vec_capacity runs + 2) }
 {
-    let start = first_with(claimed, from, false);
-    if start == claimed.len() {
-        return None;
+    let most = sectors.saturating_sub(1) / 2;
+    let mut runs = Vec::with_capacity(alloc, most as usize)?;
+    let count = sectors.saturating_sub(ROOT_SECTORS);
+    if count > 0 {
+        runs.push(Extent {
+            start: ROOT_SECTORS,
+            count,
+        })?;
     }
-    let end = first_with(claimed, start, true);
-    Some(Extent {
-        start: start as u32,
-        count: (end - start) as u32,
-    })
+    Ok(runs)
 }
 
-/// As many of the longest free runs as a file may have extents, longest first. One pass over the
-/// flags; each run is compared with a few of those that are kept, since their number is bounded.
-pub(crate) fn longest_runs(claimed: &[bool]) -> Extents
-    requires { length claimed.now < 2 ^ 32 }
-    ensures { result ≡ longest_runs claimed.now }
+/// How many of the runs end at a sector or before it. By halving.
+pub(crate) fn place_of(runs: &[Extent], sector: u32) -> usize
+    requires { IsRising runs.now }
+    ensures within { result ≤ length runs.now }
+    ensures before { AllWithin (λ run. run.start + run.count ≤ sector) runs.now 0 result }
+    ensures behind { AllWithin (λ run. sector < run.start + run.count) runs.now
+        result (length runs.now) }
+{
+    runs.partition_point(|run| run.start as u64 + run.count as u64 <= sector as u64)
+}
+
+/// Takes an extent out of the run at `place`, which has all of it: the run goes, or what is left
+/// of it before the extent or behind it stays, or both.
+pub(crate) fn cut(runs: &mut Vec<Extent>, place: usize, extent: Extent)
+    requires within { place < vec_len runs.old }
+    requires front { (slice_index_or runs.old.items place extent).start ≤ extent.start }
+    requires back { let run = slice_index_or runs.old.items place extent in
+        extent.start + extent.count ≤ run.start + run.count }
+    requires fits { let run = slice_index_or runs.old.items place extent in
+        run.start + run.count < 2 ^ 32 }
+    requires room { let run = slice_index_or runs.old.items place extent in
+        run.start < extent.start → extent.start + extent.count < run.start + run.count
+        → vec_len runs.old < vec_capacity runs.old }
+    ensures items { let run = slice_index_or runs.old.items place extent in
+        let end = extent.start + extent.count in
+        runs.new.items ≡ take place runs.old.items
+        ++ (some_of run.start (extent.start - run.start)
+        ++ some_of end (run.start + run.count - end))
+        ++ drop (place + 1) runs.old.items }
+    ensures capacity { vec_capacity runs.new ≡ vec_capacity runs.old }
+    ensures in_place { vec_ptr runs.new ≡ vec_ptr runs.old }
+{
+    let run = runs[place];
+    let end = extent.start + extent.count;
+    let front = extent.start - run.start;
+    let back = run.start + run.count - end;
+    if front == 0 && back == 0 {
+        runs.remove(place);
+        return;
+    }
+    if front == 0 {
+        runs[place] = Extent {
+            start: end,
+            count: back,
+        };
+        return;
+    }
+    runs[place] = Extent {
+        start: run.start,
+        count: front,
+    };
+    if back > 0 {
+        let rest = Extent {
+            start: end,
+            count: back,
+        };
+        runs.insert(place + 1, rest).unwrap();
+    }
+}
+
+/// How many sectors the run before `place` has, where it ends right before the sector; else 0.
+pub(crate) fn count_before(runs: &[Extent], place: usize, sector: u32) -> u32
+    requires { place ≤ length runs.now }
+    ensures none { result ≡ 0 → 0 < place → (d : Extent) →
+        let run = slice_index_or runs.now (place - 1) d in
+        (run.start + run.count ≡ sector) → run.count ≡ 0 }
+    ensures some { 0 < result → (0 < place) × ((d : Extent) →
+        let run = slice_index_or runs.now (place - 1) d in
+        (run.count ≡ result) × (run.start + run.count ≡ sector)) }
+{
+    if place == 0 {
+        return 0;
+    }
+    let run = runs[place - 1];
+    if run.start as u64 + run.count as u64 == sector as u64 {
+        run.count
+    } else {
+        0
+    }
+}
+
+/// How many sectors the run at `place` has, where it begins at the sector; else 0.
+pub(crate) fn count_behind(runs: &[Extent], place: usize, sector: u32) -> u32
+    requires { place ≤ length runs.now }
+    ensures none { result ≡ 0 → place < length runs.now → (d : Extent) →
+        let run = slice_index_or runs.now place d in (run.start ≡ sector) → run.count ≡ 0 }
+    ensures some { 0 < result → (place < length runs.now) × ((d : Extent) →
+        let run = slice_index_or runs.now place d in
+        (run.count ≡ result) × (run.start ≡ sector)) }
+{
+    if place == runs.len() {
+        return 0;
+    }
+    let run = runs[place];
+    if run.start == sector { run.count } else { 0 }
+}
+
+/// Puts an extent among the runs at `place`, joined to the one before it, which has `left`
+/// sectors, and the one behind it, which has `right`; to neither where that is 0.
+pub(crate) fn join(runs: &mut Vec<Extent>, place: usize, extent: Extent, left: u32, right: u32)
+    requires before { min left 1 ≤ place }
+    requires behind { place + min right 1 ≤ vec_len runs.old }
+    requires start { left ≤ extent.start }
+    requires fits { left + extent.count + right < 2 ^ 32 }
+    requires room { left ≡ 0 → right ≡ 0 → vec_len runs.old < vec_capacity runs.old }
+    ensures items { runs.new.items ≡ take (place - min left 1) runs.old.items
+        ++ record { start = extent.start - left; count = left + extent.count + right }
+        ∷ drop (place + min right 1) runs.old.items }
+    ensures capacity { vec_capacity runs.new ≡ vec_capacity runs.old }
+    ensures in_place { vec_ptr runs.new ≡ vec_ptr runs.old }
+{
+    let run = Extent {
+        start: extent.start - left,
+        count: left + extent.count + right,
+    };
+    if left == 0 && right == 0 {
+        runs.insert(place, run).unwrap();
+        return;
+    }
+    if left == 0 {
+        runs[place] = run;
+        return;
+    }
+    runs[place - 1] = run;
+    if right > 0 {
+        runs.remove(place);
+    }
+}
+
+/// As many of the longest runs as a file may have extents, longest first. One pass over the runs;
+/// each is compared with a few of those that are kept, since their number is bounded.
+pub(crate) fn longest_of(runs: &[Extent]) -> Extents
+    ensures { result ≡ take most_extents (longest_first runs.now) }
 {
     let mut longest = Extents::new();
-    let mut from = ROOT_SECTORS as usize;
-    while let Some(run) = next_run(claimed, from) {
-        longest.offer(run);
-        from = run.start as usize + run.count as usize;
+    for run in runs {
+        longest.offer(*run);
     }
     longest
 }

@@ -7,6 +7,7 @@ pub mod Following
 pub mod Frees
 pub mod News
 pub mod Openings
+pub mod Ordered
 pub mod OwnNames
 pub mod Placing
 pub mod Preloads
