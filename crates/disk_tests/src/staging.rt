@@ -1,6 +1,6 @@
 // What stands in which sector, and what is read back.
 use extents::Extent;
-use passes::{commit, read_bytes, stage};
+use passes::{SingleSector, commit, read_bytes, stage};
 use sector_disk::{Disk, Memory, SECTOR_BYTES};
 use std::test::Fail;
 
@@ -10,7 +10,17 @@ fn a_file_is_staged_over_its_extents_and_read_back(rt: HostRuntime) -> Result<()
     let extents = [Extent { start: 9, count: 1 }, Extent { start: 4, count: 2 }];
     let mut bytes = [7; 1100];
     bytes[512] = 8;
-    stage(&mut disk, &extents, &bytes, 3, &[5; SECTOR_BYTES])?;
+    let singles = [
+        SingleSector {
+            at: 3,
+            content: [5; SECTOR_BYTES],
+        },
+        SingleSector {
+            at: 10,
+            content: [4; SECTOR_BYTES],
+        },
+    ];
+    stage(&mut disk, &extents, &bytes, &singles)?;
     commit(&mut disk, 1, &[6; SECTOR_BYTES])?;
 
     let mut file = [1; 3 * SECTOR_BYTES];
@@ -37,6 +47,8 @@ fn a_file_is_staged_over_its_extents_and_read_back(rt: HostRuntime) -> Result<()
         (5, 7),
         (6, 0),
         (9, 7),
+        (10, 4),
+        (11, 0),
     ] {
         let mut sector = [1; SECTOR_BYTES];
         assert!(rt; at < disk.sectors(), "sector {at}");

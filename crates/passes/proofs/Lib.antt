@@ -5,3 +5,4 @@ pub mod Padding
 pub mod Readings
 pub mod Rows
 pub mod Runs
+pub mod Singles

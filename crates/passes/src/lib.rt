@@ -9,8 +9,10 @@
 mod pass;
 mod read;
 mod run;
+mod single;
 mod write;
 
 pub use pass::{commit, stage};
 pub use read::read_bytes;
+pub use single::SingleSector;
 pub use write::write_bytes;

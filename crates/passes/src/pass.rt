@@ -1,45 +1,49 @@
-ghost use Rattle.std.specs.Prelude.{◌≡◌, ◌+◌, ◌*◌, ◌<◌, ◌^◌, ◌∷◌, set, All, AllPairs, OnOk, IsTrue};
+ghost use Rattle.std.specs.Prelude.{◌≡◌, ◌+◌, ◌*◌, ◌<◌, ◌^◌, ◌++◌, length, set, All, AllPairs, OnOk, IsTrue};
 ghost use Rattle.std.specs.List.{Contains};
-ghost use Rattle.extents.specs.Extent.{IsApart, sector_count, places};
-ghost use Rattle.sector_disk.specs.Disk.{sector_bytes, sector, IsSynced};
+ghost use Rattle.extents.specs.Extent.{IsApart, AreDistinct, sector_count, places};
+ghost use Rattle.sector_disk.specs.Disk.{sector_bytes, IsSynced};
 ghost use Rattle.sector_disk.specs.Disk.{LeavesOnly, IsMixtureBut, IsMixtureOrSet};
 ghost use Rattle.passes.specs.Calls.{AreCallsInRow};
 ghost use Rattle.passes.specs.Bytes.{IsOnDisk, bytes_at, padded};
+ghost use Rattle.passes.specs.Singles.{single_places, HoldsSingles};
 
+use crate::single::{SingleSector, write_singles};
 use crate::write::write_bytes;
 use extents::Extent;
 use sector_disk::{Disk, DiskFault, SECTOR_BYTES};
 
-/// The first pass of a commit: writes a file's bytes into its extents and its entry into a
-/// sector, and syncs.
+/// The first pass of a commit: writes a file's bytes into its extents and then each single sector,
+/// in their order, and syncs.
 pub fn stage<D: Disk>(
     disk: &mut D,
     extents: &[Extent],
     bytes: &[u8],
-    at: u32,
-    entry: &[u8; SECTOR_BYTES],
+    singles: &[SingleSector],
 ) -> Result<(), DiskFault>
     requires inside { All (IsOnDisk (D.facts disk.old).sectors) extents.now }
     requires fits { (D.facts disk.old).sectors < 2 ^ 32 }
     requires apart { AllPairs IsApart extents.now }
-    requires room { at < (D.facts disk.old).sectors }
-    requires elsewhere { Contains (places extents.now) at → ⊥ }
-    ensures calls { AreCallsInRow (sector_count extents.now + 2)
+    requires room { All (λ single. single.at < (D.facts disk.old).sectors) singles.now }
+    requires once { AreDistinct (single_places singles.now) }
+    requires elsewhere { (k : _) → Contains (single_places singles.now) k
+        → Contains (places extents.now) k → ⊥ }
+    ensures calls { AreCallsInRow (sector_count extents.now + length singles.now + 1)
         (D.facts disk.old) (D.facts disk.new) result }
 
     // A stop at any moment changes the staged sectors alone.
     ensures any_moment { IsTrue (D.facts disk.old).honest
         → LeavesOnly (D.facts disk.old) (D.facts disk.new)
-        (IsMixtureBut (Contains (at ∷ places extents.now)) (D.facts disk.old)) }
+        (IsMixtureBut (Contains (single_places singles.now ++ places extents.now))
+        (D.facts disk.old)) }
     ensures written { IsTrue (D.facts disk.old).honest
         → OnOk result (bytes_at (D.facts disk.new).now (places extents.now)
         ≡ padded (sector_bytes * sector_count extents.now) bytes.now) }
-    ensures entry { IsTrue (D.facts disk.old).honest
-        → OnOk result (sector (D.facts disk.new).now at ≡ entry.now) }
+    ensures singles { IsTrue (D.facts disk.old).honest
+        → OnOk result (HoldsSingles (D.facts disk.new).now singles.now) }
     ensures synced { IsTrue (D.facts disk.old).honest → OnOk result (IsSynced (D.facts disk.new)) }
 {
     write_bytes(disk, extents, bytes)?;
-    disk.write(at, entry)?;
+    write_singles(disk, singles)?;
     disk.sync()
 }
 

@@ -19,7 +19,7 @@ ghost use Rattle.store.specs.inside.Room.{IsPut};
 
 use crate::room::Room;
 use extents::Extent;
-use passes::{commit, stage};
+use passes::{SingleSector, commit, stage};
 use roots::{Entry, MOST_LIBRARIES, Root, encode_entry, encode_root, slot_of};
 use sector_disk::{Disk, DiskFault, SECTOR_BYTES};
 
@@ -102,12 +102,10 @@ pub(crate) fn write_put<D: Disk>(
         → OnOk result ((m : List Sector) → Mixture (D.facts disk.new) m
         → StandsBy m root.now others s') }
 {
-    stage(
-        disk,
-        room.extents.as_slice(),
-        bytes,
-        room.entry,
-        &encode_entry(entry),
-    )?;
+    let entry = SingleSector {
+        at: room.entry,
+        content: encode_entry(entry),
+    };
+    stage(disk, room.extents.as_slice(), bytes, &[entry])?;
     commit(disk, slot_of(root.generation), &encode_root(root))
 }

@@ -1,9 +1,10 @@
-use Rattle.std.proofs.Common.{◌≡◌, IsTrue, ◌*◌, ◌∷◌, set, sym, subst, ◌∙◌}
+use Rattle.std.proofs.Common.{[], ◌≡◌, IsTrue, ◌*◌, ◌∷◌, set, sym, subst, ◌∙◌}
 use Rattle.std.specs.Prelude.{Contains}
 use Rattle.sector_disk.specs.Disk.{LeavesOnly, IsMixtureBut, sector_bytes}
 use Rattle.sector_disk.proofs.Moments.{left_now}
 use Rattle.extents.specs.Extent.{places, sector_count}
 use Rattle.passes.specs.Bytes.{bytes_at, padded}
+use Rattle.passes.proofs.Singles.{first_held}
 use Rattle.roots.specs.Root.{root_bytes}
 use Rattle.store.specs.Stands.{StandsBy}
 use Rattle.store.proofs.Claiming.{ok_both}
@@ -26,7 +27,7 @@ returns-clause-any_moment g c honest before entries s others s' stands put =
     let staged = subst (λ l. LeavesOnly old mid (IsMixtureBut (Contains (c.args.room.now.entry ∷ places l)) old)) c.as_slice.ensures.value (c.stage.ensures.any_moment honest) in
     let written = subst (λ l. bytes_at mid.now (places l) ≡ padded (sector_bytes * sector_count l) c.args.bytes.now) c.as_slice.ensures.value (c.in_ok-stage.ensures.written honest) in
     let still = left_now (λ m. StandsBy m before entries s) (staged_stands before entries s stands changed c.requires.behind put.unused staged) mid.now (g.met.D.Disk.holds_now _ honest_mid) in
-    let new = put.stands mid.now still written (c.in_ok-stage.ensures.entry honest ∙ c.encode_entry.ensures.spelling) in
+    let new = put.stands mid.now still written (first_held mid.now (record { at = c.args.room.now.entry; content = c.encode_entry.result }) [] (c.in_ok-stage.ensures.singles honest) ∙ c.encode_entry.ensures.spelling) in
     let by_content = subst (λ content. StandsBy (set mid.now c.slot_of.result content) c.args.root.now others s') (sym c.encode_root.ensures.spelling)
     (subst (λ k. StandsBy (set mid.now k (root_bytes c.args.root.now)) c.args.root.now others s') (sym c.slot_of.ensures.value) new) in
     committed_only before entries s stands changed c.requires.behind put.unused staged (c.in_ok-stage.ensures.synced honest) c.args.root.now others s' c.slot_of.result c.encode_root.result by_content
@@ -41,7 +42,7 @@ returns-clause-done g c honest before entries s others s' stands put =
     let staged = subst (λ l. LeavesOnly old mid (IsMixtureBut (Contains (c.args.room.now.entry ∷ places l)) old)) c.as_slice.ensures.value (c.stage.ensures.any_moment honest) in
     let written = subst (λ l. bytes_at mid.now (places l) ≡ padded (sector_bytes * sector_count l) c.args.bytes.now) c.as_slice.ensures.value (c.in_ok-stage.ensures.written honest) in
     let still = left_now (λ m. StandsBy m before entries s) (staged_stands before entries s stands changed c.requires.behind put.unused staged) mid.now (g.met.D.Disk.holds_now _ honest_mid) in
-    let new = put.stands mid.now still written (c.in_ok-stage.ensures.entry honest ∙ c.encode_entry.ensures.spelling) in
+    let new = put.stands mid.now still written (first_held mid.now (record { at = c.args.room.now.entry; content = c.encode_entry.result }) [] (c.in_ok-stage.ensures.singles honest) ∙ c.encode_entry.ensures.spelling) in
     let by_content = subst (λ content. StandsBy (set mid.now c.slot_of.result content) c.args.root.now others s') (sym c.encode_root.ensures.spelling)
     (subst (λ k. StandsBy (set mid.now k (root_bytes c.args.root.now)) c.args.root.now others s') (sym c.slot_of.ensures.value) new) in
     ok_both c.commit.result
