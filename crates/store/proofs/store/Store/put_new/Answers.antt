@@ -21,62 +21,41 @@ use Rattle.store.proofs.News.{next_fits, next_kept, room_behind, entry_elsewhere
 use Rattle.store.proofs.Placing.{taken_so}
 use Rattle.store.proofs.Rooms.{inside_mid}
 use Rattle.store.proofs.Frees.{free_is, longest_is, put_refused, put_taken, answers_take, new_as_put}
+use Rattle.store.proofs.store.Store.put_new.Given as given
+use Rattle.store.proofs.store.Store.put_new.Goals.{After-with_entry-root}
 use Rattle.store.proofs.store.Store.put_new.Goals as goal
+
+-- what is put is one more entry
+newly : (g : given.Over) (c : After-with_entry-root g) → IsNew c.self.inside.root c.self.inside.entries.items c.self.inside.layout c.take_room.new.layout c.sectors_of.result c.in_ok-room.room.extents c.in_ok-room.room.entry c.new_entry-entry.result c.with_entry-root.result
+newly g c = record {
+  kept = c.self.invariant.0;
+  room = c.in_ok-room.ensures.ok;
+  fits = c.new_entry-entry.ensures.fits;
+  its = c.new_entry-entry.ensures.extents ∙ c.as_slice.ensures.value;
+  named = subst (λ name. All (λ other. name_of other ≢ name) c.self.inside.entries.items) (sym c.new_entry-entry.ensures.name) (subst (λ store. LacksName store c.args.name.now) (sym c.self.view_is) c.requires.new);
+  few = omega (arith, c.if-len-ge-MOST_LIBRARIES.false, c.len.ensures, c.self.invariant.0.count);
+  later = omega (arith, c.if-self-2.false, c.self.invariant.0.root_fits.generation);
+  is_next = c.with_entry-root.ensures;
+}
 
 pub write_put-requires-clause-root : goal.write_put-requires-clause-root
 write_put-requires-clause-root g c =
-    let is_new : IsNew c.self.inside.root c.self.inside.entries.items c.self.inside.layout c.take_room.new.layout c.sectors_of.result c.in_ok-room.room.extents c.in_ok-room.room.entry c.new_entry-entry.result c.with_entry-root.result = record {
-      kept = c.self.invariant.0;
-      room = c.in_ok-room.ensures.ok;
-      fits = c.new_entry-entry.ensures.fits;
-      its = c.new_entry-entry.ensures.extents ∙ c.as_slice.ensures.value;
-      named = subst (λ name. All (λ other. name_of other ≢ name) c.self.inside.entries.items) (sym c.new_entry-entry.ensures.name) (subst (λ store. LacksName store c.args.name.now) (sym c.self.view_is) c.requires.new);
-      few = omega (arith, c.if-len-ge-MOST_LIBRARIES.false, c.len.ensures, c.self.invariant.0.count);
-      later = omega (arith, c.if-self-2.false, c.self.invariant.0.root_fits.generation);
-      is_next = c.with_entry-root.ensures;
-    } in
+    let is_new = newly g (goal.at.write_put-requires-clause-root g c).After-with_entry-root in
     next_fits is_new
 
 pub write_put-requires-clause-at : goal.write_put-requires-clause-at
 write_put-requires-clause-at g c =
-    let is_new : IsNew c.self.inside.root c.self.inside.entries.items c.self.inside.layout c.take_room.new.layout c.sectors_of.result c.in_ok-room.room.extents c.in_ok-room.room.entry c.new_entry-entry.result c.with_entry-root.result = record {
-      kept = c.self.invariant.0;
-      room = c.in_ok-room.ensures.ok;
-      fits = c.new_entry-entry.ensures.fits;
-      its = c.new_entry-entry.ensures.extents ∙ c.as_slice.ensures.value;
-      named = subst (λ name. All (λ other. name_of other ≢ name) c.self.inside.entries.items) (sym c.new_entry-entry.ensures.name) (subst (λ store. LacksName store c.args.name.now) (sym c.self.view_is) c.requires.new);
-      few = omega (arith, c.if-len-ge-MOST_LIBRARIES.false, c.len.ensures, c.self.invariant.0.count);
-      later = omega (arith, c.if-self-2.false, c.self.invariant.0.root_fits.generation);
-      is_next = c.with_entry-root.ensures;
-    } in
+    let is_new = newly g (goal.at.write_put-requires-clause-at g c).After-with_entry-root in
     let usable = room_behind is_new.kept is_new.room _ (0, omega arith, refl) in omega (arith, usable.1, c.self.invariant.1)
 
 pub write_put-requires-clause-behind : goal.write_put-requires-clause-behind
 write_put-requires-clause-behind g c =
-    let is_new : IsNew c.self.inside.root c.self.inside.entries.items c.self.inside.layout c.take_room.new.layout c.sectors_of.result c.in_ok-room.room.extents c.in_ok-room.room.entry c.new_entry-entry.result c.with_entry-root.result = record {
-      kept = c.self.invariant.0;
-      room = c.in_ok-room.ensures.ok;
-      fits = c.new_entry-entry.ensures.fits;
-      its = c.new_entry-entry.ensures.extents ∙ c.as_slice.ensures.value;
-      named = subst (λ name. All (λ other. name_of other ≢ name) c.self.inside.entries.items) (sym c.new_entry-entry.ensures.name) (subst (λ store. LacksName store c.args.name.now) (sym c.self.view_is) c.requires.new);
-      few = omega (arith, c.if-len-ge-MOST_LIBRARIES.false, c.len.ensures, c.self.invariant.0.count);
-      later = omega (arith, c.if-self-2.false, c.self.invariant.0.root_fits.generation);
-      is_next = c.with_entry-root.ensures;
-    } in
+    let is_new = newly g (goal.at.write_put-requires-clause-behind g c).After-with_entry-root in
     λ k found. (room_behind is_new.kept is_new.room k found).0
 
 pub write_put-requires-clause-elsewhere : goal.write_put-requires-clause-elsewhere
 write_put-requires-clause-elsewhere g c =
-    let is_new : IsNew c.self.inside.root c.self.inside.entries.items c.self.inside.layout c.take_room.new.layout c.sectors_of.result c.in_ok-room.room.extents c.in_ok-room.room.entry c.new_entry-entry.result c.with_entry-root.result = record {
-      kept = c.self.invariant.0;
-      room = c.in_ok-room.ensures.ok;
-      fits = c.new_entry-entry.ensures.fits;
-      its = c.new_entry-entry.ensures.extents ∙ c.as_slice.ensures.value;
-      named = subst (λ name. All (λ other. name_of other ≢ name) c.self.inside.entries.items) (sym c.new_entry-entry.ensures.name) (subst (λ store. LacksName store c.args.name.now) (sym c.self.view_is) c.requires.new);
-      few = omega (arith, c.if-len-ge-MOST_LIBRARIES.false, c.len.ensures, c.self.invariant.0.count);
-      later = omega (arith, c.if-self-2.false, c.self.invariant.0.root_fits.generation);
-      is_next = c.with_entry-root.ensures;
-    } in
+    let is_new = newly g (goal.at.write_put-requires-clause-elsewhere g c).After-with_entry-root in
     entry_elsewhere is_new.kept is_new.room
 
 pub give_back-requires-clause-inside : goal.give_back-requires-clause-inside
@@ -97,16 +76,7 @@ give_back-requires-clause-once g c =
 
 pub returns-in-Err-clause-any_moment : goal.returns-in-Err-clause-any_moment
 returns-in-Err-clause-any_moment g c s at_entry =
-    let is_new : IsNew c.self.inside.root c.self.inside.entries.items c.self.inside.layout c.take_room.new.layout c.sectors_of.result c.in_ok-room.room.extents c.in_ok-room.room.entry c.new_entry-entry.result c.with_entry-root.result = record {
-      kept = c.self.invariant.0;
-      room = c.in_ok-room.ensures.ok;
-      fits = c.new_entry-entry.ensures.fits;
-      its = c.new_entry-entry.ensures.extents ∙ c.as_slice.ensures.value;
-      named = subst (λ name. All (λ other. name_of other ≢ name) c.self.inside.entries.items) (sym c.new_entry-entry.ensures.name) (subst (λ store. LacksName store c.args.name.now) (sym c.self.view_is) c.requires.new);
-      few = omega (arith, c.if-len-ge-MOST_LIBRARIES.false, c.len.ensures, c.self.invariant.0.count);
-      later = omega (arith, c.if-self-2.false, c.self.invariant.0.root_fits.generation);
-      is_next = c.with_entry-root.ensures;
-    } in
+    let is_new = newly g (goal.at.returns-in-Err-clause-any_moment g c).After-with_entry-root in
     let at = subst (λ store. IsAt g.D.Disk.facts store s) (sym c.self.view_is) at_entry in
     let enough : length c.args.bytes.now ≤ 512 * sector_count c.in_ok-room.room.extents = omega (arith, is_new.room.given.needed, c.sectors_of.ensures, (div_ceil_times (length c.args.bytes.now) 512 (omega arith)).0) in
     let put = new_put is_new c.args.name.now c.args.bytes.now c.new_entry-entry.ensures.name c.new_entry-entry.ensures.length enough s in
@@ -115,16 +85,7 @@ returns-in-Err-clause-any_moment g c s at_entry =
 
 pub returns-clause-any_moment : goal.returns-clause-any_moment
 returns-clause-any_moment g c s at_entry =
-    let is_new : IsNew c.self.inside.root c.self.inside.entries.items c.self.inside.layout c.take_room.new.layout c.sectors_of.result c.in_ok-room.room.extents c.in_ok-room.room.entry c.new_entry-entry.result c.with_entry-root.result = record {
-      kept = c.self.invariant.0;
-      room = c.in_ok-room.ensures.ok;
-      fits = c.new_entry-entry.ensures.fits;
-      its = c.new_entry-entry.ensures.extents ∙ c.as_slice.ensures.value;
-      named = subst (λ name. All (λ other. name_of other ≢ name) c.self.inside.entries.items) (sym c.new_entry-entry.ensures.name) (subst (λ store. LacksName store c.args.name.now) (sym c.self.view_is) c.requires.new);
-      few = omega (arith, c.if-len-ge-MOST_LIBRARIES.false, c.len.ensures, c.self.invariant.0.count);
-      later = omega (arith, c.if-self-2.false, c.self.invariant.0.root_fits.generation);
-      is_next = c.with_entry-root.ensures;
-    } in
+    let is_new = newly g (goal.at.returns-clause-any_moment g c).After-with_entry-root in
     let at = subst (λ store. IsAt g.D.Disk.facts store s) (sym c.self.view_is) at_entry in
     let enough : length c.args.bytes.now ≤ 512 * sector_count c.in_ok-room.room.extents = omega (arith, is_new.room.given.needed, c.sectors_of.ensures, (div_ceil_times (length c.args.bytes.now) 512 (omega arith)).0) in
     let put = new_put is_new c.args.name.now c.args.bytes.now c.new_entry-entry.ensures.name c.new_entry-entry.ensures.length enough s in
@@ -133,16 +94,7 @@ returns-clause-any_moment g c s at_entry =
 
 pub invariant_of-self-2 : goal.invariant_of-self-2
 invariant_of-self-2 g c =
-    let is_new : IsNew c.self.inside.root c.self.inside.entries.items c.self.inside.layout c.take_room.new.layout c.sectors_of.result c.in_ok-room.room.extents c.in_ok-room.room.entry c.new_entry-entry.result c.with_entry-root.result = record {
-      kept = c.self.invariant.0;
-      room = c.in_ok-room.ensures.ok;
-      fits = c.new_entry-entry.ensures.fits;
-      its = c.new_entry-entry.ensures.extents ∙ c.as_slice.ensures.value;
-      named = subst (λ name. All (λ other. name_of other ≢ name) c.self.inside.entries.items) (sym c.new_entry-entry.ensures.name) (subst (λ store. LacksName store c.args.name.now) (sym c.self.view_is) c.requires.new);
-      few = omega (arith, c.if-len-ge-MOST_LIBRARIES.false, c.len.ensures, c.self.invariant.0.count);
-      later = omega (arith, c.if-self-2.false, c.self.invariant.0.root_fits.generation);
-      is_next = c.with_entry-root.ensures;
-    } in
+    let is_new = newly g (goal.at.invariant_of-self-2 g c).After-with_entry-root in
     let items = c.in-Ok.ensures.items ∙ ap (λ l. l ++ c.new_entry-entry.result ∷ []) c.reserve.ensures.items in (
       subst (λ l. IsKept c.with_entry-root.result l c.take_room.new.layout) (sym items) (next_kept is_new),
       c.write_put.ensures.calls.sectors ∙ c.self.invariant.1 ∙ sym (ap (λ r. r.sectors) c.with_entry-root.ensures),
@@ -150,16 +102,7 @@ invariant_of-self-2 g c =
 
 pub returns-clause-ok : goal.returns-clause-ok
 returns-clause-ok g c s at_entry =
-    let is_new : IsNew c.self.inside.root c.self.inside.entries.items c.self.inside.layout c.take_room.new.layout c.sectors_of.result c.in_ok-room.room.extents c.in_ok-room.room.entry c.new_entry-entry.result c.with_entry-root.result = record {
-      kept = c.self.invariant.0;
-      room = c.in_ok-room.ensures.ok;
-      fits = c.new_entry-entry.ensures.fits;
-      its = c.new_entry-entry.ensures.extents ∙ c.as_slice.ensures.value;
-      named = subst (λ name. All (λ other. name_of other ≢ name) c.self.inside.entries.items) (sym c.new_entry-entry.ensures.name) (subst (λ store. LacksName store c.args.name.now) (sym c.self.view_is) c.requires.new);
-      few = omega (arith, c.if-len-ge-MOST_LIBRARIES.false, c.len.ensures, c.self.invariant.0.count);
-      later = omega (arith, c.if-self-2.false, c.self.invariant.0.root_fits.generation);
-      is_next = c.with_entry-root.ensures;
-    } in
+    let is_new = newly g (goal.at.returns-clause-ok g c).After-with_entry-root in
     let at = subst (λ store. IsAt g.D.Disk.facts store s) (sym c.self.view_is) at_entry in
     let enough : length c.args.bytes.now ≤ 512 * sector_count c.in_ok-room.room.extents = omega (arith, is_new.room.given.needed, c.sectors_of.ensures, (div_ceil_times (length c.args.bytes.now) 512 (omega arith)).0) in
     let put = new_put is_new c.args.name.now c.args.bytes.now c.new_entry-entry.ensures.name c.new_entry-entry.ensures.length enough s in

@@ -28,7 +28,23 @@ use Rattle.store.proofs.Removals.{no_entry}
 use Rattle.store.proofs.Replacements.{IsReplacement, named_is_name, replacement_next, replacement_put, replacement_used, replacement_parts}
 use Rattle.store.proofs.Placing.{taken_so}
 use Rattle.store.proofs.Rooms.{inside_mid}
+use Rattle.store.proofs.store.Store.put_over.Given as given
+use Rattle.store.proofs.store.Store.put_over.Goals.{After-with_entry_at-root}
 use Rattle.store.proofs.store.Store.put_over.Goals as goal
+
+-- what is put stands in the place of the entry of its name
+replacing : (g : given.Over) (c : After-with_entry_at-root g) → IsReplacement c.self.inside.root c.self.inside.entries.items c.self.inside.layout c.take_room.new.layout c.args.name.now c.in-Some.position c.sectors_of.result c.in_ok-room.room.extents c.in_ok-room.room.entry c.new_entry-entry.result c.with_entry_at-root.result
+replacing g c = record {
+  kept = c.self.invariant.0;
+  room = c.in_ok-room.ensures.ok;
+  fits = c.new_entry-entry.ensures.fits;
+  its = c.new_entry-entry.ensures.extents ∙ c.as_slice.ensures.value;
+  inside = omega (arith, c.in-Some.ensures.some.0, ap length c.deref.ensures.value);
+  named = λ d. subst (λ l. name_of (get_or l c.in-Some.position d) ≡ c.args.name.now) c.deref.ensures.value (c.in-Some.ensures.some.1 d);
+  its_name = c.new_entry-entry.ensures.name;
+  later = omega (arith, c.if-self-2.false, c.self.invariant.0.root_fits.generation);
+  is_next = c.with_entry_at-root.ensures;
+}
 
 pub unreachable-requires : goal.unreachable-requires
 unreachable-requires g c =
@@ -47,17 +63,7 @@ pub write_put-requires-clause-root : goal.write_put-requires-clause-root
 write_put-requires-clause-root g c =
     let entries = c.self.inside.entries.items in
     let position = c.in-Some.position in
-    let is : IsReplacement c.self.inside.root entries c.self.inside.layout c.take_room.new.layout c.args.name.now position c.sectors_of.result c.in_ok-room.room.extents c.in_ok-room.room.entry c.new_entry-entry.result c.with_entry_at-root.result = record {
-      kept = c.self.invariant.0;
-      room = c.in_ok-room.ensures.ok;
-      fits = c.new_entry-entry.ensures.fits;
-      its = c.new_entry-entry.ensures.extents ∙ c.as_slice.ensures.value;
-      inside = omega (arith, c.in-Some.ensures.some.0, ap length c.deref.ensures.value);
-      named = λ d. subst (λ l. name_of (get_or l position d) ≡ c.args.name.now) c.deref.ensures.value (c.in-Some.ensures.some.1 d);
-      its_name = c.new_entry-entry.ensures.name;
-      later = omega (arith, c.if-self-2.false, c.self.invariant.0.root_fits.generation);
-      is_next = c.with_entry_at-root.ensures;
-    } in
+    let is = replacing g (goal.at.write_put-requires-clause-root g c).After-with_entry_at-root in
     following_fits (replacement_next is) is.kept.root_fits
 
 pub write_put-requires-clause-at : goal.write_put-requires-clause-at
@@ -90,17 +96,7 @@ pub returns-in-Err-clause-any_moment : goal.returns-in-Err-clause-any_moment
 returns-in-Err-clause-any_moment g c s at_entry =
     let entries = c.self.inside.entries.items in
     let position = c.in-Some.position in
-    let is : IsReplacement c.self.inside.root entries c.self.inside.layout c.take_room.new.layout c.args.name.now position c.sectors_of.result c.in_ok-room.room.extents c.in_ok-room.room.entry c.new_entry-entry.result c.with_entry_at-root.result = record {
-      kept = c.self.invariant.0;
-      room = c.in_ok-room.ensures.ok;
-      fits = c.new_entry-entry.ensures.fits;
-      its = c.new_entry-entry.ensures.extents ∙ c.as_slice.ensures.value;
-      inside = omega (arith, c.in-Some.ensures.some.0, ap length c.deref.ensures.value);
-      named = λ d. subst (λ l. name_of (get_or l position d) ≡ c.args.name.now) c.deref.ensures.value (c.in-Some.ensures.some.1 d);
-      its_name = c.new_entry-entry.ensures.name;
-      later = omega (arith, c.if-self-2.false, c.self.invariant.0.root_fits.generation);
-      is_next = c.with_entry_at-root.ensures;
-    } in
+    let is = replacing g (goal.at.returns-in-Err-clause-any_moment g c).After-with_entry_at-root in
     let at = subst (λ store. IsAt g.D.Disk.facts store s) (sym c.self.view_is) at_entry in
     let enough : length c.args.bytes.now ≤ 512 * sector_count c.in_ok-room.room.extents = omega (arith, is.room.given.needed, c.sectors_of.ensures, (div_ceil_times (length c.args.bytes.now) 512 (omega arith)).0) in
     let put = replacement_put is c.args.bytes.now s c.new_entry-entry.ensures.length enough in
@@ -113,17 +109,7 @@ pub returns-clause-any_moment : goal.returns-clause-any_moment
 returns-clause-any_moment g c s at_entry =
     let entries = c.self.inside.entries.items in
     let position = c.in-Some.position in
-    let is : IsReplacement c.self.inside.root entries c.self.inside.layout c.take_room.new.layout c.args.name.now position c.sectors_of.result c.in_ok-room.room.extents c.in_ok-room.room.entry c.new_entry-entry.result c.with_entry_at-root.result = record {
-      kept = c.self.invariant.0;
-      room = c.in_ok-room.ensures.ok;
-      fits = c.new_entry-entry.ensures.fits;
-      its = c.new_entry-entry.ensures.extents ∙ c.as_slice.ensures.value;
-      inside = omega (arith, c.in-Some.ensures.some.0, ap length c.deref.ensures.value);
-      named = λ d. subst (λ l. name_of (get_or l position d) ≡ c.args.name.now) c.deref.ensures.value (c.in-Some.ensures.some.1 d);
-      its_name = c.new_entry-entry.ensures.name;
-      later = omega (arith, c.if-self-2.false, c.self.invariant.0.root_fits.generation);
-      is_next = c.with_entry_at-root.ensures;
-    } in
+    let is = replacing g (goal.at.returns-clause-any_moment g c).After-with_entry_at-root in
     let at = subst (λ store. IsAt g.D.Disk.facts store s) (sym c.self.view_is) at_entry in
     let enough : length c.args.bytes.now ≤ 512 * sector_count c.in_ok-room.room.extents = omega (arith, is.room.given.needed, c.sectors_of.ensures, (div_ceil_times (length c.args.bytes.now) 512 (omega arith)).0) in
     let put = replacement_put is c.args.bytes.now s c.new_entry-entry.ensures.length enough in
@@ -136,17 +122,7 @@ pub give_back-requires-2-clause-entry : goal.give_back-requires-2-clause-entry
 give_back-requires-2-clause-entry g c =
     let entries = c.self.inside.entries.items in
     let position = c.in-Some.position in
-    let is : IsReplacement c.self.inside.root entries c.self.inside.layout c.take_room.new.layout c.args.name.now position c.sectors_of.result c.in_ok-room.room.extents c.in_ok-room.room.entry c.new_entry-entry.result c.with_entry_at-root.result = record {
-      kept = c.self.invariant.0;
-      room = c.in_ok-room.ensures.ok;
-      fits = c.new_entry-entry.ensures.fits;
-      its = c.new_entry-entry.ensures.extents ∙ c.as_slice.ensures.value;
-      inside = omega (arith, c.in-Some.ensures.some.0, ap length c.deref.ensures.value);
-      named = λ d. subst (λ l. name_of (get_or l position d) ≡ c.args.name.now) c.deref.ensures.value (c.in-Some.ensures.some.1 d);
-      its_name = c.new_entry-entry.ensures.name;
-      later = omega (arith, c.if-self-2.false, c.self.invariant.0.root_fits.generation);
-      is_next = c.with_entry_at-root.ensures;
-    } in
+    let is = replacing g (goal.at.give_back-requires-2-clause-entry g c).After-with_entry_at-root in
     let layout = c.take_room.new.layout in
     let at_is : get_or c.entry_sectors.result.now position 0 ≡ get_or (listed_sectors c.self.inside.root) position 0 = ap (λ l. get_or l position 0) c.entry_sectors.ensures in
     subst (λ k. AllClaimed layout (one_sector k)) (sym at_is) (first_claimed (replacement_used is))
@@ -155,17 +131,7 @@ pub give_back-requires-2-clause-inside : goal.give_back-requires-2-clause-inside
 give_back-requires-2-clause-inside g c =
     let entries = c.self.inside.entries.items in
     let position = c.in-Some.position in
-    let is : IsReplacement c.self.inside.root entries c.self.inside.layout c.take_room.new.layout c.args.name.now position c.sectors_of.result c.in_ok-room.room.extents c.in_ok-room.room.entry c.new_entry-entry.result c.with_entry_at-root.result = record {
-      kept = c.self.invariant.0;
-      room = c.in_ok-room.ensures.ok;
-      fits = c.new_entry-entry.ensures.fits;
-      its = c.new_entry-entry.ensures.extents ∙ c.as_slice.ensures.value;
-      inside = omega (arith, c.in-Some.ensures.some.0, ap length c.deref.ensures.value);
-      named = λ d. subst (λ l. name_of (get_or l position d) ≡ c.args.name.now) c.deref.ensures.value (c.in-Some.ensures.some.1 d);
-      its_name = c.new_entry-entry.ensures.name;
-      later = omega (arith, c.if-self-2.false, c.self.invariant.0.root_fits.generation);
-      is_next = c.with_entry_at-root.ensures;
-    } in
+    let is = replacing g (goal.at.give_back-requires-2-clause-inside g c).After-with_entry_at-root in
     let layout = c.take_room.new.layout in
     let at_is : get_or c.entry_sectors.result.now position 0 ≡ get_or (listed_sectors c.self.inside.root) position 0 = ap (λ l. get_or l position 0) c.entry_sectors.ensures in
     let its = get_or entries position no_entry in
@@ -177,17 +143,7 @@ pub give_back-requires-2-clause-claimed : goal.give_back-requires-2-clause-claim
 give_back-requires-2-clause-claimed g c =
     let entries = c.self.inside.entries.items in
     let position = c.in-Some.position in
-    let is : IsReplacement c.self.inside.root entries c.self.inside.layout c.take_room.new.layout c.args.name.now position c.sectors_of.result c.in_ok-room.room.extents c.in_ok-room.room.entry c.new_entry-entry.result c.with_entry_at-root.result = record {
-      kept = c.self.invariant.0;
-      room = c.in_ok-room.ensures.ok;
-      fits = c.new_entry-entry.ensures.fits;
-      its = c.new_entry-entry.ensures.extents ∙ c.as_slice.ensures.value;
-      inside = omega (arith, c.in-Some.ensures.some.0, ap length c.deref.ensures.value);
-      named = λ d. subst (λ l. name_of (get_or l position d) ≡ c.args.name.now) c.deref.ensures.value (c.in-Some.ensures.some.1 d);
-      its_name = c.new_entry-entry.ensures.name;
-      later = omega (arith, c.if-self-2.false, c.self.invariant.0.root_fits.generation);
-      is_next = c.with_entry_at-root.ensures;
-    } in
+    let is = replacing g (goal.at.give_back-requires-2-clause-claimed g c).After-with_entry_at-root in
     let layout = c.take_room.new.layout in
     let at_is : get_or c.entry_sectors.result.now position 0 ≡ get_or (listed_sectors c.self.inside.root) position 0 = ap (λ l. get_or l position 0) c.entry_sectors.ensures in
     let its = get_or entries position no_entry in
@@ -199,17 +155,7 @@ pub give_back-requires-2-clause-once : goal.give_back-requires-2-clause-once
 give_back-requires-2-clause-once g c =
     let entries = c.self.inside.entries.items in
     let position = c.in-Some.position in
-    let is : IsReplacement c.self.inside.root entries c.self.inside.layout c.take_room.new.layout c.args.name.now position c.sectors_of.result c.in_ok-room.room.extents c.in_ok-room.room.entry c.new_entry-entry.result c.with_entry_at-root.result = record {
-      kept = c.self.invariant.0;
-      room = c.in_ok-room.ensures.ok;
-      fits = c.new_entry-entry.ensures.fits;
-      its = c.new_entry-entry.ensures.extents ∙ c.as_slice.ensures.value;
-      inside = omega (arith, c.in-Some.ensures.some.0, ap length c.deref.ensures.value);
-      named = λ d. subst (λ l. name_of (get_or l position d) ≡ c.args.name.now) c.deref.ensures.value (c.in-Some.ensures.some.1 d);
-      its_name = c.new_entry-entry.ensures.name;
-      later = omega (arith, c.if-self-2.false, c.self.invariant.0.root_fits.generation);
-      is_next = c.with_entry_at-root.ensures;
-    } in
+    let is = replacing g (goal.at.give_back-requires-2-clause-once g c).After-with_entry_at-root in
     let its = get_or entries position no_entry in
     let extents_are : c.file_extents.result.now ≡ extents_of its = c.file_extents.ensures ∙ ap extents_of (c.index.ensures ∙ get_or_default entries position _ no_entry is.inside) in
     subst (λ l. AreDistinct (places l)) (sym extents_are) (rest_once (replacement_used is))
@@ -218,17 +164,7 @@ pub invariant_of-self-2 : goal.invariant_of-self-2
 invariant_of-self-2 g c =
     let entries = c.self.inside.entries.items in
     let position = c.in-Some.position in
-    let is : IsReplacement c.self.inside.root entries c.self.inside.layout c.take_room.new.layout c.args.name.now position c.sectors_of.result c.in_ok-room.room.extents c.in_ok-room.room.entry c.new_entry-entry.result c.with_entry_at-root.result = record {
-      kept = c.self.invariant.0;
-      room = c.in_ok-room.ensures.ok;
-      fits = c.new_entry-entry.ensures.fits;
-      its = c.new_entry-entry.ensures.extents ∙ c.as_slice.ensures.value;
-      inside = omega (arith, c.in-Some.ensures.some.0, ap length c.deref.ensures.value);
-      named = λ d. subst (λ l. name_of (get_or l position d) ≡ c.args.name.now) c.deref.ensures.value (c.in-Some.ensures.some.1 d);
-      its_name = c.new_entry-entry.ensures.name;
-      later = omega (arith, c.if-self-2.false, c.self.invariant.0.root_fits.generation);
-      is_next = c.with_entry_at-root.ensures;
-    } in
+    let is = replacing g (goal.at.invariant_of-self-2 g c).After-with_entry_at-root in
     let layout = c.take_room.new.layout in
     let at_is : get_or c.entry_sectors.result.now position 0 ≡ get_or (listed_sectors c.self.inside.root) position 0 = ap (λ l. get_or l position 0) c.entry_sectors.ensures in
     let its = get_or entries position no_entry in
@@ -250,17 +186,7 @@ pub returns-clause-ok : goal.returns-clause-ok
 returns-clause-ok g c s at_entry =
     let entries = c.self.inside.entries.items in
     let position = c.in-Some.position in
-    let is : IsReplacement c.self.inside.root entries c.self.inside.layout c.take_room.new.layout c.args.name.now position c.sectors_of.result c.in_ok-room.room.extents c.in_ok-room.room.entry c.new_entry-entry.result c.with_entry_at-root.result = record {
-      kept = c.self.invariant.0;
-      room = c.in_ok-room.ensures.ok;
-      fits = c.new_entry-entry.ensures.fits;
-      its = c.new_entry-entry.ensures.extents ∙ c.as_slice.ensures.value;
-      inside = omega (arith, c.in-Some.ensures.some.0, ap length c.deref.ensures.value);
-      named = λ d. subst (λ l. name_of (get_or l position d) ≡ c.args.name.now) c.deref.ensures.value (c.in-Some.ensures.some.1 d);
-      its_name = c.new_entry-entry.ensures.name;
-      later = omega (arith, c.if-self-2.false, c.self.invariant.0.root_fits.generation);
-      is_next = c.with_entry_at-root.ensures;
-    } in
+    let is = replacing g (goal.at.returns-clause-ok g c).After-with_entry_at-root in
     let at = subst (λ store. IsAt g.D.Disk.facts store s) (sym c.self.view_is) at_entry in
     let enough : length c.args.bytes.now ≤ 512 * sector_count c.in_ok-room.room.extents = omega (arith, is.room.given.needed, c.sectors_of.ensures, (div_ceil_times (length c.args.bytes.now) 512 (omega arith)).0) in
     let put = replacement_put is c.args.bytes.now s c.new_entry-entry.ensures.length enough in
