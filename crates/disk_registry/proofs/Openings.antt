@@ -7,17 +7,15 @@ use Rattle.sector_disk.proofs.Moments.{weaken}
 use Rattle.store.specs.State as store
 use Rattle.store.specs.Stands as sectors
 use Rattle.store.specs.Opened as opened
-use Rattle.store.specs.Opening as opening
-use Rattle.store.specs.Opening.{IsGeometry, HasRootMagic, HasCurrentRoot}
+use Rattle.store.specs.Opening.{IsGeometry, HasRootMagic, HasCurrentRoot, RefusesOpen}
 use Rattle.store.specs.declared.refusal.StoreRefusal.{StoreRefusal}
 use Rattle.store.specs.declared.refusal.StoreRefusal.TheVariants as refusal
 use Rattle.store.proofs.StandsLemmas as sectors_lemmas
-use Rattle.store.proofs.Openings.{current_magic}
+use Rattle.store.proofs.Openings.{current_magic, device_refused, damaged_refused, memory_refused}
 use Rattle.registry.specs.Library.{IsLibrary}
 use Rattle.registry.specs.State.{State, empty_state}
 use Rattle.disk_registry.specs.Stands.{Stands, stored, library_of}
 use Rattle.disk_registry.specs.Opened.{IsAt}
-use Rattle.disk_registry.specs.Opening.{RefusesOpen}
 use Rattle.disk_registry.specs.inside.Reading.{IsReadRefusal}
 use Rattle.disk_registry.proofs.States.{registry_of, stored_of, libraries_back}
 
@@ -62,10 +60,10 @@ has_root : (m : List Sector) (t : store.State) → sectors.Stands m t → HasCur
 has_root m t (root, entries, by) = (root, by.intact.current, by.intact.size)
 
 -- what is refused after the store was opened
-pub refuses_files : {D : Type 0} (facts : D → DiskFacts) (old new : opened.Opened D) (m : List Sector) (t : store.State) (e : StoreRefusal) → IsReadRefusal facts old new e → IsFalse old.failed → IsGeometry (length m) → sectors.Stands m t → (e ≡ refusal.Damaged → All IsLibrary (map library_of t.blobs) → ⊥) → RefusesOpen m e
-refuses_files facts old new m t refusal.Device is usable geometry stands damaged = geometry
-refuses_files facts old new m t refusal.OutOfMemory is usable geometry stands damaged = (geometry, has_root m t stands)
-refuses_files facts old new m t refusal.Damaged is usable geometry stands damaged = (geometry, has_magic m t stands, no_state m t stands (damaged refl))
+pub refuses_files : {D : Type 0} (facts : D → DiskFacts) (old new : opened.Opened D) (m : List Sector) (t : store.State) (e : StoreRefusal) → IsReadRefusal facts old new e → IsFalse old.failed → IsGeometry (length m) → sectors.Stands m t → (e ≡ refusal.Damaged → All IsLibrary (map library_of t.blobs) → ⊥) → RefusesOpen Stands m e
+refuses_files facts old new m t refusal.Device is usable geometry stands damaged = device_refused Stands m geometry
+refuses_files facts old new m t refusal.OutOfMemory is usable geometry stands damaged = memory_refused Stands m geometry (has_root m t stands)
+refuses_files facts old new m t refusal.Damaged is usable geometry stands damaged = damaged_refused Stands m geometry (has_magic m t stands) (no_state m t stands (damaged refl))
 refuses_files facts old new m t refusal.Reopen is usable geometry stands damaged = absurd (false≢true (sym usable ∙ is))
 refuses_files facts old new m t refusal.NotFormatted is usable geometry stands damaged = absurd is
 refuses_files facts old new m t refusal.AlreadyFormatted is usable geometry stands damaged = absurd is
@@ -76,15 +74,11 @@ refuses_files facts old new m t refusal.TooMany is usable geometry stands damage
 refuses_files facts old new m t refusal.GenerationEnd is usable geometry stands damaged = absurd is
 
 -- what opening the store refuses
-pub refuses_store : (m : List Sector) (e : StoreRefusal) → opening.RefusesOpen m e → RefusesOpen m e
-refuses_store m refusal.Damaged is = (is.0, is.1, λ s stands. is.2 (stored s) stands.blobs)
-refuses_store m refusal.BadGeometry is = is
-refuses_store m refusal.NotFormatted is = is
-refuses_store m refusal.Device is = is
-refuses_store m refusal.OutOfMemory is = is
-refuses_store m refusal.Reopen is = is
-refuses_store m refusal.AlreadyFormatted is = is
-refuses_store m refusal.Full is = is
-refuses_store m refusal.Fragmented is = is
-refuses_store m refusal.TooMany is = is
-refuses_store m refusal.GenerationEnd is = is
+pub refuses_store : (m : List Sector) (e : StoreRefusal) → RefusesOpen sectors.Stands m e → RefusesOpen Stands m e
+refuses_store m e is = record {
+  may = is.may;
+  unformatted = is.unformatted;
+  formatted = is.formatted;
+  damaged = λ same s stands. is.damaged same (stored s) stands.blobs;
+  memory = is.memory;
+}

@@ -5,7 +5,7 @@ use std::alloc::Global;
 use store::{Store, StoreRefusal};
 
 impl<D: Disk> Registry<D> {
-    ghost use Rattle.std.specs.Prelude.{◌≡◌, ◌<◌, ◌⊎◌, IsTrue, IsFalse, IfOk, IfErr, OnOk};
+    ghost use Rattle.std.specs.Prelude.{◌≡◌, ◌≢◌, ◌<◌, ◌⊎◌, IsTrue, IsFalse, IfOk, IfErr, OnOk};
     ghost use Rattle.sector_disk.specs.Disk.{Mixture, LeavesOnly, AreCallsExactly, AreCallsAtMost};
     ghost use Rattle.store.specs.Opened.{disk_after};
     ghost use Rattle.store.specs.Opening.{IsGeometry, HasRootMagic};
@@ -32,6 +32,9 @@ impl<D: Disk> Registry<D> {
         ensures left_alone { IsTrue (D.facts disk).honest
             → IfErr result (λ e. e.0 ≡ StoreRefusal.AlreadyFormatted → LeavesOnly
             (D.facts disk) (D.facts e.1) (Mixture (D.facts disk))) }
+        ensures now { IsTrue (D.facts disk).honest
+            → IfErr result (λ e. e.0 ≢ StoreRefusal.Device
+            → (D.facts e.1).now ≡ (D.facts disk).now) }
 
         // On any disk
         ensures geometry { IfOk result (λ _. IsGeometry (D.facts disk).sectors) }

@@ -10,10 +10,9 @@ impl<D: Disk> Registry<D> {
     ghost use Rattle.std.specs.Prelude.{MatchResult, length, sum_by};
     ghost use Rattle.sector_disk.specs.Disk.{Mixture, LeavesOnly, AreCalls, AreCallsExactly};
     ghost use Rattle.store.specs.Opened.{disk_after};
-    ghost use Rattle.store.specs.Opening.{IsGeometry, IsRefusalOfOpen};
+    ghost use Rattle.store.specs.Opening.{IsGeometry, IsRefusalOfOpen, RefusesOpen};
     ghost use Rattle.registry.specs.State.{State};
     ghost use Rattle.disk_registry.specs.Opened.{IsAt};
-    ghost use Rattle.disk_registry.specs.Opening.{RefusesOpen};
     ghost use Rattle.disk_registry.specs.Stands.{Stands, file_sectors};
 
     /// Opens the registry that a disk holds, after a stop too. It writes nothing: it syncs, and
@@ -34,7 +33,7 @@ impl<D: Disk> Registry<D> {
             → MatchResult result (λ registry. IsAt D.facts registry s) (λ e.
             (e.0 ≡ StoreRefusal.Device) ⊎ (e.0 ≡ StoreRefusal.OutOfMemory)) }
         ensures refused { IsTrue (D.facts disk).honest
-            → IfErr result (λ e. RefusesOpen (D.facts disk).now e.0) }
+            → IfErr result (λ e. RefusesOpen Stands (D.facts disk).now e.0) }
 
         // On any disk
         ensures geometry { IfOk result (λ _. IsGeometry (D.facts disk).sectors) }

@@ -6,7 +6,7 @@ ghost use Rattle.roots.specs.Limits.{most_libraries};
 ghost use Rattle.roots.specs.Root.{RootHasSpelling};
 ghost use Rattle.roots.specs.Choice.{IsCurrent};
 ghost use Rattle.store.specs.Opening.{IsGeometry, RefusesOpen};
-ghost use Rattle.store.specs.Stands.{IsIntact};
+ghost use Rattle.store.specs.Stands.{IsIntact, Stands};
 ghost use Rattle.store.specs.inside.Kept.{IsKept};
 
 use crate::entries::{have_own_names, read_entries};
@@ -33,7 +33,7 @@ fn read_root<D: Disk>(disk: &mut D, sectors: u32) -> Result<Root, StoreRefusal>
     ensures current { IsTrue (D.facts disk.old).honest → IfOk result
         (IsCurrent (sector (D.facts disk.old).now 0) (sector (D.facts disk.old).now 1)) }
     ensures refused { IsTrue (D.facts disk.old).honest
-        → IfErr result (RefusesOpen (D.facts disk.old).now) }
+        → IfErr result (RefusesOpen Stands (D.facts disk.old).now) }
     ensures device { IfErr result (λ e. e ≡ StoreRefusal.Device
         → (D.facts disk.old).failures < (D.facts disk.new).failures) }
     ensures refusals { IfErr result (λ e. (e ≡ StoreRefusal.Device)
@@ -76,7 +76,7 @@ pub(crate) fn find_store<D: Disk>(
     ensures intact { IsTrue (D.facts disk.old).honest → IfOk result (λ found.
         IsIntact (D.facts disk.old).now found.root found.entries.items) }
     ensures refused { IsTrue (D.facts disk.old).honest
-        → IfErr result (RefusesOpen (D.facts disk.old).now) }
+        → IfErr result (RefusesOpen Stands (D.facts disk.old).now) }
     ensures device { IfErr result (λ e. e ≡ StoreRefusal.Device
         → (D.facts disk.old).failures < (D.facts disk.new).failures) }
     ensures refusals { IfErr result (λ e. (e ≡ StoreRefusal.Device)

@@ -34,7 +34,7 @@ impl<D: Disk> Store<D> {
             → MatchResult result (λ store. IsAt D.facts store s) (λ e.
             (e.0 ≡ StoreRefusal.Device) ⊎ (e.0 ≡ StoreRefusal.OutOfMemory)) }
         ensures refused { IsTrue (D.facts disk).honest
-            → IfErr result (λ e. RefusesOpen (D.facts disk).now e.0) }
+            → IfErr result (λ e. RefusesOpen Stands (D.facts disk).now e.0) }
 
         // On any disk
         ensures usable { IfOk result (λ store. IsFalse store.failed) }

@@ -3,8 +3,8 @@ use Rattle.std.proofs.lemmas.Result.{err_from_is_err_and}
 use Rattle.roots.specs.declared.entry.Entry.{Entry}
 use Rattle.store.specs.declared.refusal.StoreRefusal.TheVariants.{Damaged, OutOfMemory}
 use Rattle.store.specs.Opening.{IsGeometry}
-use Rattle.store.specs.Stands.{IsListed, HaveOwnNames, UsesApart}
-use Rattle.store.proofs.Openings.{current_magic, not_intact, entries_refused, claims_refused, then_reads_leave}
+use Rattle.store.specs.Stands.{IsListed, HaveOwnNames, UsesApart, Stands}
+use Rattle.store.proofs.Openings.{current_magic, damaged_refused, not_intact, entries_refused, claims_refused, then_reads_leave}
 use Rattle.store.proofs.found.find_store.Goals as goal
 
 pub returns-in_err-entries-clause-any_moment : goal.returns-in_err-entries-clause-any_moment
@@ -31,11 +31,9 @@ returns-then-not-have_own_names-clause-refused g c honest =
     let geometry = subst IsGeometry (c.requires.sectors ∙ sym (g.met.D.Disk.holds_now _ honest).size) c.requires.geometry in
     let current = c.in_ok-root.ensures.current honest in
     let items = c.in_ok-entries.entries.items in
-    let listed = subst (λ m. IsListed m c.in_ok-root.root items) (c.read_root.ensures.now honest) (c.in_ok-entries.ensures.listed honest_mid) in (
-      geometry,
-      current_magic now c.in_ok-root.root current,
-      not_intact now c.in_ok-root.root current items listed (λ intact. let own = subst HaveOwnNames (sym c.deref.ensures.value) intact.names in let t = c.if-not-have_own_names.true in let e = c.have_own_names.ensures.1 own in absurd cc),
-    )
+    let listed = subst (λ m. IsListed m c.in_ok-root.root items) (c.read_root.ensures.now honest) (c.in_ok-entries.ensures.listed honest_mid) in
+    damaged_refused Stands now geometry (current_magic now c.in_ok-root.root current)
+    (not_intact now c.in_ok-root.root current items listed (λ intact. let own = subst HaveOwnNames (sym c.deref.ensures.value) intact.names in let t = c.if-not-have_own_names.true in let e = c.have_own_names.ensures.1 own in absurd cc))
 
 pub returns-in_err-layout-clause-any_moment : goal.returns-in_err-layout-clause-any_moment
 returns-in_err-layout-clause-any_moment g c honest =

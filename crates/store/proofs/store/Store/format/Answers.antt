@@ -23,8 +23,8 @@ returns-in-Err-clause-refused g c honest =
     let geometry : IsGeometry sectors = search rules in
     let here : IsGeometry (length now) = subst IsGeometry (c.sectors-sectors.ensures ∙ sym (g.met.D.Disk.holds_now _ honest).size) geometry in
     ⊎_elim
-    (λ is. subst (RefusesFormat now) (sym is) here)
-    (λ is. subst (RefusesFormat now) (sym is) (here, c.in-Err.ensures.formatted honest is))
+    (λ is. subst (RefusesFormat now) (sym is) (record { may = here; formatted = λ other. cc }))
+    (λ is. subst (RefusesFormat now) (sym is) (record { may = here; formatted = λ _. c.in-Err.ensures.formatted honest is }))
     c.in-Err.ensures.refusals
 
 pub returns-in-Ok-write_first_root-clause-any_moment : goal.returns-in-Ok-write_first_root-clause-any_moment
