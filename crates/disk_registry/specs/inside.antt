@@ -1,4 +1,3 @@
 -- What the code keeps as it goes. No public clause cites it, and nobody has to believe it.
-pub mod Changed
 pub mod Named
 pub mod Reading

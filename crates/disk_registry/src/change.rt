@@ -19,6 +19,7 @@ impl<D: Disk> Registry<D> {
     ghost use Rattle.store.specs.Stands.{names_at};
     ghost use Rattle.store.specs.Step.{HasName, IsNoPreload};
     ghost use Rattle.registry.specs.Phase.{table_of};
+    ghost use Rattle.store.specs.Changed.{Changed};
     ghost use Rattle.registry.specs.Request.{remove, set_preloads};
     ghost use Rattle.registry.specs.State.{State};
     ghost use Rattle.registry.specs.Step.{Step, refusal_at, answer_of};
@@ -29,7 +30,6 @@ impl<D: Disk> Registry<D> {
     ghost use Rattle.disk_registry.specs.Opened.{IsAt};
     ghost use Rattle.disk_registry.specs.Phase.{phase_of};
     ghost use Rattle.disk_registry.specs.Stands.{stored};
-    ghost use Rattle.disk_registry.specs.inside.Changed.{Changed};
     ghost use Rattle.disk_registry.specs.inside.Named.{AreNamed};
 
     /// Whether the library at this position is a preload.
@@ -74,7 +74,8 @@ impl<D: Disk> Registry<D> {
         ensures applied { (s : State) → IsAt D.facts self.old s
             → Applies D.facts self.old self.new s (remove name.now) (answer_of result) }
 
-        ensures on_any_disk { Changed D.facts self.old self.new 2 IsRemoveRefusal result }
+        ensures on_any_disk { Changed D.facts Refusal.Device Refusal.Reopen
+            self.old self.new 2 IsRemoveRefusal result }
     {
         self.test_remove(name)?;
         match self.store.delete(name) {
@@ -146,7 +147,8 @@ impl<D: Disk> Registry<D> {
             → Applies D.facts self.old self.new s (set_preloads (map (λ n. n.now) names.now))
             (answer_of result) }
 
-        ensures on_any_disk { Changed D.facts self.old self.new 2 IsPreloadsRefusal result }
+        ensures on_any_disk { Changed D.facts Refusal.Device Refusal.Reopen
+            self.old self.new 2 IsPreloadsRefusal result }
     {
         let positions = self.test_preloads(names)?;
         match self.store.set_preloads(positions.as_slice()) {

@@ -8,13 +8,13 @@ impl<D: Disk> Registry<D> {
     ghost use Rattle.std.specs.Prelude.{◌+◌, length};
     ghost use Rattle.std.specs.Int.{div_ceil};
     ghost use Rattle.sector_disk.specs.Disk.{sector_bytes};
+    ghost use Rattle.store.specs.Changed.{Changed};
     ghost use Rattle.registry.specs.Request.{install, replace};
     ghost use Rattle.registry.specs.State.{State};
     ghost use Rattle.registry.specs.Step.{answer_of};
     ghost use Rattle.disk_registry.specs.Answered.{IsInstallRefusal, IsReplaceRefusal};
     ghost use Rattle.disk_registry.specs.Applied.{Applies};
     ghost use Rattle.disk_registry.specs.Opened.{IsAt};
-    ghost use Rattle.disk_registry.specs.inside.Changed.{Changed};
 
     /// Installs a library: its file goes into free sectors, behind the others. It makes a call of
     /// the disk for each of its sectors, for its entry, for the root, and two to sync.
@@ -22,8 +22,8 @@ impl<D: Disk> Registry<D> {
         ensures applied { (s : State) → IsAt D.facts self.old s
             → Applies D.facts self.old self.new s (install bytes.now) (answer_of result) }
 
-        ensures on_any_disk { Changed D.facts self.old self.new
-            (div_ceil (length bytes.now) sector_bytes + 4) IsInstallRefusal result }
+        ensures on_any_disk { Changed D.facts Refusal.Device Refusal.Reopen
+            self.old self.new (div_ceil (length bytes.now) sector_bytes + 4) IsInstallRefusal result }
     {
         if self.store.has_failed() {
             return Err(Refusal::Reopen);
@@ -44,8 +44,8 @@ impl<D: Disk> Registry<D> {
         ensures applied { (s : State) → IsAt D.facts self.old s
             → Applies D.facts self.old self.new s (replace bytes.now) (answer_of result) }
 
-        ensures on_any_disk { Changed D.facts self.old self.new
-            (div_ceil (length bytes.now) sector_bytes + 4) IsReplaceRefusal result }
+        ensures on_any_disk { Changed D.facts Refusal.Device Refusal.Reopen
+            self.old self.new (div_ceil (length bytes.now) sector_bytes + 4) IsReplaceRefusal result }
     {
         if self.store.has_failed() {
             return Err(Refusal::Reopen);

@@ -1,6 +1,7 @@
 pub mod State
 pub mod Stands
 pub mod Opened
+pub mod Changed
 pub mod Opening
 pub mod Placed
 pub mod Step

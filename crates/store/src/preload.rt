@@ -4,11 +4,11 @@ use crate::refusal::StoreRefusal;
 use sector_disk::Disk;
 
 impl<D: Disk> Store<D> {
-    ghost use Rattle.std.specs.Prelude.{◌≡◌, ◌≢◌, ◌<◌, ◌≤◌, ◌⊎◌, ◌↔◌, length, All};
-    ghost use Rattle.std.specs.Prelude.{IsTrue, IsFalse, IfErr, OnOk};
+    ghost use Rattle.std.specs.Prelude.{◌<◌, ◌≤◌, ◌⊎◌, length, All, OnOk};
     ghost use Rattle.extents.specs.Extent.{AreDistinct};
     ghost use Rattle.roots.specs.Limits.{most_preloads};
-    ghost use Rattle.sector_disk.specs.Disk.{LeavesOnly, AreCallsExactly, AreCallsAtMost};
+    ghost use Rattle.sector_disk.specs.Disk.{LeavesOnly};
+    ghost use Rattle.store.specs.Changed.{Changed};
     ghost use Rattle.store.specs.Opened.{IsAt};
     ghost use Rattle.store.specs.Stands.{Stands, names_at};
     ghost use Rattle.store.specs.State.{State};
@@ -32,16 +32,8 @@ impl<D: Disk> Store<D> {
             → IsExactAnswer (refusal_of_change s) result }
 
         // On any disk. After a failed call the store has to be opened again.
-        ensures reopen { (result ≡ Err StoreRefusal.Reopen) ↔ IsTrue self.old.failed }
-        ensures device { IfErr result (λ e. e ≡ StoreRefusal.Device
-            → ((D.facts self.old.disk).failures < (D.facts self.new.disk).failures)
-            × IsTrue self.new.failed) }
-        ensures same { IfErr result (λ e. e ≢ StoreRefusal.Device → self.new ≡ self.old) }
-        ensures usable { OnOk result (IsFalse self.new.failed) }
-        ensures refusals { IfErr result IsRefusalOfChange }
-        ensures all_calls { OnOk result
-            (AreCallsExactly 2 (D.facts self.old.disk) (D.facts self.new.disk)) }
-        ensures calls { AreCallsAtMost 2 (D.facts self.old.disk) (D.facts self.new.disk) }
+        ensures on_any_disk { Changed D.facts StoreRefusal.Device StoreRefusal.Reopen
+            self.old self.new 2 IsRefusalOfChange result }
     {
         if self.failed {
             return Err(StoreRefusal::Reopen);

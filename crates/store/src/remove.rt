@@ -6,8 +6,9 @@ use crate::room::give_back;
 use sector_disk::Disk;
 
 impl<D: Disk> Store<D> {
-    ghost use Rattle.std.specs.Prelude.{◌≡◌, ◌≢◌, ◌<◌, ◌⊎◌, ◌↔◌, IsTrue, IsFalse, IfErr, OnOk};
-    ghost use Rattle.sector_disk.specs.Disk.{LeavesOnly, AreCallsExactly, AreCallsAtMost};
+    ghost use Rattle.std.specs.Prelude.{◌⊎◌, OnOk};
+    ghost use Rattle.sector_disk.specs.Disk.{LeavesOnly};
+    ghost use Rattle.store.specs.Changed.{Changed};
     ghost use Rattle.store.specs.Opened.{IsAt};
     ghost use Rattle.store.specs.Stands.{Stands};
     ghost use Rattle.store.specs.State.{State};
@@ -30,16 +31,8 @@ impl<D: Disk> Store<D> {
             → IsExactAnswer (refusal_of_change s) result }
 
         // On any disk. After a failed call the store has to be opened again.
-        ensures reopen { (result ≡ Err StoreRefusal.Reopen) ↔ IsTrue self.old.failed }
-        ensures device { IfErr result (λ e. e ≡ StoreRefusal.Device
-            → ((D.facts self.old.disk).failures < (D.facts self.new.disk).failures)
-            × IsTrue self.new.failed) }
-        ensures same { IfErr result (λ e. e ≢ StoreRefusal.Device → self.new ≡ self.old) }
-        ensures usable { OnOk result (IsFalse self.new.failed) }
-        ensures refusals { IfErr result IsRefusalOfChange }
-        ensures all_calls { OnOk result
-            (AreCallsExactly 2 (D.facts self.old.disk) (D.facts self.new.disk)) }
-        ensures calls { AreCallsAtMost 2 (D.facts self.old.disk) (D.facts self.new.disk) }
+        ensures on_any_disk { Changed D.facts StoreRefusal.Device StoreRefusal.Reopen
+            self.old self.new 2 IsRefusalOfChange result }
     {
         if self.failed {
             return Err(StoreRefusal::Reopen);

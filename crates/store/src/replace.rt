@@ -7,11 +7,11 @@ use crate::room::{give_back, take_room};
 use sector_disk::Disk;
 
 impl<D: Disk> Store<D> {
-    ghost use Rattle.std.specs.Prelude.{◌≡◌, ◌≢◌, ◌+◌, ◌<◌, ◌⊎◌, ◌↔◌, IsTrue, IsFalse, IfErr, OnOk};
-    ghost use Rattle.std.specs.Prelude.{length};
+    ghost use Rattle.std.specs.Prelude.{◌+◌, ◌⊎◌, length, OnOk};
     ghost use Rattle.std.specs.Int.{div_ceil};
     ghost use Rattle.sector_disk.specs.Disk.{sector_bytes};
-    ghost use Rattle.sector_disk.specs.Disk.{LeavesOnly, AreCallsExactly, AreCallsAtMost};
+    ghost use Rattle.sector_disk.specs.Disk.{LeavesOnly};
+    ghost use Rattle.store.specs.Changed.{Changed};
     ghost use Rattle.store.specs.Opened.{IsAt};
     ghost use Rattle.store.specs.Placed.{IsPutOver};
     ghost use Rattle.store.specs.Stands.{Stands};
@@ -39,18 +39,9 @@ impl<D: Disk> Store<D> {
             (IsPutOver self.old self.new name.now (div_ceil (length bytes.now) sector_bytes)) }
 
         // On any disk. After a failed call the store has to be opened again.
-        ensures reopen { (result ≡ Err StoreRefusal.Reopen) ↔ IsTrue self.old.failed }
-        ensures device { IfErr result (λ e. e ≡ StoreRefusal.Device
-            → ((D.facts self.old.disk).failures < (D.facts self.new.disk).failures)
-            × IsTrue self.new.failed) }
-        ensures same { IfErr result (λ e. e ≢ StoreRefusal.Device → self.new ≡ self.old) }
-        ensures usable { OnOk result (IsFalse self.new.failed) }
-        ensures refusals { IfErr result IsRefusalOfPutOver }
-        ensures all_calls { OnOk result (AreCallsExactly
-            (div_ceil (length bytes.now) sector_bytes + 4)
-            (D.facts self.old.disk) (D.facts self.new.disk)) }
-        ensures calls { AreCallsAtMost (div_ceil (length bytes.now) sector_bytes + 4)
-            (D.facts self.old.disk) (D.facts self.new.disk) }
+        ensures on_any_disk { Changed D.facts StoreRefusal.Device StoreRefusal.Reopen
+            self.old self.new (div_ceil (length bytes.now) sector_bytes + 4)
+            IsRefusalOfPutOver result }
     {
         if self.failed {
             return Err(StoreRefusal::Reopen);

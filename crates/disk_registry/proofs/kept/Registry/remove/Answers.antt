@@ -46,11 +46,11 @@ returns-clause-applied g c s at =
     (elim c.match-delete.branch [
       | in-Ok w ↦ subst (λ r. Applies facts old new s (remove name) (answer_of r)) (sym w.result-is)
           (change_done facts old s here (remove name) new first tt tested libraries leaves w.in-Ok.field-0
-          (exact_answer first (Ok w.in-Ok.field-0) (w.in-Ok.ensures.refused (stored s) here.blobs)) w.in-Ok.ensures.usable
+          (exact_answer first (Ok w.in-Ok.field-0) (w.in-Ok.ensures.refused (stored s) here.blobs)) w.in-Ok.ensures.on_any_disk.usable
           (subst (store.IsAt facts new) (stored_removed s name) (w.in-Ok.ensures.ok (stored s) here.blobs)))
       | in-Err w ↦ subst (λ r. Applies facts old new s (remove name) (answer_of r)) (sym (w.result-is ∙ ap Err w.refusal_of.ensures))
           (change_refused facts old s here (remove name) new first tt tested libraries leaves w.in-Err.refusal
           (exact_answer first (Err w.in-Err.refusal) (w.in-Err.ensures.refused (stored s) here.blobs)) (change_deviceless s)
-          (λ is. false≢true (sym here.blobs.usable ∙ w.in-Err.ensures.reopen.0 (ap Err is))) (change_may w.in-Err.refusal w.in-Err.ensures.refusals)
-          w.in-Err.ensures.device w.in-Err.ensures.same (λ is. subst IsRefusalOfChange is w.in-Err.ensures.refusals))
+          (λ is. false≢true (sym here.blobs.usable ∙ w.in-Err.ensures.on_any_disk.reopen.0 (ap Err is))) (change_may w.in-Err.refusal w.in-Err.ensures.on_any_disk.refusals)
+          w.in-Err.ensures.on_any_disk.device w.in-Err.ensures.on_any_disk.same (λ is. subst IsRefusalOfChange is w.in-Err.ensures.on_any_disk.refusals))
     ])

@@ -47,9 +47,9 @@ returns-clause-applied g c s at =
     subst (λ r. Applies facts r new s (replace bytes) (answer_of c.match-put_over.result)) c.self.view_is (elim c.match-put_over.branch [
       | in-Ok w ↦ subst (λ r. Applies facts old new s (replace bytes) (answer_of r)) (sym w.result-is)
           (replace_done facts old s here bytes c.in_ok-name.ensures.ok name c.in_ok-name.ensures.name new root there leaves tt
-          (w.in-Ok.ensures.refused (stored s) here.blobs) w.in-Ok.ensures.usable (w.in-Ok.ensures.ok (stored s) here.blobs))
+          (w.in-Ok.ensures.refused (stored s) here.blobs) w.in-Ok.ensures.on_any_disk.usable (w.in-Ok.ensures.ok (stored s) here.blobs))
       | in-Err w ↦ subst (λ r. Applies facts old new s (replace bytes) (answer_of r)) (sym w.result-is)
           (subst (λ r. Applies facts old new s (replace bytes) (Refused r)) (sym w.refusal_of.ensures)
           (replace_refused facts old s here bytes c.in_ok-name.ensures.ok name c.in_ok-name.ensures.name new root there leaves w.in-Err.refusal
-          (w.in-Err.ensures.refused (stored s) here.blobs) w.in-Err.ensures.reopen w.in-Err.ensures.refusals w.in-Err.ensures.device w.in-Err.ensures.same c.in_ok-name.ensures.memory))
+          (w.in-Err.ensures.refused (stored s) here.blobs) w.in-Err.ensures.on_any_disk.reopen w.in-Err.ensures.on_any_disk.refusals w.in-Err.ensures.on_any_disk.device w.in-Err.ensures.on_any_disk.same c.in_ok-name.ensures.memory))
     ])
