@@ -39,7 +39,7 @@ fn first_definition(order: &Order<'_>, name: &[u8], hash: u32) -> Option<Target>
 
 /// The first definition of a name, weak or not, for the object at a place, that asks: in load
 /// order, and before that in the object itself where it is symbolic. It hashes the name once, and
-/// follows one walk in each object up to the one that defines it.
+/// follows one walk in each object up to the one that defines it, for a symbolic object one more.
 #[tactic(auto, unfolding(crate::specs::Lookup::lookup))]
 pub(crate) fn lookup(order: &Order<'_>, object: usize, name: &[u8]) -> Option<Target>
     requires { object < length order.now }

@@ -48,7 +48,7 @@ fn is_weak(symbol: Symbol) -> bool
 
 /// The target of the symbol of an index of the object at a place. It takes no memory; a symbol that
 /// has to be looked up costs one hash of its name and one walk in each object up to the one that
-/// defines it.
+/// defines it, and in a symbolic object one walk more.
 #[tactic(auto, unfolding(crate::specs::Target::target))]
 pub fn resolve(order: &Order<'_>, object: usize, symbol: u32) -> Result<Target, Undefined>
     requires object { object < length order.now }
