@@ -13,6 +13,7 @@ use crate::table::{Wanted, by_table};
 use crate::tally::Tally;
 use anyhow::{Context, Result};
 use disk_registry::Registry;
+use plain_registry::PlainRegistry;
 use registry::Refusal;
 use sector_disk::Memory;
 use std::alloc::Global;
@@ -59,7 +60,7 @@ fn fails_later(step: &Step, cut: Cut) -> bool {
 // The commands of a life, and what stands before each and at the end.
 fn steps_of(
     alloc: Global,
-    plain: &mut registry::Registry,
+    plain: &mut PlainRegistry,
     probe: &Probe,
 ) -> Result<(Vec<Step>, Vec<Seen>)> {
     let mut states = Vec::new(alloc);

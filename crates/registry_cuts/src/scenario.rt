@@ -8,6 +8,7 @@ use crate::tally::Tally;
 use crate::trial::{States, Trial};
 use anyhow::{Result, bail};
 use disk_registry::Registry;
+use plain_registry::PlainRegistry;
 use registry::Reply;
 use sector_disk::Memory;
 use std::alloc::Global;
@@ -130,11 +131,7 @@ fn format_states(alloc: Global, sectors: u32) -> Result<States> {
 }
 
 // A command, and what stands before and after it.
-fn step_of(
-    alloc: Global,
-    plain: &mut registry::Registry,
-    change: Change,
-) -> Result<(Step, States)> {
+fn step_of(alloc: Global, plain: &mut PlainRegistry, change: Change) -> Result<(Step, States)> {
     let probe = Probe::of(alloc, change)?;
     let old = look_plain(alloc, plain, &probe)?;
     let step = Step::of(alloc, plain, change)?;

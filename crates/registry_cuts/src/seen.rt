@@ -1,9 +1,10 @@
-// What can be seen of the registry on a disk, and of one in memory.
+// What can be seen of the registry on a disk, and of a plain one.
 
 use crate::answer::Answer;
 use crate::probe::Probe;
 use anyhow::Result;
 use disk_registry::Registry;
+use plain_registry::PlainRegistry;
 use sector_disk::{Fuse, Memory};
 use std::alloc::Global;
 use store::StoreRefusal;
@@ -41,12 +42,8 @@ pub(crate) fn look(alloc: Global, disk: Memory, probe: &Probe) -> Result<Seen> {
     look_behind(alloc, whole(disk), probe)
 }
 
-/// What is to be seen: what a registry in memory answers, which has no disk.
-pub(crate) fn look_plain(
-    alloc: Global,
-    plain: &mut registry::Registry,
-    probe: &Probe,
-) -> Result<Seen> {
+/// What is to be seen: what a plain registry answers, which has no disk.
+pub(crate) fn look_plain(alloc: Global, plain: &mut PlainRegistry, probe: &Probe) -> Result<Seen> {
     let replies = plain.run(&probe.looks())?;
     Ok(Seen::Stands(Answer::all(alloc, replies)?))
 }

@@ -1,9 +1,10 @@
-// Commands one by one, as a registry in memory answers them.
+// Commands one by one, as a plain registry answers them.
 
 use crate::answer::{Answer, reads_of};
 use crate::change::{Ask, Change};
 use anyhow::{Result, bail};
-use registry::{Command, Registry, Reply};
+use plain_registry::PlainRegistry;
+use registry::{Command, Reply};
 use std::alloc::Global;
 
 /// A command, what it is to be answered, and how many calls of the disk it makes.
@@ -15,18 +16,20 @@ pub(crate) struct Step {
 }
 
 // How many sectors a bind reads; of other commands none are asked.
-fn reads(plain: &mut Registry, change: Change) -> u64 {
+fn reads(plain: &mut PlainRegistry, change: Change) -> u64 {
     match (plain.apply(&Command::List), change) {
         (Reply::Listing(listing), Change::Bind(needed)) => reads_of(&listing, needed),
         _ => 0,
     }
 }
 
-/// A registry in memory after these commands, with room for as much as a disk of so many sectors.
-pub(crate) fn plain_after(alloc: Global, sectors: u32, changes: &[Change]) -> Result<Registry> {
-    let Ok(mut plain) = Registry::new(alloc, sectors) else {
-        bail!("no such size");
-    };
+/// A plain registry after these commands, with room for as much as a disk of so many sectors.
+pub(crate) fn plain_after(
+    alloc: Global,
+    sectors: u32,
+    changes: &[Change],
+) -> Result<PlainRegistry> {
+    let mut plain = PlainRegistry::new(alloc, sectors);
     for change in changes {
         let ask = Ask::of(alloc, *change)?;
         if !matches!(plain.apply(&ask.command()), Reply::Done) {
@@ -37,8 +40,8 @@ pub(crate) fn plain_after(alloc: Global, sectors: u32, changes: &[Change]) -> Re
 }
 
 impl Step {
-    /// Gives the command to a registry in memory.
-    pub(crate) fn of(alloc: Global, plain: &mut Registry, change: Change) -> Result<Step> {
+    /// Gives the command to a plain registry.
+    pub(crate) fn of(alloc: Global, plain: &mut PlainRegistry, change: Change) -> Result<Step> {
         let ask = Ask::of(alloc, change)?;
         let reads = reads(plain, change);
         let reply = plain.apply(&ask.command());

@@ -1,0 +1,231 @@
+// A registry as a list of names and bytes.
+
+use crate::libraries::have_distinct_names;
+use crate::numbers::are_preloads;
+use hash_check::{Admitted, FileRefusal, ReadRefusal};
+use image::{Image, bind_program};
+use names::Name;
+use registry::{Command, Listing, Refusal, Reply};
+use scope::Library;
+use std::alloc::{AllocError, Global};
+
+// The name of a library, and the bytes of its file.
+#[derive(Drop)]
+struct File {
+    name: Vec<u8>,
+    bytes: Vec<u8>,
+}
+
+/// A registry without a disk: the libraries in the order in which they were installed, and the
+/// names of the preloads in theirs. It knows no limit but the room of a disk: that there are at
+/// most 100 libraries, 16 preloads and 2^64 - 1 changes is for its user to see to.
+#[derive(Drop)]
+pub struct PlainRegistry {
+    alloc: Global,
+    // How many sectors the disk has.
+    sectors: u32,
+    files: Vec<File>,
+    preloads: Vec<Vec<u8>>,
+}
+
+// The name of a library's file, or why it is none.
+fn own_name(alloc: Global, file: &[u8]) -> Result<&[u8], Refusal> {
+    match Admitted::read(alloc, file) {
+        Ok(object) => match object.library_name() {
+            Ok(name) => Ok(name),
+            Err(refusal) => Err(Refusal::Object(FileRefusal::Object(refusal))),
+        },
+        Err(ReadRefusal::File(refusal)) => Err(Refusal::Object(refusal)),
+        Err(ReadRefusal::OutOfMemory) => Err(Refusal::OutOfMemory),
+    }
+}
+
+// How many sectors a file takes: those of its bytes, and one that says where these are.
+fn sectors_of(file: &[u8]) -> usize {
+    file.len().div_ceil(512).saturating_add(1)
+}
+
+// Whether one of the names stands twice.
+fn has_twice(names: &[&[u8]]) -> bool {
+    for (at, name) in names.iter().enumerate() {
+        if names[..at].contains(name) {
+            return true;
+        }
+    }
+    false
+}
+
+// Copies of names.
+fn copies(alloc: Global, names: &[&[u8]]) -> Result<Vec<Vec<u8>>, AllocError> {
+    let mut copies = Vec::new(alloc);
+    for name in names {
+        copies.push(name.to_vec(alloc)?)?;
+    }
+    Ok(copies)
+}
+
+impl PlainRegistry {
+    /// An empty registry, with the room of a disk of so many sectors.
+    pub fn new(alloc: Global, sectors: u32) -> PlainRegistry {
+        PlainRegistry {
+            alloc,
+            sectors,
+            files: Vec::new(alloc),
+            preloads: Vec::new(alloc),
+        }
+    }
+
+    // The place of the library of a name.
+    fn place(&self, name: &[u8]) -> Option<usize> {
+        self.files
+            .iter()
+            .position(|file| file.name.as_slice() == name)
+    }
+
+    // Whether there is room for a file beside all others and two sectors more.
+    fn has_room(&self, file: &[u8]) -> bool {
+        let mut taken = sectors_of(file).saturating_add(2);
+        for other in &self.files {
+            taken = taken.saturating_add(sectors_of(&other.bytes));
+        }
+        taken <= self.sectors as usize
+    }
+
+    // Puts a library behind the others.
+    fn add(&mut self, name: &[u8], file: &[u8]) -> Result<(), AllocError> {
+        let name = name.to_vec(self.alloc)?;
+        let bytes = file.to_vec(self.alloc)?;
+        self.files.push(File { name, bytes })?;
+        Ok(())
+    }
+
+    fn install(&mut self, file: &[u8]) -> Result<(), Refusal> {
+        let name = own_name(self.alloc, file)?;
+        if self.place(name).is_some() {
+            return Err(Refusal::AlreadyInstalled);
+        }
+        if !self.has_room(file) {
+            return Err(Refusal::Full);
+        }
+        self.add(name, file)?;
+        Ok(())
+    }
+
+    fn replace(&mut self, file: &[u8]) -> Result<(), Refusal> {
+        let name = own_name(self.alloc, file)?;
+        let place = self.place(name).ok_or(Refusal::NotInstalled)?;
+        if !self.has_room(file) {
+            return Err(Refusal::Full);
+        }
+        let bytes = file.to_vec(self.alloc)?;
+        if let Some(old) = self.files.get_mut(place) {
+            old.bytes = bytes;
+        }
+        Ok(())
+    }
+
+    fn remove(&mut self, name: &[u8]) -> Result<(), Refusal> {
+        let place = self.place(name).ok_or(Refusal::NotInstalled)?;
+        if self
+            .preloads
+            .iter()
+            .any(|preload| preload.as_slice() == name)
+        {
+            return Err(Refusal::InPreloads);
+        }
+        if place < self.files.len() {
+            self.files.remove(place);
+        }
+        Ok(())
+    }
+
+    fn set_preloads(&mut self, names: &[&[u8]]) -> Result<(), Refusal> {
+        if has_twice(names) {
+            return Err(Refusal::RepeatedPreload);
+        }
+        if names.iter().any(|name| self.place(name).is_none()) {
+            return Err(Refusal::NotInstalled);
+        }
+        self.preloads = copies(self.alloc, names)?;
+        Ok(())
+    }
+
+    fn list(&self) -> Result<Listing, AllocError> {
+        let mut listing = Listing {
+            libraries: Vec::new(self.alloc),
+            preloads: Vec::new(self.alloc),
+        };
+        for file in &self.files {
+            let name = Name::copy_of(self.alloc, &file.name)?;
+            let length = u32::try_from(file.bytes.len()).unwrap_or(u32::MAX);
+            listing.libraries.push((name, length))?;
+        }
+        for name in &self.preloads {
+            listing.preloads.push(Name::copy_of(self.alloc, name)?)?;
+        }
+        Ok(listing)
+    }
+
+    // The libraries, each as it is read.
+    fn libraries(&self) -> Result<Vec<Library<'_>>, AllocError> {
+        let mut libraries = Vec::new(self.alloc);
+        for file in &self.files {
+            if let Ok(object) = Admitted::read(self.alloc, &file.bytes) {
+                libraries.push(Library {
+                    name: &file.name,
+                    object,
+                })?;
+            }
+        }
+        Ok(libraries)
+    }
+
+    // The places of the preloads among the libraries.
+    fn places(&self) -> Result<Vec<usize>, AllocError> {
+        let mut places = Vec::new(self.alloc);
+        for name in &self.preloads {
+            if let Some(place) = self.place(name) {
+                places.push(place)?;
+            }
+        }
+        Ok(places)
+    }
+
+    fn bind(&self, program: &[u8], base: u64) -> Result<Image, Refusal> {
+        let libraries = self.libraries()?;
+        let preloads = self.places()?;
+        if have_distinct_names(&libraries) && are_preloads(&preloads, libraries.len()) {
+            return Ok(bind_program(self.alloc, program, base, &libraries, &preloads)?);
+        }
+        Err(Refusal::Damaged)
+    }
+
+    fn answer(&mut self, command: &Command<'_>) -> Result<Reply, Refusal> {
+        match command {
+            Command::Install(file) => self.install(file)?,
+            Command::Replace(file) => self.replace(file)?,
+            Command::Remove(name) => self.remove(name)?,
+            Command::SetPreloads(names) => self.set_preloads(names)?,
+            Command::Bind { program, base } => return Ok(Reply::Bound(self.bind(program, *base)?)),
+            Command::List => return Ok(Reply::Listing(self.list()?)),
+        }
+        Ok(Reply::Done)
+    }
+
+    /// The answer to a command.
+    pub fn apply(&mut self, command: &Command<'_>) -> Reply {
+        match self.answer(command) {
+            Ok(reply) => reply,
+            Err(refusal) => Reply::Refused(refusal),
+        }
+    }
+
+    /// The answers to these commands.
+    pub fn run(&mut self, commands: &[Command<'_>]) -> Result<Vec<Reply>, AllocError> {
+        let mut replies = Vec::new(self.alloc);
+        for command in commands {
+            replies.push(self.apply(command))?;
+        }
+        Ok(replies)
+    }
+}
