@@ -1,5 +1,5 @@
-//! Tests of the crates that bind programs and keep libraries, through their public calls: what no
-//! clause and no case of the program `cases` says.
+//! Tests of the crates that bind programs, through their public calls: what no clause and no case of
+//! the program `cases` says.
 #![tactic(auto)]
 
 #[cfg(test)]
@@ -8,5 +8,3 @@ mod bytes;
 mod images;
 #[cfg(test)]
 mod orders;
-#[cfg(test)]
-mod registries;

@@ -137,6 +137,7 @@ def prepare():
     keep('long.so', padded(a, 2560))
     keep('longer.so', padded(a, 2561))
     keep('strong.so', library(b'b', symbols=[Symbol(b'f', GLOBAL, FUNC, DEFINED)]))
+    keep('hundredth.so', build(Object(needed=[b'a']))[0])
     keep('formatted.disk', changed(None, 'format disk 8'))
     keep('one.disk', changed(bytes_of('formatted.disk'), f'install disk {A}'))
     keep('replaced.disk', changed(bytes_of('one.disk'), f'replace disk {A}'))
@@ -519,6 +520,9 @@ def binds():
             on('pair.disk 0x16=0100 0x18=0100', f'bind disk asking.so {base}', file='disk-preloaded.image', after='same'),
             on('pair.disk 0x40=0500000003', f'bind disk asking.so {base}', '0 file first.image', 'same', file='first.image'),
             on('formatted.disk', f'bind disk minimal.so {base}', '0 file minimal.image', 'same', file='minimal.image')]),
+        ('The hundredth library is bound, and one that is not there is missed behind it.', [
+            on('hundred.disk', f'bind disk hundredth.so {base}', file='hundred.image', after='same'),
+            on('hundred.disk', f'bind disk asking.so {base}', '1 refused B3 Missing /program b', 'same')]),
         ('What is refused: the program, the base, a need, the room, a symbol.', [
             on('pair.disk', f'bind disk empty {base}', '1 refused B1 E1 TooShort', 'same'),
             on('pair.disk', f'bind disk minimal.image {base}', '1 refused B1 E2 BadMagic', 'same'),

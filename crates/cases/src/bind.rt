@@ -2,11 +2,12 @@
 
 use crate::file::changed_file;
 use crate::number::parse_number;
-use crate::preload::{are_preloads, preloads_of};
-use crate::shelf::{have_distinct_names, libraries_of, read_libraries};
+use crate::preload::preloads_of;
+use crate::shelf::{libraries_of, read_libraries};
 use anyhow::{Context, Result, bail};
 use commands::write_refusal;
 use image::{BindRefusal, Image, bind_program};
+use plain_registry::{are_preloads, have_distinct_names};
 use std::alloc::Global;
 use std::io::Write;
 use std::rt::Files;

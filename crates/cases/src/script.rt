@@ -4,20 +4,39 @@ use crate::answer::is_wanted;
 use crate::file::changed_file;
 use crate::number::parse_number;
 use anyhow::{Context, Result, bail};
-use commands::run_script;
-use registry::Registry;
+use commands::{ScriptFault, Summary, run_script};
+use disk_registry::Registry;
+use sector_disk::Memory;
+use std::alloc::Global;
 use std::rt::Files;
 
-/// Whether a script ends as it is wanted: `SECTORS FILE` on an empty registry of so many sectors,
-/// wanted as `LINES REFUSED ANSWER`.
+/// Runs a script on an empty registry.
+fn ran(
+    alloc: Global,
+    disk: Memory,
+    script: &[u8],
+    output: &mut Vec<u8>,
+) -> Result<std::result::Result<Summary, ScriptFault>> {
+    let mut script = script;
+    match Registry::format(alloc, disk) {
+        Ok(registry) => {
+            let mut registry = registry;
+            let ended = run_script(alloc, &mut script, output, &mut registry);
+            let _ = registry.into_disk();
+            Ok(ended)
+        }
+        Err(_) => bail!("no registry"),
+    }
+}
+
+/// Whether a script ends as it is wanted: `SECTORS FILE` on an empty registry on a disk of so many
+/// sectors, wanted as `LINES REFUSED ANSWER`.
 pub(crate) fn runs_so<R: Files + AllocGlobal>(rt: &R, words: &str, wanted: &str) -> Result<bool> {
     let (sectors, file) = words.split_once(' ').context("a script without a file")?;
     let text = changed_file(rt, file)?;
-    let Ok(mut registry) = Registry::new(rt.alloc(), u32::try_from(parse_number(sectors)?)?) else {
-        bail!("no registry of {sectors} sectors");
-    };
+    let disk = Memory::new(rt.alloc(), u32::try_from(parse_number(sectors)?)?)?;
     let mut output = Vec::new(rt.alloc());
-    let summary = run_script(rt.alloc(), &mut text.as_slice(), &mut output, &mut registry)?;
+    let summary = ran(rt.alloc(), disk, &text, &mut output)??;
     let (lines, rest) = wanted.split_once(' ').context("lines alone")?;
     let (refused, answer) = rest.split_once(' ').context("two numbers alone")?;
     Ok(

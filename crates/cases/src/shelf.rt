@@ -1,10 +1,5 @@
 // The libraries of a case.
 
-ghost use Rattle.std.specs.Prelude.{◌≡◌, IsTrue, AllPairs, false};
-ghost use Rattle.std.specs.List.{IsAnyAnswer, IsDistinct, list_any};
-ghost use Rattle.std.specs.Str.{bytes_eq};
-ghost use Rattle.scope.specs.LoadOrder.{names_of};
-
 use crate::file::changed_file;
 use crate::library::{admitted, name_bytes};
 use anyhow::{Result, bail};
@@ -68,32 +63,4 @@ pub(crate) fn libraries_of<'a>(
         libraries.push(library_of(alloc, file)?)?;
     }
     Ok(libraries)
-}
-
-/// Whether one of some libraries goes by a name.
-fn has_name(libraries: &[Library<'_>], name: &[u8]) -> bool
-    ensures cases { IsAnyAnswer (λ l b. bytes_eq l.name name.now ≡ b) libraries.now result }
-    ensures value { result ≡ list_any (λ l. bytes_eq l.name name.now) libraries.now }
-{
-    libraries.iter().any(|library| library.name() == name)
-}
-
-/// Whether no two libraries go by one name, each compared with those before it.
-fn differ(libraries: &[Library<'_>]) -> bool
-    ensures { IsTrue result
-        → AllPairs (λ a b. bytes_eq a.name b.name ≡ false) libraries.now }
-{
-    for (i, library) in libraries.iter().enumerate() {
-        if has_name(&libraries[..i], library.name()) {
-            return false;
-        }
-    }
-    true
-}
-
-/// Whether no two libraries go by one name.
-pub(crate) fn have_distinct_names(libraries: &[Library<'_>]) -> bool
-    ensures { IsTrue result → IsDistinct bytes_eq (names_of libraries.now) }
-{
-    differ(libraries)
 }

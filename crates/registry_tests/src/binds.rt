@@ -1,8 +1,8 @@
-// A bind beside that of a registry in memory, which reads every file, and the reads that it makes.
+// A bind beside that of a plain registry, which reads every file, and the reads that it makes.
 use crate::calls::{OnMemory, formatted, opened, whole};
 use crate::files::file;
-use commands::Applies;
-use registry::{Command, Refusal, Registry, Reply};
+use plain_registry::PlainRegistry;
+use registry::{Command, Refusal, Reply};
 use sector_disk::{Fuse, Memory};
 use std::alloc::Global;
 use std::process::Abort;
@@ -82,27 +82,42 @@ const CASES: [Case; 13] = [
     ),
 ];
 
+// What answers commands.
+trait Answers {
+    fn answer(&mut self, command: &Command<'_>) -> Reply;
+}
+
+impl Answers for OnMemory {
+    fn answer(&mut self, command: &Command<'_>) -> Reply {
+        self.apply(command)
+    }
+}
+
+impl Answers for PlainRegistry {
+    fn answer(&mut self, command: &Command<'_>) -> Reply {
+        self.apply(command)
+    }
+}
+
 // Installs the libraries of a case and sets its preloads.
-fn fill<G: Applies>(rt: &impl Abort, alloc: Global, kept: &mut G, case: &Case) -> Result<(), Fail> {
+fn fill<G: Answers>(rt: &impl Abort, alloc: Global, kept: &mut G, case: &Case) -> Result<(), Fail> {
     for (name, needs, sectors) in case.0 {
         let bytes = file(alloc, Some(*name), needs, sectors.wrapping_mul(512))?;
-        let reply = kept.apply(&Command::Install(&bytes));
+        let reply = kept.answer(&Command::Install(&bytes));
         assert!(rt; matches!(reply, Reply::Done), "an install");
     }
     let reply = match case.1 {
-        [first, second] => kept.apply(&Command::SetPreloads(&[&[*first], &[*second]])),
-        [one] => kept.apply(&Command::SetPreloads(&[&[*one]])),
+        [first, second] => kept.answer(&Command::SetPreloads(&[&[*first], &[*second]])),
+        [one] => kept.answer(&Command::SetPreloads(&[&[*one]])),
         _ => Reply::Done,
     };
     assert!(rt; matches!(reply, Reply::Done), "the preloads");
     Ok(())
 }
 
-// The registry of a case in memory.
-fn in_memory(rt: &impl Abort, alloc: Global, case: &Case) -> Result<Registry, Fail> {
-    let Ok(mut kept) = Registry::new(alloc, 64) else {
-        return Err("refused".into());
-    };
+// The plain registry of a case.
+fn plain(rt: &impl Abort, alloc: Global, case: &Case) -> Result<PlainRegistry, Fail> {
+    let mut kept = PlainRegistry::new(alloc, 64);
     fill(rt, alloc, &mut kept, case)?;
     Ok(kept)
 }
@@ -129,14 +144,14 @@ fn text_of(alloc: Global, reply: Reply) -> Result<(Vec<u8>, Option<Refusal>), Fa
     }
 }
 
-// What the case's program is answered by the registry in memory.
+// What the case's program is answered by the plain registry.
 fn wanted(
     rt: &impl Abort,
     alloc: Global,
     case: &Case,
     program: &[u8],
 ) -> Result<(Vec<u8>, Option<Refusal>), Fail> {
-    let mut kept = in_memory(rt, alloc, case)?;
+    let mut kept = plain(rt, alloc, case)?;
     text_of(
         alloc,
         kept.apply(&Command::Bind {
@@ -160,7 +175,7 @@ fn bind_twice(alloc: Global, disk: Fuse<Memory>, program: &[u8]) -> Result<(Repl
 }
 
 #[test]
-fn a_bind_is_that_of_a_registry_in_memory(rt: HostRuntime) -> Result<(), Fail> {
+fn a_bind_is_that_of_a_plain_registry(rt: HostRuntime) -> Result<(), Fail> {
     let alloc = rt.alloc();
     for (number, case) in CASES.iter().enumerate() {
         let program = file(alloc, None, case.2, 0)?;
@@ -183,7 +198,7 @@ fn opening_calls(case: &Case) -> u64 {
 }
 
 // Whether a bind is answered S1 over a disk of which a call fails. The same bind then is answered
-// as the registry in memory does, and so is a bind that isn't answered S1.
+// as the plain registry does, and so is a bind that isn't answered S1.
 fn fails(
     rt: &impl Abort,
     alloc: Global,

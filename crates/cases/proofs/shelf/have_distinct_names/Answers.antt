@@ -1,7 +1,0 @@
-use Rattle.std.specs.Str.{bytes_eq}
-use Rattle.scope.specs.Objects.{Named}
-use Rattle.cases.proofs.Distinct.{distinct_by}
-use Rattle.cases.proofs.shelf.have_distinct_names.Goals as goal
-
-pub returns : goal.returns
-returns c = λ e. distinct_by (λ (o : Named). o.name) bytes_eq c.args.libraries.now (c.differ.ensures e)
