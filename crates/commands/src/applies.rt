@@ -1,16 +1,15 @@
 // What a script's commands go to.
 
 ghost use Rattle.registry.specs.Request.{Request, request_of};
-ghost use Rattle.registry.specs.Step.{StepInMemory};
 ghost use Rattle.registry.specs.declared.reply.Reply.{Reply};
 
 use crate::status::reply_status;
 use crate::watched::Watched;
-use registry::{Command, Registry, Reply};
+use disk_registry::Registry;
+use registry::{Command, Reply};
 use sector_disk::Disk;
 
-/// What applies commands: a registry in memory or on a disk, and whatever else answers as its own
-/// steps say.
+/// What applies commands: a registry on a disk, and whatever else answers as its own steps say.
 pub trait Applies {
     /// What may be answered to a request, from one value to the next.
     ghost step: { Self → Request → Reply → Self → Type 0 };
@@ -20,21 +19,13 @@ pub trait Applies {
         ensures step { step self.old (request_of command.now) result self.new };
 }
 
-impl Applies for Registry {
-    ghost step = { StepInMemory };
-
-    fn apply(&mut self, command: &Command<'_>) -> Reply {
-        Registry::apply(self, command)
-    }
-}
-
-impl<D: Disk> Applies for disk_registry::Registry<D> {
+impl<D: Disk> Applies for Registry<D> {
     ghost use Rattle.commands.specs.DiskStep.{DiskStep};
 
     ghost step = { DiskStep D.facts };
 
     fn apply(&mut self, command: &Command<'_>) -> Reply {
-        disk_registry::Registry::apply(self, command)
+        Registry::apply(self, command)
     }
 }
 

@@ -1,10 +1,5 @@
 pub mod Bindings
-pub mod Counting
-pub mod FileTables
 pub mod LibraryLists
 pub mod Names
 pub mod Runs
-pub mod Shortness
 pub mod Sonames
-pub mod States
-pub mod OneRun

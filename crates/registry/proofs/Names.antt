@@ -1,6 +1,6 @@
 -- Lists of names, and tests of them.
 use Rattle.std.proofs.Common.{◌≡◌, ◌≢◌, ℕ, Bool, true, false, List, [], ◌∷◌, map, refl, ap, arith}
-use Rattle.std.specs.Prelude.{◌||◌, not, All, AllPairs, bytes_eq}
+use Rattle.std.specs.Prelude.{◌||◌, All, AllPairs, bytes_eq}
 use Rattle.std.specs.List.{list_any}
 use Rattle.std.proofs.lemmas.Slice.Eq.{bytes_eq-Decides}
 use Rattle.std.proofs.lemmas.List.Elements.{All-nil, All-cons}
@@ -20,10 +20,6 @@ or_left false b h = refl
 pub or_right : (a b : Bool) → (a || b) ≡ false → b ≡ false
 or_right true b h = cc
 or_right false b h = h
-
-pub not_false : (a : Bool) → not a ≡ false → a ≡ true
-not_false true h = refl
-not_false false h = cc
 
 -- names are the same where the test says so
 pub same : (x y : List ℕ) → bytes_eq x y ≡ true → x ≡ y

@@ -1,6 +1,5 @@
 -- Runs grow by a step.
-use Rattle.std.proofs.Common.{◌≡◌, ◌+◌, ◌<◌, ℕ, length, map, take, get_or, ap, ◌∙◌, List, [], ◌∷◌, ◌++◌, refl, sym, subst, suc, zero}
-use Rattle.std.proofs.lemmas.List.{take_more, map-append}
+use Rattle.std.proofs.Common.{◌≡◌, ℕ, take, ap, ◌∙◌, List, [], ◌∷◌, ◌++◌, refl, sym, subst, suc, zero}
 use Rattle.registry.specs.Runs.{last_of, after, Steps, Run}
 
 pub last_more : {S : Type 0} (s u : S) (ts : List S) → last_of s (ts ++ u ∷ []) ≡ u
@@ -52,11 +51,3 @@ module _ {S Q R : Type 0} (Step : S → Q → R → S → Type 0) where
   -- one more step
   pub run_more : (s t u : S) (q : Q) (r : R) (qs : List Q) (rs : List R) → Run Step s qs rs t → Step t q r u → Run Step s (qs ++ q ∷ []) (rs ++ r ∷ []) u
   run_more s t u q r qs rs run step = (run.0 ++ u ∷ [], steps_more s u q r qs rs run.0 run.1 (subst (λ x. Step x q r u) run.2 step), sym (last_more s u run.0))
-
-  -- one more of a list of commands
-  pub run_turn : {C : Type 0} (f : C → Q) (xs : List C) (i : ℕ) (d : C) (s t u : S) (rs rs' : List R) (r : R)
-      → i < length xs → Run Step s (map f (take i xs)) rs t → Step t (f (get_or xs i d)) r u → rs' ≡ rs ++ r ∷ [] → Run Step s (map f (take (i + 1) xs)) rs' u
-  run_turn f xs i d s t u rs rs' r lt run step is =
-      let more : map f (take (i + 1) xs) ≡ map f (take i xs) ++ f (get_or xs i d) ∷ [] = ap (map f) (take_more xs i d lt) ∙ map-append f (take i xs) (get_or xs i d ∷ []) in
-      subst (λ rs. Run Step s (map f (take (i + 1) xs)) rs u) (sym is)
-      (subst (λ qs. Run Step s qs (rs ++ r ∷ []) u) (sym more) (run_more s t u (f (get_or xs i d)) r (map f (take i xs)) rs run step))

@@ -1,7 +1,6 @@
 -- What holds of a library's file.
-use Rattle.std.proofs.Common.{◌≡◌, ◌≤◌, ℕ, Bool, true, false, List, [], ◌∷◌, length, Some, None, Option, refl, sym, ap, subst, arith, inr}
-use Rattle.std.specs.Prelude.{◌&&◌, ◌||◌, not, nat_le, nat_lt, unwrap_or}
-use Rattle.std.specs.List.{list_all}
+use Rattle.std.proofs.Common.{◌≡◌, ◌≤◌, ℕ, Bool, true, false, List, [], ◌∷◌, length, Some, None, Option, refl, sym, ap, arith, inr}
+use Rattle.std.specs.Prelude.{◌&&◌, ◌||◌, not, nat_lt, unwrap_or}
 use Rattle.std.specs.Option.{option_map, option_map_or}
 use Rattle.std.proofs.lemmas.Bool.Decides.{nat_tests}
 use Rattle.elf_file.specs.Constant.{LARGEST_FILE}
@@ -14,7 +13,7 @@ use Rattle.elf_dynamic.specs.Refusal.{refusals, first_refusal}
 use Rattle.elf_dynamic.specs.Strings.{soname}
 use Rattle.hash_check.specs.Admission.{has_bad_hash_table, has_good_words, has_ending_walks, meets_exports}
 use Rattle.hash_check.specs.FileRefusal.{first_file_refusal, file_tests, ReadNeedsMemory}
-use Rattle.hash_check.specs.Soname.{has_bad_soname, is_library_name, is_name_byte, NAME_LIMIT}
+use Rattle.hash_check.specs.Soname.{has_bad_soname, is_library_name}
 use Rattle.hash_check.specs.declared.file_refusal.FileRefusal.{FileRefusal}
 use Rattle.hash_check.specs.declared.file_refusal.FileRefusal.TheVariants.{Object, BadHashTable}
 use Rattle.registry.specs.Library.{Library, IsLibrary, library_tests, library_refusal, name_of}
@@ -75,24 +74,6 @@ is_library file h = record { accepted = h; named = named_so file h }
 pub name_is : (file name : List ℕ) → soname file ≡ Some name → name ≡ name_of file
 unfolding name_of
 name_is file name h = sym (ap (λ o. unwrap_or o []) h)
-
--- a library's name is short
-pub short_name : (l : Library) → IsLibrary l → length l.name ≤ NAME_LIMIT
-unfolding has_bad_soname is_library_name
-short_name l is = by (soname l.bytes) is.named (soname_fine l.bytes is.accepted)
-  where
-    within : (n : ℕ) (c : Bool) → (nat_le 1 n && nat_le n NAME_LIMIT && c) ≡ true → n ≤ NAME_LIMIT
-    within n c h = grind (arith, nat_tests)
-
-    fine : (b : Bool) → not b ≡ false → b ≡ true
-    fine true h = refl
-    fine false h = cc
-
-    by : (o : Option (List ℕ)) → o ≡ Some l.name → not (option_map_or is_library_name o false) ≡ false → length l.name ≤ NAME_LIMIT
-    by None e h = cc
-    by (Some n) e h =
-        let same : n ≡ l.name = cc in
-        subst (λ m. length m ≤ NAME_LIMIT) same (within (length n) (list_all is_name_byte n) (fine (is_library_name n) h))
 
 segments_fine : (file : List ℕ) → first_refusal file ≡ None → segment_refusal file ≡ None
 unfolding first_refusal file_refusal

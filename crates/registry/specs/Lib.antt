@@ -9,4 +9,3 @@ pub mod Binding
 pub mod Phase
 pub mod Step
 pub mod Runs
-pub mod inside

@@ -1,15 +1,9 @@
 -- Where a registry stands between two commands (own).
-use Rattle.std.specs.Prelude.{ℕ, Bool, false}
+use Rattle.std.specs.Prelude.{ℕ, Bool}
 use Rattle.registry.specs.State.{State, free, names_of}
 use Rattle.registry.specs.Table.{Table}
 
--- what contracts see of a registry in memory
-pub record Kept : Type 0 where
-  -- how many sectors its files may cost, with those of the roots
-  pub sectors : ℕ
-  pub state : State
-
--- what contracts see of a registry, on a disk or in memory: its state, and what is known of the disk
+-- what contracts see of a registry: its state, and what is known of its disk
 pub record Phase : Type 0 where
   pub sectors : ℕ
   -- how many free sectors lie in as many of the longest runs as a file may have extents
@@ -19,16 +13,6 @@ pub record Phase : Type 0 where
   -- a write or a sync has failed: what the disk holds is known again once it is opened
   pub failed : Bool
   pub state : State
-
--- where a registry in memory stands: there is no disk that could fail, and the free sectors are one run
-abbrev pub phase_of : Kept → Phase
-phase_of kept = record {
-  sectors = kept.sectors;
-  longest = free kept.sectors kept.state;
-  failures = 0;
-  failed = false;
-  state = kept.state;
-}
 
 -- what the tests of a command read of it
 abbrev pub table_of : Phase → Table

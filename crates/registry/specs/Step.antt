@@ -11,9 +11,9 @@ use Rattle.registry.specs.Table.{listed}
 use Rattle.registry.specs.Request.{Request, install, replace, remove, set_preloads, bind, list}
 use Rattle.registry.specs.Tests.{first_refusal}
 use Rattle.registry.specs.Binding.{bound_objects, bound_image, binding_refusal}
-use Rattle.registry.specs.Phase.{Kept, Phase, phase_of, table_of}
+use Rattle.registry.specs.Phase.{Phase, table_of}
 use Rattle.registry.specs.declared.refusal.Refusal.{Refusal}
-use Rattle.registry.specs.declared.refusal.Refusal.TheVariants.{Bind, OutOfMemory, Device, Reopen, Damaged, Fragmented, BadGeometry}
+use Rattle.registry.specs.declared.refusal.Refusal.TheVariants.{Bind, OutOfMemory, Device, Reopen}
 use Rattle.registry.specs.declared.reply.Reply.{Reply}
 use Rattle.registry.specs.declared.reply.Reply.TheVariants.{Done, Refused}
 use Rattle.registry.specs.declared.reply.Reply.TheVariants as reply
@@ -106,25 +106,7 @@ abbrev pub answer_of : Result (Unit {0}) Refusal → Reply
 answer_of (Ok done) = Done
 answer_of (Err refusal) = Refused refusal
 
--- an answer that needs no disk: neither S1 nor S2 nor S5 nor S8, and S6 is answered to no command
-abbrev pub IsDiskless : Reply → Type 0
-IsDiskless (Refused Device) = ⊥
-IsDiskless (Refused Reopen) = ⊥
-IsDiskless (Refused Damaged) = ⊥
-IsDiskless (Refused Fragmented) = ⊥
-IsDiskless (Refused BadGeometry) = ⊥
-IsDiskless answer = Unit {0}
-
--- a step of a registry in memory
-abbrev pub StepInMemory : Kept → Request → Reply → Kept → Type 0
-StepInMemory kept request answer kept' = Step (phase_of kept) request answer (phase_of kept') × IsDiskless answer
-
 -- a change was acknowledged
 abbrev pub is_acknowledged : Reply → Bool
 is_acknowledged Done = true
 is_acknowledged answer = false
-
--- an answer other than S11
-abbrev pub IsWithoutMemory : Reply → Type 0
-IsWithoutMemory (Refused OutOfMemory) = ⊥
-IsWithoutMemory answer = Unit {0}

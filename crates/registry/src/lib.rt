@@ -1,33 +1,20 @@
-//! A registry of shared libraries in memory: commands, replies, and the tests of a command in
-//! their order.
+//! Commands to a registry of shared libraries, what they are answered, and the step table: what a
+//! command may be answered in a state, and the state that this leaves (specs/Step.antt).
 //!
-//! `Registry::apply` answers a command as the step table says, and `Registry::run` a list of them;
-//! both have that table as their contract (specs/Step.antt).
+//! `library_name` reads a file as a library. The registry that takes the commands is
+//! `disk_registry`.
 #![tactic(auto)]
 
-mod apply;
-mod bind;
-mod change;
 mod command;
-mod cost;
-mod file;
-mod held;
-mod libraries;
-mod list;
 mod listing;
-mod preloads;
 mod refusal;
-mod registry;
 mod reply;
-mod short_name;
 mod soname;
-mod tested;
 mod words;
 
 pub use command::Command;
 pub use listing::Listing;
 pub use refusal::Refusal;
-pub use registry::Registry;
 pub use reply::Reply;
 pub use soname::library_name;
 pub use words::{are_too_many, has_repeat};

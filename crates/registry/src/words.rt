@@ -6,7 +6,8 @@ ghost use Rattle.registry.specs.Limits.{most_preloads};
 ghost use Rattle.registry.specs.State.{has_name};
 ghost use Rattle.registry.specs.Tests.{has_repeat};
 
-use crate::preloads::MOST_PRELOADS;
+/// The most preloads.
+const MOST_PRELOADS: usize = 16;
 
 /// Whether one of the names is this one.
 fn is_among(name: &[u8], names: &[&[u8]]) -> bool

@@ -5,10 +5,13 @@ ghost use Rattle.std.specs.Prelude.{⊤};
 use crate::tests::samples::of_segments;
 use crate::tests::streams::{Full, Stops};
 use crate::{Applies, ScriptFault, Summary, run_script};
-use registry::{Command, Registry, Reply};
+use disk_registry::Registry;
+use registry::{Command, Reply};
+use sector_disk::Memory;
 use std::alloc::Global;
 use std::io;
 use std::io::{ErrorKind, Read};
+use std::process::Abort;
 use std::test::Fail;
 
 /// Done to every command, and what was asked.
@@ -175,48 +178,78 @@ fn a_writer_fails_at_each_write(rt: HostRuntime) -> Result<(), Fail> {
     Ok(())
 }
 
-#[test]
-fn a_writer_fails_within_an_image(rt: HostRuntime) -> Result<(), Fail> {
-    let alloc = rt.alloc();
-    let program = hex::encode(alloc, of_segments(alloc, 2_000)?.as_slice())?;
-    let script = format!(in alloc; "list\nbind 0x0 {program}\nlist\n")?;
-    let mut text = Vec::new(alloc);
-    let Ok(mut registry) = Registry::new(alloc, 8) else {
-        return Err("refused".into());
+/// A new registry on a disk of 8 sectors.
+fn registry(alloc: Global) -> Result<Registry<Memory>, Fail> {
+    match Registry::format(alloc, Memory::new(alloc, 8)?) {
+        Ok(registry) => Ok(registry),
+        Err(_) => Err("refused".into()),
+    }
+}
+
+/// A script over a registry whose writer takes this many writes, each of at most so many bytes, and
+/// then fails; what was written is the front of the text that is wanted.
+fn stops_after(
+    rt: &impl Abort,
+    alloc: Global,
+    registry: &mut Registry<Memory>,
+    script: &str,
+    text: &[u8],
+    (writes, most): (usize, usize),
+) -> Result<Summary, ScriptFault> {
+    let mut out = Stops {
+        writes,
+        most,
+        taken: Vec::new(alloc),
     };
-    let done = run_script(alloc, &mut script.as_bytes(), &mut text, &mut registry)?;
+    let ended = run_script(alloc, &mut script.as_bytes(), &mut out, registry);
+    assert!(rt; text.starts_with(&out.taken));
+    assert!(rt; ended.is_ok() == (out.taken.len() == text.len()));
+    ended
+}
+
+/// A script with an image whose writer fails at each of its writes.
+fn stops_within(
+    rt: &impl Abort,
+    alloc: Global,
+    registry: &mut Registry<Memory>,
+    script: &str,
+) -> Result<(), Fail> {
+    let mut text = Vec::new(alloc);
+    let done = run_script(alloc, &mut script.as_bytes(), &mut text, registry)?;
     assert_eq!(rt; (done.lines, done.refused), (3, 0));
     assert!(rt; text.len() > 72_000);
     // A line, two pieces of the image, a line; and the same where no write takes more than 8 KiB.
     for (most, count) in [(usize::MAX, 4), (8192, 11)] {
-        for writes in 0..count + 1 {
-            let mut out = Stops {
-                writes,
-                most,
-                taken: Vec::new(alloc),
-            };
-            let ended = run_script(alloc, &mut script.as_bytes(), &mut out, &mut registry);
-            if writes < count {
-                assert_eq!(rt; ended, Err(ScriptFault::Write));
-                assert!(rt; out.taken.len() < text.len());
-            } else {
-                assert_eq!(rt; ended, Ok(done));
-            }
-            assert!(rt; text.starts_with(&out.taken));
+        for writes in 0..count {
+            let ended = stops_after(rt, alloc, registry, script, &text, (writes, most));
+            assert_eq!(rt; ended, Err(ScriptFault::Write));
         }
+        let ended = stops_after(rt, alloc, registry, script, &text, (count, most));
+        assert_eq!(rt; ended, Ok(done));
     }
     Ok(())
 }
 
 #[test]
+fn a_writer_fails_within_an_image(rt: HostRuntime) -> Result<(), Fail> {
+    let alloc = rt.alloc();
+    let program = hex::encode(alloc, of_segments(alloc, 2_000)?.as_slice())?;
+    let script = format!(in alloc; "list\nbind 0x0 {program}\nlist\n")?;
+    let mut registry = registry(alloc)?;
+    let stopped = stops_within(&rt, alloc, &mut registry, &script);
+    let _ = registry.into_disk();
+    stopped
+}
+
+#[test]
 fn a_registry_runs_a_script(rt: HostRuntime) -> Result<(), Fail> {
     let alloc = rt.alloc();
-    let Ok(mut registry) = Registry::new(alloc, 8) else {
-        return Err("refused".into());
-    };
     let text = "list\nremove a\npreload a a\npreload z\npreload\ninstall 00\n";
     let mut output = Vec::new(alloc);
-    let summary = run_script(alloc, &mut text.as_bytes(), &mut output, &mut registry)?;
+    let mut registry = registry(alloc)?;
+    let ended = run_script(alloc, &mut text.as_bytes(), &mut output, &mut registry);
+    let _ = registry.into_disk();
+    let summary = ended?;
     assert_eq!(rt; summary.lines, 6);
     assert_eq!(rt; summary.refused, 4);
     assert_eq!(rt;
