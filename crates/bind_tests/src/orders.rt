@@ -29,6 +29,9 @@ const TAIL: &[u8] =
       \0\xc8\0\0\0\0\0\0\0\x0a\0\0\0\0\0\0\0\x11\0\0\0\0\0\0\0\x0b\0\0\0\0\0\0\0\x18\0\0\0\0\0\
       \0\0\0\0\0\0\0\0\0\0\0\0\0\0\0\0\0\0";
 
+/// An entry by which the object itself is looked in first for its own references.
+const SYMBOLIC: &[u8] = b"\x10\0\0\0\0\0\0\0\0\0\0\0\0\0\0\0";
+
 /// Where the front has the binding and the type of f, its visibility, and its section.
 const INFO_AT: usize = 228;
 
@@ -41,12 +44,18 @@ const LETTERS: &[u8] = b"abcdepfz";
 
 /// A file that needs libraries of one letter each.
 fn file(alloc: Global, needs: &[u8]) -> Result<Vec<u8>, AllocError> {
+    file_with(alloc, needs, b"")
+}
+
+/// The same with an entry more, or with none.
+fn file_with(alloc: Global, needs: &[u8], entry: &[u8]) -> Result<Vec<u8>, AllocError> {
     let mut bytes = Vec::from_slice(alloc, FRONT)?;
     for letter in needs {
         let number = LETTERS.iter().take_while(|l| **l != *letter).count() as u64;
         bytes.extend_from_slice(&1u64.to_le_bytes())?;
         bytes.extend_from_slice(&number.wrapping_mul(2).wrapping_add(1).to_le_bytes())?;
     }
+    bytes.extend_from_slice(entry)?;
     bytes.extend_from_slice(TAIL)?;
     let whole = (bytes.len() as u64).to_le_bytes();
     let section = (bytes.len() as u64)
@@ -58,10 +67,16 @@ fn file(alloc: Global, needs: &[u8]) -> Result<Vec<u8>, AllocError> {
     Ok(bytes)
 }
 
-/// A file whose f has the binding, the visibility and the section of a number below 24: each of
-/// LOCAL, GLOBAL and WEAK with each of the four visibilities, undefined and defined.
-fn file_of_kind(alloc: Global, needs: &[u8], number: u8) -> Result<Vec<u8>, AllocError> {
-    let mut bytes = file(alloc, needs)?;
+/// A file with an entry more whose f has the binding, the visibility and the section of a number
+/// below 24: each of LOCAL, GLOBAL and WEAK with each of the four visibilities, undefined and
+/// defined.
+fn file_of_kind(
+    alloc: Global,
+    needs: &[u8],
+    entry: &[u8],
+    number: u8,
+) -> Result<Vec<u8>, AllocError> {
+    let mut bytes = file_with(alloc, needs, entry)?;
     put(&mut bytes, INFO_AT, &[number % 3 * 16 + 2]);
     put(&mut bytes, VISIBILITY_AT, &[number / 3 % 4]);
     put(&mut bytes, SECTION_AT, &[number / 12 % 2]);
@@ -76,14 +91,34 @@ fn is_exported(symbol: Symbol) -> bool {
         && (symbol.visibility() == 0 || symbol.visibility() == 3)
 }
 
-/// The first definition of a name, by looking at every symbol of every object.
-fn plain_lookup(order: &Order<'_>, name: &[u8]) -> Option<Target> {
+/// The symbol that an object exports under a name, by looking at every symbol.
+fn plain_definition(order: &Order<'_>, object: usize, name: &[u8]) -> Option<Target>
+    requires { object < length order.now }
+{
+    let file = order.object(object).object();
+    for symbol in 1..file.symbol_count() {
+        if is_exported(file.symbol(symbol)) && file.name_of(symbol) == name {
+            return Some(Target::At { object, symbol });
+        }
+    }
+    None
+}
+
+/// The first definition of a name for an object that asks, by looking at every symbol of every
+/// object.
+fn plain_lookup(order: &Order<'_>, asker: usize, name: &[u8]) -> Option<Target>
+    requires { asker < length order.now }
+{
+    if order.object(asker).object().symbolic() {
+        let own = plain_definition(order, asker, name);
+        if own.is_some() {
+            return own;
+        }
+    }
     for object in 0..order.count() {
-        let file = order.object(object).object();
-        for symbol in 1..file.symbol_count() {
-            if is_exported(file.symbol(symbol)) && file.name_of(symbol) == name {
-                return Some(Target::At { object, symbol });
-            }
+        let found = plain_definition(order, object, name);
+        if found.is_some() {
+            return found;
         }
     }
     None
@@ -97,7 +132,7 @@ fn plain_target(order: &Order<'_>, object: usize, symbol: u32) -> Option<Target>
     let file = order.object(object).object();
     let entry = file.symbol(symbol);
     let own = Some(Target::At { object, symbol });
-    let found = plain_lookup(order, file.name_of(symbol));
+    let found = plain_lookup(order, object, file.name_of(symbol));
     let weak = if entry.binding() == 2 {
         Some(Target::Zero)
     } else {
@@ -142,13 +177,15 @@ fn resolves_as_the_plain_lookup_does(rt: HostRuntime) -> Result<(), Fail> {
     let alloc = rt.alloc();
     let b = file(alloc, b"")?;
     for of_program in 0..24 {
-        let program = file_of_kind(alloc, b"ab", of_program)?;
+        let program = file_of_kind(alloc, b"ab", b"", of_program)?;
         for of_a in 0..24 {
-            let a = file_of_kind(alloc, b"", of_a)?;
-            assert!(rt;
-                resolves_plainly(alloc, &program, &a, &b)?,
-                "{of_program} {of_a}"
-            );
+            for entry in [b"".as_slice(), SYMBOLIC] {
+                let a = file_of_kind(alloc, b"", entry, of_a)?;
+                assert!(rt;
+                    resolves_plainly(alloc, &program, &a, &b)?,
+                    "{of_program} {of_a} {entry:?}"
+                );
+            }
         }
     }
     Ok(())

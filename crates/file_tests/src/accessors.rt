@@ -80,6 +80,28 @@ fn symbols_are_those_of_the_file(rt: HostRuntime) -> Result<(), Fail> {
     Ok(())
 }
 
+/// Whether a file is symbolic.
+fn is_symbolic(file: &[u8]) -> Result<bool, Fail> {
+    let object = Object::read(file).ok().ok_or("refused")?;
+    Ok(object.symbolic())
+}
+
+/// The tag of the first needed library, whose value is 8, and of the second one, whose value is
+/// 0xa, made `DT_SYMBOLIC` (16) and `DT_FLAGS` (30).
+#[test]
+fn symbolic_by_the_tag_or_the_flag(rt: HostRuntime) -> Result<(), Fail> {
+    assert!(rt; !is_symbolic(&LIBRARY)?);
+    let mut changed = LIBRARY;
+    changed[0x158] = 16;
+    assert!(rt; is_symbolic(&changed)?);
+    changed[0x158] = 30;
+    assert!(rt; !is_symbolic(&changed)?);
+    changed[0x158] = 1;
+    changed[0x168] = 30;
+    assert!(rt; is_symbolic(&changed)?);
+    Ok(())
+}
+
 #[test]
 fn segments_and_relocations_are_those_of_the_file(rt: HostRuntime) -> Result<(), Fail> {
     let object = Object::read(&LIBRARY).ok().ok_or("refused")?;
