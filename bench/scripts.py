@@ -2,17 +2,21 @@
 """Makes the scripts that docs/PERFORMANCE.md measures, in the folder that is named, and times them.
 
     python3 bench/scripts.py FOLDER            makes the scripts
-    python3 bench/scripts.py FOLDER PROGRAM    runs each by PROGRAM, from standard input to /dev/null, five times
+    python3 bench/scripts.py FOLDER PROGRAM    gives each to the program `rlibreg`, five times, its output to /dev/null
+
+The disk is a new one each time, in the folder for temporary files (TMPDIR says which).
 """
 
 import subprocess
 import sys
+import tempfile
 from pathlib import Path
 
 from libraries import Made, chain, many_lookups, megabytes, mesh, name
 
 RUNS, MIB = 5, 1 << 20
 LINES = 200_000
+SECTORS = '400000'
 
 
 def install(file):
@@ -56,16 +60,23 @@ def made():
     yield 'short_lines', [b''] * (33 * MIB)
 
 
+def run(script, program, disk):
+    """The processor time of a script on a new disk, the real time, and the most memory, in MiB."""
+    disk.unlink(missing_ok=True)
+    subprocess.run([program, 'format', disk, SECTORS], stdout=subprocess.DEVNULL, check=True)
+    with script.open('rb') as lines:
+        ended = subprocess.run(['/usr/bin/time', '-f', '%U %S %e %M', program, 'script', disk], stdin=lines,
+                               stdout=subprocess.DEVNULL, stderr=subprocess.PIPE, text=True)
+    assert ended.returncode in (0, 1), ended
+    user, system, real, memory = ended.stderr.splitlines()[-1].split()
+    return float(user) + float(system), float(real), int(memory) / 1024
+
+
 def times(script, program):
-    """The processor time of each run, and the most memory of one, in MiB."""
-    runs = []
-    for _ in range(RUNS):
-        with script.open('rb') as lines:
-            said = subprocess.run(['/usr/bin/time', '-f', '%U %S %e %M', program], stdin=lines, stdout=subprocess.DEVNULL,
-                                  stderr=subprocess.PIPE, check=True, text=True).stderr.splitlines()
-        user, system, real, memory = said[-1].split()
-        runs.append((float(user) + float(system), float(real), int(memory) / 1024, said[0]))
-    return min(runs), max(run[2] for run in runs)
+    """The least processor time of some runs with its real time, and the most memory of one, in MiB."""
+    with tempfile.TemporaryDirectory() as folder:
+        runs = [run(script, program, Path(folder) / 'disk') for _ in range(RUNS)]
+    return min(runs)[:2], max(memory for _, _, memory in runs)
 
 
 def main():
@@ -76,8 +87,8 @@ def main():
             (folder / script).write_bytes(b''.join(line + b'\n' for line in lines))
     else:
         for script in sorted(folder.iterdir()):
-            (processor, real, _, said), memory = times(script, str(Path(sys.argv[2]).resolve()))
-            print(f'{script.name:16} {script.stat().st_size / MIB:7.1f} MiB: {processor:.2f} s ({real:.2f}), {memory:.1f} MiB; {said}', flush=True)
+            (processor, real), memory = times(script, str(Path(sys.argv[2]).resolve()))
+            print(f'{script.name:16} {script.stat().st_size / MIB:7.1f} MiB: {processor:.2f} s ({real:.2f}), {memory:.1f} MiB', flush=True)
 
 
 main()
