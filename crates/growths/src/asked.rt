@@ -1,0 +1,98 @@
+// Commands as data, each with its answer in a word.
+
+use crate::files::{BASE, SIZE, library, program};
+use crate::listed::listed;
+use disk_registry::Registry;
+use image::{BindRefusal, Image};
+use registry::{Command, Refusal, Reply};
+use sector_disk::{Fuse, Memory};
+
+/// A registry on a disk whose calls are counted.
+pub(crate) type OnMemory = Registry<Fuse<Memory>>;
+
+/// A command. Names have one byte.
+#[derive(Clone, Copy)]
+pub(crate) enum Asked {
+    /// Installs the library of this name and version.
+    Install(u8, u8),
+    /// Puts this library in the place of the one of its name.
+    Replace(u8, u8),
+    Remove(&'static [u8]),
+    Preload(&'static [&'static [u8]]),
+    /// Binds a program that needs the library of this name.
+    Bind(u8),
+    List,
+}
+
+// Whether an image has an object's bytes at an address.
+fn has_at(image: &Image, address: u64, file: &[u8; SIZE]) -> bool {
+    let mut same = true;
+    for (at, byte) in file.iter().enumerate() {
+        same = same && image.byte(address.wrapping_add(at as u64)) == Some(*byte);
+    }
+    same
+}
+
+// Whether an image is that of the program that needs a, over the second a and with b as preload:
+// each file unchanged, one page after the other.
+fn is_whole(image: &Image) -> bool {
+    has_at(image, BASE, &program(b'a'))
+        && has_at(image, BASE.wrapping_add(0x1000), &library(b'b', 0))
+        && has_at(image, BASE.wrapping_add(0x2000), &library(b'a', 1))
+}
+
+// The number of a refusal.
+fn number_of(refusal: &Refusal) -> &'static str {
+    match refusal {
+        Refusal::Object(_) => "C1",
+        Refusal::AlreadyInstalled => "C2",
+        Refusal::NotInstalled => "C3",
+        Refusal::InPreloads => "C4",
+        Refusal::RepeatedPreload => "C5",
+        Refusal::Bind(BindRefusal::Missing { .. }) => "B3",
+        Refusal::Device => "S1",
+        Refusal::Reopen => "S2",
+        Refusal::OutOfMemory => "S11",
+        _ => "another refusal",
+    }
+}
+
+/// What is answered.
+pub(crate) fn word(reply: &Reply) -> &'static str {
+    match reply {
+        Reply::Done => "ok",
+        Reply::Listing(listing) => listed(listing),
+        Reply::Bound(image) => {
+            if is_whole(image) {
+                "image"
+            } else {
+                "another image"
+            }
+        }
+        Reply::Refused(refusal) => number_of(refusal),
+    }
+}
+
+/// Gives a command.
+pub(crate) fn give(registry: &mut OnMemory, asked: Asked) -> Reply {
+    match asked {
+        Asked::Install(name, version) => {
+            registry.apply(&Command::Install(&library(name, version)))
+        }
+        Asked::Replace(name, version) => {
+            registry.apply(&Command::Replace(&library(name, version)))
+        }
+        Asked::Remove(name) => registry.apply(&Command::Remove(name)),
+        Asked::Preload(names) => registry.apply(&Command::SetPreloads(names)),
+        Asked::Bind(needed) => registry.apply(&Command::Bind {
+            program: &program(needed),
+            base: BASE,
+        }),
+        Asked::List => registry.apply(&Command::List),
+    }
+}
+
+/// What a command is answered.
+pub(crate) fn ask(registry: &mut OnMemory, asked: Asked) -> &'static str {
+    word(&give(registry, asked))
+}

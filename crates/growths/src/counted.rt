@@ -1,0 +1,39 @@
+// A disk in memory whose calls can be counted afterwards.
+
+use sector_disk::{Disk, Fuse, Memory, SECTOR_BYTES};
+
+// More calls than a part makes.
+const MANY: u64 = 1_000;
+
+/// This disk: its call number `MANY` is the first that fails.
+pub(crate) fn counted(disk: Memory) -> Fuse<Memory> {
+    Fuse::new(disk, MANY, true, false)
+}
+
+/// How many calls were made of a disk: it is read until it fails.
+pub(crate) fn calls(disk: &mut Fuse<Memory>) -> u64 {
+    let mut sector = [0; SECTOR_BYTES];
+    for more in 1..=MANY {
+        if disk.sectors() == 0 || disk.read(0, &mut sector).is_err() {
+            return MANY.saturating_sub(more);
+        }
+    }
+    0
+}
+
+/// So many calls, in a word.
+pub(crate) fn calls_word(calls: u64) -> &'static str {
+    match calls {
+        0 => "no call of the disk,",
+        1 => "1 call of the disk,",
+        2 => "2 calls of the disk,",
+        3 => "3 calls of the disk,",
+        4 => "4 calls of the disk,",
+        5 => "5 calls of the disk,",
+        6 => "6 calls of the disk,",
+        7 => "7 calls of the disk,",
+        8 => "8 calls of the disk,",
+        9 => "9 calls of the disk,",
+        _ => "more calls of the disk,",
+    }
+}

@@ -1,0 +1,57 @@
+// Making a registry.
+
+use crate::counted::{calls, calls_word, counted};
+use crate::run::{Went, Words};
+use disk_registry::Registry;
+use sector_disk::{Fuse, Memory};
+use std::alloc::{AllocError, Global};
+use store::StoreRefusal;
+
+/// How many sectors each disk has.
+const SECTORS: u32 = 16;
+
+/// A disk of zeros.
+pub(crate) fn zeros(alloc: Global) -> Result<Memory, AllocError> {
+    Memory::new(alloc, SECTORS)
+}
+
+/// The number of a refusal of an opening or a format.
+pub(crate) fn refusal_word(refusal: StoreRefusal) -> &'static str {
+    match refusal {
+        StoreRefusal::Device => "S1",
+        StoreRefusal::AlreadyFormatted => "S4",
+        StoreRefusal::OutOfMemory => "S11",
+        _ => "another refusal",
+    }
+}
+
+// What a format of a disk is answered.
+fn again(alloc: Global, disk: Memory) -> &'static str {
+    match Registry::format(alloc, counted(disk)) {
+        Ok(registry) => {
+            let _ = registry.into_disk();
+            "ok"
+        }
+        Err((refusal, _)) => refusal_word(refusal),
+    }
+}
+
+// What is told of a format that was refused.
+fn refused(alloc: Global, refusal: StoreRefusal, disk: Fuse<Memory>) -> Result<Words, AllocError> {
+    let mut disk = disk;
+    let mut words = Vec::new(alloc);
+    words.push("format:")?;
+    words.push(refusal_word(refusal))?;
+    words.push(calls_word(calls(&mut disk)))?;
+    words.push("again:")?;
+    words.push(again(alloc, disk.into_inner()))?;
+    Ok(words)
+}
+
+/// Makes a registry.
+pub(crate) fn format(alloc: Global) -> Result<Went, AllocError> {
+    match Registry::format(alloc, counted(zeros(alloc)?)) {
+        Ok(registry) => Ok(Went::On(registry.into_disk().into_inner())),
+        Err((refusal, disk)) => Ok(Went::Otherwise(refused(alloc, refusal, disk)?)),
+    }
+}

@@ -1,0 +1,56 @@
+// The replies to the lines of a script, one by one.
+
+use std::alloc::{AllocError, Global};
+
+// How a reply of one line begins, and its word.
+const LINES: [(&[u8], &str); 10] = [
+    (b"ok\n", "ok"),
+    (b"refused S11 ", "S11"),
+    (b"refused S1 ", "S1"),
+    (b"refused S2 ", "S2"),
+    (b"refused C2 ", "C2"),
+    (b"refused C3 ", "C3"),
+    (b"refused C4 ", "C4"),
+    (b"refused B3 ", "B3"),
+    (b"refused L1 ", "L1"),
+    (b"refused L2 ", "L2"),
+];
+
+// The word of a line that is a whole reply.
+fn line_word(line: &[u8]) -> Option<&'static str> {
+    for (front, word) in &LINES {
+        if line.starts_with(front) {
+            return Some(word);
+        }
+    }
+    None
+}
+
+/// The word of a reply.
+pub(crate) fn reply_word(reply: &[u8]) -> &'static str {
+    match line_word(reply) {
+        Some(word) => word,
+        None if reply.starts_with(b"object ") => "image",
+        None => "list",
+    }
+}
+
+/// The replies of a text. A listing and an image end with their line `end`.
+pub(crate) fn replies(alloc: Global, text: &[u8]) -> Result<Vec<Vec<u8>>, AllocError> {
+    let mut all = Vec::new(alloc);
+    let mut reply = Vec::new(alloc);
+    for line in text.split_inclusive(|byte| *byte == b'\n') {
+        reply.extend_from_slice(line)?;
+        if line == b"end\n".as_slice() || line_word(line).is_some() {
+            all.push(reply)?;
+            reply = Vec::new(alloc);
+        }
+    }
+    Ok(all)
+}
+
+/// Whether a reply says that its line wasn't done for want of memory, or for a disk that found
+/// none.
+pub(crate) fn is_not_done(reply: &[u8]) -> bool {
+    matches!(reply_word(reply), "S1" | "S2" | "S11")
+}

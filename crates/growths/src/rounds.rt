@@ -1,0 +1,123 @@
+// Rounds of commands, with a stop after each.
+
+use crate::asked::{Asked, ask, word};
+use crate::files::{BASE, library, program};
+use crate::format::refusal_word;
+use crate::run::{Words, opened};
+use disk_registry::{Round, RoundReplies, run_rounds};
+use registry::Command;
+use sector_disk::Memory;
+use std::alloc::{AllocError, Global};
+
+// A round of two commands, of which this call is cut; at the stop each sector has its last content.
+fn round<'a>(alloc: Global, commands: [Command<'a>; 2], cut: u64) -> Result<Round<'a>, AllocError> {
+    Ok(Round {
+        commands: Vec::from_slice(alloc, &commands)?,
+        cut,
+        late: false,
+        picks: Vec::from_slice(alloc, &[1])?,
+    })
+}
+
+// The three rounds: with the file of a library, its name, and a program.
+fn all_rounds<'a>(
+    alloc: Global,
+    file: &'a [u8],
+    name: &'a [u8],
+    program: &'a [u8],
+) -> Result<Vec<Round<'a>>, AllocError> {
+    let bind = Command::Bind {
+        program,
+        base: BASE,
+    };
+    let mut all = Vec::new(alloc);
+    all.push(round(alloc, [Command::Install(file), Command::List], 1000)?)?;
+    all.push(round(alloc, [Command::Remove(name), Command::List], 11)?)?;
+    all.push(round(alloc, [Command::List, bind], 1000)?)?;
+    Ok(all)
+}
+
+// What the rounds are told, after these words: the number of each reply, or why there are none.
+fn tell(words: Words, all: &[RoundReplies]) -> Result<Words, AllocError> {
+    let mut words = words;
+    for told in all {
+        match told {
+            RoundReplies::Ran(replies) => {
+                for reply in replies {
+                    words.push(word(reply))?;
+                }
+            }
+            RoundReplies::NotRun(refusal) => {
+                words.push("not run")?;
+                words.push(refusal_word(*refusal))?;
+            }
+        }
+        words.push("|")?;
+    }
+    Ok(words)
+}
+
+// What is told where no growth is refused.
+const TOLD: [&str; 9] = [
+    "ok",
+    "list a b c preload b",
+    "|",
+    "S1",
+    "S2",
+    "|",
+    "list a b preload b",
+    "image",
+    "|",
+];
+
+// What a disk lists.
+fn left(alloc: Global, disk: Memory) -> Result<&'static str, AllocError> {
+    let mut registry = opened(alloc, disk)?;
+    let list = ask(&mut registry, Asked::List);
+    let _ = registry.into_disk();
+    Ok(list)
+}
+
+// Whether these are the words where no growth is refused.
+fn is_whole(words: &[&'static str]) -> bool {
+    let mut same = words.len() == TOLD.len();
+    for (told, wanted) in words.iter().zip(&TOLD) {
+        same = same && *told == *wanted;
+    }
+    same
+}
+
+// What is told where a growth is refused.
+fn otherwise(
+    alloc: Global,
+    title: &'static str,
+    words: &[&'static str],
+    disk: Memory,
+) -> Result<Words, AllocError> {
+    let mut said = Vec::new(alloc);
+    said.push(title)?;
+    for word in words {
+        said.push(*word)?;
+    }
+    said.push("at the end")?;
+    said.push(left(alloc, disk)?)?;
+    Ok(said)
+}
+
+/// Runs three rounds: a library is installed and listed; it is removed, and the last sync fails, so
+/// that the root's new content is found after the stop; a listing and a bind show what stands.
+pub(crate) fn rounds(alloc: Global, disk: Memory) -> Result<Option<Words>, AllocError> {
+    let file = library(b'c', 0);
+    let needing = program(b'a');
+    let all = all_rounds(alloc, &file, b"c", &needing)?;
+    let words = Vec::with_capacity(alloc, 32)?;
+    let (words, disk, ran) = match run_rounds(alloc, disk, all) {
+        Ok((replies, disk)) => (tell(words, &replies)?, disk, true),
+        Err((_, disk)) => (words, disk, false),
+    };
+    if ran && is_whole(&words) {
+        return Ok(None);
+    }
+    let title = if ran { "rounds:" } else { "rounds: none" };
+    Ok(Some(otherwise(alloc, title, &words, disk)?))
+}

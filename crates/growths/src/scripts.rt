@@ -1,0 +1,147 @@
+// A script with every form of line.
+
+use crate::files::{library, program};
+use crate::replies::{is_not_done, replies, reply_word};
+use crate::run::{Words, opened};
+use crate::seen::{before, seen};
+use crate::steps::STEPS;
+use commands::{ScriptFault, run_script_on_disk};
+use sector_disk::Memory;
+use std::alloc::{AllocError, Global};
+
+/// Puts a line: what it says, and a file's bytes as hexadecimal after it.
+pub(crate) fn put_line(
+    alloc: Global,
+    lines: &mut Vec<u8>,
+    said: &[u8],
+    file: &[u8],
+) -> Result<(), AllocError> {
+    lines.extend_from_slice(said)?;
+    lines.extend_from_slice(hex::encode(alloc, file)?.as_bytes())?;
+    lines.extend_from_slice(b"\n")?;
+    Ok(())
+}
+
+// The script, for the registry after all commands.
+fn script_lines(alloc: Global) -> Result<Vec<u8>, AllocError> {
+    let mut lines = Vec::with_capacity(alloc, 8192)?;
+    put_line(alloc, &mut lines, b"list", b"")?;
+    put_line(alloc, &mut lines, b"install ", &library(b'c', 0))?;
+    put_line(alloc, &mut lines, b"replace ", &library(b'a', 2))?;
+    put_line(alloc, &mut lines, b"preload a c", b"")?;
+    put_line(alloc, &mut lines, b"bind 0x10000 ", &program(b'a'))?;
+    put_line(alloc, &mut lines, b"bind 0x10000 ", &program(b'd'))?;
+    put_line(alloc, &mut lines, b"preload b", b"")?;
+    put_line(alloc, &mut lines, b"install ", &library(b'c', 1))?;
+    put_line(alloc, &mut lines, b"remove c", b"")?;
+    put_line(alloc, &mut lines, b"lists", b"")?;
+    put_line(alloc, &mut lines, b"remove c", b"")?;
+    lines.extend_from_slice(b"list")?;
+    Ok(lines)
+}
+
+// What its lines are answered.
+const ANSWERS: [&str; 12] = [
+    "list", "ok", "ok", "ok", "image", "B3", "ok", "C2", "ok", "L1", "C3", "L2",
+];
+
+// What a script wrote, whether it ended early, and the disk.
+#[derive(Drop)]
+struct Ran {
+    text: Vec<u8>,
+    fault: Option<ScriptFault>,
+    disk: Memory,
+}
+
+// Runs a script over a disk, to a writer that has room.
+fn run(alloc: Global, disk: Memory, lines: &[u8]) -> Result<Ran, AllocError> {
+    let mut text = Vec::with_capacity(alloc, 32768)?;
+    let mut registry = opened(alloc, disk)?;
+    let mut reader = lines;
+    let ran = run_script_on_disk(alloc, &mut reader, &mut text, &mut registry);
+    Ok(Ran {
+        text,
+        fault: ran.err(),
+        disk: registry.into_disk().into_inner(),
+    })
+}
+
+// The lines that were done, by their replies.
+fn done_lines(alloc: Global, lines: &[u8], told: &[Vec<u8>]) -> Result<Vec<u8>, AllocError> {
+    let mut done = Vec::new(alloc);
+    for (line, reply) in lines.split_inclusive(|byte| *byte == b'\n').zip(told) {
+        if !is_not_done(reply) {
+            done.extend_from_slice(line)?;
+        }
+    }
+    Ok(done)
+}
+
+// The replies to the lines that were done.
+fn done_text(alloc: Global, told: &[Vec<u8>]) -> Result<Vec<u8>, AllocError> {
+    let mut done = Vec::new(alloc);
+    for reply in told {
+        if !is_not_done(reply) {
+            done.extend_from_slice(reply)?;
+        }
+    }
+    Ok(done)
+}
+
+// Whether the script of the lines that were done has the same replies, and leaves the same.
+fn is_as_without(
+    alloc: Global,
+    lines: &[u8],
+    told: &[Vec<u8>],
+    disk: Memory,
+) -> Result<bool, AllocError> {
+    let start = before(alloc, STEPS.len())?;
+    let without = run(alloc, start, &done_lines(alloc, lines, told)?)?;
+    Ok(
+        without.fault.is_none()
+            && without.text == done_text(alloc, told)?
+            && seen(alloc, without.disk)? == seen(alloc, disk)?,
+    )
+}
+
+// Whether all was answered as where no growth is refused.
+fn is_whole(ran: &Ran, told: &[Vec<u8>]) -> bool {
+    let mut same = ran.fault.is_none() && told.len() == ANSWERS.len();
+    for (reply, wanted) in told.iter().zip(&ANSWERS) {
+        same = same && reply_word(reply) == *wanted;
+    }
+    same
+}
+
+// What a script ended with.
+fn end_word(fault: Option<ScriptFault>) -> &'static str {
+    match fault {
+        None => "to the end;",
+        Some(ScriptFault::OutOfMemory) => "and a line out of memory;",
+        Some(ScriptFault::Read) => "and a reader's fault;",
+        Some(ScriptFault::Write) => "and a writer's fault;",
+    }
+}
+
+/// Runs the script.
+pub(crate) fn script(alloc: Global, disk: Memory) -> Result<Option<Words>, AllocError> {
+    let lines = script_lines(alloc)?;
+    let ran = run(alloc, disk, &lines)?;
+    let told = replies(alloc, &ran.text)?;
+    if is_whole(&ran, &told) {
+        return Ok(None);
+    }
+    let mut words = Vec::new(alloc);
+    words.push("script:")?;
+    for reply in &told {
+        words.push(reply_word(reply))?;
+    }
+    words.push(end_word(ran.fault))?;
+    let same = is_as_without(alloc, &lines, &told, ran.disk)?;
+    words.push(if same {
+        "all else as without these lines"
+    } else {
+        "ALL ELSE OTHERWISE"
+    })?;
+    Ok(Some(words))
+}

@@ -1,0 +1,53 @@
+// What a registry on a disk lists and binds.
+
+use crate::asked::ask;
+use crate::counted::counted;
+use crate::files::{library, program};
+use crate::format::zeros;
+use crate::run::opened;
+use crate::scripts::put_line;
+use crate::steps::STEPS;
+use commands::run_script_on_disk;
+use disk_registry::Registry;
+use sector_disk::Memory;
+use std::alloc::{AllocError, Global};
+
+/// A disk before the command at a place of the list, where nothing is refused.
+pub(crate) fn before(alloc: Global, at: usize) -> Result<Memory, AllocError> {
+    let Ok(mut registry) = Registry::format(alloc, counted(zeros(alloc)?)) else {
+        return Err(AllocError);
+    };
+    for (_, asked, _) in STEPS.iter().take(at) {
+        let _ = ask(&mut registry, *asked);
+    }
+    Ok(registry.into_disk().into_inner())
+}
+
+/// The listing and the texts of two binds: of a program that needs a, and of one that needs none.
+pub(crate) fn seen(alloc: Global, disk: Memory) -> Result<Vec<u8>, AllocError> {
+    let mut lines = Vec::new(alloc);
+    put_line(alloc, &mut lines, b"list", b"")?;
+    put_line(alloc, &mut lines, b"bind 0x10000 ", &program(b'a'))?;
+    put_line(alloc, &mut lines, b"bind 0x10000 ", &library(b'p', 0))?;
+    let mut registry = opened(alloc, disk)?;
+    let mut text = Vec::new(alloc);
+    let ran = run_script_on_disk(alloc, &mut lines.as_slice(), &mut text, &mut registry);
+    let _ = registry.into_disk();
+    match ran {
+        Ok(_) => Ok(text),
+        Err(_) => Err(AllocError),
+    }
+}
+
+/// Whether a disk lists and binds what one does before the command at a place of the list.
+pub(crate) fn is_as_before(
+    alloc: Global,
+    disk: Memory,
+    at: usize,
+) -> Result<&'static str, AllocError> {
+    if seen(alloc, disk)? == seen(alloc, before(alloc, at)?)? {
+        Ok("list and bind as before,")
+    } else {
+        Ok("LIST OR BIND OTHERWISE,")
+    }
+}
