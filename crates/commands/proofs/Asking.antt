@@ -10,9 +10,6 @@ use Rattle.registry.specs.declared.refusal.Refusal.TheVariants as refusal
 use Rattle.registry.specs.declared.reply.Reply.{Reply}
 use Rattle.registry.specs.declared.reply.Reply.TheVariants as reply
 use Rattle.store.specs.Opened.{Opened}
-use Rattle.store.specs.declared.refusal.StoreRefusal.{StoreRefusal}
-use Rattle.store.specs.declared.refusal.StoreRefusal.TheVariants as store
-use Rattle.store.specs.Opening.{IsRefusalOfOpen, IsRefusalOfFormat}
 use Rattle.file_disk.specs.FileDisk.{file_facts}
 use Rattle.file_disk.specs.declared.disk.FileDisk.{FileDisk}
 use Rattle.commands.specs.Disk.{IsOpenRefusal, IsFormatRefusal}
@@ -201,33 +198,6 @@ module _ (F : Type 0) (io : Streams) where
 
   pub list_ends : (disk : List ℕ) (status : Status) → Replied F (λ asked. asked ≡ request.list) io.before io.after status → Ends F (Some (list disk)) io status
   list_ends disk status h = ends_as (list disk) refl (λ k. k) (λ k. k) (λ k. k) status h
-
--- the refusals of opening a registry, and of making one, are these on any disk
-pub open_refusal : (n : ℕ) (r : StoreRefusal) → IsRefusalOfOpen n r → IsOpenRefusal r
-open_refusal n store.Device h = tt
-open_refusal n store.NotFormatted h = tt
-open_refusal n store.Damaged h = tt
-open_refusal n store.BadGeometry h = tt
-open_refusal n store.OutOfMemory h = tt
-open_refusal n store.Reopen h = absurd h
-open_refusal n store.AlreadyFormatted h = absurd h
-open_refusal n store.Full h = absurd h
-open_refusal n store.Fragmented h = absurd h
-open_refusal n store.TooMany h = absurd h
-open_refusal n store.GenerationEnd h = absurd h
-
-pub format_refusal : (n : ℕ) (r : StoreRefusal) → IsRefusalOfFormat n r → IsFormatRefusal r
-format_refusal n store.Device h = tt
-format_refusal n store.AlreadyFormatted h = tt
-format_refusal n store.BadGeometry h = tt
-format_refusal n store.OutOfMemory h = tt
-format_refusal n store.Reopen h = absurd h
-format_refusal n store.NotFormatted h = absurd h
-format_refusal n store.Damaged h = absurd h
-format_refusal n store.Full h = absurd h
-format_refusal n store.Fragmented h = absurd h
-format_refusal n store.TooMany h = absurd h
-format_refusal n store.GenerationEnd h = absurd h
 
 -- what a command ends with whose disk is the file behind a standard stream, when nothing was printed
 pub ends_away : (F : Type 0) (line : CommandLine) (io : Streams) (status : Status) → io.after ≡ io.before

@@ -6,8 +6,10 @@ pub mod Ascii
 pub mod Lines
 pub mod ReadLines
 pub mod Pages
+pub mod Pieces
 pub mod ScriptRuns
 pub mod Scripts
 pub mod Then
 pub mod Seen
+pub mod Sent
 pub mod Statuses

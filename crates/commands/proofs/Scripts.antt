@@ -10,12 +10,12 @@ use Rattle.registry.specs.Request.{Request}
 use Rattle.registry.specs.declared.reply.Reply.{Reply}
 use Rattle.registry.proofs.Runs.{run_more}
 use Rattle.commands.specs.Answer.{LineStep, answer_text, output, is_refused}
-use Rattle.commands.specs.Script.{IsLine, ended, Counts, Streams, Ends, Breaks, Stops, StopsWriting}
-use Rattle.commands.specs.inside.Progress.{IsAll, Place, Answered, Misses}
+use Rattle.commands.specs.Script.{IsLine, ended, Counts, Streams, Ends, Breaks, Stops}
+use Rattle.commands.specs.inside.Progress.{IsAll, Place, Answered}
 use Rattle.commands.specs.declared.answer.Answer.{Answer}
 use Rattle.commands.specs.declared.answer.Answer.TheVariants.{CutLine}
 use Rattle.commands.specs.declared.fault.ScriptFault.{ScriptFault}
-use Rattle.commands.specs.declared.fault.ScriptFault.TheVariants.{Read, Write, OutOfMemory}
+use Rattle.commands.specs.declared.fault.ScriptFault.TheVariants.{Write}
 use Rattle.commands.specs.declared.summary.Summary.{Summary}
 use Rattle.commands.proofs.Lines.{flat_more, counts_more, rest_known, front_known, stops_ended}
 
@@ -72,13 +72,13 @@ module _ {S : Type 0} (step : S → Request → Reply → S → Type 0) where
     ends_cut now n [] all is_line some written counted refusals = absurd (omega arith)
 
     -- part of a line was read, and not answered
-    pub breaks_reading : (r : Place) (fault : ScriptFault) (part : List ℕ) → Consumes q.unread r.unread part → StopsAt part 10 → r.written ≡ q.written → Breaks step (streams p r) s t fault whole part answers
+    pub breaks_reading : (r : Place) (fault : ScriptFault) (part : List ℕ) → Consumes q.unread r.unread part → StopsAt part 10 → Appends q.written r.written [] → Breaks step (streams p r) s t fault whole part answers
     breaks_reading r fault part read stops written = record {
       read = front_known p.unread r.unread (flat_map ended whole) part (Consumes-trans p.unread q.unread r.unread (flat_map ended whole) part so_far.read read);
       lines = so_far.lines;
       one_at_most = stops;
       run = so_far.run;
-      written = λ _. subst (λ w. Appends p.written w (output answers)) (sym written) so_far.written;
+      written = λ _. subst (Appends p.written r.written) (append-nil (output answers)) (Appends-trans p.written q.written r.written (output answers) [] so_far.written written);
     }
 
     -- the answer to the last line was not written
@@ -91,39 +91,31 @@ module _ {S : Type 0} (step : S → Request → Reply → S → Type 0) where
       written = λ h. absurd (h is);
     }
 
-    -- a whole line was not answered, or its answer not written
-    pub breaks_line : (r : Place) (u : S) (line : List ℕ) (fault : ScriptFault) → Consumes q.unread r.unread (ended line) → IsLine line → Misses step t u q.written r.written line fault → Stops step (streams p r) s u fault
-    breaks_line r u line Read read is_line missed = (whole, ended line, answers, subst (λ v. Breaks step (streams p r) s v Read whole (ended line) answers) (sym missed.0) (breaks_reading r Read (ended line) read (stops_ended line is_line) missed.1))
-    breaks_line r u line OutOfMemory read is_line missed = (whole, ended line, answers, subst (λ v. Breaks step (streams p r) s v OutOfMemory whole (ended line) answers) (sym missed.0) (breaks_reading r OutOfMemory (ended line) read (stops_ended line is_line) missed.1))
-    breaks_line r u line Write read is_line missed = (
-      whole ++ line ∷ [],
-      [],
-      answers ++ missed.0 ∷ [],
-      record {
-        read = front_known p.unread r.unread (flat_map ended (whole ++ line ∷ [])) []
-            (subst (Consumes p.unread r.unread) (sym (flat_more ended whole line) ∙ sym (append-nil (flat_map ended (whole ++ line ∷ []))))
-            (Consumes-trans p.unread q.unread r.unread (flat_map ended whole) (ended line) so_far.read read));
-        lines = All-push IsLine whole line so_far.lines is_line;
-        one_at_most = All-nil (λ b. b ≢ 10);
-        run = run_more (LineStep step) s t u line missed.0 whole answers so_far.run missed.1;
-        written = λ h. absurd (h refl);
-      },
-    )
+    -- what was done but for a line that was read and not applied, or of a line that was applied
+    pub breaks_unapplied : (r : Place) (u : S) (line : List ℕ) (fault : ScriptFault) → Consumes q.unread r.unread (ended line) → IsLine line → u ≡ t → (fault ≢ Write → Appends q.written r.written []) → Breaks step (streams p r) s u fault whole (ended line) answers
+    breaks_unapplied r u line fault read is_line same written =
+        subst (λ v. Breaks step (streams p r) s v fault whole (ended line) answers) (sym same) (record {
+          read = front_known p.unread r.unread (flat_map ended whole) (ended line) (Consumes-trans p.unread q.unread r.unread (flat_map ended whole) (ended line) so_far.read read);
+          lines = so_far.lines;
+          one_at_most = stops_ended line is_line;
+          run = so_far.run;
+          written = λ h. subst (Appends p.written r.written) (append-nil (output answers)) (Appends-trans p.written q.written r.written (output answers) [] so_far.written (written h));
+        })
 
-    -- the same, with what had been written before
-    pub wrote_cut : (r : Place) (part : List ℕ) → Consumes q.unread r.unread part → StopsAt part 10 → StopsWriting step (streams p r) s t q.written
-    wrote_cut r part read stops =
-        (whole, part, answers, [], subst (Breaks step (streams p r) s t Write whole part) (sym (append-nil answers)) (breaks_cut r Write part refl read stops), omega arith, so_far.written)
-
-    pub wrote_line : (r : Place) (u : S) (line : List ℕ) → Consumes q.unread r.unread (ended line) → IsLine line → Misses step t u q.written r.written line Write → StopsWriting step (streams p r) s u q.written
-    unfolding breaks_line
-    wrote_line r u line read is_line missed =
-        let all = breaks_line r u line Write read is_line missed in
-        (whole ++ line ∷ [], [], answers, missed.0 ∷ [], all.3, omega arith, so_far.written)
+    pub breaks_applied : (r : Place) (u : S) (line : List ℕ) (answer : Answer) → Consumes q.unread r.unread (ended line) → IsLine line → LineStep step t line answer u → Breaks step (streams p r) s u Write (whole ++ line ∷ []) [] (answers ++ answer ∷ [])
+    breaks_applied r u line answer read is_line made = record {
+      read = front_known p.unread r.unread (flat_map ended (whole ++ line ∷ [])) []
+          (subst (Consumes p.unread r.unread) (sym (flat_more ended whole line) ∙ sym (append-nil (flat_map ended (whole ++ line ∷ []))))
+          (Consumes-trans p.unread q.unread r.unread (flat_map ended whole) (ended line) so_far.read read));
+      lines = All-push IsLine whole line so_far.lines is_line;
+      one_at_most = All-nil (λ b. b ≢ 10);
+      run = run_more (LineStep step) s t u line answer whole answers so_far.run made;
+      written = λ h. absurd (h refl);
+    }
 
     -- nothing more was read
     pub breaks_here : (fault : ScriptFault) → Breaks step (streams p q) s t fault whole [] answers
-    breaks_here fault = breaks_reading q fault [] (Consumes-nil q.unread) (All-nil (λ b. b ≢ 10)) refl
+    breaks_here fault = breaks_reading q fault [] (Consumes-nil q.unread) (All-nil (λ b. b ≢ 10)) (Appends-nil q.written)
 
   -- nothing was read at all
   pub breaks_none : (p : Place) (s : S) (fault : ScriptFault) → Stops step (streams p p) s s fault

@@ -1,5 +1,6 @@
 -- The refusals of a disk that isn't opened as a registry, or isn't made one, and their text (own).
 use Rattle.std.specs.Prelude.{ℕ, List, ◌++◌, codes}
+use Rattle.store.specs.Opening.{IsRefusalOfOpen, IsRefusalOfFormat}
 use Rattle.store.specs.declared.refusal.StoreRefusal.{StoreRefusal}
 use Rattle.store.specs.declared.refusal.StoreRefusal.TheVariants.{Device, Reopen, NotFormatted, AlreadyFormatted, Damaged, BadGeometry, Full, Fragmented, TooMany, GenerationEnd, OutOfMemory}
 
@@ -21,19 +22,10 @@ disk_refusal_name OutOfMemory = codes "S11 OutOfMemory"
 abbrev pub disk_refusal_text : StoreRefusal → List ℕ
 disk_refusal_text refusal = codes "refused " ++ disk_refusal_name refusal ++ codes "\n"
 
--- what opening may refuse with
+-- what opening may refuse with: on a disk of some number of sectors
 abbrev pub IsOpenRefusal : StoreRefusal → Type 0
-IsOpenRefusal Device = Unit
-IsOpenRefusal NotFormatted = Unit
-IsOpenRefusal Damaged = Unit
-IsOpenRefusal BadGeometry = Unit
-IsOpenRefusal OutOfMemory = Unit
-IsOpenRefusal other = ⊥
+IsOpenRefusal refusal = (sectors : ℕ) × IsRefusalOfOpen sectors refusal
 
--- what making one may refuse with
+-- what making one may refuse with: on a disk of some number of sectors
 abbrev pub IsFormatRefusal : StoreRefusal → Type 0
-IsFormatRefusal Device = Unit
-IsFormatRefusal AlreadyFormatted = Unit
-IsFormatRefusal BadGeometry = Unit
-IsFormatRefusal OutOfMemory = Unit
-IsFormatRefusal other = ⊥
+IsFormatRefusal refusal = (sectors : ℕ) × IsRefusalOfFormat sectors refusal

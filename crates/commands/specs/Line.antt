@@ -1,5 +1,5 @@
 -- What a line of a script asks (own).
-use Rattle.std.specs.Prelude.{ℕ, ◌+◌, ◌==◌, Bool, ◌&&◌, not, nat_le, if◌then◌else◌, List, [], ◌∷◌, length, take, take_while, drop, codes, bytes_eq, Option, Some, None}
+use Rattle.std.specs.Prelude.{◌≡◌, ℕ, ◌+◌, ◌==◌, Bool, true, false, ◌&&◌, not, nat_le, if◌then◌else◌, List, [], ◌∷◌, length, take, take_while, drop, codes, bytes_eq, Option, Some, None}
 use Rattle.std.specs.List.{list_all, slice_split}
 use Rattle.std.specs.Option.{option_map}
 use Rattle.std.specs.Result.{result_ok}
@@ -59,3 +59,18 @@ meaning line =
     else if has_front (codes "bind ") line then bind_behind (drop 5 line)
     else if bytes_eq line (codes "list") then Some list
     else None
+
+-- a request asks for a change
+abbrev pub is_change : Request → Bool
+is_change list = false
+is_change (bind program base) = false
+is_change request = true
+
+-- what is asked is no change: a listing, a bind, or nothing
+abbrev pub is_no_change : Option Request → Bool
+is_no_change (Some request) = not (is_change request)
+is_no_change None = true
+
+-- a line that asks for no change
+abbrev pub AsksNoChange : List ℕ → Type 0
+AsksNoChange line = is_no_change (meaning line) ≡ true

@@ -1,5 +1,5 @@
 -- What a script does (own).
-use Rattle.std.specs.Prelude.{◌≡◌, ◌≢◌, ◌≤◌, ℕ, List, [], ◌∷◌, ◌++◌, length, count_by, All, Option, IfSome}
+use Rattle.std.specs.Prelude.{◌≡◌, ◌≢◌, ◌≤◌, ◌⊎◌, ℕ, List, [], ◌∷◌, ◌++◌, length, count_by, All, Option, IfSome}
 use Rattle.std.specs.List.{flat_map}
 use Rattle.std.specs.Io.{StopsAt}
 use Rattle.std.specs.Io.Iter.{u64_saturate}
@@ -8,6 +8,7 @@ use Rattle.registry.specs.Request.{Request}
 use Rattle.registry.specs.Runs.{Run}
 use Rattle.registry.specs.declared.reply.Reply.{Reply}
 use Rattle.commands.specs.Answer.{LineStep, output, is_refused}
+use Rattle.commands.specs.Line.{AsksNoChange}
 use Rattle.commands.specs.declared.answer.Answer.{Answer}
 use Rattle.commands.specs.declared.answer.Answer.TheVariants.{CutLine}
 use Rattle.commands.specs.declared.fault.ScriptFault.{ScriptFault}
@@ -38,6 +39,18 @@ pub record Streams : Type 0 where
   pub before : Option (List ℕ)
   pub after : Option (List ℕ)
 
+-- A writer held exactly the answers to the first lines; one answer alone is missing, or the lines whose answers are missing ask for no change.
+pub record Held (before held : Option (List ℕ)) (whole : List (List ℕ)) (answers : List Answer) : Type 0 where
+  pub told : List (List ℕ)
+  pub untold : List (List ℕ)
+  pub sent : List Answer
+  pub missing : List Answer
+  pub lines : whole ≡ told ++ untold
+  pub answered : answers ≡ sent ++ missing
+  pub same : length told ≡ length sent
+  pub written : Appends before held (output sent)
+  pub little : (length missing ≤ 1) ⊎ All AsksNoChange untold
+
 module _ {S : Type 0} (step : S → Request → Reply → S → Type 0) where
   -- All was read, and each line answered by a step from the registry that the one before it left.
   pub record Ends (io : Streams) (s s' : S) (summary : Summary) (whole : List (List ℕ)) (cut : List ℕ) (answers : List Answer) : Type 0 where
@@ -66,7 +79,6 @@ module _ {S : Type 0} (step : S → Request → Reply → S → Type 0) where
   abbrev pub Stops : Streams → S → S → ScriptFault → Type 0
   Stops io s s' fault = (whole : List (List ℕ)) × (part : List ℕ) × (answers : List Answer) × Breaks io s s' fault whole part answers
 
-  -- the writer failed, and held all answers but one at most before; the rest is open
+  -- the writer failed, and held the answers before; the rest is open
   abbrev pub StopsWriting : Streams → S → S → Option (List ℕ) → Type 0
-  StopsWriting io s s' held =
-      (whole : List (List ℕ)) × (part : List ℕ) × (sent failed : List Answer) × Breaks io s s' Write whole part (sent ++ failed) × (length failed ≤ 1) × Appends io.before held (output sent)
+  StopsWriting io s s' held = (whole : List (List ℕ)) × (part : List ℕ) × (answers : List Answer) × Breaks io s s' Write whole part answers × Held io.before held whole answers

@@ -1,16 +1,18 @@
 // The answer to a line.
 
-ghost use Rattle.std.specs.Prelude.{◌≡◌, IfOk, IfErr, OnOk, OnErr};
-ghost use Rattle.std.specs.Io.KnownBytes.{Appends};
+ghost use Rattle.std.specs.Prelude.{◌≡◌, ℕ, List, not, IfErr, OnOk};
+ghost use Rattle.std.specs.Option.{option_map};
+ghost use Rattle.text_output.specs.Sends.{Sends};
 ghost use Rattle.commands.specs.Answer.{LineStep, answer_text, is_refused};
+ghost use Rattle.commands.specs.Line.{is_no_change, meaning};
 ghost use Rattle.commands.specs.inside.Asked.{request_asked};
 
 use crate::applies::Applies;
-use crate::asked::{Asked, parse_line};
+use crate::asked::Asked;
 use crate::fault::ScriptFault;
-use crate::reply::write_reply;
+use crate::refusal::Line;
+use crate::reply::put_reply;
 use registry::{Command, Reply};
-use std::alloc::{AllocError, Global};
 use std::io::Write;
 
 /// The answer to a line.
@@ -41,19 +43,24 @@ fn apply<G: Applies>(registry: &mut G, asked: &Asked<'_>) -> Reply
     }
 }
 
-/// Answers a whole line. Where memory to read it is refused, nothing is applied.
-pub(crate) fn answer_line<G: Applies>(
-    alloc: Global,
-    line: &[u8],
-    registry: &mut G,
-) -> Result<Answer, AllocError>
-    ensures ok { IfOk result
-        (λ answer. LineStep G.step registry.old line.now answer registry.new) }
-    ensures err { OnErr result (registry.new ≡ registry.old) }
+/// Whether what a line asks is a change.
+pub(crate) fn asks_change(asked: &Option<Asked<'_>>) -> bool
+    ensures { not result ≡ is_no_change (option_map request_asked asked.now) }
 {
-    match parse_line(alloc, line)? {
-        Some(asked) => Ok(Answer::Replied(apply(registry, &asked))),
-        None => Ok(Answer::BadLine),
+    match asked {
+        Some(Asked::List | Asked::Bind { .. }) | None => false,
+        Some(_) => true,
+    }
+}
+
+/// Answers what a line asks.
+pub(crate) fn answer_asked<G: Applies>(registry: &mut G, asked: &Option<Asked<'_>>) -> Answer
+    ensures { (line : List ℕ) → option_map request_asked asked.now ≡ meaning line
+        → LineStep G.step registry.old line result registry.new }
+{
+    match asked {
+        Some(asked) => Answer::Replied(apply(registry, asked)),
+        None => Answer::BadLine,
     }
 }
 
@@ -68,26 +75,20 @@ pub(crate) fn is_refused(answer: &Answer) -> bool
     }
 }
 
-/// Writes a line.
-fn write_line<W: Write>(out: &mut W, line: &[u8]) -> Result<(), ScriptFault>
-    ensures ok { OnOk result (Appends (W.contents out.old) (W.contents out.new) line.now) }
-    ensures err { IfErr result (λ fault. fault ≡ ScriptFault.Write) }
-{
-    match out.write_all(line) {
-        Ok(()) => Ok(()),
-        Err(_) => Err(ScriptFault::Write),
-    }
-}
-
-/// Writes the text of an answer.
-pub(crate) fn write_answer<W: Write>(out: &mut W, answer: &Answer) -> Result<(), ScriptFault>
-    ensures ok { OnOk result
-        (Appends (W.contents out.old) (W.contents out.new) (answer_text answer.now)) }
+/// Puts the text of an answer behind what waits.
+pub(crate) fn put_answer<W: Write>(
+    waiting: &mut Line,
+    out: &mut W,
+    answer: &Answer,
+) -> Result<(), ScriptFault>
+    ensures ok { OnOk result (Sends (W.contents out.old) waiting.old (W.contents out.new) waiting.new
+        (answer_text answer.now)) }
     ensures err { IfErr result (λ fault. fault ≡ ScriptFault.Write) }
 {
     match answer {
-        Answer::Replied(reply) => write_reply(out, reply),
-        Answer::BadLine => write_line(out, b"refused L1 BadLine\n"),
-        Answer::CutLine => write_line(out, b"refused L2 CutLine\n"),
+        Answer::Replied(reply) => put_reply(waiting, out, reply)?,
+        Answer::BadLine => waiting.put(out, b"refused L1 BadLine\n")?,
+        Answer::CutLine => waiting.put(out, b"refused L2 CutLine\n")?,
     }
+    Ok(())
 }

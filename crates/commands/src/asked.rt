@@ -5,7 +5,8 @@ ghost use Rattle.std.specs.Option.{option_map};
 ghost use Rattle.commands.specs.Line.{bind_behind, has_front, meaning};
 ghost use Rattle.commands.specs.inside.Asked.{request_asked};
 
-use crate::word::{base_in, hex_bytes, named, names_behind, word_in_front};
+use crate::hexadecimal::hex_bytes;
+use crate::word::{base_in, named, names_behind, word_in_front};
 use std::alloc::{AllocError, Global};
 
 /// What a line asks, with what it takes memory for: the bytes that HEX spells, and the list of

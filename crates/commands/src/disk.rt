@@ -61,7 +61,6 @@ fn open_disk<R: Files>(
 }
 
 /// Opens the registry on the disk that a file is.
-#[tactic(auto, using(crate::proofs::Asking::open_refusal))]
 pub(crate) fn open_registry<R: Files>(
     rt: &R,
     alloc: Global,
@@ -83,7 +82,6 @@ pub(crate) fn open_registry<R: Files>(
 
 /// Makes an empty registry on the disk of so many sectors that a file is, and makes the file where
 /// none stands.
-#[tactic(auto, using(crate::proofs::Asking::format_refusal))]
 pub(crate) fn make_registry<R: Files>(
     rt: &R,
     alloc: Global,

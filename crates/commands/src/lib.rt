@@ -18,6 +18,7 @@ mod disk;
 mod disk_script;
 mod fault;
 mod file;
+mod hexadecimal;
 mod message;
 mod on_disk;
 mod reading;

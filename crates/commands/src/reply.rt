@@ -129,8 +129,8 @@ fn put_listing<W: Write>(line: &mut Line, out: &mut W, listing: &Listing) -> Res
     Ok(())
 }
 
-/// The text of a reply; of an image nothing, since that has a writer of its own.
-fn put_reply<W: Write>(line: &mut Line, out: &mut W, reply: &Reply) -> Result<(), WriteFault>
+/// The text of a reply; of an image nothing, since that has a buffer of its own.
+fn put_short_reply<W: Write>(line: &mut Line, out: &mut W, reply: &Reply) -> Result<(), WriteFault>
     ensures ok { OnOk result (Sends (W.contents out.old) line.old (W.contents out.new) line.new
         (short_text reply.now)) }
     ensures err { OnErr result (line.new.failed ≡ true) }
@@ -143,6 +143,26 @@ fn put_reply<W: Write>(line: &mut Line, out: &mut W, reply: &Reply) -> Result<()
     }
 }
 
+/// Puts the text of a reply behind what waits; an image goes to the writer at once, behind what
+/// waited. It takes no memory.
+pub(crate) fn put_reply<W: Write>(
+    line: &mut Line,
+    out: &mut W,
+    reply: &Reply,
+) -> Result<(), ScriptFault>
+    ensures ok { OnOk result (Sends (W.contents out.old) line.old (W.contents out.new) line.new
+        (reply_text reply.now)) }
+    ensures err { IfErr result (λ fault. fault ≡ ScriptFault.Write) }
+{
+    if let Reply::Bound(image) = reply {
+        line.send(out)?;
+        image.write_text(out)?;
+        return Ok(());
+    }
+    put_short_reply(line, out, reply)?;
+    Ok(())
+}
+
 /// Writes the text of a reply: with one write, but for an image, and for a listing that is longer
 /// than a line's buffer. It takes no memory.
 pub(crate) fn write_reply<W: Write>(out: &mut W, reply: &Reply) -> Result<(), ScriptFault>
@@ -150,10 +170,6 @@ pub(crate) fn write_reply<W: Write>(out: &mut W, reply: &Reply) -> Result<(), Sc
         (Appends (W.contents out.old) (W.contents out.new) (reply_text reply.now)) }
     ensures err { IfErr result (λ fault. fault ≡ ScriptFault.Write) }
 {
-    if let Reply::Bound(image) = reply {
-        image.write_text(out)?;
-        return Ok(());
-    }
     let mut line = Line::new();
     put_reply(&mut line, out, reply)?;
     line.send(out)?;

@@ -1,16 +1,24 @@
 // Running a script.
 
-ghost use Rattle.std.specs.Prelude.{◌≡◌, IfOk, IfErr};
-ghost use Rattle.std.specs.Io.KnownBytes.{Appends};
+ghost use Rattle.std.specs.Prelude.{◌≡◌, ◌≢◌, ◌⊎◌, [], List, ℕ, IfOk, IfErr};
+ghost use Rattle.std.specs.Io.{StopsAt};
+ghost use Rattle.std.specs.Io.Buffered.{reader_buffer, reader_remaining};
+ghost use Rattle.std.specs.Io.KnownBytes.{Appends, Consumes, append_known};
+ghost use Rattle.std.specs.Option.{option_map};
+ghost use Rattle.text_output.specs.Sends.{Sends};
 ghost use Rattle.commands.specs.Answer.{LineStep, answer_text, is_refused};
-ghost use Rattle.commands.specs.Script.{Finishes, Stops, StopsWriting};
-ghost use Rattle.commands.specs.inside.Progress.{Misses};
+ghost use Rattle.commands.specs.Line.{AsksNoChange, is_no_change, meaning};
+ghost use Rattle.commands.specs.Script.{Breaks, Ends, Finishes, Held, Stops, StopsWriting};
+ghost use Rattle.commands.specs.inside.Asked.{request_asked};
+ghost use Rattle.commands.specs.inside.Progress.{GotLine, HasLine, Misses, Stepped, Told, Unread};
 ghost use Rattle.commands.specs.declared.answer.Answer.{Answer};
 
-use crate::answer::{Answer, answer_line, is_refused, write_answer};
+use crate::answer::{Answer, answer_asked, asks_change, is_refused, put_answer};
 use crate::applies::Applies;
+use crate::asked::{Asked, parse_line};
 use crate::fault::ScriptFault;
 use crate::reading::{Got, read_line};
+use crate::refusal::Line;
 use crate::summary::Summary;
 use std::alloc::Global;
 use std::io::{BufReader, Read, Write};
@@ -18,35 +26,185 @@ use std::io::{BufReader, Read, Write};
 /// How many bytes are read at once.
 const PAGE: usize = 0x10000;
 
-/// Answers a whole line, and says whether it was refused.
+/// Answers a line that asks for no change: the answer waits.
+fn answer_later<W: Write, G: Applies>(
+    asked: &Option<Asked<'_>>,
+    waiting: &mut Line,
+    writer: &mut W,
+    registry: &mut G,
+) -> Result<bool, ScriptFault>
+    ensures ok { IfOk result (λ refused. (line : List ℕ)
+        → option_map request_asked asked.now ≡ meaning line → (answer : Answer)
+        × LineStep G.step registry.old line answer registry.new
+        × Sends (W.contents writer.old) waiting.old (W.contents writer.new) waiting.new (answer_text answer)
+        × (refused ≡ is_refused answer)) }
+    ensures err { IfErr result (λ fault. (fault ≡ ScriptFault.Write) × ((line : List ℕ)
+        → option_map request_asked asked.now ≡ meaning line
+        → Stepped G.step registry.old line registry.new)) }
+{
+    let answer = answer_asked(registry, asked);
+    put_answer(waiting, writer, &answer)?;
+    Ok(is_refused(&answer))
+}
+
+/// Answers a line that asks for a change, and sends the answer. Nothing waits by then.
+fn answer_at_once<W: Write, G: Applies>(
+    asked: &Option<Asked<'_>>,
+    waiting: &mut Line,
+    writer: &mut W,
+    registry: &mut G,
+) -> Result<bool, ScriptFault>
+    requires { waiting.old.waiting ≡ [] }
+    ensures ok { IfOk result (λ refused. (waiting.new.waiting ≡ []) × ((line : List ℕ)
+        → option_map request_asked asked.now ≡ meaning line → (answer : Answer)
+        × LineStep G.step registry.old line answer registry.new
+        × Appends (W.contents writer.old) (W.contents writer.new) (answer_text answer)
+        × (refused ≡ is_refused answer))) }
+    ensures err { IfErr result (λ fault. (fault ≡ ScriptFault.Write) × ((line : List ℕ)
+        → option_map request_asked asked.now ≡ meaning line
+        → Stepped G.step registry.old line registry.new)) }
+{
+    let answer = answer_asked(registry, asked);
+    put_answer(waiting, writer, &answer)?;
+    waiting.send(writer)?;
+    Ok(is_refused(&answer))
+}
+
+/// Answers a whole line, and says whether it was refused. Whatever waits is sent before a change is
+/// made, and so is the answer to it.
 fn answer_whole<W: Write, G: Applies>(
     alloc: Global,
     line: &[u8],
+    waiting: &mut Line,
     writer: &mut W,
     registry: &mut G,
 ) -> Result<bool, ScriptFault>
     ensures ok { IfOk result (λ refused. (answer : Answer)
         × LineStep G.step registry.old line.now answer registry.new
-        × Appends (W.contents writer.old) (W.contents writer.new) (answer_text answer)
+        × Sends (W.contents writer.old) waiting.old (W.contents writer.new) waiting.new (answer_text answer)
         × (refused ≡ is_refused answer)) }
-    ensures err { IfErr result (Misses G.step registry.old registry.new
-        (W.contents writer.old) (W.contents writer.new) line.now) }
+    ensures sent { IfOk result (λ _. (waiting.new.waiting ≡ []) ⊎ AsksNoChange line.now) }
+    ensures err { IfErr result (Misses G.step W.contents registry.old registry.new
+        (append_known (W.contents writer.old) waiting.old.waiting)
+        (append_known (W.contents writer.new) waiting.new.waiting) line.now) }
 {
-    let answer = match answer_line(alloc, line, registry) {
-        Ok(answer) => answer,
+    let asked = match parse_line(alloc, line) {
+        Ok(asked) => asked,
         Err(_) => return Err(ScriptFault::OutOfMemory),
     };
-    write_answer(writer, &answer)?;
-    Ok(is_refused(&answer))
+    if !asks_change(&asked) {
+        return answer_later(&asked, waiting, writer, registry);
+    }
+    waiting.send(writer)?;
+    answer_at_once(&asked, waiting, writer, registry)
+}
+
+/// Reads the next line. The reader is asked where no newline is left of what was read before; then
+/// nothing waits, so that whoever writes line by line has had all answers.
+fn ask_line<R: Read>(
+    pages: &mut BufReader<&mut R>,
+    line: &mut Vec<u8>,
+    waiting: &Line,
+) -> Result<Got, ScriptFault>
+    requires { HasLine (reader_buffer pages.old) ⊎ (waiting.now.waiting ≡ []) }
+    ensures ok { IfOk result (GotLine (reader_remaining (λ r. R.remaining r.now) pages.old)
+        (reader_remaining (λ r. R.remaining r.now) pages.new) line.new.items) }
+    ensures read { IfErr result (λ _. Consumes (reader_remaining (λ r. R.remaining r.now) pages.old)
+        (reader_remaining (λ r. R.remaining r.now) pages.new) line.new.items) }
+    ensures part { IfErr result (λ _. StopsAt line.new.items 10) }
+    ensures fault { IfErr result (λ fault. fault ≢ ScriptFault.Write) }
+{
+    let _ = waiting;
+    read_line(pages, line)
+}
+
+/// Reads the next line. Where no whole one is left of what was read before, whatever waits is sent
+/// before the reader is asked.
+fn next_line<R: Read, W: Write>(
+    pages: &mut BufReader<&mut R>,
+    line: &mut Vec<u8>,
+    waiting: &mut Line,
+    writer: &mut W,
+) -> Result<Got, ScriptFault>
+    ensures ok { IfOk result (GotLine (reader_remaining (λ r. R.remaining r.now) pages.old)
+        (reader_remaining (λ r. R.remaining r.now) pages.new) line.new.items) }
+    ensures kept { IfOk result (λ _. Sends (W.contents writer.old) waiting.old
+        (W.contents writer.new) waiting.new []) }
+    ensures err { IfErr result (Unread (reader_remaining (λ r. R.remaining r.now) pages.old)
+        (reader_remaining (λ r. R.remaining r.now) pages.new)
+        (append_known (W.contents writer.old) waiting.old.waiting)
+        (append_known (W.contents writer.new) waiting.new.waiting) line.new.items) }
+    // Where the reader was asked nothing waits.
+    ensures asked { IfOk result (λ _. HasLine (reader_buffer pages.old) ⊎ (waiting.new.waiting ≡ [])) }
+{
+    if pages.buffer().contains(&b'\n') {
+        return ask_line(pages, line, waiting);
+    }
+    waiting.send(writer)?;
+    ask_line(pages, line, waiting)
+}
+
+/// Answers the lines of a script; some of the answers may wait at the end.
+fn run_lines<R: Read, W: Write, G: Applies>(
+    alloc: Global,
+    pages: &mut BufReader<&mut R>,
+    waiting: &mut Line,
+    writer: &mut W,
+    registry: &mut G,
+) -> Result<Summary, ScriptFault>
+    requires { waiting.old.waiting ≡ [] }
+    ensures ok { IfOk result (λ summary. (held : W) × (whole : List (List ℕ)) × (cut : List ℕ) × (answers : List Answer)
+        × Ends G.step (record {
+          unread = reader_remaining (λ r. R.remaining r.now) pages.old;
+          before = W.contents writer.old;
+          after = append_known (W.contents writer.new) waiting.new.waiting;
+        })
+        registry.old registry.new summary whole cut answers
+        × Told (W.contents writer.old) (W.contents held) whole answers) }
+    ensures err { IfErr result (λ fault. (held : W) × (whole : List (List ℕ)) × (part : List ℕ) × (answers : List Answer)
+        × Breaks G.step (record {
+          unread = reader_remaining (λ r. R.remaining r.now) pages.old;
+          before = W.contents writer.old;
+          after = append_known (W.contents writer.new) waiting.new.waiting;
+        })
+        registry.old registry.new fault whole part answers
+        × Held (W.contents writer.old) (W.contents held) whole answers) }
+{
+    let mut line = Vec::new(alloc);
+    let mut summary = Summary {
+        lines: 0,
+        refused: 0,
+    };
+    for _ in 0..u64::MAX {
+        match next_line(pages, &mut line, waiting, writer)? {
+            Got::Whole => {
+                let refused = answer_whole(alloc, &line, waiting, writer, registry)?;
+                summary.count(refused);
+            }
+            Got::Cut => {
+                put_answer(waiting, writer, &Answer::CutLine)?;
+                summary.count(true);
+                return Ok(summary);
+            }
+            Got::End => return Ok(summary),
+        }
+    }
+    Err(ScriptFault::Read)
 }
 
 /// Runs a script: each line that has a newline gets its reply's text, or `refused L1 BadLine`
 /// where it asks nothing; a last line without a newline isn't run and gets `refused L2 CutLine`.
 /// The script goes on after every refusal. After a fault of the reader, or for want of memory for a
 /// line, the replies to all whole lines before were written, and of the next line nothing was
-/// applied; after a fault of the writer that line was applied, and how much of its reply the writer
-/// took is open. It reads through a buffer of its own, so that after a fault more may have been
-/// taken from the reader than lines were answered.
+/// applied. It reads through a buffer of its own, so that after a fault more may have been taken
+/// from the reader than lines were answered.
+///
+/// The answer to a change is written at once, and the change is made only once all answers before
+/// it were written. Answers to listings, binds and lines that ask nothing are written together, up
+/// to 2 KiB, as long as whole lines are left of what was read; all of them are written before the
+/// reader is asked again, and at the end. So after a fault of the writer the line in work was
+/// applied, and how much of its answer the writer took is open; or the lines whose answers are open
+/// change nothing.
 pub fn run_script<R: Read, W: Write, G: Applies>(
     alloc: Global,
     reader: &mut R,
@@ -78,24 +236,8 @@ pub fn run_script<R: Read, W: Write, G: Applies>(
     let Ok(mut pages) = BufReader::with_capacity(alloc, PAGE, reader) else {
         return Err(ScriptFault::OutOfMemory);
     };
-    let mut line = Vec::new(alloc);
-    let mut summary = Summary {
-        lines: 0,
-        refused: 0,
-    };
-    for _ in 0..u64::MAX {
-        match read_line(&mut pages, &mut line)? {
-            Got::Whole => {
-                let refused = answer_whole(alloc, &line, writer, registry)?;
-                summary.count(refused);
-            }
-            Got::Cut => {
-                write_answer(writer, &Answer::CutLine)?;
-                summary.count(true);
-                return Ok(summary);
-            }
-            Got::End => return Ok(summary),
-        }
-    }
-    Err(ScriptFault::Read)
+    let mut waiting = Line::new();
+    let ended = run_lines(alloc, &mut pages, &mut waiting, writer, registry);
+    waiting.send(writer)?;
+    ended
 }

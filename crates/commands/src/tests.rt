@@ -10,5 +10,6 @@ mod samples;
 mod scripts;
 mod statuses;
 mod streams;
+mod together;
 mod watched;
 mod words;

@@ -4,27 +4,12 @@ ghost use Rattle.std.specs.Prelude.{◌≡◌, ◌==◌, ◌≤◌, map, take_wh
 ghost use Rattle.std.specs.List.{list_all, slice_split};
 ghost use Rattle.std.specs.Option.{option_map};
 ghost use Rattle.commands.specs.Base.{base_of};
-ghost use Rattle.commands.specs.Line.{is_visible, is_name, hex_bytes, named, names_behind};
+ghost use Rattle.commands.specs.Line.{is_visible, is_name, named, names_behind};
 ghost use Rattle.commands.specs.Line.{word_in_front};
 
 use crate::base::parse_base;
-use hex::FromHexError;
 use std::alloc::{AllocError, Global};
 use std::str;
-
-/// The bytes that HEX spells.
-pub(crate) fn hex_bytes(alloc: Global, word: &[u8]) -> Result<Option<Vec<u8>>, AllocError>
-    ensures { IfOk result (λ bytes. option_map (λ v. v.items) bytes ≡ hex_bytes word.now) }
-{
-    if word.is_empty() {
-        return Ok(None);
-    }
-    match hex::decode(alloc, word) {
-        Ok(bytes) => Ok(Some(bytes)),
-        Err(FromHexError::OutOfMemory) => Err(AllocError),
-        Err(_) => Ok(None),
-    }
-}
 
 /// Whether all bytes are visible.
 fn are_visible(word: &[u8]) -> bool

@@ -1,16 +1,17 @@
 -- Files of a store that are admitted one after the other.
-use Rattle.std.proofs.Common.{◌≡◌, ◌<◌, ◌≤◌, ℕ, ◌+◌, List, [], length, get_or, map, take, sum_by, All, IsTrue, refl, sym, ap, subst, ◌∙◌, arith, ⊎_elim}
+use Rattle.std.proofs.Common.{◌≡◌, ◌<◌, ◌≤◌, ℕ, ◌+◌, List, length, get_or, map, take, sum_by, All, IsTrue, refl, sym, ap, subst, ◌∙◌, arith, ⊎_elim}
 use Rattle.std.proofs.lemmas.List.{get_or-map, length-map}
 use Rattle.std.proofs.lemmas.List.Sums.{sum_by_more}
 use Rattle.std.proofs.lemmas.Bool.{cases_lt}
 use Rattle.sector_disk.specs.Disk.{DiskFacts, Mixture, LeavesOnly, AreCallsExactly}
 use Rattle.sector_disk.proofs.Moments.{goes_on, weaken, left_now, at_rest, no_calls, more_calls, exactly_none, exactly_sum}
-use Rattle.roots.specs.declared.entry.Entry.{Entry}
+use Rattle.store.specs.declared.placed_entry.PlacedEntry.{PlacedEntry}
 use Rattle.store.specs.State.{Blob, State}
 use Rattle.store.specs.Stands.{no_blob}
 use Rattle.store.specs.Opened.{Opened, IsAt}
 use Rattle.store.specs.declared.refusal.StoreRefusal.{StoreRefusal}
 use Rattle.store.specs.declared.refusal.StoreRefusal.TheVariants as refusal
+use Rattle.store.proofs.UsedAlone.{no_entry}
 use Rattle.registry.specs.Library.{Library, IsLibrary}
 use Rattle.disk_registry.specs.Stands.{library_of, file_sectors}
 use Rattle.disk_registry.specs.inside.Reading.{IsRead, IsReadRefusal}
@@ -81,7 +82,7 @@ module _ {D : Type 0} {facts : D → DiskFacts} where
   -- one file more
   pub one_admitted : {start mid new : Opened D} {position : ℕ} → position < length start.entries → AdmittedSoFar facts start mid position → IsRead facts mid new
       → ((s : State) → IsAt facts mid s → IsLibrary (library_of (get_or s.blobs position no_blob)))
-      → ((d : Entry) → AreCallsExactly (file_sectors (get_or mid.entries position d)) (facts mid.disk) (facts new.disk))
+      → ((d : PlacedEntry) → AreCallsExactly (file_sectors (get_or mid.entries position d)) (facts mid.disk) (facts new.disk))
       → AdmittedSoFar facts start new (position + 1)
   one_admitted {start = start} {mid = mid} {position = position} lt so_far read library calls = record {
     read = read_more so_far.read read;
@@ -89,13 +90,10 @@ module _ {D : Type 0} {facts : D → DiskFacts} where
         (λ below. so_far.each s at k below)
         (λ le. let same : position ≡ k = omega (arith, le, within) in subst (λ i. IsLibrary (library_of (get_or s.blobs i no_blob))) same (library s (so_far.read.same s at)))
         (cases_lt k position);
-    calls = exactly_sum so_far.calls (calls some)
-        (ap (λ entries. sum_by file_sectors (take position start.entries) + file_sectors (get_or entries position some)) so_far.read.entries
-        ∙ sym (sum_by_more file_sectors start.entries position some lt));
+    calls = exactly_sum so_far.calls (calls no_entry)
+        (ap (λ entries. sum_by file_sectors (take position start.entries) + file_sectors (get_or entries position no_entry)) so_far.read.entries
+        ∙ sym (sum_by_more file_sectors start.entries position no_entry lt));
   }
-    where
-      some : Entry
-      some = record { file_length = 0; name_length = 0; extent_count = 0; name = []; extents = [] }
 
   -- all of them
   pub all_admitted : {start now : Opened D} {position : ℕ} → AdmittedSoFar facts start now position → (s : State) → IsAt facts start s → length s.blobs ≤ position → All IsLibrary (map library_of s.blobs)

@@ -1,35 +1,34 @@
 -- Files that are read one after the other as the queue of a load order is walked.
-use Rattle.std.proofs.Common.{◌≡◌, ℕ, zero, suc, ◌+◌, ◌-◌, ◌<◌, ◌≤◌, List, [], ◌∷◌, ◌++◌, length, map, take, drop, get_or, sum_by, nat_eq, IsTrue, refl, sym, ap, subst, ◌∙◌, ⊎_elim, arith, false}
-use Rattle.std.specs.Prelude.{All, bytes_eq}
-use Rattle.std.specs.List.{IsDistinct, filter_map}
+use Rattle.std.proofs.Common.{◌≡◌, ℕ, zero, suc, ◌+◌, ◌-◌, ◌<◌, ◌≤◌, List, [], ◌∷◌, ◌++◌, length, map, take, drop, get_or, sum_by, nat_eq, Option, None, IsTrue, refl, sym, ap, subst, ◌∙◌, arith, false, append-nil}
+use Rattle.std.specs.Prelude.{All}
+use Rattle.std.specs.List.{IsDistinct, filter_map, flat_map, find}
+use Rattle.std.specs.Option.{option_or}
 use Rattle.std.proofs.Math.Seq.{take-length}
-use Rattle.std.proofs.lemmas.Bool.{eqb-false, cases_order}
-use Rattle.std.proofs.lemmas.Cmp.{nat_list_eq_equiv}
-use Rattle.std.proofs.lemmas.Grind.{get_or_after_one}
+use Rattle.std.proofs.lemmas.Bool.{eqb-false}
+use Rattle.std.proofs.lemmas.Grind.{flat_map-append}
 use Rattle.std.proofs.lemmas.List.{length-map, get_or-map, map_push, take_more, length_push}
 use Rattle.std.proofs.lemmas.List.Elements.{All-get_or}
+use Rattle.std.proofs.lemmas.List.Folds.{find-append}
 use Rattle.std.proofs.lemmas.List.Sums.{sum_by-append, sum_by-cons}
-use Rattle.std.proofs.lemmas.Map.Keys.{IsDistinct-from_apart, apart_from_distinct}
+use Rattle.std.proofs.lemmas.Map.Keys.{apart_from_distinct}
 use Rattle.sector_disk.specs.Disk.{DiskFacts, HoldsNow, AreCallsExactly}
 use Rattle.sector_disk.proofs.Moments.{exactly_none, exactly_sum}
-use Rattle.roots.specs.declared.entry.Entry.{Entry}
 use Rattle.roots.specs.Root.{listed_preloads}
 use Rattle.elf_dynamic.specs.Strings.{needed}
 use Rattle.scope.specs.LoadOrder as order
-use Rattle.scope.specs.LoadOrder.{available, needs_of, level_0, object_at, place_of, load_places, load_order}
+use Rattle.scope.specs.LoadOrder.{Need, available, needs_of, level_0, object_at, place_of, load_order, missing, needed_by, is_missing}
 use Rattle.scope.specs.Objects.{Named, program_name}
 use Rattle.scope.specs.inside.Growing.{grown}
 use Rattle.scope.specs.Queue.{AreApart}
 use Rattle.scope.proofs.Apart.{few, distinct-level_0}
-use Rattle.scope.proofs.EnoughLemmas.{object_later}
 use Rattle.scope.proofs.Growing.{grown_is, grown-take, grown-longer}
 use Rattle.scope.proofs.LoadOrderLemmas.{low-level_0}
-use Rattle.scope.proofs.Queueing.{IsReached, reached-more, places-end}
+use Rattle.scope.proofs.Naming.{object_later}
+use Rattle.scope.proofs.Queueing.{IsReached, reached-more, places-end, order-behind, order-whole}
 use Rattle.scope.proofs.Reaching.{reached-start}
-use Rattle.scope.proofs.ReadLemmas.{order-behind}
 use Rattle.store.specs.Opened as opened
 use Rattle.store.specs.Opened.{Opened}
-use Rattle.store.specs.Stands.{HaveOwnNames, name_of, no_blob}
+use Rattle.store.specs.Stands.{HaveOwnNames, no_blob}
 use Rattle.store.specs.State as store
 use Rattle.registry.specs.Binding.{object_of, objects, preload_numbers}
 use Rattle.registry.specs.Library.{Library, IsLibrary}
@@ -38,16 +37,29 @@ use Rattle.disk_registry.specs.Stands.{stored, blob_of, library_of}
 use Rattle.disk_registry.specs.Opened.{IsAt}
 use Rattle.disk_registry.specs.Binding.{data_sectors}
 use Rattle.disk_registry.specs.inside.Reading.{IsRead}
+use Rattle.disk_registry.specs.inside.Walked.{more_needs, walked, IsWalked}
+use Rattle.disk_registry.specs.declared.needs.Needs.{Needs}
 use Rattle.disk_registry.proofs.Files.{read_more, read_none}
-use Rattle.disk_registry.proofs.StateNames.{entry_names, names_distinct, names_are, object_count, numbers_are}
+use Rattle.disk_registry.specs.inside.Named.{entry_names}
+use Rattle.disk_registry.proofs.StateNames.{names_are, object_count, numbers_are}
 
--- the places of those that were read: those in the queue behind the program's
-abbrev pub walked : List ℕ → ℕ → List ℕ
-walked places count = drop 1 (take (count + 1) places)
+-- the program as an object, and what is needed before it was looked at
+abbrev object_of_program : List ℕ → Named
+object_of_program program = record { name = program_name; file = program }
 
--- the name at a place behind the program's
-abbrev pub entry_name : List Entry → ℕ → List ℕ
-entry_name entries place = get_or (entry_names entries) (place - 1) []
+abbrev pub first_needs : ℕ → List ℕ → Needs
+first_needs limit preloads = record { places = record { limit = limit; places = level_0 preloads }; missing = None }
+
+-- the first missing name after one file more
+missing-more : (names : List (List ℕ)) (program : List ℕ) (files : List Library) (f : Library)
+    → option_or (find (is_missing names) (flat_map needed_by (available program (map object_of files)))) (find (is_missing names) (needed_by (object_of f)))
+    ≡ find (is_missing names) (flat_map needed_by (available program (map object_of (files ++ f ∷ []))))
+missing-more names program files f =
+    let before : List Named = available program (map object_of files) in
+    sym (find-append (is_missing names) (flat_map needed_by before) (needed_by (object_of f)))
+    ∙ ap (λ (l : List Need). find (is_missing names) (flat_map needed_by before ++ l)) (sym (append-nil (needed_by (object_of f))))
+    ∙ ap (find (is_missing names)) (sym (flat_map-append needed_by before (object_of f ∷ [])))
+    ∙ ap (λ (l : List Named). find (is_missing names) (flat_map needed_by (available program l))) (sym (map_push object_of files f))
 
 -- one place more, of a queue that has grown
 pub walked-more : (places more : List ℕ) (count : ℕ) → count + 1 < length places → walked (grown places more) (count + 1) ≡ walked places count ++ get_or places (count + 1) 0 ∷ []
@@ -60,17 +72,28 @@ walked-more places more count lt =
         let e : count + 1 ≡ suc count = omega arith in
         subst (λ n. drop 1 (take n (x ∷ xs) ++ get_or places (count + 1) 0 ∷ []) ≡ drop 1 (take n (x ∷ xs)) ++ get_or places (count + 1) 0 ∷ []) (sym e) refl
 
--- The files of the queue's places before this many were read, each once, and the queue has what they need.
-pub record ReadSoFar {D : Type 0} (facts : D → DiskFacts) (program : List ℕ) (start now : Opened D) (places : List ℕ) (files : List Library) : Type 0 where
-  pub read : IsRead facts start now
-  pub own_names : HaveOwnNames start.entries
-  pub first : get_or places 0 1 ≡ 0
-  pub preloads : length (listed_preloads start.root) < length places
-  pub within : length files < length places
-  pub names : map (λ f. f.name) files ≡ map (entry_name start.entries) (walked places (length files))
-  pub each : (s : State) → IsAt facts start s → map object_of files ≡ map (object_at (available program (objects s))) (walked places (length files))
-  pub reached : (s : State) → IsAt facts start s → IsReached program (objects s) (preload_numbers s) places (length files + 1)
-  pub calls : AreCallsExactly (sum_by (λ f. data_sectors f.bytes) files) (facts start.disk) (facts now.disk)
+-- a place behind the first isn't the program's
+pub place-above : (places : List ℕ) (i : ℕ) → get_or places 0 1 ≡ 0 → IsDistinct nat_eq places → i + 1 < length places → 0 < get_or places (i + 1) 0
+place-above places i first distinct lt =
+    let zeroth : get_or places 0 0 ≡ 0 = zero-of places first in
+    let apart : nat_eq (get_or places 0 0) (get_or places (i + 1) 0) ≡ false = apart_from_distinct nat_eq places 0 (i + 1) 0 distinct (omega arith) lt in
+    by (get_or places (i + 1) 0) (λ none. eqb-false (get_or places 0 0) (get_or places (i + 1) 0) apart (zeroth ∙ sym none))
+  where
+    zero-of : (ps : List ℕ) → get_or ps 0 1 ≡ 0 → get_or ps 0 0 ≡ 0
+    zero-of [] e = refl
+    zero-of (p ∷ ps) e = e
+
+    by : (p : ℕ) → (p ≡ 0 → ⊥) → 0 < p
+    by zero some = absurd (some refl)
+    by (suc k) some = omega arith
+
+-- each byte string of a state is a library
+pub library_there : {D : Type 0} (facts : D → DiskFacts) (start : Opened D) (holds : IsTrue (facts start.disk).honest → HoldsNow (facts start.disk)) (s : State) → IsAt facts start s
+    → (i : ℕ) → i < length start.entries → IsLibrary (library_of (get_or (stored s).blobs i no_blob))
+library_there facts start holds s at i lt =
+    let within : i < length s.libraries = omega (arith, lt, object_count facts start s holds at, length-map s.libraries object_of) in
+    let none : Library = record { name = []; bytes = [] } in
+    subst IsLibrary (sym (ap library_of (get_or-map blob_of s.libraries i none no_blob within))) (All-get_or IsLibrary s.libraries i none within at.libraries)
 
 module _ {D : Type 0} (facts : D → DiskFacts) (program : List ℕ) (start : Opened D) (holds : IsTrue (facts start.disk).honest → HoldsNow (facts start.disk)) where
   -- what a file needs, by the entries and by the state
@@ -82,22 +105,19 @@ module _ {D : Type 0} (facts : D → DiskFacts) (program : List ℕ) (start : Op
 
   -- before the first file: level 0 and what the program needs
   pub none_read : HaveOwnNames start.entries → All (λ p. p < length start.entries) (listed_preloads start.root) → IsDistinct nat_eq (listed_preloads start.root)
-      → (places : List ℕ) → places ≡ grown (level_0 (listed_preloads start.root)) (filter_map (place_of (entry_names start.entries)) (needed program))
-      → ReadSoFar facts program start start places []
-  none_read own inside once places is =
+      → (needs : Needs) → needs ≡ more_needs (entry_names start.entries) (first_needs (length start.entries + 1) (listed_preloads start.root)) program_name (needed program)
+      → IsWalked facts program start start needs []
+  none_read own inside once needs is =
       let ks : List ℕ = listed_preloads start.root in
+      let places : List ℕ = needs.places.places in
       let more : List ℕ = filter_map (place_of (entry_names start.entries)) (needed program) in
-      let longer : length (level_0 ks) ≤ length (grown (level_0 ks) more) = grown-longer (level_0 ks) more in
-      let same : length places ≡ length (grown (level_0 ks) more) = ap length is in
-      let raised : length (map (λ (p : ℕ). p + 1) ks) ≡ length ks = length-map ks (λ p. p + 1) in
-      let begins : take 1 places ≡ 0 ∷ [] = ap (take 1) is ∙ grown-take 1 (level_0 ks) more (omega arith) in
+      let grows : places ≡ grown (level_0 ks) more = ap (λ (n : Needs). n.places.places) is in
+      let begins : take 1 places ≡ 0 ∷ [] = ap (take 1) grows ∙ grown-take 1 (level_0 ks) more (omega arith) in
       record {
         read = read_none start;
-        own_names = own;
-        first = first-of places begins;
-        preloads = omega (arith, longer, same, raised);
-        within = omega (arith, longer, same);
-        names = ap (map (entry_name start.entries)) (sym (ap (drop 1) begins));
+        places = record { limit = ap (λ (n : Needs). n.places.limit) is; first = first-of places begins };
+        within = omega (arith, grown-longer (level_0 ks) more, ap length grows);
+        missing = ap (λ (n : Needs). n.missing) is ∙ ap (find (is_missing (entry_names start.entries))) (sym (append-nil (needed_by (object_of_program program))));
         each = λ s at. ap (map (object_at (available program (objects s)))) (sym (ap (drop 1) begins));
         reached = λ s at.
             let numbers : preload_numbers s ≡ ks = numbers_are facts start s holds at own inside in
@@ -106,7 +126,7 @@ module _ {D : Type 0} (facts : D → DiskFacts) (program : List ℕ) (start : Op
             let limit : ℕ = length (available program (objects s)) in
             let fits : length (level_0 ks) ≤ limit = few limit (level_0 ks) (record { below = low-level_0 program (objects s) ks low once; distinct = distinct-level_0 ks once }) in
             subst (λ ps. IsReached program (objects s) (preload_numbers s) ps 1)
-            (ap (grown (level_0 ks)) (sym (needs-are s at program 0 refl)) ∙ sym is)
+            (ap (grown (level_0 ks)) (sym (needs-are s at program 0 refl)) ∙ sym grows)
             (subst (λ ps. IsReached program (objects s) ps (grown (level_0 ks) (needs_of program (objects s) 0)) 1) (sym numbers)
             (reached-more program (objects s) ks (level_0 ks) 0
             (reached-start (needs_of program (objects s)) limit (level_0 ks) (omega arith)) (omega arith) fits));
@@ -133,60 +153,39 @@ module _ {D : Type 0} (facts : D → DiskFacts) (program : List ℕ) (start : Op
       ∙ sym (get_or-map object_of s.libraries k none (object_of none) within)
       ∙ sym (object_later (record { name = program_name; file = program }) (objects s) k (object_of none) inside)
 
-  -- each byte string of a state is a library
-  pub library_there : (s : State) → IsAt facts start s → (i : ℕ) → i < length start.entries → IsLibrary (library_of (get_or (stored s).blobs i no_blob))
-  library_there s at i lt =
-      let within : i < length s.libraries = omega (arith, lt, object_count facts start s holds at, length-map s.libraries object_of) in
-      let none : Library = record { name = []; bytes = [] } in
-      subst IsLibrary (sym (ap library_of (get_or-map blob_of s.libraries i none no_blob within))) (All-get_or IsLibrary s.libraries i none within at.libraries)
-
-  -- a place behind the first isn't the program's
-  pub place-above : (places : List ℕ) (i : ℕ) → get_or places 0 1 ≡ 0 → IsDistinct nat_eq places → i + 1 < length places → 0 < get_or places (i + 1) 0
-  place-above places i first distinct lt =
-      let zeroth : get_or places 0 0 ≡ 0 = zero-of places first in
-      let apart : nat_eq (get_or places 0 0) (get_or places (i + 1) 0) ≡ false = apart_from_distinct nat_eq places 0 (i + 1) 0 distinct (omega arith) lt in
-      by (get_or places (i + 1) 0) (λ none. eqb-false (get_or places 0 0) (get_or places (i + 1) 0) apart (zeroth ∙ sym none))
-    where
-      zero-of : (ps : List ℕ) → get_or ps 0 1 ≡ 0 → get_or ps 0 0 ≡ 0
-      zero-of [] e = refl
-      zero-of (p ∷ ps) e = e
-
-      by : (p : ℕ) → (p ≡ 0 → ⊥) → 0 < p
-      by zero some = absurd (some refl)
-      by (suc k) some = omega arith
-
   -- one file more
-  pub one_read : {now new : Opened D} {places : List ℕ} {files : List Library} → ReadSoFar facts program start now places files
-      → AreApart (length start.entries + 1) places → length files + 1 < length places
+  pub one_read : {now new : Opened D} {needs : Needs} {files : List Library} → IsWalked facts program start now needs files
+      → AreApart (length start.entries + 1) needs.places.places → length files + 1 < length needs.places.places
       → (f : Library) → IsRead facts now new
-      → f.name ≡ entry_name start.entries (get_or places (length files + 1) 0)
-      → ((t : store.State) → opened.IsAt facts now t → f ≡ library_of (get_or t.blobs (get_or places (length files + 1) 0 - 1) no_blob))
+      → ((t : store.State) → opened.IsAt facts now t → f ≡ library_of (get_or t.blobs (get_or needs.places.places (length files + 1) 0 - 1) no_blob))
       → AreCallsExactly (data_sectors f.bytes) (facts now.disk) (facts new.disk)
-      → (more : List ℕ) → more ≡ grown places (filter_map (place_of (entry_names start.entries)) (needed f.bytes))
-      → ReadSoFar facts program start new more (files ++ f ∷ [])
-  one_read {now = now} {new = new} {places = places} {files = files} so_far apart lt f read name is calls more grows =
+      → (more : Needs) → more ≡ more_needs (entry_names start.entries) needs f.name (needed f.bytes)
+      → IsWalked facts program start new more (files ++ f ∷ [])
+  one_read {now = now} {new = new} {needs = needs} {files = files} so_far apart lt f read is calls more after =
       let n : ℕ = length files in
+      let names : List (List ℕ) = entry_names start.entries in
+      let places : List ℕ = needs.places.places in
       let p : ℕ = get_or places (n + 1) 0 in
-      let needs : List ℕ = filter_map (place_of (entry_names start.entries)) (needed f.bytes) in
+      let found : List ℕ = filter_map (place_of names) (needed f.bytes) in
+      let grows : more.places.places ≡ grown places found = ap (λ (q : Needs). q.places.places) after in
       let count : length (files ++ f ∷ []) ≡ n + 1 = length_push files f in
-      let longer : length places ≤ length more = omega (arith, grown-longer places needs, ap length grows) in
+      let longer : length places ≤ length more.places.places = omega (arith, grown-longer places found, ap length grows) in
       let below : p < length start.entries + 1 = All-get_or (λ q. q < length start.entries + 1) places (n + 1) 0 lt apart.below in
-      let above : 0 < p = place-above places n so_far.first apart.distinct lt in
-      let behind : walked more (length (files ++ f ∷ [])) ≡ walked places n ++ p ∷ [] =
-      ap (walked more) count ∙ ap (λ ps. walked ps (n + 1)) grows ∙ walked-more places needs n lt in
+      let above : 0 < p = place-above places n so_far.places.first apart.distinct lt in
+      let behind : walked more.places.places (length (files ++ f ∷ [])) ≡ walked places n ++ p ∷ [] =
+      ap (walked more.places.places) count ∙ ap (λ ps. walked ps (n + 1)) grows ∙ walked-more places found n lt in
       let object = λ (s : State) (at : IsAt facts start s).
       library-at s at p f above below (is (stored s) (so_far.read.same (stored s) at.blobs)) in
       record {
         read = read_more so_far.read read;
-        own_names = so_far.own_names;
-        first = ap (λ ps. get_or ps 0 1) grows ∙ front places needs so_far.first (omega (arith, lt));
-        preloads = omega (arith, so_far.preloads, longer);
+        places = record {
+          limit = ap (λ (q : Needs). q.places.limit) after ∙ so_far.places.limit;
+          first = ap (λ ps. get_or ps 0 1) grows ∙ front places found so_far.places.first (omega (arith, lt));
+        };
         within = omega (arith, lt, longer, count);
-        names = map_push (λ (l : Library). l.name) files f
-            ∙ ap (λ ns. ns ++ f.name ∷ []) so_far.names
-            ∙ ap (λ m. map (entry_name start.entries) (walked places n) ++ m ∷ []) name
-            ∙ sym (map_push (entry_name start.entries) (walked places n) p)
-            ∙ ap (map (entry_name start.entries)) (sym behind);
+        missing = ap (λ (q : Needs). q.missing) after
+            ∙ ap (λ (o : Option Need). option_or o (find (is_missing names) (needed_by (object_of f)))) so_far.missing
+            ∙ missing-more names program files f;
         each = λ s at.
             map_push object_of files f
             ∙ ap (λ os. os ++ object_of f ∷ []) (so_far.each s at)
@@ -196,8 +195,8 @@ module _ {D : Type 0} (facts : D → DiskFacts) (program : List ℕ) (start : Op
         reached = λ s at.
             let limit : length (available program (objects s)) ≡ length start.entries + 1 = omega (arith, object_count facts start s holds at) in
             let fits : length places ≤ length (available program (objects s)) = omega (arith, few (length start.entries + 1) places apart, limit) in
-            let all : needs ≡ needs_of program (objects s) p = needs-are s at f.bytes p (ap (λ (o : Named). o.file) (object s at)) in
-            subst (λ k. IsReached program (objects s) (preload_numbers s) more (k + 1)) (sym count)
+            let all : found ≡ needs_of program (objects s) p = needs-are s at f.bytes p (ap (λ (o : Named). o.file) (object s at)) in
+            subst (λ k. IsReached program (objects s) (preload_numbers s) more.places.places (k + 1)) (sym count)
             (subst (λ ps. IsReached program (objects s) (preload_numbers s) ps (n + 1 + 1)) (ap (grown places) (sym all) ∙ sym grows)
             (reached-more program (objects s) (preload_numbers s) places (n + 1) (so_far.reached s at) lt fits));
         calls = exactly_sum so_far.calls calls
@@ -216,76 +215,24 @@ module _ {D : Type 0} (facts : D → DiskFacts) (program : List ℕ) (start : Op
       let e : n + 1 ≡ length places = omega (arith, inside, outside) in
       ap (λ k. drop 1 (take k places)) e ∙ ap (drop 1) (take-length places)
 
-  -- where the queue has been walked: the files are the load order behind the program
-  pub all_read : {now : Opened D} {places : List ℕ} {files : List Library} → ReadSoFar facts program start now places files → length places ≤ length files + 1
-      → (s : State) → IsAt facts start s → map object_of files ≡ drop 1 (load_order program (objects s) (preload_numbers s))
-  all_read {places = places} {files = files} so_far outside s at =
-      so_far.each s at
+  -- where the queue has been walked: the program and the files are the load order
+  pub all_read : {now : Opened D} {needs : Needs} {files : List Library} → IsWalked facts program start now needs files → length needs.places.places ≤ length files + 1
+      → (s : State) → IsAt facts start s → load_order program (objects s) (preload_numbers s) ≡ available program (map object_of files)
+  all_read {needs = needs} {files = files} so_far outside s at =
+      let ks : List ℕ = preload_numbers s in
+      order-whole program (objects s) ks
+      ∙ ap (available program)
+      (order-behind program (objects s) ks
       ∙ ap (map (object_at (available program (objects s))))
-      (whole-walked places (length files) so_far.within outside
-      ∙ ap (drop 1) (sym (places-end program (objects s) (preload_numbers s) places (length files + 1) (so_far.reached s at) outside)))
-      ∙ sym (order-behind program (objects s) (preload_numbers s))
+      (sym (whole-walked needs.places.places (length files) so_far.within outside
+      ∙ ap (drop 1) (sym (places-end program (objects s) ks needs.places.places (length files + 1) (so_far.reached s at) outside))))
+      ∙ sym (so_far.each s at))
 
-  -- their names differ
-  pub names_differ : {now : Opened D} {places : List ℕ} {files : List Library} → ReadSoFar facts program start now places files
-      → AreApart (length start.entries + 1) places → length places ≤ length files + 1
-      → IsDistinct bytes_eq (order.names_of (map object_of files))
-  names_differ {places = places} {files = files} so_far apart outside = subst (IsDistinct bytes_eq) (sym named)
-      (IsDistinct-from_apart bytes_eq (map (entry_name start.entries) rest) (λ i j d lt inside.
-      let ltj : j < length rest = omega (arith, inside, length-map rest (entry_name start.entries)) in
-      let lti : i < length rest = omega (arith, lt, ltj) in
-      ap (λ n. bytes_eq n (get_or (map (entry_name start.entries) rest) j d)) (get_or-map (entry_name start.entries) rest i 0 d lti)
-      ∙ ap (bytes_eq (entry_name start.entries (get_or rest i 0))) (get_or-map (entry_name start.entries) rest j 0 d ltj)
-      ∙ differ (get_or rest i 0) (get_or rest j 0) (above i lti) (above j ltj) (below i lti) (below j ltj)
-      (eqb-false (get_or rest i 0) (get_or rest j 0) (apart_at i j lt ltj))))
-    where
-      rest : List ℕ
-      rest = drop 1 places
-
-      size : length rest + 1 ≡ length places
-      size = by places (omega (arith, so_far.within))
-        where
-          by : (ps : List ℕ) → 0 < length ps → length (drop 1 ps) + 1 ≡ length ps
-          by [] some = absurd (omega (arith, some))
-          by (p ∷ ps) some = omega arith
-
-      at_behind : (i : ℕ) → get_or rest i 0 ≡ get_or places (i + 1) 0
-      at_behind i = get_or_after_one places i 0 ∙ ap (λ k. get_or places k 0) (let e : 1 + i ≡ i + 1 = omega arith in e)
-
-      above : (i : ℕ) → i < length rest → 0 < get_or rest i 0
-      above i lt = subst (λ p. 0 < p) (sym (at_behind i)) (place-above places i so_far.first apart.distinct (omega (arith, lt, size)))
-
-      below : (i : ℕ) → i < length rest → get_or rest i 0 < length start.entries + 1
-      below i lt = subst (λ p. p < length start.entries + 1) (sym (at_behind i)) (All-get_or (λ q. q < length start.entries + 1) places (i + 1) 0 (omega (arith, lt, size)) apart.below)
-
-      apart_at : (i j : ℕ) → i < j → j < length rest → nat_eq (get_or rest i 0) (get_or rest j 0) ≡ false
-      apart_at i j lt inside =
-          ap (λ p. nat_eq p (get_or rest j 0)) (at_behind i) ∙ ap (nat_eq (get_or places (i + 1) 0)) (at_behind j)
-          ∙ apart_from_distinct nat_eq places (i + 1) (j + 1) 0 apart.distinct (omega (arith, lt)) (omega (arith, inside, size))
-
-      named : order.names_of (map object_of files) ≡ map (entry_name start.entries) rest
-      named = file_names files ∙ so_far.names ∙ ap (map (entry_name start.entries)) (whole-walked places (length files) so_far.within outside)
-        where
-          file_names : (ls : List Library) → order.names_of (map object_of ls) ≡ map (λ l. l.name) ls
-          file_names [] = refl
-          file_names (l ∷ ls) = ap (λ ns. l.name ∷ ns) (file_names ls)
-
-      differ : (a b : ℕ) → 0 < a → 0 < b → a < length start.entries + 1 → b < length start.entries + 1 → (a ≡ b → ⊥)
-          → bytes_eq (entry_name start.entries a) (entry_name start.entries b) ≡ false
-      differ a b sa sb lta ltb other = ⊎_elim
-          (λ same. absurd (other (let e : a ≡ b = omega (arith, same, sa, sb) in e)))
-          (λ order. ⊎_elim
-          (λ before. apart_from_distinct bytes_eq names (a - 1) (b - 1) [] distinct before (omega (arith, ltb, sb, count)))
-          (λ behind. nat_list_eq_equiv.symm (entry_name start.entries a) (entry_name start.entries b)
-          ∙ apart_from_distinct bytes_eq names (b - 1) (a - 1) [] distinct behind (omega (arith, lta, sa, count)))
-          order)
-          (cases_order (a - 1) (b - 1))
-        where
-          names : List (List ℕ)
-          names = entry_names start.entries
-
-          distinct : IsDistinct bytes_eq names
-          distinct = names_distinct start.entries so_far.own_names
-
-          count : length names ≡ length start.entries
-          count = length-map start.entries name_of
+  -- and the first missing name is noted
+  pub missing_read : {now : Opened D} {needs : Needs} {files : List Library} → IsWalked facts program start now needs files → length needs.places.places ≤ length files + 1
+      → (s : State) → IsAt facts start s → missing program (objects s) (preload_numbers s) ≡ needs.missing
+  unfolding missing
+  missing_read {needs = needs} {files = files} so_far outside s at =
+      ap (λ (names : List (List ℕ)). find (is_missing names) (flat_map needed_by (load_order program (objects s) (preload_numbers s)))) (names_are facts start s holds at)
+      ∙ ap (λ (os : List Named). find (is_missing (entry_names start.entries)) (flat_map needed_by os)) (all_read so_far outside s at)
+      ∙ sym so_far.missing

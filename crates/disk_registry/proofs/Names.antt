@@ -9,10 +9,10 @@ use Rattle.std.proofs.lemmas.List.Elements.{All-head, All-tail, All-push}
 use Rattle.std.proofs.lemmas.List.Folds.{list_any_at, list_any_none}
 use Rattle.std.proofs.lemmas.Slice.Eq.{bytes_eq-Decides}
 use Rattle.extents.specs.Extent.{AreDistinct}
-use Rattle.roots.specs.declared.entry.Entry.{Entry}
+use Rattle.store.specs.declared.placed_entry.PlacedEntry.{PlacedEntry}
 use Rattle.store.specs.State as store
 use Rattle.store.specs.Stands.{HaveOwnNames, name_of, no_blob, names_at}
-use Rattle.store.proofs.Queries.{no_entry}
+use Rattle.store.proofs.UsedAlone.{no_entry}
 use Rattle.registry.specs.Library.{Library}
 use Rattle.registry.specs.State.{State, names_of, has_name}
 use Rattle.registry.specs.Table.{entry_of}
@@ -119,26 +119,26 @@ pub names_more : (s : State) (positions : List ℕ) (p : ℕ) (names : List (Lis
     → names_at (stored s).blobs (positions ++ p ∷ []) ≡ names ++ name ∷ []
 names_more s positions p names name are is = map-append (λ i. (get_or (stored s).blobs i no_blob).name) positions (p ∷ []) ∙ (λ k. are k ++ is k ∷ [])
 
-pub named_more : {entries : List Entry} {positions : List ℕ} {names : List (List ℕ)} (p : ℕ) (name : List ℕ) → AreNamed entries positions names → p < length entries
-    → ((d : Entry) → name_of (get_or entries p d) ≡ name) → AreNamed entries (positions ++ p ∷ []) (names ++ name ∷ [])
+pub named_more : {entries : List PlacedEntry} {positions : List ℕ} {names : List (List ℕ)} (p : ℕ) (name : List ℕ) → AreNamed entries positions names → p < length entries
+    → ((d : PlacedEntry) → name_of (get_or entries p d).entry ≡ name) → AreNamed entries (positions ++ p ∷ []) (names ++ name ∷ [])
 named_more {entries = entries} {positions = positions} p name named lt is = record {
   inside = All-push (λ position. position < length entries) positions p named.inside lt;
-  each = λ d. let are = named.each d in let here = is d in map-append (λ position. name_of (get_or entries position d)) positions (p ∷ []) ∙ (λ k. are k ++ here k ∷ []);
+  each = λ d. let are = named.each d in let here = is d in map-append (λ position. name_of (get_or entries position d).entry) positions (p ∷ []) ∙ (λ k. are k ++ here k ∷ []);
 }
 
 -- positions of names of which none stands twice
-pub distinct_named : (entries : List Entry) (positions : List ℕ) (names : List (List ℕ)) → AreNamed entries positions names → has_repeat names ≡ false → AreDistinct positions
+pub distinct_named : (entries : List PlacedEntry) (positions : List ℕ) (names : List (List ℕ)) → AreNamed entries positions names → has_repeat names ≡ false → AreDistinct positions
 distinct_named entries positions names named once i j d lt fits = λ same.
-    no_repeat names once i j [] lt (omega (arith, fits, count)) (at i (omega (arith, lt, fits)) ∙ ap (λ p. name_of (get_or entries p no_entry)) same ∙ sym (at j fits))
+    no_repeat names once i j [] lt (omega (arith, fits, count)) (at i (omega (arith, lt, fits)) ∙ ap (λ p. name_of (get_or entries p no_entry).entry) same ∙ sym (at j fits))
   where
     count : length positions ≡ length names
-    count = sym (length-map positions (λ position. name_of (get_or entries position no_entry))) ∙ ap length (named.each no_entry)
+    count = sym (length-map positions (λ position. name_of (get_or entries position no_entry).entry)) ∙ ap length (named.each no_entry)
 
-    at : (k : ℕ) → k < length positions → get_or names k [] ≡ name_of (get_or entries (get_or positions k d) no_entry)
-    at k k_lt = ap (λ ns. get_or ns k []) (sym (named.each no_entry)) ∙ get_or-map (λ position. name_of (get_or entries position no_entry)) positions k d [] k_lt
+    at : (k : ℕ) → k < length positions → get_or names k [] ≡ name_of (get_or entries (get_or positions k d) no_entry).entry
+    at k k_lt = ap (λ ns. get_or ns k []) (sym (named.each no_entry)) ∙ get_or-map (λ position. name_of (get_or entries position no_entry).entry) positions k d [] k_lt
 
 -- a name stands at one position
-pub one_place : (entries : List Entry) → HaveOwnNames entries → (p q : ℕ) (d : Entry) → p < length entries → q < length entries → name_of (get_or entries p d) ≡ name_of (get_or entries q d) → p ≡ q
+pub one_place : (entries : List PlacedEntry) → HaveOwnNames entries → (p q : ℕ) (d : PlacedEntry) → p < length entries → q < length entries → name_of (get_or entries p d).entry ≡ name_of (get_or entries q d).entry → p ≡ q
 one_place entries own p q d p_lt q_lt same = ⊎_elim
     (λ before. absurd (own p q d before q_lt same))
     (λ le. ⊎_elim
@@ -151,8 +151,8 @@ isnt_equal : (a b : ℕ) → (a == b) ≡ false → a ≡ b → ⊥
 isnt_equal a b differs is = let yes : (a == b) ≡ true = grind (arith, nat_tests, is) in false≢true (sym differs ∙ yes)
 
 -- where a position isn't among others, neither is its name
-pub no_preload : (entries : List Entry) (name : List ℕ) (position : ℕ) (positions : List ℕ) → HaveOwnNames entries → position < length entries → ((d : Entry) → name_of (get_or entries position d) ≡ name)
-    → All (λ p. p < length entries) positions → list_any (λ p. p == position) positions ≡ false → All (λ p. (d : Entry) → name_of (get_or entries p d) ≢ name) positions
+pub no_preload : (entries : List PlacedEntry) (name : List ℕ) (position : ℕ) (positions : List ℕ) → HaveOwnNames entries → position < length entries → ((d : PlacedEntry) → name_of (get_or entries position d).entry ≡ name)
+    → All (λ p. p < length entries) positions → list_any (λ p. p == position) positions ≡ false → All (λ p. (d : PlacedEntry) → name_of (get_or entries p d).entry ≢ name) positions
 no_preload entries name position positions own lt named inside none k d k_lt = λ e. λ same.
     isnt_equal (get_or positions k d) position (none_pass (λ p. p == position) positions none k d k_lt)
     (one_place entries own (get_or positions k d) position e (inside k d k_lt) lt (same ∙ sym (named e)))

@@ -11,7 +11,7 @@ use Rattle.std.proofs.lemmas.Map.Keys.{apart_from_distinct}
 use Rattle.std.proofs.lemmas.Map.Made.{IsDistinct-from_AllPairs}
 use Rattle.std.proofs.lemmas.Slice.Eq.{bytes_eq-Decides}
 use Rattle.sector_disk.specs.Disk.{Sector, DiskFacts, HoldsNow}
-use Rattle.roots.specs.declared.entry.Entry.{Entry}
+use Rattle.store.specs.declared.placed_entry.PlacedEntry.{PlacedEntry}
 use Rattle.roots.specs.Root.{listed_preloads}
 use Rattle.scope.specs.LoadOrder as order
 use Rattle.scope.specs.Objects.{Named}
@@ -25,20 +25,18 @@ use Rattle.registry.specs.State as registry
 use Rattle.registry.specs.State.{State}
 use Rattle.disk_registry.specs.Stands.{stored, blob_of}
 use Rattle.disk_registry.specs.Opened.{IsAt}
+use Rattle.disk_registry.specs.inside.Named.{placed_name, entry_names}
+use Rattle.store.proofs.UsedAlone.{no_entry}
 
--- the names of entries
-abbrev pub entry_names : List Entry → List (List ℕ)
-entry_names entries = map name_of entries
-
-entries_apart : (entries : List Entry) → HaveOwnNames entries → AllPairs (λ a b. (a ≡ b) → ⊥) (entry_names entries)
+entries_apart : (entries : List PlacedEntry) → HaveOwnNames entries → AllPairs (λ a b. (a ≡ b) → ⊥) (entry_names entries)
 entries_apart entries own i j d lt inside =
-    let e : Entry = record { file_length = 0; name_length = 0; extent_count = 0; name = []; extents = [] } in
-    let within : j < length entries = omega (arith, inside, length-map entries name_of) in
+    let e : PlacedEntry = no_entry in
+    let within : j < length entries = omega (arith, inside, length-map entries placed_name) in
     let before : i < length entries = omega (arith, lt, within) in
-    λ same. own i j e lt within (sym (get_or-map name_of entries i e d before) ∙ same ∙ get_or-map name_of entries j e d within)
+    λ same. own i j e lt within (sym (get_or-map placed_name entries i e d before) ∙ same ∙ get_or-map placed_name entries j e d within)
 
 -- names of entries that differ are told apart
-pub names_distinct : (entries : List Entry) → HaveOwnNames entries → IsDistinct bytes_eq (entry_names entries)
+pub names_distinct : (entries : List PlacedEntry) → HaveOwnNames entries → IsDistinct bytes_eq (entry_names entries)
 names_distinct entries own = IsDistinct-from_AllPairs bytes_eq-Decides (entry_names entries) (entries_apart entries own)
 
 -- a name's number is where it stands
@@ -73,9 +71,9 @@ object_names : (ls : List Library) → order.names_of (map object_of ls) ≡ reg
 object_names [] = refl
 object_names (l ∷ ls) = ap (λ ns. l.name ∷ ns) (object_names ls)
 
-kept_names : (m : List Sector) (entries : List Entry) → map (λ (b : store.Blob). b.name) (map (sectors.blob_of m) entries) ≡ entry_names entries
+kept_names : (m : List Sector) (entries : List PlacedEntry) → map (λ (b : store.Blob). b.name) (map (sectors.blob_of m) entries) ≡ entry_names entries
 kept_names m [] = refl
-kept_names m (e ∷ es) = ap (λ ns. name_of e ∷ ns) (kept_names m es)
+kept_names m (e ∷ es) = ap (λ ns. placed_name e ∷ ns) (kept_names m es)
 
 module _ {D : Type 0} (facts : D → DiskFacts) (kept : Opened D) (s : State) (holds : IsTrue (facts kept.disk).honest → HoldsNow (facts kept.disk)) (at : IsAt facts kept s) where
   abbrev now : List Sector
@@ -92,7 +90,7 @@ module _ {D : Type 0} (facts : D → DiskFacts) (kept : Opened D) (s : State) (h
   names_are = object_names s.libraries ∙ names_known
 
   pub object_count : length (objects s) ≡ length kept.entries
-  object_count = sym (length-map (objects s) (λ (o : Named). o.name)) ∙ ap length names_are ∙ length-map kept.entries name_of
+  object_count = sym (length-map (objects s) (λ (o : Named). o.name)) ∙ ap length names_are ∙ length-map kept.entries placed_name
 
   -- the preloads are listed by their numbers
   pub numbers_are : HaveOwnNames kept.entries → All (λ k. k < length kept.entries) (listed_preloads kept.root) → preload_numbers s ≡ listed_preloads kept.root
@@ -100,7 +98,7 @@ module _ {D : Type 0} (facts : D → DiskFacts) (kept : Opened D) (s : State) (h
       let ks : List ℕ = listed_preloads kept.root in
       let names : List (List ℕ) = entry_names kept.entries in
       let blobs : List store.Blob = map (sectors.blob_of now) kept.entries in
-      let within : All (λ k. k < length names) ks = subst (λ n. All (λ k. k < n) ks) (sym (length-map kept.entries name_of)) inside in
+      let within : All (λ k. k < length names) ks = subst (λ n. All (λ k. k < n) ks) (sym (length-map kept.entries placed_name)) inside in
       let there : All (λ k. k < length blobs) ks = subst (λ n. All (λ k. k < n) ks) (sym (length-map kept.entries (sectors.blob_of now))) inside in
       let preloads : s.preloads ≡ map (λ k. get_or names k []) ks =
       ap (λ (t : store.State). t.preloads) now_stands.is ∙ blob_names blobs ks there ∙ ap (λ (l : List (List ℕ)). map (λ k. get_or l k []) ks) (kept_names now kept.entries) in

@@ -12,6 +12,7 @@ use Rattle.store.specs.State as store
 use Rattle.store.specs.Stands as sectors
 use Rattle.store.specs.Stands.{no_blob, names_at, name_of}
 use Rattle.store.proofs.Queries as queries
+use Rattle.store.proofs.UsedAlone.{listed_count, no_entry}
 use Rattle.store.proofs.StandsLemmas as sectors_lemmas
 use Rattle.registry.specs.Library.{Library}
 use Rattle.registry.specs.State.{State, IsState, has_name}
@@ -80,16 +81,16 @@ module _ {D : Type 0} (facts : D → DiskFacts) (registry : opened.Opened D) (s 
     count_libraries : length s.libraries ≡ length registry.entries
     count_libraries = sym (length-map s.libraries blob_of) ∙ sym count_is
 
-    library_name_is : (i : ℕ) (d : Library) → i < length s.libraries → (get_or s.libraries i d).name ≡ name_of (get_or registry.entries i queries.no_entry)
+    library_name_is : (i : ℕ) (d : Library) → i < length s.libraries → (get_or s.libraries i d).name ≡ name_of (get_or registry.entries i no_entry).entry
     library_name_is i d lt =
         ap (λ blob. blob.name) (sym (get_or-map blob_of s.libraries i d no_blob lt))
-        ∙ sym (queries.name_is facts registry (stored s) holds at.blobs i queries.no_entry (omega (arith, lt, count_libraries)))
+        ∙ sym (queries.name_is facts registry (stored s) holds at.blobs i no_entry (omega (arith, lt, count_libraries)))
 
     preload_inside : (k : ℕ) → k < length (listed_preloads registry.root) → get_or (listed_preloads registry.root) k 0 < length (stored s).blobs
-    preload_inside k lt = omega (arith, root_fits.preloads.listed.used k 0 lt, now_stands.intact.listed.count, count_is)
+    preload_inside k lt = omega (arith, root_fits.preloads.listed.used k 0 lt, listed_count registry.root registry.entries root_fits now_stands.intact.listed.sectors, count_is)
 
     preloads_inside : All (λ p. p < length (stored s).blobs) (listed_preloads registry.root)
-    preloads_inside k d lt = omega (arith, root_fits.preloads.listed.used k d lt, now_stands.intact.listed.count, count_is)
+    preloads_inside k d lt = omega (arith, root_fits.preloads.listed.used k d lt, listed_count registry.root registry.entries root_fits now_stands.intact.listed.sectors, count_is)
 
     -- a position is that of a preload where its name is that of one
     pub same_preload_name : (name : List ℕ) (position : ℕ) → ((p : ℕ) → (position ≡ p) ↔ ((p < length (stored s).blobs) × ((get_or (stored s).blobs p no_blob).name ≡ name)))
@@ -107,9 +108,9 @@ module _ {D : Type 0} (facts : D → DiskFacts) (registry : opened.Opened D) (s 
     is_state = record {
       libraries = at.libraries;
       own_names = λ i j d lt within. λ same.
-          now_stands.intact.names i j queries.no_entry lt (omega (arith, within, count_libraries))
+          now_stands.intact.names i j no_entry lt (omega (arith, within, count_libraries))
           (sym (library_name_is i d (omega (arith, lt, within))) ∙ same ∙ library_name_is j d within);
-      few = omega (arith, count_libraries, now_stands.intact.listed.count, root_fits.entry_sectors.listed.room);
+      few = omega (arith, count_libraries, listed_count registry.root registry.entries root_fits now_stands.intact.listed.sectors, root_fits.entry_sectors.listed.room);
       installed = λ k d lt.
           let k_lt : k < length (listed_preloads registry.root) = omega (arith, lt, length_preloads) in
           name_stands s (get_or s.preloads k d) (get_or (listed_preloads registry.root) k 0) (preload_inside k k_lt) (sym (preload_is k d k_lt));
@@ -130,12 +131,12 @@ module _ {D : Type 0} (facts : D → DiskFacts) (registry : opened.Opened D) (s 
             let own = now_stands.intact.names in
             let p_in : p < length registry.entries = omega (arith, p_lt, count_is) in
             let q_in : q < length registry.entries = omega (arith, q_lt, count_is) in
-            let named : name_of (get_or registry.entries p queries.no_entry) ≡ name_of (get_or registry.entries q queries.no_entry) =
-            queries.name_is facts registry (stored s) holds at.blobs p queries.no_entry p_in ∙ same ∙ sym (queries.name_is facts registry (stored s) holds at.blobs q queries.no_entry q_in) in
+            let named : name_of (get_or registry.entries p no_entry).entry ≡ name_of (get_or registry.entries q no_entry).entry =
+            queries.name_is facts registry (stored s) holds at.blobs p no_entry p_in ∙ same ∙ sym (queries.name_is facts registry (stored s) holds at.blobs q no_entry q_in) in
             ⊎_elim
-            (λ before. absurd (own p q queries.no_entry before q_in named))
+            (λ before. absurd (own p q no_entry before q_in named))
             (λ le. ⊎_elim
-            (λ behind. absurd (own q p queries.no_entry behind p_in (sym named)))
+            (λ behind. absurd (own q p no_entry behind p_in (sym named)))
             (λ le'. let same : p ≡ q = omega (arith, le, le') in same)
             (cases_lt q p))
             (cases_lt p q)

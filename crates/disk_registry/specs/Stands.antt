@@ -2,7 +2,7 @@
 use Rattle.std.specs.Prelude.{ℕ, List, map, All}
 use Rattle.std.specs.Int.{div_ceil}
 use Rattle.sector_disk.specs.Disk.{Sector, sector_bytes}
-use Rattle.roots.specs.declared.entry.Entry.{Entry}
+use Rattle.store.specs.declared.placed_entry.PlacedEntry.{PlacedEntry}
 use Rattle.store.specs.State as store
 use Rattle.store.specs.Stands as sectors
 use Rattle.registry.specs.Library.{Library, IsLibrary}
@@ -25,8 +25,8 @@ abbrev pub library_of : store.Blob → Library
 library_of blob = record { name = blob.name; bytes = blob.bytes }
 
 -- how many sectors the file of an entry takes
-abbrev pub file_sectors : Entry → ℕ
-file_sectors entry = div_ceil entry.file_length sector_bytes
+abbrev pub file_sectors : PlacedEntry → ℕ
+file_sectors placed = div_ceil placed.entry.file_length sector_bytes
 
 -- the sectors stand for this state, and each of its files is a library under its SONAME
 pub record Stands (m : List Sector) (s : State) : Type 0 where

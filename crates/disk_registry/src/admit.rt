@@ -2,7 +2,7 @@
 ghost use Rattle.std.specs.Prelude.{◌≡◌, ◌⊎◌, ◌<◌, map, sum_by, true, false, All, IfOk, IfErr, OnOk};
 ghost use Rattle.std.specs.Prelude.{length, slice_index_or};
 ghost use Rattle.sector_disk.specs.Disk.{AreCallsExactly};
-ghost use Rattle.roots.specs.declared.entry.Entry.{Entry};
+ghost use Rattle.store.specs.declared.placed_entry.PlacedEntry.{PlacedEntry};
 ghost use Rattle.store.specs.Opened.{IsAt};
 ghost use Rattle.store.specs.Stands.{no_blob};
 ghost use Rattle.store.specs.State.{State};
@@ -66,7 +66,7 @@ fn admit_at<D: Disk>(
         → IfErr result (λ e. e ≡ StoreRefusal.Damaged
         → IsLibrary (library_of (slice_index_or s.blobs position no_blob)) → ⊥) }
     ensures refusals { IfErr result (IsReadRefusal D.facts store.old store.new) }
-    ensures all_calls { (d : Entry) → OnOk result (AreCallsExactly
+    ensures all_calls { (d : PlacedEntry) → OnOk result (AreCallsExactly
         (file_sectors (slice_index_or store.old.entries position d))
         (D.facts store.old.disk) (D.facts store.new.disk)) }
 {

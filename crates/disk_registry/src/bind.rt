@@ -2,7 +2,7 @@
 ghost use Rattle.std.specs.Prelude.{◌≡◌};
 ghost use Rattle.disk_registry.specs.inside.Reading.{refusal_of_read};
 
-use crate::bound::bind_files;
+use crate::bound::bind_walked;
 use crate::kept::Registry;
 use crate::needed::read_needed;
 use hash_check::Admitted;
@@ -52,12 +52,11 @@ impl<D: Disk> Registry<D> {
             AreCallsExactly (bind_sectors s program.now)
             (D.facts self.old.disk) (D.facts self.new.disk)) }
     {
-        let files = match read_needed(self.alloc, &mut self.store, program) {
-            Ok(files) => files,
+        let walk = match read_needed(self.alloc, &mut self.store, program) {
+            Ok(walk) => walk,
             Err(refusal) => return Err(refusal_of_read(refusal)),
         };
-        let preloads = self.store.preloads().len();
-        let image = bind_files(self.alloc, program, base, &files, preloads)?;
+        let image = bind_walked(self.alloc, program, base, walk)?;
         Ok(image)
     }
 

@@ -1,17 +1,18 @@
-// Binding a program with files that were read.
-ghost use Rattle.std.specs.Prelude.{◌≡◌, ◌≤◌, ℕ, map, length, bytes_eq, None, IfOk, IfErr, OnOk};
-ghost use Rattle.std.specs.List.{IsDistinct, range_with_len};
-ghost use Rattle.scope.specs.LoadOrder.{names_of};
+// Binding a program with the files of its load order.
+ghost use Rattle.std.specs.Prelude.{◌≡◌, ℕ, map, true, None, IfOk, IfErr, OnOk};
 ghost use Rattle.image.specs.Byte.{byte_of};
 ghost use Rattle.image.specs.Image.{image_byte, image_of};
-ghost use Rattle.image.specs.Placement.{objects_of};
-ghost use Rattle.image.specs.Refusal.{program_refusal, bind_refusal, IsAnswer};
+ghost use Rattle.image.specs.Placement.{is_good_base};
+ghost use Rattle.image.specs.Refusal.{placed_refusal, IsFirstOrWantsMemory};
 ghost use Rattle.registry.specs.Binding.{object_of};
+ghost use Rattle.disk_registry.specs.inside.Walked.{walked_objects, walked_refusal};
 
 use crate::library_file::LibraryFile;
+use crate::needs::Needs;
+use crate::walk::Walk;
 use hash_check::Admitted;
-use image::{BindRefusal, Image, bind_admitted};
-use scope::Library;
+use image::{BindRefusal, Image, bind};
+use scope::{Library, NeededName, Order};
 use std::alloc::{AllocError, Global};
 
 /// The libraries that files are.
@@ -25,41 +26,50 @@ fn libraries_of(alloc: Global, files: &[LibraryFile]) -> Result<Vec<Library<'_>>
     Ok(libraries)
 }
 
-/// The numbers below `count`.
-#[tactic(auto, using(crate::proofs::NamedPlaces::numbers_pushed))]
-fn numbers_below(alloc: Global, count: usize) -> Result<Vec<usize>, AllocError>
-    ensures { IfOk result (λ v. v.items ≡ range_with_len 0 count) }
-{
-    let mut numbers = Vec::with_capacity(alloc, count)?;
-    for number in 0..count {
-        numbers.push(number)?;
-    }
-    Ok(numbers)
-}
-
-/// Binds a program that is admitted at a base that is good for it with the files that were read, of
-/// which the first `preloads` are the preloads.
-pub(crate) fn bind_files(
+/// Binds a program at a base that is good for it with the files of its load order: from B4 on.
+fn bind_files(
     alloc: Global,
     program: &Admitted<'_>,
     base: u64,
     files: &[LibraryFile],
-    preloads: usize,
 ) -> Result<Image, BindRefusal>
-    requires program { program_refusal program.now base ≡ None }
-    requires names { IsDistinct bytes_eq (names_of (map object_of files.now)) }
-    requires preloads { preloads ≤ length files.now }
-    ensures accepted { OnOk result (bind_refusal program.now base (map object_of files.now)
-        (range_with_len 0 preloads) ≡ None) }
-    ensures refused { IfErr result (IsAnswer program.now base (map object_of files.now)
-        (range_with_len 0 preloads)) }
-    ensures ok { IfOk result (λ image. image ≡ image_of (objects_of program.now base
-        (map object_of files.now) (range_with_len 0 preloads))) }
+    requires { is_good_base program.now base ≡ true }
+    ensures accepted { OnOk result
+        (placed_refusal (walked_objects program.now base files.now) ≡ None) }
+    ensures refused { IfErr result (IsFirstOrWantsMemory
+        (placed_refusal (walked_objects program.now base files.now))) }
+    ensures ok { IfOk result (λ image. image
+        ≡ image_of (walked_objects program.now base files.now)) }
     ensures bytes { IfOk result (λ image. (a : ℕ) → image_byte image a
-        ≡ byte_of (objects_of program.now base (map object_of files.now)
-        (range_with_len 0 preloads)) a) }
+        ≡ byte_of (walked_objects program.now base files.now) a) }
 {
     let libraries = libraries_of(alloc, files)?;
-    let numbers = numbers_below(alloc, preloads)?;
-    bind_admitted(alloc, program, base, &libraries, &numbers)
+    let order = Order::of(alloc, program, &libraries)?;
+    bind(alloc, &order, base)
+}
+
+/// Binds a program at a base that is good for it with what a walk has found: B3 where a name is
+/// missing, else from B4 on. The names of a missing one are moved, not copied.
+pub(crate) fn bind_walked(
+    alloc: Global,
+    program: &Admitted<'_>,
+    base: u64,
+    walk: Walk,
+) -> Result<Image, BindRefusal>
+    requires { is_good_base program.now base ≡ true }
+    ensures accepted { OnOk result
+        (walked_refusal program.now base walk.needs.missing walk.files.items ≡ None) }
+    ensures refused { IfErr result (IsFirstOrWantsMemory
+        (walked_refusal program.now base walk.needs.missing walk.files.items)) }
+    ensures ok { IfOk result (λ image. image
+        ≡ image_of (walked_objects program.now base walk.files.items)) }
+    ensures bytes { IfOk result (λ image. (a : ℕ) → image_byte image a
+        ≡ byte_of (walked_objects program.now base walk.files.items) a) }
+{
+    let Walk { needs, files } = walk;
+    let Needs { places: _, missing } = needs;
+    match missing {
+        Some(NeededName { needer, name }) => Err(BindRefusal::Missing { needer, name }),
+        None => bind_files(alloc, program, base, &files),
+    }
 }

@@ -49,6 +49,13 @@ impl LibraryFile {
         Ok(LibraryFile { name, file })
     }
 
+    /// Its name.
+    pub(crate) fn name(&self) -> &[u8]
+        ensures { result.now ≡ self.now.name }
+    {
+        self.name.as_bytes()
+    }
+
     /// The object that it is. It costs what `ObjectFile::object` costs.
     pub(crate) fn object(&self) -> Object<'_>
         ensures { result ≡ self.now.bytes }

@@ -1,9 +1,8 @@
 // Reading a library's file.
 ghost use Rattle.std.specs.Prelude.{◌≡◌, ◌<◌, length, slice_index_or, IfOk, IfErr};
 ghost use Rattle.sector_disk.specs.Disk.{AreCallsExactly};
-ghost use Rattle.roots.specs.declared.entry.Entry.{Entry};
 ghost use Rattle.store.specs.Opened.{IsAt};
-ghost use Rattle.store.specs.Stands.{name_of, no_blob};
+ghost use Rattle.store.specs.Stands.{no_blob};
 ghost use Rattle.store.specs.State.{State};
 ghost use Rattle.registry.specs.Library.{IsLibrary};
 ghost use Rattle.disk_registry.specs.Binding.{data_sectors};
@@ -23,8 +22,6 @@ pub(crate) fn read_library<D: Disk>(
 ) -> Result<LibraryFile, StoreRefusal>
     requires { position < length store.old.entries }
     ensures read { IsRead D.facts store.old store.new }
-    ensures name { (d : Entry) → IfOk result (λ file. file.name
-        ≡ name_of (slice_index_or store.old.entries position d)) }
     ensures ok { (s : State) → IsAt D.facts store.old s → IfOk result (λ file.
         file ≡ library_of (slice_index_or s.blobs position no_blob)) }
     ensures damaged { (s : State) → IsAt D.facts store.old s

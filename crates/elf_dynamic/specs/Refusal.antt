@@ -8,7 +8,7 @@ use Rattle.elf_file.specs.declared.refusal.ObjectRefusal.TheVariants.{BadRange, 
 use Rattle.elf_dynamic.specs.Table.{has_bad_range}
 use Rattle.elf_dynamic.specs.Strings.{has_bad_string}
 use Rattle.elf_dynamic.specs.Symbol.{has_common_symbol, has_tls_symbol, has_ifunc_symbol, has_bad_binding}
-use Rattle.elf_dynamic.specs.Relocation.{first_unsupported_type, has_bad_symbol, has_bad_place}
+use Rattle.elf_dynamic.specs.Relocation.{first_unsupported_type, has_bad_relocation_symbol, has_bad_place}
 
 -- the tests of the tables and the strings, E22 and E23, in their order
 abbrev pub table_tests : List ℕ → List (Option ObjectRefusal)
@@ -35,7 +35,7 @@ symbol_refusal file = first_of (symbol_tests file)
 abbrev pub relocation_tests : List ℕ → List (Option ObjectRefusal)
 relocation_tests file =
     option_map RelocationType (first_unsupported_type file)
-    ∷ (RelocationSymbol when has_bad_symbol file)
+    ∷ (RelocationSymbol when has_bad_relocation_symbol file)
     ∷ (RelocationPlace when has_bad_place file)
     ∷ []
 

@@ -5,7 +5,7 @@ use Rattle.elf_file.specs.Number.{number_at}
 use Rattle.elf_file.specs.Constant.{DT_SYMTAB, SYMBOL_SIZE}
 use Rattle.elf_file.specs.Dynamic.{tag_value}
 use Rattle.elf_file.specs.Address.{bytes_at}
-use Rattle.elf_dynamic.specs.Constant.{STB_LOCAL, STB_GLOBAL, STB_WEAK, STT_COMMON, STT_TLS, STT_GNU_IFUNC, SHN_COMMON}
+use Rattle.elf_dynamic.specs.Constant.{STB_LOCAL, STB_GLOBAL, STB_WEAK, STT_NOTYPE, STT_OBJECT, STT_FUNC, STT_COMMON, STT_TLS, STT_GNU_IFUNC, STV_DEFAULT, STV_INTERNAL, STV_HIDDEN, STV_PROTECTED, SHN_UNDEF, SHN_ABS, SHN_COMMON}
 use Rattle.elf_dynamic.specs.HashTable.{chain_count}
 use Rattle.elf_dynamic.specs.declared.symbol.Symbol.{Symbol}
 
@@ -57,6 +57,42 @@ type_of s = s.info % 16
 abbrev pub visibility_of : Symbol → ℕ
 visibility_of s = s.other % 4
 
+-- of the object alone
+abbrev pub is_local : Symbol → Bool
+is_local s = binding_of s == STB_LOCAL
+
+-- of all objects
+abbrev pub is_global : Symbol → Bool
+is_global s = binding_of s == STB_GLOBAL
+
+-- of all objects, and 0 where it isn't found
+abbrev pub is_weak : Symbol → Bool
+is_weak s = binding_of s == STB_WEAK
+
+-- it is defined in the object
+abbrev pub is_defined : Symbol → Bool
+is_defined s = not (s.section == SHN_UNDEF)
+
+-- its value is no address: the base isn't added
+abbrev pub is_absolute : Symbol → Bool
+is_absolute s = s.section == SHN_ABS
+
+-- it is a function, an object, or of no type
+abbrev pub is_function_or_object : Symbol → Bool
+is_function_or_object s = (type_of s == STT_NOTYPE) || (type_of s == STT_OBJECT) || (type_of s == STT_FUNC)
+
+-- other objects see it by its visibility, and may replace it
+abbrev pub has_default_visibility : Symbol → Bool
+has_default_visibility s = visibility_of s == STV_DEFAULT
+
+-- other objects see it by its visibility
+abbrev pub is_visible : Symbol → Bool
+is_visible s = has_default_visibility s || (visibility_of s == STV_PROTECTED)
+
+-- other objects don't see it by its visibility
+abbrev pub is_hidden : Symbol → Bool
+is_hidden s = (visibility_of s == STV_HIDDEN) || (visibility_of s == STV_INTERNAL)
+
 -- a common symbol, by its section or its type
 abbrev pub is_common : Symbol → Bool
 is_common s = (s.section == SHN_COMMON) || (type_of s == STT_COMMON)
@@ -83,7 +119,7 @@ has_ifunc_symbol file = list_any is_ifunc (tested_symbols file)
 
 -- a binding other than LOCAL, GLOBAL and WEAK
 abbrev pub is_badly_bound : Symbol → Bool
-is_badly_bound s = not (binding_of s == STB_LOCAL) && not (binding_of s == STB_GLOBAL) && not (binding_of s == STB_WEAK)
+is_badly_bound s = not (is_local s) && not (is_global s) && not (is_weak s)
 
 -- E27: a symbol with another binding is present
 unfoldable pub has_bad_binding : List ℕ → Bool

@@ -3,12 +3,13 @@
 ghost use Rattle.std.specs.Prelude.{◌≡◌, ◌<◌, length, None, Some, MatchResult, slice_get};
 ghost use Rattle.elf_dynamic.specs.Refusal.{relocation_refusal};
 ghost use Rattle.elf_dynamic.specs.Relocation.{rela_table, jmprel_table, relocations};
-ghost use Rattle.elf_dynamic.specs.Relocation.{first_unsupported_type, has_bad_symbol};
+ghost use Rattle.elf_dynamic.specs.Relocation.{first_unsupported_type, has_bad_relocation_symbol};
 ghost use Rattle.elf_dynamic.specs.Relocation.{has_bad_place};
 
 use crate::place::has_misplaced_in;
 use crate::relocation::{
-    Relocation, first_unsupported_in, has_bad_symbol_in, nth_relocation, relocation_count,
+    Relocation, first_unsupported_in, has_bad_relocation_symbol_in, nth_relocation,
+    relocation_count,
 };
 use crate::tables::Tables;
 use elf_file::ObjectRefusal;
@@ -62,11 +63,12 @@ impl<'a> Tables<'a> {
     }
 
     /// Whether a relocation's symbol isn't there.
-    fn has_bad_symbol(&self) -> bool
-        ensures { result ≡ has_bad_symbol self.now }
+    fn has_bad_relocation_symbol(&self) -> bool
+        ensures { result ≡ has_bad_relocation_symbol self.now }
     {
         let count = self.symbol_count();
-        has_bad_symbol_in(self.rela(), count) || has_bad_symbol_in(self.jmprel(), count)
+        has_bad_relocation_symbol_in(self.rela(), count)
+            || has_bad_relocation_symbol_in(self.jmprel(), count)
     }
 
     /// Whether a relocation writes where no PT_LOAD has memory.
@@ -86,7 +88,7 @@ impl<'a> Tables<'a> {
         if let Some(kind) = self.first_unsupported_type() {
             return Err(ObjectRefusal::RelocationType(kind));
         }
-        if self.has_bad_symbol() {
+        if self.has_bad_relocation_symbol() {
             return Err(ObjectRefusal::RelocationSymbol);
         }
         if self.has_bad_place() {

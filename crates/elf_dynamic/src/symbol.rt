@@ -4,6 +4,9 @@ ghost use Rattle.std.specs.Prelude.{◌≡◌, ◌<◌, ◌/◌, length, drop, n
 ghost use Rattle.std.specs.List.{list_any};
 ghost use Rattle.elf_dynamic.specs.Symbol.{binding_of, type_of, visibility_of};
 ghost use Rattle.elf_dynamic.specs.Symbol.{nth_symbol, symbols_in};
+ghost use Rattle.elf_dynamic.specs.Symbol.{is_local, is_global, is_weak, is_defined, is_absolute};
+ghost use Rattle.elf_dynamic.specs.Symbol.{is_function_or_object, is_visible, is_hidden};
+ghost use Rattle.elf_dynamic.specs.Symbol.{has_default_visibility};
 ghost use Rattle.elf_dynamic.specs.Symbol.{is_common, is_tls, is_ifunc, is_badly_bound};
 
 use elf_file::{SYMBOL_SIZE, u16_at, u32_at, u64_at};
@@ -46,6 +49,71 @@ impl Symbol {
     {
         self.other % 4
     }
+
+    /// Whether it is of the object alone (`STB_LOCAL`).
+    pub fn is_local(self) -> bool
+        ensures { result ≡ is_local self }
+    {
+        self.binding() == STB_LOCAL
+    }
+
+    /// Whether it is of all objects (`STB_GLOBAL`).
+    pub fn is_global(self) -> bool
+        ensures { result ≡ is_global self }
+    {
+        self.binding() == STB_GLOBAL
+    }
+
+    /// Whether it is of all objects, and 0 where it isn't found (`STB_WEAK`).
+    pub fn is_weak(self) -> bool
+        ensures { result ≡ is_weak self }
+    {
+        self.binding() == STB_WEAK
+    }
+
+    /// Whether it is defined in the object: its section isn't `SHN_UNDEF`.
+    pub fn is_defined(self) -> bool
+        ensures { result ≡ is_defined self }
+    {
+        self.section != SHN_UNDEF
+    }
+
+    /// Whether its value is no address, so that the base isn't added (`SHN_ABS`).
+    pub fn is_absolute(self) -> bool
+        ensures { result ≡ is_absolute self }
+    {
+        self.section == SHN_ABS
+    }
+
+    /// Whether it is a function, an object, or of no type.
+    pub fn is_function_or_object(self) -> bool
+        ensures { result ≡ is_function_or_object self }
+    {
+        let kind = self.kind();
+        kind == STT_NOTYPE || kind == STT_OBJECT || kind == STT_FUNC
+    }
+
+    /// Whether other objects see it by its visibility, and may replace it (`STV_DEFAULT`).
+    pub fn has_default_visibility(self) -> bool
+        ensures { result ≡ has_default_visibility self }
+    {
+        self.visibility() == STV_DEFAULT
+    }
+
+    /// Whether other objects see it by its visibility (`STV_DEFAULT`, `STV_PROTECTED`).
+    pub fn is_visible(self) -> bool
+        ensures { result ≡ is_visible self }
+    {
+        self.has_default_visibility() || self.visibility() == STV_PROTECTED
+    }
+
+    /// Whether other objects don't see it by its visibility (`STV_HIDDEN`, `STV_INTERNAL`).
+    pub fn is_hidden(self) -> bool
+        ensures { result ≡ is_hidden self }
+    {
+        let visibility = self.visibility();
+        visibility == STV_HIDDEN || visibility == STV_INTERNAL
+    }
 }
 
 /// Of the object alone.
@@ -54,12 +122,30 @@ const STB_LOCAL: u8 = 0;
 const STB_GLOBAL: u8 = 1;
 /// Of all objects, and may be undefined.
 const STB_WEAK: u8 = 2;
+/// Of no type.
+const STT_NOTYPE: u8 = 0;
+/// Data.
+const STT_OBJECT: u8 = 1;
+/// A function.
+const STT_FUNC: u8 = 2;
 /// A common block.
 const STT_COMMON: u8 = 5;
 /// Thread-local data.
 const STT_TLS: u8 = 6;
 /// An indirect function.
 const STT_GNU_IFUNC: u8 = 10;
+/// Other objects see it and may replace it.
+const STV_DEFAULT: u8 = 0;
+/// Other objects don't see it, and don't get it either.
+const STV_INTERNAL: u8 = 1;
+/// Other objects don't see it.
+const STV_HIDDEN: u8 = 2;
+/// Other objects see it, and don't replace it for this one.
+const STV_PROTECTED: u8 = 3;
+/// Not defined in the object.
+const SHN_UNDEF: u16 = 0;
+/// Of no section: its value stays.
+const SHN_ABS: u16 = 0xfff1;
 /// Of a common block.
 const SHN_COMMON: u16 = 0xfff2;
 
@@ -101,8 +187,7 @@ fn is_ifunc(symbol: Symbol) -> bool
 fn is_badly_bound(symbol: Symbol) -> bool
     ensures { result ≡ is_badly_bound symbol }
 {
-    let binding = symbol.binding();
-    binding != STB_LOCAL && binding != STB_GLOBAL && binding != STB_WEAK
+    !symbol.is_local() && !symbol.is_global() && !symbol.is_weak()
 }
 
 /// Whether a symbol of a table, but for the first, is a common symbol.

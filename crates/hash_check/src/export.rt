@@ -7,35 +7,15 @@ ghost use Rattle.hash_check.specs.Export.{exports, is_exported, exported_symbols
 use elf_dynamic::{Object, Symbol};
 use std::alloc::{AllocError, Global};
 
-/// The bindings of a symbol that others see.
-const STB_GLOBAL: u8 = 1;
-
-const STB_WEAK: u8 = 2;
-/// The types of a symbol that can be bound.
-const STT_NOTYPE: u8 = 0;
-
-const STT_OBJECT: u8 = 1;
-
-const STT_FUNC: u8 = 2;
-/// The visibilities of a symbol that others see.
-const STV_DEFAULT: u8 = 0;
-
-const STV_PROTECTED: u8 = 3;
-/// The section of a symbol that is not defined here.
-const SHN_UNDEF: u16 = 0;
-
 /// Whether a symbol is exported, unless it is number 0.
 #[tactic(auto, unfolding(crate::specs::Export::exports))]
 fn exports(symbol: Symbol) -> bool
     ensures { result ≡ exports symbol }
 {
-    let binding = symbol.binding();
-    let kind = symbol.kind();
-    let visibility = symbol.visibility();
-    (binding == STB_GLOBAL || binding == STB_WEAK)
-        && symbol.section != SHN_UNDEF
-        && (kind == STT_NOTYPE || kind == STT_OBJECT || kind == STT_FUNC)
-        && (visibility == STV_DEFAULT || visibility == STV_PROTECTED)
+    (symbol.is_global() || symbol.is_weak())
+        && symbol.is_defined()
+        && symbol.is_function_or_object()
+        && symbol.is_visible()
 }
 
 /// Whether the symbol number `i` is exported.

@@ -13,7 +13,7 @@ use Rattle.scope.specs.Refusal.{IsRefusal}
 use Rattle.scope.specs.declared.refusal.OrderRefusal.{OrderRefusal}
 use Rattle.scope.specs.declared.refusal.OrderRefusal.TheVariants as order
 use Rattle.image.specs.Placement.{objects_of, is_good_base}
-use Rattle.image.specs.Refusal.{placed_refusal, missing_by, of_order, program_refusal, bind_refusal, WantsMemory, IsProgramAnswer, IsAnswer, IsPlacedAnswer}
+use Rattle.image.specs.Refusal.{placed_refusal, missing_by, of_order, program_refusal, bind_refusal, WantsMemory, IsProgramAnswer, IsAnswer, IsPlacedAnswer, IsFirstOrWantsMemory}
 use Rattle.image.specs.declared.refusal.BindRefusal.{BindRefusal}
 use Rattle.image.specs.declared.refusal.BindRefusal.TheVariants.{Program, BadBase, Missing, NoRoom, Undefined, OutOfMemory}
 
@@ -24,7 +24,7 @@ behind-by None false rest taken at = cc
 behind-by None true rest taken at = refl
 
 -- where the file is taken and the base is good, the others decide
-behind : (file : List ℕ) (base : ℕ) (libraries : List Named) (preloads : List ℕ) → first_file_refusal file ≡ None → is_good_base file base ≡ true
+pub behind : (file : List ℕ) (base : ℕ) (libraries : List Named) (preloads : List ℕ) → first_file_refusal file ≡ None → is_good_base file base ≡ true
     → bind_refusal file base libraries preloads
     ≡ first_of (option_map missing_by (missing file libraries preloads) ∷ placed_refusal (objects_of file base libraries preloads) ∷ [])
 unfolding bind_refusal
@@ -122,6 +122,14 @@ pub placed-answer : (file : List ℕ) (base : ℕ) (libraries : List Named) (pre
     → IsPlacedAnswer (objects_of file base libraries preloads) e → IsAnswer file base libraries preloads e
 placed-answer file base libraries preloads e taken is (inl h) = answer-by file base libraries preloads e (taken_with_memory file taken) (is ∙ h)
 placed-answer file base libraries preloads e taken is (inr h) = memory-by file base libraries preloads e (taken_with_memory file taken) h.0
+
+-- an answer of the tests behind those of the program
+pub later-answer : (file : List ℕ) (base : ℕ) (libraries : List Named) (preloads : List ℕ) (e : BindRefusal) → first_file_refusal file ≡ None → is_good_base file base ≡ true
+    → IsFirstOrWantsMemory (first_of (option_map missing_by (missing file libraries preloads) ∷ placed_refusal (objects_of file base libraries preloads) ∷ [])) e
+    → IsAnswer file base libraries preloads e
+later-answer file base libraries preloads e taken good (inl h) =
+    answer-by file base libraries preloads e (taken_with_memory file taken) (behind file base libraries preloads taken good ∙ h)
+later-answer file base libraries preloads e taken good (inr h) = memory-by file base libraries preloads e (taken_with_memory file taken) h
 
 -- the first object is the program
 pub program-first : (file : List ℕ) (libraries : List Named) (preloads : List ℕ) → file_at (load_order file libraries preloads) 0 ≡ file

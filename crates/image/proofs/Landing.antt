@@ -12,7 +12,7 @@ use Rattle.elf_file.specs.declared.refusal.ObjectRefusal.TheVariants.{Relocation
 use Rattle.elf_file.proofs.FirstOf.{none_at, when_none}
 use Rattle.elf_dynamic.specs.Constant.{R_X86_64_64, R_X86_64_RELATIVE}
 use Rattle.elf_dynamic.specs.HashTable.{word, hash_table, bucket_count, chains, chain_count}
-use Rattle.elf_dynamic.specs.Relocation.{is_writing, lacks_symbol, has_bad_symbol, relocations, uses_symbol}
+use Rattle.elf_dynamic.specs.Relocation.{is_writing, lacks_symbol, has_bad_relocation_symbol, relocations, uses_symbol}
 use Rattle.elf_dynamic.specs.Refusal.{refusals, first_refusal, relocation_tests, relocation_refusal}
 use Rattle.elf_dynamic.specs.declared.relocation.Relocation.{Relocation}
 use Rattle.elf_dynamic.proofs.Accepted.{places}
@@ -27,12 +27,12 @@ refuses_none : (file : List ℕ) → first_refusal file ≡ None → relocation_
 unfolding first_refusal
 refuses_none file h = none_at (refusals file) 3 h
 
-symbols_fine : (file : List ℕ) → relocation_refusal file ≡ None → has_bad_symbol file ≡ false
+symbols_fine : (file : List ℕ) → relocation_refusal file ≡ None → has_bad_relocation_symbol file ≡ false
 unfolding relocation_refusal
-symbols_fine file h = when_none RelocationSymbol (has_bad_symbol file) (none_at (relocation_tests file) 1 h)
+symbols_fine file h = when_none RelocationSymbol (has_bad_relocation_symbol file) (none_at (relocation_tests file) 1 h)
 
-lacks-none : (file : List ℕ) (i : ℕ) (r : Relocation) (b : Bool) → lacks_symbol file r ≡ b → has_bad_symbol file ≡ false → slice_get (relocations file) i ≡ Some r → lacks_symbol file r ≡ false
-unfolding has_bad_symbol
+lacks-none : (file : List ℕ) (i : ℕ) (r : Relocation) (b : Bool) → lacks_symbol file r ≡ b → has_bad_relocation_symbol file ≡ false → slice_get (relocations file) i ≡ Some r → lacks_symbol file r ≡ false
+unfolding has_bad_relocation_symbol
 lacks-none file i r false e fine at = e
 lacks-none file i r true e fine at =
     let some = list_any_at (lacks_symbol file) (relocations file) i r (slice_get_within (relocations file) i r at)

@@ -17,7 +17,8 @@ use Rattle.hash_check.specs.Export.{is_exported}
 use Rattle.hash_check.proofs.Exported.{exported_within}
 use Rattle.scope.specs.Objects.{Named, file_at}
 use Rattle.scope.specs.Lookup.{all_places, definition_at, lookup}
-use Rattle.scope.specs.Target.{target, target_of, is_own, is_withheld, is_weak}
+use Rattle.elf_dynamic.specs.Symbol.{is_weak}
+use Rattle.scope.specs.Target.{target, target_of, is_own, is_withheld}
 use Rattle.scope.specs.declared.target.Target.{Target}
 use Rattle.scope.specs.declared.target.Target.TheVariants.{Zero, At}
 use Rattle.image.specs.Placement.{Placed, named}

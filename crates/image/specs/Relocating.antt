@@ -3,9 +3,9 @@ use Rattle.std.specs.Prelude.{ℕ, ◌+◌, ◌-◌, ◌%◌, ◌^◌, ◌==◌,
 use Rattle.std.specs.List.{find, flat_map, filter_map, range_with_len}
 use Rattle.std.specs.Option.{option_map, option_map_or}
 use Rattle.std.specs.Int.{byte_at}
-use Rattle.elf_dynamic.specs.Constant.{SHN_ABS, R_X86_64_64, R_X86_64_RELATIVE}
+use Rattle.elf_dynamic.specs.Constant.{R_X86_64_64, R_X86_64_RELATIVE}
 use Rattle.elf_dynamic.specs.Relocation.{relocations, uses_symbol, is_writing}
-use Rattle.elf_dynamic.specs.Symbol.{symbols}
+use Rattle.elf_dynamic.specs.Symbol.{symbols, is_absolute}
 use Rattle.elf_dynamic.specs.declared.relocation.Relocation.{Relocation}
 use Rattle.elf_dynamic.specs.declared.symbol.Symbol.{Symbol}
 use Rattle.scope.specs.Target.{target}
@@ -35,7 +35,7 @@ relocations_of objects own = relocations (file_at objects own)
 
 -- the address of an object's symbol at a base: its value, added to the base unless it is absolute
 abbrev pub address_of : ℕ → Symbol → ℕ
-address_of base symbol = if symbol.section == SHN_ABS then symbol.value else (base + symbol.value) % 2 ^ 64
+address_of base symbol = if is_absolute symbol then symbol.value else (base + symbol.value) % 2 ^ 64
 
 -- the address of the symbol of a number of the object at a place
 abbrev pub own_address : List Placed → ℕ → ℕ → ℕ

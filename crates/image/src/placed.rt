@@ -11,9 +11,6 @@ use elf_dynamic::Object;
 use scope::{Order, Target, Undefined, resolve};
 use std::marker::Model;
 
-/// The section index of a symbol whose value is no address of the object.
-const SHN_ABS: u16 = 0xfff1;
-
 /// The objects of an order, each at its base. Contracts see each with its name, its file's bytes
 /// and its base.
 #[derive(Drop)]
@@ -100,7 +97,7 @@ impl<'a> PlacedOrder<'a> {
         ensures { result ≡ own_address self.now object symbol }
     {
         let found = self.object(object).symbol(symbol);
-        if found.section == SHN_ABS {
+        if found.is_absolute() {
             found.value
         } else {
             self.base(object).wrapping_add(found.value)

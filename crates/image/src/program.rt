@@ -44,7 +44,7 @@ pub fn admit_program(alloc: Global, file: &[u8], base: u64) -> Result<Admitted<'
 
 /// Binds a program that is admitted at a base that is good for it, as `bind_program` does: from B3
 /// on.
-pub fn bind_admitted(
+fn bind_admitted(
     alloc: Global,
     program: &Admitted<'_>,
     base: u64,

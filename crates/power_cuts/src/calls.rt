@@ -3,8 +3,8 @@
 ghost use Rattle.std.specs.Prelude.{◌≡◌, ◌≢◌, ◌↔◌, IsTrue};
 ghost use Rattle.std.specs.Prelude.{slice_index_or, length};
 ghost use Rattle.roots.specs.Entry.{IsNameByte};
-ghost use Rattle.roots.specs.declared.entry.Entry.{Entry};
 ghost use Rattle.store.specs.Step.{IsName, IsFileSize, IsNoPreload};
+ghost use Rattle.store.specs.declared.placed_entry.PlacedEntry.{PlacedEntry};
 ghost use Rattle.store.specs.Stands.{name_of};
 
 use anyhow::{Result, bail};
@@ -57,8 +57,8 @@ pub(crate) fn put_over<D: Disk>(store: &mut Store<D>, name: &[u8], bytes: &[u8])
 
 // Whether the byte string at a position has another name.
 fn is_other<D: Disk>(store: &Store<D>, position: u16, name: &[u8]) -> bool
-    ensures { IsTrue result → (d : Entry)
-        → name_of (slice_index_or store.now.entries position d) ≢ name.now }
+    ensures { IsTrue result → (d : PlacedEntry)
+        → name_of (slice_index_or store.now.entries position d).entry ≢ name.now }
 {
     let position = usize::from(position);
     position < store.count() && store.name(position) != name

@@ -1,9 +1,9 @@
 // The changes of a store.
 
 use crate::calls::{Answer, delete, put_new, put_over, set_preloads};
-use crate::disk::Powered;
 use crate::state::{State, content};
 use anyhow::{Context, Result};
+use cuts::Powered;
 use std::alloc::Global;
 use store::Store;
 

@@ -1,9 +1,8 @@
 // Disks that no call of a store leaves, made sector by sector.
 
-use crate::disk::whole;
 use crate::sectors::put_sector;
-use crate::tally::Tally;
 use anyhow::{Context, Result, bail};
+use cuts::{Tally, whole};
 use extents::{Extent, MOST_EXTENTS};
 use roots::{Entry, Root, encode_entry, encode_root};
 use sector_disk::{Disk, Memory, SECTOR_BYTES};

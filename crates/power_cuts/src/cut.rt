@@ -2,9 +2,8 @@
 
 use crate::calls::set_preloads;
 use crate::change::Change;
-use crate::disk::Powered;
-use crate::power::Cut;
 use anyhow::{Result, bail};
+use cuts::{Cut, Powered};
 use sector_disk::Memory;
 use std::alloc::Global;
 use store::{Store, StoreRefusal};

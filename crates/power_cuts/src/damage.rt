@@ -1,10 +1,10 @@
 // Disks with one byte changed.
 
 use crate::original::{HISTORIES, Original};
-use crate::sectors::{put_sector, sector};
+use crate::sectors::put_sector;
 use crate::seen::{Seen, look};
-use crate::tally::Tally;
 use anyhow::{Context, Result};
+use cuts::{Tally, sector};
 use sector_disk::SECTOR_BYTES;
 use std::alloc::Global;
 

@@ -4,17 +4,10 @@ use crate::calls::Answer;
 use crate::change::Change;
 use crate::state::State;
 use anyhow::{Context, Result, bail};
-use sector_disk::{Fuse, Memory};
+use cuts::{Powered, whole};
+use sector_disk::Memory;
 use std::alloc::Global;
 use store::Store;
-
-/// A disk in memory whose power can be cut.
-pub(crate) type Powered = Fuse<Memory>;
-
-/// This disk, and no call of it fails.
-pub(crate) fn whole(disk: Memory) -> Powered {
-    Fuse::new(disk, 0, false, false)
-}
 
 // Makes the changes one after the other, and follows the state.
 fn make_all(alloc: Global, store: &mut Store<Powered>, changes: &[Change]) -> Result<State> {

@@ -1,14 +1,11 @@
 // A format whose power is cut.
 
 use crate::cut::Ending;
-use crate::power::Cut;
 use anyhow::Result;
+use cuts::Cut;
 use sector_disk::Memory;
 use std::alloc::Global;
 use store::{Store, StoreRefusal};
-
-/// How many calls of the disk a format makes: two reads, a sync, the root, a sync.
-pub(crate) const FORMAT_CALLS: u64 = 5;
 
 /// Formats the disk, cut as it is said. No store is left that could answer S2.
 pub(crate) fn cut_format(alloc: Global, disk: Memory, cut: Cut) -> Result<Ending> {

@@ -5,8 +5,8 @@ use crate::crafted::open_crafted;
 use crate::damage::change_bytes;
 use crate::rows::{compare_sectors, fill_disks, stop_early};
 use crate::scenario::{CHOICES, DELETIONS, PUTS, REPLACEMENTS, cut_changes, cut_formats};
-use crate::tally::Tally;
 use anyhow::Result;
+use cuts::Tally;
 
 // A group that cuts changes.
 fn cut_group<R: Print + AllocGlobal>(

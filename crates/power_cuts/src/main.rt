@@ -10,18 +10,14 @@ mod damage;
 mod disk;
 mod format;
 mod groups;
-mod mixture;
 mod opening;
 mod original;
-mod power;
 mod rows;
 mod rules;
 mod scenario;
 mod sectors;
 mod seen;
 mod state;
-mod table;
-mod tally;
 mod trial;
 
 use anyhow::Result;

@@ -1,11 +1,8 @@
 // Disks that a cut has left: opened as they are, after each stop, and with an opening that is cut.
 
-use crate::mixture::Mixtures;
-use crate::power::Cut;
 use crate::seen::{Seen, look};
-use crate::table::{Wanted, Which};
-use crate::tally::Tally;
 use anyhow::Result;
+use cuts::{Cut, Mixtures, Tally, Wanted, Which};
 use sector_disk::Memory;
 use std::alloc::Global;
 use store::{Store, StoreRefusal};
@@ -18,11 +15,11 @@ pub(crate) struct Sides {
 }
 
 impl Sides {
-    fn allow(&self, which: Which, seen: &Seen) -> bool {
-        match which {
-            Which::Old => *seen == self.old,
-            Which::New => *seen == self.new,
-            Which::Either => *seen == self.old || *seen == self.new,
+    // What a disk shows that is opened again at once.
+    pub(crate) fn reopened(&self, wanted: Wanted) -> &Seen {
+        match wanted.reopened {
+            Which::Old => &self.old,
+            _ => &self.new,
         }
     }
 }
@@ -41,25 +38,16 @@ pub(crate) fn open_mixtures<R: Print + AllocGlobal>(
     let mut new = false;
     for _ in 0..mixtures.count()? {
         let left = look(rt.alloc(), mixtures.next(disk)?)?;
-        old = old || left == sides.old;
-        new = new || left == sides.new;
-        tally.count(rt, sides.allow(which, &left), &cut, "a mixture")?;
+        let (is_old, is_new) = (left == sides.old, left == sides.new);
+        old = old || is_old;
+        new = new || is_new;
+        tally.count(rt, which.allows(is_old, is_new), &cut, "a mixture")?;
     }
     // Both are seen where both may stand.
     if which == Which::Either && !(old && new) {
         tally.count(rt, false, &cut, "one state alone")?;
     }
     Ok(())
-}
-
-impl Sides {
-    // What a disk shows that is opened again at once.
-    pub(crate) fn reopened(&self, wanted: Wanted) -> &Seen {
-        match wanted.reopened {
-            Which::Old => &self.old,
-            _ => &self.new,
-        }
-    }
 }
 
 // Cuts one call of the opening: the same stands afterwards.
@@ -81,14 +69,7 @@ fn cut_opening<R: Print + AllocGlobal>(
     let right = again == *sides.reopened(wanted);
     tally.count(rt, right, &cut, "opened after a cut opening")?;
 
-    // The first call is the sync: once it reached the disk, no stop leaves another state.
-    let synced = cut.call > 1 || cut.late;
-    let which = if synced {
-        wanted.reopened
-    } else {
-        wanted.stopped
-    };
-    open_mixtures(rt, tally, &disk, cut, sides, which)
+    open_mixtures(rt, tally, &disk, cut, sides, wanted.after_opening(cut))
 }
 
 /// Cuts each call of an opening of this disk.
@@ -99,15 +80,10 @@ pub(crate) fn cut_openings<R: Print + AllocGlobal>(
     sides: &Sides,
     wanted: Wanted,
 ) -> Result<()> {
-    for call in 1..=sides.reopened(wanted).opening_calls() {
-        for late in [false, true] {
-            let cut = Cut {
-                opening: 0,
-                call,
-                late,
-                forever: true,
-            };
-            cut_opening(rt, tally, disk, cut, sides, wanted)?;
+    let calls = sides.reopened(wanted).opening_calls();
+    for cut in &Cut::all(rt.alloc(), 0, calls)? {
+        if cut.forever {
+            cut_opening(rt, tally, disk, *cut, sides, wanted)?;
         }
     }
     Ok(())

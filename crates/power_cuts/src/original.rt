@@ -2,9 +2,9 @@
 
 use crate::change::Change;
 use crate::disk::prepared;
-use crate::sectors::sector;
 use crate::state::State;
 use anyhow::Result;
+use cuts::sector;
 use sector_disk::{Disk, Memory, SECTOR_BYTES};
 use std::alloc::Global;
 

@@ -3,14 +3,12 @@
 use crate::calls::{Answer, delete, put_new};
 use crate::change::Change;
 use crate::cut::cut_change;
-use crate::disk::{Powered, prepared, whole};
-use crate::mixture::Mixtures;
-use crate::power::Cut;
-use crate::sectors::{number, put_bytes, sector};
+use crate::disk::prepared;
+use crate::sectors::{number, put_bytes};
 use crate::seen::{Seen, look};
 use crate::state::{State, content};
-use crate::tally::Tally;
 use anyhow::{Result, bail};
+use cuts::{Cut, Mixtures, Powered, Tally, sector, whole};
 use sector_disk::{Disk, Memory, SECTOR_BYTES};
 use std::alloc::Global;
 use store::{Store, StoreRefusal};

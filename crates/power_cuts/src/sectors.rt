@@ -3,16 +3,6 @@
 use anyhow::{Result, bail};
 use sector_disk::{Disk, Memory, SECTOR_BYTES};
 
-/// What a sector holds.
-pub(crate) fn sector(disk: &mut Memory, at: u32) -> Result<[u8; SECTOR_BYTES]> {
-    if at >= disk.sectors() {
-        bail!("no sector {at}");
-    }
-    let mut content = [0; SECTOR_BYTES];
-    disk.read(at, &mut content)?;
-    Ok(content)
-}
-
 /// Writes a sector, and syncs.
 pub(crate) fn put_sector(disk: &mut Memory, at: u32, content: &[u8; SECTOR_BYTES]) -> Result<()> {
     if at >= disk.sectors() {

@@ -1,8 +1,8 @@
 // What can be seen of the store on a disk.
 
-use crate::disk::{Powered, whole};
 use crate::state::{Blob, State};
 use anyhow::{Result, bail};
+use cuts::{Powered, whole};
 use sector_disk::{Disk, Memory};
 use std::alloc::Global;
 use store::{Store, StoreRefusal};

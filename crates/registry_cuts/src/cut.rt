@@ -2,10 +2,9 @@
 
 use crate::answer::Answer;
 use crate::change::{Ask, Change};
-use crate::power::Cut;
 use crate::probe::Probe;
-use crate::seen::Powered;
 use anyhow::{Result, bail};
+use cuts::{Cut, Powered};
 use disk_registry::Registry;
 use registry::Refusal;
 use sector_disk::Memory;
@@ -20,9 +19,6 @@ pub(crate) struct Ending {
     pub(crate) behind: Vec<Answer>,
     pub(crate) disk: Powered,
 }
-
-/// How many calls of the disk a format makes: two reads, a sync, the root, a sync.
-pub(crate) const FORMAT_CALLS: u64 = 5;
 
 impl Ending {
     /// Whether all behind the command is answered so.

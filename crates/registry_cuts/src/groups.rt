@@ -1,12 +1,14 @@
 // The groups, each with its line.
 
 use crate::change::Change;
-use crate::life::cut_lives;
+use crate::game::{EXCHANGED_ROUNDS, ROUNDS, play_rounds};
+use crate::lists::{EXCHANGED_LIST, LISTS};
+use crate::lives::{cut_lists, cut_lives};
 use crate::scenario::{
     CHOICES, INSTALLS, Kind, OTHERS, REMOVALS, REPLACEMENTS, cut_commands, cut_formats,
 };
-use crate::tally::Tally;
 use anyhow::Result;
+use cuts::Tally;
 
 // The groups of changes.
 const GROUPS: [(&str, &[Change]); 4] = [
@@ -43,6 +45,27 @@ fn life_group<R: Print + AllocGlobal>(rt: &R, all: &mut Tally) -> Result<()> {
     all.end(rt, &tally)
 }
 
+// The group of lists of commands.
+fn list_group<R: Print + AllocGlobal>(rt: &R, all: &mut Tally) -> Result<()> {
+    let mut tally = Tally::new("lists of commands");
+    cut_lists(rt, &mut tally, &LISTS, false)?;
+    all.end(rt, &tally)
+}
+
+// The group of rounds of commands.
+fn round_group<R: Print + AllocGlobal>(rt: &R, all: &mut Tally) -> Result<()> {
+    let mut tally = Tally::new("rounds");
+    play_rounds(rt, &mut tally, &ROUNDS, false)?;
+    all.end(rt, &tally)
+}
+
+// The groups of many commands.
+fn life_groups<R: Print + AllocGlobal>(rt: &R, all: &mut Tally) -> Result<()> {
+    life_group(rt, all)?;
+    list_group(rt, all)?;
+    round_group(rt, all)
+}
+
 // What is wrong on purpose: old and new are exchanged, and that has to be seen.
 fn wrong_group<R: Print + AllocGlobal>(rt: &R) -> Result<()> {
     let mut tally = Tally::quiet("old and new exchanged, on purpose");
@@ -55,6 +78,27 @@ fn wrong_group<R: Print + AllocGlobal>(rt: &R) -> Result<()> {
     tally.print(rt)
 }
 
+// The same of a list of commands.
+fn wrong_list<R: Print + AllocGlobal>(rt: &R) -> Result<()> {
+    let mut tally = Tally::quiet("a list with old and new exchanged, on purpose");
+    cut_lists(rt, &mut tally, &EXCHANGED_LIST, true)?;
+    tally.print(rt)
+}
+
+// The same of rounds: the second is compared as if it began at the other state.
+fn wrong_rounds<R: Print + AllocGlobal>(rt: &R) -> Result<()> {
+    let mut tally = Tally::quiet("rounds with old and new exchanged, on purpose");
+    play_rounds(rt, &mut tally, &EXCHANGED_ROUNDS, true)?;
+    tally.print(rt)
+}
+
+// All that is wrong on purpose.
+fn wrong_groups<R: Print + AllocGlobal>(rt: &R) -> Result<()> {
+    wrong_group(rt)?;
+    wrong_list(rt)?;
+    wrong_rounds(rt)
+}
+
 /// Runs all groups.
 pub(crate) fn run<R: Print + AllocGlobal>(rt: &R) -> Result<()> {
     let mut all = Tally::new("total");
@@ -63,7 +107,7 @@ pub(crate) fn run<R: Print + AllocGlobal>(rt: &R) -> Result<()> {
         cut_group(rt, &mut all, group, true, changes)?;
     }
     cut_group(rt, &mut all, "refused and read", false, &OTHERS)?;
-    life_group(rt, &mut all)?;
+    life_groups(rt, &mut all)?;
     all.print(rt)?;
-    wrong_group(rt)
+    wrong_groups(rt)
 }

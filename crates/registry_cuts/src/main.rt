@@ -5,17 +5,17 @@
 mod answer;
 mod change;
 mod cut;
+mod game;
 mod groups;
 mod life;
-mod mixture;
+mod lists;
+mod lives;
 mod opening;
-mod power;
 mod probe;
+mod rounds;
 mod scenario;
 mod seen;
 mod step;
-mod table;
-mod tally;
 mod trial;
 
 use anyhow::Result;

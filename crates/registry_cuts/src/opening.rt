@@ -1,14 +1,11 @@
 // Disks that a cut has left: opened as they are, after each stop, and with an opening that is cut.
 
-use crate::mixture::Mixtures;
-use crate::power::Cut;
 use crate::probe::Probe;
 use crate::seen::{Seen, look, look_behind};
-use crate::table::{Wanted, Which};
-use crate::tally::Tally;
 use anyhow::Result;
+use cuts::{Cut, Mixtures, Powered, Tally, Wanted, Which};
 use disk_registry::Registry;
-use sector_disk::{Fuse, Memory};
+use sector_disk::Memory;
 use store::StoreRefusal;
 
 /// What stands before a change and after it, and what is asked to see it.
@@ -20,14 +17,6 @@ pub(crate) struct Sides<'a> {
 }
 
 impl Sides<'_> {
-    fn allow(&self, which: Which, seen: &Seen) -> bool {
-        match which {
-            Which::Old => *seen == *self.old,
-            Which::New => *seen == *self.new,
-            Which::Either => *seen == *self.old || *seen == *self.new,
-        }
-    }
-
     /// What a disk shows that is opened again at once.
     pub(crate) fn reopened(&self, wanted: Wanted) -> &Seen {
         match wanted.reopened {
@@ -51,9 +40,10 @@ pub(crate) fn open_mixtures<R: Print + AllocGlobal>(
     let mut new = false;
     for _ in 0..mixtures.count()? {
         let left = look(rt.alloc(), mixtures.next(disk)?, sides.probe)?;
-        old = old || left == *sides.old;
-        new = new || left == *sides.new;
-        tally.count(rt, sides.allow(which, &left), &cut, "a mixture")?;
+        let (is_old, is_new) = (left == *sides.old, left == *sides.new);
+        old = old || is_old;
+        new = new || is_new;
+        tally.count(rt, which.allows(is_old, is_new), &cut, "a mixture")?;
     }
     // Both are seen where both may stand.
     if which == Which::Either && !(old && new) {
@@ -68,7 +58,7 @@ fn cut_open<R: Print + AllocGlobal>(
     tally: &mut Tally,
     disk: &Memory,
     cut: Cut,
-) -> Result<Fuse<Memory>> {
+) -> Result<Powered> {
     let (is_cut, disk) = match Registry::open(rt.alloc(), cut.of(disk.copy()?)) {
         Ok(registry) => (false, registry.into_disk()),
         Err((refusal, disk)) => (refusal == StoreRefusal::Device, disk),
@@ -92,13 +82,7 @@ fn cut_opening<R: Print + AllocGlobal>(
         let right = again == *sides.reopened(wanted);
         return tally.count(rt, right, &cut, "opened again on the same disk");
     }
-    // The first call is the sync: once it reached the disk, no stop leaves another state.
-    let synced = cut.call > 1 || cut.late;
-    let which = if synced {
-        wanted.reopened
-    } else {
-        wanted.stopped
-    };
+    let which = wanted.after_opening(cut);
     open_mixtures(rt, tally, &left.into_inner(), cut, sides, which)
 }
 
@@ -110,18 +94,31 @@ pub(crate) fn cut_openings<R: Print + AllocGlobal>(
     sides: Sides<'_>,
     wanted: Wanted,
 ) -> Result<()> {
-    for call in 1..=sides.reopened(wanted).opening_calls() {
-        for late in [false, true] {
-            for forever in [false, true] {
-                let cut = Cut {
-                    opening: 0,
-                    call,
-                    late,
-                    forever,
-                };
-                cut_opening(rt, tally, disk, cut, sides, wanted)?;
-            }
-        }
+    let calls = sides.reopened(wanted).opening_calls();
+    for cut in &Cut::all(rt.alloc(), 0, calls)? {
+        cut_opening(rt, tally, disk, *cut, sides, wanted)?;
+    }
+    Ok(())
+}
+
+/// Cuts each call of an opening of all that a stop of the disk may leave: the same stands
+/// afterwards.
+pub(crate) fn cut_stopped<R: Print + AllocGlobal>(
+    rt: &R,
+    tally: &mut Tally,
+    disk: &Memory,
+    sides: Sides<'_>,
+) -> Result<()> {
+    let mut mixtures = Mixtures::of(rt.alloc(), disk)?;
+    for _ in 0..mixtures.count()? {
+        let left = mixtures.next(disk)?;
+        let is_old = look(rt.alloc(), left.copy()?, sides.probe)? == *sides.old;
+        let stands = if is_old { Which::Old } else { Which::New };
+        let wanted = Wanted {
+            reopened: stands,
+            stopped: stands,
+        };
+        cut_openings(rt, tally, &left, sides, wanted)?;
     }
     Ok(())
 }

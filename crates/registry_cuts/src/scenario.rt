@@ -2,11 +2,11 @@
 
 use crate::change::{Ask, Change, SIZE};
 use crate::probe::Probe;
-use crate::seen::{Powered, Seen, look_plain, whole};
+use crate::seen::{Seen, look_plain};
 use crate::step::{Step, plain_after};
-use crate::tally::Tally;
 use crate::trial::{States, Trial};
 use anyhow::{Result, bail};
+use cuts::{Powered, Tally, whole};
 use disk_registry::Registry;
 use plain_registry::PlainRegistry;
 use registry::Reply;
@@ -21,7 +21,7 @@ pub(crate) const A: &[u8] = b"a";
 
 pub(crate) const B: &[u8] = b"b";
 
-const C: &[u8] = b"c";
+pub(crate) const C: &[u8] = b"c";
 
 const D: &[u8] = b"d";
 

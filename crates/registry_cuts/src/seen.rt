@@ -3,25 +3,18 @@
 use crate::answer::Answer;
 use crate::probe::Probe;
 use anyhow::Result;
+use cuts::{Powered, whole};
 use disk_registry::Registry;
 use plain_registry::PlainRegistry;
-use sector_disk::{Fuse, Memory};
+use sector_disk::Memory;
 use std::alloc::Global;
 use store::StoreRefusal;
-
-/// A disk in memory whose power can be cut.
-pub(crate) type Powered = Fuse<Memory>;
 
 /// What the registry on a disk lists and binds, or why there is none.
 #[derive(Drop, PartialEq)]
 pub(crate) enum Seen {
     Stands(Vec<Answer>),
     Refused(StoreRefusal),
-}
-
-/// This disk, and no call of it fails.
-pub(crate) fn whole(disk: Memory) -> Powered {
-    Fuse::new(disk, 0, false, false)
 }
 
 /// Opens a disk, as it stands behind its fuse, and asks.

@@ -1,14 +1,12 @@
 // A command, cut at each of its calls of the disk.
 
-use crate::cut::{Ending, FORMAT_CALLS, cut_command, cut_format};
+use crate::cut::{Ending, cut_command, cut_format};
 use crate::opening::{Sides, cut_openings, open_left};
-use crate::power::Cut;
 use crate::probe::Probe;
 use crate::seen::{Seen, look_behind};
 use crate::step::Step;
-use crate::table::{Wanted, by_table};
-use crate::tally::Tally;
 use anyhow::Result;
+use cuts::{Cut, FORMAT_CALLS, Tally, Wanted, by_table};
 use registry::Refusal;
 use sector_disk::Memory;
 use std::alloc::Global;
@@ -123,22 +121,13 @@ impl Trial {
         tally: &mut Tally,
         wrong: bool,
     ) -> Result<()> {
-        for call in 1..=self.calls().saturating_add(1) {
-            for late in [false, true] {
-                let table = by_table(call, self.calls(), late);
-                let wanted = if wrong { table.exchanged() } else { table };
-                for forever in [false, true] {
-                    let cut = Cut {
-                        opening: self.opening(),
-                        call,
-                        late,
-                        forever,
-                    };
-                    self.cut(rt, tally, cut, wanted)?;
-                    if !forever && call <= self.calls() {
-                        self.go_on(rt, tally, cut, wanted)?;
-                    }
-                }
+        let calls = self.calls();
+        for cut in &Cut::all(rt.alloc(), self.opening(), calls.saturating_add(1))? {
+            let table = by_table(cut.call, calls, cut.late);
+            let wanted = if wrong { table.exchanged() } else { table };
+            self.cut(rt, tally, *cut, wanted)?;
+            if !cut.forever && cut.call <= calls {
+                self.go_on(rt, tally, *cut, wanted)?;
             }
         }
         Ok(())

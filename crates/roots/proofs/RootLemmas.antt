@@ -1,11 +1,10 @@
 -- For callers: the root that lists some entries and preloads, and when it has a spelling.
-use Rattle.std.proofs.Common.{◌≡◌, ℕ, ◌-◌, ◌<◌, ◌≤◌, List, length, refl, sym, subst}
+use Rattle.std.proofs.Common.{◌≡◌, ℕ, ◌-◌, ◌<◌, List, length, refl, sym, subst}
 use Rattle.std.proofs.lemmas.List.{take_at}
-use Rattle.extents.specs.Limits.{root_sectors}
 use Rattle.extents.specs.Extent.{AreDistinct}
 use Rattle.roots.specs.Limits.{most_libraries, most_preloads}
 use Rattle.roots.specs.Fields.{zeros}
-use Rattle.roots.proofs.Placed.{uses_first}
+use Rattle.roots.proofs.Placed.{uses_first, lists_sectors}
 use Rattle.roots.specs.Root.{root_of_lists, listed_sectors, listed_preloads, ListsFit, RootHasSpelling}
 
 -- it lists what it was made of,
@@ -24,8 +23,5 @@ root_of_lists-has_spelling generation sectors entries preloads fit = record {
     listed = uses_first most_preloads preloads 0 (λ position. position < length entries) fit.few_preloads fit.preloads_inside;
     distinct = subst AreDistinct (sym (listed_preloads-root_of_lists generation sectors entries preloads)) fit.preloads_distinct;
   };
-  entry_sectors = record {
-    listed = uses_first most_libraries entries 0 (λ sector. (root_sectors ≤ sector) × (sector < sectors)) fit.few_entries fit.entries_inside;
-    distinct = subst AreDistinct (sym (listed_sectors-root_of_lists generation sectors entries preloads)) fit.entries_distinct;
-  };
+  entry_sectors = lists_sectors most_libraries sectors entries fit.few_entries fit.entries_inside fit.entries_distinct;
 }

@@ -1,21 +1,16 @@
 -- The fields of a root's spelling are the root's, so no two roots share one.
-use Rattle.std.proofs.Common.{◌≡◌, ℕ, ◌<◌, ◌≤◌, ◌^◌, List, ◌++◌, length, take, refl, ap, sym, subst, ◌∙◌, append_assoc, arith, length-append}
+use Rattle.std.proofs.Common.{◌≡◌, ℕ, ◌<◌, ◌^◌, List, ◌++◌, length, take, refl, ap, sym, subst, ◌∙◌, append_assoc, arith, length-append}
 use Rattle.std.specs.Int.{w16, w32, w64, to_le_bytes, from_le_bytes}
 use Rattle.std.proofs.lemmas.Nat.{from_le_bytes-to_le_bytes_2, from_le_bytes-to_le_bytes_4, from_le_bytes-to_le_bytes_8}
 use Rattle.std.specs.Prelude.{codes}
 use Rattle.roots.specs.declared.entry_list.EntryList.{EntryList}
 use Rattle.roots.specs.declared.entry_list.EntryList.TheVariants.{InRoot}
 use Rattle.roots.specs.declared.root.Root.{Root}
-use Rattle.roots.specs.Fields.{zeros, numbers, UsesFirst}
+use Rattle.roots.specs.Fields.{zeros, numbers, ListsSectors}
 use Rattle.roots.specs.Root.{magic_of, list_bytes, entry_places, root_bytes, HasMagic, RootHasSpelling, SpellsRoot}
 use Rattle.roots.specs.inside.Reading.{number_at, values_at, root_of}
-use Rattle.roots.proofs.Pieces.{IsReadAgain, length-pieces, values_at-pieces, All-uses_first}
-
-numbers16 : IsReadAgain (from_le_bytes w16) (to_le_bytes w16) 2 (λ n. n < 2 ^ 16)
-numbers16 = record { len = λ n. refl; again = λ n rest below. from_le_bytes-to_le_bytes_2 n below }
-
-numbers32 : IsReadAgain (from_le_bytes w32) (to_le_bytes w32) 4 (λ n. n < 2 ^ 32)
-numbers32 = record { len = λ n. refl; again = λ n rest below. from_le_bytes-to_le_bytes_4 n below }
+use Rattle.roots.proofs.Numbers.{numbers16, sectors_again}
+use Rattle.roots.proofs.Pieces.{length-pieces, values_at-pieces, All-uses_first}
 
 -- the fields before the preloads
 abbrev pub head : Root → List ℕ
@@ -48,15 +43,13 @@ list_again : (root : Root) (sectors : List ℕ) → root.list ≡ InRoot sectors
 unfolding root_bytes
 list_again root sectors is fits =
     let front = head root ++ numbers w16 root.preloads in
-    let listed : UsesFirst 100 root.library_count (λ sector. (2 ≤ sector) × (sector < root.sectors)) 0 sectors = subst (λ l. UsesFirst 100 root.library_count (λ sector. (2 ≤ sector) × (sector < root.sectors)) 0 (entry_places l)) is fits.entry_sectors.listed in
+    let listed : ListsSectors 100 root.library_count root.sectors sectors = subst (λ l. ListsSectors 100 root.library_count root.sectors (entry_places l)) is fits.entry_sectors in
     let front_len : length (front ++ zeros 8) ≡ 64 =
     omega (arith, length-append front (zeros 8), length-append (head root) (numbers w16 root.preloads), head_len root, length-pieces (to_le_bytes w16) 2 numbers16.len root.preloads, fits.preloads.listed.size) in
-    let small = All-uses_first 100 root.library_count (λ sector. (2 ≤ sector) × (sector < root.sectors)) (λ n. n < 2 ^ 32) 0 sectors listed
-    (λ n inside. omega (arith, fits.sectors, inside)) (omega arith) in
     let regrouped : front ++ list_bytes root.list ≡ front ++ zeros 8 ++ numbers w32 sectors ++ zeros 48 =
     ap (λ l. front ++ list_bytes l) is ∙ sym (append_assoc front (zeros 8 ++ numbers w32 sectors) (zeros 48)) ∙ ap (λ xs. xs ++ zeros 48) (sym (append_assoc front (zeros 8) (numbers w32 sectors))) in
     ap (values_at (from_le_bytes w32) 4 100 64) regrouped
-    ∙ values_at-pieces (from_le_bytes w32) (to_le_bytes w32) 4 (λ n. n < 2 ^ 32) numbers32 (front ++ zeros 8) sectors (zeros 48) 100 64 0 front_len listed.size small
+    ∙ sectors_again (front ++ zeros 8) sectors (zeros 48) 100 root.library_count root.sectors 64 front_len (omega (arith, fits.sectors)) listed
 
 same_root : (root : Root) (generation sectors library_count preload_count : ℕ) (preloads : List ℕ) (list : EntryList)
     → generation ≡ root.generation → sectors ≡ root.sectors → library_count ≡ root.library_count → preload_count ≡ root.preload_count → preloads ≡ root.preloads → list ≡ root.list

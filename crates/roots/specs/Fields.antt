@@ -1,7 +1,9 @@
 -- What sectors are made of: numbers, zeros, and lists in a fixed number of places.
-use Rattle.std.specs.Prelude.{◌≡◌, ℕ, ◌≤◌, List, length, take, drop, replicate, All}
+use Rattle.std.specs.Prelude.{◌≡◌, ℕ, ◌<◌, ◌≤◌, List, length, take, drop, replicate, All}
 use Rattle.std.specs.List.{flat_map}
 use Rattle.std.specs.Int.{Width, to_le_bytes}
+use Rattle.extents.specs.Limits.{root_sectors}
+use Rattle.extents.specs.Extent.{AreDistinct}
 
 -- so many zero bytes
 abbrev pub zeros : ℕ → List ℕ
@@ -17,3 +19,8 @@ pub record UsesFirst {A : Type 0} (places count : ℕ) (Fits : A → Type 0) (un
   pub room : count ≤ places
   pub used : All Fits (take count values)
   pub rest : All (λ value. value ≡ unused) (drop count values)
+
+-- A list of sectors, `count` of them in so many places: they lie behind the root sectors and before `end`, and none stands twice.
+pub record ListsSectors (places count end : ℕ) (sectors : List ℕ) : Type 0 where
+  pub listed : UsesFirst places count (λ sector. (root_sectors ≤ sector) × (sector < end)) 0 sectors
+  pub distinct : AreDistinct (take count sectors)

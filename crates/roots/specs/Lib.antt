@@ -3,5 +3,6 @@ pub mod Fields
 pub mod Root
 pub mod Slot
 pub mod Choice
+pub mod Catalogue
 pub mod Entry
 pub mod inside

@@ -1,4 +1,4 @@
--- The limits of what root and entry sectors say, beside those that free sectors have too.
+-- The limits of what root, catalogue and entry sectors say, beside those that free sectors have too.
 use Rattle.std.specs.Prelude.{ℕ}
 
 -- the least sectors that a disk has
@@ -12,6 +12,10 @@ most_libraries = 100
 -- the most preloads that a root lists
 abbrev pub most_preloads : ℕ
 most_preloads = 16
+
+-- the most entries that a catalogue lists
+abbrev pub most_catalogue_entries : ℕ
+most_catalogue_entries = 64
 
 -- the least and the most bytes of a file
 abbrev pub least_file_bytes : ℕ

@@ -7,7 +7,7 @@ use Rattle.roots.specs.declared.entry_list.EntryList.{EntryList}
 use Rattle.roots.specs.declared.entry_list.EntryList.TheVariants.{InRoot}
 use Rattle.roots.specs.declared.root.Root.{Root}
 use Rattle.roots.specs.Limits.{least_sectors, most_libraries, most_preloads}
-use Rattle.roots.specs.Fields.{zeros, numbers, UsesFirst}
+use Rattle.roots.specs.Fields.{zeros, numbers, UsesFirst, ListsSectors}
 
 -- how the root sectors of version 1 begin
 abbrev pub magic_1 : List ℕ
@@ -56,10 +56,9 @@ pub record PreloadsFit (root : Root) : Type 0 where
   pub listed : UsesFirst most_preloads root.preload_count (λ position. position < root.library_count) 0 root.preloads
   pub distinct : AreDistinct (take root.preload_count root.preloads)
 
--- places for the libraries' entry sectors, which lie behind the root sectors
-pub record EntrySectorsFit (root : Root) : Type 0 where
-  pub listed : UsesFirst most_libraries root.library_count (λ sector. (root_sectors ≤ sector) × (sector < root.sectors)) 0 (entry_places root.list)
-  pub distinct : AreDistinct (take root.library_count (entry_places root.list))
+-- places for the libraries' entry sectors, which lie on the disk
+abbrev pub EntrySectorsFit : Root → Type 0
+EntrySectorsFit root = ListsSectors most_libraries root.library_count root.sectors (entry_places root.list)
 
 -- The limits of the fields: a root has a spelling exactly where it keeps to them.
 pub record RootHasSpelling (root : Root) : Type 0 where

@@ -1,4 +1,4 @@
-//! The two root sectors and the entry sectors of a registry's disk.
+//! The two root sectors, the entry sectors and the catalogue sectors of a registry's disk.
 //!
 //! After a stop two sectors decide which registry stands: `choose` picks its root. The root lists
 //! the sectors of the entries, and each entry has a library's name, its file's length, and the
@@ -6,6 +6,8 @@
 //! where it is the spelling of a value. No call takes memory.
 #![tactic(auto)]
 
+mod catalogue;
+mod catalogue_sector;
 mod choice;
 mod entry;
 mod entry_list;
@@ -18,13 +20,15 @@ mod root_sector;
 mod slot;
 mod writer;
 
+pub use catalogue::Catalogue;
+pub use catalogue_sector::{decode_catalogue, encode_catalogue};
 pub use choice::{ChooseRefusal, choose, slot_of};
 pub use entry::Entry;
 pub use entry_list::EntryList;
 pub use entry_sector::{decode_entry, encode_entry};
 pub use limits::{
-    LEAST_FILE_BYTES, LEAST_SECTORS, MOST_FILE_BYTES, MOST_LIBRARIES, MOST_NAME_BYTES,
-    MOST_PRELOADS,
+    LEAST_FILE_BYTES, LEAST_SECTORS, MOST_CATALOGUE_ENTRIES, MOST_FILE_BYTES, MOST_LIBRARIES,
+    MOST_NAME_BYTES, MOST_PRELOADS,
 };
 pub use root::Root;
 pub use root_sector::{decode_root, encode_root};

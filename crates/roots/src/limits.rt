@@ -7,6 +7,9 @@ pub const MOST_LIBRARIES: usize = 100;
 /// The most preloads that a root lists.
 pub const MOST_PRELOADS: usize = 16;
 
+/// The most entries that a catalogue lists.
+pub const MOST_CATALOGUE_ENTRIES: usize = 64;
+
 /// The least bytes of a file.
 pub const LEAST_FILE_BYTES: u32 = 64;
 

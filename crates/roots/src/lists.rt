@@ -1,5 +1,8 @@
 ghost use Rattle.std.specs.Prelude.{◌≡◌, ◌↔◌, ◌-◌, ◌≤◌, ◌++◌, IsTrue, AllPairs, false};
 ghost use Rattle.std.specs.Prelude.{length, replicate};
+ghost use Rattle.roots.specs.Fields.{ListsSectors};
+
+use extents::ROOT_SECTORS;
 
 /// Whether no value stands twice. The number of steps grows as the square of the list's length.
 pub(crate) fn are_distinct<T: PartialEq>(values: &[T]) -> bool
@@ -21,4 +24,20 @@ pub(crate) fn placed<T: Copy, const N: usize>(values: &[T], unused: T) -> [T; N]
     let mut places = [unused; N];
     places[..values.len()].copy_from_slice(values);
     places
+}
+
+/// Whether the first `count` places hold sectors behind the roots and before `end`, each once, and
+/// the others zero.
+pub(crate) fn lists_sectors(places: &[u32], count: u16, end: u32) -> bool
+    ensures { IsTrue result ↔ ListsSectors (length places.now) count end places.now }
+{
+    let count = usize::from(count);
+    if count > places.len() {
+        return false;
+    }
+    let (used, rest) = places.split_at(count);
+    used.iter()
+        .all(|sector| ROOT_SECTORS <= *sector && *sector < end)
+        && are_distinct(used)
+        && rest.iter().all(|sector| *sector == 0)
 }

@@ -2,13 +2,13 @@
 
 ghost use Rattle.std.specs.Prelude.{◌≡◌, ◌≤◌, ◌↔◌, IsTrue, length};
 ghost use Rattle.roots.specs.Limits.{most_libraries, most_preloads};
-ghost use Rattle.roots.specs.Root.{RootHasSpelling, PreloadsFit, EntrySectorsFit};
+ghost use Rattle.roots.specs.Root.{RootHasSpelling, PreloadsFit};
 ghost use Rattle.roots.specs.Root.{root_of_lists, listed_sectors, listed_preloads};
 
 use crate::entry_list::EntryList;
-use crate::limits::{LEAST_SECTORS, MOST_LIBRARIES, MOST_PRELOADS};
-use crate::lists::{are_distinct, placed};
-use extents::{MOST_SECTORS, ROOT_SECTORS};
+use crate::limits::{LEAST_SECTORS, MOST_PRELOADS};
+use crate::lists::{are_distinct, lists_sectors, placed};
+use extents::MOST_SECTORS;
 
 /// The root of a registry, as one of the two root sectors has it. In a spelling the places past a
 /// count are zero.
@@ -73,7 +73,7 @@ impl Root {
         let _generation = self.generation;
         (LEAST_SECTORS..=MOST_SECTORS).contains(&self.sectors)
             && self.preloads_fit()
-            && self.entry_sectors_fit()
+            && lists_sectors(self.list.places(), self.library_count, self.sectors)
     }
 
     fn preloads_fit(&self) -> bool
@@ -87,20 +87,5 @@ impl Root {
         used.iter().all(|position| *position < self.library_count)
             && are_distinct(used)
             && rest.iter().all(|position| *position == 0)
-    }
-
-    fn entry_sectors_fit(&self) -> bool
-        ensures { IsTrue result ↔ EntrySectorsFit self.now }
-    {
-        let count = usize::from(self.library_count);
-        if count > MOST_LIBRARIES {
-            return false;
-        }
-        let places = self.list.places();
-        let (used, rest) = places.split_at(count);
-        used.iter()
-            .all(|sector| ROOT_SECTORS <= *sector && *sector < self.sectors)
-            && are_distinct(used)
-            && rest.iter().all(|sector| *sector == 0)
     }
 }

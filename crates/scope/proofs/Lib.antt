@@ -7,8 +7,5 @@ pub mod Missing
 pub mod Queueing
 pub mod DistinctLevels
 pub mod LevelsLemmas
-pub mod RenumberedLevels
 pub mod LoadOrderLemmas
-pub mod EnoughLemmas
-pub mod ReadLemmas
 pub mod LookupLemmas

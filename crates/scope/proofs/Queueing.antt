@@ -1,5 +1,5 @@
 -- The levels joined, and the first name that isn't installed, from a walk of the queue.
-use Rattle.std.proofs.Common.{◌≡◌, ℕ, ◌+◌, ◌<◌, ◌≤◌, List, [], ◌∷◌, ◌++◌, length, map, take, get_or, Option, Some, None, refl, sym, ap, ◌∙◌, arith, append-nil}
+use Rattle.std.proofs.Common.{◌≡◌, ℕ, ◌+◌, ◌<◌, ◌≤◌, List, [], ◌∷◌, ◌++◌, length, map, take, drop, get_or, Option, Some, None, refl, sym, ap, ◌∙◌, arith, append-nil}
 use Rattle.std.specs.Prelude.{slice_get}
 use Rattle.std.specs.Option.{option_map, option_or}
 use Rattle.std.specs.List.{find, flat_map}
@@ -14,8 +14,9 @@ use Rattle.scope.specs.Refusal.{IsRefusal}
 use Rattle.scope.specs.declared.refusal.OrderRefusal.{OrderRefusal}
 use Rattle.scope.specs.declared.refusal.OrderRefusal.TheVariants.{Missing, OutOfMemory}
 use Rattle.scope.specs.inside.Growing.{grown}
+use Rattle.scope.specs.inside.Reached.{Reached}
 use Rattle.scope.proofs.Growing.{grown-take}
-use Rattle.scope.proofs.Reaching.{Reached, reached-at, reached-next, reached-end, at-begins}
+use Rattle.scope.proofs.Reaching.{reached-at, reached-next, reached-end, at-begins}
 
 module _ (program : List ℕ) (libraries : List Named) (preloads : List ℕ) where
   -- what the objects at some places need, with their names
@@ -88,6 +89,16 @@ module _ (program : List ℕ) (libraries : List Named) (preloads : List ℕ) whe
   missing-end places i r inside outside clear =
       let e : length places ≡ i = omega (arith, inside, outside) in
       ap (λ l. first_missing (listed l)) (places-end places i r outside ∙ sym (take-length places) ∙ ap (λ k. take k places) e) ∙ clear
+
+  -- the load order behind the program
+  pub order-behind : drop 1 (load_order program libraries preloads) ≡ map (object_at (available program libraries)) (drop 1 (load_places program libraries preloads))
+  unfolding load_order load_places joined_levels levels
+  order-behind = refl
+
+  -- the whole of it
+  pub order-whole : load_order program libraries preloads ≡ available program (drop 1 (load_order program libraries preloads))
+  unfolding load_order load_places joined_levels levels
+  order-whole = refl
 
   -- the program comes first
   pub program-first : option_map (λ (o : Named). o.name) (slice_get (load_order program libraries preloads) 0) ≡ Some program_name

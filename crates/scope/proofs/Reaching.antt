@@ -6,6 +6,7 @@ use Rattle.std.proofs.lemmas.List.{take-append-drop, drop-drop, length-drop, get
 use Rattle.std.proofs.lemmas.Grind.{flat_map-append}
 use Rattle.scope.specs.Levels.{next_level, levels_after, levels, joined_levels}
 use Rattle.scope.specs.inside.Growing.{grown}
+use Rattle.scope.specs.inside.Reached as inside
 use Rattle.scope.proofs.Growing.{grown_is, grown-nil, grown-append, grown-take}
 
 -- the first of what is left behind a front
@@ -23,17 +24,8 @@ no_more needs (suc t) earlier level none =
     ap (λ l. l ++ concat (levels_after needs t (earlier ++ l) l)) none ∙ no_more needs t (earlier ++ []) [] refl
 
 module _ (needs : ℕ → List ℕ) (n : ℕ) (first : List ℕ) where
-  -- The objects before i have been walked. `earlier` has the levels up to one whose objects before i are `walked`.
-  pub record Reached (places : List ℕ) (i : ℕ) : Type 0 where
-    pub earlier : List ℕ
-    pub walked : List ℕ
-    pub left : List ℕ
-    pub turns : ℕ
-    pub whole : joined_levels needs n first ≡ earlier ++ concat (levels_after needs turns earlier (walked ++ left))
-    pub is : places ≡ grown earlier (flat_map needs walked)
-    pub from : drop i earlier ≡ left
-    pub index : i + length left ≡ length earlier
-    pub room : n < length earlier + turns
+  abbrev Reached : List ℕ → ℕ → Type 0
+  Reached places i = inside.Reached needs n first places i
 
   -- the same where the object number i is x
   pub record At (places : List ℕ) (i x : ℕ) : Type 0 where

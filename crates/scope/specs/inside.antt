@@ -1,3 +1,4 @@
 -- What the code keeps to be fast: nothing here has to be believed.
 pub mod Growing
 pub mod Places
+pub mod Reached

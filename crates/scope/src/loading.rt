@@ -13,13 +13,10 @@ use crate::level::first_level;
 use crate::library::Library;
 use crate::loaded::LoadedObject;
 use crate::needs::add_needed;
-use crate::order::Order;
+use crate::order::{Order, program_name};
 use crate::refusal::OrderRefusal;
 use hash_check::Admitted;
 use std::alloc::{AllocError, Global};
-
-/// The name that a program goes by, which no file spells as its own.
-const PROGRAM_NAME: &[u8] = b"/program";
 
 /// The object at a place: the program at 0, then the libraries.
 fn object_at<'a>(
@@ -32,7 +29,7 @@ fn object_at<'a>(
     ensures taken { IsTaken result.file }
 {
     if place == 0 {
-        LoadedObject::new(PROGRAM_NAME, program)
+        LoadedObject::new(program_name(), program)
     } else {
         let library = &libraries[place - 1];
         LoadedObject::new(library.name(), library.object())

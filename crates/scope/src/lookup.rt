@@ -1,9 +1,10 @@
 // The search for a name among objects.
 
-ghost use Rattle.std.specs.Prelude.{◌≡◌, ◌<◌, length, map};
+ghost use Rattle.std.specs.Prelude.{◌≡◌, ◌-◌, ◌<◌, ◌≤◌, length, map};
+ghost use Rattle.std.specs.List.{range_with_len};
 ghost use Rattle.elf_file.specs.FirstOf.{first_of};
 ghost use Rattle.hash_check.specs.Hash.{elf_hash};
-ghost use Rattle.scope.specs.Lookup.{all_places, definition_at, lookup};
+ghost use Rattle.scope.specs.Lookup.{definition_at, lookup};
 
 use crate::order::Order;
 use crate::target::Target;
@@ -24,12 +25,21 @@ fn definition_at(order: &Order<'_>, place: usize, name: &[u8], hash: u32) -> Opt
     }
 }
 
-/// The first definition of a name of this hash in load order, weak or not.
-fn first_definition(order: &Order<'_>, name: &[u8], hash: u32) -> Option<Target>
-    requires { hash ≡ elf_hash name.now }
-    ensures { result ≡ first_of (map (definition_at order.now name.now) (all_places order.now)) }
+/// The first definition of a name of this hash at the places `first` to `end - 1`, weak or not.
+fn first_definition(
+    order: &Order<'_>,
+    first: usize,
+    end: usize,
+    name: &[u8],
+    hash: u32,
+) -> Option<Target>
+    requires places { first ≤ end }
+    requires inside { end ≤ length order.now }
+    requires hash { hash ≡ elf_hash name.now }
+    ensures { result ≡ first_of
+        (map (definition_at order.now name.now) (range_with_len first (end - first))) }
 {
-    for place in 0..order.count() {
+    for place in first..end {
         if let Some(found) = definition_at(order, place, name, hash) {
             return Some(found);
         }
@@ -46,10 +56,11 @@ pub(crate) fn lookup(order: &Order<'_>, object: usize, name: &[u8]) -> Option<Ta
     ensures { result ≡ lookup order.now object name.now }
 {
     let hash = elf_hash(name);
+    let count = order.count();
     if order.is_symbolic(object) {
-        if let Some(own) = definition_at(order, object, name, hash) {
+        if let Some(own) = first_definition(order, object, object + 1, name, hash) {
             return Some(own);
         }
     }
-    first_definition(order, name, hash)
+    first_definition(order, 0, count, name, hash)
 }

@@ -1,12 +1,25 @@
 // Objects in load order.
 
-ghost use Rattle.std.specs.Prelude.{◌≡◌, ◌<◌, length};
+ghost use Rattle.std.specs.Prelude.{◌≡◌, ◌<◌, length, IfOk};
 ghost use Rattle.elf_file.specs.Dynamic.{is_symbolic};
-ghost use Rattle.scope.specs.Objects.{IsOrder, name_at, file_at};
+ghost use Rattle.scope.specs.LoadOrder.{available};
+ghost use Rattle.scope.specs.Objects.{IsOrder, name_at, file_at, program_name};
 
+use crate::library::Library;
 use crate::loaded::LoadedObject;
 use hash_check::Admitted;
+use std::alloc::{AllocError, Global};
 use std::marker::Model;
+
+/// The name that a program goes by, which no file spells as its own.
+const PROGRAM_NAME: &[u8] = b"/program";
+
+/// The name that a program goes by, which no file spells as its own.
+pub fn program_name<'a>() -> &'a [u8]
+    ensures { result.now ≡ program_name }
+{
+    PROGRAM_NAME
+}
 
 /// A program and the libraries that are bound with it, in load order: the program is the first and
 /// goes by the name `/program`. Contracts see the names and the files' bytes.
@@ -33,6 +46,24 @@ impl<'a> Order<'a> {
         ensures { result ≡ objects.entry.items }
     {
         Order { objects }
+    }
+
+    /// The order of a program and of libraries that are in load order already, for callers that
+    /// have found it themselves. It takes some 30 bytes a library.
+    pub fn of(
+        alloc: Global,
+        program: &'a Admitted<'a>,
+        libraries: &'a [Library<'a>],
+    ) -> Result<Order<'a>, AllocError>
+        // The program, then these.
+        ensures { IfOk result (λ order. order ≡ available program.now libraries.now) }
+    {
+        let mut objects = Vec::with_capacity(alloc, libraries.len() + 1)?;
+        objects.push(LoadedObject::new(program_name(), program))?;
+        for library in libraries {
+            objects.push(LoadedObject::new(library.name(), library.object()))?;
+        }
+        Ok(Order::new(objects))
     }
 
     /// How many objects there are.

@@ -1,9 +1,9 @@
 // Why there is no load order.
 
-ghost use Rattle.std.specs.Prelude.{◌≡◌, Some, IfOk};
+ghost use Rattle.std.specs.Prelude.{Some};
 ghost use Rattle.scope.specs.Refusal.{IsRefusal};
-ghost use Rattle.scope.specs.declared.refusal.OrderRefusal.TheVariants.{Missing};
 
+use crate::needed_name::NeededName;
 use names::Name;
 use std::alloc::{AllocError, Global};
 
@@ -32,23 +32,13 @@ impl From<AllocError> for OrderRefusal {
     }
 }
 
-/// `Missing` with names of its own.
-fn named_missing(alloc: Global, needer: &[u8], name: &[u8]) -> Result<OrderRefusal, AllocError>
-    ensures { IfOk result (λ e. e ≡ Missing needer.now name.now) }
-{
-    Ok(OrderRefusal::Missing {
-        needer: Name::copy_of(alloc, needer)?,
-        name: Name::copy_of(alloc, name)?,
-    })
-}
-
 impl OrderRefusal {
     /// `Missing` with copies of the names, or `OutOfMemory` where they aren't copied.
     pub(crate) fn missing(alloc: Global, needer: &[u8], name: &[u8]) -> OrderRefusal
         ensures { IsRefusal (Some (record { needer = needer.now; name = name.now })) result }
     {
-        match named_missing(alloc, needer, name) {
-            Ok(refusal) => refusal,
+        match NeededName::copy_of(alloc, needer, name) {
+            Ok(NeededName { needer, name }) => OrderRefusal::Missing { needer, name },
             Err(_) => OrderRefusal::OutOfMemory,
         }
     }

@@ -3,47 +3,25 @@
 ghost use Rattle.std.specs.Prelude.{◌≡◌, ◌<◌, length, Some, None, MatchResult};
 ghost use Rattle.elf_dynamic.specs.Symbol.{symbols};
 ghost use Rattle.scope.specs.Objects.{file_at};
-ghost use Rattle.scope.specs.Target.{target, is_own, is_withheld, is_weak};
+ghost use Rattle.scope.specs.Target.{target, is_own, is_withheld};
 
 use crate::lookup::lookup;
 use crate::order::Order;
 use crate::target::{Target, Undefined};
 use elf_dynamic::Symbol;
 
-/// Of the object alone.
-const STB_LOCAL: u8 = 0;
-/// Of all objects, and may be undefined.
-const STB_WEAK: u8 = 2;
-/// Other objects see it and may replace it.
-const STV_DEFAULT: u8 = 0;
-/// Other objects don't see it, and don't get it either.
-const STV_INTERNAL: u8 = 1;
-/// Other objects don't see it.
-const STV_HIDDEN: u8 = 2;
-/// The section of a symbol that isn't defined here.
-const SHN_UNDEF: u16 = 0;
-
 /// Whether no other object can replace a symbol.
 fn is_own(symbol: Symbol) -> bool
     ensures { result ≡ is_own symbol }
 {
-    symbol.binding() == STB_LOCAL
-        || (symbol.section != SHN_UNDEF && symbol.visibility() != STV_DEFAULT)
+    symbol.is_local() || (symbol.is_defined() && !symbol.has_default_visibility())
 }
 
 /// Whether no other object can give a symbol.
 fn is_withheld(symbol: Symbol) -> bool
     ensures { result ≡ is_withheld symbol }
 {
-    let visibility = symbol.visibility();
-    symbol.section == SHN_UNDEF && (visibility == STV_HIDDEN || visibility == STV_INTERNAL)
-}
-
-/// Whether 0 stands for a symbol that isn't found.
-fn is_weak(symbol: Symbol) -> bool
-    ensures { result ≡ is_weak symbol }
-{
-    symbol.binding() == STB_WEAK
+    !symbol.is_defined() && symbol.is_hidden()
 }
 
 /// The target of the symbol of an index of the object at a place. It takes no memory; a symbol that
@@ -70,7 +48,7 @@ pub fn resolve(order: &Order<'_>, object: usize, symbol: u32) -> Result<Target, 
             return Ok(found);
         }
     }
-    if is_weak(entry) {
+    if entry.is_weak() {
         Ok(Target::Zero)
     } else {
         Err(Undefined)

@@ -9,10 +9,10 @@ use Rattle.roots.specs.declared.slot.Slot.TheVariants.{Good, Bad}
 use Rattle.roots.specs.Slot.{IsSlotOf}
 use Rattle.roots.specs.Root.{root_bytes, RootHasSpelling, HasMagic, LacksMagic}
 use Rattle.roots.proofs.Roots.{spelt_has_magic}
-use Rattle.roots.proofs.RootLemmas.{root_of_lists-has_spelling}
+use Rattle.roots.proofs.RootLemmas.{root_of_lists-has_spelling, listed_sectors-root_of_lists}
 use Rattle.store.specs.Opening.{IsGeometry}
 use Rattle.store.specs.State.{empty_state}
-use Rattle.store.specs.Stands.{StandsBy, Stands}
+use Rattle.store.specs.Stands.{Lists, StandsBy, Stands}
 use Rattle.extents.proofs.UsedLemmas.{claims-new}
 use Rattle.store.specs.inside.Kept.{IsKept}
 use Rattle.store.specs.inside.First.{first_root}
@@ -29,6 +29,10 @@ first_fits sectors geometry = root_of_lists-has_spelling 0 sectors [] [] (record
   preloads_distinct = λ i j d lt fits. absurd (omega (arith, fits));
 })
 
+-- it lists no entry
+first_listed : (sectors : ℕ) → Lists (first_root sectors) []
+first_listed sectors = sym (listed_sectors-root_of_lists 0 sectors [] [])
+
 pub first_stands : (m : List Sector) (sectors : ℕ) → IsGeometry sectors → length m ≡ sectors → LacksMagic (sector m 1) → StandsBy (set m 0 (root_bytes (first_root sectors))) (first_root sectors) [] empty_state
 first_stands m sectors geometry size lacks = record {
   intact = record {
@@ -38,7 +42,7 @@ first_stands m sectors geometry size lacks = record {
       subst LacksMagic (sym (get_or-set_other m 0 1 (root_bytes (first_root sectors)) [] (omega arith))) lacks,
     );
     size = sym size ∙ sym (length-set m 0 (root_bytes (first_root sectors)));
-    listed = record { count = refl; each = λ i d lt. absurd (omega (arith, lt)) };
+    listed = record { sectors = first_listed sectors; each = λ i d lt. absurd (omega (arith, lt)) };
     apart = record { inside = λ k d lt. absurd (omega (arith, lt)); once = λ i j d lt fits. absurd (omega (arith, fits)) };
     names = λ i j d lt fits. absurd (omega (arith, fits));
   };
@@ -50,7 +54,7 @@ pub first_kept : (sectors : ℕ) → IsGeometry sectors → IsKept (first_root s
 first_kept sectors geometry = record {
   root_fits = first_fits sectors geometry;
   size = length-replicate sectors false;
-  count = refl;
+  listed = first_listed sectors;
   entries_fit = λ k d lt. absurd (omega (arith, lt));
   apart = record { inside = λ k d lt. absurd (omega (arith, lt)); once = λ i j d lt fits. absurd (omega (arith, fits)) };
   names = λ i j d lt fits. absurd (omega (arith, fits));

@@ -18,18 +18,16 @@ use Rattle.extents.proofs.PlacesLemmas.{length-places}
 use Rattle.extents.proofs.UsedLemmas.{free_count-used, layout_of-claims, same-from_used, longest_runs-same}
 use Rattle.passes.specs.Bytes.{bytes_at}
 use Rattle.roots.specs.declared.root.Root.{Root}
-use Rattle.roots.specs.declared.entry.Entry.{Entry}
+use Rattle.store.specs.declared.placed_entry.PlacedEntry.{PlacedEntry}
 use Rattle.roots.specs.Limits.{most_libraries}
-use Rattle.roots.specs.Root.{listed_sectors}
 use Rattle.roots.specs.Entry.{EntryHasSpelling}
 use Rattle.store.specs.declared.refusal.StoreRefusal.TheVariants.{Full, Fragmented, GenerationEnd}
 use Rattle.extents.specs.declared.refusal.TakeRefusal.{TakeRefusal}
 use Rattle.extents.specs.declared.refusal.TakeRefusal.TheVariants as take
 use Rattle.store.specs.State.{Blob, State, cost, free}
-use Rattle.store.specs.Stands.{StandsBy, extents_of, data_sectors, used, blob_of}
+use Rattle.store.specs.Stands.{StandsBy, extents_of, sectors_of, used, blob_of}
 use Rattle.store.specs.Step.{last_generation, refusal_of_put, refusal_of_new, refusal_of_take, refusal_of_change, IsAnswer}
-use Rattle.store.specs.inside.Kept.{IsKept}
-use Rattle.store.proofs.UsedAlone.{length-listed}
+use Rattle.store.specs.inside.Kept.{HaveSpellings, IsKept}
 
 -- whole sectors have so many bytes
 length-bytes_at : (m : List Sector) (ks : List ℕ) → All IsWhole m → ((k : ℕ) → Contains ks k → k < length m) → length (bytes_at m ks) ≡ 512 * length ks
@@ -42,42 +40,44 @@ length-bytes_at m (k ∷ ks) whole inside = omega (
 )
 
 -- a byte string is as long as its entry says
-pub length-blob : (m : List Sector) (entry : Entry) → All IsWhole m → EntryHasSpelling entry → ((k : ℕ) → Contains (places (extents_of entry)) k → k < length m) → length (blob_of m entry).bytes ≡ entry.file_length
-length-blob m entry whole fits inside =
+pub length-blob : (m : List Sector) (placed : PlacedEntry) → All IsWhole m → EntryHasSpelling placed.entry → ((k : ℕ) → Contains (places (extents_of placed.entry)) k → k < length m) → length (blob_of m placed).bytes ≡ placed.entry.file_length
+length-blob m placed whole fits inside =
+    let entry = placed.entry in
     let have = length-bytes_at m (places (extents_of entry)) whole inside in
     let sectors : length (places (extents_of entry)) ≡ div_ceil entry.file_length 512 = length-places (extents_of entry) ∙ fits.extents.sum in
     length-take-le entry.file_length (bytes_at m (places (extents_of entry))) (omega (arith, have, sectors, (div_ceil_times entry.file_length 512 (omega arith)).0))
 
 -- what a byte string costs is what it uses
-cost_is : (m : List Sector) (entry : Entry) → All IsWhole m → EntryHasSpelling entry → ((k : ℕ) → Contains (places (extents_of entry)) k → k < length m) → cost (blob_of m entry).bytes ≡ length (places (extents_of entry)) + 1
-cost_is m entry whole fits inside =
-    let sectors : length (places (extents_of entry)) ≡ div_ceil entry.file_length 512 = length-places (extents_of entry) ∙ fits.extents.sum in
-    ap (λ n. div_ceil n 512 + 1) (length-blob m entry whole fits inside) ∙ ap (λ n. n + 1) (sym sectors)
+cost_is : (m : List Sector) (placed : PlacedEntry) → All IsWhole m → EntryHasSpelling placed.entry → ((k : ℕ) → Contains (sectors_of placed) k → k < length m) → cost (blob_of m placed).bytes ≡ length (sectors_of placed)
+cost_is m placed whole fits inside =
+    let sectors : length (places (extents_of placed.entry)) ≡ div_ceil placed.entry.file_length 512 = length-places (extents_of placed.entry) ∙ fits.extents.sum in
+    ap (λ n. div_ceil n 512 + 1) (length-blob m placed whole fits (λ k found. inside k (Contains-append_right (placed.at ∷ []) (places (extents_of placed.entry)) k found)))
+    ∙ (let e : div_ceil placed.entry.file_length 512 + 1 ≡ suc (length (places (extents_of placed.entry))) = omega (arith, sectors) in e)
 
-costs_are : (m : List Sector) (entries : List Entry) → All IsWhole m → All EntryHasSpelling entries → ((k : ℕ) → Contains (data_sectors entries) k → k < length m) → sum_by (λ blob. cost blob.bytes) (map (blob_of m) entries) ≡ length (data_sectors entries) + length entries
+costs_are : (m : List Sector) (entries : List PlacedEntry) → All IsWhole m → HaveSpellings entries → ((k : ℕ) → Contains (used entries) k → k < length m) → sum_by (λ blob. cost blob.bytes) (map (blob_of m) entries) ≡ length (used entries)
 costs_are m [] whole fit inside = refl
 costs_are m (e ∷ entries) whole fit inside = omega (
   arith,
   sum_by-cons (λ (blob : Blob). cost blob.bytes) (blob_of m e) (map (blob_of m) entries),
-  cost_is m e whole (fit 0 e (omega arith)) (λ k found. inside k (Contains-append_left (places (extents_of e)) (data_sectors entries) k found)),
-  costs_are m entries whole (λ k d lt. fit (suc k) d (omega (arith, lt))) (λ k found. inside k (Contains-append_right (places (extents_of e)) (data_sectors entries) k found)),
-  length-append (places (extents_of e)) (data_sectors entries),
+  cost_is m e whole (fit 0 e (omega arith)) (λ k found. inside k (Contains-append_left (sectors_of e) (used entries) k found)),
+  costs_are m entries whole (λ k d lt. fit (suc k) d (omega (arith, lt))) (λ k found. inside k (Contains-append_right (sectors_of e) (used entries) k found)),
+  length-append (sectors_of e) (used entries),
 )
 
 -- A state leaves free what the layout has free,
-pub free_is : (m : List Sector) (root : Root) (entries : List Entry) (layout : List Bool) (s : State) → IsKept root entries layout → All IsWhole m → StandsBy m root entries s → free root.sectors s ≡ free_count layout
+pub free_is : (m : List Sector) (root : Root) (entries : List PlacedEntry) (layout : List Bool) (s : State) → IsKept root entries layout → All IsWhole m → StandsBy m root entries s → free root.sectors s ≡ free_count layout
 free_is m root entries layout s kept whole by =
-    let counted = free_count-used layout (used root entries) kept.apart.once (λ k d lt. (kept.apart.inside k d lt).0) kept.claims in
-    let costs = costs_are m entries whole kept.entries_fit (λ k found. (All-contains (λ n. (root_sectors ≤ n) × (n < length m)) (used root entries) k by.intact.apart.inside (Contains-append_right (listed_sectors root) (data_sectors entries) k found)).1) in
-    let same : sum_by (λ blob. cost blob.bytes) s.blobs ≡ length (data_sectors entries) + length entries = ap (λ t. sum_by (λ blob. cost blob.bytes) t.blobs) by.is ∙ costs in
-    omega (arith, counted, same, length-append (listed_sectors root) (data_sectors entries), length-listed root kept.root_fits, kept.count, kept.size)
+    let counted = free_count-used layout (used entries) kept.apart.once (λ k d lt. (kept.apart.inside k d lt).0) kept.claims in
+    let costs = costs_are m entries whole kept.entries_fit (λ k found. (All-contains (λ n. (root_sectors ≤ n) × (n < length m)) (used entries) k by.intact.apart.inside found).1) in
+    let same : sum_by (λ blob. cost blob.bytes) s.blobs ≡ length (used entries) = ap (λ t. sum_by (λ blob. cost blob.bytes) t.blobs) by.is ∙ costs in
+    omega (arith, counted, same, kept.size)
 
 -- and its longest free runs are the layout's.
-pub longest_is : (root : Root) (entries : List Entry) (layout : List Bool) → IsKept root entries layout → sector_count (longest_runs (layout_of root.sectors (used root entries))) ≡ sector_count (longest_runs layout)
+pub longest_is : (root : Root) (entries : List PlacedEntry) (layout : List Bool) → IsKept root entries layout → sector_count (longest_runs (layout_of root.sectors (used entries))) ≡ sector_count (longest_runs layout)
 longest_is root entries layout kept =
-    let claims = layout_of-claims root.sectors (used root entries) (λ k d lt. (kept.apart.inside k d lt).1) in
-    ap sector_count (longest_runs-same (layout_of root.sectors (used root entries)) layout
-    (same-from_used (layout_of root.sectors (used root entries)) layout (used root entries) (length-map-range_with_len _ 0 root.sectors ∙ sym kept.size) claims kept.claims))
+    let claims = layout_of-claims root.sectors (used entries) (λ k d lt. (kept.apart.inside k d lt).1) in
+    ap sector_count (longest_runs-same (layout_of root.sectors (used entries)) layout
+    (same-from_used (layout_of root.sectors (used entries)) layout (used entries) (length-map-range_with_len _ 0 root.sectors ∙ sym kept.size) claims kept.claims))
 
 pub if_no : {A : Type 0} (b : Bool) (x y : A) → (b ≡ true → ⊥) → (if b then x else y) ≡ y
 if_no true x y isnt = absurd (isnt refl)

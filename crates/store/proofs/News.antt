@@ -3,8 +3,9 @@ use Rattle.std.proofs.Common.{◌≡◌, ◌≢◌, ⊎_elim, ℕ, suc, ◌+◌,
 use Rattle.std.specs.Prelude.{Contains}
 use Rattle.std.proofs.lemmas.Bool.{cases_lt}
 use Rattle.std.proofs.lemmas.Grind.{flat_map-append}
-use Rattle.std.proofs.lemmas.List.{append-nil, length-append, get_or_append_left, get_or-append_right, length-take-le}
-use Rattle.std.proofs.lemmas.List.Elements.{All-append, All-contains, Contains-get_or, Contains-append_left, Contains-append_right, Contains-append_cases}
+use Rattle.std.proofs.lemmas.List.{append-nil, length-append, length-map, get_or_append_left, get_or-append_right, map_push}
+use Rattle.std.proofs.lemmas.List.Sums.{sum_by-cons}
+use Rattle.std.proofs.lemmas.List.Elements.{All-append, All-push, All-contains, Contains-get_or, Contains-append_left, Contains-append_right, Contains-append_cases}
 use Rattle.sector_disk.specs.Disk.{Sector, sector, sector_bytes}
 use Rattle.extents.specs.declared.extent.Extent.{Extent}
 use Rattle.extents.specs.Extent.{places, sector_count, one_sector, AreDistinct}
@@ -19,18 +20,21 @@ use Rattle.passes.proofs.Extents.{in_extent}
 use Rattle.passes.proofs.Padding.{take-padded}
 use Rattle.roots.specs.declared.root.Root.{Root}
 use Rattle.roots.specs.declared.entry.Entry.{Entry}
-use Rattle.roots.specs.Root.{RootHasSpelling, root_of_lists, listed_sectors, listed_preloads}
+use Rattle.roots.specs.Root.{listed_preloads}
 use Rattle.roots.specs.Entry.{EntryHasSpelling, SpellsEntry}
-use Rattle.roots.proofs.RootLemmas.{root_of_lists-has_spelling, listed_sectors-root_of_lists, listed_preloads-root_of_lists}
+use Rattle.store.specs.declared.placed_entry.PlacedEntry.{PlacedEntry}
 use Rattle.store.specs.State.{Blob, State}
-use Rattle.store.specs.Stands.{UsesApart, HaveOwnNames, name_of, extents_of, data_sectors, used, blob_of, no_blob, names_at, state_of}
+use Rattle.store.specs.Stands.{HaveOwnNames, name_of, extents_of, sectors_of, used, blob_of, no_blob, names_at}
 use Rattle.store.specs.Step.{with_new}
 use Rattle.store.specs.inside.Claimed.{IsUsable, IsClaimedBeside}
 use Rattle.store.specs.inside.Kept.{IsKept}
-use Rattle.store.specs.inside.Room.{IsRoom, IsPut, IsNew}
-use Rattle.store.proofs.Claiming.{claims_more, claims_one, distinct-parts, distinct-first, all-part}
-use Rattle.store.proofs.Puts.{next_stands}
-use Rattle.store.proofs.UsedAlone.{length-listed}
+use Rattle.store.specs.inside.Next.{IsNext}
+use Rattle.store.specs.inside.Room.{IsRoom, HasPlace, IsPut, IsNew}
+use Rattle.store.proofs.Claiming.{claims_more, claims_one, distinct-parts}
+use Rattle.store.proofs.Counts.{one, occurs-append}
+use Rattle.store.proofs.Following.{following_kept, following_stands}
+use Rattle.store.proofs.Ordered.{claimed-alike}
+use Rattle.store.proofs.UsedAlone.{listed_count, preloads_few}
 
 -- numbers may be told in the other order
 contains_swapped : (xs ys : List ℕ) (s : ℕ) → Contains (xs ++ ys) s → Contains (ys ++ xs) s
@@ -43,49 +47,6 @@ distinct-last xs ys distinct i j d lt fits = λ same.
   where
     at : (k : ℕ) → get_or (xs ++ ys) (length xs + k) d ≡ get_or ys k d
     at k = get_or-append_right xs ys (length xs) (length xs + k) d refl (omega arith) ∙ ap (λ n. get_or ys n d) (let e : length xs + k - length xs ≡ k = omega arith in e)
-
--- four parts in another order
-distinct-moved : (a b c e : List ℕ) → AreDistinct ((a ++ b) ++ (c ++ e)) → AreDistinct ((a ++ e) ++ (b ++ c))
-distinct-moved a b c e distinct =
-    let front = distinct-first (a ++ b) (c ++ e) distinct in
-    let back = distinct-last (a ++ b) (c ++ e) distinct in
-    distinct-append (a ++ e) (b ++ c)
-    (distinct-append a e (distinct-first a b front) (distinct-last c e back) (λ s in_a in_e. distinct-parts (a ++ b) (c ++ e) s distinct (Contains-append_left a b s in_a) (Contains-append_right c e s in_e)))
-    (distinct-append b c (distinct-last a b front) (distinct-first c e back) (λ s in_b in_c. distinct-parts (a ++ b) (c ++ e) s distinct (Contains-append_right a b s in_b) (Contains-append_left c e s in_c)))
-    (λ s in_ae in_bc. ⊎_elim
-    (λ in_a. ⊎_elim
-    (λ in_b. distinct-parts a b s front in_a in_b)
-    (λ in_c. distinct-parts (a ++ b) (c ++ e) s distinct (Contains-append_left a b s in_a) (Contains-append_left c e s in_c))
-    (Contains-append_cases b c s in_bc))
-    (λ in_e. ⊎_elim
-    (λ in_b. distinct-parts (a ++ b) (c ++ e) s distinct (Contains-append_right a b s in_b) (Contains-append_right c e s in_e))
-    (λ in_c. distinct-parts c e s back in_c in_e)
-    (Contains-append_cases b c s in_bc))
-    (Contains-append_cases a e s in_ae))
-
-contains-moved : (a b c e : List ℕ) (s : ℕ) → Contains ((a ++ b) ++ (c ++ e)) s → Contains ((a ++ e) ++ (b ++ c)) s
-contains-moved a b c e s found = ⊎_elim
-    (λ in_ab. ⊎_elim
-    (λ in_a. Contains-append_left (a ++ e) (b ++ c) s (Contains-append_left a e s in_a))
-    (λ in_b. Contains-append_right (a ++ e) (b ++ c) s (Contains-append_left b c s in_b))
-    (Contains-append_cases a b s in_ab))
-    (λ in_ce. ⊎_elim
-    (λ in_c. Contains-append_right (a ++ e) (b ++ c) s (Contains-append_right b c s in_c))
-    (λ in_e. Contains-append_left (a ++ e) (b ++ c) s (Contains-append_right a e s in_e))
-    (Contains-append_cases c e s in_ce))
-    (Contains-append_cases (a ++ b) (c ++ e) s found)
-
-contains-back : (a b c e : List ℕ) (s : ℕ) → Contains ((a ++ e) ++ (b ++ c)) s → Contains ((a ++ b) ++ (c ++ e)) s
-contains-back a b c e s found = ⊎_elim
-    (λ in_ae. ⊎_elim
-    (λ in_a. Contains-append_left (a ++ b) (c ++ e) s (Contains-append_left a b s in_a))
-    (λ in_e. Contains-append_right (a ++ b) (c ++ e) s (Contains-append_right c e s in_e))
-    (Contains-append_cases a e s in_ae))
-    (λ in_bc. ⊎_elim
-    (λ in_b. Contains-append_left (a ++ b) (c ++ e) s (Contains-append_right a b s in_b))
-    (λ in_c. Contains-append_right (a ++ b) (c ++ e) s (Contains-append_left c e s in_c))
-    (Contains-append_cases b c s in_bc))
-    (Contains-append_cases (a ++ e) (b ++ c) s found)
 
 none : Extent
 none = record { start = 0; count = 0 }
@@ -109,9 +70,12 @@ claims_given need old new extents is given = record {
 }
 
 -- and so is the whole room
-pub claims_room : {need : ℕ} {old new : List Bool} {extents : List Extent} {at : ℕ} → IsRoom need old new extents at → IsClaimedBeside old new (places extents ++ at ∷ [])
+pub claims_room : {need : ℕ} {old new : List Bool} {extents : List Extent} {at : ℕ} → IsRoom need old new extents at → IsClaimedBeside old new (at ∷ places extents)
 claims_room {need = need} {old = old} {new = new} {extents = extents} {at = at} room =
-    claims_more old room.mid new (places extents) (at ∷ []) (claims_given need old room.mid extents room.mid_is room.given) (claims_one room.mid new (one_sector at) room.new_is room.claim)
+    claimed-alike (places extents ++ at ∷ []) (at ∷ places extents)
+    (λ k. omega (arith, occurs-append k (places extents) (at ∷ []), sum_by-cons (one k) at [], sum_by-cons (one k) at (places extents)))
+    old new
+    (claims_more old room.mid new (places extents) (at ∷ []) (claims_given need old room.mid extents room.mid_is room.given) (claims_one room.mid new (one_sector at) room.new_is room.claim))
 
 -- elements of a list with one more behind it
 last_cases : {A : Type 0} (P : A → Type 0) (xs : List A) (x : A) (i : ℕ) (d : A) → i < length (xs ++ x ∷ []) → (i < length xs → P (get_or xs i d)) → (i ≡ length xs → P x) → P (get_or (xs ++ x ∷ []) i d)
@@ -124,11 +88,11 @@ last_cases P xs x i d lt before at = ⊎_elim
     (cases_lt i (length xs))
 
 -- names stay apart with a new one behind them
-pub names_more : (entries : List Entry) (entry : Entry) → HaveOwnNames entries → All (λ other. name_of other ≢ name_of entry) entries → HaveOwnNames (entries ++ entry ∷ [])
+pub names_more : (entries : List PlacedEntry) (entry : PlacedEntry) → HaveOwnNames entries → All (λ other. name_of other.entry ≢ name_of entry.entry) entries → HaveOwnNames (entries ++ entry ∷ [])
 names_more entries entry names new i j d lt fits =
-    last_cases (λ b. name_of (get_or (entries ++ entry ∷ []) i d) ≢ name_of b) entries entry j d fits
-    (λ before. subst (λ a. name_of a ≢ name_of (get_or entries j d)) (sym (get_or_append_left entries (entry ∷ []) d i (omega (arith, lt, before)))) (names i j d lt before))
-    (λ last. subst (λ a. name_of a ≢ name_of entry) (sym (get_or_append_left entries (entry ∷ []) d i (omega (arith, lt, last)))) (new i d (omega (arith, lt, last))))
+    last_cases (λ b. name_of (get_or (entries ++ entry ∷ []) i d).entry ≢ name_of b.entry) entries entry j d fits
+    (λ before. subst (λ a. name_of a.entry ≢ name_of (get_or entries j d).entry) (sym (get_or_append_left entries (entry ∷ []) d i (omega (arith, lt, before)))) (names i j d lt before))
+    (λ last. subst (λ a. name_of a.entry ≢ name_of entry.entry) (sym (get_or_append_left entries (entry ∷ []) d i (omega (arith, lt, last)))) (new i d (omega (arith, lt, last))))
 
 -- positions among the first byte strings name the same with one more
 names_at_more : (blobs : List Blob) (blob : Blob) (positions : List ℕ) → All (λ position. position < length blobs) positions → names_at (blobs ++ blob ∷ []) positions ≡ names_at blobs positions
@@ -138,169 +102,95 @@ names_at_more blobs blob (p ∷ positions) inside =
     let there = names_at_more blobs blob positions (λ k d lt. inside (suc k) d (omega (arith, lt))) in
     λ i. (here i).name ∷ there i
 
-map_more : (m : List Sector) (entries : List Entry) (entry : Entry) → map (blob_of m) (entries ++ entry ∷ []) ≡ map (blob_of m) entries ++ blob_of m entry ∷ []
-map_more m [] entry = refl
-map_more m (e ∷ entries) entry = ap (λ l. blob_of m e ∷ l) (map_more m entries entry)
+pub length-blobs : (m : List Sector) (entries : List PlacedEntry) → length (map (blob_of m) entries) ≡ length entries
+length-blobs m entries = length-map entries (blob_of m)
 
-pub length-blobs : (m : List Sector) (entries : List Entry) → length (map (blob_of m) entries) ≡ length entries
-length-blobs m [] = refl
-length-blobs m (e ∷ entries) = ap suc (length-blobs m entries)
-
-data_more : (entries : List Entry) (entry : Entry) → data_sectors (entries ++ entry ∷ []) ≡ data_sectors entries ++ places (extents_of entry)
-data_more entries entry =
-    flat_map-append (λ (e : Entry). places (extents_of e)) entries (entry ∷ [])
-    ∙ ap (λ l. data_sectors entries ++ l) (append-nil (places (extents_of entry)))
+-- bytes that were written into the sectors of an entry of their length are its byte string's
+pub written_bytes : (m : List Sector) (entry : Entry) (bytes : List ℕ) → bytes_at m (places (extents_of entry)) ≡ padded (sector_bytes * sector_count (extents_of entry)) bytes → entry.file_length ≡ length bytes → length bytes ≤ 512 * sector_count (extents_of entry) → take entry.file_length (bytes_at m (places (extents_of entry))) ≡ bytes
+written_bytes m entry bytes written its_length enough =
+    ap (take entry.file_length) written
+    ∙ ap (λ n. take n (padded (sector_bytes * sector_count (extents_of entry)) bytes)) its_length
+    ∙ take-padded (512 * sector_count (extents_of entry)) bytes enough
 
 -- Room that was claimed beside what is kept: no sector of it is in use, and none stands twice.
-module _ {root : Root} {entries : List Entry} {layout new : List Bool} {need : ℕ} {extents : List Extent} {at : ℕ} (kept : IsKept root entries layout) (room : IsRoom need layout new extents at) where
-  pub room_once : AreDistinct (used root entries ++ (places extents ++ at ∷ []))
-  room_once = (claims_room room).once (used root entries) kept.claims kept.apart.once
+module _ {root : Root} {entries : List PlacedEntry} {layout new : List Bool} {need : ℕ} {extents : List Extent} {at : ℕ} (kept : IsKept root entries layout) (room : IsRoom need layout new extents at) where
+  pub room_once : AreDistinct (used entries ++ (at ∷ places extents))
+  room_once = (claims_room room).once (used entries) kept.claims kept.apart.once
 
-  pub room_inside : All (IsUsable root.sectors) (used root entries ++ (places extents ++ at ∷ []))
-  room_inside = All-append (IsUsable root.sectors) (used root entries) (places extents ++ at ∷ []) kept.apart.inside (subst (λ n. All (IsUsable n) (places extents ++ at ∷ [])) kept.size (claims_room room).inside)
+  pub room_inside : All (IsUsable root.sectors) (used entries ++ (at ∷ places extents))
+  room_inside = All-append (IsUsable root.sectors) (used entries) (at ∷ places extents) kept.apart.inside (subst (λ n. All (IsUsable n) (at ∷ places extents)) kept.size (claims_room room).inside)
 
-  pub room_unused : (k : ℕ) → Contains (at ∷ places extents) k → Contains (used root entries) k → ⊥
-  room_unused k here in_used = distinct-parts (used root entries) (places extents ++ at ∷ []) k room_once in_used (contains_swapped (at ∷ []) (places extents) k here)
+  pub room_unused : (k : ℕ) → Contains (at ∷ places extents) k → Contains (used entries) k → ⊥
+  room_unused k here in_used = distinct-parts (used entries) (at ∷ places extents) k room_once in_used here
 
-  pub room_behind : (k : ℕ) → Contains (at ∷ places extents) k → IsUsable root.sectors k
-  room_behind k here = All-contains (IsUsable root.sectors) (used root entries ++ (places extents ++ at ∷ [])) k room_inside (Contains-append_right (used root entries) (places extents ++ at ∷ []) k (contains_swapped (at ∷ []) (places extents) k here))
+  room_behind : (k : ℕ) → Contains (at ∷ places extents) k → IsUsable root.sectors k
+  room_behind k here = All-contains (IsUsable root.sectors) (used entries ++ (at ∷ places extents)) k room_inside (Contains-append_right (used entries) (at ∷ places extents) k here)
 
-  pub entry_elsewhere : Contains (places extents) at → ⊥
-  entry_elsewhere found = distinct-parts (places extents) (at ∷ []) at (distinct-last (used root entries) (places extents ++ at ∷ []) room_once) found (0, omega arith, refl)
+  entry_elsewhere : Contains (places extents) at → ⊥
+  entry_elsewhere found = distinct-parts (at ∷ []) (places extents) at (distinct-last (used entries) (at ∷ places extents) room_once) (0, omega arith, refl) found
+
+-- so an entry that is put there has its place
+pub room_place : {root : Root} {entries : List PlacedEntry} {layout new : List Bool} {need n : ℕ} {put : PlacedEntry} → IsKept root entries layout → IsRoom need layout new (extents_of put.entry) put.at → EntryHasSpelling put.entry → n ≡ root.sectors → HasPlace n put
+room_place {put = put} kept room fits size = record {
+  spelling = fits;
+  inside = λ k d lt. omega (arith, (room.given.inside k d lt).2, kept.size, size);
+  apart = room.given.apart;
+  own = omega (arith, (room_behind kept room put.at (0, omega arith, refl)).1, size);
+  behind = λ k found. (room_behind kept room k found).0;
+  elsewhere = entry_elsewhere kept room;
+}
 
 -- A new entry in room that was claimed for it.
-module _ {root : Root} {entries : List Entry} {layout new : List Bool} {need : ℕ} {extents : List Extent} {at : ℕ} {entry : Entry} {next : Root} (is_new : IsNew root entries layout new need extents at entry next) where
+module _ {root : Root} {entries : List PlacedEntry} {layout new : List Bool} {need : ℕ} {put : PlacedEntry} {next : Root} (is_new : IsNew root entries layout new need put next) where
   kept : IsKept root entries layout
   kept = is_new.kept
 
-  its : extents_of entry ≡ extents
-  its = is_new.its
+  abbrev others : List PlacedEntry
+  others = entries ++ put ∷ []
 
-  is_next : next ≡ root_of_lists (root.generation + 1) root.sectors (listed_sectors root ++ at ∷ []) (listed_preloads root)
-  is_next = is_new.is_next
+  used_is : used others ≡ used entries ++ sectors_of put
+  used_is = flat_map-append sectors_of entries (put ∷ []) ∙ ap (λ l. used entries ++ l) (append-nil (sectors_of put))
 
-  abbrev listed : List ℕ
-  listed = listed_sectors root ++ at ∷ []
-
-  abbrev others : List Entry
-  others = entries ++ entry ∷ []
-
-  beside : IsClaimedBeside layout new (places extents ++ at ∷ [])
-  beside = claims_room is_new.room
-
-  once : AreDistinct (used root entries ++ (places extents ++ at ∷ []))
-  once = room_once kept is_new.room
-
-  inside : All (IsUsable root.sectors) (used root entries ++ (places extents ++ at ∷ []))
-  inside = room_inside kept is_new.room
-
-  -- the next root lists the entries from before and the new one
-  next_listed : listed_sectors next ≡ listed
-  next_listed = ap listed_sectors is_next ∙ listed_sectors-root_of_lists (root.generation + 1) root.sectors listed (listed_preloads root)
-
-  next_preloads : listed_preloads next ≡ listed_preloads root
-  next_preloads = ap listed_preloads is_next ∙ listed_preloads-root_of_lists (root.generation + 1) root.sectors listed (listed_preloads root)
-
-  used_is : used next others ≡ listed ++ (data_sectors entries ++ places extents)
-  used_is = (λ i. next_listed i ++ data_more entries entry i) ∙ ap (λ l. listed ++ (data_sectors entries ++ places l)) its
-
-  next_once : AreDistinct (listed ++ (data_sectors entries ++ places extents))
-  next_once = distinct-moved (listed_sectors root) (data_sectors entries) (places extents) (at ∷ []) once
-
-  next_inside : All (IsUsable root.sectors) (listed ++ (data_sectors entries ++ places extents))
-  next_inside = all-part (IsUsable root.sectors) (listed ++ (data_sectors entries ++ places extents)) (used root entries ++ (places extents ++ at ∷ []))
-      (contains-back (listed_sectors root) (data_sectors entries) (places extents) (at ∷ [])) inside
-
-  pub next_apart : UsesApart root.sectors next others
-  next_apart = record {
-    inside = subst (All (IsUsable root.sectors)) (sym used_is) next_inside;
-    once = subst AreDistinct (sym used_is) next_once;
+  pub new_next : IsNext root others (listed_preloads root) next
+  new_next = record {
+    is_next = is_new.is_next;
+    later = is_new.later;
+    few = omega (arith, length-append entries (put ∷ []), is_new.few);
+    fit = All-push (λ (p : PlacedEntry). EntryHasSpelling p.entry) entries put kept.entries_fit is_new.fits;
+    apart = record {
+      inside = subst (All (IsUsable root.sectors)) (sym used_is) (room_inside kept is_new.room);
+      once = subst AreDistinct (sym used_is) (room_once kept is_new.room);
+    };
+    names = names_more entries put kept.names is_new.named;
+    few_preloads = preloads_few root kept.root_fits;
+    preloads_inside = λ k d lt. omega (arith, kept.root_fits.preloads.listed.used k d lt, listed_count root entries kept.root_fits kept.listed, length-append entries (put ∷ []));
+    preloads_once = kept.root_fits.preloads.distinct;
   }
 
-  next_claims : ClaimsJust new (used next others)
-  next_claims = subst (ClaimsJust new) (sym used_is)
-      (claims-same_elements new (used root entries ++ (places extents ++ at ∷ [])) (listed ++ (data_sectors entries ++ places extents))
-      (λ s. (contains-moved (listed_sectors root) (data_sectors entries) (places extents) (at ∷ []) s, contains-back (listed_sectors root) (data_sectors entries) (places extents) (at ∷ []) s))
-      (beside.each (used root entries) kept.claims))
+  -- What the store keeps then,
+  pub new_kept : IsKept next others new
+  new_kept = following_kept new_next kept.root_fits new ((claims_room is_new.room).size ∙ kept.size)
+      (subst (ClaimsJust new) (sym used_is) ((claims_room is_new.room).each (used entries) kept.claims))
 
-  length_listed : length listed ≡ root.library_count + 1
-  length_listed = length-append (listed_sectors root) (at ∷ []) ∙ ap (λ n. n + 1) (length-listed root kept.root_fits)
-
-  pub next_fits : RootHasSpelling next
-  next_fits = subst (λ r. RootHasSpelling r) (sym is_next) (root_of_lists-has_spelling (root.generation + 1) root.sectors listed (listed_preloads root) (record {
-    generation_fits = is_new.later;
-    sectors_fit = kept.root_fits.sectors;
-    few_entries = omega (arith, length_listed, is_new.few);
-    few_preloads = omega (arith, length-take-le root.preload_count root.preloads (omega (arith, kept.root_fits.preloads.listed.size, kept.root_fits.preloads.listed.room)), kept.root_fits.preloads.listed.room);
-    entries_inside = all-part (IsUsable root.sectors) listed (listed ++ (data_sectors entries ++ places extents)) (Contains-append_left listed (data_sectors entries ++ places extents)) next_inside;
-    entries_distinct = distinct-first listed (data_sectors entries ++ places extents) next_once;
-    preloads_inside = λ k d lt. omega (arith, kept.root_fits.preloads.listed.used k d lt, length_listed);
-    preloads_distinct = kept.root_fits.preloads.distinct;
-  }))
-
-  next_count : length others ≡ next.library_count
-  next_count = length-append entries (entry ∷ []) ∙ ap (λ n. n + 1) kept.count ∙ sym length_listed ∙ sym (ap (λ r. r.library_count) is_next)
-
-  -- What the store keeps then.
-  pub next_kept : IsKept next others new
-  next_kept = record {
-    root_fits = next_fits;
-    size = beside.size ∙ kept.size ∙ sym (ap (λ r. r.sectors) is_next);
-    count = next_count;
-    entries_fit = All-append EntryHasSpelling entries (entry ∷ []) kept.entries_fit (λ k d lt. let first : 0 ≡ k = omega (arith, lt) in subst (λ i. EntryHasSpelling (get_or (entry ∷ []) i d)) first is_new.fits);
-    apart = subst (λ n. UsesApart n next others) (sym (ap (λ r. r.sectors) is_next)) next_apart;
-    names = names_more entries entry kept.names is_new.named;
-    claims = next_claims;
-  }
-
-  module _ (name bytes : List ℕ) (its_name : name_of entry ≡ name) (its_length : entry.file_length ≡ length bytes) (enough : length bytes ≤ 512 * sector_count extents) (s : State) where
-    new_state : (m : List Sector) → s ≡ state_of m root entries → bytes_at m (places extents) ≡ padded (sector_bytes * sector_count extents) bytes → with_new name bytes s ≡ state_of m next others
-    new_state m is written =
-        let blob : record { name = name; bytes = bytes } ≡ blob_of m entry = sym (λ i. record { name = its_name i; bytes = its_bytes i }) in
-        let blobs = map_more m entries entry in
-        ap (with_new name bytes) is
-        ∙ (λ i. record {
+  -- and what the put makes of sectors.
+  pub new_put : (name bytes : List ℕ) (s : State) → name_of put.entry ≡ name → put.entry.file_length ≡ length bytes → length bytes ≤ 512 * sector_count (extents_of put.entry) → IsPut root entries s bytes put next others (with_new name bytes s)
+  new_put name bytes s its_name its_length enough = record {
+    unused = room_unused kept is_new.room;
+    stands = λ m by written spelt. following_stands new_next kept.root_fits m entries s (with_new name bytes s) by
+        (All-push (λ (p : PlacedEntry). SpellsEntry (sector m p.at) p.entry) entries put by.intact.listed.each (record { has_spelling = is_new.fits; spelling = spelt }))
+        (ap (with_new name bytes) by.is ∙ (λ i. record {
           generation = root.generation + 1;
-          blobs = map (blob_of m) entries ++ blob i ∷ [];
-          preloads = names_at (map (blob_of m) entries) (listed_preloads root);
-        })
-        ∙ sym (λ i. record {
-          generation = (is_next i).generation;
-          blobs = blobs i;
-          preloads = (ap (λ l. names_at l (listed_preloads next)) blobs ∙ ap (names_at (map (blob_of m) entries ++ blob_of m entry ∷ [])) next_preloads ∙ names_at_more (map (blob_of m) entries) (blob_of m entry) (listed_preloads root) positions) i;
-        })
-      where
-        its_bytes : take entry.file_length (bytes_at m (places (extents_of entry))) ≡ bytes
-        its_bytes =
-            ap (λ l. take entry.file_length (bytes_at m (places l))) its
-            ∙ ap (take entry.file_length) written
-            ∙ ap (λ n. take n (padded (sector_bytes * sector_count extents) bytes)) its_length
-            ∙ take-padded (512 * sector_count extents) bytes enough
+          blobs = blobs m written i;
+          preloads = preloads m i;
+        }));
+  }
+    where
+      blobs : (m : List Sector) → bytes_at m (places (extents_of put.entry)) ≡ padded (sector_bytes * sector_count (extents_of put.entry)) bytes → map (blob_of m) entries ++ record { name = name; bytes = bytes } ∷ [] ≡ map (blob_of m) others
+      blobs m written =
+          let blob : record { name = name; bytes = bytes } ≡ blob_of m put = sym (λ i. record { name = its_name i; bytes = written_bytes m put.entry bytes written its_length enough i }) in
+          ap (λ b. map (blob_of m) entries ++ b ∷ []) blob ∙ sym (map_push (blob_of m) entries put)
 
-        positions : All (λ position. position < length (map (blob_of m) entries)) (listed_preloads root)
-        positions k d lt = omega (arith, kept.root_fits.preloads.listed.used k d lt, length-blobs m entries, kept.count)
-
-    -- What the put makes of sectors.
-    pub new_put : IsPut root entries s extents at bytes entry next others (with_new name bytes s)
-    new_put = record {
-      unused = room_unused kept is_new.room;
-      stands = λ m by written spelt.
-          let size : root.sectors ≡ length m = by.intact.size in
-          next_stands m root next others next_fits (ap (λ r. r.generation) is_next) (ap (λ r. r.sectors) is_next ∙ size) (omega (arith, size, kept.root_fits.sectors)) (with_new name bytes s)
-          by.intact.current
-          (record {
-            count = next_count;
-            each = λ i d lt. last_cases (λ e. SpellsEntry (sector m (get_or (listed_sectors next) i 0)) e) entries entry i d lt
-                (λ before.
-                let is : get_or (listed_sectors next) i 0 ≡ get_or (listed_sectors root) i 0 = ap (λ l. get_or l i 0) next_listed ∙ get_or_append_left (listed_sectors root) (at ∷ []) 0 i (omega (arith, before, kept.count, length-listed root kept.root_fits)) in
-                subst (λ k. SpellsEntry (sector m k) (get_or entries i d)) (sym is) (by.intact.listed.each i d before))
-                (λ last.
-                let here : i ≡ length (listed_sectors root) = last ∙ kept.count ∙ sym (length-listed root kept.root_fits) in
-                let first : i - length (listed_sectors root) ≡ 0 = omega (arith, here) in
-                let is : get_or (listed_sectors next) i 0 ≡ at = ap (λ l. get_or l i 0) next_listed ∙ get_or-append_right (listed_sectors root) (at ∷ []) (length (listed_sectors root)) i 0 refl (omega (arith, here)) ∙ ap (λ n. get_or (at ∷ []) n 0) first in
-                subst (λ k. SpellsEntry (sector m k) entry) (sym is) (record { has_spelling = is_new.fits; spelling = spelt }));
-          })
-          (subst (λ n. UsesApart n next others) size next_apart)
-          (names_more entries entry kept.names is_new.named)
-          (new_state m by.is written);
-    }
+      preloads : (m : List Sector) → names_at (map (blob_of m) entries) (listed_preloads root) ≡ names_at (map (blob_of m) others) (listed_preloads root)
+      preloads m = sym (ap (λ l. names_at l (listed_preloads root)) (map_push (blob_of m) entries put)
+          ∙ names_at_more (map (blob_of m) entries) (blob_of m put) (listed_preloads root)
+          (λ k d lt. omega (arith, kept.root_fits.preloads.listed.used k d lt, length-blobs m entries, listed_count root entries kept.root_fits kept.listed)))

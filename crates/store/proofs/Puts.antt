@@ -2,22 +2,22 @@
 use Rattle.std.proofs.Common.{◌≡◌, ◌≢◌, inl, inr, ⊎_elim, ◌⊎◌, ℕ, ◌+◌, ◌<◌, ◌≤◌, List, [], length, get_or, set, map, refl, sym, ap, subst, ◌∙◌, arith}
 use Rattle.std.specs.Prelude.{Contains}
 use Rattle.std.proofs.lemmas.List.{length-set, get_or-set_same, get_or-set_other}
-use Rattle.std.proofs.lemmas.List.Elements.{Contains-append_left, Contains-append_right, Contains-get_or, All-contains}
+use Rattle.std.proofs.lemmas.List.Elements.{All-contains}
 use Rattle.sector_disk.specs.Disk.{Sector, sector, DiskFacts, Mixture, HoldsNow, IsSynced, LeavesOnly, IsMixtureBut, IsMixtureOrSet}
 use Rattle.sector_disk.proofs.Moments.{goes_on, weaken, left_now}
 use Rattle.extents.specs.Limits.{root_sectors}
 use Rattle.roots.specs.declared.root.Root.{Root}
-use Rattle.roots.specs.declared.entry.Entry.{Entry}
-use Rattle.roots.specs.Root.{RootHasSpelling, SpellsRoot, root_bytes, listed_sectors, listed_preloads}
+use Rattle.roots.specs.Root.{RootHasSpelling, SpellsRoot, root_bytes, listed_preloads}
 use Rattle.roots.specs.Entry.{SpellsEntry}
 use Rattle.roots.specs.Choice.{IsCurrent, slot_of}
 use Rattle.roots.proofs.ChoiceLemmas.{current-next_odd, current-next_even}
+use Rattle.store.specs.declared.placed_entry.PlacedEntry.{PlacedEntry}
 use Rattle.store.specs.State.{State}
-use Rattle.store.specs.Stands.{IsListed, UsesApart, HaveOwnNames, StandsBy, Stands, blob_of, data_sectors, names_at, used, state_of}
+use Rattle.store.specs.Stands.{IsListed, UsesApart, HaveOwnNames, StandsBy, Stands, blob_of, names_at, used, state_of}
 use Rattle.store.specs.inside.Next.{IsFollowed}
-use Rattle.store.proofs.UsedAlone.{same_used, blobs_same, length-listed}
+use Rattle.store.proofs.UsedAlone.{same_used, blobs_same, own_used}
 
-module _ (m : List Sector) (root next : Root) (others : List Entry) (fits : RootHasSpelling next) (follows : next.generation ≡ root.generation + 1) (size : next.sectors ≡ length m) (some : root_sectors ≤ length m) where
+module _ (m : List Sector) (root next : Root) (others : List PlacedEntry) (fits : RootHasSpelling next) (follows : next.generation ≡ root.generation + 1) (size : next.sectors ≡ length m) (some : root_sectors ≤ length m) where
   abbrev slot : ℕ
   slot = slot_of next.generation
 
@@ -55,28 +55,28 @@ module _ (m : List Sector) (root next : Root) (others : List Entry) (fits : Root
       parity = grind arith
 
   -- Sectors in which all that a root lists stands, stand for it once the root is written.
-  pub next_stands : (s' : State) → IsCurrent (sector m 0) (sector m 1) root → IsListed m next others → UsesApart (length m) next others → HaveOwnNames others → s' ≡ state_of m next others → StandsBy after next others s'
+  pub next_stands : (s' : State) → IsCurrent (sector m 0) (sector m 1) root → IsListed m next others → UsesApart (length m) others → HaveOwnNames others → s' ≡ state_of m next others → StandsBy after next others s'
   next_stands s' current listed apart names is = record {
     intact = record {
       current = next_current current;
       size = size ∙ sym (length-set m slot (root_bytes next));
       listed = record {
-        count = listed.count;
-        each = λ i d lt. subst (λ c. SpellsEntry c (get_or others i d)) (sym (kept _ (Contains-append_left (listed_sectors next) (data_sectors others) _ (Contains-get_or (listed_sectors next) i 0 (omega (arith, lt, listed.count, length-listed next fits)))))) (listed.each i d lt);
+        sectors = listed.sectors;
+        each = λ i d lt. subst (λ c. SpellsEntry c (get_or others i d).entry) (sym (kept (get_or others i d).at (own_used others i d lt))) (listed.each i d lt);
       };
-      apart = subst (λ n. UsesApart n next others) (sym (length-set m slot (root_bytes next))) apart;
+      apart = subst (λ n. UsesApart n others) (sym (length-set m slot (root_bytes next))) apart;
       names = names;
     };
     is = is ∙ sym (λ i. record { generation = next.generation; blobs = blobs i; preloads = names_at (blobs i) (listed_preloads next) });
   }
     where
-      kept : (k : ℕ) → Contains (used next others) k → sector after k ≡ sector m k
-      kept k found = behind k (All-contains (λ n. (root_sectors ≤ n) × (n < length m)) (used next others) k apart.inside found).0
+      kept : (k : ℕ) → Contains (used others) k → sector after k ≡ sector m k
+      kept k found = behind k (All-contains (λ n. (root_sectors ≤ n) × (n < length m)) (used others) k apart.inside found).0
 
       blobs : map (blob_of after) others ≡ map (blob_of m) others
-      blobs = blobs_same m after others (λ k found. kept k (Contains-append_right (listed_sectors next) (data_sectors others) k found))
+      blobs = blobs_same m after others kept
 
-module _ {old mid : DiskFacts} (root : Root) (entries : List Entry) (s : State) (stands : (m : List Sector) → Mixture old m → StandsBy m root entries s) (changed : ℕ → Type 0) (behind : (k : ℕ) → changed k → root_sectors ≤ k) (unused : (k : ℕ) → changed k → Contains (used root entries) k → ⊥) (staged : LeavesOnly old mid (IsMixtureBut changed old)) where
+module _ {old mid : DiskFacts} (root : Root) (entries : List PlacedEntry) (s : State) (stands : (m : List Sector) → Mixture old m → StandsBy m root entries s) (changed : ℕ → Type 0) (behind : (k : ℕ) → changed k → root_sectors ≤ k) (unused : (k : ℕ) → changed k → Contains (used entries) k → ⊥) (staged : LeavesOnly old mid (IsMixtureBut changed old)) where
   abbrev IsOld : List Sector → Type 0
   IsOld m = StandsBy m root entries s
 
@@ -91,7 +91,7 @@ module _ {old mid : DiskFacts} (root : Root) (entries : List Entry) (s : State) 
   pub staged_only : (s' : State) → LeavesOnly old mid (λ m. Stands m s ⊎ Stands m s')
   staged_only s' = weaken IsOld (λ m. Stands m s ⊎ Stands m s') (λ m by. inl (root, entries, by)) staged_stands
 
-  module _ (synced : IsSynced mid) (next : Root) (others : List Entry) (s' : State) (at : ℕ) (content : Sector) (written : StandsBy (set mid.now at content) next others s') where
+  module _ (synced : IsSynced mid) (next : Root) (others : List PlacedEntry) (s' : State) (at : ℕ) (content : Sector) (written : StandsBy (set mid.now at content) next others s') where
     -- the commit leaves the old state or the new one,
     pub committed_only : {new : DiskFacts} → LeavesOnly mid new (IsMixtureOrSet mid at content) → LeavesOnly old new (λ m. Stands m s ⊎ Stands m s')
     committed_only committed = goes_on (λ m. Stands m s ⊎ Stands m s') (staged_only s')
@@ -107,7 +107,7 @@ module _ {old mid : DiskFacts} (root : Root) (entries : List Entry) (s : State) 
     committed_stands is_synced is_set m mixture = subst (λ l. StandsBy l next others s') (sym (is_synced.each m mixture ∙ is_set)) written
 
 -- A root is written where each mixture stands for a state: each stands for that one or the next.
-module _ {old : DiskFacts} (root : Root) (entries : List Entry) (s : State) (next : Root) (others : List Entry) (s' : State) (stands : (m : List Sector) → Mixture old m → StandsBy m root entries s) (followed : IsFollowed root entries s next others s') (at : ℕ) (content : Sector) (slot : at ≡ slot_of next.generation) (spelt : content ≡ root_bytes next) where
+module _ {old : DiskFacts} (root : Root) (entries : List PlacedEntry) (s : State) (next : Root) (others : List PlacedEntry) (s' : State) (stands : (m : List Sector) → Mixture old m → StandsBy m root entries s) (followed : IsFollowed root entries s next others s') (at : ℕ) (content : Sector) (slot : at ≡ slot_of next.generation) (spelt : content ≡ root_bytes next) where
   after_stands : (m : List Sector) → Mixture old m → StandsBy (set m at content) next others s'
   after_stands m mixture = subst (λ c. StandsBy (set m at c) next others s') (sym spelt)
       (subst (λ k. StandsBy (set m k (root_bytes next)) next others s') (sym slot) (followed.stands m (stands m mixture)))

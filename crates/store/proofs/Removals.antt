@@ -1,42 +1,38 @@
 -- A store with one byte string less.
-use Rattle.std.proofs.Common.{◌≡◌, ◌≢◌, ⊎_elim, ℕ, zero, suc, ◌+◌, ◌-◌, ◌^◌, ◌<◌, ◌≤◌, nat_lt, Bool, List, [], ◌∷◌, ◌++◌, length, get_or, map, take, drop, All, refl, sym, ap, subst, ◌∙◌, arith}
+use Rattle.std.proofs.Common.{◌≡◌, ◌≢◌, ⊎_elim, ℕ, zero, suc, ◌+◌, ◌-◌, ◌^◌, ◌<◌, ◌≤◌, nat_lt, Bool, List, [], ◌∷◌, length, get_or, map, take, drop, All, refl, sym, ap, subst, ◌∙◌, arith}
 use Rattle.std.specs.Prelude.{bytes_eq}
 use Rattle.std.specs.List.{remove}
 use Rattle.std.proofs.lemmas.Bool.{cases_lt, ltb-true, ltb-false, false≢true}
-use Rattle.std.proofs.lemmas.List.{get_or-map, length-map, length-take-le}
+use Rattle.std.proofs.lemmas.List.{get_or-map, length-map}
 use Rattle.std.proofs.lemmas.List.Edits.{length-remove, get_or-remove_below, get_or-remove_above}
-use Rattle.std.proofs.lemmas.List.Elements.{All-append, All-take, All-drop, All-map, All-cons, All-contains, Contains-append_left, Contains-get_or}
-use Rattle.std.proofs.lemmas.List.Sums.{sum_by-cons, sum_by-remove}
+use Rattle.std.proofs.lemmas.List.Elements.{All-append, All-take, All-drop, All-map}
+use Rattle.std.proofs.lemmas.List.Sums.{sum_by-remove}
 use Rattle.std.proofs.lemmas.Slice.Eq.{bytes_eq-Decides}
 use Rattle.sector_disk.specs.Disk.{Sector, sector}
-use Rattle.extents.specs.Extent.{places, one_sector}
+use Rattle.extents.specs.Extent.{places}
 use Rattle.roots.specs.declared.root.Root.{Root}
-use Rattle.roots.specs.declared.entry.Entry.{Entry}
-use Rattle.roots.specs.Root.{root_of_lists, listed_sectors, listed_preloads}
+use Rattle.store.specs.declared.placed_entry.PlacedEntry.{PlacedEntry}
+use Rattle.roots.specs.Root.{listed_preloads}
 use Rattle.roots.specs.Entry.{EntryHasSpelling, SpellsEntry}
 use Rattle.store.specs.State.{Blob, State}
-use Rattle.store.specs.Stands.{HaveOwnNames, IsListed, name_of, extents_of, data_sectors, used, blob_of, no_blob, names_at}
+use Rattle.store.specs.Stands.{HaveOwnNames, name_of, sectors_of, used, blob_of, no_blob, names_at}
 use Rattle.store.specs.Step.{blobs_without, without}
 use Rattle.store.specs.inside.Claimed.{IsUsable}
 use Rattle.store.specs.inside.Kept.{IsKept}
-use Rattle.store.specs.inside.Next.{IsFollowed, IsNext, closed_up}
-use Rattle.store.proofs.Counts.{one, occurs, occurs-append, occurs-flat_map, occurs_contains, contains_occurs, distinct_occurs, occurs_distinct}
+use Rattle.store.specs.inside.Next.{IsFollowed, IsNext, next_root, closed_up}
+use Rattle.store.specs.inside.Room.{extents_with}
+use Rattle.store.proofs.Counts.{occurs, occurs-flat_map, occurs_contains, contains_occurs, distinct_occurs, occurs_distinct}
 use Rattle.store.proofs.Claiming.{all-part}
 use Rattle.store.proofs.Following.{following_stands}
-use Rattle.store.proofs.Releases.{IsFilled, AreUsed}
+use Rattle.store.proofs.Releases.{AreUsed}
 use Rattle.store.proofs.Frees.{if_no, if_yes}
 use Rattle.store.proofs.News.{length-blobs}
-use Rattle.store.proofs.UsedAlone.{length-listed}
+use Rattle.store.proofs.UsedAlone.{no_entry, listed_count, kept_few, preloads_few}
+use Rattle.store.proofs.Within.{entry_filled}
 
 drop_none : {A : Type 0} (xs : List A) → drop 0 xs ≡ xs
 drop_none [] = refl
 drop_none (x ∷ xs) = refl
-
-pub take_map : {A B : Type 0} (f : A → B) (n : ℕ) (xs : List A) → take n (map f xs) ≡ map f (take n xs)
-take_map f zero [] = refl
-take_map f zero (x ∷ xs) = refl
-take_map f (suc n) [] = refl
-take_map f (suc n) (x ∷ xs) = ap (λ l. f x ∷ l) (take_map f n xs)
 
 -- a position behind the one that goes moves down, another stays
 closed_behind : (gone position : ℕ) → gone < position → closed_up gone position ≡ position - 1
@@ -81,33 +77,36 @@ remove_cases P xs gone k d fits below above = ⊎_elim
     (λ le. subst P (sym (get_or-remove_above xs gone d k le fits)) (above le))
     (cases_lt k gone)
 
-names_less : (entries : List Entry) (gone : ℕ) → gone < length entries → HaveOwnNames entries → HaveOwnNames (remove entries gone)
+names_less : (entries : List PlacedEntry) (gone : ℕ) → gone < length entries → HaveOwnNames entries → HaveOwnNames (remove entries gone)
 names_less entries gone fits names i j d lt inside =
     let more : j + 1 < length entries = omega (arith, inside, length-remove entries gone fits) in
-    remove_cases (λ a. name_of a ≢ name_of (get_or (remove entries gone) j d)) entries gone i d fits
-    (λ below. remove_cases (λ b. name_of (get_or entries i d) ≢ name_of b) entries gone j d fits
+    remove_cases (λ a. name_of a.entry ≢ name_of (get_or (remove entries gone) j d).entry) entries gone i d fits
+    (λ below. remove_cases (λ b. name_of (get_or entries i d).entry ≢ name_of b.entry) entries gone j d fits
     (λ _. names i j d lt (omega (arith, more)))
     (λ _. names i (j + 1) d (omega (arith, lt)) more))
-    (λ above. remove_cases (λ b. name_of (get_or entries (i + 1) d) ≢ name_of b) entries gone j d fits
+    (λ above. remove_cases (λ b. name_of (get_or entries (i + 1) d).entry ≢ name_of b.entry) entries gone j d fits
     (λ below. absurd (omega (arith, above, below, lt)))
     (λ _. names (i + 1) (j + 1) d (omega (arith, lt)) more))
 
 -- the byte strings without the first of a name are those without its position
-without_is : (m : List Sector) (name : List ℕ) (entries : List Entry) (gone : ℕ) → gone < length entries → ((k : ℕ) (d : Entry) → k < gone → name_of (get_or entries k d) ≢ name) → ((d : Entry) → name_of (get_or entries gone d) ≡ name)
+without_is : (m : List Sector) (name : List ℕ) (entries : List PlacedEntry) (gone : ℕ) → gone < length entries → ((k : ℕ) (d : PlacedEntry) → k < gone → name_of (get_or entries k d).entry ≢ name) → ((d : PlacedEntry) → name_of (get_or entries gone d).entry ≡ name)
     → blobs_without name (map (blob_of m) entries) ≡ map (blob_of m) (remove entries gone)
 without_is m name [] gone fits before at = absurd (omega (arith, fits))
 without_is m name (e ∷ entries) zero fits before at =
-    if_yes (bytes_eq name (name_of e)) _ _ (λ isnt. false≢true (sym isnt ∙ (bytes_eq-Decides name (name_of e)).1 (sym (at e))))
+    if_yes (bytes_eq name (name_of e.entry)) _ _ (λ isnt. false≢true (sym isnt ∙ (bytes_eq-Decides name (name_of e.entry)).1 (sym (at e))))
     ∙ ap (map (blob_of m)) (sym (drop_none entries))
 without_is m name (e ∷ entries) (suc gone) fits before at =
-    if_no (bytes_eq name (name_of e)) _ _ (λ is. before 0 e (omega arith) (sym ((bytes_eq-Decides name (name_of e)).0 is)))
+    if_no (bytes_eq name (name_of e.entry)) _ _ (λ is. before 0 e (omega arith) (sym ((bytes_eq-Decides name (name_of e.entry)).0 is)))
     ∙ ap (λ l. blob_of m e ∷ l) (without_is m name entries gone (omega (arith, fits)) (λ k d lt. before (suc k) d (omega (arith, lt))) at)
 
-map_remove : (m : List Sector) (entries : List Entry) (gone : ℕ) → map (blob_of m) (remove entries gone) ≡ remove (map (blob_of m) entries) gone
-map_remove m [] zero = refl
-map_remove m [] (suc gone) = refl
-map_remove m (e ∷ entries) zero = ap (map (blob_of m)) (drop_none entries) ∙ sym (drop_none (map (blob_of m) entries))
-map_remove m (e ∷ entries) (suc gone) = ap (λ l. blob_of m e ∷ l) (map_remove m entries gone)
+pub map_remove : {A B : Type 0} (f : A → B) (xs : List A) (gone : ℕ) → map f (remove xs gone) ≡ remove (map f xs) gone
+map_remove f [] zero = refl
+map_remove f [] (suc gone) = refl
+map_remove f (x ∷ xs) zero = ap (map f) (drop_none xs) ∙ sym (drop_none (map f xs))
+map_remove f (x ∷ xs) (suc gone) = ap (λ l. f x ∷ l) (map_remove f xs gone)
+
+all_remove : {A : Type 0} (P : A → Type 0) (xs : List A) (gone : ℕ) → All P xs → All P (remove xs gone)
+all_remove P xs gone all = All-append P (take gone xs) (drop (suc gone) xs) (All-take P gone xs all) (All-drop P (suc gone) xs all)
 
 -- positions that close up name the same
 names_closed : (blobs : List Blob) (gone : ℕ) (positions : List ℕ) → gone < length blobs → All (λ position. position ≢ gone) positions → names_at (remove blobs gone) (map (closed_up gone) positions) ≡ names_at blobs positions
@@ -117,19 +116,16 @@ names_closed blobs gone (p ∷ positions) fits others =
     let there = names_closed blobs gone positions fits (λ k d lt. others (suc k) d (omega (arith, lt))) in
     λ i. (here i).name ∷ there i
 
-abbrev pub no_entry : Entry
-no_entry = record { file_length = 0; name_length = 0; extent_count = 0; name = []; extents = [] }
-
 -- The entry of a name goes, which is no preload's, and the next root lists the others.
-pub record IsRemoval (root : Root) (entries : List Entry) (layout : List Bool) (name : List ℕ) (gone : ℕ) (next : Root) : Type 0 where
+pub record IsRemoval (root : Root) (entries : List PlacedEntry) (layout : List Bool) (name : List ℕ) (gone : ℕ) (next : Root) : Type 0 where
   pub kept : IsKept root entries layout
   pub fits : gone < length entries
-  pub named : (d : Entry) → name_of (get_or entries gone d) ≡ name
-  pub others : All (λ position. (d : Entry) → name_of (get_or entries position d) ≢ name) (listed_preloads root)
+  pub named : (d : PlacedEntry) → name_of (get_or entries gone d).entry ≡ name
+  pub others : All (λ position. (d : PlacedEntry) → name_of (get_or entries position d).entry ≢ name) (listed_preloads root)
   pub later : root.generation + 1 < 2 ^ 64
-  pub is_next : next ≡ root_of_lists (root.generation + 1) root.sectors (remove (listed_sectors root) gone) (map (closed_up gone) (listed_preloads root))
+  pub is_next : next ≡ next_root root (remove entries gone) (map (closed_up gone) (listed_preloads root))
 
-module _ {root : Root} {entries : List Entry} {layout : List Bool} {name : List ℕ} {gone : ℕ} {next : Root} (removal : IsRemoval root entries layout name gone next) where
+module _ {root : Root} {entries : List PlacedEntry} {layout : List Bool} {name : List ℕ} {gone : ℕ} {next : Root} (removal : IsRemoval root entries layout name gone next) where
   kept : IsKept root entries layout
   kept = removal.kept
 
@@ -137,64 +133,56 @@ module _ {root : Root} {entries : List Entry} {layout : List Bool} {name : List 
   fits = removal.fits
 
   others : All (λ position. position ≢ gone) (listed_preloads root)
-  others k d lt = λ same. removal.others k d lt no_entry (ap (λ i. name_of (get_or entries i no_entry)) same ∙ removal.named no_entry)
+  others k d lt = λ same. removal.others k d lt no_entry (ap (λ i. name_of (get_or entries i no_entry).entry) same ∙ removal.named no_entry)
 
-  abbrev entry : Entry
-  entry = get_or entries gone no_entry
+  abbrev old : PlacedEntry
+  old = get_or entries gone no_entry
 
-  abbrev listed : List ℕ
-  listed = listed_sectors root
+  abbrev left : List PlacedEntry
+  left = remove entries gone
 
-  abbrev at : ℕ
-  at = get_or listed gone 0
-
-  in_listed : gone < length listed
-  in_listed = omega (arith, fits, kept.count, length-listed root kept.root_fits)
+  count : length entries ≡ root.library_count
+  count = listed_count root entries kept.root_fits kept.listed
 
   -- What is used is used still, or goes.
-  pub removal_parts : (k : ℕ) → occurs k (remove listed gone ++ data_sectors (remove entries gone)) + occurs k (places (one_sector at ∷ extents_of entry)) ≡ occurs k (used root entries)
+  pub removal_parts : (k : ℕ) → occurs k (used left) + occurs k (places (extents_with old)) ≡ occurs k (used entries)
   removal_parts k =
+      let moved : occurs k (used left) + occurs k (sectors_of old) ≡ occurs k (used entries) =
       omega (
         arith,
-        occurs-append k (remove listed gone) (data_sectors (remove entries gone)),
-        occurs-append k listed (data_sectors entries),
-        sum_by-remove (one k) listed gone 0 in_listed,
-        occurs-flat_map k (λ (e : Entry). places (extents_of e)) (remove entries gone),
-        occurs-flat_map k (λ (e : Entry). places (extents_of e)) entries,
-        sum_by-remove (λ (e : Entry). occurs k (places (extents_of e))) entries gone no_entry fits,
-        sum_by-cons (one k) at (places (extents_of entry)),
-      )
+        occurs-flat_map k sectors_of left,
+        occurs-flat_map k sectors_of entries,
+        sum_by-remove (λ (e : PlacedEntry). occurs k (sectors_of e)) entries gone no_entry fits,
+      ) in
+      moved
 
   -- What goes is in use before,
-  pub removal_used : AreUsed layout (used root entries) (one_sector at ∷ extents_of entry)
+  pub removal_used : AreUsed layout (used entries) (extents_with old)
   removal_used = record {
     claims = kept.claims;
     once = kept.apart.once;
-    inside = subst (λ n. All (IsUsable n) (used root entries)) (sym kept.size) kept.apart.inside;
-    filled = All-cons IsFilled (one_sector at) (extents_of entry) (usable.0, omega arith)
-        (λ k d lt. let its = (kept.entries_fit gone no_entry fits).extents.listed.used k d lt in (its.low, its.filled));
+    inside = subst (λ n. All (IsUsable n) (used entries)) (sym kept.size) kept.apart.inside;
+    filled = entry_filled root.sectors entries kept.apart kept.entries_fit gone no_entry fits;
     among = λ s. omega (arith, removal_parts s);
   }
-    where
-      usable : IsUsable root.sectors at
-      usable = All-contains (IsUsable root.sectors) (used root entries) at kept.apart.inside (Contains-append_left listed (data_sectors entries) at (Contains-get_or listed gone 0 in_listed))
 
-  pub removal_next : IsNext root (remove listed gone) (map (closed_up gone) (listed_preloads root)) (remove entries gone) next
+  pub removal_next : IsNext root left (map (closed_up gone) (listed_preloads root)) next
   removal_next = record {
     is_next = removal.is_next;
     later = removal.later;
-    few = omega (arith, length-remove listed gone in_listed, length-listed root kept.root_fits, kept.root_fits.entry_sectors.listed.room);
-    count = omega (arith, length-remove listed gone in_listed, length-remove entries gone fits, length-listed root kept.root_fits, kept.count);
-    inside = all-part (IsUsable root.sectors) (remove listed gone ++ data_sectors (remove entries gone)) (used root entries)
-        (λ s stays. occurs_contains s (used root entries) (omega (arith, removal_parts s, contains_occurs s (remove listed gone ++ data_sectors (remove entries gone)) stays))) kept.apart.inside;
-    once = occurs_distinct (remove listed gone ++ data_sectors (remove entries gone)) (λ k. omega (arith, removal_parts k, distinct_occurs k (used root entries) kept.apart.once));
-    fit = All-append EntryHasSpelling (take gone entries) (drop (suc gone) entries) (All-take EntryHasSpelling gone entries kept.entries_fit) (All-drop EntryHasSpelling (suc gone) entries kept.entries_fit);
+    few = omega (arith, length-remove entries gone fits, kept_few kept);
+    fit = all_remove (λ (p : PlacedEntry). EntryHasSpelling p.entry) entries gone kept.entries_fit;
+    apart = record {
+      inside = all-part (IsUsable root.sectors) (used left) (used entries)
+          (λ s stays. occurs_contains s (used entries) (omega (arith, removal_parts s, contains_occurs s (used left) stays))) kept.apart.inside;
+      once = occurs_distinct (used left) (λ k. omega (arith, removal_parts k, distinct_occurs k (used entries) kept.apart.once));
+    };
     names = names_less entries gone fits kept.names;
-    few_preloads = omega (arith, length-map (listed_preloads root) (closed_up gone), length-preloads, kept.root_fits.preloads.listed.room);
-    preloads_inside = All-map (λ position. position < length (remove listed gone)) (closed_up gone) (listed_preloads root)
-        (λ k d lt. closed_inside gone (length (remove listed gone)) (get_or (listed_preloads root) k d) (others k d lt)
-        (omega (arith, kept.root_fits.preloads.listed.used k d lt, length-listed root kept.root_fits, length-remove listed gone in_listed))
-        (omega (arith, in_listed, length-remove listed gone in_listed)));
+    few_preloads = omega (arith, length-map (listed_preloads root) (closed_up gone), preloads_few root kept.root_fits);
+    preloads_inside = All-map (λ position. position < length left) (closed_up gone) (listed_preloads root)
+        (λ k d lt. closed_inside gone (length left) (get_or (listed_preloads root) k d) (others k d lt)
+        (omega (arith, kept.root_fits.preloads.listed.used k d lt, count, length-remove entries gone fits))
+        (omega (arith, fits, length-remove entries gone fits)));
     preloads_once = λ i j d lt inside same.
         let fewer : j < length (listed_preloads root) = omega (arith, inside, length-map (listed_preloads root) (closed_up gone)) in
         let one_of = get_or-map (closed_up gone) (listed_preloads root) i 0 d (omega (arith, lt, fewer)) in
@@ -202,15 +190,12 @@ module _ {root : Root} {entries : List Entry} {layout : List Bool} {name : List 
         kept.root_fits.preloads.distinct i j 0 lt fewer
         (closed_apart gone (get_or (listed_preloads root) i 0) (get_or (listed_preloads root) j 0) (others i 0 (omega (arith, lt, fewer))) (others j 0 fewer) (sym one_of ∙ same ∙ other));
   }
-    where
-      length-preloads : length (listed_preloads root) ≡ root.preload_count
-      length-preloads = length-take-le root.preload_count root.preloads (omega (arith, kept.root_fits.preloads.listed.size, kept.root_fits.preloads.listed.room))
 
   -- What the removal makes of sectors.
-  pub removal_followed : (s : State) → IsFollowed root entries s next (remove entries gone) (without name s)
+  pub removal_followed : (s : State) → IsFollowed root entries s next left (without name s)
   removal_followed s = record {
     stands = λ m by. following_stands removal_next kept.root_fits m entries s (without name s) by
-        (λ i d lt. spelt m by.intact.listed i d (omega (arith, lt, length-remove entries gone fits)))
+        (all_remove (λ (p : PlacedEntry). SpellsEntry (sector m p.at) p.entry) entries gone by.intact.listed.each)
         (ap (without name) by.is ∙ (λ i. record {
           generation = root.generation + 1;
           blobs = blobs m i;
@@ -218,21 +203,9 @@ module _ {root : Root} {entries : List Entry} {layout : List Bool} {name : List 
         }));
   }
     where
-      spelt : (m : List Sector) → IsListed m root entries → (i : ℕ) (d : Entry) → i + 1 < length entries → SpellsEntry (sector m (get_or (remove listed gone) i 0)) (get_or (remove entries gone) i d)
-      spelt m is_listed i d lt = ⊎_elim
-          (λ below.
-          let same = get_or-remove_below listed gone 0 i below in_listed in
-          let same' = get_or-remove_below entries gone d i below fits in
-          subst (λ k. SpellsEntry (sector m k) (get_or (remove entries gone) i d)) (sym same) (subst (SpellsEntry (sector m (get_or listed i 0))) (sym same') (is_listed.each i d (omega (arith, lt)))))
-          (λ above.
-          let same = get_or-remove_above listed gone 0 i above in_listed in
-          let same' = get_or-remove_above entries gone d i above fits in
-          subst (λ k. SpellsEntry (sector m k) (get_or (remove entries gone) i d)) (sym same) (subst (SpellsEntry (sector m (get_or listed (i + 1) 0))) (sym same') (is_listed.each (i + 1) d lt)))
-          (cases_lt i gone)
-
-      blobs : (m : List Sector) → blobs_without name (map (blob_of m) entries) ≡ map (blob_of m) (remove entries gone)
+      blobs : (m : List Sector) → blobs_without name (map (blob_of m) entries) ≡ map (blob_of m) left
       blobs m = without_is m name entries gone fits (λ k d lt same. kept.names k gone d lt fits (same ∙ sym (removal.named d))) removal.named
 
-      preloads : (m : List Sector) → names_at (map (blob_of m) entries) (listed_preloads root) ≡ names_at (map (blob_of m) (remove entries gone)) (map (closed_up gone) (listed_preloads root))
-      preloads m = sym (ap (λ l. names_at l (map (closed_up gone) (listed_preloads root))) (map_remove m entries gone)
+      preloads : (m : List Sector) → names_at (map (blob_of m) entries) (listed_preloads root) ≡ names_at (map (blob_of m) left) (map (closed_up gone) (listed_preloads root))
+      preloads m = sym (ap (λ l. names_at l (map (closed_up gone) (listed_preloads root))) (map_remove (blob_of m) entries gone)
           ∙ names_closed (map (blob_of m) entries) gone (listed_preloads root) (omega (arith, fits, length-blobs m entries)) others)

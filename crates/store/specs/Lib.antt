@@ -3,6 +3,6 @@ pub mod Stands
 pub mod Opened
 pub mod Changed
 pub mod Opening
-pub mod Placed
+pub mod Taken
 pub mod Step
 pub mod inside

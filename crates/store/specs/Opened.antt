@@ -2,22 +2,22 @@
 use Rattle.std.specs.Prelude.{Bool, List, IsTrue, IsFalse, Result, Ok, Err}
 use Rattle.sector_disk.specs.Disk.{Sector, DiskFacts, Mixture}
 use Rattle.roots.specs.declared.root.Root.{Root}
-use Rattle.roots.specs.declared.entry.Entry.{Entry}
+use Rattle.store.specs.declared.placed_entry.PlacedEntry.{PlacedEntry}
 use Rattle.store.specs.declared.refusal.StoreRefusal.{StoreRefusal}
 use Rattle.store.specs.State.{State}
 use Rattle.extents.specs.Used.{layout_of}
 use Rattle.store.specs.Stands.{StandsBy, used}
 
--- what a store keeps: its disk, the current root, its entries, and whether a write or a sync failed
+-- what a store keeps: its disk, the current root, its entries with their sectors, and whether a write or a sync failed
 pub record Opened (D : Type 0) : Type 0 where
   pub disk : D
   pub root : Root
-  pub entries : List Entry
+  pub entries : List PlacedEntry
   pub failed : Bool
 
 -- the layout of its disk, in which exactly the sectors in use are claimed
 abbrev pub layout_in_use : {D : Type 0} → Opened D → List Bool
-layout_in_use store = layout_of store.root.sectors (used store.root store.entries)
+layout_in_use store = layout_of store.root.sectors (used store.entries)
 
 -- The store is at a state: every mixture of its disk stands for it.
 pub record IsAt {D : Type 0} (facts : D → DiskFacts) (store : Opened D) (s : State) : Type 0 where

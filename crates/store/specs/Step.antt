@@ -4,9 +4,9 @@ use Rattle.std.specs.Int.{IsInRange}
 use Rattle.extents.specs.Extent.{sector_count}
 use Rattle.extents.specs.Longest.{longest_runs}
 use Rattle.roots.specs.Limits.{least_file_bytes, most_file_bytes, most_name_bytes, most_libraries}
-use Rattle.roots.specs.declared.entry.Entry.{Entry}
 use Rattle.roots.specs.Entry.{IsNameByte}
 use Rattle.roots.specs.Root.{listed_preloads}
+use Rattle.store.specs.declared.placed_entry.PlacedEntry.{PlacedEntry}
 use Rattle.store.specs.declared.refusal.StoreRefusal.{StoreRefusal}
 use Rattle.store.specs.declared.refusal.StoreRefusal.TheVariants.{Device, Reopen, Full, Fragmented, TooMany, GenerationEnd, OutOfMemory}
 use Rattle.extents.specs.declared.refusal.TakeRefusal.{TakeRefusal}
@@ -26,15 +26,15 @@ IsFileSize size = IsInRange least_file_bytes most_file_bytes size
 
 -- no byte string of the store has this name
 abbrev pub LacksName : {D : Type 0} → Opened D → List ℕ → Type 0
-LacksName store name = All (λ entry. name_of entry ≢ name) store.entries
+LacksName store name = All (λ placed. name_of placed.entry ≢ name) store.entries
 
 -- a byte string of the store has this name
 abbrev pub HasName : {D : Type 0} → Opened D → List ℕ → Type 0
-HasName store name = (i : ℕ) × (i < length store.entries) × ((d : Entry) → name_of (slice_index_or store.entries i d) ≡ name)
+HasName store name = (i : ℕ) × (i < length store.entries) × ((d : PlacedEntry) → name_of (slice_index_or store.entries i d).entry ≡ name)
 
 -- no preload of the store has this name
 abbrev pub IsNoPreload : {D : Type 0} → Opened D → List ℕ → Type 0
-IsNoPreload store name = All (λ position. (d : Entry) → name_of (slice_index_or store.entries position d) ≢ name) (listed_preloads store.root)
+IsNoPreload store name = All (λ position. (d : PlacedEntry) → name_of (slice_index_or store.entries position d).entry ≢ name) (listed_preloads store.root)
 
 -- the state with one more byte string, behind the others
 abbrev pub with_new : List ℕ → List ℕ → State → State

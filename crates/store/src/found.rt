@@ -1,4 +1,4 @@
-// What a disk holds: the current root, the entries that it lists, and the sectors that they use.
+// What a disk holds: the current root, the entries that it lists, and the sectors in use.
 ghost use Rattle.std.specs.Prelude.{◌≡◌, ◌+◌, ◌<◌, ◌⊎◌, IsTrue, IfOk, IfErr, OnOk, length};
 ghost use Rattle.sector_disk.specs.Disk.{sector, Mixture, LeavesOnly, IsSynced};
 ghost use Rattle.sector_disk.specs.Disk.{AreCallsExactly, AreCallsAtMost};
@@ -10,11 +10,12 @@ ghost use Rattle.store.specs.Stands.{IsIntact, Stands};
 ghost use Rattle.store.specs.inside.Kept.{IsKept};
 
 use crate::entries::{have_own_names, read_entries};
+use crate::placed_entry::PlacedEntry;
 use crate::refusal::StoreRefusal;
 use crate::slots::read_slots;
 use crate::used::claim_used;
 use extents::Layout;
-use roots::{Entry, Root, choose};
+use roots::{Root, choose};
 use sector_disk::Disk;
 use std::alloc::Global;
 
@@ -51,7 +52,7 @@ fn read_root<D: Disk>(disk: &mut D, sectors: u32) -> Result<Root, StoreRefusal>
 #[derive(Drop)]
 pub(crate) struct Found {
     pub root: Root,
-    pub entries: Vec<Entry>,
+    pub entries: Vec<PlacedEntry>,
     pub layout: Layout,
 }
 
@@ -88,7 +89,7 @@ pub(crate) fn find_store<D: Disk>(
     if !have_own_names(&entries) {
         return Err(StoreRefusal::Damaged);
     }
-    let layout = claim_used(alloc, &root, &entries)?;
+    let layout = claim_used(alloc, root.sectors, &entries)?;
     Ok(Found {
         root,
         entries,

@@ -14,6 +14,7 @@ mod geometry;
 mod names;
 mod next;
 mod open;
+mod placed_entry;
 mod preload;
 mod put;
 mod query;
@@ -26,5 +27,6 @@ mod slots;
 mod store;
 mod used;
 
+pub use placed_entry::PlacedEntry;
 pub use refusal::StoreRefusal;
 pub use store::Store;

@@ -1,18 +1,19 @@
 // The roots that follow one, and the commit of such a root.
-ghost use Rattle.std.specs.Prelude.{◌≡◌, ◌+◌, ◌-◌, ◌<◌, ◌≤◌, ◌^◌, ◌⊎◌, List, length};
+ghost use Rattle.std.specs.Prelude.{◌≡◌, ◌+◌, ◌-◌, ◌<◌, ◌≤◌, ◌^◌, ◌⊎◌, List, [], ◌∷◌, ◌++◌, length};
 ghost use Rattle.std.specs.List.{remove};
 ghost use Rattle.std.specs.Prelude.{map, set, take, All, IsTrue, OnOk};
 ghost use Rattle.extents.specs.Limits.{root_sectors};
 ghost use Rattle.sector_disk.specs.Disk.{Sector, Mixture, LeavesOnly};
 ghost use Rattle.passes.specs.Calls.{AreCallsInRow};
 ghost use Rattle.roots.specs.declared.root.Root.{Root};
-ghost use Rattle.roots.specs.declared.entry.Entry.{Entry};
 ghost use Rattle.roots.specs.Limits.{most_libraries, most_preloads};
-ghost use Rattle.roots.specs.Root.{RootHasSpelling, root_of_lists, listed_sectors, listed_preloads};
+ghost use Rattle.roots.specs.Root.{RootHasSpelling, listed_preloads};
+ghost use Rattle.store.specs.declared.placed_entry.PlacedEntry.{PlacedEntry};
 ghost use Rattle.store.specs.State.{State};
-ghost use Rattle.store.specs.Stands.{StandsBy, Stands};
-ghost use Rattle.store.specs.inside.Next.{IsFollowed, closed_up};
+ghost use Rattle.store.specs.Stands.{StandsBy, Stands, entry_sectors};
+ghost use Rattle.store.specs.inside.Next.{IsFollowed, closed_up, next_root};
 
+use crate::placed_entry::PlacedEntry;
 use passes::commit;
 use roots::{MOST_LIBRARIES, MOST_PRELOADS, Root, encode_root, slot_of};
 use sector_disk::{Disk, DiskFault};
@@ -37,6 +38,18 @@ fn close_up(positions: &mut [u16], gone: u16)
     }
 }
 
+/// The sectors of entries, and zeros behind them.
+fn entry_sectors(entries: &[PlacedEntry]) -> [u32; MOST_LIBRARIES]
+    requires { length entries.now ≤ most_libraries }
+    ensures { take (length entries.now) result ≡ entry_sectors entries.now }
+{
+    let mut sectors = [0; MOST_LIBRARIES];
+    for (place, placed) in entries.iter().enumerate() {
+        sectors[place] = placed.at;
+    }
+    sectors
+}
+
 /// A list's sectors but for the one at `gone`, and zeros behind them.
 fn all_but(listed: &[u32], gone: usize) -> [u32; MOST_LIBRARIES]
     requires few { length listed.now ≤ most_libraries }
@@ -49,55 +62,76 @@ fn all_but(listed: &[u32], gone: usize) -> [u32; MOST_LIBRARIES]
     sectors
 }
 
-/// The next root, which lists all entries but one.
-pub(crate) fn without_entry(root: &Root, position: usize) -> Root
+/// The next root, which lists one more entry.
+pub(crate) fn with_entry(root: &Root, entries: &[PlacedEntry], put: &PlacedEntry) -> Root
     requires fits { RootHasSpelling root.now }
     requires generation { root.now.generation + 1 < 2 ^ 64 }
-    requires inside { position < root.now.library_count }
-    ensures { result ≡ root_of_lists (root.now.generation + 1) root.now.sectors
-        (remove (listed_sectors root.now) position)
+    requires few { length entries.now < most_libraries }
+    ensures { result
+        ≡ next_root root.now (entries.now ++ put.now ∷ []) (listed_preloads root.now) }
+{
+    let mut sectors = entry_sectors(entries);
+    sectors[entries.len()] = put.at;
+    Root::new(
+        root.generation + 1,
+        root.sectors,
+        &sectors[..entries.len() + 1],
+        root.preload_positions(),
+    )
+}
+
+/// The next root, which lists all entries but one.
+pub(crate) fn without_entry(root: &Root, entries: &[PlacedEntry], position: usize) -> Root
+    requires fits { RootHasSpelling root.now }
+    requires generation { root.now.generation + 1 < 2 ^ 64 }
+    requires few { length entries.now ≤ most_libraries }
+    requires inside { position < length entries.now }
+    ensures { result ≡ next_root root.now (remove entries.now position)
         (map (closed_up position) (listed_preloads root.now)) }
 {
-    let listed = root.entry_sectors();
-    let sectors = all_but(listed, position);
+    let sectors = entry_sectors(entries);
+    let others = all_but(&sectors[..entries.len()], position);
     let mut preloads = root.preloads;
     close_up(&mut preloads, position as u16);
     Root::new(
         root.generation + 1,
         root.sectors,
-        &sectors[..listed.len() - 1],
+        &others[..entries.len() - 1],
         &preloads[..usize::from(root.preload_count)],
     )
 }
 
-/// The next root, which lists another sector for one of the entries.
-pub(crate) fn with_entry_at(root: &Root, position: usize, at: u32) -> Root
+/// The next root, which lists another entry in the place of one.
+pub(crate) fn with_entry_at(
+    root: &Root,
+    entries: &[PlacedEntry],
+    position: usize,
+    put: &PlacedEntry,
+) -> Root
     requires fits { RootHasSpelling root.now }
     requires generation { root.now.generation + 1 < 2 ^ 64 }
-    requires inside { position < root.now.library_count }
-    ensures { result ≡ root_of_lists (root.now.generation + 1) root.now.sectors
-        (set (listed_sectors root.now) position at) (listed_preloads root.now) }
+    requires few { length entries.now ≤ most_libraries }
+    requires inside { position < length entries.now }
+    ensures { result
+        ≡ next_root root.now (set entries.now position put.now) (listed_preloads root.now) }
 {
-    let listed = root.entry_sectors();
-    let mut sectors = [0; MOST_LIBRARIES];
-    sectors[..listed.len()].copy_from_slice(listed);
-    sectors[position] = at;
+    let mut sectors = entry_sectors(entries);
+    sectors[position] = put.at;
     Root::new(
         root.generation + 1,
         root.sectors,
-        &sectors[..listed.len()],
+        &sectors[..entries.len()],
         root.preload_positions(),
     )
 }
 
-/// The next root, which lists the preloads at these positions.
-pub(crate) fn with_preloads(root: &Root, positions: &[usize]) -> Root
-    requires fits { RootHasSpelling root.now }
+/// The next root, which lists the same entries and the preloads at these positions.
+pub(crate) fn with_preloads(root: &Root, entries: &[PlacedEntry], positions: &[usize]) -> Root
     requires generation { root.now.generation + 1 < 2 ^ 64 }
     requires few { length positions.now ≤ most_preloads }
-    requires inside { All (λ position. position < root.now.library_count) positions.now }
-    ensures { result ≡ root_of_lists (root.now.generation + 1) root.now.sectors
-        (listed_sectors root.now) positions.now }
+    requires few_entries { length entries.now ≤ most_libraries }
+    requires inside { All (λ position. position < length entries.now) positions.now }
+    ensures { result ≡ next_root root.now entries.now positions.now }
 {
     let mut preloads = [0; MOST_PRELOADS];
     for (place, position) in positions.iter().enumerate() {
@@ -106,7 +140,7 @@ pub(crate) fn with_preloads(root: &Root, positions: &[usize]) -> Root
     Root::new(
         root.generation + 1,
         root.sectors,
-        root.entry_sectors(),
+        &entry_sectors(entries)[..entries.len()],
         &preloads[..positions.len()],
     )
 }
@@ -117,13 +151,13 @@ pub(crate) fn write_root<D: Disk>(disk: &mut D, root: &Root) -> Result<(), DiskF
     requires roots { root_sectors ≤ (D.facts disk.old).sectors }
     ensures calls { AreCallsInRow 2 (D.facts disk.old) (D.facts disk.new) result }
     ensures any_moment { IsTrue (D.facts disk.old).honest
-        → (before : Root) → (entries : List Entry) → (s : State) → (others : List Entry)
+        → (before : Root) → (entries : List PlacedEntry) → (s : State) → (others : List PlacedEntry)
         → (s' : State)
         → ((m : List Sector) → Mixture (D.facts disk.old) m → StandsBy m before entries s)
         → IsFollowed before entries s root.now others s'
         → LeavesOnly (D.facts disk.old) (D.facts disk.new) (λ m. Stands m s ⊎ Stands m s') }
     ensures done { IsTrue (D.facts disk.old).honest
-        → (before : Root) → (entries : List Entry) → (s : State) → (others : List Entry)
+        → (before : Root) → (entries : List PlacedEntry) → (s : State) → (others : List PlacedEntry)
         → (s' : State)
         → ((m : List Sector) → Mixture (D.facts disk.old) m → StandsBy m before entries s)
         → IsFollowed before entries s root.now others s'

@@ -41,7 +41,7 @@ impl<D: Disk> Store<D> {
         if self.root.generation == u64::MAX {
             return Err(StoreRefusal::GenerationEnd);
         }
-        let root = with_preloads(&self.root, positions);
+        let root = with_preloads(&self.root, &self.entries, positions);
         self.failed = true;
         write_root(&mut self.disk, &root)?;
         self.root = root;

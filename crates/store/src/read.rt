@@ -7,35 +7,39 @@ ghost use Rattle.passes.specs.Calls.{AreReads};
 ghost use Rattle.roots.specs.Entry.{EntryHasSpelling};
 ghost use Rattle.store.specs.Stands.{extents_of, blob_of};
 
+use crate::placed_entry::PlacedEntry;
 use crate::refusal::StoreRefusal;
 use crate::store::Store;
 use passes::read_bytes;
-use roots::Entry;
 use sector_disk::{Disk, SECTOR_BYTES};
 use std::alloc::Global;
 
 /// The byte string of an entry. Each of its sectors is read once, into the vector that is given.
-fn read_file<D: Disk>(alloc: Global, disk: &mut D, entry: &Entry) -> Result<Vec<u8>, StoreRefusal>
-    requires spelling { EntryHasSpelling entry.now }
-    requires inside { All (IsOnDisk (D.facts disk.old).sectors) (extents_of entry.now) }
+fn read_file<D: Disk>(
+    alloc: Global,
+    disk: &mut D,
+    placed: &PlacedEntry,
+) -> Result<Vec<u8>, StoreRefusal>
+    requires spelling { EntryHasSpelling placed.now.entry }
+    requires inside { All (IsOnDisk (D.facts disk.old).sectors) (extents_of placed.now.entry) }
     requires fits { (D.facts disk.old).sectors < 2 ^ 32 }
-    ensures calls { AreCallsAtMost (div_ceil entry.now.file_length sector_bytes)
+    ensures calls { AreCallsAtMost (div_ceil placed.now.entry.file_length sector_bytes)
         (D.facts disk.old) (D.facts disk.new) }
     ensures all_calls { OnOk result (AreCallsExactly
-        (div_ceil entry.now.file_length sector_bytes) (D.facts disk.old) (D.facts disk.new)) }
+        (div_ceil placed.now.entry.file_length sector_bytes) (D.facts disk.old) (D.facts disk.new)) }
     ensures same { IsTrue (D.facts disk.old).honest
         → AreReads (D.facts disk.old) (D.facts disk.new) }
     ensures read { IsTrue (D.facts disk.old).honest → IfOk result (λ bytes.
-        bytes.items ≡ (blob_of (D.facts disk.old).now entry.now).bytes) }
-    ensures length { IfOk result (λ bytes. length bytes.items ≡ entry.now.file_length) }
+        bytes.items ≡ (blob_of (D.facts disk.old).now placed.now).bytes) }
+    ensures length { IfOk result (λ bytes. length bytes.items ≡ placed.now.entry.file_length) }
     ensures refused { IfErr result (λ e. ((e ≡ StoreRefusal.Device)
         × ((D.facts disk.old).failures < (D.facts disk.new).failures))
         ⊎ ((e ≡ StoreRefusal.OutOfMemory) × (disk.new ≡ disk.old))) }
 {
-    let sectors = entry.file_length.div_ceil(SECTOR_BYTES as u32) as usize;
+    let sectors = placed.entry.file_length.div_ceil(SECTOR_BYTES as u32) as usize;
     let mut bytes = vec![in alloc; 0; SECTOR_BYTES * sectors]?;
-    read_bytes(disk, entry.file_extents(), &mut bytes)?;
-    bytes.truncate(entry.file_length as usize);
+    read_bytes(disk, placed.entry.file_extents(), &mut bytes)?;
+    bytes.truncate(placed.entry.file_length as usize);
     Ok(bytes)
 }
 
@@ -45,7 +49,7 @@ impl<D: Disk> Store<D> {
     ghost use Rattle.std.specs.Int.{div_ceil};
     ghost use Rattle.sector_disk.specs.Disk.{sector_bytes, Mixture, LeavesOnly};
     ghost use Rattle.sector_disk.specs.Disk.{AreCallsExactly, AreCallsAtMost};
-    ghost use Rattle.roots.specs.declared.entry.Entry.{Entry};
+    ghost use Rattle.store.specs.declared.placed_entry.PlacedEntry.{PlacedEntry};
     ghost use Rattle.store.specs.Opened.{IsAt};
     ghost use Rattle.store.specs.Stands.{no_blob};
     ghost use Rattle.store.specs.State.{State};
@@ -65,19 +69,19 @@ impl<D: Disk> Store<D> {
         // On any disk. A read that fails doesn't make the store fail.
         ensures kept { (self.new.root ≡ self.old.root) × (self.new.entries ≡ self.old.entries)
             × (self.new.failed ≡ self.old.failed) }
-        ensures length { (d : Entry) → IfOk result (λ bytes. length bytes.items
-            ≡ (slice_index_or self.old.entries position d).file_length) }
+        ensures length { (d : PlacedEntry) → IfOk result (λ bytes. length bytes.items
+            ≡ (slice_index_or self.old.entries position d).entry.file_length) }
         ensures reopen { (result ≡ Err StoreRefusal.Reopen) ↔ IsTrue self.old.failed }
         ensures refusals { IfErr result (λ e. (e ≡ StoreRefusal.Device)
             ⊎ (e ≡ StoreRefusal.Reopen) ⊎ (e ≡ StoreRefusal.OutOfMemory)) }
         ensures device { IfErr result (λ e. e ≡ StoreRefusal.Device
             → (D.facts self.old.disk).failures < (D.facts self.new.disk).failures) }
         ensures untouched { IfErr result (λ e. e ≢ StoreRefusal.Device → self.new ≡ self.old) }
-        ensures all_calls { (d : Entry) → OnOk result (AreCallsExactly
-            (div_ceil (slice_index_or self.old.entries position d).file_length sector_bytes)
+        ensures all_calls { (d : PlacedEntry) → OnOk result (AreCallsExactly
+            (div_ceil (slice_index_or self.old.entries position d).entry.file_length sector_bytes)
             (D.facts self.old.disk) (D.facts self.new.disk)) }
-        ensures calls { (d : Entry) → AreCallsAtMost
-            (div_ceil (slice_index_or self.old.entries position d).file_length sector_bytes)
+        ensures calls { (d : PlacedEntry) → AreCallsAtMost
+            (div_ceil (slice_index_or self.old.entries position d).entry.file_length sector_bytes)
             (D.facts self.old.disk) (D.facts self.new.disk) }
     {
         if self.failed {

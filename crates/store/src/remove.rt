@@ -43,15 +43,11 @@ impl<D: Disk> Store<D> {
         let Some(position) = position_of(&self.entries, name) else {
             unreachable!();
         };
-        let root = without_entry(&self.root, position);
+        let root = without_entry(&self.root, &self.entries, position);
         self.failed = true;
         write_root(&mut self.disk, &root)?;
-        let entry = self.entries.remove(position);
-        give_back(
-            &mut self.layout,
-            entry.file_extents(),
-            self.root.entry_sectors()[position],
-        );
+        let gone = self.entries.remove(position);
+        give_back(&mut self.layout, &gone);
         self.root = root;
         self.failed = false;
         Ok(())

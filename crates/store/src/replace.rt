@@ -1,7 +1,7 @@
 use crate::Store;
 use crate::names::position_of;
 use crate::next::with_entry_at;
-use crate::put::{new_entry, sectors_of, write_put};
+use crate::put::{new_entry, sector_need, write_put};
 use crate::refusal::StoreRefusal;
 use crate::room::{give_back, take_room};
 use sector_disk::Disk;
@@ -13,7 +13,7 @@ impl<D: Disk> Store<D> {
     ghost use Rattle.sector_disk.specs.Disk.{LeavesOnly};
     ghost use Rattle.store.specs.Changed.{Changed};
     ghost use Rattle.store.specs.Opened.{IsAt};
-    ghost use Rattle.store.specs.Placed.{IsPutOver};
+    ghost use Rattle.store.specs.Taken.{IsPutOver};
     ghost use Rattle.store.specs.Stands.{Stands};
     ghost use Rattle.store.specs.State.{State};
     ghost use Rattle.store.specs.Step.{HasName, IsFileSize, with_bytes, longest_free};
@@ -52,18 +52,16 @@ impl<D: Disk> Store<D> {
         let Some(position) = position_of(&self.entries, name) else {
             unreachable!();
         };
-        let room = take_room(&mut self.layout, sectors_of(bytes))?;
-        let entry = new_entry(name, bytes, room.extents.as_slice());
-        let root = with_entry_at(&self.root, position, room.entry);
+        let room = take_room(&mut self.layout, sector_need(bytes))?;
+        let put = new_entry(name, bytes, &room);
+        let root = with_entry_at(&self.root, &self.entries, position, &put);
         self.failed = true;
-        if let Err(fault) = write_put(&mut self.disk, &room, bytes, &entry, &root) {
-            give_back(&mut self.layout, room.extents.as_slice(), room.entry);
+        if let Err(fault) = write_put(&mut self.disk, &put, bytes, &root) {
+            give_back(&mut self.layout, &put);
             return Err(StoreRefusal::from(fault));
         }
-        let old = self.entries[position];
-        let sector = self.root.entry_sectors()[position];
-        give_back(&mut self.layout, old.file_extents(), sector);
-        self.entries[position] = entry;
+        give_back(&mut self.layout, &self.entries[position]);
+        self.entries[position] = put;
         self.root = root;
         self.failed = false;
         Ok(())

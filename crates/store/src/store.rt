@@ -1,10 +1,12 @@
 use crate::format::write_first_root;
 use crate::geometry::is_geometry;
-use crate::put::{new_entry, sectors_of, with_entry, write_put};
+use crate::next::with_entry;
+use crate::placed_entry::PlacedEntry;
+use crate::put::{new_entry, sector_need, write_put};
 use crate::refusal::StoreRefusal;
 use crate::room::{give_back, take_room};
 use extents::Layout;
-use roots::{Entry, MOST_LIBRARIES, Root};
+use roots::{MOST_LIBRARIES, Root};
 use sector_disk::Disk;
 use std::alloc::Global;
 use std::marker::Model;
@@ -13,7 +15,7 @@ use std::marker::Model;
 pub struct Store<D: Disk> {
     pub(crate) disk: D,
     pub(crate) root: Root,
-    pub(crate) entries: Vec<Entry>,
+    pub(crate) entries: Vec<PlacedEntry>,
     pub(crate) layout: Layout,
     // A write or a sync failed: what the disk holds is known again once it is opened.
     pub(crate) failed: bool,
@@ -47,7 +49,7 @@ impl<D: Disk> Store<D> {
     ghost use Rattle.store.specs.Opened.{IsAt, disk_after};
     ghost use Rattle.store.specs.Opening.{IsGeometry, HasRootMagic};
     ghost use Rattle.store.specs.Opening.{RefusesFormat, IsRefusalOfFormat};
-    ghost use Rattle.store.specs.Placed.{IsPutBehind};
+    ghost use Rattle.store.specs.Taken.{IsPutBehind};
     ghost use Rattle.store.specs.Stands.{Stands};
     ghost use Rattle.store.specs.State.{State, empty_state};
     ghost use Rattle.store.specs.Step.{IsName, IsFileSize, LacksName, with_new};
@@ -141,15 +143,15 @@ impl<D: Disk> Store<D> {
             return Err(StoreRefusal::GenerationEnd);
         }
         self.entries.reserve(1)?;
-        let room = take_room(&mut self.layout, sectors_of(bytes))?;
-        let entry = new_entry(name, bytes, room.extents.as_slice());
-        let root = with_entry(&self.root, room.entry);
+        let room = take_room(&mut self.layout, sector_need(bytes))?;
+        let put = new_entry(name, bytes, &room);
+        let root = with_entry(&self.root, &self.entries, &put);
         self.failed = true;
-        if let Err(fault) = write_put(&mut self.disk, &room, bytes, &entry, &root) {
-            give_back(&mut self.layout, room.extents.as_slice(), room.entry);
+        if let Err(fault) = write_put(&mut self.disk, &put, bytes, &root) {
+            give_back(&mut self.layout, &put);
             return Err(StoreRefusal::from(fault));
         }
-        match self.entries.push(entry) {
+        match self.entries.push(put) {
             Ok(()) => {}
             Err(_) => unreachable!(),
         }

@@ -1,11 +1,13 @@
 -- How far a script has come.
-use Rattle.std.specs.Prelude.{◌≡◌, ℕ, ◌<◌, List, [], length, All, Option, IfSome}
-use Rattle.std.specs.List.{flat_map}
+use Rattle.std.specs.Prelude.{◌≡◌, ◌==◌, true, ◌⊎◌, ◌++◌, ℕ, ◌<◌, List, [], length, All, Option, IfSome}
+use Rattle.std.specs.List.{flat_map, list_any}
+use Rattle.std.specs.Io.{StopsAt}
 use Rattle.std.specs.Io.KnownBytes.{Appends, Consumes}
 use Rattle.registry.specs.Request.{Request}
 use Rattle.registry.specs.Runs.{Run}
 use Rattle.registry.specs.declared.reply.Reply.{Reply}
 use Rattle.commands.specs.Answer.{LineStep, output}
+use Rattle.commands.specs.Line.{AsksNoChange}
 use Rattle.commands.specs.Script.{IsLine, ended, Counts}
 use Rattle.commands.specs.declared.answer.Answer.{Answer}
 use Rattle.commands.specs.declared.fault.ScriptFault.{ScriptFault}
@@ -18,11 +20,20 @@ use Rattle.commands.specs.declared.summary.Summary.{Summary}
 abbrev pub IsAll : Option (List ℕ) → List ℕ → Type 0
 IsAll known bytes = IfSome known (λ text. text ≡ bytes)
 
+-- a newline is among these bytes
+abbrev pub HasLine : List ℕ → Type 0
+HasLine bytes = list_any (λ b. b == 10) bytes ≡ true
+
 -- What one read of a line gave: a whole line, what stands behind the last newline, or nothing.
 abbrev pub GotLine : Option (List ℕ) → Option (List ℕ) → List ℕ → Got → Type 0
 GotLine before after line Whole = Consumes before after (ended line) × IsLine line
 GotLine before after line Cut = IsAll before line × Consumes before after line × IsLine line × (0 < length line)
 GotLine before after line End = IsAll before [] × Consumes before after []
+
+-- What a read of a line that failed did: the writer failed before it, or part of a line was read, and all that was written or waits is as it was.
+abbrev pub Unread : Option (List ℕ) → Option (List ℕ) → Option (List ℕ) → Option (List ℕ) → List ℕ → ScriptFault → Type 0
+Unread before after waits now line Write = after ≡ before
+Unread before after waits now line fault = Consumes before after line × StopsAt line 10 × Appends waits now []
 
 -- the streams at a place of a script: what is left to read, and what the writer holds
 pub record Place : Type 0 where
@@ -38,11 +49,23 @@ module _ {S : Type 0} (step : S → Request → Reply → S → Type 0) where
     pub written : Appends p.written q.written (output answers)
     pub counts : Counts summary answers
 
-  -- there are such lines and answers
-  abbrev pub Goes : Place → Place → S → S → Summary → Type 0
-  Goes p q s t summary = (whole : List (List ℕ)) × (answers : List Answer) × Answered p q s t summary whole answers
+  -- a line was answered
+  abbrev pub Stepped : S → List ℕ → S → Type 0
+  Stepped s line s' = (answer : Answer) × LineStep step s line answer s'
 
-  -- A whole line was not answered, for want of memory, or its answer was not written.
-  abbrev pub Misses : S → S → Option (List ℕ) → Option (List ℕ) → List ℕ → ScriptFault → Type 0
-  Misses s s' held now line Write = (answer : Answer) × LineStep step s line answer s'
-  Misses s s' held now line fault = (s' ≡ s) × (now ≡ held)
+  -- Of a whole line, with what the writer holds and what waits behind it, before and now: for want of memory nothing was done; or the writer failed before the line was applied, or where it asks for no change, or where the writer held all that had waited.
+  abbrev pub Misses : {W : Type 0} → (W → Option (List ℕ)) → S → S → Option (List ℕ) → Option (List ℕ) → List ℕ → ScriptFault → Type 0
+  Misses contents s s' waits now line Write = (s' ≡ s) ⊎ (Stepped s line s' × (AsksNoChange line ⊎ ((held : _) × Appends waits (contents held) [])))
+  Misses contents s s' waits now line fault = (s' ≡ s) × (now ≡ waits)
+
+-- A writer held exactly the answers to the first lines; the other lines ask for no change.
+pub record Told (before held : Option (List ℕ)) (whole : List (List ℕ)) (answers : List Answer) : Type 0 where
+  pub told : List (List ℕ)
+  pub untold : List (List ℕ)
+  pub sent : List Answer
+  pub missing : List Answer
+  pub lines : whole ≡ told ++ untold
+  pub answered : answers ≡ sent ++ missing
+  pub same : length told ≡ length sent
+  pub written : Appends before held (output sent)
+  pub quiet : All AsksNoChange untold

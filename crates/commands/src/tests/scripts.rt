@@ -156,13 +156,14 @@ fn a_writer_fails_at_each_write(rt: HostRuntime) -> Result<(), Fail> {
         refused: 2,
     };
     for (room, applied, wanted) in [
-        (0, 1, Err(ScriptFault::Write)),
-        (2, 1, Err(ScriptFault::Write)),
-        (3, 1, Err(ScriptFault::Write)),
-        (21, 1, Err(ScriptFault::Write)),
-        (22, 2, Err(ScriptFault::Write)),
+        // Before the change: three answers are one write.
+        (0, 2, Err(ScriptFault::Write)),
+        (3, 2, Err(ScriptFault::Write)),
         (24, 2, Err(ScriptFault::Write)),
+        // Its own answer.
         (25, 3, Err(ScriptFault::Write)),
+        (27, 3, Err(ScriptFault::Write)),
+        // The last answer.
         (28, 3, Err(ScriptFault::Write)),
         (46, 3, Err(ScriptFault::Write)),
         (47, 3, Ok(done)),

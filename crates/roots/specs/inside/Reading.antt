@@ -4,9 +4,10 @@ use Rattle.std.specs.List.{range_with_len}
 use Rattle.std.specs.Int.{Width, w16, w32, w64, from_le_bytes}
 use Rattle.extents.specs.declared.extent.Extent.{Extent}
 use Rattle.extents.specs.Limits.{most_extents}
-use Rattle.roots.specs.Limits.{most_libraries, most_preloads, most_name_bytes}
+use Rattle.roots.specs.Limits.{most_libraries, most_preloads, most_catalogue_entries, most_name_bytes}
 use Rattle.roots.specs.declared.entry_list.EntryList.TheVariants.{InRoot}
 use Rattle.roots.specs.declared.root.Root.{Root}
+use Rattle.roots.specs.declared.catalogue.Catalogue.{Catalogue}
 use Rattle.roots.specs.declared.entry.Entry.{Entry}
 
 -- the number that stands there
@@ -30,6 +31,13 @@ root_of bytes = record {
   preload_count = number_at w16 22 bytes;
   preloads = values_at (from_le_bytes w16) 2 most_preloads 24 bytes;
   list = InRoot (values_at (from_le_bytes w32) 4 most_libraries 64 bytes);
+}
+
+-- what the fields of a catalogue sector say
+unfoldable pub catalogue_of : List ℕ → Catalogue
+catalogue_of bytes = record {
+  count = number_at w16 4 bytes;
+  entry_sectors = values_at (from_le_bytes w32) 4 most_catalogue_entries 16 bytes;
 }
 
 -- what the fields of an entry sector say

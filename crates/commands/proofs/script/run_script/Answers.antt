@@ -1,57 +1,16 @@
-use Rattle.std.proofs.Common.{[], subst, sym, ◌∙◌, refl}
-use Rattle.std.proofs.lemmas.Result.{err_from_is_err_and}
-use Rattle.commands.specs.Answer.{LineStep}
-use Rattle.commands.specs.inside.Progress.{Answered, GotLine, Misses, Place}
-use Rattle.commands.specs.declared.fault.ScriptFault.TheVariants.{Read, OutOfMemory}
-use Rattle.commands.specs.declared.summary.Summary.{Summary}
-use Rattle.commands.proofs.Lines.{stops_line}
-use Rattle.commands.proofs.Pages.{unread_pages}
-use Rattle.commands.proofs.Scripts.{answered_none, answered_more, ends_cut, breaks_reading, breaks_cut, breaks_here, breaks_line, breaks_none, ends_here, wrote_cut, wrote_line}
+use Rattle.std.proofs.Common.{Option, List, ℕ, refl, subst, sym}
+use Rattle.std.proofs.lemmas.Result.{err_from_is_err_and, IfOk-weaker, IfErr-weaker}
 use Rattle.std.specs.Io.Buffered.{reader_remaining}
+use Rattle.std.specs.Io.KnownBytes.{append_known}
+use Rattle.commands.specs.Script.{Streams, Finishes, Stops, StopsWriting}
+use Rattle.commands.specs.declared.fault.ScriptFault.TheVariants.{Write, OutOfMemory}
+use Rattle.commands.proofs.Pages.{unread_pages}
+use Rattle.commands.proofs.Scripts.{breaks_none}
+use Rattle.commands.proofs.Sent.{all_sent, ends_sent, breaks_sent, breaks_writing, unsent}
 use Rattle.commands.proofs.script.run_script.Goals as goal
 
-pub loop-init : goal.loop-init
-loop-init g c =
-    let unread = unread_pages (λ r. g.R.Read.remaining r.now) c.in-Ok.pages _ 65536 c.in-Ok.ensures.inner c.in-Ok.ensures.empty c.in-Ok.ensures.capacity refl in
-    let here : Place = record { unread = g.R.Read.remaining c.args.reader.now; written = g.W.Write.contents c.args.writer.now } in
-    let m : Summary = record { lines = 0; refused = 0 } in
-    ([], [], subst (λ u. Answered g.G.Applies.step here (record { unread = u; written = here.written }) c.args.registry.now c.args.registry.now m [] []) (sym unread) (answered_none g.G.Applies.step here c.args.registry.now m refl refl))
-
-pub returns-in_err-read_line-clause-err : goal.returns-in_err-read_line-clause-err
-returns-in_err-read_line-clause-err g c =
-    let p = err_from_is_err_and c.from_residual.result c.from_residual.ensures.1 in
-    let so = c.loop.invariant in
-    let part = c.read_line.new.line.items in
-    rw p.1 (so.0, part, so.1, breaks_reading g.G.Applies.step _ _ _ _ _ so.0 so.1 so.2 _ p.0 part c.in_err-read_line.ensures.read c.in_err-read_line.ensures.part refl)
-
-pub returns-in_err-refused-in-Whole-clause-err : goal.returns-in_err-refused-in-Whole-clause-err
-returns-in_err-refused-in-Whole-clause-err g c =
-    let p = err_from_is_err_and c.from_residual-in_err-refused-in-Whole.result c.from_residual-in_err-refused-in-Whole.ensures.1 in
-    let so = c.loop.invariant in
-    let line = c.read_line.new.line.items in
-    let held = g.W.Write.contents c.loop.writer in
-    let now = g.W.Write.contents c.answer_whole.new.writer in
-    let s = c.loop.registry in
-    let s' = c.answer_whole.new.registry in
-    let got = subst (GotLine (reader_remaining (λ r. g.R.Read.remaining r.now) c.loop.pages) (reader_remaining (λ r. g.R.Read.remaining r.now) c.read_line.new.reader) line) c.in-Whole.is c.in_ok-read_line.ensures.ok in
-    let missed = subst (Misses g.G.Applies.step s s' held now line) (sym p.2)
-    (subst (λ l. Misses g.G.Applies.step s s' held now l c.in_err-refused-in-Whole.field-0.0) c.deref.ensures.value c.in_err-refused-in-Whole.ensures.err) in
-    rw p.1 (breaks_line g.G.Applies.step _ _ _ _ _ so.0 so.1 so.2 _ _ line p.0 got.0 got.1 missed)
-
-pub returns-in_err-write_answer-in-Cut-clause-err : goal.returns-in_err-write_answer-in-Cut-clause-err
-returns-in_err-write_answer-in-Cut-clause-err g c =
-    let p = err_from_is_err_and c.from_residual-in_err-write_answer-in-Cut.result c.from_residual-in_err-write_answer-in-Cut.ensures.1 in
-    let so = c.loop.invariant in
-    let line = c.read_line.new.line.items in
-    let got = subst (GotLine (reader_remaining (λ r. g.R.Read.remaining r.now) c.loop.pages) (reader_remaining (λ r. g.R.Read.remaining r.now) c.read_line.new.reader) line) c.in-Cut.is c.in_ok-read_line.ensures.ok in
-    rw p.1 (so.0, line, so.1, breaks_cut g.G.Applies.step _ _ _ _ _ so.0 so.1 so.2 _ p.0 line (p.2 ∙ c.in_err-write_answer-in-Cut.ensures.err) got.1 (stops_line line got.2))
-
-pub returns-in-End-clause-ok : goal.returns-in-End-clause-ok
-returns-in-End-clause-ok g c =
-    let so = c.loop.invariant in
-    let line = c.read_line.new.line.items in
-    let got = subst (GotLine (reader_remaining (λ r. g.R.Read.remaining r.now) c.loop.pages) (reader_remaining (λ r. g.R.Read.remaining r.now) c.read_line.new.reader) line) c.in-End.is c.in_ok-read_line.ensures.ok in
-    (so.0, [], so.1, ends_here g.G.Applies.step _ _ _ _ _ so.0 so.1 so.2 got.0)
+abbrev streams : Option (List ℕ) → Option (List ℕ) → Option (List ℕ) → Streams
+streams unread before after = record { unread = unread; before = before; after = after }
 
 pub returns-in_default-clause-err : goal.returns-in_default-clause-err
 returns-in_default-clause-err g c =
@@ -59,44 +18,73 @@ returns-in_default-clause-err g c =
     (record { unread = g.R.Read.remaining c.args.reader.now; written = g.W.Write.contents c.args.writer.now })
     c.args.registry.now OutOfMemory
 
-pub returns-in-Cut-clause-ok : goal.returns-in-Cut-clause-ok
-returns-in-Cut-clause-ok g c =
-    let so = c.loop.invariant in
-    let line = c.read_line.new.line.items in
-    let got = subst (GotLine (reader_remaining (λ r. g.R.Read.remaining r.now) c.loop.pages) (reader_remaining (λ r. g.R.Read.remaining r.now) c.read_line.new.reader) line) c.in-Cut.is c.in_ok-read_line.ensures.ok in
-    (so.0, line, so.1, ends_cut g.G.Applies.step _ _ _ _ _ so.0 so.1 so.2 _ _ line got.0 got.2 got.3 c.in_ok-write_answer-in-Cut.ensures.ok c.count-in-Cut.ensures.lines c.count-in-Cut.ensures.refused)
+pub returns-in_err-send-clause-err : goal.returns-in_err-send-clause-err
+returns-in_err-send-clause-err g c =
+    let p = err_from_is_err_and c.from_residual.result c.from_residual.ensures.1 in
+    let step = g.G.Applies.step in
+    let before = g.W.Write.contents c.args.writer.now in
+    let now = g.W.Write.contents c.send.new.out in
+    let old = c.args.registry.now in
+    let new = c.run_lines-ended.new.registry in
+    let unread = unread_pages (λ r. g.R.Read.remaining r.now) c.in-Ok.pages _ 65536 c.in-Ok.ensures.inner c.in-Ok.ensures.empty c.in-Ok.ensures.capacity refl in
+    let io = streams (reader_remaining (λ r. g.R.Read.remaining r.now) c.in-Ok.pages) before (append_known (g.W.Write.contents c.run_lines-ended.new.writer) c.run_lines-ended.new.waiting.waiting) in
+    let stopped = unsent g.W.Write.contents step io old new c.run_lines-ended.result now c.run_lines-ended.ensures.ok c.run_lines-ended.ensures.err in
+    let all = subst (λ u. Stops step (streams u before now) old new Write) unread (stopped.1.0, stopped.1.1, stopped.1.2, stopped.1.3) in
+    rw p.1 (subst (Stops step (streams (g.R.Read.remaining c.args.reader.now) before now) old new) (sym p.2) all)
 
-pub loop-preserved : goal.loop-preserved
-loop-preserved g c =
-    let so = c.loop.invariant in
-    let line = c.read_line.new.line.items in
-    let got = subst (GotLine (reader_remaining (λ r. g.R.Read.remaining r.now) c.loop.pages) (reader_remaining (λ r. g.R.Read.remaining r.now) c.read_line.new.reader) line) c.in-Whole.is c.in_ok-read_line.ensures.ok in
-    let ok = c.in_ok-refused-in-Whole.ensures.ok in
-    let made = subst (λ l. LineStep g.G.Applies.step c.loop.registry l ok.0 c.answer_whole.new.registry) c.deref.ensures.value ok.1 in
-    (_, _, answered_more g.G.Applies.step _ _ _ _ _ so.0 so.1 so.2 _ _ _ line ok.0 c.in_ok-refused-in-Whole.refused got.0 got.1 made ok.2 ok.3 c.count.ensures.lines c.count.ensures.refused)
+pub returns-in_err-send-clause-sent : goal.returns-in_err-send-clause-sent
+returns-in_err-send-clause-sent g c =
+    let p = err_from_is_err_and c.from_residual.result c.from_residual.ensures.1 in
+    let step = g.G.Applies.step in
+    let before = g.W.Write.contents c.args.writer.now in
+    let now = g.W.Write.contents c.send.new.out in
+    let old = c.args.registry.now in
+    let new = c.run_lines-ended.new.registry in
+    let unread = unread_pages (λ r. g.R.Read.remaining r.now) c.in-Ok.pages _ 65536 c.in-Ok.ensures.inner c.in-Ok.ensures.empty c.in-Ok.ensures.capacity refl in
+    let io = streams (reader_remaining (λ r. g.R.Read.remaining r.now) c.in-Ok.pages) before (append_known (g.W.Write.contents c.run_lines-ended.new.writer) c.run_lines-ended.new.waiting.waiting) in
+    let stopped = unsent g.W.Write.contents step io old new c.run_lines-ended.result now c.run_lines-ended.ensures.ok c.run_lines-ended.ensures.err in
+    rw p.1 (λ is. (stopped.0, subst (λ u. StopsWriting step (streams u before now) old new (g.W.Write.contents stopped.0)) unread stopped.1))
+
+pub returns-clause-ok : goal.returns-clause-ok
+returns-clause-ok g c =
+    let step = g.G.Applies.step in
+    let before = g.W.Write.contents c.args.writer.now in
+    let held = g.W.Write.contents c.run_lines-ended.new.writer in
+    let now = g.W.Write.contents c.send.new.out in
+    let old = c.args.registry.now in
+    let new = c.run_lines-ended.new.registry in
+    let unread = unread_pages (λ r. g.R.Read.remaining r.now) c.in-Ok.pages _ 65536 c.in-Ok.ensures.inner c.in-Ok.ensures.empty c.in-Ok.ensures.capacity refl in
+    IfOk-weaker c.run_lines-ended.result _ _
+    (λ summary h. subst (λ u. Finishes step (streams u before now) old new summary) unread
+    (h.1, h.2, h.3, ends_sent step _ _ _ h.1 h.2 h.3 summary now (λ text sent. all_sent before held now _ text sent c.in_ok-send.ensures.ok) h.4))
+    c.run_lines-ended.ensures.ok
 
 pub returns-clause-err : goal.returns-clause-err
 returns-clause-err g c =
-    let so = c.loop.invariant in
-    (so.0, [], so.1, breaks_here g.G.Applies.step _ _ _ _ _ so.0 so.1 so.2 Read)
+    let step = g.G.Applies.step in
+    let before = g.W.Write.contents c.args.writer.now in
+    let held = g.W.Write.contents c.run_lines-ended.new.writer in
+    let now = g.W.Write.contents c.send.new.out in
+    let old = c.args.registry.now in
+    let new = c.run_lines-ended.new.registry in
+    let unread = unread_pages (λ r. g.R.Read.remaining r.now) c.in-Ok.pages _ 65536 c.in-Ok.ensures.inner c.in-Ok.ensures.empty c.in-Ok.ensures.capacity refl in
+    IfErr-weaker c.run_lines-ended.result _ _
+    (λ fault h. subst (λ u. Stops step (streams u before now) old new fault) unread
+    (h.1, h.2, h.3, breaks_sent step _ _ _ h.1 h.2 h.3 fault now (λ text sent. all_sent before held now _ text sent c.in_ok-send.ensures.ok) h.4))
+    c.run_lines-ended.ensures.err
 
-pub returns-in_err-refused-in-Whole-clause-sent : goal.returns-in_err-refused-in-Whole-clause-sent
-returns-in_err-refused-in-Whole-clause-sent g c =
-    let p = err_from_is_err_and c.from_residual-in_err-refused-in-Whole.result c.from_residual-in_err-refused-in-Whole.ensures.1 in
-    let so = c.loop.invariant in
-    let line = c.read_line.new.line.items in
-    let held = g.W.Write.contents c.loop.writer in
-    let now = g.W.Write.contents c.answer_whole.new.writer in
-    let s = c.loop.registry in
-    let s' = c.answer_whole.new.registry in
-    let got = subst (GotLine (reader_remaining (λ r. g.R.Read.remaining r.now) c.loop.pages) (reader_remaining (λ r. g.R.Read.remaining r.now) c.read_line.new.reader) line) c.in-Whole.is c.in_ok-read_line.ensures.ok in
-    let missed = subst (λ l. Misses g.G.Applies.step s s' held now l c.in_err-refused-in-Whole.field-0.0) c.deref.ensures.value c.in_err-refused-in-Whole.ensures.err in
-    rw p.1 (λ is. (c.loop.writer, wrote_line g.G.Applies.step _ _ _ _ _ so.0 so.1 so.2 _ _ line got.0 got.1 (subst (Misses g.G.Applies.step s s' held now line) (sym p.2 ∙ is) missed)))
-
-pub returns-in_err-write_answer-in-Cut-clause-sent : goal.returns-in_err-write_answer-in-Cut-clause-sent
-returns-in_err-write_answer-in-Cut-clause-sent g c =
-    let p = err_from_is_err_and c.from_residual-in_err-write_answer-in-Cut.result c.from_residual-in_err-write_answer-in-Cut.ensures.1 in
-    let so = c.loop.invariant in
-    let line = c.read_line.new.line.items in
-    let got = subst (GotLine (reader_remaining (λ r. g.R.Read.remaining r.now) c.loop.pages) (reader_remaining (λ r. g.R.Read.remaining r.now) c.read_line.new.reader) line) c.in-Cut.is c.in_ok-read_line.ensures.ok in
-    rw p.1 (λ is. (c.loop.writer, wrote_cut g.G.Applies.step _ _ _ _ _ so.0 so.1 so.2 _ line got.1 (stops_line line got.2)))
+pub returns-clause-sent : goal.returns-clause-sent
+returns-clause-sent g c =
+    let step = g.G.Applies.step in
+    let before = g.W.Write.contents c.args.writer.now in
+    let now = g.W.Write.contents c.send.new.out in
+    let old = c.args.registry.now in
+    let new = c.run_lines-ended.new.registry in
+    let unread = unread_pages (λ r. g.R.Read.remaining r.now) c.in-Ok.pages _ 65536 c.in-Ok.ensures.inner c.in-Ok.ensures.empty c.in-Ok.ensures.capacity refl in
+    IfErr-weaker c.run_lines-ended.result _ _
+    (λ fault h is. (
+      h.0,
+      subst (λ u. StopsWriting step (streams u before now) old new (g.W.Write.contents h.0)) unread
+          (h.1, h.2, h.3, breaks_writing step _ _ _ h.1 h.2 h.3 fault now h.4, h.5),
+    ))
+    c.run_lines-ended.ensures.err

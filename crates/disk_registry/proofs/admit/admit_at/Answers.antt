@@ -1,6 +1,6 @@
 use Rattle.std.proofs.Common.{sym, ◌∙◌}
 use Rattle.std.proofs.lemmas.Result.{err_from_is_err_and}
-use Rattle.store.proofs.Queries.{no_entry}
+use Rattle.store.proofs.UsedAlone.{no_entry}
 use Rattle.store.specs.Stands.{no_blob}
 use Rattle.std.specs.Prelude.{slice_index_or}
 use Rattle.registry.specs.Library.{IsLibrary}

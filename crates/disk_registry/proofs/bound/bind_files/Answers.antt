@@ -1,26 +1,18 @@
-use Rattle.std.proofs.Common.{◌+◌, ◌<◌, length, map, arith}
-use Rattle.std.proofs.lemmas.List.{length-map}
-use Rattle.std.proofs.lemmas.Result.{err_from_is_err_and}
+use Rattle.std.proofs.Common.{◌≡◌, List, map, IfErr, inl, inr, ap, subst, ◌∙◌, ⊎_elim}
+use Rattle.std.proofs.lemmas.Result.{IfErr-weaker}
+use Rattle.scope.specs.LoadOrder.{available}
+use Rattle.scope.specs.Objects.{Named}
+use Rattle.image.specs.Placement.{place}
+use Rattle.image.specs.Refusal.{IsPlacedAnswer, IsFirstOrWantsMemory, placed_refusal}
 use Rattle.registry.specs.Binding.{object_of}
-use Rattle.registry.proofs.Bindings.{memory}
-use Rattle.disk_registry.proofs.NamedPlaces.{numbers_differ, numbers_low}
+use Rattle.disk_registry.specs.inside.Walked.{walked_objects}
 use Rattle.disk_registry.proofs.bound.bind_files.Goals as goal
 
-pub returns-in_err-libraries-clause-refused : goal.returns-in_err-libraries-clause-refused
-returns-in_err-libraries-clause-refused c =
-    let p = err_from_is_err_and c.from_residual.result c.from_residual.ensures.1 in
-    rw (p.1, p.2) (memory c.args.program.now c.args.base c.requires.program)
-
-pub returns-in_err-numbers-clause-refused : goal.returns-in_err-numbers-clause-refused
-returns-in_err-numbers-clause-refused c =
-    let p = err_from_is_err_and c.from_residual-in_err-numbers.result c.from_residual-in_err-numbers.ensures.1 in
-    rw (p.1, p.2) (memory c.args.program.now c.args.base c.requires.program)
-
-pub bind_admitted-requires-clause-preloads : goal.bind_admitted-requires-clause-preloads
-bind_admitted-requires-clause-preloads c =
-    let few : c.args.preloads < length (map object_of c.args.files.now) + 1 = omega (arith, c.requires.preloads, length-map c.args.files.now object_of) in
-    rw (c.deref.ensures.value, c.in_ok-libraries.ensures, c.deref-2.ensures.value, c.in_ok-numbers.ensures)
-    (numbers_low c.args.preloads (length (map object_of c.args.files.now)) few)
-
-pub bind_admitted-requires-clause-distinct : goal.bind_admitted-requires-clause-distinct
-bind_admitted-requires-clause-distinct c = rw (c.deref-2.ensures.value, c.in_ok-numbers.ensures) (numbers_differ c.args.preloads)
+pub returns-clause-refused : goal.returns-clause-refused
+returns-clause-refused c =
+    let objects = walked_objects c.args.program.now c.args.base c.args.files.now in
+    let is : c.in_ok-order.order ≡ available c.args.program.now (map object_of c.args.files.now) =
+    c.in_ok-order.ensures ∙ ap (available c.args.program.now) (c.deref.ensures.value ∙ c.in_ok-libraries.ensures) in
+    IfErr-weaker c.bind.result (IsPlacedAnswer objects) (IsFirstOrWantsMemory (placed_refusal objects))
+    (λ e h. ⊎_elim (λ refused. inl refused) (λ lacks. inr lacks.0) h)
+    (subst (λ (os : List Named). IfErr c.bind.result (IsPlacedAnswer (place c.args.base os))) is c.bind.ensures.refused)

@@ -3,8 +3,8 @@ use Rattle.std.specs.Prelude.{slice_index_or, length}
 use Rattle.std.specs.Int.{div_ceil}
 use Rattle.std.proofs.lemmas.Result.{IfOk-weaker}
 use Rattle.sector_disk.specs.Disk.{sector_bytes, AreCallsExactly}
-use Rattle.store.proofs.Queries.{no_entry}
-use Rattle.store.specs.Stands.{name_of, no_blob}
+use Rattle.store.proofs.UsedAlone.{no_entry}
+use Rattle.store.specs.Stands.{no_blob}
 use Rattle.store.specs.declared.refusal.StoreRefusal.TheVariants.{Damaged}
 use Rattle.registry.specs.Library.{Library, IsLibrary}
 use Rattle.disk_registry.proofs.Files.{same_library}
@@ -29,12 +29,6 @@ returns-clause-read g c = record {
   failed = c.read_blob.ensures.kept.2;
   calls = (c.read_blob.ensures.calls no_entry).some;
 }
-
-pub returns-clause-name : goal.returns-clause-name
-returns-clause-name g c d =
-    IfOk-weaker c.new.result _ (λ (file : Library). file.name ≡ name_of (slice_index_or c.args.store.now.entries c.args.position d))
-    (λ file is. ap (λ (l : Library). l.name) is ∙ c.name.ensures.value d ∙ ap (λ entries. name_of (slice_index_or entries c.args.position d)) c.read_blob.ensures.kept.1)
-    c.new.ensures.ok
 
 pub returns-clause-ok : goal.returns-clause-ok
 returns-clause-ok g c s at =

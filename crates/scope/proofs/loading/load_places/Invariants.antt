@@ -1,7 +1,7 @@
 use Rattle.std.proofs.Common.{◌≡◌, ◌≤◌, ◌+◌, ◌-◌, length, map, take, None}
 use Rattle.std.specs.List.{find, flat_map}
 use Rattle.scope.specs.LoadOrder.{available, names_of, needs_of, level_0, object_at, needed_by, is_missing}
-use Rattle.scope.proofs.Reaching.{Reached}
+use Rattle.scope.specs.inside.Reached.{Reached}
 use Rattle.scope.proofs.loading.load_places.Given as goal
 
 abbrev pub invariant-loop-i : goal.invariant-loop-i

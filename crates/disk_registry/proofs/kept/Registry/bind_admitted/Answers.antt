@@ -1,9 +1,8 @@
-use Rattle.std.proofs.Common.{◌<◌, length, sym, ap, subst, ◌∙◌}
-use Rattle.std.specs.Prelude.{All, sum_by}
+use Rattle.std.proofs.Common.{sym, ap, subst, ◌∙◌}
+use Rattle.std.specs.Prelude.{sum_by}
 use Rattle.std.proofs.lemmas.Result.{err_from_is_err_and}
-use Rattle.extents.specs.Extent.{AreDistinct}
-use Rattle.roots.specs.Root.{listed_preloads}
 use Rattle.sector_disk.specs.Disk.{AreCallsExactly}
+use Rattle.image.proofs.Answering.{program-based}
 use Rattle.image.specs.Byte.{byte_of}
 use Rattle.image.specs.Image.{image_of}
 use Rattle.registry.specs.Library.{Library}
@@ -13,7 +12,7 @@ use Rattle.registry.specs.declared.reply.Reply.TheVariants.{Refused}
 use Rattle.disk_registry.specs.Binding.{data_sectors}
 use Rattle.disk_registry.specs.Opened.{IsAt}
 use Rattle.disk_registry.specs.Phase.{phase_of}
-use Rattle.disk_registry.specs.Stands.{stored}
+use Rattle.disk_registry.specs.declared.walk.Walk.{Walk}
 use Rattle.disk_registry.specs.inside.Reading.{IsRead, IsReadRefusal}
 use Rattle.disk_registry.proofs.Bindings.{refusal_same, objects_same, answer_same, sectors_read, refused, bound, unread}
 use Rattle.disk_registry.proofs.kept.Registry.bind_admitted.Goals as goal
@@ -26,39 +25,36 @@ returns-in-Err-clause-step g c s at =
     (unread g.D.Disk.facts c.args.self.now c.read_needed.new.store s read at c.args.program.now c.args.base c.requires c.in-Err.refusal
     (subst (λ k. IsReadRefusal g.D.Disk.facts k c.read_needed.new.store c.in-Err.refusal) c.self.view_is c.in-Err.ensures.refusals) (c.in-Err.ensures.intact s here))
 
+pub bind_walked-requires : goal.bind_walked-requires
+bind_walked-requires g c = program-based c.args.program.now c.args.base c.requires
+
 pub returns-in_err-image-clause-step : goal.returns-in_err-image-clause-step
 returns-in_err-image-clause-step g c s at =
     let read : IsRead g.D.Disk.facts c.args.self.now c.read_needed.new.store = subst (λ k. IsRead g.D.Disk.facts k c.read_needed.new.store) c.self.view_is c.read_needed.ensures.read in
     let here : IsAt g.D.Disk.facts c.self.inside.store s = subst (λ k. IsAt g.D.Disk.facts k s) (sym c.self.view_is) at in
-    let there : IsAt g.D.Disk.facts c.read_needed.new.store s = record { blobs = read.same (stored s) at.blobs; libraries = at.libraries } in
-    let holds = g.met.D.Disk.holds_now c.read_needed.new.store.disk in
-    let inside : All (λ p. p < length c.read_needed.new.store.entries) (listed_preloads c.read_needed.new.store.root) = subst (All (λ p. p < length c.read_needed.new.store.entries)) c.preloads-preloads.ensures.value c.preloads-preloads.ensures.inside in
-    let once : AreDistinct (listed_preloads c.read_needed.new.store.root) = subst AreDistinct c.preloads-preloads.ensures.value c.preloads-preloads.ensures.once in
+    let walk : Walk = c.in-Ok.walk in
     let p = err_from_is_err_and c.from_residual.result c.from_residual.ensures.1 in
     rw (p.1, p.2) (refused g.D.Disk.facts c.args.self.now c.read_needed.new.store s read at c.args.program.now c.args.base c.in_err-image.field-0.0
-    (answer_same g.D.Disk.facts c.read_needed.new.store s holds there inside once c.args.program.now c.args.base c.in-Ok.files.items c.in-Ok.ensures.names (c.in-Ok.ensures.ok s here)
-    c.deref.result.now (length c.preloads-preloads.result.now) c.deref.ensures.value (ap length c.preloads-preloads.ensures.value)
+    (answer_same s c.args.program.now c.args.base walk.files.items walk.needs.missing c.requires (c.in-Ok.ensures.ok s here) (c.in-Ok.ensures.missing s here)
     c.in_err-image.field-0.0 c.in_err-image.ensures.refused))
 
 pub returns-clause-step : goal.returns-clause-step
 returns-clause-step g c s at =
     let read : IsRead g.D.Disk.facts c.args.self.now c.read_needed.new.store = subst (λ k. IsRead g.D.Disk.facts k c.read_needed.new.store) c.self.view_is c.read_needed.ensures.read in
     let here : IsAt g.D.Disk.facts c.self.inside.store s = subst (λ k. IsAt g.D.Disk.facts k s) (sym c.self.view_is) at in
-    let there : IsAt g.D.Disk.facts c.read_needed.new.store s = record { blobs = read.same (stored s) at.blobs; libraries = at.libraries } in
-    let holds = g.met.D.Disk.holds_now c.read_needed.new.store.disk in
-    let inside : All (λ p. p < length c.read_needed.new.store.entries) (listed_preloads c.read_needed.new.store.root) = subst (All (λ p. p < length c.read_needed.new.store.entries)) c.preloads-preloads.ensures.value c.preloads-preloads.ensures.inside in
-    let once : AreDistinct (listed_preloads c.read_needed.new.store.root) = subst AreDistinct c.preloads-preloads.ensures.value c.preloads-preloads.ensures.once in
-    let same = objects_same g.D.Disk.facts c.read_needed.new.store s holds there inside once c.args.program.now c.args.base c.in-Ok.files.items c.in-Ok.ensures.names (c.in-Ok.ensures.ok s here)
-    c.deref.result.now (length c.preloads-preloads.result.now) c.deref.ensures.value (ap length c.preloads-preloads.ensures.value) in
+    let walk : Walk = c.in-Ok.walk in
+    let ordered = c.in-Ok.ensures.ok s here in
+    let lacking = c.in-Ok.ensures.missing s here in
+    let same = objects_same s c.args.program.now c.args.base walk.files.items walk.needs.missing c.requires ordered lacking in
     bound g.D.Disk.facts c.args.self.now c.read_needed.new.store s read at c.args.program.now c.args.base c.in_ok-image.image
-    (refusal_same g.D.Disk.facts c.read_needed.new.store s holds there inside once c.args.program.now c.args.base c.in-Ok.files.items c.in-Ok.ensures.names (c.in-Ok.ensures.ok s here)
-    c.deref.result.now (length c.preloads-preloads.result.now) c.deref.ensures.value (ap length c.preloads-preloads.ensures.value) ∙ c.in_ok-image.ensures.accepted)
+    (refusal_same s c.args.program.now c.args.base walk.files.items walk.needs.missing c.requires ordered lacking ∙ c.in_ok-image.ensures.accepted)
     (c.in_ok-image.ensures.ok ∙ ap image_of same)
     (λ a. c.in_ok-image.ensures.bytes a ∙ ap (λ os. byte_of os a) same)
 
 pub returns-clause-all_calls : goal.returns-clause-all_calls
 returns-clause-all_calls g c s at =
     let here : IsAt g.D.Disk.facts c.self.inside.store s = subst (λ k. IsAt g.D.Disk.facts k s) (sym c.self.view_is) at in
+    let walk : Walk = c.in-Ok.walk in
     subst (λ n. AreCallsExactly n (g.D.Disk.facts c.args.self.now.disk) (g.D.Disk.facts c.read_needed.new.store.disk))
-    (sectors_read s c.args.program.now c.in-Ok.files.items (c.in-Ok.ensures.ok s here))
-    (subst (λ k. AreCallsExactly (sum_by (λ (f : Library). data_sectors f.bytes) c.in-Ok.files.items) (g.D.Disk.facts k.disk) (g.D.Disk.facts c.read_needed.new.store.disk)) c.self.view_is c.in-Ok.ensures.all_calls)
+    (sectors_read s c.args.program.now c.args.base walk.files.items walk.needs.missing c.requires (c.in-Ok.ensures.ok s here) (c.in-Ok.ensures.missing s here))
+    (subst (λ k. AreCallsExactly (sum_by (λ (f : Library). data_sectors f.bytes) walk.files.items) (g.D.Disk.facts k.disk) (g.D.Disk.facts c.read_needed.new.store.disk)) c.self.view_is c.in-Ok.ensures.all_calls)

@@ -3,7 +3,7 @@ use Rattle.std.specs.List.{list_any}
 use Rattle.std.specs.Prelude.{not, All}
 use Rattle.std.proofs.lemmas.Bool.{false≢true}
 use Rattle.std.proofs.lemmas.List.{get_or-map, length-map, map-append, take_more, take_all}
-use Rattle.roots.specs.declared.entry.Entry.{Entry}
+use Rattle.store.specs.declared.placed_entry.PlacedEntry.{PlacedEntry}
 use Rattle.store.specs.Opened as store
 use Rattle.store.specs.Opened.{Opened}
 use Rattle.store.specs.Stands.{name_of, names_at}
@@ -33,7 +33,7 @@ loop-name-preserved g c =
     let more : map now (take (i + 1) c.args.names.now) ≡ map now (take i c.args.names.now) ++ name ∷ [] =
     ap (map now) (take_more c.args.names.now i none c.loop-name-test.true) ∙ map-append now (take i c.args.names.now) (get_or c.args.names.now i none ∷ []) in
     let position = c.in-Some.position in
-    let found = subst (λ (r : Opened g.row.D.Denot). (position < length r.entries) × ((d : Entry) → name_of (get_or r.entries position d) ≡ name)) c.self.view_is c.in-Some.ensures.some in
+    let found = subst (λ (r : Opened g.row.D.Denot). (position < length r.entries) × ((d : PlacedEntry) → name_of (get_or r.entries position d).entry ≡ name)) c.self.view_is c.in-Some.ensures.some in
     let entries = c.args.self.now.entries in
     record {
       count = search rules;

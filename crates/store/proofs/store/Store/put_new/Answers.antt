@@ -1,117 +1,97 @@
-use Rattle.std.proofs.Common.{◌≡◌, ◌≢◌, ◌⊎◌, false, inl, ℕ, ◌+◌, ◌*◌, ◌≤◌, ◌∷◌, ◌++◌, [], All, length, IsTrue, Ok, Err, refl, sym, subst, ap, ◌∙◌, arith}
+use Rattle.std.proofs.Common.{◌≡◌, ◌≢◌, ◌⊎◌, inl, ◌*◌, ◌≤◌, ◌∷◌, ◌++◌, [], All, length, IsTrue, Ok, Err, refl, sym, subst, ap, ◌∙◌, arith}
 use Rattle.std.specs.Int.{div_ceil}
 use Rattle.std.proofs.lemmas.Grind.{div_ceil_times}
 use Rattle.std.proofs.lemmas.Result.{err_from_is_err_and}
 use Rattle.sector_disk.specs.Disk.{LeavesOnly}
 use Rattle.sector_disk.proofs.Mixtures.{whole_mixture}
-use Rattle.extents.specs.Extent.{AreDistinct, one_sector, places, sector_count}
-use Rattle.extents.specs.Layout.{AllClaimed, IsInside, with_flag}
-use Rattle.extents.proofs.PlacesLemmas.{distinct-places}
+use Rattle.extents.specs.Extent.{sector_count}
 use Rattle.extents.specs.Longest.{longest_runs}
 use Rattle.store.specs.Opened.{IsAt, layout_in_use}
-use Rattle.roots.specs.Root.{listed_sectors, listed_preloads}
-use Rattle.roots.proofs.RootLemmas.{listed_sectors-root_of_lists}
-use Rattle.store.specs.Placed.{IsTaken}
+use Rattle.roots.specs.Root.{listed_preloads}
+use Rattle.store.specs.declared.placed_entry.PlacedEntry.{PlacedEntry}
+use Rattle.store.specs.State.{State}
+use Rattle.store.specs.Taken.{IsTaken}
 use Rattle.store.specs.Stands.{Stands, StandsBy, name_of, extents_of, used}
 use Rattle.extents.specs.Used.{layout_of}
 use Rattle.store.specs.Step.{LacksName, with_new, longest_free, refusal_of_new, refusal_of_take, IsAnswer}
 use Rattle.store.specs.inside.Kept.{IsKept}
-use Rattle.store.specs.inside.Room.{IsNew}
-use Rattle.store.proofs.News.{next_fits, next_kept, room_behind, entry_elsewhere, new_put, length-blobs}
+use Rattle.store.specs.inside.Next.{next_root}
+use Rattle.store.specs.inside.Room.{IsNew, IsPut}
+use Rattle.store.proofs.Following.{following_fits}
+use Rattle.store.proofs.News.{new_next, new_kept, room_place, new_put, length-blobs}
 use Rattle.store.proofs.Placing.{taken_so}
-use Rattle.store.proofs.Rooms.{inside_mid}
+use Rattle.store.proofs.Rooms.{put_room, room_held}
 use Rattle.store.proofs.Frees.{free_is, longest_is, put_refused, put_taken, answers_take, new_as_put}
 use Rattle.store.proofs.store.Store.put_new.Given as given
 use Rattle.store.proofs.store.Store.put_new.Goals.{After-with_entry-root}
 use Rattle.store.proofs.store.Store.put_new.Goals as goal
 
 -- what is put is one more entry
-newly : (g : given.Over) (c : After-with_entry-root g) → IsNew c.self.inside.root c.self.inside.entries.items c.self.inside.layout c.take_room.new.layout c.sectors_of.result c.in_ok-room.room.extents c.in_ok-room.room.entry c.new_entry-entry.result c.with_entry-root.result
+newly : (g : given.Over) (c : After-with_entry-root g) → IsNew c.self.inside.root c.self.inside.entries.items c.self.inside.layout c.take_room.new.layout c.sector_need.result c.new_entry-put.result c.with_entry-root.result
 newly g c = record {
   kept = c.self.invariant.0;
-  room = c.in_ok-room.ensures.ok;
-  fits = c.new_entry-entry.ensures.fits;
-  its = c.new_entry-entry.ensures.extents ∙ c.as_slice.ensures.value;
-  named = subst (λ name. All (λ other. name_of other ≢ name) c.self.inside.entries.items) (sym c.new_entry-entry.ensures.name) (subst (λ store. LacksName store c.args.name.now) (sym c.self.view_is) c.requires.new);
-  few = omega (arith, c.if-len-ge-MOST_LIBRARIES.false, c.len.ensures, c.self.invariant.0.count);
+  room = put_room c.new_entry-put.result c.new_entry-put.ensures.extents c.new_entry-put.ensures.at c.in_ok-room.ensures.ok;
+  fits = c.new_entry-put.ensures.fits;
+  named = subst (λ name. All (λ (other : PlacedEntry). name_of other.entry ≢ name) c.self.inside.entries.items) (sym c.new_entry-put.ensures.name) (subst (λ store. LacksName store c.args.name.now) (sym c.self.view_is) c.requires.new);
+  few = omega (arith, c.if-len-ge-MOST_LIBRARIES.false, c.len.ensures);
   later = omega (arith, c.if-self-2.false, c.self.invariant.0.root_fits.generation);
-  is_next = c.with_entry-root.ensures;
+  is_next = c.with_entry-root.ensures ∙ ap (λ l. next_root c.self.inside.root (l ++ c.new_entry-put.result ∷ []) (listed_preloads c.self.inside.root)) (c.deref.ensures.value ∙ c.reserve.ensures.items);
 }
+
+-- it has room for the bytes
+enough : (g : given.Over) (c : After-with_entry-root g) → length c.args.bytes.now ≤ 512 * sector_count (extents_of c.new_entry-put.result.entry)
+enough g c = omega (arith, (newly g c).room.given.needed, c.sector_need.ensures, (div_ceil_times (length c.args.bytes.now) 512 (omega arith)).0)
+
+putting : (g : given.Over) (c : After-with_entry-root g) (s : State) → IsPut c.self.inside.root c.self.inside.entries.items s c.args.bytes.now c.new_entry-put.result c.with_entry-root.result (c.self.inside.entries.items ++ c.new_entry-put.result ∷ []) (with_new c.args.name.now c.args.bytes.now s)
+putting g c s = new_put (newly g c) c.args.name.now c.args.bytes.now s c.new_entry-put.ensures.name c.new_entry-put.ensures.length (enough g c)
 
 pub write_put-requires-clause-root : goal.write_put-requires-clause-root
 write_put-requires-clause-root g c =
     let is_new = newly g (goal.at.write_put-requires-clause-root g c).After-with_entry-root in
-    next_fits is_new
+    following_fits (new_next is_new) is_new.kept.root_fits
 
-pub write_put-requires-clause-at : goal.write_put-requires-clause-at
-write_put-requires-clause-at g c =
-    let is_new = newly g (goal.at.write_put-requires-clause-at g c).After-with_entry-root in
-    let usable = room_behind is_new.kept is_new.room _ (0, omega arith, refl) in omega (arith, usable.1, c.self.invariant.1)
+pub write_put-requires-clause-put : goal.write_put-requires-clause-put
+write_put-requires-clause-put g c =
+    let is_new = newly g (goal.at.write_put-requires-clause-put g c).After-with_entry-root in
+    room_place is_new.kept is_new.room is_new.fits c.self.invariant.1
 
-pub write_put-requires-clause-behind : goal.write_put-requires-clause-behind
-write_put-requires-clause-behind g c =
-    let is_new = newly g (goal.at.write_put-requires-clause-behind g c).After-with_entry-root in
-    λ k found. (room_behind is_new.kept is_new.room k found).0
-
-pub write_put-requires-clause-elsewhere : goal.write_put-requires-clause-elsewhere
-write_put-requires-clause-elsewhere g c =
-    let is_new = newly g (goal.at.write_put-requires-clause-elsewhere g c).After-with_entry-root in
-    entry_elsewhere is_new.kept is_new.room
-
-pub give_back-requires-clause-inside : goal.give_back-requires-clause-inside
-give_back-requires-clause-inside g c =
-    let room = c.in_ok-room.ensures.ok in
-    subst (All (IsInside (with_flag false (one_sector c.in_ok-room.room.entry) c.take_room.new.layout))) (sym c.as_slice-in-Err.ensures.value)
-    (subst (λ flags. All (IsInside flags) c.in_ok-room.room.extents) (sym room.claim.undone) (inside_mid room))
-
-pub give_back-requires-clause-claimed : goal.give_back-requires-clause-claimed
-give_back-requires-clause-claimed g c =
-    let room = c.in_ok-room.ensures.ok in
-    subst (All (AllClaimed (with_flag false (one_sector c.in_ok-room.room.entry) c.take_room.new.layout))) (sym c.as_slice-in-Err.ensures.value)
-    (subst (λ flags. All (AllClaimed flags) c.in_ok-room.room.extents) (sym room.claim.undone) room.given.claimed)
-
-pub give_back-requires-clause-once : goal.give_back-requires-clause-once
-give_back-requires-clause-once g c =
-    subst (λ l. AreDistinct (places l)) (sym c.as_slice-in-Err.ensures.value) (distinct-places c.in_ok-room.room.extents c.in_ok-room.ensures.ok.given.apart)
+pub give_back-requires : goal.give_back-requires
+give_back-requires g c =
+    let is_new = newly g (goal.at.give_back-requires g c).After-with_entry-root in
+    room_held is_new.room is_new.fits
 
 pub returns-in-Err-clause-any_moment : goal.returns-in-Err-clause-any_moment
 returns-in-Err-clause-any_moment g c s at_entry =
-    let is_new = newly g (goal.at.returns-in-Err-clause-any_moment g c).After-with_entry-root in
     let at = subst (λ store. IsAt g.D.Disk.facts store s) (sym c.self.view_is) at_entry in
-    let enough : length c.args.bytes.now ≤ 512 * sector_count c.in_ok-room.room.extents = omega (arith, is_new.room.given.needed, c.sectors_of.ensures, (div_ceil_times (length c.args.bytes.now) 512 (omega arith)).0) in
-    let put = new_put is_new c.args.name.now c.args.bytes.now c.new_entry-entry.ensures.name c.new_entry-entry.ensures.length enough s in
+    let put = putting g (goal.at.returns-in-Err-clause-any_moment g c).After-with_entry-root s in
     subst (λ store. LeavesOnly (g.D.Disk.facts store.disk) (g.D.Disk.facts c.write_put.new.disk) (λ m. Stands m s ⊎ Stands m (with_new c.args.name.now c.args.bytes.now s))) c.self.view_is
-    (c.write_put.ensures.any_moment at.honest c.self.inside.root c.self.inside.entries.items s (c.self.inside.entries.items ++ c.new_entry-entry.result ∷ []) (with_new c.args.name.now c.args.bytes.now s) at.stands put)
+    (c.write_put.ensures.any_moment at.honest c.self.inside.root c.self.inside.entries.items s (c.self.inside.entries.items ++ c.new_entry-put.result ∷ []) (with_new c.args.name.now c.args.bytes.now s) at.stands put)
 
 pub returns-clause-any_moment : goal.returns-clause-any_moment
 returns-clause-any_moment g c s at_entry =
-    let is_new = newly g (goal.at.returns-clause-any_moment g c).After-with_entry-root in
     let at = subst (λ store. IsAt g.D.Disk.facts store s) (sym c.self.view_is) at_entry in
-    let enough : length c.args.bytes.now ≤ 512 * sector_count c.in_ok-room.room.extents = omega (arith, is_new.room.given.needed, c.sectors_of.ensures, (div_ceil_times (length c.args.bytes.now) 512 (omega arith)).0) in
-    let put = new_put is_new c.args.name.now c.args.bytes.now c.new_entry-entry.ensures.name c.new_entry-entry.ensures.length enough s in
+    let put = putting g (goal.at.returns-clause-any_moment g c).After-with_entry-root s in
     subst (λ store. LeavesOnly (g.D.Disk.facts store.disk) (g.D.Disk.facts c.write_put.new.disk) (λ m. Stands m s ⊎ Stands m (with_new c.args.name.now c.args.bytes.now s))) c.self.view_is
-    (c.write_put.ensures.any_moment at.honest c.self.inside.root c.self.inside.entries.items s (c.self.inside.entries.items ++ c.new_entry-entry.result ∷ []) (with_new c.args.name.now c.args.bytes.now s) at.stands put)
+    (c.write_put.ensures.any_moment at.honest c.self.inside.root c.self.inside.entries.items s (c.self.inside.entries.items ++ c.new_entry-put.result ∷ []) (with_new c.args.name.now c.args.bytes.now s) at.stands put)
 
 pub invariant_of-self-2 : goal.invariant_of-self-2
 invariant_of-self-2 g c =
     let is_new = newly g (goal.at.invariant_of-self-2 g c).After-with_entry-root in
-    let items = c.in-Ok.ensures.items ∙ ap (λ l. l ++ c.new_entry-entry.result ∷ []) c.reserve.ensures.items in (
-      subst (λ l. IsKept c.with_entry-root.result l c.take_room.new.layout) (sym items) (next_kept is_new),
+    let items = c.in-Ok.ensures.items ∙ ap (λ l. l ++ c.new_entry-put.result ∷ []) c.reserve.ensures.items in (
+      subst (λ l. IsKept c.with_entry-root.result l c.take_room.new.layout) (sym items) (new_kept is_new),
       c.write_put.ensures.calls.sectors ∙ c.self.invariant.1 ∙ sym (ap (λ r. r.sectors) c.with_entry-root.ensures),
     )
 
 pub returns-clause-ok : goal.returns-clause-ok
 returns-clause-ok g c s at_entry =
-    let is_new = newly g (goal.at.returns-clause-ok g c).After-with_entry-root in
     let at = subst (λ store. IsAt g.D.Disk.facts store s) (sym c.self.view_is) at_entry in
-    let enough : length c.args.bytes.now ≤ 512 * sector_count c.in_ok-room.room.extents = omega (arith, is_new.room.given.needed, c.sectors_of.ensures, (div_ceil_times (length c.args.bytes.now) 512 (omega arith)).0) in
-    let put = new_put is_new c.args.name.now c.args.bytes.now c.new_entry-entry.ensures.name c.new_entry-entry.ensures.length enough s in
-    let items = c.in-Ok.ensures.items ∙ ap (λ l. l ++ c.new_entry-entry.result ∷ []) c.reserve.ensures.items in
+    let put = putting g (goal.at.returns-clause-ok g c).After-with_entry-root s in
+    let items = c.in-Ok.ensures.items ∙ ap (λ l. l ++ c.new_entry-put.result ∷ []) c.reserve.ensures.items in
     record {
       honest = subst IsTrue (sym c.write_put.ensures.calls.honest) at.honest;
       usable = refl;
       stands = λ m mixture. subst (λ l. StandsBy m c.with_entry-root.result l (with_new c.args.name.now c.args.bytes.now s)) (sym items)
-          (c.in_default.ensures.done at.honest c.self.inside.root c.self.inside.entries.items s (c.self.inside.entries.items ++ c.new_entry-entry.result ∷ []) (with_new c.args.name.now c.args.bytes.now s) at.stands put m mixture);
+          (c.in_default.ensures.done at.honest c.self.inside.root c.self.inside.entries.items s (c.self.inside.entries.items ++ c.new_entry-put.result ∷ []) (with_new c.args.name.now c.args.bytes.now s) at.stands put m mixture);
     }
 
 pub returns-in_err-room-clause-refused : goal.returns-in_err-room-clause-refused
@@ -125,11 +105,11 @@ returns-in_err-room-clause-refused g c s at_entry =
     let longest = longest_is c.self.inside.root c.self.inside.entries.items c.self.inside.layout kept in
     let generation : s.generation ≡ c.self.inside.root.generation = ap (λ t. t.generation) by.is in
     let count : length s.blobs ≡ length c.self.inside.entries.items = ap (λ t. length t.blobs) by.is ∙ length-blobs now c.self.inside.entries.items in
-    let few = new_as_put c.self.inside.root.sectors (sector_count (longest_runs (layout_of c.self.inside.root.sectors (used c.self.inside.root c.self.inside.entries.items)))) s c.args.bytes.now (omega (arith, count, c.if-len-ge-MOST_LIBRARIES.false, c.len.ensures)) in
+    let few = new_as_put c.self.inside.root.sectors (sector_count (longest_runs (layout_of c.self.inside.root.sectors (used c.self.inside.entries.items)))) s c.args.bytes.now (omega (arith, count, c.if-len-ge-MOST_LIBRARIES.false, c.len.ensures)) in
     let usable : s.generation ≢ 18446744073709551615 = λ is. omega (arith, is, generation, c.if-self-2.false) in
     subst (λ store. IsAnswer (refusal_of_new store.root.sectors (longest_free store) s c.args.bytes.now) c.from_residual-in_err-room.result) c.self.view_is
-    (let first = few ∙ put_refused c.self.inside.root.sectors (sector_count (longest_runs (layout_of c.self.inside.root.sectors (used c.self.inside.root c.self.inside.entries.items)))) s c.args.bytes.now usable c.in_err-room.field-0.0
-    (λ is. omega (arith, (c.in_err-room.ensures.full).0 is, free, c.sectors_of.ensures), λ lt. (c.in_err-room.ensures.full).1 (omega (arith, lt, free, c.sectors_of.ensures))) (λ is. let both = (c.in_err-room.ensures.fragmented).0 is in (omega (arith, both.0, free, c.sectors_of.ensures), omega (arith, both.1, longest, c.sectors_of.ensures)), λ both. (c.in_err-room.ensures.fragmented).1 (omega (arith, both.0, free, c.sectors_of.ensures), omega (arith, both.1, longest, c.sectors_of.ensures))) in
+    (let first = few ∙ put_refused c.self.inside.root.sectors (sector_count (longest_runs (layout_of c.self.inside.root.sectors (used c.self.inside.entries.items)))) s c.args.bytes.now usable c.in_err-room.field-0.0
+    (λ is. omega (arith, (c.in_err-room.ensures.full).0 is, free, c.sector_need.ensures), λ lt. (c.in_err-room.ensures.full).1 (omega (arith, lt, free, c.sector_need.ensures))) (λ is. let both = (c.in_err-room.ensures.fragmented).0 is in (omega (arith, both.0, free, c.sector_need.ensures), omega (arith, both.1, longest, c.sector_need.ensures)), λ both. (c.in_err-room.ensures.fragmented).1 (omega (arith, both.0, free, c.sector_need.ensures), omega (arith, both.1, longest, c.sector_need.ensures))) in
     let p = err_from_is_err_and c.from_residual-in_err-room.result c.from_residual-in_err-room.ensures.1 in
     rw (p.1, p.2) (subst (λ refusal. IsAnswer refusal (Err (refusal_of_take c.in_err-room.field-0.0))) (sym first) (answers_take c.in_err-room.field-0.0)))
 
@@ -144,11 +124,11 @@ returns-in-Err-clause-refused g c s at_entry =
     let longest = longest_is c.self.inside.root c.self.inside.entries.items c.self.inside.layout kept in
     let generation : s.generation ≡ c.self.inside.root.generation = ap (λ t. t.generation) by.is in
     let count : length s.blobs ≡ length c.self.inside.entries.items = ap (λ t. length t.blobs) by.is ∙ length-blobs now c.self.inside.entries.items in
-    let few = new_as_put c.self.inside.root.sectors (sector_count (longest_runs (layout_of c.self.inside.root.sectors (used c.self.inside.root c.self.inside.entries.items)))) s c.args.bytes.now (omega (arith, count, c.if-len-ge-MOST_LIBRARIES.false, c.len.ensures)) in
+    let few = new_as_put c.self.inside.root.sectors (sector_count (longest_runs (layout_of c.self.inside.root.sectors (used c.self.inside.entries.items)))) s c.args.bytes.now (omega (arith, count, c.if-len-ge-MOST_LIBRARIES.false, c.len.ensures)) in
     let usable : s.generation ≢ 18446744073709551615 = λ is. omega (arith, is, generation, c.if-self-2.false) in
     subst (λ store. IsAnswer (refusal_of_new store.root.sectors (longest_free store) s c.args.bytes.now) (Err c.from.result)) c.self.view_is
-    (let first = few ∙ put_taken c.self.inside.root.sectors (sector_count (longest_runs (layout_of c.self.inside.root.sectors (used c.self.inside.root c.self.inside.entries.items)))) s c.args.bytes.now usable c.in_ok-room.room
-    (λ is. omega (arith, (c.in_ok-room.ensures.full).0 is, free, c.sectors_of.ensures), λ lt. (c.in_ok-room.ensures.full).1 (omega (arith, lt, free, c.sectors_of.ensures))) (λ is. let both = (c.in_ok-room.ensures.fragmented).0 is in (omega (arith, both.0, free, c.sectors_of.ensures), omega (arith, both.1, longest, c.sectors_of.ensures)), λ both. (c.in_ok-room.ensures.fragmented).1 (omega (arith, both.0, free, c.sectors_of.ensures), omega (arith, both.1, longest, c.sectors_of.ensures))) in
+    (let first = few ∙ put_taken c.self.inside.root.sectors (sector_count (longest_runs (layout_of c.self.inside.root.sectors (used c.self.inside.entries.items)))) s c.args.bytes.now usable c.in_ok-room.room
+    (λ is. omega (arith, (c.in_ok-room.ensures.full).0 is, free, c.sector_need.ensures), λ lt. (c.in_ok-room.ensures.full).1 (omega (arith, lt, free, c.sector_need.ensures))) (λ is. let both = (c.in_ok-room.ensures.fragmented).0 is in (omega (arith, both.0, free, c.sector_need.ensures), omega (arith, both.1, longest, c.sector_need.ensures)), λ both. (c.in_ok-room.ensures.fragmented).1 (omega (arith, both.0, free, c.sector_need.ensures), omega (arith, both.1, longest, c.sector_need.ensures))) in
     subst (λ refusal. IsAnswer refusal (Err c.from.result)) (sym first) (inl c.from.ensures))
 
 pub returns-clause-refused : goal.returns-clause-refused
@@ -162,25 +142,19 @@ returns-clause-refused g c s at_entry =
     let longest = longest_is c.self.inside.root c.self.inside.entries.items c.self.inside.layout kept in
     let generation : s.generation ≡ c.self.inside.root.generation = ap (λ t. t.generation) by.is in
     let count : length s.blobs ≡ length c.self.inside.entries.items = ap (λ t. length t.blobs) by.is ∙ length-blobs now c.self.inside.entries.items in
-    let few = new_as_put c.self.inside.root.sectors (sector_count (longest_runs (layout_of c.self.inside.root.sectors (used c.self.inside.root c.self.inside.entries.items)))) s c.args.bytes.now (omega (arith, count, c.if-len-ge-MOST_LIBRARIES.false, c.len.ensures)) in
+    let few = new_as_put c.self.inside.root.sectors (sector_count (longest_runs (layout_of c.self.inside.root.sectors (used c.self.inside.entries.items)))) s c.args.bytes.now (omega (arith, count, c.if-len-ge-MOST_LIBRARIES.false, c.len.ensures)) in
     let usable : s.generation ≢ 18446744073709551615 = λ is. omega (arith, is, generation, c.if-self-2.false) in
     subst (λ store. IsAnswer (refusal_of_new store.root.sectors (longest_free store) s c.args.bytes.now) (Ok tt)) c.self.view_is
-    (let first = few ∙ put_taken c.self.inside.root.sectors (sector_count (longest_runs (layout_of c.self.inside.root.sectors (used c.self.inside.root c.self.inside.entries.items)))) s c.args.bytes.now usable c.in_ok-room.room
-    (λ is. omega (arith, (c.in_ok-room.ensures.full).0 is, free, c.sectors_of.ensures), λ lt. (c.in_ok-room.ensures.full).1 (omega (arith, lt, free, c.sectors_of.ensures))) (λ is. let both = (c.in_ok-room.ensures.fragmented).0 is in (omega (arith, both.0, free, c.sectors_of.ensures), omega (arith, both.1, longest, c.sectors_of.ensures)), λ both. (c.in_ok-room.ensures.fragmented).1 (omega (arith, both.0, free, c.sectors_of.ensures), omega (arith, both.1, longest, c.sectors_of.ensures))) in
+    (let first = few ∙ put_taken c.self.inside.root.sectors (sector_count (longest_runs (layout_of c.self.inside.root.sectors (used c.self.inside.entries.items)))) s c.args.bytes.now usable c.in_ok-room.room
+    (λ is. omega (arith, (c.in_ok-room.ensures.full).0 is, free, c.sector_need.ensures), λ lt. (c.in_ok-room.ensures.full).1 (omega (arith, lt, free, c.sector_need.ensures))) (λ is. let both = (c.in_ok-room.ensures.fragmented).0 is in (omega (arith, both.0, free, c.sector_need.ensures), omega (arith, both.1, longest, c.sector_need.ensures)), λ both. (c.in_ok-room.ensures.fragmented).1 (omega (arith, both.0, free, c.sector_need.ensures), omega (arith, both.1, longest, c.sector_need.ensures))) in
     subst (λ refusal. IsAnswer refusal (Ok tt)) (sym first) tt)
 
 pub returns-clause-placed : goal.returns-clause-placed
 returns-clause-placed g c =
-    let entry = c.new_entry-entry.result in
-    let at : ℕ = c.in_ok-room.room.entry in
-    let its = c.new_entry-entry.ensures.extents ∙ c.as_slice.ensures.value in
-    let taken = taken_so c.self.inside.root c.self.inside.entries.items c.self.inside.layout c.self.invariant.0 c.sectors_of.ensures its c.in_ok-room.ensures.ok.given.inside c.in_ok-room.ensures.taken in
+    let put = c.new_entry-put.result in
+    let taken = taken_so c.self.inside.root c.self.inside.entries.items c.self.inside.layout c.self.invariant.0 c.sector_need.ensures c.new_entry-put.ensures.extents c.new_entry-put.ensures.at c.in_ok-room.ensures.ok.given.inside c.in_ok-room.ensures.taken in
     record {
-      entry = entry;
-      at = at;
-      taken = subst (λ store. IsTaken (layout_in_use store) (div_ceil (length c.args.bytes.now) 512) (extents_of entry) at) c.self.view_is taken;
-      entries = c.in-Ok.ensures.items ∙ ap (λ l. l ++ entry ∷ []) c.reserve.ensures.items ∙ ap (λ store. store.entries ++ entry ∷ []) c.self.view_is;
-      listed = ap listed_sectors c.with_entry-root.ensures
-          ∙ listed_sectors-root_of_lists (c.self.inside.root.generation + 1) c.self.inside.root.sectors (listed_sectors c.self.inside.root ++ at ∷ []) (listed_preloads c.self.inside.root)
-          ∙ ap (λ store. listed_sectors store.root ++ at ∷ []) c.self.view_is;
+      put = put;
+      taken = subst (λ store. IsTaken (layout_in_use store) (div_ceil (length c.args.bytes.now) 512) (extents_of put.entry) put.at) c.self.view_is taken;
+      entries = c.in-Ok.ensures.items ∙ ap (λ l. l ++ put ∷ []) c.reserve.ensures.items ∙ ap (λ store. store.entries ++ put ∷ []) c.self.view_is;
     }

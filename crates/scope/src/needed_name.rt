@@ -1,0 +1,36 @@
+// A name that is needed.
+
+ghost use Rattle.std.specs.Prelude.{◌≡◌, IfOk};
+
+use names::Name;
+use std::alloc::{AllocError, Global};
+use std::marker::Model;
+
+/// A name that an object needs, with the name of that object.
+#[derive(Drop)]
+pub struct NeededName {
+    /// The name of the object that needs it.
+    pub needer: Name,
+    /// The name that it needs.
+    pub name: Name,
+}
+
+impl Model for NeededName {
+    ghost use Rattle.scope.specs.LoadOrder.{Need};
+
+    ghost Value = { Need };
+
+    ghost view = { λ n. record { needer = n.needer; name = n.name } };
+}
+
+impl NeededName {
+    /// With copies of these names.
+    pub fn copy_of(alloc: Global, needer: &[u8], name: &[u8]) -> Result<NeededName, AllocError>
+        ensures { IfOk result (λ need. need ≡ record { needer = needer.now; name = name.now }) }
+    {
+        Ok(NeededName {
+            needer: Name::copy_of(alloc, needer)?,
+            name: Name::copy_of(alloc, name)?,
+        })
+    }
+}
