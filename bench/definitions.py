@@ -1,11 +1,13 @@
 #!/usr/bin/env python3
-"""Writes the tables of docs/DEFINITIONS.md anew, from the comment that stands before each definition in `specs/`.
+"""Writes the tables of docs/DEFINITIONS.md anew, from the comment before each definition in `specs/`.
 
     python3 bench/definitions.py
 
-The first part is READING: the main definitions that the headline's clauses rest on, in the order of a reading. The second part
-has all definitions, crate by crate. What is written by hand stays: the text before `<!-- reading -->`, between
-`<!-- end of reading -->` and `<!-- all -->`. Where a definition of READING isn't there any more, nothing is written.
+The first part is READING: the main definitions, in the order of a reading. The second has the other definitions that the
+CLAUSES of the README's table cite, directly or through others; they are found by following the names in the clauses and in
+the definitions, down to the toolchain's own. The third has the definitions that only the contracts of single crates cite.
+What is written by hand stays: the text outside the `<!-- .. -->` marks. Nothing is written where a clause or a definition
+of READING or PLAIN isn't there any more, or where a clause doesn't rest on a definition of READING.
 
 The first definition of a file may have the file's own comment. Constants share the comment of the first of them; any
 other definition without one is told, and so is each row of over 160 columns.
@@ -17,52 +19,115 @@ from pathlib import Path
 
 ROOT = Path(__file__).resolve().parent.parent
 PAGE = ROOT / 'docs' / 'DEFINITIONS.md'
-READING_BEGINS, READING_ENDS, ALL = '<!-- reading -->', '<!-- end of reading -->', '<!-- all -->'
+MARKS = ['numbers', 'reading', 'cited', 'rest']
 WIDEST = 160
-READING = [
-    ('1. A disk, and what a stop leaves of it',
-     'The sectors of a disk, what each call does to them, and what is found after a stop (own).', [
-         'sector_disk/Disk: Sector DiskFacts MixtureAt Mixture IsCall IsRead IsWrite IsSync LeftSince LeavesOnly']),
-    ('2. States, and the sectors that stand for them',
-     'What a registry holds, and which lists of sectors hold just that (own).', [
-         'registry/Library: Library IsLibrary', 'registry/State: State', 'roots/Choice: IsCurrent',
-         'store/Stands: IsIntact state_of Stands', 'disk_registry/Stands: Stands',
-         'store/Opened: Opened IsAt', 'disk_registry/Opened: IsAt']),
-    ('3. The step table',
-     'What a command may be answered in a state, and the state that this leaves (own).', [
-         'registry/Request: Request', 'registry/Phase: Phase', 'registry/Tests: tests_of',
-         'registry/Step: refusal_at accepted IsReply Breaks LacksRead Step']),
-    ('4. Commands over a disk: one, many, a script, rounds',
-     'What a stop leaves at each moment of them, and what is found at the end (own).', [
-         'disk_registry/Applied: InFlight MayLeave Applied',
-         'disk_registry/Acknowledged: acknowledged AreAccepted state_after',
-         'disk_registry/Ran: Goes HasBegun HoldsAcknowledged LeavesAccepted FindsAccepted Ran',
-         'commands/DiskScript: LinesRan', 'disk_registry/Rounds: AlwaysStands RoundLeads']),
-    ('5. Binds',
-     'Which objects a program is bound with, where they are placed, and the byte at each address (gABI chapters 4 and 5, '
-     'psABI, ld.so(8); the sections are in the second part).', [
-         'scope/Levels: next_level', 'scope/LoadOrder: load_order missing', 'hash_check/Export: is_exported',
-         'hash_check/Definition: definition_of', 'scope/Lookup: lookup', 'scope/Target: target',
-         'image/Placement: place', 'image/Relocating: value_of', 'image/Byte: byte_of', 'image/Image: image_of',
-         'image/Refusal: bind_tests', 'registry/Binding: bound_image binding_refusal']),
+CLAUSES = [
+    ('sector_disk/disk', 'read write sync', 'calls honest'),
+    ('disk_registry/format', 'format', 'any_moment'),
+    ('disk_registry/open', 'open', 'any_moment stands ok'),
+    ('disk_registry/apply', 'apply', 'applied'),
+    ('disk_registry/apply', 'run', 'ok'),
+    ('commands/disk_script', 'run_script_on_disk', 'ok err'),
+    ('disk_registry/rounds', 'run_rounds', 'ok'),
 ]
-CRATES = [
-    ('names', 'Names of their own'), ('text_output', 'Text on its way to a writer'), ('elf_file', 'Files'),
-    ('elf_dynamic', 'Symbols and relocations of files'), ('hash_check', 'Admission and the search of names'),
-    ('scope', 'Load order and lookup'), ('image', 'Images'), ('registry', 'The registry and its step table'),
-    ('commands', 'The program'), ('sector_disk', 'The disk model'), ('file_disk', 'A disk over a file'),
-    ('extents', 'Free and claimed sectors'), ('roots', 'Root and entry sectors'), ('passes', 'Passes over a disk'),
-    ('store', 'Named byte strings'), ('disk_registry', 'The registry on a disk')]
-REMARKS = {
-    'scope': "Levels, load order and lookup are pinned down from outside by the lemmas that the crate's README lists: "
-             '`proofs/LevelsLemmas.antt`, `LoadOrderLemmas.antt`, `LookupLemmas.antt`.',
-    'commands': 'From the toolchain: `decode_of` of the crate `hex`; `slice_split`, `flat_map`, `list_all`; `Appends`, '
-                '`StopsAt`, `u64_saturate`.',
+READING = [
+    ('1. Files', 'What the bytes of a file say, and when they are refused (gABI chapters 4 and 5).', [
+        'elf_file/Address: bytes_at', 'elf_dynamic/Symbol: symbols', 'elf_dynamic/Relocation: relocations',
+        'elf_dynamic/Strings: needed soname', 'elf_dynamic/Refusal: first_refusal']),
+    ('2. Admission', 'Which symbols an object exports, and when its hash table can be trusted (gABI chapters 4 and 5).', [
+        'hash_check/Export: is_exported', 'hash_check/Definition: definition_of',
+        'hash_check/Admission: has_bad_hash_table', 'hash_check/FileRefusal: first_file_refusal']),
+    ('3. Lookup', 'Which objects a program is bound with, and what each symbol is bound to (gABI chapter 5, ld.so(8)).', [
+        'scope/Levels: next_level', 'scope/LoadOrder: load_order missing', 'scope/Lookup: lookup', 'scope/Target: target']),
+    ('4. Images', 'Where the objects are placed, and the byte at each address (gABI chapter 5, psABI).', [
+        'image/Placement: place', 'image/Relocating: value_of', 'image/Byte: byte_of', 'image/Image: image_of',
+        'image/Refusal: bind_tests']),
+    ('5. States and steps', 'What a registry holds, how a command may be answered, and what state this leaves (own).', [
+        'registry/Library: IsLibrary', 'registry/State: State', 'registry/Tests: tests_of',
+        'registry/Step: accepted IsReply Breaks LacksRead Step']),
+    ('6. Sectors', 'Which lists of sectors hold a state (own; `docs/FORMATS.md` has the formats).', [
+        'roots/Choice: IsCurrent', 'store/Stands: IsIntact state_of Stands', 'disk_registry/Stands: Stands']),
+    ('7. Disks and mixtures', 'What each call does to an honest disk, and what a stop may leave of it (own).', [
+        'sector_disk/Disk: DiskFacts Mixture IsRead IsWrite IsSync LeavesOnly']),
+    ('8. Crash safety', 'What a stop leaves at each moment of one command, of many, of a script and of rounds (own).', [
+        'disk_registry/Opened: IsAt', 'disk_registry/Applied: MayLeave Applied',
+        'disk_registry/Acknowledged: acknowledged AreAccepted',
+        'disk_registry/Ran: HasBegun HoldsAcknowledged LeavesAccepted FindsAccepted Ran',
+        'commands/DiskScript: LinesRan', 'disk_registry/Rounds: AlwaysStands RoundLeads']),
+]
+PLAIN = {
+    # What the comment leaves to its context, or what is longer than a row: in one plain sentence, here and in the table.
+    'elf_file/Address: bytes_at': 'so many bytes at an address, where one PT_LOAD of the file has them',
+    'elf_dynamic/Strings: soname': "the library's own name, DT_SONAME, where it has one",
+    'elf_dynamic/Strings: needed': 'the names of the libraries that an object needs, DT_NEEDED, in their order',
+    'elf_dynamic/Refusal: first_refusal': 'the first of the tests E1 to E27 and E30 to E32 that a file fails, or none',
+    'hash_check/Export: is_exported': 'whether symbol number i is defined in its object and visible to others',
+    'hash_check/Definition: definition_of': 'the symbol that an object exports under a name, found by going through all its symbols',
+    'hash_check/Admission: has_bad_hash_table': "E29: the hash table has no bucket, a bad index, or a walk that has no end or misses an export",
+    'hash_check/FileRefusal: first_file_refusal': 'the first test that a file fails: those above, E28 (two exports of one name), then E29',
+    'hash_check/Hash: hash_step': 'one more byte of a name goes into its hash',
+    'hash_check/Admission: is_met': "an index is on the walk from the bucket of its own name's hash",
+    'scope/Levels: first_occurrences': 'each of them once, at its first place',
+    'scope/Levels: next_level': 'the next level of a breadth-first order: what the objects of a level need and no level has yet',
+    'scope/LoadOrder: available': 'a program and the installed libraries in one list, in which an object has its number (own)',
+    'scope/LoadOrder: load_order': 'the objects in load order: the program, the preloads, then level by level what they need',
+    'scope/Lookup: lookup': 'the first definition of a name in load order, weak or not; a symbolic object is searched first for its own symbols',
+    'scope/Lookup: scope_of': 'where the symbols of an object are searched: all objects in load order, itself first where it is symbolic',
+    'scope/Target: target': 'what a symbol of an object is bound to: its own definition, one that is found, 0, or nothing',
+    'scope/Target: target_of': 'the same of a symbol that is read: itself, what is found under its name, 0 where it is weak, or nothing',
+    'image/Placement: place': 'objects in memory in load order: the first at the base, each other one behind the one before it, aligned',
+    'image/Byte: byte_of': 'the byte at an address: of the last relocation written there, else of the file, else 0 up to p_memsz',
+    'image/Image: image_of': 'the image: each PT_LOAD of each placed object, with these bytes',
+    'image/Refusal: bind_tests': 'the tests of a bind in their order: B1 file, B2 base, B3 missing library, B4 room, B5 undefined symbol',
+    'registry/Library: IsLibrary': 'no test refuses the file of a library, and its name is its SONAME',
+    'registry/State: State': 'a registry: its generation, its libraries with their names and bytes, and the names of its preloads',
+    'registry/Step: NeedsMemory': 'where a command takes memory: to admit a file that passes the tests before admission, and to list',
+    'registry/Tests: has_repeat': 'a name is there twice',
+    'registry/Step: IsReply': 'the answer to an accepted command: done, the listing, or the image with the defined byte at each address',
+    'registry/Step: Breaks': 'a write or a sync of a change failed: it took effect or not, and the disk has to be opened again',
+    'registry/Step: LacksRead': 'a read of a bind failed, and nothing changed; B1 and B2 come before all reads',
+    'registry/Step: Step': 'the step table: how a command may be answered in a state, and which state and condition this leaves',
+    'roots/Catalogue: CatalogueHasSpelling': 'the limits of the fields: a catalogue has a spelling exactly where it keeps to them',
+    'store/Changed: Changed': 'a change of at most so many calls, with these refusals, one for a failed device and one for a failed store',
+    'store/Stands: IsIntact': 'one root is current, its entries are spelt in their sectors, no used sector is used twice, no name twice',
+    'store/Stands: state_of': 'the state that is read by a root and its entries',
+    'store/Stands: Stands': 'some root and entries are intact in these sectors, and what is read by them is this state',
+    'disk_registry/Stands: Stands': 'the same of libraries: reading the sectors gives this state, and each file is a library',
+    'sector_disk/Disk: DiskFacts': 'a disk: whether it is honest, its calls, what reads give, and what a stop at each moment may leave',
+    'sector_disk/Disk: Mixture': 'what a stop now may leave: each sector, by itself, with one of its contents',
+    'sector_disk/Disk: IsSync': 'a sync: reads give the same; where it succeeds, a stop leaves what reads give, and nothing else',
+    'sector_disk/Disk: IsWrite': 'a write: where it succeeds reads give the new content; a stop may leave that or what it could leave before',
+    'sector_disk/Disk: LeavesOnly': 'at every moment from one state of a disk to a later one, a stop leaves only sectors of this kind',
+    'disk_registry/Opened: IsAt': 'a registry at a state: an honest disk, no failed write or sync, and whatever a stop leaves holds the state',
+    'disk_registry/Applied: MayLeave': 'the state before the command, the one after, or that of a change that a failed call cut off',
+    'disk_registry/Applied: Applied': 'one command: a step of the step table, during which a stop leaves only what `MayLeave` says',
+    'disk_registry/Ran: HasBegun': 'the first k commands have all begun by this moment',
+    'disk_registry/Ran: HoldsAcknowledged': 'every command acknowledged by this moment is among the first k',
+    'disk_registry/Ran: LeavesAccepted': 'what a stop leaves at a moment holds the state after the accepted ones of such first k commands',
+    'disk_registry/Ran: FindsAccepted': 'what a stop leaves at the end holds the state after all accepted commands',
+    'disk_registry/Ran: Ran': 'a run: one such command after the other, with what a stop leaves at each moment and at the end',
+    'commands/DiskScript: LinesRan': 'the commands of the lines of a script are such a run',
+    'disk_registry/Rounds: AlwaysStands': 'whatever a stop leaves of the disk holds the state',
+    'disk_registry/Rounds: RoundLeads': 'a round that ran leads to the state after its accepted commands; any other keeps the state',
+    'elf_dynamic/Symbol: symbols': 'all symbols of a file, that of index 0 too',
+    'registry/Tests: tests_of': 'the tests of a change, in their order; a bind and a listing have none here',
+    'sector_disk/Disk: IsRead': 'a read: nothing changes, and where it succeeds it gives what was written last',
+    'extents/Longest: longest_first': 'the runs sorted, longest first; of those that are as long, the one that came first stays first',
+    'extents/Runs: IsFreeRun': 'a free run, seen from outside: it is on the disk and free, and could be longer on neither side',
 }
+CRATES = [
+    ('names', 'Names of their own'), ('elf_file', 'Files'), ('elf_dynamic', 'Symbols and relocations of files'),
+    ('hash_check', 'Admission and the search of names'), ('scope', 'Load order and lookup'),
+    ('text_output', 'Text on its way to a writer'), ('image', 'Images'), ('registry', 'The registry and its step table'),
+    ('sector_disk', 'The disk model'), ('file_disk', 'A disk over a file'), ('extents', 'Free and claimed sectors'),
+    ('roots', 'Root and entry sectors'), ('passes', 'Passes over a disk'), ('store', 'Named byte strings'),
+    ('disk_registry', 'The registry on a disk'), ('commands', 'The program')]
 STANDARD = re.compile(r'\(([^()]*(?:\([^()]*\)[^()]*)*)\)')
 VALUE = re.compile(r'^\S+ = (0x[0-9a-f]+|[0-9]+)$')
 FIELD = re.compile(r'^[pe]_[a-z]+')
 NAME = re.compile(r'^(?:(?:  )?(?:(?:abbrev|unfoldable) pub|pub (?:record|data))|pub) (?!use )(\S+)')
+USE = re.compile(r'\s*(?:ghost )?(?:pub )?use Rattle\.(\w+)\.specs\.([\w.]+?)(?:\.\{(.*)\})?(?: as (\w+))?;?$')
+WORD = re.compile(r"[A-Za-z_][\w']*(?:\.[A-Za-z_][\w']*)*")
 
 
 def section_of(text):
@@ -110,6 +175,103 @@ def definitions_of(path):
     return common, found
 
 
+def key_of(path):
+    """A file of definitions as crate/File."""
+    return f'{path.relative_to(ROOT).parts[1]}/{path.stem}'
+
+
+def read_all():
+    """The definitions of each file, by crate/File, crate by crate in the order of CRATES."""
+    files = {}
+    for crate, _ in CRATES:
+        for path in sorted((ROOT / 'crates' / crate / 'specs').glob('*.antt')):
+            if path.stem not in ('Lib', 'inside'):
+                files[key_of(path)] = definitions_of(path)
+    return files
+
+
+def uses_of(lines):
+    """What the names are that a text imports: (crate/File, name), with None for all names of a file."""
+    uses = {}
+    for line in lines:
+        used = USE.match(line)
+        if used:
+            file = f'{used.group(1)}/{used.group(2)}'
+            for name in (used.group(3) or '').split(', '):
+                uses[name.strip('◌ ')] = (file, name.strip('◌ '))
+            if used.group(4):
+                uses[used.group(4)] = (file, None)
+    return uses
+
+
+def names_in(text, uses, own, file):
+    """The definitions that a text names."""
+    found = []
+    for word in WORD.findall(text):
+        first, *rest = word.split('.')
+        if first in uses and uses[first][1]:
+            found.append(uses[first])
+        elif first in uses and rest:
+            found.append((uses[first][0], rest[0]))
+        elif first in own:
+            found.append((file, first))
+    return found
+
+
+def citations(files):
+    """What each definition names, and what each file passes on from others."""
+    names, passed = {}, {}
+    for crate, _ in CRATES:
+        for path in sorted((ROOT / 'crates' / crate / 'specs').glob('*.antt')):
+            file = key_of(path)
+            if file not in files:
+                continue
+            lines = path.read_text().splitlines()
+            uses, own, name = uses_of(lines), {found[0] for found in files[file][1]}, None
+            passed.update({(file, k): v for k, v in uses_of(x for x in lines if x.startswith('pub use')).items()})
+            for line in lines:
+                if NAME.match(line):
+                    name = NAME.match(line).group(1).strip('◌')
+                if name and not line.lstrip().startswith(('--', 'use ', 'pub use ')):
+                    names.setdefault((file, name), []).extend(names_in(line, uses, own - {name}, file))
+    return names, passed
+
+
+def clause_texts(text, label):
+    """The clauses of a label in a text: all that is between the braces behind `ensures label`."""
+    for begin in re.finditer(rf'ensures {label} {{', text):
+        depth, end = 1, begin.end()
+        while depth:
+            depth += {'{': 1, '}': -1}.get(text[end], 0)
+            end += 1
+        yield text[begin.end():end - 1]
+
+
+def cited(files):
+    """The definitions that the clauses cite, directly or through others."""
+    names, passed = citations(files)
+    waiting = []
+    for file, calls, labels in CLAUSES:
+        crate, module = file.split('/')
+        lines = (ROOT / 'crates' / crate / 'src' / f'{module}.rt').read_text().splitlines()
+        text = '\n'.join(re.sub(r'//.*', '', line) for line in lines)
+        for call in calls.split():
+            head = re.search(rf'\bfn {call}[<(].*?(?=\n *(?:pub )?fn |\Z)', text, re.S)
+            for label in labels.split():
+                clauses = list(clause_texts(head.group(0), label)) if head else []
+                if not clauses:
+                    sys.exit(f'{file}.rt has no clause {label} of {call}. Nothing was written.')
+                waiting += names_in(' '.join(clauses), uses_of(lines), (), file)
+    found = set()
+    while waiting:
+        one = waiting.pop()
+        one = passed.get(one, one)
+        if one in names and one not in found:
+            found.add(one)
+            waiting += names[one]
+    return found
+
+
 def table(*rows):
     """Rows of cells, the first of them the heading."""
     lines = ['| ' + ' | '.join(row) + ' |' for row in rows]
@@ -119,59 +281,76 @@ def table(*rows):
     return [lines[0], '|' + '---|' * len(rows[0]), *lines[1:]]
 
 
-def read_all():
-    """The definitions of each file, by crate and module."""
-    files = {}
-    for crate, _ in CRATES:
-        for path in sorted((ROOT / 'crates' / crate / 'specs').glob('*.antt')):
-            if path.stem not in ('Lib', 'inside'):
-                files[f'{crate}/{path.stem}'] = definitions_of(path)
-    return files
+def listed_in(parts):
+    """The definitions that READING or PLAIN names."""
+    return [(part.split(': ')[0], name) for part in parts for name in part.split(': ')[1].split()]
 
 
 def reading(files):
+    """The first part."""
     lines = []
     for title, intro, parts in READING:
         rows = [('Definition', 'Says', 'Crate/file')]
-        for part in parts:
-            file, names = part.split(': ')
-            said = {name: text for name, _, text, _ in files.get(file, ('', []))[1]}
-            gone = [name for name in names.split() if name not in said]
-            if gone:
-                sys.exit(f'READING names what is not defined in {file}: {", ".join(gone)}. Nothing was written.')
-            rows += [(f'`{name}`', said[name], f'`{file}`') for name in names.split()]
+        for file, name in listed_in(parts):
+            said = PLAIN.get(f'{file}: {name}') or next(found[2] for found in files[file][1] if found[0] == name)
+            rows.append((f'`{name}`', said, f'`{file}`'))
         lines += [f'### {title}', '', intro, '', *table(*rows), '']
-    return '\n'.join(lines)
+    return lines
 
 
-def crate_part(crate, title, files):
-    rows = [('Definition', 'Says')]
-    for file, (common, found) in files.items():
-        if file.split('/')[0] != crate:
-            continue
-        rows.append((f'**`{file.split("/")[1]}.antt`**', f'**{common}**'))
-        for name, value, text, section in found:
-            listed = f'`{name}`' + (f' = {value}' if value else '')
-            rows.append((listed, text if section == common else f'{text} ({section})'))
-    if len(rows) == 1:
-        return []
-    lines = [f'### {title} (`crates/{crate}/specs`)', '', *table(*rows)]
-    inside = sorted(path.stem for path in (ROOT / 'crates' / crate / 'specs' / 'inside').glob('*.antt'))
-    if inside:
-        kept = ', '.join(f'`{name}.antt`' for name in inside)
-        lines += ['', f'`inside/` ({kept}) need not be believed: it says what the code keeps. {REMARKS.get(crate, "")}'.rstrip()]
-    return lines + ['']
+def rows_of(file, common, found):
+    """The rows of a file. Constants that share a comment share rows."""
+    rows = []
+    for name, value, text, section in found:
+        listed = f'`{name}`' + (f' = {value}' if value else '')
+        text = PLAIN.get(f'{file}: {name}', text)
+        text = text if section == common or '(own)' in text else f'{text} ({section})'
+        if value and rows and rows[-1][1] == text and len(rows[-1][0]) < 90:
+            rows[-1] = (f'{rows[-1][0]}, {listed}', text)
+        else:
+            rows.append((listed, text))
+    return [(f'**`{file.split("/")[1]}.antt`**', f'**{common}**'), *rows] if rows else []
+
+
+def crate_parts(files, wanted):
+    """The rows that are wanted, a table for each crate."""
+    lines = []
+    for crate, title in CRATES:
+        rows = []
+        for file, (common, found) in files.items():
+            if file.split('/')[0] == crate:
+                rows += rows_of(file, common, [one for one in found if wanted(file, one[0])])
+        if rows:
+            lines += [f'### {title} (`crates/{crate}/specs`)', '', *table(('Definition', 'Says'), *rows), '']
+    return lines
 
 
 def main():
     files = read_all()
-    before, rest = PAGE.read_text().split(READING_BEGINS)
-    between = rest.split(READING_ENDS)[1].split(ALL)[0]
-    lines = []
-    for crate, title in CRATES:
-        lines += crate_part(crate, title, files)
-    PAGE.write_text(before + READING_BEGINS + '\n\n' + reading(files) + '\n' + READING_ENDS + between
-                    + ALL + '\n\n' + '\n'.join(lines).rstrip() + '\n')
+    every = {(file, found[0]) for file, (_, all_found) in files.items() for found in all_found}
+    needed = cited(files)
+    first = listed_in(part for _, _, parts in READING for part in parts)
+    for one in first + listed_in(PLAIN):
+        if one not in every:
+            sys.exit(f'{one[0]} has no definition {one[1]}. Nothing was written.')
+    for one in first:
+        if one not in needed:
+            sys.exit(f'No clause of the README rests on {one[1]} of {one[0]}. Nothing was written.')
+    format_count = sum(file.startswith(('elf_file/', 'elf_dynamic/')) for file, _ in needed)
+    parts = [
+        [f'There are {len(every)} definitions in all. The clauses of the README cite {len(needed)} of them, directly or through '
+         f'others, of which {format_count} are of the ELF format: its constants, its fields, and the tests of a file. The '
+         f'first part has the {len(first)} main ones, the second the other {len(needed) - len(first)}, the third the '
+         f'{len(every) - len(needed)} that only the contracts of single crates cite.', ''],
+        reading(files),
+        crate_parts(files, lambda file, name: (file, name) in needed and (file, name) not in first),
+        crate_parts(files, lambda file, name: (file, name) not in needed)]
+    text = PAGE.read_text()
+    for mark, lines in zip(MARKS, parts):
+        begin, end = f'<!-- {mark} -->', f'<!-- end of {mark} -->'
+        before, rest = text.split(begin)
+        text = f'{before}{begin}\n\n' + '\n'.join(lines) + f'\n{end}' + rest.split(end)[1]
+    PAGE.write_text(text)
 
 
 main()
