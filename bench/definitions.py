@@ -112,6 +112,12 @@ PLAIN = {
     'elf_dynamic/Symbol: symbols': 'all symbols of a file, that of index 0 too',
     'registry/Tests: tests_of': 'the tests of a change, in their order; a bind and a listing have none here',
     'sector_disk/Disk: IsRead': 'a read: nothing changes, and where it succeeds it gives what was written last',
+    'store/Opened: IsAt': 'a store at a state: an honest disk, no failed write or sync, and every mixture holds it by these entries',
+    'store/Stands: StandsBy': 'by this root and these entries the sectors hold the state',
+    'store/Opening: RefusesOpen': 'how `open` may refuse these sectors; Damaged are those with a root that hold no state',
+    'scope/Queue: AreApart': 'the places are below the limit, and no place is among them twice',
+    'roots/Fields: ListsSectors': 'so many sectors in so many places: behind the root sectors and before `end`, none of them twice',
+    'extents/Extent: AreDistinct': 'no number is there twice',
     'extents/Longest: longest_first': 'the runs sorted, longest first; of those that are as long, the one that came first stays first',
     'extents/Runs: IsFreeRun': 'a free run, seen from outside: it is on the disk and free, and could be longer on neither side',
 }
