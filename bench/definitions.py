@@ -23,6 +23,7 @@ MARKS = ['numbers', 'reading', 'cited', 'rest']
 WIDEST = 160
 CLAUSES = [
     ('sector_disk/disk', 'read write sync', 'calls honest'),
+    ('sector_disk/disk', 'sync', 'holds_now whole_sectors'),
     ('disk_registry/format', 'format', 'any_moment'),
     ('disk_registry/open', 'open', 'any_moment stands ok'),
     ('disk_registry/apply', 'apply', 'applied'),
@@ -244,8 +245,8 @@ def citations(files):
 
 
 def clause_texts(text, label):
-    """The clauses of a label in a text: all that is between the braces behind `ensures label`."""
-    for begin in re.finditer(rf'ensures {label} {{', text):
+    """The clauses and laws of a label in a text: all that is between the braces behind the label."""
+    for begin in re.finditer(rf'(?:ensures {label}|ghost {label}:) {{', text):
         depth, end = 1, begin.end()
         while depth:
             depth += {'{': 1, '}': -1}.get(text[end], 0)
