@@ -10,7 +10,7 @@ What is written by hand stays: the text outside the `<!-- .. -->` marks. Nothing
 of READING or PLAIN isn't there any more, or where a clause doesn't rest on a definition of READING.
 
 The first definition of a file may have the file's own comment. Constants share the comment of the first of them; any
-other definition without one is told, and so is each row of over 160 columns.
+other definition without one is reported, and so is each row of over 160 columns.
 """
 
 import re
@@ -190,6 +190,9 @@ def key_of(path):
 def read_all():
     """The definitions of each file, by crate/File, crate by crate in the order of CRATES."""
     files = {}
+    left = {path.parts[-2] for path in (ROOT / 'crates').glob('*/specs')} - {crate for crate, _ in CRATES}
+    if left:
+        sys.exit(f'CRATES lacks {", ".join(sorted(left))}. Nothing was written.')
     for crate, _ in CRATES:
         for path in sorted((ROOT / 'crates' / crate / 'specs').glob('*.antt')):
             if path.stem not in ('Lib', 'inside'):
@@ -272,7 +275,8 @@ def cited(files):
     found = set()
     while waiting:
         one = waiting.pop()
-        one = passed.get(one, one)
+        while one in passed:
+            one = passed[one]
         if one in names and one not in found:
             found.add(one)
             waiting += names[one]
