@@ -87,6 +87,8 @@ class OnDisk(Model):
 
     def slot(self, k):
         sector = self.sector(k)
+        if sector[:8] == b'RLIBREG2':
+            return 'bad'  # whatever follows: no command reads version 2
         if sector[:8] != b'RLIBREG1':
             return 'empty'
         return read_root(sector) or 'bad'

@@ -15,6 +15,7 @@ from samples import DEFINED, FUNC, GLOBAL, Object, Symbol, build
 from scripts import SECTOR
 from wrong_disks import tell
 
+VERSION_2 = 'bytes=524c494252454732000000000000000008'  # of an empty registry on 8 sectors
 CASES = []  # the disk, the words, what is given, and the status, the answer, the error and the disk behind it
 FILES = {}  # the first name of the objects of the folder that have these bytes
 FILES_OF = {}  # the bytes of each object, by its name
@@ -393,11 +394,16 @@ def damaged():
         ('Sector 1 has no root: the registry of generation 0, and what is installed is of generation 1 again.', [
             on('one.disk 0x200=00', 'list disk', '0 end', 'same'),
             on(f'one.disk 0x200={bytes(25).hex()} 0x240=00', 'list disk', '0 end', 'same'),
-            on('one.disk 0x207=32', 'list disk', '0 end', 'same'),
+            on('one.disk 0x207=33', 'list disk', '0 end', 'same'),
             on(f'one.disk 0x200={bytes(25).hex()} 0x240=00', f'install disk {NAMED_Q}', '0 ok'),
             on('one.disk 0x200=00', f'install disk {A}', '0 ok', 'same 0x200=52'),
             on('one.disk 0x200=00', 'remove disk a', '1 refused C3 NotInstalled', 'same'),
             on('one.disk 0x200=00', 'preload disk', '0 ok', 'same 0x200=52 0x214=00 0x240=00')]),
+        ('A root of version 2, alone, beside one of version 1 or where one of version 1 was: no command reads it.', [
+            on(f'{VERSION_2} pad=4096', 'list disk', s5, 'same'), on(f'{VERSION_2} pad=4096', f'install disk {A}', s5, 'same'),
+            on(f'{VERSION_2} pad=4096', 'format disk 8', '1 refused S4 AlreadyFormatted', 'same'),
+            on('one.disk 0x207=32 0x238=01', 'list disk', s5, 'same'), on('one.disk 0x207=32', 'list disk', s5, 'same'),
+            on('one.disk 0x7=32', 'list disk', s5, 'same')]),
         ('Two roots whose generations differ by one: the later.', [
             listed('one.disk 0x8=02 0x208=03', 'one.listing'), on('one.disk 0x8=04 0x208=03', 'list disk', '0 end', 'same'),
             on('one.disk 0x8=02', 'list disk', '0 end', 'same'), on('one.disk 0x8=02', f'install disk {A}', '0 ok', 'same 0x208=03'),

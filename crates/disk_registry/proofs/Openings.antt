@@ -57,7 +57,7 @@ has_magic : (m : List Sector) (t : store.State) → sectors.Stands m t → HasRo
 has_magic m t (root, entries, by) = current_magic m root by.intact.current
 
 has_root : (m : List Sector) (t : store.State) → sectors.Stands m t → HasCurrentRoot m
-has_root m t (root, entries, by) = (root, by.intact.current, by.intact.size)
+has_root m t (root, entries, by) = (root, by.intact.current, by.intact.size, by.intact.listed.sectors.version)
 
 -- what is refused after the store was opened
 pub refuses_files : {D : Type 0} (facts : D → DiskFacts) (old new : opened.Opened D) (m : List Sector) (t : store.State) (e : StoreRefusal) → IsReadRefusal facts old new e → IsFalse old.failed → IsGeometry (length m) → sectors.Stands m t → (e ≡ refusal.Damaged → All IsLibrary (map library_of t.blobs) → ⊥) → RefusesOpen Stands m e

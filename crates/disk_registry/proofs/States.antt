@@ -1,18 +1,17 @@
 -- The state of a registry and that of the store that keeps it.
-use Rattle.std.proofs.Common.{◌≡◌, ◌↔◌, ◌==◌, ◌<◌, ℕ, Bool, All, true, false, List, [], ◌∷◌, length, get_or, map, cond, ltb, IsTrue, inl, inr, ⊎_elim, refl, sym, ap, subst, ◌∙◌, arith}
+use Rattle.std.proofs.Common.{◌≡◌, ◌↔◌, ◌==◌, ◌<◌, ℕ, All, List, [], ◌∷◌, length, get_or, map, IsTrue, ⊎_elim, refl, sym, ap, ◌∙◌, arith}
 use Rattle.std.specs.List.{list_any}
 use Rattle.std.proofs.lemmas.Bool.{cases_lt}
 use Rattle.std.proofs.lemmas.List.{get_or-map, length-map, length-take-le}
 use Rattle.sector_disk.specs.Disk.{Sector, sector, DiskFacts, Mixture, HoldsNow}
-use Rattle.roots.specs.declared.root.Root.{Root}
 use Rattle.roots.specs.Root.{RootHasSpelling, listed_preloads}
-use Rattle.roots.specs.Choice.{IsCurrent}
+use Rattle.roots.proofs.RootLemmas.{few_1}
 use Rattle.store.specs.Opened as opened
 use Rattle.store.specs.State as store
 use Rattle.store.specs.Stands as sectors
 use Rattle.store.specs.Stands.{no_blob, names_at, name_of}
 use Rattle.store.proofs.Queries as queries
-use Rattle.store.proofs.UsedAlone.{listed_count, no_entry}
+use Rattle.store.proofs.UsedAlone.{current_fits, listed_count, no_entry}
 use Rattle.store.proofs.StandsLemmas as sectors_lemmas
 use Rattle.registry.specs.Library.{Library}
 use Rattle.registry.specs.State.{State, IsState, has_name}
@@ -46,15 +45,6 @@ stored_once s t same = sym (registry_of_stored s) ∙ ap registry_of same ∙ re
 -- Sectors stand for at most one state.
 pub one_state : (m : List Sector) (s t : State) → Stands m s → Stands m t → s ≡ t
 one_state m s t a b = stored_once s t (sectors_lemmas.one_state m (stored s) (stored t) a.blobs b.blobs)
-
--- a current root has a spelling
-current_fits : (sector0 sector1 : List ℕ) (root : Root) → IsCurrent sector0 sector1 root → RootHasSpelling root
-current_fits sector0 sector1 root (inl alone) = alone.0.has_spelling
-current_fits sector0 sector1 root (inr (even, odd, spells0, spells1, successive, is)) = subst RootHasSpelling (sym is) (by (ltb even.generation odd.generation))
-  where
-    by : (b : Bool) → RootHasSpelling (cond b odd even)
-    by true = spells1.has_spelling
-    by false = spells0.has_spelling
 
 module _ {D : Type 0} (facts : D → DiskFacts) (registry : opened.Opened D) (s : State) (at : IsAt facts registry s) where
   -- what a stop may leave of a registry at a state stands for it
@@ -110,7 +100,7 @@ module _ {D : Type 0} (facts : D → DiskFacts) (registry : opened.Opened D) (s 
       own_names = λ i j d lt within. λ same.
           now_stands.intact.names i j no_entry lt (omega (arith, within, count_libraries))
           (sym (library_name_is i d (omega (arith, lt, within))) ∙ same ∙ library_name_is j d within);
-      few = omega (arith, count_libraries, listed_count registry.root registry.entries root_fits now_stands.intact.listed.sectors, root_fits.entry_sectors.listed.room);
+      few = omega (arith, count_libraries, listed_count registry.root registry.entries root_fits now_stands.intact.listed.sectors, few_1 registry.root root_fits now_stands.intact.listed.sectors.version);
       installed = λ k d lt.
           let k_lt : k < length (listed_preloads registry.root) = omega (arith, lt, length_preloads) in
           name_stands s (get_or s.preloads k d) (get_or (listed_preloads registry.root) k 0) (preload_inside k k_lt) (sym (preload_is k d k_lt));

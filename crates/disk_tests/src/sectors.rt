@@ -1,5 +1,6 @@
 // The spellings of root, catalogue and entry sectors, and which root is chosen.
 
+mod catalogue_roots;
 mod catalogue_sectors;
 mod choices;
 mod entry_sectors;

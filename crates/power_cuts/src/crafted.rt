@@ -53,8 +53,8 @@ fn entry(name: u8, length: u32, places: &[(u32, u32)]) -> Result<Entry> {
 // root lists entries in sectors 6 and 7.
 fn with_entries(alloc: Global, sectors: u32, first: &Entry, second: &Entry) -> Result<Memory> {
     let mut disk = Memory::new(alloc, 8)?;
-    put_root(&mut disk, 0, &Root::new(0, sectors, &[], &[]))?;
-    put_root(&mut disk, 1, &Root::new(1, sectors, &[6, 7], &[]))?;
+    put_root(&mut disk, 0, &Root::over_entries(0, sectors, &[], &[]))?;
+    put_root(&mut disk, 1, &Root::over_entries(1, sectors, &[6, 7], &[]))?;
     put_entry(&mut disk, 6, first)?;
     put_entry(&mut disk, 7, second)?;
     Ok(disk)
@@ -130,8 +130,8 @@ const GENERATIONS: [(u64, u64, bool); 9] = [
 fn open_generations<R: Print + AllocGlobal>(rt: &R, tally: &mut Tally) -> Result<()> {
     for (even, odd, opens) in GENERATIONS {
         let mut disk = Memory::new(rt.alloc(), 8)?;
-        put_root(&mut disk, 0, &Root::new(even, 8, &[], &[]))?;
-        put_root(&mut disk, 1, &Root::new(odd, 8, &[], &[]))?;
+        put_root(&mut disk, 0, &Root::over_entries(even, 8, &[], &[]))?;
+        put_root(&mut disk, 1, &Root::over_entries(odd, 8, &[], &[]))?;
         let wanted = (!opens).then_some(StoreRefusal::Damaged);
         let right = refusal_of_open(rt.alloc(), disk) == wanted;
         tally.count(rt, right, &(even, odd), "two generations")?;
@@ -149,7 +149,7 @@ fn open_alone<R: Print + AllocGlobal>(rt: &R, tally: &mut Tally) -> Result<()> {
         (1, 1, false),
     ] {
         let mut disk = Memory::new(rt.alloc(), 8)?;
-        put_root(&mut disk, at, &Root::new(generation, 8, &[], &[]))?;
+        put_root(&mut disk, at, &Root::over_entries(generation, 8, &[], &[]))?;
         let wanted = (!opens).then_some(StoreRefusal::Damaged);
         let right = refusal_of_open(rt.alloc(), disk) == wanted;
         tally.count(rt, right, &(at, generation), "a root alone")?;

@@ -22,8 +22,11 @@ impl Original {
         root: &[u8; SECTOR_BYTES],
     ) -> Result<Seen> {
         match at {
-            // No magic: the root of generation 0 may stand alone, and no other.
-            0..8 if self.generation == 1 => Ok(Seen::Stands(self.older.copy(alloc)?)),
+            // No magic: the root of generation 0 may stand alone, and no other. With the magic of
+            // version 2 the sector is a root, and one that is wrong.
+            0..8 if self.generation == 1 && !root.starts_with(b"RLIBREG2") => {
+                Ok(Seen::Stands(self.older.copy(alloc)?))
+            }
 
             // The root two commits ago: the one in the other sector is the later one.
             8..16 if number(root, 8, 8).saturating_add(2) == self.generation => {

@@ -1,27 +1,80 @@
--- For callers: the root that lists some entries and preloads, and when it has a spelling.
-use Rattle.std.proofs.Common.{◌≡◌, ℕ, ◌-◌, ◌<◌, List, length, refl, sym, subst}
-use Rattle.std.proofs.lemmas.List.{take_at}
+-- For callers: the roots that list some entries or catalogues, and some preloads, and when they have a spelling.
+use Rattle.std.proofs.Common.{◌≡◌, ℕ, ◌-◌, ◌<◌, ◌≤◌, List, length, refl, sym, subst, ◌∙◌, arith}
+use Rattle.std.specs.Prelude.{All}
+use Rattle.std.proofs.lemmas.List.{take_at, length-take-le}
 use Rattle.extents.specs.Extent.{AreDistinct}
-use Rattle.roots.specs.Limits.{most_libraries, most_preloads}
+use Rattle.roots.specs.declared.entry_list.EntryList.{EntryList}
+use Rattle.roots.specs.declared.entry_list.EntryList.TheVariants.{InRoot, InCatalogues}
+use Rattle.roots.specs.declared.version.Version.TheVariants.{One, Two}
+use Rattle.roots.specs.declared.root.Root.{Root}
+use Rattle.roots.specs.Limits.{most_libraries, most_root_entries, most_catalogues, most_preloads, catalogues_for}
 use Rattle.roots.specs.Fields.{zeros}
 use Rattle.roots.proofs.Placed.{uses_first, lists_sectors}
-use Rattle.roots.specs.Root.{root_of_lists, listed_sectors, listed_preloads, ListsFit, RootHasSpelling}
+use Rattle.roots.specs.Root.{root_with, root_over_entries, root_over_catalogues, version_of, version_of_list, used_places, listed_sectors, listed_preloads, ListFits, PreloadsFit, ListsFit, CataloguesFit, RootHasSpelling}
 
--- it lists what it was made of,
-pub listed_sectors-root_of_lists : (generation sectors : ℕ) (entries preloads : List ℕ) → listed_sectors (root_of_lists generation sectors entries preloads) ≡ entries
-listed_sectors-root_of_lists generation sectors entries preloads = take_at entries (zeros (most_libraries - length entries)) (length entries) refl
+-- They list what they were made of,
+pub listed_sectors-root_over_entries : (generation sectors : ℕ) (entries preloads : List ℕ) → listed_sectors (root_over_entries generation sectors entries preloads) ≡ entries
+listed_sectors-root_over_entries generation sectors entries preloads = take_at entries (zeros (most_root_entries - length entries)) (length entries) refl
 
-pub listed_preloads-root_of_lists : (generation sectors : ℕ) (entries preloads : List ℕ) → listed_preloads (root_of_lists generation sectors entries preloads) ≡ preloads
-listed_preloads-root_of_lists generation sectors entries preloads = take_at preloads (zeros (most_preloads - length preloads)) (length preloads) refl
+pub listed_sectors-root_over_catalogues : (generation sectors libraries : ℕ) (catalogues preloads : List ℕ) → listed_sectors (root_over_catalogues generation sectors libraries catalogues preloads) ≡ catalogues
+listed_sectors-root_over_catalogues generation sectors libraries catalogues preloads = take_at catalogues (zeros (most_catalogues - length catalogues)) (length catalogues) refl
 
--- and has a spelling where they fit.
-pub root_of_lists-has_spelling : (generation sectors : ℕ) (entries preloads : List ℕ) → ListsFit generation sectors entries preloads → RootHasSpelling (root_of_lists generation sectors entries preloads)
-root_of_lists-has_spelling generation sectors entries preloads fit = record {
+pub listed_preloads-root_with : (generation sectors libraries : ℕ) (list : EntryList) (preloads : List ℕ) → listed_preloads (root_with generation sectors libraries list preloads) ≡ preloads
+listed_preloads-root_with generation sectors libraries list preloads = take_at preloads (zeros (most_preloads - length preloads)) (length preloads) refl
+
+pub listed_preloads-root_over_entries : (generation sectors : ℕ) (entries preloads : List ℕ) → listed_preloads (root_over_entries generation sectors entries preloads) ≡ preloads
+listed_preloads-root_over_entries generation sectors entries preloads = take_at preloads (zeros (most_preloads - length preloads)) (length preloads) refl
+
+pub listed_preloads-root_over_catalogues : (generation sectors libraries : ℕ) (catalogues preloads : List ℕ) → listed_preloads (root_over_catalogues generation sectors libraries catalogues preloads) ≡ preloads
+listed_preloads-root_over_catalogues generation sectors libraries catalogues preloads = take_at preloads (zeros (most_preloads - length preloads)) (length preloads) refl
+
+preloads_fit : (generation sectors libraries : ℕ) (list : EntryList) (preloads : List ℕ) → length preloads ≤ most_preloads → All (λ position. position < libraries) preloads → AreDistinct preloads
+    → PreloadsFit (root_with generation sectors libraries list preloads)
+preloads_fit generation sectors libraries list preloads few inside distinct = record {
+  listed = uses_first most_preloads preloads 0 (λ position. position < libraries) few inside;
+  distinct = subst AreDistinct (sym (listed_preloads-root_with generation sectors libraries list preloads)) distinct;
+}
+
+-- and have a spelling where that fits.
+pub root_over_entries-has_spelling : (generation sectors : ℕ) (entries preloads : List ℕ) → ListsFit generation sectors entries preloads → RootHasSpelling (root_over_entries generation sectors entries preloads)
+root_over_entries-has_spelling generation sectors entries preloads fit = record {
   generation = fit.generation_fits;
   sectors = fit.sectors_fit;
-  preloads = record {
-    listed = uses_first most_preloads preloads 0 (λ position. position < length entries) fit.few_preloads fit.preloads_inside;
-    distinct = subst AreDistinct (sym (listed_preloads-root_of_lists generation sectors entries preloads)) fit.preloads_distinct;
-  };
-  entry_sectors = lists_sectors most_libraries sectors entries fit.few_entries fit.entries_inside fit.entries_distinct;
+  preloads = preloads_fit generation sectors (length entries) _ preloads fit.few_preloads fit.preloads_inside fit.preloads_distinct;
+  list = lists_sectors most_root_entries sectors entries fit.few_entries fit.entries_inside fit.entries_distinct;
 }
+
+pub root_over_catalogues-has_spelling : (generation sectors libraries : ℕ) (catalogues preloads : List ℕ) → CataloguesFit generation sectors libraries catalogues preloads → RootHasSpelling (root_over_catalogues generation sectors libraries catalogues preloads)
+root_over_catalogues-has_spelling generation sectors libraries catalogues preloads fit = record {
+  generation = fit.generation_fits;
+  sectors = fit.sectors_fit;
+  preloads = preloads_fit generation sectors libraries _ preloads fit.few_preloads fit.preloads_inside fit.preloads_distinct;
+  list = record {
+    few = fit.few_libraries;
+    enough = fit.enough;
+    listed = lists_sectors most_catalogues sectors catalogues (omega (arith, fit.few_libraries, fit.enough)) fit.catalogues_inside fit.catalogues_distinct;
+  };
+}
+
+-- What a root of version 1 lists are as many entries as it counts libraries,
+places_1 : (libraries disk : ℕ) (list : EntryList) → ListFits libraries disk list → version_of_list list ≡ One → (length (used_places libraries list) ≡ libraries) × (libraries ≤ most_root_entries)
+places_1 libraries disk (InRoot sectors) fits is = (length-take-le libraries sectors (omega (arith, fits.listed.size, fits.listed.room)), fits.listed.room)
+places_1 libraries disk (InCatalogues count sectors) fits is = absurd cc
+
+pub length-listed_1 : (root : Root) → RootHasSpelling root → version_of root ≡ One → length (listed_sectors root) ≡ root.library_count
+length-listed_1 root fits is = (places_1 root.library_count root.sectors root.list fits.list is).0
+
+pub few_1 : (root : Root) → RootHasSpelling root → version_of root ≡ One → root.library_count ≤ most_root_entries
+few_1 root fits is = (places_1 root.library_count root.sectors root.list fits.list is).1
+
+-- and one of version 2 as many catalogues as list them.
+places_2 : (libraries disk : ℕ) (list : EntryList) → ListFits libraries disk list → version_of_list list ≡ Two → (length (used_places libraries list) ≡ catalogues_for libraries) × (libraries ≤ most_libraries)
+places_2 libraries disk (InRoot sectors) fits is = absurd cc
+places_2 libraries disk (InCatalogues count sectors) fits is =
+    (length-take-le count sectors (omega (arith, fits.listed.listed.size, fits.listed.listed.room)) ∙ fits.enough, fits.few)
+
+pub length-listed_2 : (root : Root) → RootHasSpelling root → version_of root ≡ Two → length (listed_sectors root) ≡ catalogues_for root.library_count
+length-listed_2 root fits is = (places_2 root.library_count root.sectors root.list fits.list is).0
+
+pub few_2 : (root : Root) → RootHasSpelling root → version_of root ≡ Two → root.library_count ≤ most_libraries
+few_2 root fits is = (places_2 root.library_count root.sectors root.list fits.list is).1

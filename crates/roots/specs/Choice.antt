@@ -1,13 +1,15 @@
 -- Which root is current: the choice between the two slots, and what it means for the two sectors.
-use Rattle.std.specs.Prelude.{◌≡◌, ◌⊎◌, ℕ, ◌+◌, ◌%◌, List, Bool, Result, Ok, Err, ◌&&◌, ◌==◌, nat_lt, if◌then◌else◌}
+use Rattle.std.specs.Prelude.{◌≡◌, ◌⊎◌, ℕ, ◌+◌, ◌%◌, List, Bool, true, false, Result, Ok, Err, ◌&&◌, ◌==◌, nat_lt, if◌then◌else◌}
 use Rattle.std.specs.Int.{abs_diff}
 use Rattle.extents.specs.Limits.{root_sectors}
 use Rattle.roots.specs.declared.root.Root.{Root}
+use Rattle.roots.specs.declared.version.Version.{Version}
+use Rattle.roots.specs.declared.version.Version.TheVariants.{One, Two}
 use Rattle.roots.specs.declared.slot.Slot.{Slot}
 use Rattle.roots.specs.declared.slot.Slot.TheVariants.{Empty, Good}
 use Rattle.roots.specs.declared.choice.ChooseRefusal.{ChooseRefusal}
 use Rattle.roots.specs.declared.choice.ChooseRefusal.TheVariants.{NotFormatted, Damaged}
-use Rattle.roots.specs.Root.{LacksMagic, SpellsRoot}
+use Rattle.roots.specs.Root.{version_of, LacksMagic, SpellsRoot}
 
 -- the sector that holds the root of a generation: 0 for even ones, 1 for odd ones
 abbrev pub slot_of : ℕ → ℕ
@@ -21,9 +23,23 @@ are_neighbours even odd = slot_of even == 0 && slot_of odd == 1 && abs_diff even
 abbrev pub later : Root → Root → Root
 later a b = if nat_lt a.generation b.generation then b else a
 
+-- the root of the lesser generation
+abbrev pub earlier : Root → Root → Root
+earlier a b = if nat_lt a.generation b.generation then a else b
+
+-- whether a root of the newer version may follow one of the older: one of version 1 follows none of version 2
+abbrev pub keeps_version : Version → Version → Bool
+keeps_version Two One = false
+keeps_version older newer = true
+
+-- whether two roots, each in its sector, are one commit apart and follow each other by their versions
+abbrev pub are_in_row : Root → Root → Bool
+are_in_row even odd =
+    are_neighbours even.generation odd.generation && keeps_version (version_of (earlier even odd)) (version_of (later even odd))
+
 -- the choice, row by row
 abbrev pub chosen : Slot → Slot → Result Root ChooseRefusal
-chosen (Good even) (Good odd) = if are_neighbours even.generation odd.generation then Ok (later even odd) else Err Damaged
+chosen (Good even) (Good odd) = if are_in_row even odd then Ok (later even odd) else Err Damaged
 chosen (Good root) Empty = if root.generation == 0 then Ok root else Err Damaged
 chosen Empty Empty = Err NotFormatted
 chosen slot0 slot1 = Err Damaged
@@ -34,8 +50,12 @@ pub record AreSuccessive (even odd : ℕ) : Type 0 where
   pub parity1 : slot_of odd ≡ 1
   pub apart : (odd ≡ even + 1) ⊎ (even ≡ odd + 1)
 
+-- the newer root is of version 1 only where the older one is
+abbrev pub KeepsVersion : Root → Root → Type 0
+KeepsVersion older newer = version_of newer ≡ One → version_of older ≡ One
+
 -- the root that is current in sectors 0 and 1: generation 0 alone, or the later of two neighbours
 abbrev pub IsCurrent : List ℕ → List ℕ → Root → Type 0
 IsCurrent sector0 sector1 root =
     (SpellsRoot sector0 root × (root.generation ≡ 0) × LacksMagic sector1)
-    ⊎ ((even : Root) × (odd : Root) × SpellsRoot sector0 even × SpellsRoot sector1 odd × AreSuccessive even.generation odd.generation × (root ≡ later even odd))
+    ⊎ ((even : Root) × (odd : Root) × SpellsRoot sector0 even × SpellsRoot sector1 odd × AreSuccessive even.generation odd.generation × KeepsVersion (earlier even odd) (later even odd) × (root ≡ later even odd))

@@ -1,13 +1,22 @@
 -- The limits of what root, catalogue and entry sectors say, beside those that free sectors have too.
 use Rattle.std.specs.Prelude.{ℕ}
+use Rattle.std.specs.Int.{div_ceil}
 
 -- the least sectors that a disk has
 abbrev pub least_sectors : ℕ
 least_sectors = 8
 
--- the most libraries that a root lists
+-- the most libraries that a root counts: one of version 2
 abbrev pub most_libraries : ℕ
-most_libraries = 100
+most_libraries = 2048
+
+-- the most entries that a root of version 1 lists, and so the most libraries that it counts
+abbrev pub most_root_entries : ℕ
+most_root_entries = 100
+
+-- the most catalogues that a root of version 2 lists
+abbrev pub most_catalogues : ℕ
+most_catalogues = 32
 
 -- the most preloads that a root lists
 abbrev pub most_preloads : ℕ
@@ -16,6 +25,10 @@ most_preloads = 16
 -- the most entries that a catalogue lists
 abbrev pub most_catalogue_entries : ℕ
 most_catalogue_entries = 64
+
+-- how many catalogues list so many libraries, all of them full but perhaps the last
+abbrev pub catalogues_for : ℕ → ℕ
+catalogues_for libraries = div_ceil libraries most_catalogue_entries
 
 -- the least and the most bytes of a file
 abbrev pub least_file_bytes : ℕ

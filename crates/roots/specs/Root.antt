@@ -1,25 +1,41 @@
--- A root: which roots have a spelling, and the sector that spells one.
+-- A root, of version 1 or 2: which roots have a spelling, and the sector that spells one.
 use Rattle.std.specs.Prelude.{◌≡◌, ℕ, ◌-◌, ◌<◌, ◌≤◌, ◌^◌, List, [], ◌∷◌, ◌++◌, length, take, codes, All, Contains}
 use Rattle.std.specs.Int.{w16, w32, w64, to_le_bytes, IsInRange}
 use Rattle.extents.specs.Limits.{root_sectors, most_sectors}
 use Rattle.extents.specs.Extent.{AreDistinct}
 use Rattle.roots.specs.declared.entry_list.EntryList.{EntryList}
-use Rattle.roots.specs.declared.entry_list.EntryList.TheVariants.{InRoot}
+use Rattle.roots.specs.declared.entry_list.EntryList.TheVariants.{InRoot, InCatalogues}
+use Rattle.roots.specs.declared.version.Version.{Version}
+use Rattle.roots.specs.declared.version.Version.TheVariants.{One, Two}
 use Rattle.roots.specs.declared.root.Root.{Root}
-use Rattle.roots.specs.Limits.{least_sectors, most_libraries, most_preloads}
+use Rattle.roots.specs.Limits.{least_sectors, most_libraries, most_root_entries, most_catalogues, most_preloads, catalogues_for}
 use Rattle.roots.specs.Fields.{zeros, numbers, UsesFirst, ListsSectors}
 
 -- how the root sectors of version 1 begin
 abbrev pub magic_1 : List ℕ
 magic_1 = codes "RLIBREG1"
 
+-- how those of version 2 begin
+abbrev pub magic_2 : List ℕ
+magic_2 = codes "RLIBREG2"
+
 -- how root sectors begin, of every version
 abbrev pub root_magics : List (List ℕ)
-root_magics = magic_1 ∷ []
+root_magics = magic_1 ∷ magic_2 ∷ []
+
+-- the version that a list is of
+abbrev pub version_of_list : EntryList → Version
+version_of_list (InRoot sectors) = One
+version_of_list (InCatalogues count sectors) = Two
+
+-- the version that a root is of
+abbrev pub version_of : Root → Version
+version_of root = version_of_list root.list
 
 -- how the sector of a root begins, by the version of its list
 abbrev pub magic_of : EntryList → List ℕ
 magic_of (InRoot sectors) = magic_1
+magic_of (InCatalogues count sectors) = magic_2
 
 -- a root sector, good or bad
 abbrev pub HasMagic : List ℕ → Type 0
@@ -29,16 +45,17 @@ HasMagic bytes = Contains root_magics (take 8 bytes)
 abbrev pub LacksMagic : List ℕ → Type 0
 LacksMagic bytes = ¬ HasMagic bytes
 
--- the places of a list, used or not
-abbrev pub entry_places : EntryList → List ℕ
-entry_places (InRoot sectors) = sectors
-
 -- a list, in the last 456 bytes of a root's sector
 abbrev pub list_bytes : EntryList → List ℕ
 list_bytes (InRoot sectors) =
     zeros 8  -- at byte 56
     ++ numbers w32 sectors  -- 64
     ++ zeros 48  -- 464
+list_bytes (InCatalogues count sectors) =
+    to_le_bytes w16 count  -- at byte 56
+    ++ zeros 6  -- 58
+    ++ numbers w32 sectors  -- 64
+    ++ zeros 320  -- 192
 
 -- the sector of a root, field by field
 unfoldable pub root_bytes : Root → List ℕ
@@ -56,48 +73,83 @@ pub record PreloadsFit (root : Root) : Type 0 where
   pub listed : UsesFirst most_preloads root.preload_count (λ position. position < root.library_count) 0 root.preloads
   pub distinct : AreDistinct (take root.preload_count root.preloads)
 
--- places for the libraries' entry sectors, which lie on the disk
-abbrev pub EntrySectorsFit : Root → Type 0
-EntrySectorsFit root = ListsSectors most_libraries root.library_count root.sectors (entry_places root.list)
+-- Places for the sectors of catalogues, which lie on the disk: just as many as list so many libraries.
+pub record CatalogueListFits (libraries disk count : ℕ) (sectors : List ℕ) : Type 0 where
+  pub few : libraries ≤ most_libraries
+  pub enough : count ≡ catalogues_for libraries
+  pub listed : ListsSectors most_catalogues count disk sectors
+
+-- places for the sectors that a root of so many libraries lists, on a disk of so many sectors: in version 1 those of
+-- the libraries' entries, in version 2 those of the catalogues
+abbrev pub ListFits : ℕ → ℕ → EntryList → Type 0
+ListFits libraries disk (InRoot sectors) = ListsSectors most_root_entries libraries disk sectors
+ListFits libraries disk (InCatalogues count sectors) = CatalogueListFits libraries disk count sectors
 
 -- The limits of the fields: a root has a spelling exactly where it keeps to them.
 pub record RootHasSpelling (root : Root) : Type 0 where
   pub generation : root.generation < 2 ^ 64
   pub sectors : IsInRange least_sectors most_sectors root.sectors
   pub preloads : PreloadsFit root
-  pub entry_sectors : EntrySectorsFit root
+  pub list : ListFits root.library_count root.sectors root.list
 
 -- a sector spells a root
 pub record SpellsRoot (bytes : List ℕ) (root : Root) : Type 0 where
   pub has_spelling : RootHasSpelling root
   pub spelling : bytes ≡ root_bytes root
 
--- the sectors of the entries that a root lists
+-- the used places of a list
+abbrev pub used_places : ℕ → EntryList → List ℕ
+used_places libraries (InRoot sectors) = take libraries sectors
+used_places libraries (InCatalogues count sectors) = take count sectors
+
+-- the sectors that a root itself lists: in version 1 those of the entries, in version 2 those of the catalogues
 abbrev pub listed_sectors : Root → List ℕ
-listed_sectors root = take root.library_count (entry_places root.list)
+listed_sectors root = used_places root.library_count root.list
 
 -- the positions of the preloads that a root lists
 abbrev pub listed_preloads : Root → List ℕ
 listed_preloads root = take root.preload_count root.preloads
 
--- the root that lists these, with zeros in the places behind them
-abbrev pub root_of_lists : ℕ → ℕ → List ℕ → List ℕ → Root
-root_of_lists generation sectors entries preloads = record {
+-- the root of so many libraries with this list and these preloads, with zeros in the places behind them
+abbrev pub root_with : ℕ → ℕ → ℕ → EntryList → List ℕ → Root
+root_with generation sectors libraries list preloads = record {
   generation = generation;
   sectors = sectors;
-  library_count = length entries;
+  library_count = libraries;
   preload_count = length preloads;
   preloads = preloads ++ zeros (most_preloads - length preloads);
-  list = InRoot (entries ++ zeros (most_libraries - length entries));
+  list = list;
 }
 
--- What a root's lists have to keep to, so that the root has a spelling.
+-- the root of version 1 that lists these entries
+abbrev pub root_over_entries : ℕ → ℕ → List ℕ → List ℕ → Root
+root_over_entries generation sectors entries preloads =
+    root_with generation sectors (length entries) (InRoot (entries ++ zeros (most_root_entries - length entries))) preloads
+
+-- the root of version 2 that counts so many libraries and lists these catalogues
+abbrev pub root_over_catalogues : ℕ → ℕ → ℕ → List ℕ → List ℕ → Root
+root_over_catalogues generation sectors libraries catalogues preloads =
+    root_with generation sectors libraries (InCatalogues (length catalogues) (catalogues ++ zeros (most_catalogues - length catalogues))) preloads
+
+-- What the lists of a root of version 1 have to keep to, so that the root has a spelling.
 pub record ListsFit (generation sectors : ℕ) (entries preloads : List ℕ) : Type 0 where
   pub generation_fits : generation < 2 ^ 64
   pub sectors_fit : IsInRange least_sectors most_sectors sectors
-  pub few_entries : length entries ≤ most_libraries
+  pub few_entries : length entries ≤ most_root_entries
   pub few_preloads : length preloads ≤ most_preloads
   pub entries_inside : All (λ sector. (root_sectors ≤ sector) × (sector < sectors)) entries
   pub entries_distinct : AreDistinct entries
   pub preloads_inside : All (λ position. position < length entries) preloads
+  pub preloads_distinct : AreDistinct preloads
+
+-- What those of a root of version 2 have to keep to.
+pub record CataloguesFit (generation sectors libraries : ℕ) (catalogues preloads : List ℕ) : Type 0 where
+  pub generation_fits : generation < 2 ^ 64
+  pub sectors_fit : IsInRange least_sectors most_sectors sectors
+  pub few_libraries : libraries ≤ most_libraries
+  pub enough : length catalogues ≡ catalogues_for libraries
+  pub few_preloads : length preloads ≤ most_preloads
+  pub catalogues_inside : All (λ sector. (root_sectors ≤ sector) × (sector < sectors)) catalogues
+  pub catalogues_distinct : AreDistinct catalogues
+  pub preloads_inside : All (λ position. position < libraries) preloads
   pub preloads_distinct : AreDistinct preloads

@@ -5,7 +5,7 @@ use Rattle.roots.specs.declared.slot.Slot.{Slot}
 use Rattle.roots.specs.declared.slot.Slot.TheVariants.{Empty, Good, Bad}
 use Rattle.roots.specs.Root.{HasMagic, LacksMagic, SpellsRoot}
 
--- Without the magic a sector is Empty; with it, Good where it spells a root, and else Bad.
+-- Without a magic a sector is Empty; with one, Good where it spells a root, and else Bad.
 abbrev pub IsSlotOf : List ℕ → Slot → Type 0
 IsSlotOf bytes Empty = LacksMagic bytes
 IsSlotOf bytes (Good root) = SpellsRoot bytes root

@@ -1,14 +1,15 @@
 //! Which of two roots is current.
 
-ghost use Rattle.std.specs.Prelude.{◌≡◌, ◌<◌, ◌↔◌, ℕ, List, Ok, Err};
+ghost use Rattle.std.specs.Prelude.{◌≡◌, ◌<◌, ◌↔◌, ℕ, List, Ok, Err, if◌then◌else◌};
 ghost use Rattle.roots.specs.declared.root.Root.{Root};
-ghost use Rattle.roots.specs.Root.{LacksMagic};
+ghost use Rattle.roots.specs.Root.{LacksMagic, version_of};
 ghost use Rattle.roots.specs.Slot.{IsSlotOf};
 ghost use Rattle.extents.specs.Limits.{root_sectors};
-ghost use Rattle.roots.specs.Choice.{slot_of, chosen, IsCurrent};
+ghost use Rattle.roots.specs.Choice.{slot_of, keeps_version, chosen, IsCurrent};
 
 use crate::root::Root;
 use crate::slot::Slot;
+use crate::version::Version;
 use extents::ROOT_SECTORS;
 
 /// Why no root is current.
@@ -55,7 +56,8 @@ fn by_table(slot0: Slot, slot1: Slot) -> Result<Root, ChooseRefusal>
     }
 }
 
-// The later of two roots, where each stands in its slot and they differ by one commit.
+// The later of two roots, where each stands in its slot, they differ by one commit, and the later
+// one may follow the other by its version.
 fn later(even: Root, odd: Root) -> Result<Root, ChooseRefusal>
     ensures { result ≡ chosen (Slot.Good even) (Slot.Good odd) }
 {
@@ -66,8 +68,19 @@ fn later(even: Root, odd: Root) -> Result<Root, ChooseRefusal>
         return Err(ChooseRefusal::Damaged);
     }
     if even.generation < odd.generation {
-        Ok(odd)
+        after(even, odd)
     } else {
-        Ok(even)
+        after(odd, even)
+    }
+}
+
+// The newer of two roots that are a commit apart. None of version 1 follows one of version 2.
+fn after(older: Root, newer: Root) -> Result<Root, ChooseRefusal>
+    ensures { result ≡ (if keeps_version (version_of older) (version_of newer)
+        then Ok newer else Err ChooseRefusal.Damaged) }
+{
+    match (older.version(), newer.version()) {
+        (Version::Two, Version::One) => Err(ChooseRefusal::Damaged),
+        _ => Ok(newer),
     }
 }

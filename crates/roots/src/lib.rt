@@ -18,6 +18,7 @@ mod lists;
 mod root;
 mod root_sector;
 mod slot;
+mod version;
 mod writer;
 
 pub use catalogue::Catalogue;
@@ -27,9 +28,10 @@ pub use entry::Entry;
 pub use entry_list::EntryList;
 pub use entry_sector::{decode_entry, encode_entry};
 pub use limits::{
-    LEAST_FILE_BYTES, LEAST_SECTORS, MOST_CATALOGUE_ENTRIES, MOST_FILE_BYTES, MOST_LIBRARIES,
-    MOST_NAME_BYTES, MOST_PRELOADS,
+    LEAST_FILE_BYTES, LEAST_SECTORS, MOST_CATALOGUE_ENTRIES, MOST_CATALOGUES, MOST_FILE_BYTES,
+    MOST_LIBRARIES, MOST_NAME_BYTES, MOST_PRELOADS, MOST_ROOT_ENTRIES, catalogues_for,
 };
 pub use root::Root;
 pub use root_sector::{decode_root, encode_root};
 pub use slot::Slot;
+pub use version::Version;

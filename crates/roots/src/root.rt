@@ -1,13 +1,15 @@
 //! What a root says.
 
 ghost use Rattle.std.specs.Prelude.{◌≡◌, ◌≤◌, ◌↔◌, IsTrue, length};
-ghost use Rattle.roots.specs.Limits.{most_libraries, most_preloads};
-ghost use Rattle.roots.specs.Root.{RootHasSpelling, PreloadsFit};
-ghost use Rattle.roots.specs.Root.{root_of_lists, listed_sectors, listed_preloads};
+ghost use Rattle.roots.specs.Limits.{most_root_entries, most_catalogues, most_preloads};
+ghost use Rattle.roots.specs.Root.{RootHasSpelling, PreloadsFit, version_of};
+ghost use Rattle.roots.specs.Root.{root_over_entries, root_over_catalogues};
+ghost use Rattle.roots.specs.Root.{listed_sectors, listed_preloads};
 
 use crate::entry_list::EntryList;
 use crate::limits::{LEAST_SECTORS, MOST_PRELOADS};
-use crate::lists::{are_distinct, lists_sectors, placed};
+use crate::lists::{are_distinct, placed};
+use crate::version::Version;
 use extents::MOST_SECTORS;
 
 /// The root of a registry, as one of the two root sectors has it. In a spelling the places past a
@@ -24,17 +26,17 @@ pub struct Root {
     pub preload_count: u16,
     /// The preloads in their order, each by its position in the list of libraries.
     pub preloads: [u16; MOST_PRELOADS],
-    /// The sectors of the libraries' entries, in the order of installation.
+    /// Where the libraries' entries are listed, by the version of the disk.
     pub list: EntryList,
 }
 
 impl Root {
-    /// The root of this generation, on a disk of so many sectors, that lists these sectors of
-    /// entries and these positions of preloads.
-    pub fn new(generation: u64, sectors: u32, entries: &[u32], preloads: &[u16]) -> Root
-        requires entries { length entries.now ≤ most_libraries }
+    /// The root of version 1 and of this generation, on a disk of so many sectors, that lists these
+    /// sectors of entries and these positions of preloads.
+    pub fn over_entries(generation: u64, sectors: u32, entries: &[u32], preloads: &[u16]) -> Root
+        requires entries { length entries.now ≤ most_root_entries }
         requires preloads { length preloads.now ≤ most_preloads }
-        ensures value { result ≡ root_of_lists generation sectors entries.now preloads.now }
+        ensures value { result ≡ root_over_entries generation sectors entries.now preloads.now }
         ensures entries { listed_sectors result ≡ entries.now }
         ensures preloads { listed_preloads result ≡ preloads.now }
     {
@@ -48,12 +50,52 @@ impl Root {
         }
     }
 
-    /// The sectors of the libraries' entries, in the order of installation.
-    pub fn entry_sectors(&self) -> &[u32]
+    /// The root of version 2 and of this generation, on a disk of so many sectors, that counts so
+    /// many libraries, and lists these sectors of catalogues and these positions of preloads.
+    pub fn over_catalogues(
+        generation: u64,
+        sectors: u32,
+        library_count: u16,
+        catalogues: &[u32],
+        preloads: &[u16],
+    ) -> Root
+        requires catalogues { length catalogues.now ≤ most_catalogues }
+        requires preloads { length preloads.now ≤ most_preloads }
+        ensures value { result ≡ root_over_catalogues generation sectors library_count
+            catalogues.now preloads.now }
+        ensures catalogues { listed_sectors result ≡ catalogues.now }
+        ensures preloads { listed_preloads result ≡ preloads.now }
+    {
+        Root {
+            generation,
+            sectors,
+            library_count,
+            preload_count: preloads.len() as u16,
+            preloads: placed(preloads, 0),
+            list: EntryList::InCatalogues {
+                count: catalogues.len() as u16,
+                sectors: placed(catalogues, 0),
+            },
+        }
+    }
+
+    /// The version of the disk that this root is of.
+    pub fn version(&self) -> Version
+        ensures { result ≡ version_of self.now }
+    {
+        self.list.version()
+    }
+
+    /// The sectors that the root itself lists: those of the libraries' entries in version 1, those
+    /// of the catalogues in version 2, in the order of installation.
+    pub fn listed_sectors(&self) -> &[u32]
         requires { RootHasSpelling self.now }
         ensures { result.now ≡ listed_sectors self.now }
     {
-        &self.list.places()[..usize::from(self.library_count)]
+        match &self.list {
+            EntryList::InRoot(sectors) => &sectors[..usize::from(self.library_count)],
+            EntryList::InCatalogues { count, sectors } => &sectors[..usize::from(*count)],
+        }
     }
 
     /// The positions of the preloads in the list of libraries, in their order.
@@ -65,7 +107,7 @@ impl Root {
     }
 
     /// Whether each field keeps to the format's limits, so that a sector can spell this root. It
-    /// compares each entry sector with those before it, 4,950 comparisons at most.
+    /// compares each listed sector with those before it, 4,950 comparisons at most.
     pub fn has_spelling(&self) -> bool
         ensures { IsTrue result ↔ RootHasSpelling self.now }
     {
@@ -73,7 +115,7 @@ impl Root {
         let _generation = self.generation;
         (LEAST_SECTORS..=MOST_SECTORS).contains(&self.sectors)
             && self.preloads_fit()
-            && lists_sectors(self.list.places(), self.library_count, self.sectors)
+            && self.list.fits(self.library_count, self.sectors)
     }
 
     fn preloads_fit(&self) -> bool

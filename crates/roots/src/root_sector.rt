@@ -6,7 +6,7 @@ ghost use Rattle.roots.specs.declared.root.Root.{Root};
 ghost use Rattle.roots.specs.Root.{RootHasSpelling, SpellsRoot, HasMagic, LacksMagic};
 ghost use Rattle.roots.specs.Root.{magic_of, list_bytes, root_bytes};
 ghost use Rattle.roots.specs.Slot.{IsSlotOf};
-ghost use Rattle.roots.specs.inside.Reading.{root_of};
+ghost use Rattle.roots.specs.inside.Reading.{list_of, root_of};
 
 use crate::entry_list::EntryList;
 use crate::field::{Field, values_at};
@@ -18,7 +18,9 @@ use sector_disk::SECTOR_BYTES;
 // How root sectors begin, by their version.
 const MAGIC_1: [u8; 8] = *b"RLIBREG1";
 
-const MAGICS: [[u8; 8]; 1] = [MAGIC_1];
+const MAGIC_2: [u8; 8] = *b"RLIBREG2";
+
+const MAGICS: [[u8; 8]; 2] = [MAGIC_1, MAGIC_2];
 
 /// The sector that spells the root. `Root::has_spelling` tests its condition.
 pub fn encode_root(root: &Root) -> [u8; SECTOR_BYTES]
@@ -45,6 +47,7 @@ fn magic_of(list: &EntryList) -> [u8; 8]
 {
     match list {
         EntryList::InRoot(_) => MAGIC_1,
+        EntryList::InCatalogues { .. } => MAGIC_2,
     }
 }
 
@@ -54,9 +57,19 @@ fn put_list(sector: &mut SectorWriter, list: &EntryList)
     ensures fields { sector.new ≡ sector.old ++ list_bytes list.now }
     ensures len { length sector.new ≡ sector_bytes }
 {
-    sector.put(&[0; 8]);
-    sector.put_all(list.places());
-    sector.put(&[0; 48]);
+    match list {
+        EntryList::InRoot(sectors) => {
+            sector.put(&[0; 8]);
+            sector.put_all(sectors);
+            sector.put(&[0; 48]);
+        }
+        EntryList::InCatalogues { count, sectors } => {
+            sector.put(&count.to_le_bytes());
+            sector.put(&[0; 6]);
+            sector.put_all(sectors);
+            sector.put(&[0; 320]);
+        }
+    }
 }
 
 /// What a root sector holds: a root where it is exactly the root's spelling.
@@ -104,6 +117,21 @@ fn root_fields(bytes: &[u8; SECTOR_BYTES]) -> Root
         library_count: u16::read_at(bytes, 20),
         preload_count: u16::read_at(bytes, 22),
         preloads: values_at(bytes, 24),
-        list: EntryList::InRoot(values_at(bytes, 64)),
+        list: list_fields(bytes),
+    }
+}
+
+// What the list says, by the magic.
+#[tactic(auto, unfolding(crate::specs::inside::Reading::list_of))]
+fn list_fields(bytes: &[u8; SECTOR_BYTES]) -> EntryList
+    ensures { result ≡ list_of bytes.now }
+{
+    if bytes.starts_with(&MAGIC_2) {
+        EntryList::InCatalogues {
+            count: u16::read_at(bytes, 56),
+            sectors: values_at(bytes, 64),
+        }
+    } else {
+        EntryList::InRoot(values_at(bytes, 64))
     }
 }

@@ -9,7 +9,7 @@ use Rattle.roots.specs.declared.slot.Slot.TheVariants.{Good, Bad}
 use Rattle.roots.specs.Slot.{IsSlotOf}
 use Rattle.roots.specs.Root.{root_bytes, RootHasSpelling, HasMagic, LacksMagic}
 use Rattle.roots.proofs.Roots.{spelt_has_magic}
-use Rattle.roots.proofs.RootLemmas.{root_of_lists-has_spelling, listed_sectors-root_of_lists}
+use Rattle.roots.proofs.RootLemmas.{root_over_entries-has_spelling, listed_sectors-root_over_entries}
 use Rattle.store.specs.Opening.{IsGeometry}
 use Rattle.store.specs.State.{empty_state}
 use Rattle.store.specs.Stands.{Lists, StandsBy, Stands}
@@ -18,7 +18,7 @@ use Rattle.store.specs.inside.Kept.{IsKept}
 use Rattle.store.specs.inside.First.{first_root}
 
 pub first_fits : (sectors : ℕ) → IsGeometry sectors → RootHasSpelling (first_root sectors)
-first_fits sectors geometry = root_of_lists-has_spelling 0 sectors [] [] (record {
+first_fits sectors geometry = root_over_entries-has_spelling 0 sectors [] [] (record {
   generation_fits = omega arith;
   sectors_fit = geometry;
   few_entries = omega arith;
@@ -31,7 +31,7 @@ first_fits sectors geometry = root_of_lists-has_spelling 0 sectors [] [] (record
 
 -- it lists no entry
 first_listed : (sectors : ℕ) → Lists (first_root sectors) []
-first_listed sectors = sym (listed_sectors-root_of_lists 0 sectors [] [])
+first_listed sectors = record { version = refl; sectors = sym (listed_sectors-root_over_entries 0 sectors [] []) }
 
 pub first_stands : (m : List Sector) (sectors : ℕ) → IsGeometry sectors → length m ≡ sectors → LacksMagic (sector m 1) → StandsBy (set m 0 (root_bytes (first_root sectors))) (first_root sectors) [] empty_state
 first_stands m sectors geometry size lacks = record {

@@ -7,10 +7,10 @@ use Rattle.sector_disk.specs.Disk.{Sector, sector}
 use Rattle.extents.specs.Extent.{places}
 use Rattle.extents.specs.Used.{ClaimsJust}
 use Rattle.roots.specs.declared.root.Root.{Root}
-use Rattle.roots.specs.Root.{RootHasSpelling, root_bytes, listed_sectors, listed_preloads}
+use Rattle.roots.specs.Root.{RootHasSpelling, root_bytes, version_of, listed_sectors, listed_preloads}
 use Rattle.roots.specs.Choice.{slot_of}
 use Rattle.roots.specs.Entry.{SpellsEntry, extents_of}
-use Rattle.roots.proofs.RootLemmas.{root_of_lists-has_spelling, listed_sectors-root_of_lists, listed_preloads-root_of_lists}
+use Rattle.roots.proofs.RootLemmas.{root_over_entries-has_spelling, listed_sectors-root_over_entries, listed_preloads-root_over_entries}
 use Rattle.store.specs.declared.placed_entry.PlacedEntry.{PlacedEntry}
 use Rattle.store.specs.State.{State}
 use Rattle.store.specs.Stands.{UsesApart, StandsBy, Lists, entry_sectors, used, blob_of, names_at}
@@ -34,17 +34,20 @@ own_once k (e ∷ entries) = omega (
 
 module _ {root : Root} {others : List PlacedEntry} {preloads : List ℕ} {next : Root} (is : IsNext root others preloads next) (fits : RootHasSpelling root) where
   next_listed : Lists next others
-  next_listed = sym (ap listed_sectors is.is_next ∙ listed_sectors-root_of_lists (root.generation + 1) root.sectors (entry_sectors others) preloads)
+  next_listed = record {
+    version = ap version_of is.is_next;
+    sectors = sym (ap listed_sectors is.is_next ∙ listed_sectors-root_over_entries (root.generation + 1) root.sectors (entry_sectors others) preloads);
+  }
 
   next_preloads : listed_preloads next ≡ preloads
-  next_preloads = ap listed_preloads is.is_next ∙ listed_preloads-root_of_lists (root.generation + 1) root.sectors (entry_sectors others) preloads
+  next_preloads = ap listed_preloads is.is_next ∙ listed_preloads-root_over_entries (root.generation + 1) root.sectors (entry_sectors others) preloads
 
   sectors_are : next.sectors ≡ root.sectors
   sectors_are = ap (λ r. r.sectors) is.is_next
 
   -- It has a spelling,
   pub following_fits : RootHasSpelling next
-  following_fits = subst (λ r. RootHasSpelling r) (sym is.is_next) (root_of_lists-has_spelling (root.generation + 1) root.sectors (entry_sectors others) preloads (record {
+  following_fits = subst (λ r. RootHasSpelling r) (sym is.is_next) (root_over_entries-has_spelling (root.generation + 1) root.sectors (entry_sectors others) preloads (record {
     generation_fits = is.later;
     sectors_fit = fits.sectors;
     few_entries = omega (arith, is.few, length-map others (λ (p : PlacedEntry). p.at));
@@ -75,7 +78,7 @@ module _ {root : Root} {others : List PlacedEntry} {preloads : List ℕ} {next :
       → StandsBy (set m (slot_of next.generation) (root_bytes next)) next others s'
   following_stands m entries s s' by spelt same =
       let size : root.sectors ≡ length m = by.intact.size in
-      next_stands m root next others following_fits (ap (λ r. r.generation) is.is_next) (sectors_are ∙ size) (omega (arith, size, fits.sectors)) s'
+      next_stands m root next others following_fits (ap (λ r. r.generation) is.is_next) (sectors_are ∙ size) (omega (arith, size, fits.sectors)) (λ later. by.intact.listed.sectors.version) s'
       by.intact.current
       (record { sectors = next_listed; each = spelt })
       (subst (λ n. UsesApart n others) size is.apart)

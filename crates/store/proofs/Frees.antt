@@ -19,7 +19,7 @@ use Rattle.extents.proofs.UsedLemmas.{free_count-used, layout_of-claims, same-fr
 use Rattle.passes.specs.Bytes.{bytes_at}
 use Rattle.roots.specs.declared.root.Root.{Root}
 use Rattle.store.specs.declared.placed_entry.PlacedEntry.{PlacedEntry}
-use Rattle.roots.specs.Limits.{most_libraries}
+use Rattle.roots.specs.Limits.{most_root_entries}
 use Rattle.roots.specs.Entry.{EntryHasSpelling}
 use Rattle.store.specs.declared.refusal.StoreRefusal.TheVariants.{Full, Fragmented, GenerationEnd}
 use Rattle.extents.specs.declared.refusal.TakeRefusal.{TakeRefusal}
@@ -106,8 +106,8 @@ module _ (sectors longest : ℕ) (s : State) (bytes : List ℕ) where
       ∙ if_no (nat_lt (free sectors s) (cost bytes)) _ _ (λ is. omega (arith, ltb-true (free sectors s) (cost bytes) is, room))
       ∙ if_yes (nat_lt longest (cost bytes - 1)) _ _ (λ is. omega (arith, ltb-false longest (cost bytes - 1) is, runs))
 
-  pub new_as_put : length s.blobs < most_libraries → refusal_of_new sectors longest s bytes ≡ refusal_of_put sectors longest s bytes
-  new_as_put few = if_yes (nat_lt (length s.blobs) most_libraries) _ _ (λ is. omega (arith, ltb-false (length s.blobs) most_libraries is, few))
+  pub new_as_put : length s.blobs < most_root_entries → refusal_of_new sectors longest s bytes ≡ refusal_of_put sectors longest s bytes
+  new_as_put few = if_yes (nat_lt (length s.blobs) most_root_entries) _ _ (λ is. omega (arith, ltb-false (length s.blobs) most_root_entries is, few))
 
 -- an answer isn't a refusal
 ok_or_err : {T E : Type 0} {x : T} {e : E} → ◌≡◌ {A = Result T E} (Ok x) (Err e) → ⊥

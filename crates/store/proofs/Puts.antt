@@ -9,7 +9,7 @@ use Rattle.extents.specs.Limits.{root_sectors}
 use Rattle.roots.specs.declared.root.Root.{Root}
 use Rattle.roots.specs.Root.{RootHasSpelling, SpellsRoot, root_bytes, listed_preloads}
 use Rattle.roots.specs.Entry.{SpellsEntry}
-use Rattle.roots.specs.Choice.{IsCurrent, slot_of}
+use Rattle.roots.specs.Choice.{KeepsVersion, IsCurrent, slot_of}
 use Rattle.roots.proofs.ChoiceLemmas.{current-next_odd, current-next_even}
 use Rattle.store.specs.declared.placed_entry.PlacedEntry.{PlacedEntry}
 use Rattle.store.specs.State.{State}
@@ -17,7 +17,7 @@ use Rattle.store.specs.Stands.{IsListed, UsesApart, HaveOwnNames, StandsBy, Stan
 use Rattle.store.specs.inside.Next.{IsFollowed}
 use Rattle.store.proofs.UsedAlone.{same_used, blobs_same, own_used}
 
-module _ (m : List Sector) (root next : Root) (others : List PlacedEntry) (fits : RootHasSpelling next) (follows : next.generation ≡ root.generation + 1) (size : next.sectors ≡ length m) (some : root_sectors ≤ length m) where
+module _ (m : List Sector) (root next : Root) (others : List PlacedEntry) (fits : RootHasSpelling next) (follows : next.generation ≡ root.generation + 1) (size : next.sectors ≡ length m) (some : root_sectors ≤ length m) (keeps : KeepsVersion root next) where
   abbrev slot : ℕ
   slot = slot_of next.generation
 
@@ -43,12 +43,12 @@ module _ (m : List Sector) (root next : Root) (others : List PlacedEntry) (fits 
       let at : slot ≡ 1 = grind (arith, even, follows) in
       subst (λ c. IsCurrent c (sector after 1) next) (sym (elsewhere 0 (λ same. omega (arith, same, at))))
       (subst (λ c. IsCurrent (sector m 0) c next) (sym (ap (sector after) (sym at) ∙ in_slot))
-      (current-next_odd (sector m 0) (sector m 1) (root_bytes next) root next current even follows spelt)))
+      (current-next_odd (sector m 0) (sector m 1) (root_bytes next) root next current even follows keeps spelt)))
       (λ (odd : slot_of root.generation ≡ 1).
       let at : slot ≡ 0 = grind (arith, odd, follows) in
       subst (λ c. IsCurrent c (sector after 1) next) (sym (ap (sector after) (sym at) ∙ in_slot))
       (subst (λ c. IsCurrent (root_bytes next) c next) (sym (elsewhere 1 (λ same. omega (arith, same, at))))
-      (current-next_even (sector m 0) (sector m 1) (root_bytes next) root next current odd follows spelt)))
+      (current-next_even (sector m 0) (sector m 1) (root_bytes next) root next current odd follows keeps spelt)))
       parity
     where
       parity : (slot_of root.generation ≡ 0) ⊎ (slot_of root.generation ≡ 1)

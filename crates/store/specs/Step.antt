@@ -3,7 +3,7 @@ use Rattle.std.specs.Prelude.{◌≡◌, ◌≢◌, ℕ, ◌+◌, ◌-◌, ◌<�
 use Rattle.std.specs.Int.{IsInRange}
 use Rattle.extents.specs.Extent.{sector_count}
 use Rattle.extents.specs.Longest.{longest_runs}
-use Rattle.roots.specs.Limits.{least_file_bytes, most_file_bytes, most_name_bytes, most_libraries}
+use Rattle.roots.specs.Limits.{least_file_bytes, most_file_bytes, most_name_bytes, most_root_entries}
 use Rattle.roots.specs.Entry.{IsNameByte}
 use Rattle.roots.specs.Root.{listed_preloads}
 use Rattle.store.specs.declared.placed_entry.PlacedEntry.{PlacedEntry}
@@ -97,7 +97,7 @@ refusal_of_put sectors longest s bytes =
 -- the same for bytes with a new name
 abbrev pub refusal_of_new : (sectors longest : ℕ) → State → List ℕ → Option StoreRefusal
 refusal_of_new sectors longest s bytes =
-    if nat_lt (length s.blobs) most_libraries then refusal_of_put sectors longest s bytes
+    if nat_lt (length s.blobs) most_root_entries then refusal_of_put sectors longest s bytes
     else Some TooMany
 
 -- the answers to a put with this first refusal; S11 may replace Full, Fragmented and Ok, S1 Ok

@@ -2,8 +2,8 @@
 ghost use Rattle.std.specs.Prelude.{◌≡◌, ◌+◌, ◌<◌, ◌⊎◌, IsTrue, IfOk, IfErr, OnOk, length};
 ghost use Rattle.sector_disk.specs.Disk.{sector, Mixture, LeavesOnly, IsSynced};
 ghost use Rattle.sector_disk.specs.Disk.{AreCallsExactly, AreCallsAtMost};
-ghost use Rattle.roots.specs.Limits.{most_libraries};
-ghost use Rattle.roots.specs.Root.{RootHasSpelling};
+ghost use Rattle.roots.specs.Limits.{most_root_entries};
+ghost use Rattle.roots.specs.Root.{RootHasSpelling, version_of};
 ghost use Rattle.roots.specs.Choice.{IsCurrent};
 ghost use Rattle.store.specs.Opening.{IsGeometry, RefusesOpen};
 ghost use Rattle.store.specs.Stands.{IsIntact, Stands};
@@ -15,11 +15,12 @@ use crate::refusal::StoreRefusal;
 use crate::slots::read_slots;
 use crate::used::claim_used;
 use extents::Layout;
-use roots::{Root, choose};
+use roots::{Root, Version, choose};
 use sector_disk::Disk;
 use std::alloc::Global;
 
-/// The current root of a disk that a stop may have left: it is synced first.
+/// The current root of a disk that a stop may have left: it is synced first. A store reads
+/// version 1 alone.
 fn read_root<D: Disk>(disk: &mut D, sectors: u32) -> Result<Root, StoreRefusal>
     requires geometry { IsGeometry sectors }
     requires sectors { sectors ≡ (D.facts disk.old).sectors }
@@ -31,6 +32,7 @@ fn read_root<D: Disk>(disk: &mut D, sectors: u32) -> Result<Root, StoreRefusal>
         → (D.facts disk.new).now ≡ (D.facts disk.old).now }
     ensures synced { IsTrue (D.facts disk.old).honest → OnOk result (IsSynced (D.facts disk.new)) }
     ensures root { IfOk result (λ root. RootHasSpelling root × (root.sectors ≡ sectors)) }
+    ensures version { IfOk result (λ root. version_of root ≡ Version.One) }
     ensures current { IsTrue (D.facts disk.old).honest → IfOk result
         (IsCurrent (sector (D.facts disk.old).now 0) (sector (D.facts disk.old).now 1)) }
     ensures refused { IsTrue (D.facts disk.old).honest
@@ -45,7 +47,10 @@ fn read_root<D: Disk>(disk: &mut D, sectors: u32) -> Result<Root, StoreRefusal>
     if root.sectors != sectors {
         return Err(StoreRefusal::Damaged);
     }
-    Ok(root)
+    match root.version() {
+        Version::One => Ok(root),
+        Version::Two => Err(StoreRefusal::Damaged),
+    }
 }
 
 /// What a disk holds, as a store keeps it.
@@ -64,7 +69,7 @@ pub(crate) fn find_store<D: Disk>(
 ) -> Result<Found, StoreRefusal>
     requires geometry { IsGeometry sectors }
     requires sectors { sectors ≡ (D.facts disk.old).sectors }
-    ensures calls { AreCallsAtMost (3 + most_libraries) (D.facts disk.old) (D.facts disk.new) }
+    ensures calls { AreCallsAtMost (3 + most_root_entries) (D.facts disk.old) (D.facts disk.new) }
     ensures all_calls { IfOk result (λ found. AreCallsExactly (3 + length found.entries.items)
         (D.facts disk.old) (D.facts disk.new)) }
     ensures any_moment { IsTrue (D.facts disk.old).honest

@@ -6,7 +6,7 @@ ghost use Rattle.extents.specs.Limits.{root_sectors};
 ghost use Rattle.sector_disk.specs.Disk.{Sector, Mixture, LeavesOnly};
 ghost use Rattle.passes.specs.Calls.{AreCallsInRow};
 ghost use Rattle.roots.specs.declared.root.Root.{Root};
-ghost use Rattle.roots.specs.Limits.{most_libraries, most_preloads};
+ghost use Rattle.roots.specs.Limits.{most_root_entries, most_preloads};
 ghost use Rattle.roots.specs.Root.{RootHasSpelling, listed_preloads};
 ghost use Rattle.store.specs.declared.placed_entry.PlacedEntry.{PlacedEntry};
 ghost use Rattle.store.specs.State.{State};
@@ -15,7 +15,7 @@ ghost use Rattle.store.specs.inside.Next.{IsFollowed, closed_up, next_root};
 
 use crate::placed_entry::PlacedEntry;
 use passes::commit;
-use roots::{MOST_LIBRARIES, MOST_PRELOADS, Root, encode_root, slot_of};
+use roots::{MOST_PRELOADS, MOST_ROOT_ENTRIES, Root, encode_root, slot_of};
 use sector_disk::{Disk, DiskFault};
 
 /// The position that an entry has once the one at `gone` is taken out.
@@ -39,11 +39,11 @@ fn close_up(positions: &mut [u16], gone: u16)
 }
 
 /// The sectors of entries, and zeros behind them.
-fn entry_sectors(entries: &[PlacedEntry]) -> [u32; MOST_LIBRARIES]
-    requires { length entries.now ≤ most_libraries }
+fn entry_sectors(entries: &[PlacedEntry]) -> [u32; MOST_ROOT_ENTRIES]
+    requires { length entries.now ≤ most_root_entries }
     ensures { take (length entries.now) result ≡ entry_sectors entries.now }
 {
-    let mut sectors = [0; MOST_LIBRARIES];
+    let mut sectors = [0; MOST_ROOT_ENTRIES];
     for (place, placed) in entries.iter().enumerate() {
         sectors[place] = placed.at;
     }
@@ -51,12 +51,12 @@ fn entry_sectors(entries: &[PlacedEntry]) -> [u32; MOST_LIBRARIES]
 }
 
 /// A list's sectors but for the one at `gone`, and zeros behind them.
-fn all_but(listed: &[u32], gone: usize) -> [u32; MOST_LIBRARIES]
-    requires few { length listed.now ≤ most_libraries }
+fn all_but(listed: &[u32], gone: usize) -> [u32; MOST_ROOT_ENTRIES]
+    requires few { length listed.now ≤ most_root_entries }
     requires inside { gone < length listed.now }
     ensures { take (length listed.now - 1) result ≡ remove listed.now gone }
 {
-    let mut sectors = [0; MOST_LIBRARIES];
+    let mut sectors = [0; MOST_ROOT_ENTRIES];
     sectors[..gone].copy_from_slice(&listed[..gone]);
     sectors[gone..listed.len() - 1].copy_from_slice(&listed[gone + 1..]);
     sectors
@@ -66,13 +66,13 @@ fn all_but(listed: &[u32], gone: usize) -> [u32; MOST_LIBRARIES]
 pub(crate) fn with_entry(root: &Root, entries: &[PlacedEntry], put: &PlacedEntry) -> Root
     requires fits { RootHasSpelling root.now }
     requires generation { root.now.generation + 1 < 2 ^ 64 }
-    requires few { length entries.now < most_libraries }
+    requires few { length entries.now < most_root_entries }
     ensures { result
         ≡ next_root root.now (entries.now ++ put.now ∷ []) (listed_preloads root.now) }
 {
     let mut sectors = entry_sectors(entries);
     sectors[entries.len()] = put.at;
-    Root::new(
+    Root::over_entries(
         root.generation + 1,
         root.sectors,
         &sectors[..entries.len() + 1],
@@ -84,7 +84,7 @@ pub(crate) fn with_entry(root: &Root, entries: &[PlacedEntry], put: &PlacedEntry
 pub(crate) fn without_entry(root: &Root, entries: &[PlacedEntry], position: usize) -> Root
     requires fits { RootHasSpelling root.now }
     requires generation { root.now.generation + 1 < 2 ^ 64 }
-    requires few { length entries.now ≤ most_libraries }
+    requires few { length entries.now ≤ most_root_entries }
     requires inside { position < length entries.now }
     ensures { result ≡ next_root root.now (remove entries.now position)
         (map (closed_up position) (listed_preloads root.now)) }
@@ -93,7 +93,7 @@ pub(crate) fn without_entry(root: &Root, entries: &[PlacedEntry], position: usiz
     let others = all_but(&sectors[..entries.len()], position);
     let mut preloads = root.preloads;
     close_up(&mut preloads, position as u16);
-    Root::new(
+    Root::over_entries(
         root.generation + 1,
         root.sectors,
         &others[..entries.len() - 1],
@@ -110,14 +110,14 @@ pub(crate) fn with_entry_at(
 ) -> Root
     requires fits { RootHasSpelling root.now }
     requires generation { root.now.generation + 1 < 2 ^ 64 }
-    requires few { length entries.now ≤ most_libraries }
+    requires few { length entries.now ≤ most_root_entries }
     requires inside { position < length entries.now }
     ensures { result
         ≡ next_root root.now (set entries.now position put.now) (listed_preloads root.now) }
 {
     let mut sectors = entry_sectors(entries);
     sectors[position] = put.at;
-    Root::new(
+    Root::over_entries(
         root.generation + 1,
         root.sectors,
         &sectors[..entries.len()],
@@ -129,7 +129,7 @@ pub(crate) fn with_entry_at(
 pub(crate) fn with_preloads(root: &Root, entries: &[PlacedEntry], positions: &[usize]) -> Root
     requires generation { root.now.generation + 1 < 2 ^ 64 }
     requires few { length positions.now ≤ most_preloads }
-    requires few_entries { length entries.now ≤ most_libraries }
+    requires few_entries { length entries.now ≤ most_root_entries }
     requires inside { All (λ position. position < length entries.now) positions.now }
     ensures { result ≡ next_root root.now entries.now positions.now }
 {
@@ -137,7 +137,7 @@ pub(crate) fn with_preloads(root: &Root, entries: &[PlacedEntry], positions: &[u
     for (place, position) in positions.iter().enumerate() {
         preloads[place] = *position as u16;
     }
-    Root::new(
+    Root::over_entries(
         root.generation + 1,
         root.sectors,
         &entry_sectors(entries)[..entries.len()],

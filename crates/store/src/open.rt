@@ -10,7 +10,7 @@ impl<D: Disk> Store<D> {
     ghost use Rattle.std.specs.Prelude.{◌≡◌, ◌+◌, ◌<◌, ◌⊎◌, IsTrue, IsFalse, IfOk, IfErr};
     ghost use Rattle.std.specs.Prelude.{MatchResult, length};
     ghost use Rattle.sector_disk.specs.Disk.{Mixture, LeavesOnly, AreCallsExactly, AreCallsAtMost};
-    ghost use Rattle.roots.specs.Limits.{most_libraries};
+    ghost use Rattle.roots.specs.Limits.{most_root_entries};
     ghost use Rattle.store.specs.Opened.{IsAt, disk_after};
     ghost use Rattle.store.specs.Opening.{IsGeometry, RefusesOpen, IsRefusalOfOpen};
     ghost use Rattle.store.specs.Stands.{Stands};
@@ -43,7 +43,7 @@ impl<D: Disk> Store<D> {
         ensures device { IfErr result (λ e. e.0 ≡ StoreRefusal.Device
             → (D.facts disk).failures < (D.facts e.1).failures) }
         ensures untouched { IfErr result (λ e. e.0 ≡ StoreRefusal.BadGeometry → e.1 ≡ disk) }
-        ensures calls { AreCallsAtMost (3 + most_libraries)
+        ensures calls { AreCallsAtMost (3 + most_root_entries)
             (D.facts disk) (D.facts (disk_after result)) }
         ensures all_calls { IfOk result (λ store. AreCallsExactly (3 + length store.entries)
             (D.facts disk) (D.facts store.disk)) }

@@ -6,7 +6,7 @@ use crate::put::{new_entry, sector_need, write_put};
 use crate::refusal::StoreRefusal;
 use crate::room::{give_back, take_room};
 use extents::Layout;
-use roots::{MOST_LIBRARIES, Root};
+use roots::{MOST_ROOT_ENTRIES, Root};
 use sector_disk::Disk;
 use std::alloc::Global;
 use std::marker::Model;
@@ -136,7 +136,7 @@ impl<D: Disk> Store<D> {
         if self.failed {
             return Err(StoreRefusal::Reopen);
         }
-        if self.entries.len() >= MOST_LIBRARIES {
+        if self.entries.len() >= MOST_ROOT_ENTRIES {
             return Err(StoreRefusal::TooMany);
         }
         if self.root.generation == u64::MAX {

@@ -22,7 +22,7 @@ pub(crate) fn scattered(rt: &impl Abort, alloc: Global) -> Result<Memory, Fail> 
     );
     assert!(rt; entry.has_spelling());
     write(rt, &mut disk, 4, &encode_entry(&entry));
-    let root = Root::new(0, 8, &[4], &[0]);
+    let root = Root::over_entries(0, 8, &[4], &[0]);
     assert!(rt; root.has_spelling());
     write(rt, &mut disk, 0, &encode_root(&root));
     Ok(disk)

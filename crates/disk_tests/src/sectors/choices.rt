@@ -1,11 +1,41 @@
 use roots::{ChooseRefusal, Root, Slot, choose, slot_of};
 
 fn root(generation: u64) -> Root {
-    Root::new(generation, 8, &[], &[])
+    Root::over_entries(generation, 8, &[], &[])
 }
 
 fn good(generation: u64) -> Slot {
     Slot::Good(root(generation))
+}
+
+fn root_2(generation: u64) -> Root {
+    Root::over_catalogues(generation, 8, 0, &[], &[])
+}
+
+#[test]
+fn no_root_of_version_1_follows_one_of_version_2(rt: HostRuntime) {
+    for (what, even, odd, answer) in [
+        ("1, then 1", root(4), root(5), Ok(root(5))),
+        ("1, then 2", root(4), root_2(5), Ok(root_2(5))),
+        ("2, then 2", root_2(4), root_2(5), Ok(root_2(5))),
+        ("2, then 1", root_2(4), root(5), Err(ChooseRefusal::Damaged)),
+        ("1, then 1, in slot 0", root(6), root(5), Ok(root(6))),
+        ("1, then 2, in slot 0", root_2(6), root(5), Ok(root_2(6))),
+        ("2, then 2, in slot 0", root_2(6), root_2(5), Ok(root_2(6))),
+        (
+            "2, then 1, in slot 0",
+            root(6),
+            root_2(5),
+            Err(ChooseRefusal::Damaged),
+        ),
+    ] {
+        assert_eq!(rt; choose(Slot::Good(even), Slot::Good(odd)), answer, "{what}");
+    }
+    assert_eq!(rt; choose(Slot::Good(root_2(0)), Slot::Empty), Ok(root_2(0)));
+    assert_eq!(rt;
+        choose(Slot::Good(root_2(2)), Slot::Empty),
+        Err(ChooseRefusal::Damaged)
+    );
 }
 
 #[test]

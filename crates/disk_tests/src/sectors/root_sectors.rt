@@ -23,7 +23,7 @@ fn the_roots_of_a_young_registry_are_spelt_as_written_down(rt: HostRuntime) {
         (installed, 1, [3].as_slice()),
         (replaced, 2, [5].as_slice()),
     ] {
-        let root = Root::new(generation, 8, entry_sectors, &[]);
+        let root = Root::over_entries(generation, 8, entry_sectors, &[]);
         assert!(rt; root.has_spelling());
         assert_eq!(rt; encode_root(&root), sector, "generation {generation}");
         assert_eq!(rt;
@@ -36,7 +36,7 @@ fn the_roots_of_a_young_registry_are_spelt_as_written_down(rt: HostRuntime) {
 
 // Three libraries on 16 sectors, of which the first two are preloads.
 fn some_root() -> Root {
-    Root::new(2, 16, &[3, 5, 4], &[0, 1])
+    Root::over_entries(2, 16, &[3, 5, 4], &[0, 1])
 }
 
 fn some_sector() -> [u8; SECTOR_BYTES] {
@@ -59,7 +59,7 @@ fn a_changed_byte_is_read_as_the_format_says(rt: HostRuntime) {
     let root = some_root();
     assert_eq!(rt; decode_root(&sector), Slot::Good(root));
     assert!(rt; root.has_spelling());
-    assert_eq!(rt; root.entry_sectors(), [3, 5, 4].as_slice());
+    assert_eq!(rt; root.listed_sectors(), [3, 5, 4].as_slice());
     assert_eq!(rt; root.preload_positions(), [0, 1].as_slice());
     for at in 0..8 {
         assert_eq!(rt;
@@ -114,7 +114,7 @@ fn a_changed_byte_is_read_as_the_format_says(rt: HostRuntime) {
         Slot::Good(other)
     );
     for entry_sector in [2, 15] {
-        let other = Root::new(2, 16, &[u32::from(entry_sector), 5, 4], &[0, 1]);
+        let other = Root::over_entries(2, 16, &[u32::from(entry_sector), 5, 4], &[0, 1]);
         assert_eq!(rt;
             decode_root(&changed(&rt, &sector, 64, entry_sector)),
             Slot::Good(other)
@@ -140,9 +140,9 @@ fn a_full_root_is_read_and_no_larger_one(rt: HostRuntime) {
         entry_sectors[usize::from(i)] = 2 + u32::from(i);
         sector[64 + 4 * usize::from(i)] = 2 + i;
     }
-    let root = Root::new(u64::MAX, 102, &entry_sectors, &preloads);
+    let root = Root::over_entries(u64::MAX, 102, &entry_sectors, &preloads);
     assert!(rt; root.has_spelling());
-    assert_eq!(rt; root.entry_sectors(), entry_sectors.as_slice());
+    assert_eq!(rt; root.listed_sectors(), entry_sectors.as_slice());
     assert_eq!(rt; root.preload_positions(), preloads.as_slice());
     assert_eq!(rt; encode_root(&root), sector);
     assert_eq!(rt; decode_root(&sector), Slot::Good(root));
@@ -167,7 +167,7 @@ fn a_full_root_is_read_and_no_larger_one(rt: HostRuntime) {
 fn a_disk_has_8_to_4194304_sectors(rt: HostRuntime) {
     for (sectors, spelt) in [(7, false), (8, true), (4_194_304, true), (4_194_305, false)] {
         assert_eq!(rt;
-            Root::new(0, sectors, &[], &[]).has_spelling(),
+            Root::over_entries(0, sectors, &[], &[]).has_spelling(),
             spelt,
             "{sectors} sectors"
         );

@@ -1,11 +1,13 @@
 -- The fields at their offsets in bytes.
-use Rattle.std.specs.Prelude.{ℕ, ◌+◌, ◌*◌, List, map, take, drop}
-use Rattle.std.specs.List.{range_with_len}
+use Rattle.std.specs.Prelude.{ℕ, ◌+◌, ◌*◌, ◌==◌, List, map, take, drop, if◌then◌else◌}
+use Rattle.std.specs.List.{range_with_len, starts_with}
 use Rattle.std.specs.Int.{Width, w16, w32, w64, from_le_bytes}
 use Rattle.extents.specs.declared.extent.Extent.{Extent}
 use Rattle.extents.specs.Limits.{most_extents}
-use Rattle.roots.specs.Limits.{most_libraries, most_preloads, most_catalogue_entries, most_name_bytes}
-use Rattle.roots.specs.declared.entry_list.EntryList.TheVariants.{InRoot}
+use Rattle.roots.specs.Limits.{most_root_entries, most_catalogues, most_preloads, most_catalogue_entries, most_name_bytes}
+use Rattle.roots.specs.declared.entry_list.EntryList.{EntryList}
+use Rattle.roots.specs.declared.entry_list.EntryList.TheVariants.{InRoot, InCatalogues}
+use Rattle.roots.specs.Root.{magic_2}
 use Rattle.roots.specs.declared.root.Root.{Root}
 use Rattle.roots.specs.declared.catalogue.Catalogue.{Catalogue}
 use Rattle.roots.specs.declared.entry.Entry.{Entry}
@@ -22,6 +24,13 @@ extent_of bytes = record { start = from_le_bytes w32 bytes; count = from_le_byte
 unfoldable pub values_at : {A : Type 0} → (List ℕ → A) → ℕ → ℕ → ℕ → List ℕ → List A
 values_at read step n at bytes = map (λ k. read (drop (at + step * k) bytes)) (range_with_len 0 n)
 
+-- what the list of a root sector says, by its magic
+unfoldable pub list_of : List ℕ → EntryList
+list_of bytes =
+    if starts_with (λ a b. a == b) bytes magic_2
+    then InCatalogues (number_at w16 56 bytes) (values_at (from_le_bytes w32) 4 most_catalogues 64 bytes)
+    else InRoot (values_at (from_le_bytes w32) 4 most_root_entries 64 bytes)
+
 -- what the fields of a root sector say
 unfoldable pub root_of : List ℕ → Root
 root_of bytes = record {
@@ -30,7 +39,7 @@ root_of bytes = record {
   library_count = number_at w16 20 bytes;
   preload_count = number_at w16 22 bytes;
   preloads = values_at (from_le_bytes w16) 2 most_preloads 24 bytes;
-  list = InRoot (values_at (from_le_bytes w32) 4 most_libraries 64 bytes);
+  list = list_of bytes;
 }
 
 -- what the fields of a catalogue sector say

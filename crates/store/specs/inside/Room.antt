@@ -8,7 +8,7 @@ use Rattle.extents.specs.Layout.{IsClaim, AllClaimed, IsInside, with_flag, with_
 use Rattle.extents.specs.Taken.{IsGiven}
 use Rattle.passes.specs.Bytes.{bytes_at, padded, IsOnDisk}
 use Rattle.roots.specs.declared.root.Root.{Root}
-use Rattle.roots.specs.Limits.{most_libraries}
+use Rattle.roots.specs.Limits.{most_root_entries}
 use Rattle.roots.specs.Root.{root_bytes, listed_preloads}
 use Rattle.roots.specs.Choice.{slot_of}
 use Rattle.roots.specs.Entry.{EntryHasSpelling, entry_bytes}
@@ -62,6 +62,6 @@ pub record IsNew (root : Root) (entries : List PlacedEntry) (old new : List Bool
   pub room : IsRoom need old new (extents_of put.entry) put.at
   pub fits : EntryHasSpelling put.entry
   pub named : All (λ other. name_of other.entry ≢ name_of put.entry) entries
-  pub few : length entries < most_libraries
+  pub few : length entries < most_root_entries
   pub later : root.generation + 1 < 2 ^ 64
   pub is_next : next ≡ next_root root (entries ++ put ∷ []) (listed_preloads root)

@@ -19,7 +19,7 @@ returns-in_err-entries-clause-refused g c honest =
     let geometry = subst IsGeometry (c.requires.sectors ∙ sym (g.met.D.Disk.holds_now _ honest).size) c.requires.geometry in
     let unlisted = subst (λ m. c.in_err-entries.field-0.0 ≡ Damaged → (entries : List PlacedEntry) → IsListed m c.in_ok-root.root entries → ⊥) (c.read_root.ensures.now honest) (c.in_err-entries.ensures.unlisted honest_mid) in
     let p = err_from_is_err_and c.from_residual-in_err-entries.result c.from_residual-in_err-entries.ensures.1 in
-    rw (p.1, p.2) (entries_refused now c.in_ok-root.root geometry (c.in_ok-root.ensures.current honest) (c.in_ok-root.ensures.root.1 ∙ c.requires.sectors ∙ sym (g.met.D.Disk.holds_now _ honest).size) c.in_err-entries.field-0.0 c.in_err-entries.ensures.refusals unlisted)
+    rw (p.1, p.2) (entries_refused now c.in_ok-root.root geometry (c.in_ok-root.ensures.current honest) (c.in_ok-root.ensures.root.1 ∙ c.requires.sectors ∙ sym (g.met.D.Disk.holds_now _ honest).size) c.in_ok-root.ensures.version c.in_err-entries.field-0.0 c.in_err-entries.ensures.refusals unlisted)
 
 pub returns-then-not-have_own_names-clause-any_moment : goal.returns-then-not-have_own_names-clause-any_moment
 returns-then-not-have_own_names-clause-any_moment g c honest =
@@ -50,7 +50,7 @@ returns-in_err-layout-clause-refused g c honest =
     let listed = subst (λ m. IsListed m c.in_ok-root.root items) (c.read_root.ensures.now honest) (c.in_ok-entries.ensures.listed honest_mid) in
     let which = subst (λ (l : List PlacedEntry). c.in_err-layout.field-0.0 ≡ OutOfMemory ⊎ ((c.in_err-layout.field-0.0 ≡ Damaged) × (UsesApart c.in_ok-root.root.sectors l → ⊥))) c.deref-2.ensures.value c.in_err-layout.ensures.refused in
     let p = err_from_is_err_and c.from_residual-in_err-layout.result c.from_residual-in_err-layout.ensures.1 in
-    rw (p.1, p.2) (claims_refused now c.in_ok-root.root items geometry (c.in_ok-root.ensures.current honest) (c.in_ok-root.ensures.root.1 ∙ c.requires.sectors ∙ sym holds.size) listed c.in_err-layout.field-0.0 which)
+    rw (p.1, p.2) (claims_refused now c.in_ok-root.root items geometry (c.in_ok-root.ensures.current honest) (c.in_ok-root.ensures.root.1 ∙ c.requires.sectors ∙ sym holds.size) c.in_ok-root.ensures.version listed c.in_err-layout.field-0.0 which)
 
 pub returns-clause-any_moment : goal.returns-clause-any_moment
 returns-clause-any_moment g c honest =

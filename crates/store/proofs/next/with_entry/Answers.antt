@@ -1,6 +1,6 @@
 use Rattle.std.proofs.Common.{rules, ◌∷◌, ◌++◌, [], ◌+◌, length, ap, sym, ◌∙◌}
 use Rattle.std.proofs.lemmas.List.{take_more_set, map_push}
-use Rattle.roots.specs.Root.{root_of_lists}
+use Rattle.roots.specs.Root.{root_over_entries}
 use Rattle.store.specs.declared.placed_entry.PlacedEntry.{PlacedEntry}
 use Rattle.store.proofs.next.with_entry.Goals as goal
 
@@ -12,4 +12,4 @@ returns c =
     let listed = take_more_set c.entry_sectors-sectors.result (length entries) put.at (search rules)
     ∙ ap (λ l. l ++ put.at ∷ []) c.entry_sectors-sectors.ensures
     ∙ sym (map_push (λ (p : PlacedEntry). p.at) entries put) in
-    c.new.ensures.value ∙ (λ i. root_of_lists (root.generation + 1) root.sectors (listed i) (c.preload_positions.ensures i))
+    c.over_entries.ensures.value ∙ (λ i. root_over_entries (root.generation + 1) root.sectors (listed i) (c.preload_positions.ensures i))

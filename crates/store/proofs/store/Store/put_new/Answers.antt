@@ -33,7 +33,7 @@ newly g c = record {
   room = put_room c.new_entry-put.result c.new_entry-put.ensures.extents c.new_entry-put.ensures.at c.in_ok-room.ensures.ok;
   fits = c.new_entry-put.ensures.fits;
   named = subst (λ name. All (λ (other : PlacedEntry). name_of other.entry ≢ name) c.self.inside.entries.items) (sym c.new_entry-put.ensures.name) (subst (λ store. LacksName store c.args.name.now) (sym c.self.view_is) c.requires.new);
-  few = omega (arith, c.if-len-ge-MOST_LIBRARIES.false, c.len.ensures);
+  few = omega (arith, c.if-len-ge-MOST_ROOT_ENTRIES.false, c.len.ensures);
   later = omega (arith, c.if-self-2.false, c.self.invariant.0.root_fits.generation);
   is_next = c.with_entry-root.ensures ∙ ap (λ l. next_root c.self.inside.root (l ++ c.new_entry-put.result ∷ []) (listed_preloads c.self.inside.root)) (c.deref.ensures.value ∙ c.reserve.ensures.items);
 }
@@ -105,7 +105,7 @@ returns-in_err-room-clause-refused g c s at_entry =
     let longest = longest_is c.self.inside.root c.self.inside.entries.items c.self.inside.layout kept in
     let generation : s.generation ≡ c.self.inside.root.generation = ap (λ t. t.generation) by.is in
     let count : length s.blobs ≡ length c.self.inside.entries.items = ap (λ t. length t.blobs) by.is ∙ length-blobs now c.self.inside.entries.items in
-    let few = new_as_put c.self.inside.root.sectors (sector_count (longest_runs (layout_of c.self.inside.root.sectors (used c.self.inside.entries.items)))) s c.args.bytes.now (omega (arith, count, c.if-len-ge-MOST_LIBRARIES.false, c.len.ensures)) in
+    let few = new_as_put c.self.inside.root.sectors (sector_count (longest_runs (layout_of c.self.inside.root.sectors (used c.self.inside.entries.items)))) s c.args.bytes.now (omega (arith, count, c.if-len-ge-MOST_ROOT_ENTRIES.false, c.len.ensures)) in
     let usable : s.generation ≢ 18446744073709551615 = λ is. omega (arith, is, generation, c.if-self-2.false) in
     subst (λ store. IsAnswer (refusal_of_new store.root.sectors (longest_free store) s c.args.bytes.now) c.from_residual-in_err-room.result) c.self.view_is
     (let first = few ∙ put_refused c.self.inside.root.sectors (sector_count (longest_runs (layout_of c.self.inside.root.sectors (used c.self.inside.entries.items)))) s c.args.bytes.now usable c.in_err-room.field-0.0
@@ -124,7 +124,7 @@ returns-in-Err-clause-refused g c s at_entry =
     let longest = longest_is c.self.inside.root c.self.inside.entries.items c.self.inside.layout kept in
     let generation : s.generation ≡ c.self.inside.root.generation = ap (λ t. t.generation) by.is in
     let count : length s.blobs ≡ length c.self.inside.entries.items = ap (λ t. length t.blobs) by.is ∙ length-blobs now c.self.inside.entries.items in
-    let few = new_as_put c.self.inside.root.sectors (sector_count (longest_runs (layout_of c.self.inside.root.sectors (used c.self.inside.entries.items)))) s c.args.bytes.now (omega (arith, count, c.if-len-ge-MOST_LIBRARIES.false, c.len.ensures)) in
+    let few = new_as_put c.self.inside.root.sectors (sector_count (longest_runs (layout_of c.self.inside.root.sectors (used c.self.inside.entries.items)))) s c.args.bytes.now (omega (arith, count, c.if-len-ge-MOST_ROOT_ENTRIES.false, c.len.ensures)) in
     let usable : s.generation ≢ 18446744073709551615 = λ is. omega (arith, is, generation, c.if-self-2.false) in
     subst (λ store. IsAnswer (refusal_of_new store.root.sectors (longest_free store) s c.args.bytes.now) (Err c.from.result)) c.self.view_is
     (let first = few ∙ put_taken c.self.inside.root.sectors (sector_count (longest_runs (layout_of c.self.inside.root.sectors (used c.self.inside.entries.items)))) s c.args.bytes.now usable c.in_ok-room.room
@@ -142,7 +142,7 @@ returns-clause-refused g c s at_entry =
     let longest = longest_is c.self.inside.root c.self.inside.entries.items c.self.inside.layout kept in
     let generation : s.generation ≡ c.self.inside.root.generation = ap (λ t. t.generation) by.is in
     let count : length s.blobs ≡ length c.self.inside.entries.items = ap (λ t. length t.blobs) by.is ∙ length-blobs now c.self.inside.entries.items in
-    let few = new_as_put c.self.inside.root.sectors (sector_count (longest_runs (layout_of c.self.inside.root.sectors (used c.self.inside.entries.items)))) s c.args.bytes.now (omega (arith, count, c.if-len-ge-MOST_LIBRARIES.false, c.len.ensures)) in
+    let few = new_as_put c.self.inside.root.sectors (sector_count (longest_runs (layout_of c.self.inside.root.sectors (used c.self.inside.entries.items)))) s c.args.bytes.now (omega (arith, count, c.if-len-ge-MOST_ROOT_ENTRIES.false, c.len.ensures)) in
     let usable : s.generation ≢ 18446744073709551615 = λ is. omega (arith, is, generation, c.if-self-2.false) in
     subst (λ store. IsAnswer (refusal_of_new store.root.sectors (longest_free store) s c.args.bytes.now) (Ok tt)) c.self.view_is
     (let first = few ∙ put_taken c.self.inside.root.sectors (sector_count (longest_runs (layout_of c.self.inside.root.sectors (used c.self.inside.entries.items)))) s c.args.bytes.now usable c.in_ok-room.room
