@@ -44,7 +44,7 @@ READING = [
         'image/Placement: place', 'image/Relocating: value_of', 'image/Byte: byte_of', 'image/Image: image_of',
         'image/Refusal: bind_tests']),
     ('5. States and steps', 'What a registry holds, how a command may be answered, and what state this leaves (own).', [
-        'registry/Library: IsLibrary', 'registry/State: State', 'registry/Tests: tests_of',
+        'registry/Library: IsLibrary', 'states/State: State', 'registry/Tests: tests_of',
         'registry/Step: accepted IsReply Breaks LacksRead Step']),
     ('6. Sectors', 'Which lists of sectors hold a state (own; `docs/FORMATS.md` has the formats).', [
         'roots/Choice: IsCurrent', 'store/Stands: IsIntact state_of Stands', 'disk_registry/Stands: Stands']),
@@ -81,13 +81,15 @@ PLAIN = {
     'image/Image: image_of': 'the image: each PT_LOAD of each placed object, with these bytes',
     'image/Refusal: bind_tests': 'the tests of a bind in their order: B1 file, B2 base, B3 missing library, B4 room, B5 undefined symbol',
     'registry/Library: IsLibrary': 'no test refuses the file of a library, and its name is its SONAME',
-    'registry/State: State': 'a registry: its generation, its libraries with their names and bytes, and the names of its preloads',
+    'states/State: State': 'a registry: its generation, its libraries with their names and bytes, and the names of its preloads',
     'registry/Step: NeedsMemory': 'where a command takes memory: to admit a file that passes the tests before admission, and to list',
     'registry/Tests: has_repeat': 'a name is there twice',
     'registry/Step: IsReply': 'the answer to an accepted command: done, the listing, or the image with the defined byte at each address',
     'registry/Step: Breaks': 'a write or a sync of a change failed: it took effect or not, and the disk has to be opened again',
     'registry/Step: LacksRead': 'a read of a bind failed, and nothing changed; B1 and B2 come before all reads',
     'registry/Step: Step': 'the step table: how a command may be answered in a state, and which state and condition this leaves',
+    'roots/Root: ListFits': 'places for the sectors that a root lists: in version 1 those of its entries, in version 2 those of its catalogues',
+    'states/Geometry: IsGeometry': 'a disk of so many sectors can hold a state, as a premise',
     'roots/Catalogue: CatalogueHasSpelling': 'the limits of the fields: a catalogue has a spelling exactly where it keeps to them',
     'store/Changed: Changed': 'a change of at most so many calls, with these refusals, one for a failed device and one for a failed store',
     'store/Stands: IsIntact': 'one root is current, its entries are spelt in their sectors, no used sector is used twice, no name twice',
@@ -127,7 +129,7 @@ CRATES = [
     ('hash_check', 'Admission and the search of names'), ('scope', 'Load order and lookup'),
     ('text_output', 'Text on its way to a writer'), ('image', 'Images'), ('registry', 'The registry and its step table'),
     ('sector_disk', 'The disk model'), ('file_disk', 'A disk over a file'), ('extents', 'Free and claimed sectors'),
-    ('roots', 'Root and entry sectors'), ('passes', 'Passes over a disk'), ('store', 'Named byte strings'),
+    ('states', 'States'), ('roots', 'Root and entry sectors'), ('passes', 'Passes over a disk'), ('store', 'Named byte strings'),
     ('disk_registry', 'The registry on a disk'), ('commands', 'The program')]
 STANDARD = re.compile(r'\(([^()]*(?:\([^()]*\)[^()]*)*)\)')
 VALUE = re.compile(r'^\S+ = (0x[0-9a-f]+|[0-9]+)$')

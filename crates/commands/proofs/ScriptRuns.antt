@@ -5,7 +5,7 @@ use Rattle.sector_disk.specs.Disk.{DiskFacts}
 use Rattle.store.specs.Opened.{Opened}
 use Rattle.registry.specs.Request.{Request}
 use Rattle.registry.specs.Runs.{Steps, Run, last_of}
-use Rattle.registry.specs.State.{State}
+use Rattle.states.specs.State.{State}
 use Rattle.registry.specs.declared.reply.Reply.{Reply}
 use Rattle.disk_registry.specs.Answered.{AreAnswered}
 use Rattle.disk_registry.proofs.RanSoFar.{RunsSoFar}

@@ -2,7 +2,7 @@
 use Rattle.sector_disk.specs.Disk.{DiskFacts, AreCallsExactly}
 use Rattle.store.specs.Opened.{Opened}
 use Rattle.registry.specs.Request.{Request}
-use Rattle.registry.specs.State.{State}
+use Rattle.states.specs.State.{State}
 use Rattle.registry.specs.declared.reply.Reply.{Reply}
 use Rattle.disk_registry.specs.Answered.{Answered}
 use Rattle.disk_registry.specs.Applied.{Applies}

@@ -2,7 +2,7 @@
 use Rattle.std.specs.Prelude.{◌≡◌, ◌+◌, ℕ, IsFalse, length, sum_by}
 use Rattle.sector_disk.specs.Disk.{AreCallsExactly}
 use Rattle.store.specs.Opened.{Opened}
-use Rattle.store.specs.Opening.{IsGeometry}
+use Rattle.states.specs.Geometry.{IsGeometry}
 use Rattle.file_disk.specs.FileDisk.{file_facts, IsNew}
 use Rattle.file_disk.specs.declared.disk.FileDisk.{FileDisk}
 use Rattle.disk_registry.specs.Stands.{file_sectors}

@@ -3,14 +3,11 @@ use Rattle.std.specs.Prelude.{ℕ, List, length, nat_le, Bool, ◌&&◌, Option,
 use Rattle.std.specs.List.{list_all}
 use Rattle.std.specs.Str.Parse.{digits_value}
 use Rattle.std.specs.Char.{is_ascii_digit}
+use Rattle.states.specs.Geometry.{is_geometry}
 
 -- 1 to 7 decimal digits
 abbrev pub is_decimal : List ℕ → Bool
 is_decimal word = nat_le 1 (length word) && nat_le (length word) 7 && list_all is_ascii_digit word
-
--- a number of sectors that a disk of a registry may have
-abbrev pub is_geometry : ℕ → Bool
-is_geometry sectors = nat_le 8 sectors && nat_le sectors 4194304
 
 -- the number of sectors that a word spells: 1 to 7 decimal digits of a value from 8 to 4,194,304
 abbrev pub sectors_of : List ℕ → Option ℕ

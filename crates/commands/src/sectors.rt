@@ -4,7 +4,9 @@ ghost use Rattle.std.specs.Prelude.{◌≡◌, Some, None, if◌then◌else◌};
 ghost use Rattle.std.specs.List.{list_all};
 ghost use Rattle.std.specs.Char.{is_ascii_digit};
 ghost use Rattle.std.specs.Str.Parse.{digits_value};
-ghost use Rattle.commands.specs.Sectors.{is_decimal, is_geometry, sectors_of};
+ghost use Rattle.commands.specs.Sectors.{is_decimal, sectors_of};
+
+use states::is_geometry;
 
 /// The longest spelling of a number of sectors.
 const MOST_DIGITS: usize = 7;
@@ -32,13 +34,6 @@ fn number_of(word: &str) -> Option<u32>
     } else {
         None
     }
-}
-
-/// Whether a registry may have so many sectors.
-fn is_geometry(sectors: u32) -> bool
-    ensures { result ≡ is_geometry sectors }
-{
-    sectors >= 8 && sectors <= 4_194_304
 }
 
 /// Reads SECTORS: 1 to 7 decimal digits of a value from 8 to 4,194,304.

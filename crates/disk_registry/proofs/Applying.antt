@@ -10,7 +10,7 @@ use Rattle.store.specs.Step.{IsAnswer, IsExactAnswer, IsRefusalOfPutNew}
 use Rattle.store.specs.declared.refusal.StoreRefusal.{StoreRefusal}
 use Rattle.store.specs.declared.refusal.StoreRefusal.TheVariants as e
 use Rattle.registry.specs.Library.{IsLibrary}
-use Rattle.registry.specs.State.{State}
+use Rattle.states.specs.State.{State}
 use Rattle.registry.specs.Request.{Request, install, replace, remove, set_preloads, bind, list}
 use Rattle.registry.specs.Phase.{Phase}
 use Rattle.registry.specs.Step.{Step, accepted, refusal_at, reply_of, IsReply, NeedsMemory, Leads, Breaks, LeavesFailed}
@@ -18,7 +18,7 @@ use Rattle.registry.specs.declared.refusal.Refusal.TheVariants.{Device, Full, Fr
 use Rattle.registry.specs.declared.reply.Reply.{Reply}
 use Rattle.registry.specs.declared.reply.Reply.TheVariants.{Done, Refused}
 use Rattle.registry.specs.declared.reply.Reply.TheVariants as reply
-use Rattle.disk_registry.specs.Stands.{Stands, stored}
+use Rattle.disk_registry.specs.Stands.{Stands}
 use Rattle.disk_registry.specs.Opened.{IsAt}
 use Rattle.disk_registry.specs.Phase.{phase_of}
 use Rattle.disk_registry.specs.Applied.{Applies, MayLeave}
@@ -124,24 +124,24 @@ module _ {D : Type 0} (facts : D → DiskFacts) (old : Opened D) (s : State) (at
 
   -- A change that the store was asked for, behind all tests but its own, whose first refusal is this one.
   module _ (new : Opened D) (first : Option StoreRefusal) (change : IsChange q) (tested : refusal_at (phase_of facts old s) q ≡ option_map refusal_of first) (libraries : All IsLibrary (accepted s q).libraries)
-      (leaves : LeavesOnly (facts old.disk) (facts new.disk) (λ m. sectors.Stands m (stored s) ⊎ sectors.Stands m (stored (accepted s q)))) where
-    either : (m : List Sector) (answer : Reply) (s' : State) → (Stands m (accepted s q) → MayLeave before q answer s' m) → sectors.Stands m (stored s) ⊎ sectors.Stands m (stored (accepted s q)) → MayLeave before q answer s' m
-    either m answer s' new_stands h = ⊎_elim (λ stands. inl (record { blobs = stands; libraries = at.libraries })) (λ stands. new_stands (record { blobs = stands; libraries = libraries })) h
+      (leaves : LeavesOnly (facts old.disk) (facts new.disk) (λ m. sectors.Stands m s ⊎ sectors.Stands m (accepted s q))) where
+    either : (m : List Sector) (answer : Reply) (s' : State) → (Stands m (accepted s q) → MayLeave before q answer s' m) → sectors.Stands m s ⊎ sectors.Stands m (accepted s q) → MayLeave before q answer s' m
+    either m answer s' new_stands h = ⊎_elim (λ stands. inl (record { stored = stands; libraries = at.libraries })) (λ stands. new_stands (record { stored = stands; libraries = libraries })) h
 
     -- it did
-    pub change_done : (done : Unit {0}) → IsAnswer first (Ok done) → IsFalse new.failed → store.IsAt facts new (stored (accepted s q)) → Applies facts old new s q Done
+    pub change_done : (done : Unit {0}) → IsAnswer first (Ok done) → IsFalse new.failed → store.IsAt facts new (accepted s q) → Applies facts old new s q Done
     change_done done answer usable after = (
       accepted s q,
       record {
         step = (
-          at.blobs.usable,
+          at.stored.usable,
           tested ∙ ap (option_map refusal_of) (none_first first done answer),
           is_done q change s,
-          record { sectors = leaves.past.sectors; failed = usable ∙ sym at.blobs.usable; state = refl },
+          record { sectors = leaves.past.sectors; failed = usable ∙ sym at.stored.usable; state = refl },
         );
-        any_moment = weaken (λ m. sectors.Stands m (stored s) ⊎ sectors.Stands m (stored (accepted s q))) (MayLeave before q Done (accepted s q))
+        any_moment = weaken (λ m. sectors.Stands m s ⊎ sectors.Stands m (accepted s q)) (MayLeave before q Done (accepted s q))
             (λ m. either m Done (accepted s q) (λ stands. inr (inl stands))) leaves;
-        kept = inl (record { blobs = after; libraries = libraries });
+        kept = inl (record { stored = after; libraries = libraries });
       },
     )
 
@@ -152,10 +152,10 @@ module _ {D : Type 0} (facts : D → DiskFacts) (old : Opened D) (s : State) (at
           s,
           record {
             step = (
-              at.blobs.usable,
+              at.stored.usable,
               broken q change before (phase_of facts new s) (record { sectors = leaves.past.sectors; risen = risen; failed = failed; untested = untested; state = inl refl }),
             );
-            any_moment = weaken (λ m. sectors.Stands m (stored s) ⊎ sectors.Stands m (stored (accepted s q))) (MayLeave before q (Refused Device) s)
+            any_moment = weaken (λ m. sectors.Stands m s ⊎ sectors.Stands m (accepted s q)) (MayLeave before q (Refused Device) s)
                 (λ m. either m (Refused Device) s (λ stands. inr (inr (refl, untested, stands)))) leaves;
             kept = inr (failed, refl);
           },
@@ -167,19 +167,19 @@ module _ {D : Type 0} (facts : D → DiskFacts) (old : Opened D) (s : State) (at
         → Applies facts old new s q (Refused (refusal_of refusal))
     change_refused e.Device answer tests usable may device same memory = change_broken answer tests (device refl).0 (device refl).1
     change_refused e.OutOfMemory answer tests usable may device same memory =
-        subst (λ r. Applies facts old r s q (Refused OutOfMemory)) (sym (same (λ is. cc))) (untouched (Refused OutOfMemory) (at.blobs.usable, memory refl, leads_same before))
+        subst (λ r. Applies facts old r s q (Refused OutOfMemory)) (sym (same (λ is. cc))) (untouched (Refused OutOfMemory) (at.stored.usable, memory refl, leads_same before))
     change_refused e.Full answer tests usable may device same memory =
         subst (λ r. Applies facts old r s q (Refused Full)) (sym (same (λ is. cc)))
-        (untouched (Refused Full) (at.blobs.usable, tested ∙ ap (option_map refusal_of) (is_first first e.Full answer (λ is. cc) (λ is. cc)), leads_same before))
+        (untouched (Refused Full) (at.stored.usable, tested ∙ ap (option_map refusal_of) (is_first first e.Full answer (λ is. cc) (λ is. cc)), leads_same before))
     change_refused e.Fragmented answer tests usable may device same memory =
         subst (λ r. Applies facts old r s q (Refused Fragmented)) (sym (same (λ is. cc)))
-        (untouched (Refused Fragmented) (at.blobs.usable, tested ∙ ap (option_map refusal_of) (is_first first e.Fragmented answer (λ is. cc) (λ is. cc)), leads_same before))
+        (untouched (Refused Fragmented) (at.stored.usable, tested ∙ ap (option_map refusal_of) (is_first first e.Fragmented answer (λ is. cc) (λ is. cc)), leads_same before))
     change_refused e.TooMany answer tests usable may device same memory =
         subst (λ r. Applies facts old r s q (Refused TooMany)) (sym (same (λ is. cc)))
-        (untouched (Refused TooMany) (at.blobs.usable, tested ∙ ap (option_map refusal_of) (is_first first e.TooMany answer (λ is. cc) (λ is. cc)), leads_same before))
+        (untouched (Refused TooMany) (at.stored.usable, tested ∙ ap (option_map refusal_of) (is_first first e.TooMany answer (λ is. cc) (λ is. cc)), leads_same before))
     change_refused e.GenerationEnd answer tests usable may device same memory =
         subst (λ r. Applies facts old r s q (Refused GenerationEnd)) (sym (same (λ is. cc)))
-        (untouched (Refused GenerationEnd) (at.blobs.usable, tested ∙ ap (option_map refusal_of) (is_first first e.GenerationEnd answer (λ is. cc) (λ is. cc)), leads_same before))
+        (untouched (Refused GenerationEnd) (at.stored.usable, tested ∙ ap (option_map refusal_of) (is_first first e.GenerationEnd answer (λ is. cc) (λ is. cc)), leads_same before))
     change_refused e.Reopen answer tests usable may device same memory = absurd (usable refl)
     change_refused e.NotFormatted answer tests usable may device same memory = absurd may
     change_refused e.AlreadyFormatted answer tests usable may device same memory = absurd may

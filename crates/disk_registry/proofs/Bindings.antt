@@ -18,9 +18,8 @@ use Rattle.store.specs.Opened.{Opened}
 use Rattle.store.specs.declared.refusal.StoreRefusal.{StoreRefusal}
 use Rattle.store.specs.declared.refusal.StoreRefusal.TheVariants as reading
 use Rattle.registry.specs.Binding.{object_of, objects, preload_numbers, binding_refusal, bound_objects, bound_image, of_bind}
-use Rattle.registry.specs.Library.{Library}
+use Rattle.states.specs.State.{Library, State}
 use Rattle.registry.specs.Request.{bind}
-use Rattle.registry.specs.State.{State}
 use Rattle.registry.specs.Step.{Step, Leads}
 use Rattle.registry.specs.declared.refusal.Refusal.TheVariants.{Bind}
 use Rattle.registry.specs.declared.reply.Reply.{Reply}
@@ -30,7 +29,6 @@ use Rattle.disk_registry.specs.Applied.{Applied, MayLeave}
 use Rattle.disk_registry.specs.Binding.{data_sectors, bind_sectors}
 use Rattle.disk_registry.specs.Opened.{IsAt}
 use Rattle.disk_registry.specs.Phase.{phase_of}
-use Rattle.disk_registry.specs.Stands.{stored}
 use Rattle.disk_registry.specs.inside.Reading.{IsRead, IsReadRefusal, refusal_of_read}
 use Rattle.disk_registry.specs.inside.Walked.{walked_objects, walked_refusal}
 
@@ -70,25 +68,25 @@ module _ {D : Type 0} (facts : D → DiskFacts) (old new : Opened D) (s : State)
   -- a refusal of a bind is a step
   pub refused : (e : BindRefusal) → IsAnswer program base (objects s) (preload_numbers s) e
       → Step (phase_of facts old s) (bind program base) (Refused (of_bind e)) (phase_of facts new s)
-  refused (binding.Program r) h = (at.blobs.usable, ap (option_map Bind) h, leads)
-  refused binding.BadBase h = (at.blobs.usable, ap (option_map Bind) h, leads)
-  refused (binding.Missing needer name) h = (at.blobs.usable, ap (option_map Bind) h, leads)
-  refused binding.NoRoom h = (at.blobs.usable, ap (option_map Bind) h, leads)
-  refused (binding.Undefined object symbol) h = (at.blobs.usable, ap (option_map Bind) h, leads)
-  refused binding.OutOfMemory h = (at.blobs.usable, h, leads)
+  refused (binding.Program r) h = (at.stored.usable, ap (option_map Bind) h, leads)
+  refused binding.BadBase h = (at.stored.usable, ap (option_map Bind) h, leads)
+  refused (binding.Missing needer name) h = (at.stored.usable, ap (option_map Bind) h, leads)
+  refused binding.NoRoom h = (at.stored.usable, ap (option_map Bind) h, leads)
+  refused (binding.Undefined object symbol) h = (at.stored.usable, ap (option_map Bind) h, leads)
+  refused binding.OutOfMemory h = (at.stored.usable, h, leads)
 
   -- so is an image
   pub bound : (image : MemoryImage) → binding_refusal s program base ≡ None → image ≡ bound_image s program base
       → ((a : ℕ) → image_byte image a ≡ byte_of (bound_objects s program base) a)
       → Step (phase_of facts old s) (bind program base) (Bound image) (phase_of facts new s)
-  bound image accepted is bytes = (at.blobs.usable, ap (option_map Bind) accepted, (is, bytes), leads)
+  bound image accepted is bytes = (at.stored.usable, ap (option_map Bind) accepted, (is, bytes), leads)
 
   -- and a reading that is refused
   pub unread : program_refusal program base ≡ None → (e : StoreRefusal) → IsReadRefusal facts old new e → (e ≡ reading.Damaged → ⊥)
       → Step (phase_of facts old s) (bind program base) (Refused (refusal_of_read e)) (phase_of facts new s)
-  unread taken reading.Device is intact = (at.blobs.usable, record { risen = is; untested = taken; same = leads })
+  unread taken reading.Device is intact = (at.stored.usable, record { risen = is; untested = taken; same = leads })
   unread taken reading.Reopen is intact = (is, leads)
-  unread taken reading.OutOfMemory is intact = (at.blobs.usable, memory program base taken, leads)
+  unread taken reading.OutOfMemory is intact = (at.stored.usable, memory program base taken, leads)
   unread taken reading.Damaged is intact = absurd (intact refl)
   unread taken reading.NotFormatted is intact = absurd is
   unread taken reading.AlreadyFormatted is intact = absurd is
@@ -103,7 +101,7 @@ module _ {D : Type 0} (facts : D → DiskFacts) (old new : Opened D) (s : State)
   applied answer step = record {
     step = step;
     any_moment = weaken (Mixture (facts old.disk)) (MayLeave (phase_of facts old s) (bind program base) answer s)
-        (λ m mixture. inl (record { blobs = (old.root, old.entries, at.blobs.stands m mixture); libraries = at.libraries }))
-        (read.leaves at.blobs.honest);
-    kept = inl (record { blobs = read.same (stored s) at.blobs; libraries = at.libraries });
+        (λ m mixture. inl (record { stored = (old.root, old.entries, at.stored.stands m mixture); libraries = at.libraries }))
+        (read.leaves at.stored.honest);
+    kept = inl (record { stored = read.same s at.stored; libraries = at.libraries });
   }

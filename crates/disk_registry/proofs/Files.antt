@@ -1,36 +1,36 @@
 -- Files of a store that are admitted one after the other.
-use Rattle.std.proofs.Common.{◌≡◌, ◌<◌, ◌≤◌, ℕ, ◌+◌, List, length, get_or, map, take, sum_by, All, IsTrue, refl, sym, ap, subst, ◌∙◌, arith, ⊎_elim}
-use Rattle.std.proofs.lemmas.List.{get_or-map, length-map}
+use Rattle.std.proofs.Common.{◌≡◌, ◌<◌, ◌≤◌, ℕ, ◌+◌, List, length, get_or, take, sum_by, All, IsTrue, refl, sym, ap, subst, ◌∙◌, arith, ⊎_elim}
+use Rattle.std.proofs.lemmas.List.{get_or_default}
 use Rattle.std.proofs.lemmas.List.Sums.{sum_by_more}
 use Rattle.std.proofs.lemmas.Bool.{cases_lt}
 use Rattle.sector_disk.specs.Disk.{DiskFacts, Mixture, LeavesOnly, AreCallsExactly}
 use Rattle.sector_disk.proofs.Moments.{goes_on, weaken, left_now, at_rest, no_calls, more_calls, exactly_none, exactly_sum}
 use Rattle.store.specs.declared.placed_entry.PlacedEntry.{PlacedEntry}
-use Rattle.store.specs.State.{Blob, State}
-use Rattle.store.specs.Stands.{no_blob}
+use Rattle.states.specs.State.{Library, State}
+use Rattle.store.specs.Stands.{no_library}
 use Rattle.store.specs.Opened.{Opened, IsAt}
 use Rattle.store.specs.declared.refusal.StoreRefusal.{StoreRefusal}
 use Rattle.store.specs.declared.refusal.StoreRefusal.TheVariants as refusal
 use Rattle.store.proofs.UsedAlone.{no_entry}
-use Rattle.registry.specs.Library.{Library, IsLibrary}
-use Rattle.disk_registry.specs.Stands.{library_of, file_sectors}
+use Rattle.registry.specs.Library.{IsLibrary}
+use Rattle.disk_registry.specs.Stands.{file_sectors}
 use Rattle.disk_registry.specs.inside.Reading.{IsRead, IsReadRefusal}
 
 -- The files before this position were read, each once, and are libraries.
 pub record AdmittedSoFar {D : Type 0} (facts : D → DiskFacts) (start now : Opened D) (position : ℕ) : Type 0 where
   pub read : IsRead facts start now
-  pub each : (s : State) → IsAt facts start s → (k : ℕ) → k < position → IsLibrary (library_of (get_or s.blobs k no_blob))
+  pub each : (s : State) → IsAt facts start s → (k : ℕ) → k < position → IsLibrary (get_or s.libraries k no_library)
   pub calls : AreCallsExactly (sum_by file_sectors (take position start.entries)) (facts start.disk) (facts now.disk)
 
 -- one that isn't a library
-pub one_refused : (s : State) (position : ℕ) → position < length s.blobs → (IsLibrary (library_of (get_or s.blobs position no_blob)) → ⊥) → All IsLibrary (map library_of s.blobs) → ⊥
+pub one_refused : (s : State) (position : ℕ) → position < length s.libraries → (IsLibrary (get_or s.libraries position no_library) → ⊥) → All IsLibrary s.libraries → ⊥
 one_refused s position lt isnt all =
-    isnt (subst IsLibrary (get_or-map library_of s.blobs position no_blob (library_of no_blob) lt) (all position (library_of no_blob) (omega (arith, lt, length-map s.blobs library_of))))
+    isnt (all position no_library lt)
 
--- a library that has the name and the bytes of a byte string
-pub same_library : (P : Library → Type 0) (name bytes : List ℕ) (blob : Blob) → name ≡ blob.name → bytes ≡ blob.bytes → P (record { name = name; bytes = bytes }) → P (library_of blob)
-same_library P name bytes blob named is p =
-    let same : ◌≡◌ {A = Library} (record { name = name; bytes = bytes }) (library_of blob) = λ i. record { name = named i; bytes = is i } in
+-- a library that has the name and the bytes of another
+pub same_library : (P : Library → Type 0) (name bytes : List ℕ) (l : Library) → name ≡ l.name → bytes ≡ l.bytes → P (record { name = name; bytes = bytes }) → P l
+same_library P name bytes l named is p =
+    let same : ◌≡◌ {A = Library} (record { name = name; bytes = bytes }) l = λ i. record { name = named i; bytes = is i } in
     subst P same p
 
 module _ {D : Type 0} {facts : D → DiskFacts} where
@@ -81,14 +81,14 @@ module _ {D : Type 0} {facts : D → DiskFacts} where
 
   -- one file more
   pub one_admitted : {start mid new : Opened D} {position : ℕ} → position < length start.entries → AdmittedSoFar facts start mid position → IsRead facts mid new
-      → ((s : State) → IsAt facts mid s → IsLibrary (library_of (get_or s.blobs position no_blob)))
+      → ((s : State) → IsAt facts mid s → IsLibrary (get_or s.libraries position no_library))
       → ((d : PlacedEntry) → AreCallsExactly (file_sectors (get_or mid.entries position d)) (facts mid.disk) (facts new.disk))
       → AdmittedSoFar facts start new (position + 1)
   one_admitted {start = start} {mid = mid} {position = position} lt so_far read library calls = record {
     read = read_more so_far.read read;
     each = λ s at k within. ⊎_elim
         (λ below. so_far.each s at k below)
-        (λ le. let same : position ≡ k = omega (arith, le, within) in subst (λ i. IsLibrary (library_of (get_or s.blobs i no_blob))) same (library s (so_far.read.same s at)))
+        (λ le. let same : position ≡ k = omega (arith, le, within) in subst (λ i. IsLibrary (get_or s.libraries i no_library)) same (library s (so_far.read.same s at)))
         (cases_lt k position);
     calls = exactly_sum so_far.calls (calls no_entry)
         (ap (λ entries. sum_by file_sectors (take position start.entries) + file_sectors (get_or entries position no_entry)) so_far.read.entries
@@ -96,10 +96,9 @@ module _ {D : Type 0} {facts : D → DiskFacts} where
   }
 
   -- all of them
-  pub all_admitted : {start now : Opened D} {position : ℕ} → AdmittedSoFar facts start now position → (s : State) → IsAt facts start s → length s.blobs ≤ position → All IsLibrary (map library_of s.blobs)
+  pub all_admitted : {start now : Opened D} {position : ℕ} → AdmittedSoFar facts start now position → (s : State) → IsAt facts start s → length s.libraries ≤ position → All IsLibrary s.libraries
   all_admitted so_far s at le k d lt =
-      let within : k < length s.blobs = omega (arith, lt, length-map s.blobs library_of) in
-      subst IsLibrary (sym (get_or-map library_of s.blobs k no_blob d within)) (so_far.each s at k (omega (arith, within, le)))
+      subst IsLibrary (get_or_default s.libraries k no_library d lt) (so_far.each s at k (omega (arith, lt, le)))
 
   -- a reading behind calls that keep what a stop may leave
   pub leaves_after : {start : DiskFacts} {old new : Opened D} → IsTrue start.honest → (facts old.disk).honest ≡ start.honest → LeavesOnly start (facts old.disk) (Mixture start) → IsRead facts old new → LeavesOnly start (facts new.disk) (Mixture start)

@@ -28,12 +28,10 @@ use Rattle.scope.proofs.Queueing.{IsReached, reached-more, places-end, order-beh
 use Rattle.scope.proofs.Reaching.{reached-start}
 use Rattle.store.specs.Opened as opened
 use Rattle.store.specs.Opened.{Opened}
-use Rattle.store.specs.Stands.{HaveOwnNames, no_blob}
-use Rattle.store.specs.State as store
+use Rattle.store.specs.Stands.{HaveOwnNames, no_library}
 use Rattle.registry.specs.Binding.{object_of, objects, preload_numbers}
-use Rattle.registry.specs.Library.{Library, IsLibrary}
-use Rattle.registry.specs.State.{State}
-use Rattle.disk_registry.specs.Stands.{stored, blob_of, library_of}
+use Rattle.registry.specs.Library.{IsLibrary}
+use Rattle.states.specs.State.{Library, State}
 use Rattle.disk_registry.specs.Opened.{IsAt}
 use Rattle.disk_registry.specs.Binding.{data_sectors}
 use Rattle.disk_registry.specs.inside.Reading.{IsRead}
@@ -89,11 +87,10 @@ place-above places i first distinct lt =
 
 -- each byte string of a state is a library
 pub library_there : {D : Type 0} (facts : D → DiskFacts) (start : Opened D) (holds : IsTrue (facts start.disk).honest → HoldsNow (facts start.disk)) (s : State) → IsAt facts start s
-    → (i : ℕ) → i < length start.entries → IsLibrary (library_of (get_or (stored s).blobs i no_blob))
+    → (i : ℕ) → i < length start.entries → IsLibrary (get_or s.libraries i no_library)
 library_there facts start holds s at i lt =
     let within : i < length s.libraries = omega (arith, lt, object_count facts start s holds at, length-map s.libraries object_of) in
-    let none : Library = record { name = []; bytes = [] } in
-    subst IsLibrary (sym (ap library_of (get_or-map blob_of s.libraries i none no_blob within))) (All-get_or IsLibrary s.libraries i none within at.libraries)
+    All-get_or IsLibrary s.libraries i no_library within at.libraries
 
 module _ {D : Type 0} (facts : D → DiskFacts) (program : List ℕ) (start : Opened D) (holds : IsTrue (facts start.disk).honest → HoldsNow (facts start.disk)) where
   -- what a file needs, by the entries and by the state
@@ -139,25 +136,24 @@ module _ {D : Type 0} (facts : D → DiskFacts) (program : List ℕ) (start : Op
 
   -- the library that a place stands for
   library-at : (s : State) → IsAt facts start s → (p : ℕ) (f : Library) → 0 < p → p < length start.entries + 1
-      → f ≡ library_of (get_or (stored s).blobs (p - 1) no_blob) → object_of f ≡ object_at (available program (objects s)) p
+      → f ≡ get_or s.libraries (p - 1) no_library → object_of f ≡ object_at (available program (objects s)) p
   library-at s at zero f some lt is = absurd (omega (arith, some))
   library-at s at (suc k) f some lt is =
       let e : suc k - 1 ≡ k = omega arith in
       let count : length (objects s) ≡ length start.entries = object_count facts start s holds at in
       let inside : k < length (objects s) = omega (arith, lt, count) in
       let within : k < length s.libraries = omega (arith, inside, length-map s.libraries object_of) in
-      let none : Library = record { name = []; bytes = [] } in
-      let library : Library = get_or s.libraries k none in
-      let read : f ≡ library = is ∙ ap (λ i. library_of (get_or (stored s).blobs i no_blob)) e ∙ ap library_of (get_or-map blob_of s.libraries k none no_blob within) in
+      let library : Library = get_or s.libraries k no_library in
+      let read : f ≡ library = is ∙ ap (λ i. get_or s.libraries i no_library) e in
       ap object_of read
-      ∙ sym (get_or-map object_of s.libraries k none (object_of none) within)
-      ∙ sym (object_later (record { name = program_name; file = program }) (objects s) k (object_of none) inside)
+      ∙ sym (get_or-map object_of s.libraries k no_library (object_of no_library) within)
+      ∙ sym (object_later (record { name = program_name; file = program }) (objects s) k (object_of no_library) inside)
 
   -- one file more
   pub one_read : {now new : Opened D} {needs : Needs} {files : List Library} → IsWalked facts program start now needs files
       → AreApart (length start.entries + 1) needs.places.places → length files + 1 < length needs.places.places
       → (f : Library) → IsRead facts now new
-      → ((t : store.State) → opened.IsAt facts now t → f ≡ library_of (get_or t.blobs (get_or needs.places.places (length files + 1) 0 - 1) no_blob))
+      → ((t : State) → opened.IsAt facts now t → f ≡ get_or t.libraries (get_or needs.places.places (length files + 1) 0 - 1) no_library)
       → AreCallsExactly (data_sectors f.bytes) (facts now.disk) (facts new.disk)
       → (more : Needs) → more ≡ more_needs (entry_names start.entries) needs f.name (needed f.bytes)
       → IsWalked facts program start new more (files ++ f ∷ [])
@@ -175,7 +171,7 @@ module _ {D : Type 0} (facts : D → DiskFacts) (program : List ℕ) (start : Op
       let behind : walked more.places.places (length (files ++ f ∷ [])) ≡ walked places n ++ p ∷ [] =
       ap (walked more.places.places) count ∙ ap (λ ps. walked ps (n + 1)) grows ∙ walked-more places found n lt in
       let object = λ (s : State) (at : IsAt facts start s).
-      library-at s at p f above below (is (stored s) (so_far.read.same (stored s) at.blobs)) in
+      library-at s at p f above below (is s (so_far.read.same s at.stored)) in
       record {
         read = read_more so_far.read read;
         places = record {

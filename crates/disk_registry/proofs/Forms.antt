@@ -19,7 +19,8 @@ use Rattle.hash_check.specs.Soname.{has_bad_soname, is_library_name, is_name_byt
 use Rattle.hash_check.specs.declared.file_refusal.FileRefusal.TheVariants.{Object}
 use Rattle.roots.specs.Entry.{IsNameByte}
 use Rattle.store.specs.Step.{IsName, IsFileSize}
-use Rattle.registry.specs.Library.{Library, IsLibrary, library_tests, library_refusal}
+use Rattle.registry.specs.Library.{IsLibrary, library_tests, library_refusal}
+use Rattle.states.specs.State.{Library}
 use Rattle.registry.proofs.Sonames.{file_taken, short_file}
 
 map_none : {A B : Type 0} (f : A → B) (o : Option A) → option_map f o ≡ None → o ≡ None

@@ -1,5 +1,5 @@
--- The names of a registry's libraries, and those of the byte strings of the store that keeps it.
-use Rattle.std.proofs.Common.{◌≡◌, ◌≢◌, ◌↔◌, ◌<◌, ◌≤◌, ⊎_elim, Some, None, ℕ, ◌+◌, ◌==◌, Bool, true, false, List, [], ◌∷◌, ◌++◌, take, length, get_or, map, refl, sym, ap, ◌∙◌, arith, suc}
+-- The names of a registry's libraries, and where they are among its entries.
+use Rattle.std.proofs.Common.{◌≡◌, ◌≢◌, ◌↔◌, ◌<◌, ◌≤◌, ⊎_elim, Some, None, ℕ, ◌+◌, ◌==◌, Bool, true, false, List, [], ◌∷◌, ◌++◌, take, length, get_or, map, refl, sym, ap, ◌∙◌, arith}
 use Rattle.std.proofs.lemmas.Bool.Decides.{nat_tests}
 use Rattle.std.specs.Prelude.{◌||◌, not, All, Option, bytes_eq}
 use Rattle.std.specs.List.{list_any}
@@ -10,15 +10,12 @@ use Rattle.std.proofs.lemmas.List.Folds.{list_any_at, list_any_none}
 use Rattle.std.proofs.lemmas.Slice.Eq.{bytes_eq-Decides}
 use Rattle.extents.specs.Extent.{AreDistinct}
 use Rattle.store.specs.declared.placed_entry.PlacedEntry.{PlacedEntry}
-use Rattle.store.specs.State as store
-use Rattle.store.specs.Stands.{HaveOwnNames, name_of, no_blob, names_at}
+use Rattle.store.specs.Stands.{HaveOwnNames, name_of, no_library, names_at}
 use Rattle.store.proofs.UsedAlone.{no_entry}
-use Rattle.registry.specs.Library.{Library}
-use Rattle.registry.specs.State.{State, names_of, has_name}
+use Rattle.states.specs.State.{Library, State, names_of, has_name}
 use Rattle.registry.specs.Table.{entry_of}
 use Rattle.registry.specs.Tests.{has_repeat}
 use Rattle.registry.proofs.Names.{none_pass, no_repeat}
-use Rattle.disk_registry.specs.Stands.{stored, blob_of}
 use Rattle.disk_registry.specs.inside.Named.{AreNamed}
 
 pub isnt_true : (a : Bool) → (a ≡ true → ⊥) → a ≡ false
@@ -31,77 +28,67 @@ same_tests true b to from = sym (to refl)
 same_tests false true to from = from refl
 same_tests false false to from = refl
 
-blob_names : (libraries : List Library) → map (λ (blob : store.Blob). blob.name) (map blob_of libraries) ≡ names_of libraries
-blob_names [] = refl
-blob_names (l ∷ libraries) = ap (λ ns. l.name ∷ ns) (blob_names libraries)
-
-count_names : (libraries : List Library) → length (names_of libraries) ≡ length (map blob_of libraries)
-count_names [] = refl
-count_names (l ∷ libraries) = ap suc (count_names libraries)
+count_names : (libraries : List Library) → length (names_of libraries) ≡ length libraries
+count_names libraries = length-map libraries (λ l. l.name)
 
 -- the name at a position
-pub name_at : (s : State) (i : ℕ) (d : List ℕ) → i < length (stored s).blobs → get_or (names_of s.libraries) i d ≡ (get_or (stored s).blobs i no_blob).name
-name_at s i d lt = ap (λ ns. get_or ns i d) (sym (blob_names s.libraries)) ∙ get_or-map (λ (blob : store.Blob). blob.name) (stored s).blobs i no_blob d lt
+pub name_at : (s : State) (i : ℕ) (d : List ℕ) → i < length s.libraries → get_or (names_of s.libraries) i d ≡ (get_or s.libraries i no_library).name
+name_at s i d lt = get_or-map (λ l. l.name) s.libraries i no_library d lt
 
 -- a name that stands at a position is installed,
-pub name_stands : (s : State) (name : List ℕ) (i : ℕ) → i < length (stored s).blobs → (get_or (stored s).blobs i no_blob).name ≡ name → has_name (names_of s.libraries) name ≡ true
+pub name_stands : (s : State) (name : List ℕ) (i : ℕ) → i < length s.libraries → (get_or s.libraries i no_library).name ≡ name → has_name (names_of s.libraries) name ≡ true
 name_stands s name i lt is =
     list_any_at (bytes_eq name) (names_of s.libraries) i [] (omega (arith, lt, count_names s.libraries))
     ((bytes_eq-Decides name (get_or (names_of s.libraries) i [])).1 (sym (name_at s i [] lt ∙ is)))
 
 -- and one that stands nowhere isn't
-pub name_nowhere : (s : State) (name : List ℕ) → ((i : ℕ) → i < length (stored s).blobs → (get_or (stored s).blobs i no_blob).name ≡ name → ⊥) → has_name (names_of s.libraries) name ≡ false
+pub name_nowhere : (s : State) (name : List ℕ) → ((i : ℕ) → i < length s.libraries → (get_or s.libraries i no_library).name ≡ name → ⊥) → has_name (names_of s.libraries) name ≡ false
 name_nowhere s name none = list_any_none (bytes_eq name) (names_of s.libraries) (λ k d lt.
-    let within : k < length (stored s).blobs = omega (arith, lt, count_names s.libraries) in
+    let within : k < length s.libraries = omega (arith, lt, count_names s.libraries) in
     isnt_true (bytes_eq name (get_or (names_of s.libraries) k d))
     (λ yes. none k within (sym ((bytes_eq-Decides name (get_or (names_of s.libraries) k d)).0 yes ∙ name_at s k d within))))
 
 -- a position stands among others where its name does
-pub same_preload : (s : State) (name : List ℕ) (position : ℕ) (positions : List ℕ) → All (λ p. p < length (stored s).blobs) positions
-    → ((p : ℕ) → (position ≡ p) ↔ ((p < length (stored s).blobs) × ((get_or (stored s).blobs p no_blob).name ≡ name)))
-    → list_any (λ p. p == position) positions ≡ has_name (names_at (stored s).blobs positions) name
+pub same_preload : (s : State) (name : List ℕ) (position : ℕ) (positions : List ℕ) → All (λ p. p < length s.libraries) positions
+    → ((p : ℕ) → (position ≡ p) ↔ ((p < length s.libraries) × ((get_or s.libraries p no_library).name ≡ name)))
+    → list_any (λ p. p == position) positions ≡ has_name (names_at s.libraries positions) name
 same_preload s name position [] inside at = refl
 same_preload s name position (p ∷ positions) inside at =
-    let lt = All-head (λ p. p < length (stored s).blobs) p positions inside in
-    let here : (p == position) ≡ bytes_eq name (get_or (stored s).blobs p no_blob).name = same_tests (p == position) (bytes_eq name (get_or (stored s).blobs p no_blob).name)
-    (λ yes. (bytes_eq-Decides name (get_or (stored s).blobs p no_blob).name).1 (sym ((at p).0 (let e : position ≡ p = grind (arith, nat_tests, yes) in e)).1))
-    (λ yes. let e : position ≡ p = (at p).1 (lt, sym ((bytes_eq-Decides name (get_or (stored s).blobs p no_blob).name).0 yes)) in grind (arith, nat_tests, e)) in
-    let there = same_preload s name position positions (All-tail (λ p. p < length (stored s).blobs) p positions inside) at in
+    let lt = All-head (λ p. p < length s.libraries) p positions inside in
+    let here : (p == position) ≡ bytes_eq name (get_or s.libraries p no_library).name = same_tests (p == position) (bytes_eq name (get_or s.libraries p no_library).name)
+    (λ yes. (bytes_eq-Decides name (get_or s.libraries p no_library).name).1 (sym ((at p).0 (let e : position ≡ p = grind (arith, nat_tests, yes) in e)).1))
+    (λ yes. let e : position ≡ p = (at p).1 (lt, sym ((bytes_eq-Decides name (get_or s.libraries p no_library).name).0 yes)) in grind (arith, nat_tests, e)) in
+    let there = same_preload s name position positions (All-tail (λ p. p < length s.libraries) p positions inside) at in
     λ i. here i || there i
 
 -- where names are those at some positions, none of them is lacking
-pub none_lacks : (s : State) (positions : List ℕ) → All (λ p. p < length (stored s).blobs) positions → list_any (λ name. not (has_name (names_of s.libraries) name)) (names_at (stored s).blobs positions) ≡ false
+pub none_lacks : (s : State) (positions : List ℕ) → All (λ p. p < length s.libraries) positions → list_any (λ name. not (has_name (names_of s.libraries) name)) (names_at s.libraries positions) ≡ false
 none_lacks s [] inside = refl
 none_lacks s (p ∷ positions) inside =
-    let here = name_stands s (get_or (stored s).blobs p no_blob).name p (All-head (λ p. p < length (stored s).blobs) p positions inside) refl in
-    let there = none_lacks s positions (All-tail (λ p. p < length (stored s).blobs) p positions inside) in
+    let here = name_stands s (get_or s.libraries p no_library).name p (All-head (λ p. p < length s.libraries) p positions inside) refl in
+    let there = none_lacks s positions (All-tail (λ p. p < length s.libraries) p positions inside) in
     λ i. not (here i) || there i
 
 -- one library more is listed
-pub listed_more : (s : State) (i : ℕ) (items : List (List ℕ × ℕ)) (name : List ℕ) (size : ℕ) → i < length (stored s).blobs → items ≡ map entry_of (take i s.libraries)
-    → name ≡ (get_or (stored s).blobs i no_blob).name → size ≡ length (get_or (stored s).blobs i no_blob).bytes → items ++ (name, size) ∷ [] ≡ map entry_of (take (i + 1) s.libraries)
+pub listed_more : (s : State) (i : ℕ) (items : List (List ℕ × ℕ)) (name : List ℕ) (size : ℕ) → i < length s.libraries → items ≡ map entry_of (take i s.libraries)
+    → name ≡ (get_or s.libraries i no_library).name → size ≡ length (get_or s.libraries i no_library).bytes → items ++ (name, size) ∷ [] ≡ map entry_of (take (i + 1) s.libraries)
 listed_more s i items name size lt is named sized =
-    let within : i < length s.libraries = omega (arith, lt, length-map s.libraries blob_of) in
-    let here : get_or (stored s).blobs i no_blob ≡ blob_of (get_or s.libraries i no_library) = get_or-map blob_of s.libraries i no_library no_blob within in
-    let entry : ◌≡◌ {A = List ℕ × ℕ} (name, size) (entry_of (get_or s.libraries i no_library)) = λ k. ((named ∙ ap (λ blob. blob.name) here) k, (sized ∙ ap (λ blob. length blob.bytes) here) k) in
+    let entry : ◌≡◌ {A = List ℕ × ℕ} (name, size) (entry_of (get_or s.libraries i no_library)) = λ k. (named k, sized k) in
     (λ k. is k ++ entry k ∷ [])
     ∙ sym (map-append entry_of (take i s.libraries) (get_or s.libraries i no_library ∷ []))
-    ∙ ap (map entry_of) (sym (take_more s.libraries i no_library within))
-  where
-    no_library : Library
-    no_library = record { name = []; bytes = [] }
+    ∙ ap (map entry_of) (sym (take_more s.libraries i no_library lt))
 
 -- all of them
-pub listed_all : (s : State) (i : ℕ) → length (stored s).blobs ≤ i → map entry_of (take i s.libraries) ≡ map entry_of s.libraries
-listed_all s i le = ap (map entry_of) (take_all i s.libraries (omega (arith, le, length-map s.libraries blob_of)))
+pub listed_all : (s : State) (i : ℕ) → length s.libraries ≤ i → map entry_of (take i s.libraries) ≡ map entry_of s.libraries
+listed_all s i le = ap (map entry_of) (take_all i s.libraries le)
 
 -- one name more is told
-pub told_more : (s : State) (i : ℕ) (positions : List ℕ) (items : List (List ℕ)) (name : List ℕ) → i < length positions → items ≡ names_at (stored s).blobs (take i positions)
-    → name ≡ (get_or (stored s).blobs (get_or positions i 0) no_blob).name → items ++ name ∷ [] ≡ names_at (stored s).blobs (take (i + 1) positions)
+pub told_more : (s : State) (i : ℕ) (positions : List ℕ) (items : List (List ℕ)) (name : List ℕ) → i < length positions → items ≡ names_at s.libraries (take i positions)
+    → name ≡ (get_or s.libraries (get_or positions i 0) no_library).name → items ++ name ∷ [] ≡ names_at s.libraries (take (i + 1) positions)
 told_more s i positions items name lt is named =
     (λ k. is k ++ named k ∷ [])
-    ∙ sym (map-append (λ p. (get_or (stored s).blobs p no_blob).name) (take i positions) (get_or positions i 0 ∷ []))
-    ∙ ap (names_at (stored s).blobs) (sym (take_more positions i 0 lt))
+    ∙ sym (map-append (λ p. (get_or s.libraries p no_library).name) (take i positions) (get_or positions i 0 ∷ []))
+    ∙ ap (names_at s.libraries) (sym (take_more positions i 0 lt))
 
 pub some_same : {a b : ℕ} → ◌≡◌ {A = Option ℕ} (Some a) (Some b) → a ≡ b
 some_same is = cc
@@ -110,14 +97,14 @@ pub none_some : {a : ℕ} → ◌≡◌ {A = Option ℕ} None (Some a) → ⊥
 none_some is = absurd cc
 
 -- one name of several stands nowhere
-pub lacks_at : (s : State) (names : List (List ℕ)) (i : ℕ) → i < length names → ((k : ℕ) → k < length (stored s).blobs → (get_or (stored s).blobs k no_blob).name ≡ get_or names i [] → ⊥)
+pub lacks_at : (s : State) (names : List (List ℕ)) (i : ℕ) → i < length names → ((k : ℕ) → k < length s.libraries → (get_or s.libraries k no_library).name ≡ get_or names i [] → ⊥)
     → list_any (λ name. not (has_name (names_of s.libraries) name)) names ≡ true
 lacks_at s names i lt none = list_any_at (λ name. not (has_name (names_of s.libraries) name)) names i [] lt (ap not (name_nowhere s (get_or names i []) none))
 
 -- the names at some positions, and at one more
-pub names_more : (s : State) (positions : List ℕ) (p : ℕ) (names : List (List ℕ)) (name : List ℕ) → names_at (stored s).blobs positions ≡ names → (get_or (stored s).blobs p no_blob).name ≡ name
-    → names_at (stored s).blobs (positions ++ p ∷ []) ≡ names ++ name ∷ []
-names_more s positions p names name are is = map-append (λ i. (get_or (stored s).blobs i no_blob).name) positions (p ∷ []) ∙ (λ k. are k ++ is k ∷ [])
+pub names_more : (s : State) (positions : List ℕ) (p : ℕ) (names : List (List ℕ)) (name : List ℕ) → names_at s.libraries positions ≡ names → (get_or s.libraries p no_library).name ≡ name
+    → names_at s.libraries (positions ++ p ∷ []) ≡ names ++ name ∷ []
+names_more s positions p names name are is = map-append (λ i. (get_or s.libraries i no_library).name) positions (p ∷ []) ∙ (λ k. are k ++ is k ∷ [])
 
 pub named_more : {entries : List PlacedEntry} {positions : List ℕ} {names : List (List ℕ)} (p : ℕ) (name : List ℕ) → AreNamed entries positions names → p < length entries
     → ((d : PlacedEntry) → name_of (get_or entries p d).entry ≡ name) → AreNamed entries (positions ++ p ∷ []) (names ++ name ∷ [])

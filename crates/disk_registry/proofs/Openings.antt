@@ -1,38 +1,26 @@
 -- What an opening finds, and where it stands for no state of a registry.
-use Rattle.std.proofs.Common.{◌≡◌, ◌⊎◌, inl, inr, ⊎_elim, List, map, length, All, IsFalse, refl, sym, subst, ◌∙◌}
+use Rattle.std.proofs.Common.{◌≡◌, ◌⊎◌, inl, inr, ⊎_elim, List, length, All, IsFalse, refl, sym, subst, ◌∙◌}
 use Rattle.std.proofs.lemmas.List.Elements.{All-nil}
 use Rattle.std.proofs.lemmas.Bool.{false≢true}
 use Rattle.sector_disk.specs.Disk.{Sector, DiskFacts, Mixture, LeavesOnly}
 use Rattle.sector_disk.proofs.Moments.{weaken}
-use Rattle.store.specs.State as store
 use Rattle.store.specs.Stands as sectors
 use Rattle.store.specs.Opened as opened
-use Rattle.store.specs.Opening.{IsGeometry, HasRootMagic, HasCurrentRoot, RefusesOpen}
+use Rattle.store.specs.Opening.{HasRootMagic, HasCurrentRoot, RefusesOpen}
+use Rattle.states.specs.Geometry.{IsGeometry}
 use Rattle.store.specs.declared.refusal.StoreRefusal.{StoreRefusal}
 use Rattle.store.specs.declared.refusal.StoreRefusal.TheVariants as refusal
 use Rattle.store.proofs.StandsLemmas as sectors_lemmas
 use Rattle.store.proofs.Openings.{current_magic, device_refused, damaged_refused, memory_refused}
 use Rattle.registry.specs.Library.{IsLibrary}
-use Rattle.registry.specs.State.{State, empty_state}
-use Rattle.disk_registry.specs.Stands.{Stands, stored, library_of}
-use Rattle.disk_registry.specs.Opened.{IsAt}
+use Rattle.states.specs.State.{State, empty_state}
+use Rattle.disk_registry.specs.Stands.{Stands}
 use Rattle.disk_registry.specs.inside.Reading.{IsReadRefusal}
-use Rattle.disk_registry.proofs.States.{registry_of, stored_of, libraries_back}
 
 -- an empty store is an empty registry
-pub either_empty : {old new : DiskFacts} → LeavesOnly old new (λ m. Mixture old m ⊎ sectors.Stands m store.empty_state) → LeavesOnly old new (λ m. Mixture old m ⊎ Stands m empty_state)
-either_empty {old = old} leaves = weaken (λ m. Mixture old m ⊎ sectors.Stands m store.empty_state) (λ m. Mixture old m ⊎ Stands m empty_state)
-    (λ m. ⊎_elim (λ mixture. inl mixture) (λ stands. inr (record { blobs = stands; libraries = All-nil IsLibrary }))) leaves
-
--- a store whose byte strings are libraries is a registry
-pub stands_of : (m : List Sector) (t : store.State) → sectors.Stands m t → All IsLibrary (map library_of t.blobs) → Stands m (registry_of t)
-stands_of m t stands libraries = record { blobs = subst (sectors.Stands m) (sym (stored_of t)) stands; libraries = libraries }
-
-pub at_of : {D : Type 0} (facts : D → DiskFacts) (kept : opened.Opened D) (t : store.State) → opened.IsAt facts kept t → All IsLibrary (map library_of t.blobs) → IsAt facts kept (registry_of t)
-at_of facts kept t at libraries = record { blobs = subst (opened.IsAt facts kept) (sym (stored_of t)) at; libraries = libraries }
-
-pub libraries_stored : (s : State) → All IsLibrary s.libraries → All IsLibrary (map library_of (stored s).blobs)
-libraries_stored s libraries = subst (All IsLibrary) (sym (libraries_back s.libraries)) libraries
+pub either_empty : {old new : DiskFacts} → LeavesOnly old new (λ m. Mixture old m ⊎ sectors.Stands m empty_state) → LeavesOnly old new (λ m. Mixture old m ⊎ Stands m empty_state)
+either_empty {old = old} leaves = weaken (λ m. Mixture old m ⊎ sectors.Stands m empty_state) (λ m. Mixture old m ⊎ Stands m empty_state)
+    (λ m. ⊎_elim (λ mixture. inl mixture) (λ stands. inr (record { stored = stands; libraries = All-nil IsLibrary }))) leaves
 
 -- what a reading may refuse where every file is a library
 pub refuses_only : {D : Type 0} (facts : D → DiskFacts) (old new : opened.Opened D) (e : StoreRefusal) → IsReadRefusal facts old new e → (e ≡ refusal.Damaged → ⊥) → IsFalse old.failed → (e ≡ refusal.Device) ⊎ (e ≡ refusal.OutOfMemory)
@@ -49,18 +37,18 @@ refuses_only facts old new refusal.TooMany is intact usable = absurd is
 refuses_only facts old new refusal.GenerationEnd is intact usable = absurd is
 
 -- sectors with a file that is no library stand for no state of a registry
-no_state : (m : List Sector) (t : store.State) → sectors.Stands m t → (All IsLibrary (map library_of t.blobs) → ⊥) → (s : State) → Stands m s → ⊥
+no_state : (m : List Sector) (t : State) → sectors.Stands m t → (All IsLibrary t.libraries → ⊥) → (s : State) → Stands m s → ⊥
 no_state m t stands none s is =
-    none (subst (λ t. All IsLibrary (map library_of t.blobs)) (sectors_lemmas.one_state m (stored s) t is.blobs stands) (libraries_stored s is.libraries))
+    none (subst (λ t. All IsLibrary t.libraries) (sectors_lemmas.one_state m s t is.stored stands) is.libraries)
 
-has_magic : (m : List Sector) (t : store.State) → sectors.Stands m t → HasRootMagic m
+has_magic : (m : List Sector) (t : State) → sectors.Stands m t → HasRootMagic m
 has_magic m t (root, entries, by) = current_magic m root by.intact.current
 
-has_root : (m : List Sector) (t : store.State) → sectors.Stands m t → HasCurrentRoot m
+has_root : (m : List Sector) (t : State) → sectors.Stands m t → HasCurrentRoot m
 has_root m t (root, entries, by) = (root, by.intact.current, by.intact.size, by.intact.listed.sectors.version)
 
 -- what is refused after the store was opened
-pub refuses_files : {D : Type 0} (facts : D → DiskFacts) (old new : opened.Opened D) (m : List Sector) (t : store.State) (e : StoreRefusal) → IsReadRefusal facts old new e → IsFalse old.failed → IsGeometry (length m) → sectors.Stands m t → (e ≡ refusal.Damaged → All IsLibrary (map library_of t.blobs) → ⊥) → RefusesOpen Stands m e
+pub refuses_files : {D : Type 0} (facts : D → DiskFacts) (old new : opened.Opened D) (m : List Sector) (t : State) (e : StoreRefusal) → IsReadRefusal facts old new e → IsFalse old.failed → IsGeometry (length m) → sectors.Stands m t → (e ≡ refusal.Damaged → All IsLibrary t.libraries → ⊥) → RefusesOpen Stands m e
 refuses_files facts old new m t refusal.Device is usable geometry stands damaged = device_refused Stands m geometry
 refuses_files facts old new m t refusal.OutOfMemory is usable geometry stands damaged = memory_refused Stands m geometry (has_root m t stands)
 refuses_files facts old new m t refusal.Damaged is usable geometry stands damaged = damaged_refused Stands m geometry (has_magic m t stands) (no_state m t stands (damaged refl))
@@ -79,6 +67,6 @@ refuses_store m e is = record {
   may = is.may;
   unformatted = is.unformatted;
   formatted = is.formatted;
-  damaged = λ same s stands. is.damaged same (stored s) stands.blobs;
+  damaged = λ same s stands. is.damaged same s stands.stored;
   memory = is.memory;
 }

@@ -2,7 +2,7 @@
 use Rattle.std.proofs.Common.{◌≡◌, ◌⊎◌, ◌+◌, ◌≤◌, ℕ, IsTrue, List, length, take}
 use Rattle.sector_disk.specs.Disk.{Sector, DiskFacts, MixtureAt, Mixture, KeepsPast}
 use Rattle.store.specs.Opened.{Opened}
-use Rattle.registry.specs.State.{State}
+use Rattle.states.specs.State.{State}
 use Rattle.registry.specs.Request.{Request}
 use Rattle.registry.specs.Runs.{Steps, last_of, after}
 use Rattle.registry.specs.Step.{accepted}

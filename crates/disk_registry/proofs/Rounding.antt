@@ -11,7 +11,7 @@ use Rattle.sector_disk.proofs.Mixtures.{same_disk_mixture, starts_synced}
 use Rattle.store.specs.Opened.{Opened}
 use Rattle.store.specs.declared.refusal.StoreRefusal.{StoreRefusal}
 use Rattle.store.specs.declared.refusal.StoreRefusal.TheVariants.{Device, OutOfMemory}
-use Rattle.registry.specs.State.{State}
+use Rattle.states.specs.State.{State}
 use Rattle.registry.specs.Runs.{Run}
 use Rattle.registry.specs.declared.reply.Reply.{Reply}
 use Rattle.disk_registry.specs.declared.rounds.Round.{Round}

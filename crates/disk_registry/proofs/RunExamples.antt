@@ -3,7 +3,7 @@ use Rattle.std.proofs.Common.{◌≡◌, ◌⊎◌, inl, inr, ⊎_elim, ℕ, zer
 use Rattle.std.proofs.lemmas.Option.{none-some, same_Some}
 use Rattle.sector_disk.specs.Disk.{Sector, DiskFacts, Mixture}
 use Rattle.store.specs.Opened.{Opened}
-use Rattle.registry.specs.State.{State}
+use Rattle.states.specs.State.{State}
 use Rattle.registry.specs.Request.{Request, install, remove, bind}
 use Rattle.registry.specs.Runs.{Steps}
 use Rattle.registry.specs.Step.{Step, accepted, refusal_at}

@@ -8,7 +8,7 @@ use Rattle.std.proofs.lemmas.Option.{slice_get_within}
 use Rattle.sector_disk.specs.Disk.{Sector, DiskFacts, MixtureAt, Mixture, AreCallsExactly}
 use Rattle.sector_disk.proofs.Moments.{keeps_past, past_mixture, left_now}
 use Rattle.store.specs.Opened.{Opened}
-use Rattle.registry.specs.State.{State}
+use Rattle.states.specs.State.{State}
 use Rattle.registry.specs.Request.{Request, install, replace, remove, set_preloads, bind, list}
 use Rattle.registry.specs.Phase.{Phase}
 use Rattle.registry.specs.Runs.{Steps, after}

@@ -1,4 +1,4 @@
--- The names and the preloads of a store by the state of the registry that it keeps.
+-- The names and the preloads of a registry on a disk, by its state.
 use Rattle.std.proofs.Common.{◌≡◌, ℕ, ◌<◌, List, [], ◌∷◌, length, map, get_or, cond, Some, None, IsTrue, refl, sym, ap, subst, ◌∙◌, arith}
 use Rattle.std.specs.Prelude.{All, AllPairs, bytes_eq, nat_lt, position}
 use Rattle.std.specs.List.{IsDistinct, filter_map, cons_option, position_or_len}
@@ -15,15 +15,10 @@ use Rattle.store.specs.declared.placed_entry.PlacedEntry.{PlacedEntry}
 use Rattle.roots.specs.Root.{listed_preloads}
 use Rattle.scope.specs.LoadOrder as order
 use Rattle.scope.specs.Objects.{Named}
-use Rattle.store.specs.State as store
 use Rattle.store.specs.Opened.{Opened}
-use Rattle.store.specs.Stands as sectors
-use Rattle.store.specs.Stands.{StandsBy, HaveOwnNames, name_of, no_blob, names_at}
+use Rattle.store.specs.Stands.{StandsBy, HaveOwnNames, library_of, no_library, names_at}
 use Rattle.registry.specs.Binding.{object_of, objects, preload_numbers}
-use Rattle.registry.specs.Library.{Library}
-use Rattle.registry.specs.State as registry
-use Rattle.registry.specs.State.{State}
-use Rattle.disk_registry.specs.Stands.{stored, blob_of}
+use Rattle.states.specs.State.{Library, State, names_of}
 use Rattle.disk_registry.specs.Opened.{IsAt}
 use Rattle.disk_registry.specs.inside.Named.{placed_name, entry_names}
 use Rattle.store.proofs.UsedAlone.{no_entry}
@@ -57,21 +52,17 @@ numbers_back names (k ∷ ks) distinct inside =
     (number_is names k distinct (All-head (λ i. i < length names) k ks inside))
     ∙ ap (λ l. k ∷ l) (numbers_back names ks distinct (All-tail (λ i. i < length names) k ks inside))
 
-blob_names : (blobs : List store.Blob) (ks : List ℕ) → All (λ k. k < length blobs) ks → names_at blobs ks ≡ map (λ k. get_or (map (λ (b : store.Blob). b.name) blobs) k []) ks
-blob_names blobs [] inside = refl
-blob_names blobs (k ∷ ks) inside =
-    ap (λ n. n ∷ names_at blobs ks) (sym (get_or-map (λ (b : store.Blob). b.name) blobs k no_blob [] (All-head (λ i. i < length blobs) k ks inside)))
-    ∙ ap (λ l. get_or (map (λ (b : store.Blob). b.name) blobs) k [] ∷ l) (blob_names blobs ks (All-tail (λ i. i < length blobs) k ks inside))
+preload_names : (libraries : List Library) (ks : List ℕ) → All (λ k. k < length libraries) ks → names_at libraries ks ≡ map (λ k. get_or (names_of libraries) k []) ks
+preload_names libraries [] inside = refl
+preload_names libraries (k ∷ ks) inside =
+    ap (λ n. n ∷ names_at libraries ks) (sym (get_or-map (λ (l : Library). l.name) libraries k no_library [] (All-head (λ i. i < length libraries) k ks inside)))
+    ∙ ap (λ ns. get_or (names_of libraries) k [] ∷ ns) (preload_names libraries ks (All-tail (λ i. i < length libraries) k ks inside))
 
-library_names : (ls : List Library) → map (λ (b : store.Blob). b.name) (map blob_of ls) ≡ registry.names_of ls
-library_names [] = refl
-library_names (l ∷ ls) = ap (λ ns. l.name ∷ ns) (library_names ls)
-
-object_names : (ls : List Library) → order.names_of (map object_of ls) ≡ registry.names_of ls
+object_names : (ls : List Library) → order.names_of (map object_of ls) ≡ names_of ls
 object_names [] = refl
 object_names (l ∷ ls) = ap (λ ns. l.name ∷ ns) (object_names ls)
 
-kept_names : (m : List Sector) (entries : List PlacedEntry) → map (λ (b : store.Blob). b.name) (map (sectors.blob_of m) entries) ≡ entry_names entries
+kept_names : (m : List Sector) (entries : List PlacedEntry) → names_of (map (library_of m) entries) ≡ entry_names entries
 kept_names m [] = refl
 kept_names m (e ∷ es) = ap (λ ns. placed_name e ∷ ns) (kept_names m es)
 
@@ -79,11 +70,11 @@ module _ {D : Type 0} (facts : D → DiskFacts) (kept : Opened D) (s : State) (h
   abbrev now : List Sector
   now = (facts kept.disk).now
 
-  now_stands : StandsBy now kept.root kept.entries (stored s)
-  now_stands = at.blobs.stands now (holds at.blobs.honest)
+  now_stands : StandsBy now kept.root kept.entries s
+  now_stands = at.stored.stands now (holds at.stored.honest)
 
-  names_known : registry.names_of s.libraries ≡ entry_names kept.entries
-  names_known = sym (library_names s.libraries) ∙ ap (λ (t : store.State). map (λ (b : store.Blob). b.name) t.blobs) now_stands.is ∙ kept_names now kept.entries
+  names_known : names_of s.libraries ≡ entry_names kept.entries
+  names_known = ap (λ (t : State). names_of t.libraries) now_stands.is ∙ kept_names now kept.entries
 
   -- the objects of the state go by the names of the entries
   pub names_are : order.names_of (objects s) ≡ entry_names kept.entries
@@ -97,11 +88,11 @@ module _ {D : Type 0} (facts : D → DiskFacts) (kept : Opened D) (s : State) (h
   numbers_are own inside =
       let ks : List ℕ = listed_preloads kept.root in
       let names : List (List ℕ) = entry_names kept.entries in
-      let blobs : List store.Blob = map (sectors.blob_of now) kept.entries in
+      let libraries : List Library = map (library_of now) kept.entries in
       let within : All (λ k. k < length names) ks = subst (λ n. All (λ k. k < n) ks) (sym (length-map kept.entries placed_name)) inside in
-      let there : All (λ k. k < length blobs) ks = subst (λ n. All (λ k. k < n) ks) (sym (length-map kept.entries (sectors.blob_of now))) inside in
+      let there : All (λ k. k < length libraries) ks = subst (λ n. All (λ k. k < n) ks) (sym (length-map kept.entries (library_of now))) inside in
       let preloads : s.preloads ≡ map (λ k. get_or names k []) ks =
-      ap (λ (t : store.State). t.preloads) now_stands.is ∙ blob_names blobs ks there ∙ ap (λ (l : List (List ℕ)). map (λ k. get_or l k []) ks) (kept_names now kept.entries) in
+      ap (λ (t : State). t.preloads) now_stands.is ∙ preload_names libraries ks there ∙ ap (λ (l : List (List ℕ)). map (λ k. get_or l k []) ks) (kept_names now kept.entries) in
       ap (λ (l : List (List ℕ)). filter_map (λ name. position (bytes_eq name) l) s.preloads) names_known
       ∙ ap (filter_map (λ name. position (bytes_eq name) names)) preloads
       ∙ numbers_back names ks (names_distinct kept.entries own) within

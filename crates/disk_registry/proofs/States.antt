@@ -1,97 +1,73 @@
--- The state of a registry and that of the store that keeps it.
-use Rattle.std.proofs.Common.{◌≡◌, ◌↔◌, ◌==◌, ◌<◌, ℕ, All, List, [], ◌∷◌, length, get_or, map, IsTrue, ⊎_elim, refl, sym, ap, ◌∙◌, arith}
+-- What a registry's disk stands for, and what is known of a registry at a state.
+use Rattle.std.proofs.Common.{◌≡◌, ◌↔◌, ◌==◌, ◌<◌, ℕ, All, List, length, get_or, IsTrue, ⊎_elim, sym, ap, ◌∙◌, arith}
 use Rattle.std.specs.List.{list_any}
 use Rattle.std.proofs.lemmas.Bool.{cases_lt}
-use Rattle.std.proofs.lemmas.List.{get_or-map, length-map, length-take-le}
+use Rattle.std.proofs.lemmas.List.{get_or-map, get_or_default, length-map, length-take-le}
 use Rattle.sector_disk.specs.Disk.{Sector, sector, DiskFacts, Mixture, HoldsNow}
 use Rattle.roots.specs.Root.{RootHasSpelling, listed_preloads}
 use Rattle.roots.proofs.RootLemmas.{few_1}
 use Rattle.store.specs.Opened as opened
-use Rattle.store.specs.State as store
 use Rattle.store.specs.Stands as sectors
-use Rattle.store.specs.Stands.{no_blob, names_at, name_of}
+use Rattle.store.specs.Stands.{no_library, names_at, name_of}
 use Rattle.store.proofs.Queries as queries
 use Rattle.store.proofs.UsedAlone.{current_fits, listed_count, no_entry}
 use Rattle.store.proofs.StandsLemmas as sectors_lemmas
-use Rattle.registry.specs.Library.{Library}
-use Rattle.registry.specs.State.{State, IsState, has_name}
+use Rattle.states.specs.State.{Library, State, has_name}
+use Rattle.registry.specs.State.{IsState}
 use Rattle.disk_registry.specs.Opened.{IsAt}
-use Rattle.disk_registry.specs.Stands.{Stands, stored, blob_of, library_of}
+use Rattle.disk_registry.specs.Stands.{Stands}
 use Rattle.disk_registry.proofs.Names.{name_stands, same_preload}
-
--- the state of a registry that a store's state is
-abbrev pub registry_of : store.State → State
-registry_of t = record { generation = t.generation; libraries = map library_of t.blobs; preloads = t.preloads }
-
-blobs_back : (blobs : List store.Blob) → map blob_of (map library_of blobs) ≡ blobs
-blobs_back [] = refl
-blobs_back (b ∷ blobs) = ap (λ l. b ∷ l) (blobs_back blobs)
-
-pub libraries_back : (libraries : List Library) → map library_of (map blob_of libraries) ≡ libraries
-libraries_back [] = refl
-libraries_back (l ∷ libraries) = ap (λ ls. l ∷ ls) (libraries_back libraries)
-
--- every state of a store is kept of one of a registry, which may have files that are no libraries,
-pub stored_of : (t : store.State) → stored (registry_of t) ≡ t
-stored_of t = λ i. record { generation = t.generation; blobs = blobs_back t.blobs i; preloads = t.preloads }
-
-pub registry_of_stored : (s : State) → registry_of (stored s) ≡ s
-registry_of_stored s = λ i. record { generation = s.generation; libraries = libraries_back s.libraries i; preloads = s.preloads }
-
--- and of one alone.
-pub stored_once : (s t : State) → stored s ≡ stored t → s ≡ t
-stored_once s t same = sym (registry_of_stored s) ∙ ap registry_of same ∙ registry_of_stored t
 
 -- Sectors stand for at most one state.
 pub one_state : (m : List Sector) (s t : State) → Stands m s → Stands m t → s ≡ t
-one_state m s t a b = stored_once s t (sectors_lemmas.one_state m (stored s) (stored t) a.blobs b.blobs)
+one_state m s t a b = sectors_lemmas.one_state m s t a.stored b.stored
 
 module _ {D : Type 0} (facts : D → DiskFacts) (registry : opened.Opened D) (s : State) (at : IsAt facts registry s) where
   -- what a stop may leave of a registry at a state stands for it
   pub mixture_stands : (m : List Sector) → Mixture (facts registry.disk) m → Stands m s
-  mixture_stands m mixture = record { blobs = (registry.root, registry.entries, at.blobs.stands m mixture); libraries = at.libraries }
+  mixture_stands m mixture = record { stored = (registry.root, registry.entries, at.stored.stands m mixture); libraries = at.libraries }
 
   module _ (holds : IsTrue (facts registry.disk).honest → HoldsNow (facts registry.disk)) where
-    now_stands : sectors.StandsBy (facts registry.disk).now registry.root registry.entries (stored s)
-    now_stands = at.blobs.stands (facts registry.disk).now (holds at.blobs.honest)
+    now_stands : sectors.StandsBy (facts registry.disk).now registry.root registry.entries s
+    now_stands = at.stored.stands (facts registry.disk).now (holds at.stored.honest)
 
     -- the root's number of sectors is the disk's
     pub same_sectors : registry.root.sectors ≡ (facts registry.disk).sectors
-    same_sectors = now_stands.intact.size ∙ (holds at.blobs.honest).size
+    same_sectors = now_stands.intact.size ∙ (holds at.stored.honest).size
 
     root_fits : RootHasSpelling registry.root
     root_fits = current_fits (sector (facts registry.disk).now 0) (sector (facts registry.disk).now 1) registry.root now_stands.intact.current
 
-    pub count_is : length registry.entries ≡ length (stored s).blobs
-    count_is = queries.count_is facts registry (stored s) holds at.blobs
+    pub count_is : length registry.entries ≡ length s.libraries
+    count_is = queries.count_is facts registry s holds at.stored
 
-    preloads_are : s.preloads ≡ names_at (stored s).blobs (listed_preloads registry.root)
-    preloads_are = queries.preloads_are facts registry (stored s) holds at.blobs
+    preloads_are : s.preloads ≡ names_at s.libraries (listed_preloads registry.root)
+    preloads_are = queries.preloads_are facts registry s holds at.stored
 
     count_libraries : length s.libraries ≡ length registry.entries
-    count_libraries = sym (length-map s.libraries blob_of) ∙ sym count_is
+    count_libraries = sym count_is
 
     library_name_is : (i : ℕ) (d : Library) → i < length s.libraries → (get_or s.libraries i d).name ≡ name_of (get_or registry.entries i no_entry).entry
     library_name_is i d lt =
-        ap (λ blob. blob.name) (sym (get_or-map blob_of s.libraries i d no_blob lt))
-        ∙ sym (queries.name_is facts registry (stored s) holds at.blobs i no_entry (omega (arith, lt, count_libraries)))
+        ap (λ (l : Library). l.name) (get_or_default s.libraries i d no_library lt)
+        ∙ sym (queries.name_is facts registry s holds at.stored i no_entry (omega (arith, lt, count_libraries)))
 
-    preload_inside : (k : ℕ) → k < length (listed_preloads registry.root) → get_or (listed_preloads registry.root) k 0 < length (stored s).blobs
+    preload_inside : (k : ℕ) → k < length (listed_preloads registry.root) → get_or (listed_preloads registry.root) k 0 < length s.libraries
     preload_inside k lt = omega (arith, root_fits.preloads.listed.used k 0 lt, listed_count registry.root registry.entries root_fits now_stands.intact.listed.sectors, count_is)
 
-    preloads_inside : All (λ p. p < length (stored s).blobs) (listed_preloads registry.root)
+    preloads_inside : All (λ p. p < length s.libraries) (listed_preloads registry.root)
     preloads_inside k d lt = omega (arith, root_fits.preloads.listed.used k d lt, listed_count registry.root registry.entries root_fits now_stands.intact.listed.sectors, count_is)
 
     -- a position is that of a preload where its name is that of one
-    pub same_preload_name : (name : List ℕ) (position : ℕ) → ((p : ℕ) → (position ≡ p) ↔ ((p < length (stored s).blobs) × ((get_or (stored s).blobs p no_blob).name ≡ name)))
+    pub same_preload_name : (name : List ℕ) (position : ℕ) → ((p : ℕ) → (position ≡ p) ↔ ((p < length s.libraries) × ((get_or s.libraries p no_library).name ≡ name)))
         → list_any (λ p. p == position) (listed_preloads registry.root) ≡ has_name s.preloads name
     same_preload_name name position at_name = same_preload s name position (listed_preloads registry.root) preloads_inside at_name ∙ ap (λ ns. has_name ns name) (sym preloads_are)
 
     length_preloads : length s.preloads ≡ length (listed_preloads registry.root)
-    length_preloads = ap length preloads_are ∙ length-map (listed_preloads registry.root) (λ i. (get_or (stored s).blobs i no_blob).name)
+    length_preloads = ap length preloads_are ∙ length-map (listed_preloads registry.root) (λ i. (get_or s.libraries i no_library).name)
 
-    preload_is : (k : ℕ) (d : List ℕ) → k < length (listed_preloads registry.root) → get_or s.preloads k d ≡ (get_or (stored s).blobs (get_or (listed_preloads registry.root) k 0) no_blob).name
-    preload_is k d lt = ap (λ ns. get_or ns k d) preloads_are ∙ get_or-map (λ i. (get_or (stored s).blobs i no_blob).name) (listed_preloads registry.root) k 0 d lt
+    preload_is : (k : ℕ) (d : List ℕ) → k < length (listed_preloads registry.root) → get_or s.preloads k d ≡ (get_or s.libraries (get_or (listed_preloads registry.root) k 0) no_library).name
+    preload_is k d lt = ap (λ ns. get_or ns k d) preloads_are ∙ get_or-map (λ i. (get_or s.libraries i no_library).name) (listed_preloads registry.root) k 0 d lt
 
     -- What a registry on a disk is at is a state as the commands have it.
     pub is_state : IsState s
@@ -116,13 +92,13 @@ module _ {D : Type 0} (facts : D → DiskFacts) (registry : opened.Opened D) (s 
         length-listed : length (listed_preloads registry.root) ≡ registry.root.preload_count
         length-listed = length-take-le registry.root.preload_count registry.root.preloads (omega (arith, root_fits.preloads.listed.room, root_fits.preloads.listed.size))
 
-        one_position : (p q : ℕ) → p < length (stored s).blobs → q < length (stored s).blobs → (get_or (stored s).blobs p no_blob).name ≡ (get_or (stored s).blobs q no_blob).name → p ≡ q
+        one_position : (p q : ℕ) → p < length s.libraries → q < length s.libraries → (get_or s.libraries p no_library).name ≡ (get_or s.libraries q no_library).name → p ≡ q
         one_position p q p_lt q_lt same =
             let own = now_stands.intact.names in
             let p_in : p < length registry.entries = omega (arith, p_lt, count_is) in
             let q_in : q < length registry.entries = omega (arith, q_lt, count_is) in
             let named : name_of (get_or registry.entries p no_entry).entry ≡ name_of (get_or registry.entries q no_entry).entry =
-            queries.name_is facts registry (stored s) holds at.blobs p no_entry p_in ∙ same ∙ sym (queries.name_is facts registry (stored s) holds at.blobs q no_entry q_in) in
+            queries.name_is facts registry s holds at.stored p no_entry p_in ∙ same ∙ sym (queries.name_is facts registry s holds at.stored q no_entry q_in) in
             ⊎_elim
             (λ before. absurd (own p q no_entry before q_in named))
             (λ le. ⊎_elim

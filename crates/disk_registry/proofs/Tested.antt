@@ -7,15 +7,14 @@ use Rattle.elf_file.specs.FirstOf.{◌when◌, first_of}
 use Rattle.store.specs.Step.{refusal_of_change}
 use Rattle.store.specs.declared.refusal.StoreRefusal.{StoreRefusal}
 use Rattle.store.specs.declared.refusal.StoreRefusal.TheVariants as e
-use Rattle.registry.specs.Limits.{most_preloads, last_generation}
-use Rattle.registry.specs.State.{State, has_name}
+use Rattle.states.specs.Limits.{most_preloads, last_generation}
+use Rattle.states.specs.State.{State, has_name}
 use Rattle.registry.specs.Phase.{Phase, table_of}
 use Rattle.registry.specs.Request.{remove, set_preloads}
 use Rattle.registry.specs.Step.{refusal_at}
 use Rattle.registry.specs.Tests.{is_installed, is_last, has_repeat}
 use Rattle.registry.specs.declared.refusal.Refusal.{Refusal}
 use Rattle.registry.specs.declared.refusal.Refusal.TheVariants.{NotInstalled, InPreloads, RepeatedPreload, TooManyPreloads, GenerationEnd}
-use Rattle.disk_registry.specs.Stands.{stored}
 use Rattle.disk_registry.specs.Refusals.{refusal_of}
 
 -- the last of several tests
@@ -57,7 +56,7 @@ module _ (p : Phase) (names : List (List ℕ)) where
   preloads_tested few once there = (λ i. preloads_by (few i) (once i) (there i)) ∙ last_test GenerationEnd (is_last (table_of p))
 
 -- the test of the generation, in the store's words
-pub last_change : (p : Phase) → (GenerationEnd when is_last (table_of p)) ≡ option_map refusal_of (refusal_of_change (stored p.state))
+pub last_change : (p : Phase) → (GenerationEnd when is_last (table_of p)) ≡ option_map refusal_of (refusal_of_change p.state)
 last_change p = by (p.state.generation == last_generation)
   where
     by : (b : Bool) → (GenerationEnd when b) ≡ option_map refusal_of (cond b (Some e.GenerationEnd) None)
@@ -65,7 +64,7 @@ last_change p = by (p.state.generation == last_generation)
     by false = refl
 
 -- it is no failure of a device
-pub change_deviceless : (s : State) → refusal_of_change (stored s) ≡ Some e.Device → ⊥
+pub change_deviceless : (s : State) → refusal_of_change s ≡ Some e.Device → ⊥
 change_deviceless s = by (s.generation == last_generation)
   where
     by : (b : Bool) → ◌≡◌ {A = Option StoreRefusal} (cond b (Some e.GenerationEnd) None) (Some e.Device) → ⊥

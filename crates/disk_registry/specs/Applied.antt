@@ -2,7 +2,7 @@
 use Rattle.std.specs.Prelude.{◌≡◌, ◌⊎◌, IsTrue, List, None}
 use Rattle.sector_disk.specs.Disk.{Sector, DiskFacts, LeavesOnly}
 use Rattle.store.specs.Opened.{Opened}
-use Rattle.registry.specs.State.{State}
+use Rattle.states.specs.State.{State}
 use Rattle.registry.specs.Request.{Request}
 use Rattle.registry.specs.Phase.{Phase}
 use Rattle.registry.specs.Step.{Step, accepted, refusal_at}

@@ -2,7 +2,7 @@
 use Rattle.std.specs.Prelude.{ℕ, ◌+◌, length}
 use Rattle.std.specs.Int.{div_ceil}
 use Rattle.sector_disk.specs.Disk.{sector_bytes}
-use Rattle.registry.specs.State.{State}
+use Rattle.states.specs.State.{State}
 use Rattle.registry.specs.Request.{Request, install, replace, remove, set_preloads, bind, list}
 use Rattle.registry.specs.declared.reply.Reply.{Reply}
 use Rattle.registry.specs.declared.reply.Reply.TheVariants.{Refused}

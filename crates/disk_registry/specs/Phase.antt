@@ -2,7 +2,7 @@
 use Rattle.sector_disk.specs.Disk.{DiskFacts}
 use Rattle.store.specs.Opened.{Opened}
 use Rattle.store.specs.Step.{longest_free}
-use Rattle.registry.specs.State.{State}
+use Rattle.states.specs.State.{State}
 use Rattle.registry.specs.Phase.{Phase}
 
 -- the phase of a registry at a state, in the words of the step table

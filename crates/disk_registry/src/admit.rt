@@ -1,13 +1,13 @@
 // The files that a store holds, admitted one after the other.
-ghost use Rattle.std.specs.Prelude.{◌≡◌, ◌⊎◌, ◌<◌, map, sum_by, true, false, All, IfOk, IfErr, OnOk};
+ghost use Rattle.std.specs.Prelude.{◌≡◌, ◌⊎◌, ◌<◌, sum_by, true, false, All, IfOk, IfErr, OnOk};
 ghost use Rattle.std.specs.Prelude.{length, slice_index_or};
 ghost use Rattle.sector_disk.specs.Disk.{AreCallsExactly};
 ghost use Rattle.store.specs.declared.placed_entry.PlacedEntry.{PlacedEntry};
 ghost use Rattle.store.specs.Opened.{IsAt};
-ghost use Rattle.store.specs.Stands.{no_blob};
-ghost use Rattle.store.specs.State.{State};
+ghost use Rattle.store.specs.Stands.{no_library};
+ghost use Rattle.states.specs.State.{State};
 ghost use Rattle.registry.specs.Library.{IsLibrary};
-ghost use Rattle.disk_registry.specs.Stands.{library_of, file_sectors};
+ghost use Rattle.disk_registry.specs.Stands.{file_sectors};
 ghost use Rattle.disk_registry.specs.inside.Reading.{IsRead, IsReadRefusal};
 
 use hash_check::{AdmittedFile, ReadRefusal};
@@ -61,10 +61,10 @@ fn admit_at<D: Disk>(
     requires { position < length store.old.entries }
     ensures read { IsRead D.facts store.old store.new }
     ensures ok { (s : State) → IsAt D.facts store.old s
-        → OnOk result (IsLibrary (library_of (slice_index_or s.blobs position no_blob))) }
+        → OnOk result (IsLibrary (slice_index_or s.libraries position no_library)) }
     ensures damaged { (s : State) → IsAt D.facts store.old s
         → IfErr result (λ e. e ≡ StoreRefusal.Damaged
-        → IsLibrary (library_of (slice_index_or s.blobs position no_blob)) → ⊥) }
+        → IsLibrary (slice_index_or s.libraries position no_library) → ⊥) }
     ensures refusals { IfErr result (IsReadRefusal D.facts store.old store.new) }
     ensures all_calls { (d : PlacedEntry) → OnOk result (AreCallsExactly
         (file_sectors (slice_index_or store.old.entries position d))
@@ -79,10 +79,10 @@ fn admit_at<D: Disk>(
 pub(crate) fn admit_files<D: Disk>(alloc: Global, store: &mut Store<D>) -> Result<(), StoreRefusal>
     ensures read { IsRead D.facts store.old store.new }
     ensures ok { (s : State) → IsAt D.facts store.old s
-        → OnOk result (All IsLibrary (map library_of s.blobs)) }
+        → OnOk result (All IsLibrary s.libraries) }
     ensures damaged { (s : State) → IsAt D.facts store.old s
         → IfErr result (λ e. e ≡ StoreRefusal.Damaged
-        → All IsLibrary (map library_of s.blobs) → ⊥) }
+        → All IsLibrary s.libraries → ⊥) }
     ensures refusals { IfErr result (IsReadRefusal D.facts store.old store.new) }
     ensures all_calls { OnOk result (AreCallsExactly (sum_by file_sectors store.old.entries)
         (D.facts store.old.disk) (D.facts store.new.disk)) }

@@ -21,7 +21,7 @@ impl<D: Disk> Registry<D> {
     ghost use Rattle.std.specs.Prelude.{◌≡◌, map, IfOk, OnErr};
     ghost use Rattle.sector_disk.specs.Disk.{AreCallsExactly};
     ghost use Rattle.registry.specs.Request.{request_of};
-    ghost use Rattle.registry.specs.State.{State};
+    ghost use Rattle.states.specs.State.{State};
     ghost use Rattle.disk_registry.specs.Answered.{Answered, AreAnswered};
     ghost use Rattle.disk_registry.specs.Applied.{Applies};
     ghost use Rattle.disk_registry.specs.Calls.{IfAccepted, calls_of};

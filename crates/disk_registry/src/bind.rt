@@ -28,7 +28,7 @@ impl<D: Disk> Registry<D> {
     ghost use Rattle.sector_disk.specs.Disk.{AreCalls, AreCallsExactly};
     ghost use Rattle.image.specs.Refusal.{program_refusal};
     ghost use Rattle.registry.specs.Request.{bind};
-    ghost use Rattle.registry.specs.State.{State};
+    ghost use Rattle.states.specs.State.{State};
     ghost use Rattle.registry.specs.Step.{Step};
     ghost use Rattle.disk_registry.specs.Answered.{IsBindAnswer, IsBindRefusal};
     ghost use Rattle.disk_registry.specs.Applied.{Applied};

@@ -4,9 +4,7 @@ use crate::refusal::refusal_of;
 use arrayvec::ArrayVec;
 use registry::{Refusal, are_too_many, has_repeat};
 use sector_disk::Disk;
-
-/// The most preloads.
-const MOST_PRELOADS: usize = 16;
+use states::MOST_PRELOADS;
 
 impl<D: Disk> Registry<D> {
     ghost use Rattle.std.specs.Prelude.{◌≡◌, ◌≢◌, ◌==◌, ◌<◌, ◌≤◌, ◌↔◌, true, not, map, length, All};
@@ -14,14 +12,14 @@ impl<D: Disk> Registry<D> {
     ghost use Rattle.std.specs.List.{list_any};
     ghost use Rattle.elf_file.specs.FirstOf.{◌when◌};
     ghost use Rattle.extents.specs.Extent.{AreDistinct};
-    ghost use Rattle.roots.specs.Limits.{most_preloads};
+    ghost use Rattle.states.specs.Limits.{most_preloads};
     ghost use Rattle.roots.specs.Root.{listed_preloads};
     ghost use Rattle.store.specs.Stands.{names_at};
     ghost use Rattle.store.specs.Step.{HasName, IsNoPreload};
     ghost use Rattle.registry.specs.Phase.{table_of};
     ghost use Rattle.store.specs.Changed.{Changed};
     ghost use Rattle.registry.specs.Request.{remove, set_preloads};
-    ghost use Rattle.registry.specs.State.{State};
+    ghost use Rattle.states.specs.State.{State};
     ghost use Rattle.registry.specs.Step.{Step, refusal_at, answer_of};
     ghost use Rattle.registry.specs.Tests.{has_repeat, is_installed, is_last};
     ghost use Rattle.registry.specs.declared.reply.Reply.TheVariants.{Refused};
@@ -29,7 +27,6 @@ impl<D: Disk> Registry<D> {
     ghost use Rattle.disk_registry.specs.Applied.{Applies};
     ghost use Rattle.disk_registry.specs.Opened.{IsAt};
     ghost use Rattle.disk_registry.specs.Phase.{phase_of};
-    ghost use Rattle.disk_registry.specs.Stands.{stored};
     ghost use Rattle.disk_registry.specs.inside.Named.{AreNamed};
 
     /// Whether the library at this position is a preload.
@@ -91,7 +88,7 @@ impl<D: Disk> Registry<D> {
             AreNamed self.now.entries positions.items (map (λ n. n.now) names.now)) }
         ensures state { (s : State) → IsAt D.facts self.now s
             → IfSome result (λ positions.
-            names_at (stored s).blobs positions.items ≡ map (λ n. n.now) names.now) }
+            names_at s.libraries positions.items ≡ map (λ n. n.now) names.now) }
         ensures lacking { (s : State) → IsAt D.facts self.now s
             → (IsNone result) ↔ (list_any (λ name. not (is_installed (table_of
             (phase_of D.facts self.now s)) name)) (map (λ n. n.now) names.now) ≡ true) }
@@ -120,7 +117,7 @@ impl<D: Disk> Registry<D> {
         ensures refusals { IfErr result IsPreloadsRefusal }
         ensures device { result ≢ Err Refusal.Device }
         ensures state { (s : State) → IsAt D.facts self.now s → IfOk result (λ positions.
-            names_at (stored s).blobs positions.items ≡ map (λ n. n.now) names.now) }
+            names_at s.libraries positions.items ≡ map (λ n. n.now) names.now) }
         ensures few { IfOk result (λ positions. length positions.items ≤ most_preloads) }
         ensures inside { IfOk result (λ positions.
             All (λ position. position < length self.now.entries) positions.items) }

@@ -8,9 +8,10 @@ impl<D: Disk> Registry<D> {
     ghost use Rattle.std.specs.Prelude.{◌≡◌, ◌≢◌, ◌<◌, ◌⊎◌, IsTrue, IsFalse, IfOk, IfErr, OnOk};
     ghost use Rattle.sector_disk.specs.Disk.{Mixture, LeavesOnly, AreCallsExactly, AreCallsAtMost};
     ghost use Rattle.store.specs.Opened.{disk_after};
-    ghost use Rattle.store.specs.Opening.{IsGeometry, HasRootMagic};
+    ghost use Rattle.store.specs.Opening.{HasRootMagic};
+    ghost use Rattle.states.specs.Geometry.{IsGeometry};
     ghost use Rattle.store.specs.Opening.{RefusesFormat, IsRefusalOfFormat};
-    ghost use Rattle.registry.specs.State.{empty_state};
+    ghost use Rattle.states.specs.State.{empty_state};
     ghost use Rattle.disk_registry.specs.Opened.{IsAt};
     ghost use Rattle.disk_registry.specs.Stands.{Stands};
 

@@ -21,7 +21,8 @@ pub(crate) struct LibraryFile {
 }
 
 impl Model for LibraryFile {
-    ghost use Rattle.registry.specs.Library.{Library, IsLibrary};
+    ghost use Rattle.registry.specs.Library.{IsLibrary};
+    ghost use Rattle.states.specs.State.{Library};
 
     ghost Value = { Library };
 

@@ -8,7 +8,7 @@ use std::alloc::AllocError;
 impl<D: Disk> Registry<D> {
     ghost use Rattle.std.specs.Prelude.{◌≡◌, ◌↔◌, map, IfOk, IsTrue};
     ghost use Rattle.registry.specs.Request.{list};
-    ghost use Rattle.registry.specs.State.{State};
+    ghost use Rattle.states.specs.State.{State};
     ghost use Rattle.registry.specs.Table.{entry_of, listed};
     ghost use Rattle.disk_registry.specs.Answered.{IsListAnswer};
     ghost use Rattle.disk_registry.specs.Applied.{Applies};

@@ -3,7 +3,7 @@ ghost use Rattle.std.specs.Prelude.{◌≡◌, map, sum_by, IfOk, IfErr};
 ghost use Rattle.sector_disk.specs.Disk.{AreCallsExactly};
 ghost use Rattle.scope.specs.LoadOrder.{available, load_order, missing};
 ghost use Rattle.registry.specs.Binding.{object_of, objects, preload_numbers};
-ghost use Rattle.registry.specs.State.{State};
+ghost use Rattle.states.specs.State.{State};
 ghost use Rattle.disk_registry.specs.Opened.{IsAt};
 ghost use Rattle.disk_registry.specs.Binding.{data_sectors};
 ghost use Rattle.disk_registry.specs.inside.Reading.{IsRead, IsReadRefusal};

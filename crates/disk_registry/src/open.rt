@@ -10,8 +10,9 @@ impl<D: Disk> Registry<D> {
     ghost use Rattle.std.specs.Prelude.{MatchResult, length, sum_by};
     ghost use Rattle.sector_disk.specs.Disk.{Mixture, LeavesOnly, AreCalls, AreCallsExactly};
     ghost use Rattle.store.specs.Opened.{disk_after};
-    ghost use Rattle.store.specs.Opening.{IsGeometry, IsRefusalOfOpen, RefusesOpen};
-    ghost use Rattle.registry.specs.State.{State};
+    ghost use Rattle.store.specs.Opening.{IsRefusalOfOpen, RefusesOpen};
+    ghost use Rattle.states.specs.Geometry.{IsGeometry};
+    ghost use Rattle.states.specs.State.{State};
     ghost use Rattle.disk_registry.specs.Opened.{IsAt};
     ghost use Rattle.disk_registry.specs.Stands.{Stands, file_sectors};
 

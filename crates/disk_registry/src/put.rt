@@ -10,7 +10,7 @@ impl<D: Disk> Registry<D> {
     ghost use Rattle.sector_disk.specs.Disk.{sector_bytes};
     ghost use Rattle.store.specs.Changed.{Changed};
     ghost use Rattle.registry.specs.Request.{install, replace};
-    ghost use Rattle.registry.specs.State.{State};
+    ghost use Rattle.states.specs.State.{State};
     ghost use Rattle.registry.specs.Step.{answer_of};
     ghost use Rattle.disk_registry.specs.Answered.{IsInstallRefusal, IsReplaceRefusal};
     ghost use Rattle.disk_registry.specs.Applied.{Applies};

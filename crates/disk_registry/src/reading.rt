@@ -2,11 +2,10 @@
 ghost use Rattle.std.specs.Prelude.{◌≡◌, ◌<◌, length, slice_index_or, IfOk, IfErr};
 ghost use Rattle.sector_disk.specs.Disk.{AreCallsExactly};
 ghost use Rattle.store.specs.Opened.{IsAt};
-ghost use Rattle.store.specs.Stands.{no_blob};
-ghost use Rattle.store.specs.State.{State};
+ghost use Rattle.store.specs.Stands.{no_library};
+ghost use Rattle.states.specs.State.{State};
 ghost use Rattle.registry.specs.Library.{IsLibrary};
 ghost use Rattle.disk_registry.specs.Binding.{data_sectors};
-ghost use Rattle.disk_registry.specs.Stands.{library_of};
 ghost use Rattle.disk_registry.specs.inside.Reading.{IsRead, IsReadRefusal};
 
 use crate::library_file::LibraryFile;
@@ -23,10 +22,10 @@ pub(crate) fn read_library<D: Disk>(
     requires { position < length store.old.entries }
     ensures read { IsRead D.facts store.old store.new }
     ensures ok { (s : State) → IsAt D.facts store.old s → IfOk result (λ file.
-        file ≡ library_of (slice_index_or s.blobs position no_blob)) }
+        file ≡ slice_index_or s.libraries position no_library) }
     ensures damaged { (s : State) → IsAt D.facts store.old s
         → IfErr result (λ e. e ≡ StoreRefusal.Damaged
-        → IsLibrary (library_of (slice_index_or s.blobs position no_blob)) → ⊥) }
+        → IsLibrary (slice_index_or s.libraries position no_library) → ⊥) }
     ensures refusals { IfErr result (IsReadRefusal D.facts store.old store.new) }
     ensures all_calls { IfOk result (λ file. AreCallsExactly (data_sectors file.bytes)
         (D.facts store.old.disk) (D.facts store.new.disk)) }

@@ -5,7 +5,7 @@ ghost use Rattle.std.specs.Prelude.{All, IfOk, IfErr, OnOk};
 ghost use Rattle.std.specs.List.{IsDistinct};
 ghost use Rattle.roots.specs.Root.{listed_preloads};
 ghost use Rattle.store.specs.Opened.{Opened};
-ghost use Rattle.registry.specs.State.{State};
+ghost use Rattle.states.specs.State.{State};
 ghost use Rattle.disk_registry.specs.Opened.{IsAt};
 ghost use Rattle.disk_registry.specs.inside.Reading.{IsRead, IsReadRefusal};
 ghost use Rattle.disk_registry.specs.inside.Walked.{ArePlaces, IsWalked};

@@ -5,7 +5,7 @@ use Rattle.std.specs.List.{list_any}
 use Rattle.std.proofs.lemmas.Slice.Eq.{bytes_eq-Decides}
 use Rattle.std.proofs.lemmas.List.Elements.{All-nil, All-cons}
 use Rattle.std.proofs.lemmas.List.Kept.{AllPairs-cons}
-use Rattle.registry.specs.State.{has_name}
+use Rattle.states.specs.State.{has_name}
 use Rattle.registry.specs.Tests.{has_repeat}
 
 -- a test of what each points to

@@ -16,7 +16,8 @@ use Rattle.hash_check.specs.FileRefusal.{first_file_refusal, file_tests, ReadNee
 use Rattle.hash_check.specs.Soname.{has_bad_soname, is_library_name}
 use Rattle.hash_check.specs.declared.file_refusal.FileRefusal.{FileRefusal}
 use Rattle.hash_check.specs.declared.file_refusal.FileRefusal.TheVariants.{Object, BadHashTable}
-use Rattle.registry.specs.Library.{Library, IsLibrary, library_tests, library_refusal, name_of}
+use Rattle.registry.specs.Library.{IsLibrary, library_tests, library_refusal, name_of}
+use Rattle.states.specs.State.{Library}
 
 map_none : {A B : Type 0} (f : A → B) (o : Option A) → option_map f o ≡ None → o ≡ None
 map_none f None h = refl

@@ -8,8 +8,7 @@ use Rattle.image.specs.Image.{MemoryImage, image_of}
 use Rattle.image.specs.Refusal.{bind_refusal}
 use Rattle.image.specs.declared.refusal.BindRefusal.{BindRefusal}
 use Rattle.image.specs.declared.refusal.BindRefusal.TheVariants as bind
-use Rattle.registry.specs.Library.{Library}
-use Rattle.registry.specs.State.{State, names_of}
+use Rattle.states.specs.State.{Library, State, names_of}
 use Rattle.registry.specs.declared.refusal.Refusal.{Refusal}
 use Rattle.registry.specs.declared.refusal.Refusal.TheVariants.{Bind, OutOfMemory}
 

@@ -1,4 +1,3 @@
-pub mod Limits
 pub mod Library
 pub mod Reading
 pub mod State

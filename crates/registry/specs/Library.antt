@@ -7,11 +7,7 @@ use Rattle.hash_check.specs.FileRefusal.{first_file_refusal}
 use Rattle.hash_check.specs.Soname.{has_bad_soname}
 use Rattle.hash_check.specs.declared.file_refusal.FileRefusal.{FileRefusal}
 use Rattle.hash_check.specs.declared.file_refusal.FileRefusal.TheVariants.{Object}
-
--- a library: its name, and the bytes of its file
-pub record Library : Type 0 where
-  pub name : List ℕ
-  pub bytes : List ℕ
+use Rattle.states.specs.State.{Library}
 
 -- the tests of a file as a library: those of its object, those of admission, and then E33, that of its name
 abbrev pub library_tests : List ℕ → List (Option FileRefusal)

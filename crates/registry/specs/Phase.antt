@@ -1,6 +1,7 @@
 -- Where a registry stands between two commands (own).
 use Rattle.std.specs.Prelude.{ℕ, Bool}
-use Rattle.registry.specs.State.{State, free, names_of}
+use Rattle.states.specs.State.{State, names_of}
+use Rattle.states.specs.Cost.{free}
 use Rattle.registry.specs.Table.{Table}
 
 -- what contracts see of a registry: its state, and what is known of its disk

@@ -1,12 +1,13 @@
 -- What a command does (own).
-use Rattle.std.specs.Prelude.{Result, Ok, Err, ◌≡◌, ◌<◌, ℕ, ◌+◌, List, [], ◌∷◌, ◌++◌, Option, Some, None, ◌⊎◌, IsTrue, IsFalse, Bool, true, false, if◌then◌else◌, bytes_eq}
+use Rattle.std.specs.Prelude.{Result, Ok, Err, ◌≡◌, ◌<◌, ℕ, List, Option, Some, None, ◌⊎◌, IsTrue, IsFalse, Bool, true, false}
 use Rattle.std.specs.Option.{option_map}
 use Rattle.hash_check.specs.FileRefusal.{ReadNeedsMemory}
 use Rattle.image.specs.Byte.{byte_of}
 use Rattle.image.specs.Image.{image_byte}
 use Rattle.image.specs.Refusal.{program_refusal}
-use Rattle.registry.specs.Library.{Library, name_of}
-use Rattle.registry.specs.State.{State}
+use Rattle.registry.specs.Library.{name_of}
+use Rattle.states.specs.State.{State}
+use Rattle.states.specs.Changes.{with_new, with_bytes, without, with_preloads}
 use Rattle.registry.specs.Table.{listed}
 use Rattle.registry.specs.Request.{Request, install, replace, remove, set_preloads, bind, list}
 use Rattle.registry.specs.Tests.{first_refusal}
@@ -18,26 +19,12 @@ use Rattle.registry.specs.declared.reply.Reply.{Reply}
 use Rattle.registry.specs.declared.reply.Reply.TheVariants.{Done, Refused}
 use Rattle.registry.specs.declared.reply.Reply.TheVariants as reply
 
--- the libraries with these bytes in the place of those under the name
-abbrev pub with_bytes : List ℕ → List ℕ → List Library → List Library
-with_bytes name bytes [] = []
-with_bytes name bytes (l ∷ ls) = if bytes_eq name l.name then record { name = l.name; bytes = bytes } ∷ ls else l ∷ with_bytes name bytes ls
-
--- the libraries without the one of this name
-abbrev pub without : List ℕ → List Library → List Library
-without name [] = []
-without name (l ∷ ls) = if bytes_eq name l.name then ls else l ∷ without name ls
-
--- the next state, with these libraries and preloads
-abbrev pub next : State → List Library → List (List ℕ) → State
-next s libraries preloads = record { generation = s.generation + 1; libraries = libraries; preloads = preloads }
-
 -- the state after a command is accepted
 abbrev pub accepted : State → Request → State
-accepted s (install bytes) = next s (s.libraries ++ record { name = name_of bytes; bytes = bytes } ∷ []) s.preloads
-accepted s (replace bytes) = next s (with_bytes (name_of bytes) bytes s.libraries) s.preloads
-accepted s (remove name) = next s (without name s.libraries) s.preloads
-accepted s (set_preloads names) = next s s.libraries names
+accepted s (install bytes) = with_new (name_of bytes) bytes s
+accepted s (replace bytes) = with_bytes (name_of bytes) bytes s
+accepted s (remove name) = without name s
+accepted s (set_preloads names) = with_preloads names s
 accepted s (bind program base) = s
 accepted s list = s
 

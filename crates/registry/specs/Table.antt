@@ -1,7 +1,6 @@
 -- What is told of a state without a byte of its files, and all that the tests of a command read.
 use Rattle.std.specs.Prelude.{ℕ, List, map, length}
-use Rattle.registry.specs.Library.{Library}
-use Rattle.registry.specs.State.{State}
+use Rattle.states.specs.State.{Library, State}
 
 -- what is told of a library: its name, and its length in bytes
 abbrev pub entry_of : Library → List ℕ × ℕ

@@ -3,9 +3,10 @@ use Rattle.std.specs.Prelude.{ℕ, ◌-◌, ◌==◌, ◌||◌, List, [], ◌∷
 use Rattle.std.specs.List.{list_any}
 use Rattle.std.specs.Option.{option_map}
 use Rattle.elf_file.specs.FirstOf.{◌when◌, first_of}
-use Rattle.registry.specs.Limits.{most_libraries, most_preloads, last_generation}
+use Rattle.states.specs.Limits.{most_libraries, most_preloads, last_generation}
 use Rattle.registry.specs.Library.{library_refusal, name_of}
-use Rattle.registry.specs.State.{has_name, cost}
+use Rattle.states.specs.State.{has_name}
+use Rattle.states.specs.Cost.{cost}
 use Rattle.registry.specs.Table.{Table}
 use Rattle.registry.specs.Request.{Request, install, replace, remove, set_preloads, bind, list}
 use Rattle.registry.specs.declared.refusal.Refusal.{Refusal}
@@ -74,7 +75,7 @@ preload_tests t names =
     ∷ (GenerationEnd when is_last t)
     ∷ []
 
--- the tests of a command that read no file; none refuses a bind or a listing
+-- the tests of a command: of the files, they read the one that is put alone; none refuses a bind or a listing
 abbrev pub tests_of : Table → Request → List (Option Refusal)
 tests_of t (install bytes) = install_tests t bytes
 tests_of t (replace bytes) = replace_tests t bytes

@@ -2,12 +2,11 @@
 
 ghost use Rattle.std.specs.Prelude.{◌≡◌, map, length, bytes_eq, nat_lt};
 ghost use Rattle.std.specs.List.{list_any};
-ghost use Rattle.registry.specs.Limits.{most_preloads};
-ghost use Rattle.registry.specs.State.{has_name};
+ghost use Rattle.states.specs.Limits.{most_preloads};
+ghost use Rattle.states.specs.State.{has_name};
 ghost use Rattle.registry.specs.Tests.{has_repeat};
 
-/// The most preloads.
-const MOST_PRELOADS: usize = 16;
+use states::MOST_PRELOADS;
 
 /// Whether one of the names is this one.
 fn is_among(name: &[u8], names: &[&[u8]]) -> bool

@@ -1,10 +1,6 @@
--- The limits of what root, catalogue and entry sectors say, beside those that free sectors have too.
+-- The limits of what root, catalogue and entry sectors say, beside those that free sectors and states have too.
 use Rattle.std.specs.Prelude.{ℕ}
 use Rattle.std.specs.Int.{div_ceil}
-
--- the least sectors that a disk has
-abbrev pub least_sectors : ℕ
-least_sectors = 8
 
 -- the most libraries that a root counts: one of version 2
 abbrev pub most_libraries : ℕ
@@ -17,10 +13,6 @@ most_root_entries = 100
 -- the most catalogues that a root of version 2 lists
 abbrev pub most_catalogues : ℕ
 most_catalogues = 32
-
--- the most preloads that a root lists
-abbrev pub most_preloads : ℕ
-most_preloads = 16
 
 -- the most entries that a catalogue lists
 abbrev pub most_catalogue_entries : ℕ

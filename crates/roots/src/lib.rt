@@ -28,8 +28,8 @@ pub use entry::Entry;
 pub use entry_list::EntryList;
 pub use entry_sector::{decode_entry, encode_entry};
 pub use limits::{
-    LEAST_FILE_BYTES, LEAST_SECTORS, MOST_CATALOGUE_ENTRIES, MOST_CATALOGUES, MOST_FILE_BYTES,
-    MOST_LIBRARIES, MOST_NAME_BYTES, MOST_PRELOADS, MOST_ROOT_ENTRIES, catalogues_for,
+    LEAST_FILE_BYTES, MOST_CATALOGUE_ENTRIES, MOST_CATALOGUES, MOST_FILE_BYTES, MOST_LIBRARIES,
+    MOST_NAME_BYTES, MOST_ROOT_ENTRIES, catalogues_for,
 };
 pub use root::Root;
 pub use root_sector::{decode_root, encode_root};

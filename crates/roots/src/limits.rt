@@ -1,9 +1,6 @@
 ghost use Rattle.std.specs.Prelude.{◌≡◌};
 ghost use Rattle.roots.specs.Limits.{catalogues_for};
 
-/// The least sectors that a disk has.
-pub const LEAST_SECTORS: u32 = 8;
-
 /// The most libraries that a root counts: one of version 2.
 pub const MOST_LIBRARIES: usize = 2_048;
 
@@ -12,9 +9,6 @@ pub const MOST_ROOT_ENTRIES: usize = 100;
 
 /// The most catalogues that a root of version 2 lists.
 pub const MOST_CATALOGUES: usize = 32;
-
-/// The most preloads that a root lists.
-pub const MOST_PRELOADS: usize = 16;
 
 /// The most entries that a catalogue lists.
 pub const MOST_CATALOGUE_ENTRIES: usize = 64;

@@ -1,16 +1,16 @@
 //! What a root says.
 
 ghost use Rattle.std.specs.Prelude.{◌≡◌, ◌≤◌, ◌↔◌, IsTrue, length};
-ghost use Rattle.roots.specs.Limits.{most_root_entries, most_catalogues, most_preloads};
+ghost use Rattle.states.specs.Limits.{most_preloads};
+ghost use Rattle.roots.specs.Limits.{most_root_entries, most_catalogues};
 ghost use Rattle.roots.specs.Root.{RootHasSpelling, PreloadsFit, version_of};
 ghost use Rattle.roots.specs.Root.{root_over_entries, root_over_catalogues};
 ghost use Rattle.roots.specs.Root.{listed_sectors, listed_preloads};
 
 use crate::entry_list::EntryList;
-use crate::limits::{LEAST_SECTORS, MOST_PRELOADS};
 use crate::lists::{are_distinct, placed};
 use crate::version::Version;
-use extents::MOST_SECTORS;
+use states::{MOST_PRELOADS, is_geometry};
 
 /// The root of a registry, as one of the two root sectors has it. In a spelling the places past a
 /// count are zero.
@@ -113,7 +113,7 @@ impl Root {
     {
         // Each u64 is a generation: it is read here so that the proof knows that it is one.
         let _generation = self.generation;
-        (LEAST_SECTORS..=MOST_SECTORS).contains(&self.sectors)
+        is_geometry(self.sectors)
             && self.preloads_fit()
             && self.list.fits(self.library_count, self.sectors)
     }

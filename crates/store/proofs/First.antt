@@ -10,8 +10,9 @@ use Rattle.roots.specs.Slot.{IsSlotOf}
 use Rattle.roots.specs.Root.{root_bytes, RootHasSpelling, HasMagic, LacksMagic}
 use Rattle.roots.proofs.Roots.{spelt_has_magic}
 use Rattle.roots.proofs.RootLemmas.{root_over_entries-has_spelling, listed_sectors-root_over_entries}
-use Rattle.store.specs.Opening.{IsGeometry}
-use Rattle.store.specs.State.{empty_state}
+use Rattle.states.specs.Geometry.{IsGeometry}
+use Rattle.states.specs.State.{empty_state}
+use Rattle.states.proofs.Sizes.{in_range}
 use Rattle.store.specs.Stands.{Lists, StandsBy, Stands}
 use Rattle.extents.proofs.UsedLemmas.{claims-new}
 use Rattle.store.specs.inside.Kept.{IsKept}
@@ -20,7 +21,7 @@ use Rattle.store.specs.inside.First.{first_root}
 pub first_fits : (sectors : ℕ) → IsGeometry sectors → RootHasSpelling (first_root sectors)
 first_fits sectors geometry = root_over_entries-has_spelling 0 sectors [] [] (record {
   generation_fits = omega arith;
-  sectors_fit = geometry;
+  sectors_fit = in_range sectors geometry;
   few_entries = omega arith;
   few_preloads = omega arith;
   entries_inside = λ k d lt. absurd (omega (arith, lt));
@@ -37,7 +38,7 @@ pub first_stands : (m : List Sector) (sectors : ℕ) → IsGeometry sectors → 
 first_stands m sectors geometry size lacks = record {
   intact = record {
     current = inl (
-      record { has_spelling = first_fits sectors geometry; spelling = get_or-set_same m 0 (root_bytes (first_root sectors)) [] (omega (arith, geometry, size)) },
+      record { has_spelling = first_fits sectors geometry; spelling = get_or-set_same m 0 (root_bytes (first_root sectors)) [] (omega (arith, in_range sectors geometry, size)) },
       refl,
       subst LacksMagic (sym (get_or-set_other m 0 1 (root_bytes (first_root sectors)) [] (omega arith))) lacks,
     );

@@ -12,8 +12,8 @@ use Rattle.roots.specs.Choice.{slot_of}
 use Rattle.roots.specs.Entry.{SpellsEntry, extents_of}
 use Rattle.roots.proofs.RootLemmas.{root_over_entries-has_spelling, listed_sectors-root_over_entries, listed_preloads-root_over_entries}
 use Rattle.store.specs.declared.placed_entry.PlacedEntry.{PlacedEntry}
-use Rattle.store.specs.State.{State}
-use Rattle.store.specs.Stands.{UsesApart, StandsBy, Lists, entry_sectors, used, blob_of, names_at}
+use Rattle.states.specs.State.{State}
+use Rattle.store.specs.Stands.{UsesApart, StandsBy, Lists, entry_sectors, used, library_of, names_at}
 use Rattle.store.specs.inside.Claimed.{IsUsable}
 use Rattle.store.specs.inside.Kept.{IsKept}
 use Rattle.store.specs.inside.Next.{IsNext}
@@ -74,7 +74,7 @@ module _ {root : Root} {others : List PlacedEntry} {preloads : List ℕ} {next :
   -- and sectors that spell the entries stand for them once it is written.
   pub following_stands : (m : List Sector) (entries : List PlacedEntry) (s s' : State) → StandsBy m root entries s
       → All (λ placed. SpellsEntry (sector m placed.at) placed.entry) others
-      → s' ≡ record { generation = root.generation + 1; blobs = map (blob_of m) others; preloads = names_at (map (blob_of m) others) preloads }
+      → s' ≡ record { generation = root.generation + 1; libraries = map (library_of m) others; preloads = names_at (map (library_of m) others) preloads }
       → StandsBy (set m (slot_of next.generation) (root_bytes next)) next others s'
   following_stands m entries s s' by spelt same =
       let size : root.sectors ≡ length m = by.intact.size in
@@ -83,4 +83,4 @@ module _ {root : Root} {others : List PlacedEntry} {preloads : List ℕ} {next :
       (record { sectors = next_listed; each = spelt })
       (subst (λ n. UsesApart n others) size is.apart)
       is.names
-      (same ∙ sym (λ i. record { generation = (is.is_next i).generation; blobs = map (blob_of m) others; preloads = names_at (map (blob_of m) others) (next_preloads i) }))
+      (same ∙ sym (λ i. record { generation = (is.is_next i).generation; libraries = map (library_of m) others; preloads = names_at (map (library_of m) others) (next_preloads i) }))

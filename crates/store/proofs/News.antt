@@ -23,9 +23,9 @@ use Rattle.roots.specs.declared.entry.Entry.{Entry}
 use Rattle.roots.specs.Root.{listed_preloads}
 use Rattle.roots.specs.Entry.{EntryHasSpelling, SpellsEntry}
 use Rattle.store.specs.declared.placed_entry.PlacedEntry.{PlacedEntry}
-use Rattle.store.specs.State.{Blob, State}
-use Rattle.store.specs.Stands.{HaveOwnNames, name_of, extents_of, sectors_of, used, blob_of, no_blob, names_at}
-use Rattle.store.specs.Step.{with_new}
+use Rattle.states.specs.State.{Library, State}
+use Rattle.store.specs.Stands.{HaveOwnNames, name_of, extents_of, sectors_of, used, library_of, no_library, names_at}
+use Rattle.states.specs.Changes.{with_new}
 use Rattle.store.specs.inside.Claimed.{IsUsable, IsClaimedBeside}
 use Rattle.store.specs.inside.Kept.{IsKept}
 use Rattle.store.specs.inside.Next.{IsNext}
@@ -95,15 +95,15 @@ names_more entries entry names new i j d lt fits =
     (λ last. subst (λ a. name_of a.entry ≢ name_of entry.entry) (sym (get_or_append_left entries (entry ∷ []) d i (omega (arith, lt, last)))) (new i d (omega (arith, lt, last))))
 
 -- positions among the first byte strings name the same with one more
-names_at_more : (blobs : List Blob) (blob : Blob) (positions : List ℕ) → All (λ position. position < length blobs) positions → names_at (blobs ++ blob ∷ []) positions ≡ names_at blobs positions
-names_at_more blobs blob [] inside = refl
-names_at_more blobs blob (p ∷ positions) inside =
-    let here : get_or (blobs ++ blob ∷ []) p no_blob ≡ get_or blobs p no_blob = get_or_append_left blobs (blob ∷ []) no_blob p (inside 0 0 (omega arith)) in
-    let there = names_at_more blobs blob positions (λ k d lt. inside (suc k) d (omega (arith, lt))) in
+names_at_more : (libraries : List Library) (library : Library) (positions : List ℕ) → All (λ position. position < length libraries) positions → names_at (libraries ++ library ∷ []) positions ≡ names_at libraries positions
+names_at_more libraries library [] inside = refl
+names_at_more libraries library (p ∷ positions) inside =
+    let here : get_or (libraries ++ library ∷ []) p no_library ≡ get_or libraries p no_library = get_or_append_left libraries (library ∷ []) no_library p (inside 0 0 (omega arith)) in
+    let there = names_at_more libraries library positions (λ k d lt. inside (suc k) d (omega (arith, lt))) in
     λ i. (here i).name ∷ there i
 
-pub length-blobs : (m : List Sector) (entries : List PlacedEntry) → length (map (blob_of m) entries) ≡ length entries
-length-blobs m entries = length-map entries (blob_of m)
+pub length-libraries : (m : List Sector) (entries : List PlacedEntry) → length (map (library_of m) entries) ≡ length entries
+length-libraries m entries = length-map entries (library_of m)
 
 -- bytes that were written into the sectors of an entry of their length are its byte string's
 pub written_bytes : (m : List Sector) (entry : Entry) (bytes : List ℕ) → bytes_at m (places (extents_of entry)) ≡ padded (sector_bytes * sector_count (extents_of entry)) bytes → entry.file_length ≡ length bytes → length bytes ≤ 512 * sector_count (extents_of entry) → take entry.file_length (bytes_at m (places (extents_of entry))) ≡ bytes
@@ -180,17 +180,17 @@ module _ {root : Root} {entries : List PlacedEntry} {layout new : List Bool} {ne
         (All-push (λ (p : PlacedEntry). SpellsEntry (sector m p.at) p.entry) entries put by.intact.listed.each (record { has_spelling = is_new.fits; spelling = spelt }))
         (ap (with_new name bytes) by.is ∙ (λ i. record {
           generation = root.generation + 1;
-          blobs = blobs m written i;
+          libraries = libraries m written i;
           preloads = preloads m i;
         }));
   }
     where
-      blobs : (m : List Sector) → bytes_at m (places (extents_of put.entry)) ≡ padded (sector_bytes * sector_count (extents_of put.entry)) bytes → map (blob_of m) entries ++ record { name = name; bytes = bytes } ∷ [] ≡ map (blob_of m) others
-      blobs m written =
-          let blob : record { name = name; bytes = bytes } ≡ blob_of m put = sym (λ i. record { name = its_name i; bytes = written_bytes m put.entry bytes written its_length enough i }) in
-          ap (λ b. map (blob_of m) entries ++ b ∷ []) blob ∙ sym (map_push (blob_of m) entries put)
+      libraries : (m : List Sector) → bytes_at m (places (extents_of put.entry)) ≡ padded (sector_bytes * sector_count (extents_of put.entry)) bytes → map (library_of m) entries ++ record { name = name; bytes = bytes } ∷ [] ≡ map (library_of m) others
+      libraries m written =
+          let library : record { name = name; bytes = bytes } ≡ library_of m put = sym (λ i. record { name = its_name i; bytes = written_bytes m put.entry bytes written its_length enough i }) in
+          ap (λ b. map (library_of m) entries ++ b ∷ []) library ∙ sym (map_push (library_of m) entries put)
 
-      preloads : (m : List Sector) → names_at (map (blob_of m) entries) (listed_preloads root) ≡ names_at (map (blob_of m) others) (listed_preloads root)
-      preloads m = sym (ap (λ l. names_at l (listed_preloads root)) (map_push (blob_of m) entries put)
-          ∙ names_at_more (map (blob_of m) entries) (blob_of m put) (listed_preloads root)
-          (λ k d lt. omega (arith, kept.root_fits.preloads.listed.used k d lt, length-blobs m entries, listed_count root entries kept.root_fits kept.listed)))
+      preloads : (m : List Sector) → names_at (map (library_of m) entries) (listed_preloads root) ≡ names_at (map (library_of m) others) (listed_preloads root)
+      preloads m = sym (ap (λ l. names_at l (listed_preloads root)) (map_push (library_of m) entries put)
+          ∙ names_at_more (map (library_of m) entries) (library_of m put) (listed_preloads root)
+          (λ k d lt. omega (arith, kept.root_fits.preloads.listed.used k d lt, length-libraries m entries, listed_count root entries kept.root_fits kept.listed)))

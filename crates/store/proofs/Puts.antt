@@ -12,10 +12,10 @@ use Rattle.roots.specs.Entry.{SpellsEntry}
 use Rattle.roots.specs.Choice.{KeepsVersion, IsCurrent, slot_of}
 use Rattle.roots.proofs.ChoiceLemmas.{current-next_odd, current-next_even}
 use Rattle.store.specs.declared.placed_entry.PlacedEntry.{PlacedEntry}
-use Rattle.store.specs.State.{State}
-use Rattle.store.specs.Stands.{IsListed, UsesApart, HaveOwnNames, StandsBy, Stands, blob_of, names_at, used, state_of}
+use Rattle.states.specs.State.{State}
+use Rattle.store.specs.Stands.{IsListed, UsesApart, HaveOwnNames, StandsBy, Stands, library_of, names_at, used, state_of}
 use Rattle.store.specs.inside.Next.{IsFollowed}
-use Rattle.store.proofs.UsedAlone.{same_used, blobs_same, own_used}
+use Rattle.store.proofs.UsedAlone.{same_used, libraries_same, own_used}
 
 module _ (m : List Sector) (root next : Root) (others : List PlacedEntry) (fits : RootHasSpelling next) (follows : next.generation ≡ root.generation + 1) (size : next.sectors ≡ length m) (some : root_sectors ≤ length m) (keeps : KeepsVersion root next) where
   abbrev slot : ℕ
@@ -67,14 +67,14 @@ module _ (m : List Sector) (root next : Root) (others : List PlacedEntry) (fits 
       apart = subst (λ n. UsesApart n others) (sym (length-set m slot (root_bytes next))) apart;
       names = names;
     };
-    is = is ∙ sym (λ i. record { generation = next.generation; blobs = blobs i; preloads = names_at (blobs i) (listed_preloads next) });
+    is = is ∙ sym (λ i. record { generation = next.generation; libraries = libraries i; preloads = names_at (libraries i) (listed_preloads next) });
   }
     where
       kept : (k : ℕ) → Contains (used others) k → sector after k ≡ sector m k
       kept k found = behind k (All-contains (λ n. (root_sectors ≤ n) × (n < length m)) (used others) k apart.inside found).0
 
-      blobs : map (blob_of after) others ≡ map (blob_of m) others
-      blobs = blobs_same m after others kept
+      libraries : map (library_of after) others ≡ map (library_of m) others
+      libraries = libraries_same m after others kept
 
 module _ {old mid : DiskFacts} (root : Root) (entries : List PlacedEntry) (s : State) (stands : (m : List Sector) → Mixture old m → StandsBy m root entries s) (changed : ℕ → Type 0) (behind : (k : ℕ) → changed k → root_sectors ≤ k) (unused : (k : ℕ) → changed k → Contains (used entries) k → ⊥) (staged : LeavesOnly old mid (IsMixtureBut changed old)) where
   abbrev IsOld : List Sector → Type 0

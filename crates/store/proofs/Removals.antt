@@ -14,9 +14,9 @@ use Rattle.roots.specs.declared.root.Root.{Root}
 use Rattle.store.specs.declared.placed_entry.PlacedEntry.{PlacedEntry}
 use Rattle.roots.specs.Root.{listed_preloads}
 use Rattle.roots.specs.Entry.{EntryHasSpelling, SpellsEntry}
-use Rattle.store.specs.State.{Blob, State}
-use Rattle.store.specs.Stands.{HaveOwnNames, name_of, sectors_of, used, blob_of, no_blob, names_at}
-use Rattle.store.specs.Step.{blobs_without, without}
+use Rattle.states.specs.State.{Library, State}
+use Rattle.store.specs.Stands.{HaveOwnNames, name_of, sectors_of, used, library_of, no_library, names_at}
+use Rattle.states.specs.Changes.{libraries_without, without}
 use Rattle.store.specs.inside.Claimed.{IsUsable}
 use Rattle.store.specs.inside.Kept.{IsKept}
 use Rattle.store.specs.inside.Next.{IsFollowed, IsNext, next_root, closed_up}
@@ -26,7 +26,7 @@ use Rattle.store.proofs.Claiming.{all-part}
 use Rattle.store.proofs.Following.{following_stands}
 use Rattle.store.proofs.Releases.{AreUsed}
 use Rattle.store.proofs.Frees.{if_no, if_yes}
-use Rattle.store.proofs.News.{length-blobs}
+use Rattle.store.proofs.News.{length-libraries}
 use Rattle.store.proofs.UsedAlone.{no_entry, listed_count, kept_few, preloads_few}
 use Rattle.store.proofs.Within.{entry_filled}
 
@@ -90,14 +90,14 @@ names_less entries gone fits names i j d lt inside =
 
 -- the byte strings without the first of a name are those without its position
 without_is : (m : List Sector) (name : List ℕ) (entries : List PlacedEntry) (gone : ℕ) → gone < length entries → ((k : ℕ) (d : PlacedEntry) → k < gone → name_of (get_or entries k d).entry ≢ name) → ((d : PlacedEntry) → name_of (get_or entries gone d).entry ≡ name)
-    → blobs_without name (map (blob_of m) entries) ≡ map (blob_of m) (remove entries gone)
+    → libraries_without name (map (library_of m) entries) ≡ map (library_of m) (remove entries gone)
 without_is m name [] gone fits before at = absurd (omega (arith, fits))
 without_is m name (e ∷ entries) zero fits before at =
     if_yes (bytes_eq name (name_of e.entry)) _ _ (λ isnt. false≢true (sym isnt ∙ (bytes_eq-Decides name (name_of e.entry)).1 (sym (at e))))
-    ∙ ap (map (blob_of m)) (sym (drop_none entries))
+    ∙ ap (map (library_of m)) (sym (drop_none entries))
 without_is m name (e ∷ entries) (suc gone) fits before at =
     if_no (bytes_eq name (name_of e.entry)) _ _ (λ is. before 0 e (omega arith) (sym ((bytes_eq-Decides name (name_of e.entry)).0 is)))
-    ∙ ap (λ l. blob_of m e ∷ l) (without_is m name entries gone (omega (arith, fits)) (λ k d lt. before (suc k) d (omega (arith, lt))) at)
+    ∙ ap (λ l. library_of m e ∷ l) (without_is m name entries gone (omega (arith, fits)) (λ k d lt. before (suc k) d (omega (arith, lt))) at)
 
 pub map_remove : {A B : Type 0} (f : A → B) (xs : List A) (gone : ℕ) → map f (remove xs gone) ≡ remove (map f xs) gone
 map_remove f [] zero = refl
@@ -109,11 +109,11 @@ all_remove : {A : Type 0} (P : A → Type 0) (xs : List A) (gone : ℕ) → All 
 all_remove P xs gone all = All-append P (take gone xs) (drop (suc gone) xs) (All-take P gone xs all) (All-drop P (suc gone) xs all)
 
 -- positions that close up name the same
-names_closed : (blobs : List Blob) (gone : ℕ) (positions : List ℕ) → gone < length blobs → All (λ position. position ≢ gone) positions → names_at (remove blobs gone) (map (closed_up gone) positions) ≡ names_at blobs positions
-names_closed blobs gone [] fits others = refl
-names_closed blobs gone (p ∷ positions) fits others =
-    let here = at_closed blobs gone p no_blob (others 0 0 (omega arith)) fits in
-    let there = names_closed blobs gone positions fits (λ k d lt. others (suc k) d (omega (arith, lt))) in
+names_closed : (libraries : List Library) (gone : ℕ) (positions : List ℕ) → gone < length libraries → All (λ position. position ≢ gone) positions → names_at (remove libraries gone) (map (closed_up gone) positions) ≡ names_at libraries positions
+names_closed libraries gone [] fits others = refl
+names_closed libraries gone (p ∷ positions) fits others =
+    let here = at_closed libraries gone p no_library (others 0 0 (omega arith)) fits in
+    let there = names_closed libraries gone positions fits (λ k d lt. others (suc k) d (omega (arith, lt))) in
     λ i. (here i).name ∷ there i
 
 -- The entry of a name goes, which is no preload's, and the next root lists the others.
@@ -198,14 +198,14 @@ module _ {root : Root} {entries : List PlacedEntry} {layout : List Bool} {name :
         (all_remove (λ (p : PlacedEntry). SpellsEntry (sector m p.at) p.entry) entries gone by.intact.listed.each)
         (ap (without name) by.is ∙ (λ i. record {
           generation = root.generation + 1;
-          blobs = blobs m i;
+          libraries = libraries m i;
           preloads = preloads m i;
         }));
   }
     where
-      blobs : (m : List Sector) → blobs_without name (map (blob_of m) entries) ≡ map (blob_of m) left
-      blobs m = without_is m name entries gone fits (λ k d lt same. kept.names k gone d lt fits (same ∙ sym (removal.named d))) removal.named
+      libraries : (m : List Sector) → libraries_without name (map (library_of m) entries) ≡ map (library_of m) left
+      libraries m = without_is m name entries gone fits (λ k d lt same. kept.names k gone d lt fits (same ∙ sym (removal.named d))) removal.named
 
-      preloads : (m : List Sector) → names_at (map (blob_of m) entries) (listed_preloads root) ≡ names_at (map (blob_of m) left) (map (closed_up gone) (listed_preloads root))
-      preloads m = sym (ap (λ l. names_at l (map (closed_up gone) (listed_preloads root))) (map_remove (blob_of m) entries gone)
-          ∙ names_closed (map (blob_of m) entries) gone (listed_preloads root) (omega (arith, fits, length-blobs m entries)) others)
+      preloads : (m : List Sector) → names_at (map (library_of m) entries) (listed_preloads root) ≡ names_at (map (library_of m) left) (map (closed_up gone) (listed_preloads root))
+      preloads m = sym (ap (λ l. names_at l (map (closed_up gone) (listed_preloads root))) (map_remove (library_of m) entries gone)
+          ∙ names_closed (map (library_of m) entries) gone (listed_preloads root) (omega (arith, fits, length-libraries m entries)) others)

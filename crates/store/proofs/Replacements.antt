@@ -14,9 +14,10 @@ use Rattle.roots.specs.declared.entry.Entry.{Entry}
 use Rattle.store.specs.declared.placed_entry.PlacedEntry.{PlacedEntry}
 use Rattle.roots.specs.Root.{listed_preloads}
 use Rattle.roots.specs.Entry.{EntryHasSpelling, SpellsEntry}
-use Rattle.store.specs.State.{State}
-use Rattle.store.specs.Stands.{HaveOwnNames, name_of, extents_of, sectors_of, used, blob_of, no_blob, names_at}
-use Rattle.store.specs.Step.{IsName, blobs_with, with_bytes}
+use Rattle.states.specs.State.{State}
+use Rattle.store.specs.Stands.{HaveOwnNames, name_of, extents_of, sectors_of, used, library_of, no_library, names_at}
+use Rattle.store.specs.Step.{IsName}
+use Rattle.states.specs.Changes.{libraries_with, with_bytes}
 use Rattle.store.specs.inside.Claimed.{IsUsable}
 use Rattle.store.specs.inside.Kept.{IsKept}
 use Rattle.store.specs.inside.Next.{IsNext, next_root}
@@ -61,27 +62,27 @@ names_with entries place entry fits same names i j d lt inside = λ equal.
     (sym (name_kept entries place i entry d fits same) ∙ equal ∙ name_kept entries place j entry d fits same)
 
 -- positions name the same,
-name_with : (m : List Sector) (entries : List PlacedEntry) (place : ℕ) (entry : PlacedEntry) (p : ℕ) → ((e : PlacedEntry) → name_of (get_or entries place e).entry ≡ name_of entry.entry) → (get_or (map (blob_of m) (set entries place entry)) p no_blob).name ≡ (get_or (map (blob_of m) entries) p no_blob).name
+name_with : (m : List Sector) (entries : List PlacedEntry) (place : ℕ) (entry : PlacedEntry) (p : ℕ) → ((e : PlacedEntry) → name_of (get_or entries place e).entry ≡ name_of entry.entry) → (get_or (map (library_of m) (set entries place entry)) p no_library).name ≡ (get_or (map (library_of m) entries) p no_library).name
 name_with m [] place entry p same = refl
 name_with m (e ∷ entries) zero entry zero same = sym (same e)
 name_with m (e ∷ entries) zero entry (suc p) same = refl
 name_with m (e ∷ entries) (suc place) entry zero same = refl
 name_with m (e ∷ entries) (suc place) entry (suc p) same = name_with m entries place entry p same
 
-names_at_with : (m : List Sector) (entries : List PlacedEntry) (place : ℕ) (entry : PlacedEntry) (positions : List ℕ) → ((e : PlacedEntry) → name_of (get_or entries place e).entry ≡ name_of entry.entry) → names_at (map (blob_of m) (set entries place entry)) positions ≡ names_at (map (blob_of m) entries) positions
+names_at_with : (m : List Sector) (entries : List PlacedEntry) (place : ℕ) (entry : PlacedEntry) (positions : List ℕ) → ((e : PlacedEntry) → name_of (get_or entries place e).entry ≡ name_of entry.entry) → names_at (map (library_of m) (set entries place entry)) positions ≡ names_at (map (library_of m) entries) positions
 names_at_with m entries place entry [] same = refl
 names_at_with m entries place entry (p ∷ positions) same = λ i. name_with m entries place entry p same i ∷ names_at_with m entries place entry positions same i
 
 -- and the byte strings are those with its bytes under the name
-blobs_with_is : (m : List Sector) (name bytes : List ℕ) (entries : List PlacedEntry) (place : ℕ) (entry : PlacedEntry) → place < length entries → ((k : ℕ) (d : PlacedEntry) → k < place → name_of (get_or entries k d).entry ≢ name) → ((d : PlacedEntry) → name_of (get_or entries place d).entry ≡ name) → record { name = name; bytes = bytes } ≡ blob_of m entry
-    → blobs_with name bytes (map (blob_of m) entries) ≡ map (blob_of m) (set entries place entry)
-blobs_with_is m name bytes [] place entry fits before at is = absurd (omega (arith, fits))
-blobs_with_is m name bytes (e ∷ entries) zero entry fits before at is =
+libraries_with_is : (m : List Sector) (name bytes : List ℕ) (entries : List PlacedEntry) (place : ℕ) (entry : PlacedEntry) → place < length entries → ((k : ℕ) (d : PlacedEntry) → k < place → name_of (get_or entries k d).entry ≢ name) → ((d : PlacedEntry) → name_of (get_or entries place d).entry ≡ name) → record { name = name; bytes = bytes } ≡ library_of m entry
+    → libraries_with name bytes (map (library_of m) entries) ≡ map (library_of m) (set entries place entry)
+libraries_with_is m name bytes [] place entry fits before at is = absurd (omega (arith, fits))
+libraries_with_is m name bytes (e ∷ entries) zero entry fits before at is =
     if_yes (bytes_eq name (name_of e.entry)) _ _ (λ isnt. false≢true (sym isnt ∙ (bytes_eq-Decides name (name_of e.entry)).1 (sym (at e))))
-    ∙ ap (λ b. b ∷ map (blob_of m) entries) is
-blobs_with_is m name bytes (e ∷ entries) (suc place) entry fits before at is =
+    ∙ ap (λ b. b ∷ map (library_of m) entries) is
+libraries_with_is m name bytes (e ∷ entries) (suc place) entry fits before at is =
     if_no (bytes_eq name (name_of e.entry)) _ _ (λ found. before 0 e (omega arith) (sym ((bytes_eq-Decides name (name_of e.entry)).0 found)))
-    ∙ ap (λ l. blob_of m e ∷ l) (blobs_with_is m name bytes entries place entry (omega (arith, fits)) (λ k d lt. before (suc k) d (omega (arith, lt))) at is)
+    ∙ ap (λ l. library_of m e ∷ l) (libraries_with_is m name bytes entries place entry (omega (arith, fits)) (λ k d lt. before (suc k) d (omega (arith, lt))) at is)
 
 -- The entry of a name gives its place to another of the name, in room that was claimed for it.
 pub record IsReplacement (root : Root) (entries : List PlacedEntry) (layout mid : List Bool) (name : List ℕ) (place need : ℕ) (put : PlacedEntry) (next : Root) : Type 0 where
@@ -162,11 +163,11 @@ module _ {root : Root} {entries : List PlacedEntry} {layout mid : List Bool} {na
         (All-set (λ (p : PlacedEntry). SpellsEntry (sector m p.at) p.entry) entries place put (record { has_spelling = is.fits; spelling = spelt }) by.intact.listed.each)
         (ap (with_bytes name bytes) by.is ∙ (λ i. record {
           generation = root.generation + 1;
-          blobs = blobs m written i;
+          libraries = libraries m written i;
           preloads = sym (names_at_with m entries place put (listed_preloads root) same_name) i;
         }));
   }
     where
-      blobs : (m : List Sector) → bytes_at m (places (extents_of put.entry)) ≡ padded (sector_bytes * sector_count (extents_of put.entry)) bytes → blobs_with name bytes (map (blob_of m) entries) ≡ map (blob_of m) others
-      blobs m written = blobs_with_is m name bytes entries place put is.inside (λ k d lt same. kept.names k place d lt is.inside (same ∙ sym (is.named d))) is.named
+      libraries : (m : List Sector) → bytes_at m (places (extents_of put.entry)) ≡ padded (sector_bytes * sector_count (extents_of put.entry)) bytes → libraries_with name bytes (map (library_of m) entries) ≡ map (library_of m) others
+      libraries m written = libraries_with_is m name bytes entries place put is.inside (λ k d lt same. kept.names k place d lt is.inside (same ∙ sym (is.named d))) is.named
           (sym (λ i. record { name = is.its_name i; bytes = written_bytes m put.entry bytes written its_length enough i }))

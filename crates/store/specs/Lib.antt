@@ -1,4 +1,3 @@
-pub mod State
 pub mod Stands
 pub mod Opened
 pub mod Changed

@@ -4,7 +4,7 @@ use Rattle.sector_disk.specs.Disk.{Sector, DiskFacts, Mixture}
 use Rattle.roots.specs.declared.root.Root.{Root}
 use Rattle.store.specs.declared.placed_entry.PlacedEntry.{PlacedEntry}
 use Rattle.store.specs.declared.refusal.StoreRefusal.{StoreRefusal}
-use Rattle.store.specs.State.{State}
+use Rattle.states.specs.State.{State}
 use Rattle.extents.specs.Used.{layout_of}
 use Rattle.store.specs.Stands.{StandsBy, used}
 

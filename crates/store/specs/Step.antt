@@ -1,9 +1,9 @@
--- A store's changes: the state that each makes, and its refusals in their order.
-use Rattle.std.specs.Prelude.{◌≡◌, ◌≢◌, ℕ, ◌+◌, ◌-◌, ◌<◌, ◌^◌, ◌==◌, ◌⊎◌, nat_lt, bytes_eq, List, [], ◌∷◌, ◌++◌, length, slice_index_or, All, Option, Some, None, Result, Ok, Err, if◌then◌else◌}
+-- The refusals of a store's changes, in their order.
+use Rattle.std.specs.Prelude.{◌≡◌, ◌≢◌, ℕ, ◌-◌, ◌<◌, ◌==◌, ◌⊎◌, nat_lt, List, length, slice_index_or, All, Option, Some, None, Result, Ok, Err, if◌then◌else◌}
 use Rattle.std.specs.Int.{IsInRange}
 use Rattle.extents.specs.Extent.{sector_count}
 use Rattle.extents.specs.Longest.{longest_runs}
-use Rattle.roots.specs.Limits.{least_file_bytes, most_file_bytes, most_name_bytes, most_root_entries}
+use Rattle.roots.specs.Limits.{least_file_bytes, most_file_bytes, most_name_bytes}
 use Rattle.roots.specs.Entry.{IsNameByte}
 use Rattle.roots.specs.Root.{listed_preloads}
 use Rattle.store.specs.declared.placed_entry.PlacedEntry.{PlacedEntry}
@@ -11,7 +11,9 @@ use Rattle.store.specs.declared.refusal.StoreRefusal.{StoreRefusal}
 use Rattle.store.specs.declared.refusal.StoreRefusal.TheVariants.{Device, Reopen, Full, Fragmented, TooMany, GenerationEnd, OutOfMemory}
 use Rattle.extents.specs.declared.refusal.TakeRefusal.{TakeRefusal}
 use Rattle.extents.specs.declared.refusal.TakeRefusal.TheVariants as take
-use Rattle.store.specs.State.{Blob, State, cost, free}
+use Rattle.states.specs.Limits.{most_libraries, last_generation}
+use Rattle.states.specs.State.{State}
+use Rattle.states.specs.Cost.{cost, free}
 use Rattle.store.specs.Opened.{Opened, layout_in_use}
 use Rattle.store.specs.Stands.{name_of}
 
@@ -36,52 +38,6 @@ HasName store name = (i : ℕ) × (i < length store.entries) × ((d : PlacedEntr
 abbrev pub IsNoPreload : {D : Type 0} → Opened D → List ℕ → Type 0
 IsNoPreload store name = All (λ position. (d : PlacedEntry) → name_of (slice_index_or store.entries position d).entry ≢ name) (listed_preloads store.root)
 
--- the state with one more byte string, behind the others
-abbrev pub with_new : List ℕ → List ℕ → State → State
-with_new name bytes s = record {
-  generation = s.generation + 1;
-  blobs = s.blobs ++ record { name = name; bytes = bytes } ∷ [];
-  preloads = s.preloads;
-}
-
--- the byte strings with these bytes in place of those under the name
-abbrev pub blobs_with : (name bytes : List ℕ) → List Blob → List Blob
-blobs_with name bytes [] = []
-blobs_with name bytes (blob ∷ blobs) = if bytes_eq name blob.name then record { name = name; bytes = bytes } ∷ blobs else blob ∷ blobs_with name bytes blobs
-
--- the state with these bytes in place of those under the name
-abbrev pub with_bytes : (name bytes : List ℕ) → State → State
-with_bytes name bytes s = record {
-  generation = s.generation + 1;
-  blobs = blobs_with name bytes s.blobs;
-  preloads = s.preloads;
-}
-
--- the byte strings without the one of this name
-abbrev pub blobs_without : List ℕ → List Blob → List Blob
-blobs_without name [] = []
-blobs_without name (blob ∷ blobs) = if bytes_eq name blob.name then blobs else blob ∷ blobs_without name blobs
-
--- the state without the byte string of this name: the others close up, the preloads stay
-abbrev pub without : List ℕ → State → State
-without name s = record {
-  generation = s.generation + 1;
-  blobs = blobs_without name s.blobs;
-  preloads = s.preloads;
-}
-
--- the state with the preloads of these names
-abbrev pub with_preloads : List (List ℕ) → State → State
-with_preloads names s = record {
-  generation = s.generation + 1;
-  blobs = s.blobs;
-  preloads = names;
-}
-
--- the greatest generation, which no change follows
-abbrev pub last_generation : ℕ
-last_generation = 2 ^ 64 - 1
-
 -- how many sectors the 32 longest free runs have: as many runs as a byte string may have extents
 abbrev pub longest_free : {D : Type 0} → Opened D → ℕ
 longest_free store = sector_count (longest_runs (layout_in_use store))
@@ -90,14 +46,14 @@ longest_free store = sector_count (longest_runs (layout_in_use store))
 abbrev pub refusal_of_put : (sectors longest : ℕ) → State → List ℕ → Option StoreRefusal
 refusal_of_put sectors longest s bytes =
     if s.generation == last_generation then Some GenerationEnd
-    else if nat_lt (free sectors s) (cost bytes) then Some Full
-    else if nat_lt longest (cost bytes - 1) then Some Fragmented
+    else if nat_lt (free sectors s) (cost (length bytes)) then Some Full
+    else if nat_lt longest (cost (length bytes) - 1) then Some Fragmented
     else None
 
 -- the same for bytes with a new name
 abbrev pub refusal_of_new : (sectors longest : ℕ) → State → List ℕ → Option StoreRefusal
 refusal_of_new sectors longest s bytes =
-    if nat_lt (length s.blobs) most_root_entries then refusal_of_put sectors longest s bytes
+    if nat_lt (length s.libraries) most_libraries then refusal_of_put sectors longest s bytes
     else Some TooMany
 
 -- the answers to a put with this first refusal; S11 may replace Full, Fragmented and Ok, S1 Ok

@@ -5,7 +5,8 @@ ghost use Rattle.sector_disk.specs.Disk.{AreCallsExactly, AreCallsAtMost};
 ghost use Rattle.roots.specs.Limits.{most_root_entries};
 ghost use Rattle.roots.specs.Root.{RootHasSpelling, version_of};
 ghost use Rattle.roots.specs.Choice.{IsCurrent};
-ghost use Rattle.store.specs.Opening.{IsGeometry, RefusesOpen};
+ghost use Rattle.store.specs.Opening.{RefusesOpen};
+ghost use Rattle.states.specs.Geometry.{IsGeometry};
 ghost use Rattle.store.specs.Stands.{IsIntact, Stands};
 ghost use Rattle.store.specs.inside.Kept.{IsKept};
 

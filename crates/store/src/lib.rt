@@ -10,7 +10,6 @@
 mod entries;
 mod format;
 mod found;
-mod geometry;
 mod names;
 mod next;
 mod open;

@@ -6,17 +6,19 @@ ghost use Rattle.extents.specs.Limits.{root_sectors};
 ghost use Rattle.sector_disk.specs.Disk.{Sector, Mixture, LeavesOnly};
 ghost use Rattle.passes.specs.Calls.{AreCallsInRow};
 ghost use Rattle.roots.specs.declared.root.Root.{Root};
-ghost use Rattle.roots.specs.Limits.{most_root_entries, most_preloads};
+ghost use Rattle.roots.specs.Limits.{most_root_entries};
+ghost use Rattle.states.specs.Limits.{most_preloads};
 ghost use Rattle.roots.specs.Root.{RootHasSpelling, listed_preloads};
 ghost use Rattle.store.specs.declared.placed_entry.PlacedEntry.{PlacedEntry};
-ghost use Rattle.store.specs.State.{State};
+ghost use Rattle.states.specs.State.{State};
 ghost use Rattle.store.specs.Stands.{StandsBy, Stands, entry_sectors};
 ghost use Rattle.store.specs.inside.Next.{IsFollowed, closed_up, next_root};
 
 use crate::placed_entry::PlacedEntry;
 use passes::commit;
-use roots::{MOST_PRELOADS, MOST_ROOT_ENTRIES, Root, encode_root, slot_of};
+use roots::{MOST_ROOT_ENTRIES, Root, encode_root, slot_of};
 use sector_disk::{Disk, DiskFault};
+use states::MOST_PRELOADS;
 
 /// The position that an entry has once the one at `gone` is taken out.
 fn closed_up(position: u16, gone: u16) -> u16

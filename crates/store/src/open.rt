@@ -1,9 +1,9 @@
 // Opening a store again.
 use crate::found::{Found, find_store};
-use crate::geometry::is_geometry;
 use crate::refusal::StoreRefusal;
 use crate::store::Store;
 use sector_disk::Disk;
+use states::is_geometry;
 use std::alloc::Global;
 
 impl<D: Disk> Store<D> {
@@ -12,9 +12,10 @@ impl<D: Disk> Store<D> {
     ghost use Rattle.sector_disk.specs.Disk.{Mixture, LeavesOnly, AreCallsExactly, AreCallsAtMost};
     ghost use Rattle.roots.specs.Limits.{most_root_entries};
     ghost use Rattle.store.specs.Opened.{IsAt, disk_after};
-    ghost use Rattle.store.specs.Opening.{IsGeometry, RefusesOpen, IsRefusalOfOpen};
+    ghost use Rattle.store.specs.Opening.{RefusesOpen, IsRefusalOfOpen};
+    ghost use Rattle.states.specs.Geometry.{IsGeometry};
     ghost use Rattle.store.specs.Stands.{Stands};
-    ghost use Rattle.store.specs.State.{State};
+    ghost use Rattle.states.specs.State.{State};
 
     /// Opens the store that a disk holds, after a stop too. It writes nothing: it syncs, and reads
     /// the two root sectors and one sector an entry. Where it refuses it hands the disk back.

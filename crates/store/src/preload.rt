@@ -6,13 +6,13 @@ use sector_disk::Disk;
 impl<D: Disk> Store<D> {
     ghost use Rattle.std.specs.Prelude.{◌<◌, ◌≤◌, ◌⊎◌, length, All, OnOk};
     ghost use Rattle.extents.specs.Extent.{AreDistinct};
-    ghost use Rattle.roots.specs.Limits.{most_preloads};
+    ghost use Rattle.states.specs.Limits.{most_preloads};
     ghost use Rattle.sector_disk.specs.Disk.{LeavesOnly};
     ghost use Rattle.store.specs.Changed.{Changed};
     ghost use Rattle.store.specs.Opened.{IsAt};
     ghost use Rattle.store.specs.Stands.{Stands, names_at};
-    ghost use Rattle.store.specs.State.{State};
-    ghost use Rattle.store.specs.Step.{with_preloads};
+    ghost use Rattle.states.specs.State.{State};
+    ghost use Rattle.states.specs.Changes.{with_preloads};
     ghost use Rattle.store.specs.Step.{refusal_of_change, IsExactAnswer, IsRefusalOfChange};
 
     /// Makes the byte strings at these positions the preloads, in this order: 16 at most, none of
@@ -25,9 +25,9 @@ impl<D: Disk> Store<D> {
         // A stop at any moment leaves the state from before it or the one after.
         ensures any_moment { (s : State) → IsAt D.facts self.old s
             → LeavesOnly (D.facts self.old.disk) (D.facts self.new.disk)
-            (λ m. Stands m s ⊎ Stands m (with_preloads (names_at s.blobs positions.now) s)) }
+            (λ m. Stands m s ⊎ Stands m (with_preloads (names_at s.libraries positions.now) s)) }
         ensures ok { (s : State) → IsAt D.facts self.old s → OnOk result
-            (IsAt D.facts self.new (with_preloads (names_at s.blobs positions.now) s)) }
+            (IsAt D.facts self.new (with_preloads (names_at s.libraries positions.now) s)) }
         ensures refused { (s : State) → IsAt D.facts self.old s
             → IsExactAnswer (refusal_of_change s) result }
 

@@ -11,7 +11,7 @@ ghost use Rattle.roots.specs.declared.root.Root.{Root};
 ghost use Rattle.roots.specs.Entry.{EntryHasSpelling, IsDataExtent};
 ghost use Rattle.roots.specs.Root.{RootHasSpelling};
 ghost use Rattle.store.specs.declared.placed_entry.PlacedEntry.{PlacedEntry};
-ghost use Rattle.store.specs.State.{State};
+ghost use Rattle.states.specs.State.{State};
 ghost use Rattle.store.specs.Stands.{StandsBy, Stands, name_of, extents_of, sectors_of};
 ghost use Rattle.store.specs.Step.{IsName, IsFileSize};
 ghost use Rattle.store.specs.inside.Room.{HasPlace, IsPut};

@@ -5,7 +5,7 @@ ghost use Rattle.sector_disk.specs.Disk.{sector_bytes, AreCallsExactly, AreCalls
 ghost use Rattle.passes.specs.Bytes.{IsOnDisk};
 ghost use Rattle.passes.specs.Calls.{AreReads};
 ghost use Rattle.roots.specs.Entry.{EntryHasSpelling};
-ghost use Rattle.store.specs.Stands.{extents_of, blob_of};
+ghost use Rattle.store.specs.Stands.{extents_of, library_of};
 
 use crate::placed_entry::PlacedEntry;
 use crate::refusal::StoreRefusal;
@@ -30,7 +30,7 @@ fn read_file<D: Disk>(
     ensures same { IsTrue (D.facts disk.old).honest
         → AreReads (D.facts disk.old) (D.facts disk.new) }
     ensures read { IsTrue (D.facts disk.old).honest → IfOk result (λ bytes.
-        bytes.items ≡ (blob_of (D.facts disk.old).now placed.now).bytes) }
+        bytes.items ≡ (library_of (D.facts disk.old).now placed.now).bytes) }
     ensures length { IfOk result (λ bytes. length bytes.items ≡ placed.now.entry.file_length) }
     ensures refused { IfErr result (λ e. ((e ≡ StoreRefusal.Device)
         × ((D.facts disk.old).failures < (D.facts disk.new).failures))
@@ -51,8 +51,8 @@ impl<D: Disk> Store<D> {
     ghost use Rattle.sector_disk.specs.Disk.{AreCallsExactly, AreCallsAtMost};
     ghost use Rattle.store.specs.declared.placed_entry.PlacedEntry.{PlacedEntry};
     ghost use Rattle.store.specs.Opened.{IsAt};
-    ghost use Rattle.store.specs.Stands.{no_blob};
-    ghost use Rattle.store.specs.State.{State};
+    ghost use Rattle.store.specs.Stands.{no_library};
+    ghost use Rattle.states.specs.State.{State};
 
     /// The byte string at this position. It reads each of its sectors once, and writes nothing.
     pub fn read_blob(&mut self, alloc: Global, position: usize) -> Result<Vec<u8>, StoreRefusal>
@@ -63,7 +63,7 @@ impl<D: Disk> Store<D> {
             → LeavesOnly (D.facts self.old.disk) (D.facts self.new.disk)
             (Mixture (D.facts self.old.disk)) }
         ensures ok { (s : State) → IsAt D.facts self.old s → IfOk result (λ bytes.
-            bytes.items ≡ (slice_index_or s.blobs position no_blob).bytes) }
+            bytes.items ≡ (slice_index_or s.libraries position no_library).bytes) }
         ensures same { (s : State) → IsAt D.facts self.old s → IsAt D.facts self.new s }
 
         // On any disk. A read that fails doesn't make the store fail.

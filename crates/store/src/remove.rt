@@ -11,8 +11,9 @@ impl<D: Disk> Store<D> {
     ghost use Rattle.store.specs.Changed.{Changed};
     ghost use Rattle.store.specs.Opened.{IsAt};
     ghost use Rattle.store.specs.Stands.{Stands};
-    ghost use Rattle.store.specs.State.{State};
-    ghost use Rattle.store.specs.Step.{HasName, IsNoPreload, without};
+    ghost use Rattle.states.specs.State.{State};
+    ghost use Rattle.store.specs.Step.{HasName, IsNoPreload};
+    ghost use Rattle.states.specs.Changes.{without};
     ghost use Rattle.store.specs.Step.{refusal_of_change, IsExactAnswer, IsRefusalOfChange};
 
     /// Takes out the byte string with this name, which is no preload. Those behind it close up, and

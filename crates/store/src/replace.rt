@@ -15,8 +15,9 @@ impl<D: Disk> Store<D> {
     ghost use Rattle.store.specs.Opened.{IsAt};
     ghost use Rattle.store.specs.Taken.{IsPutOver};
     ghost use Rattle.store.specs.Stands.{Stands};
-    ghost use Rattle.store.specs.State.{State};
-    ghost use Rattle.store.specs.Step.{HasName, IsFileSize, with_bytes, longest_free};
+    ghost use Rattle.states.specs.State.{State};
+    ghost use Rattle.store.specs.Step.{HasName, IsFileSize, longest_free};
+    ghost use Rattle.states.specs.Changes.{with_bytes};
     ghost use Rattle.store.specs.Step.{refusal_of_put, IsExactAnswer, IsRefusalOfPutOver};
 
     /// Puts other bytes, 64 bytes to 16 MiB, in the place of those under this name. The sectors of

@@ -1,5 +1,4 @@
 use crate::format::write_first_root;
-use crate::geometry::is_geometry;
 use crate::next::with_entry;
 use crate::placed_entry::PlacedEntry;
 use crate::put::{new_entry, sector_need, write_put};
@@ -8,6 +7,7 @@ use crate::room::{give_back, take_room};
 use extents::Layout;
 use roots::{MOST_ROOT_ENTRIES, Root};
 use sector_disk::Disk;
+use states::is_geometry;
 use std::alloc::Global;
 use std::marker::Model;
 
@@ -47,12 +47,14 @@ impl<D: Disk> Store<D> {
     ghost use Rattle.sector_disk.specs.Disk.{Mixture, LeavesOnly, AreCallsExactly, AreCallsAtMost};
     ghost use Rattle.store.specs.Changed.{Changed};
     ghost use Rattle.store.specs.Opened.{IsAt, disk_after};
-    ghost use Rattle.store.specs.Opening.{IsGeometry, HasRootMagic};
+    ghost use Rattle.store.specs.Opening.{HasRootMagic};
+    ghost use Rattle.states.specs.Geometry.{IsGeometry};
     ghost use Rattle.store.specs.Opening.{RefusesFormat, IsRefusalOfFormat};
     ghost use Rattle.store.specs.Taken.{IsPutBehind};
     ghost use Rattle.store.specs.Stands.{Stands};
-    ghost use Rattle.store.specs.State.{State, empty_state};
-    ghost use Rattle.store.specs.Step.{IsName, IsFileSize, LacksName, with_new};
+    ghost use Rattle.states.specs.State.{State, empty_state};
+    ghost use Rattle.store.specs.Step.{IsName, IsFileSize, LacksName};
+    ghost use Rattle.states.specs.Changes.{with_new};
     ghost use Rattle.store.specs.Step.{longest_free, refusal_of_new, IsAnswer, IsRefusalOfPutNew};
 
     /// Makes an empty store on a disk where no root was written yet. It writes one sector. Where it

@@ -1,7 +1,7 @@
 -- What reading the files of a store does to it.
 use Rattle.std.specs.Prelude.{◌≡◌, ◌<◌, IsTrue}
 use Rattle.sector_disk.specs.Disk.{DiskFacts, Mixture, LeavesOnly, AreCalls}
-use Rattle.store.specs.State.{State}
+use Rattle.states.specs.State.{State}
 use Rattle.store.specs.Opened.{Opened, IsAt}
 use Rattle.store.specs.declared.refusal.StoreRefusal.{StoreRefusal}
 use Rattle.store.specs.declared.refusal.StoreRefusal.TheVariants.{Device, Reopen, Damaged, OutOfMemory}

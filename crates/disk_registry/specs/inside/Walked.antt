@@ -14,8 +14,7 @@ use Rattle.image.specs.declared.refusal.BindRefusal.{BindRefusal}
 use Rattle.store.specs.Opened.{Opened}
 use Rattle.store.specs.declared.placed_entry.PlacedEntry.{PlacedEntry}
 use Rattle.registry.specs.Binding.{object_of, objects, preload_numbers}
-use Rattle.registry.specs.Library.{Library}
-use Rattle.registry.specs.State.{State}
+use Rattle.states.specs.State.{Library, State}
 use Rattle.disk_registry.specs.Binding.{data_sectors}
 use Rattle.disk_registry.specs.Opened.{IsAt}
 use Rattle.disk_registry.specs.inside.Named.{entry_names}

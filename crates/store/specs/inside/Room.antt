@@ -13,7 +13,7 @@ use Rattle.roots.specs.Root.{root_bytes, listed_preloads}
 use Rattle.roots.specs.Choice.{slot_of}
 use Rattle.roots.specs.Entry.{EntryHasSpelling, entry_bytes}
 use Rattle.store.specs.declared.placed_entry.PlacedEntry.{PlacedEntry}
-use Rattle.store.specs.State.{State}
+use Rattle.states.specs.State.{State}
 use Rattle.store.specs.Stands.{StandsBy, name_of, extents_of, sectors_of, used}
 use Rattle.store.specs.inside.Kept.{IsKept}
 use Rattle.store.specs.inside.Next.{next_root}

@@ -9,7 +9,7 @@ returns-in_err-admit_at-clause-read g c = read_more c.loop-position.invariant.re
 pub returns-in_err-admit_at-clause-damaged : goal.returns-in_err-admit_at-clause-damaged
 returns-in_err-admit_at-clause-damaged g c s at =
     let p = err_from_is_err_and c.from_residual.result c.from_residual.ensures.1 in
-    let lt : c.loop-position.position < length s.blobs = omega (arith, c.loop-position-test.true, c.count-position-end.ensures.state s at) in
+    let lt : c.loop-position.position < length s.libraries = omega (arith, c.loop-position-test.true, c.count-position-end.ensures.state s at) in
     rw p.1 (λ is all. one_refused s c.loop-position.position lt (c.in_err-admit_at.ensures.damaged s (c.loop-position.invariant.read.same s at) (sym p.2 ∙ is)) all)
 
 pub loop-position-preserved : goal.loop-position-preserved
@@ -19,5 +19,5 @@ loop-position-preserved g c =
 
 pub returns-clause-ok : goal.returns-clause-ok
 returns-clause-ok g c s at =
-    let le : length s.blobs ≤ c.loop-position.position = omega (arith, c.loop-position-test.false, c.count-position-end.ensures.state s at) in
+    let le : length s.libraries ≤ c.loop-position.position = omega (arith, c.loop-position-test.false, c.count-position-end.ensures.state s at) in
     all_admitted c.loop-position.invariant s at le

@@ -1,6 +1,5 @@
 use Rattle.std.proofs.Common.{◌∙◌, refl, sym, arith}
 use Rattle.std.proofs.lemmas.Result.{err_from_is_err_and}
-use Rattle.disk_registry.specs.Stands.{stored}
 use Rattle.disk_registry.proofs.Files.{read_more}
 use Rattle.disk_registry.proofs.FilesRead.{all_read, missing_read}
 use Rattle.disk_registry.proofs.needed.read_needed.Goals as goal
@@ -15,7 +14,7 @@ returns-in_err-step-clause-read g c = read_more c.loop-alloc.invariant.read c.st
 pub returns-in_err-step-clause-intact : goal.returns-in_err-step-clause-intact
 returns-in_err-step-clause-intact g c s at =
     let p = err_from_is_err_and c.from_residual-in_err-step.result c.from_residual-in_err-step.ensures.1 in
-    rw p.1 (λ is. c.in_err-step.ensures.intact s (record { blobs = c.loop-alloc.invariant.read.same (stored s) at.blobs; libraries = at.libraries }) (sym p.2 ∙ is))
+    rw p.1 (λ is. c.in_err-step.ensures.intact s (record { stored = c.loop-alloc.invariant.read.same s at.stored; libraries = at.libraries }) (sym p.2 ∙ is))
 
 pub returns-clause-ok : goal.returns-clause-ok
 returns-clause-ok g c s at =

@@ -4,9 +4,10 @@ use Rattle.std.specs.Int.{div_ceil}
 use Rattle.std.proofs.lemmas.Result.{IfOk-weaker}
 use Rattle.sector_disk.specs.Disk.{sector_bytes, AreCallsExactly}
 use Rattle.store.proofs.UsedAlone.{no_entry}
-use Rattle.store.specs.Stands.{no_blob}
+use Rattle.store.specs.Stands.{no_library}
 use Rattle.store.specs.declared.refusal.StoreRefusal.TheVariants.{Damaged}
-use Rattle.registry.specs.Library.{Library, IsLibrary}
+use Rattle.registry.specs.Library.{IsLibrary}
+use Rattle.states.specs.State.{Library}
 use Rattle.disk_registry.proofs.Files.{same_library}
 use Rattle.disk_registry.proofs.reading.read_library.Goals as goal
 
@@ -32,12 +33,12 @@ returns-clause-read g c = record {
 
 pub returns-clause-ok : goal.returns-clause-ok
 returns-clause-ok g c s at =
-    same_library (λ l. IfOk c.new.result (λ file. file ≡ l)) c.name.result.now _ (slice_index_or s.blobs c.args.position no_blob)
+    same_library (λ l. IfOk c.new.result (λ file. file ≡ l)) c.name.result.now _ (slice_index_or s.libraries c.args.position no_library)
     (c.name.ensures.state s (c.read_blob.ensures.same s at)) (c.in_ok-bytes.ensures.ok s at) c.new.ensures.ok
 
 pub returns-clause-damaged : goal.returns-clause-damaged
 returns-clause-damaged g c s at =
-    same_library (λ l. IfErr c.new.result (λ e. e ≡ Damaged → IsLibrary l → ⊥)) c.name.result.now _ (slice_index_or s.blobs c.args.position no_blob)
+    same_library (λ l. IfErr c.new.result (λ e. e ≡ Damaged → IsLibrary l → ⊥)) c.name.result.now _ (slice_index_or s.libraries c.args.position no_library)
     (c.name.ensures.state s (c.read_blob.ensures.same s at)) (c.in_ok-bytes.ensures.ok s at) c.new.ensures.damaged
 
 pub returns-clause-all_calls : goal.returns-clause-all_calls

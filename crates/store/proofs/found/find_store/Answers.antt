@@ -3,7 +3,7 @@ use Rattle.extents.specs.Used.{ClaimsJust}
 use Rattle.std.proofs.lemmas.Result.{err_from_is_err_and}
 use Rattle.store.specs.declared.placed_entry.PlacedEntry.{PlacedEntry}
 use Rattle.store.specs.declared.refusal.StoreRefusal.TheVariants.{Damaged, OutOfMemory}
-use Rattle.store.specs.Opening.{IsGeometry}
+use Rattle.states.specs.Geometry.{IsGeometry}
 use Rattle.store.specs.Stands.{IsListed, HaveOwnNames, UsesApart, Stands, used}
 use Rattle.store.proofs.Openings.{current_magic, damaged_refused, not_intact, entries_refused, claims_refused, then_reads_leave}
 use Rattle.store.proofs.found.find_store.Goals as goal

@@ -5,7 +5,7 @@ use Rattle.sector_disk.specs.Disk.{AreCallsExactly}
 use Rattle.image.proofs.Answering.{program-based}
 use Rattle.image.specs.Byte.{byte_of}
 use Rattle.image.specs.Image.{image_of}
-use Rattle.registry.specs.Library.{Library}
+use Rattle.states.specs.State.{Library}
 use Rattle.registry.specs.Request.{bind}
 use Rattle.registry.specs.Step.{Step}
 use Rattle.registry.specs.declared.reply.Reply.TheVariants.{Refused}

@@ -1,5 +1,5 @@
 use Rattle.std.proofs.Common.{◌≡◌, map, take}
-use Rattle.registry.specs.State.{State}
+use Rattle.states.specs.State.{State}
 use Rattle.registry.specs.Table.{entry_of}
 use Rattle.disk_registry.specs.Opened.{IsAt}
 use Rattle.disk_registry.proofs.kept.Registry.entries.Given as goal

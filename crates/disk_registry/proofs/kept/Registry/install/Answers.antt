@@ -1,13 +1,12 @@
 use Rattle.std.proofs.Common.{◌≡◌, true, false, sym, subst, ◌∙◌}
 use Rattle.std.proofs.lemmas.Result.{err_from_is_err_and}
 use Rattle.registry.specs.Reading.{IsLibraryRefusal}
-use Rattle.registry.specs.State.{names_of, has_name}
+use Rattle.states.specs.State.{names_of, has_name}
 use Rattle.registry.specs.Request.{install}
 use Rattle.registry.specs.Step.{answer_of}
 use Rattle.registry.specs.declared.reply.Reply.TheVariants.{Refused}
 use Rattle.disk_registry.specs.Applied.{Applies}
 use Rattle.disk_registry.specs.Opened.{IsAt}
-use Rattle.disk_registry.specs.Stands.{stored}
 use Rattle.disk_registry.proofs.Forms.{is_name, file_size}
 use Rattle.disk_registry.proofs.Putting.{installed, install_no_library, install_there, install_done, install_refused}
 use Rattle.disk_registry.proofs.States.{same_sectors}
@@ -22,7 +21,7 @@ returns-in_err-name-clause-applied g c s at =
 pub returns-then-is_some-clause-applied : goal.returns-then-is_some-clause-applied
 returns-then-is_some-clause-applied g c s at =
     let here : IsAt g.D.Disk.facts c.self.inside.store s = subst (λ r. IsAt g.D.Disk.facts r s) (sym c.self.view_is) at in
-    let there : has_name (names_of s.libraries) c.in_ok-name.name.now ≡ true = installed s c.in_ok-name.name.now c.position.result (c.position.ensures.state (stored s) here.blobs) ∙ sym c.is_some.ensures ∙ c.if-is_some.true in
+    let there : has_name (names_of s.libraries) c.in_ok-name.name.now ≡ true = installed s c.in_ok-name.name.now c.position.result (c.position.ensures.state s here.stored) ∙ sym c.is_some.ensures ∙ c.if-is_some.true in
     install_there g.D.Disk.facts c.args.self.now s at c.args.bytes.now c.in_ok-name.ensures.ok c.in_ok-name.name.now c.in_ok-name.ensures.name there
 
 pub put_new-requires-clause-name : goal.put_new-requires-clause-name
@@ -39,15 +38,15 @@ returns-clause-applied g c s at =
     let new = c.put_new.new.self in
     let name = c.in_ok-name.name.now in
     let bytes = c.args.bytes.now in
-    let absent : has_name (names_of s.libraries) name ≡ false = installed s name c.position.result (c.position.ensures.state (stored s) here.blobs) ∙ sym c.is_some.ensures ∙ c.if-is_some.false in
+    let absent : has_name (names_of s.libraries) name ≡ false = installed s name c.position.result (c.position.ensures.state s here.stored) ∙ sym c.is_some.ensures ∙ c.if-is_some.false in
     let root = same_sectors facts old s here (λ honest. g.met.D.Disk.holds_now _ honest) in
-    let leaves = c.put_new.ensures.any_moment (stored s) here.blobs in
+    let leaves = c.put_new.ensures.any_moment s here.stored in
     subst (λ r. Applies facts r new s (install bytes) (answer_of c.match-put_new.result)) c.self.view_is (elim c.match-put_new.branch [
       | in-Ok w ↦ subst (λ r. Applies facts old new s (install bytes) (answer_of r)) (sym w.result-is)
           (install_done facts old s here bytes c.in_ok-name.ensures.ok name c.in_ok-name.ensures.name new root absent leaves tt
-          (w.in-Ok.ensures.refused (stored s) here.blobs) w.in-Ok.ensures.on_any_disk.usable (w.in-Ok.ensures.ok (stored s) here.blobs))
+          (w.in-Ok.ensures.refused s here.stored) w.in-Ok.ensures.on_any_disk.usable (w.in-Ok.ensures.ok s here.stored))
       | in-Err w ↦ subst (λ r. Applies facts old new s (install bytes) (answer_of r)) (sym w.result-is)
           (subst (λ r. Applies facts old new s (install bytes) (Refused r)) (sym w.refusal_of.ensures)
           (install_refused facts old s here bytes c.in_ok-name.ensures.ok name c.in_ok-name.ensures.name new root absent leaves w.in-Err.refusal
-          (w.in-Err.ensures.refused (stored s) here.blobs) w.in-Err.ensures.on_any_disk.reopen w.in-Err.ensures.on_any_disk.refusals w.in-Err.ensures.on_any_disk.device w.in-Err.ensures.on_any_disk.same c.in_ok-name.ensures.memory))
+          (w.in-Err.ensures.refused s here.stored) w.in-Err.ensures.on_any_disk.reopen w.in-Err.ensures.on_any_disk.refusals w.in-Err.ensures.on_any_disk.device w.in-Err.ensures.on_any_disk.same c.in_ok-name.ensures.memory))
     ])

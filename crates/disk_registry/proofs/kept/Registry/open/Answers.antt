@@ -1,10 +1,10 @@
 use Rattle.std.proofs.Common.{length, sym, subst}
 use Rattle.sector_disk.specs.Disk.{Mixture, LeavesOnly}
-use Rattle.store.specs.Opening.{IsGeometry}
-use Rattle.disk_registry.specs.Stands.{Stands, stored}
+use Rattle.states.specs.Geometry.{IsGeometry}
+use Rattle.disk_registry.specs.Stands.{Stands}
 use Rattle.disk_registry.proofs.Files.{leaves_after}
-use Rattle.disk_registry.proofs.States.{registry_of, one_state}
-use Rattle.disk_registry.proofs.Openings.{stands_of, at_of, libraries_stored, refuses_only, refuses_files, refuses_store}
+use Rattle.disk_registry.proofs.States.{one_state}
+use Rattle.disk_registry.proofs.Openings.{refuses_only, refuses_files, refuses_store}
 use Rattle.disk_registry.proofs.kept.Registry.open.Goals as goal
 
 pub returns-in-Ok-admit_files-clause-any_moment : goal.returns-in-Ok-admit_files-clause-any_moment
@@ -16,16 +16,16 @@ returns-in-Ok-admit_files-clause-ok g c honest =
     let found = c.in-Ok.ensures.ok honest in
     let libraries = c.in-Ok-admit_files.ensures.ok found.0 found.2 in
     let now = (g.D.Disk.facts c.args.disk).now in
-    let stands : Stands now (registry_of found.0) = stands_of now found.0 found.1 libraries in (
-      registry_of found.0,
+    let stands : Stands now found.0 = record { stored = found.1; libraries = libraries } in (
+      found.0,
       stands,
-      at_of g.D.Disk.facts c.admit_files.new.store found.0 (c.admit_files.ensures.read.same found.0 found.2) libraries,
-      (λ other others. one_state now other (registry_of found.0) others stands),
+      record { stored = c.admit_files.ensures.read.same found.0 found.2; libraries = libraries },
+      (λ other others. one_state now other found.0 others stands),
     )
 
 pub returns-in-Ok-admit_files-clause-stands : goal.returns-in-Ok-admit_files-clause-stands
 returns-in-Ok-admit_files-clause-stands g c honest s stands = record {
-  blobs = c.admit_files.ensures.read.same (stored s) (c.in-Ok.ensures.stands honest (stored s) stands.blobs);
+  stored = c.admit_files.ensures.read.same s (c.in-Ok.ensures.stands honest s stands.stored);
   libraries = stands.libraries;
 }
 
@@ -36,9 +36,9 @@ returns-in-Err-admit_files-clause-any_moment g c honest =
 
 pub returns-in-Err-admit_files-clause-stands : goal.returns-in-Err-admit_files-clause-stands
 returns-in-Err-admit_files-clause-stands g c honest s stands =
-    let at = c.in-Ok.ensures.stands honest (stored s) stands.blobs in
+    let at = c.in-Ok.ensures.stands honest s stands.stored in
     refuses_only g.D.Disk.facts c.in-Ok.store c.admit_files.new.store c.in-Err-admit_files.refusal c.in-Err-admit_files.ensures.refusals
-    (λ is. c.in-Err-admit_files.ensures.damaged (stored s) at is (libraries_stored s stands.libraries)) c.in-Ok.ensures.usable
+    (λ is. c.in-Err-admit_files.ensures.damaged s at is stands.libraries) c.in-Ok.ensures.usable
 
 pub returns-in-Err-admit_files-clause-refused : goal.returns-in-Err-admit_files-clause-refused
 returns-in-Err-admit_files-clause-refused g c honest =
@@ -49,7 +49,7 @@ returns-in-Err-admit_files-clause-refused g c honest =
     (λ is. c.in-Err-admit_files.ensures.damaged found.0 found.2 is)
 
 pub returns-in-Err-clause-stands : goal.returns-in-Err-clause-stands
-returns-in-Err-clause-stands g c honest s stands = c.in-Err.ensures.stands honest (stored s) stands.blobs
+returns-in-Err-clause-stands g c honest s stands = c.in-Err.ensures.stands honest s stands.stored
 
 pub returns-in-Err-clause-refused : goal.returns-in-Err-clause-refused
 returns-in-Err-clause-refused g c honest = refuses_store (g.D.Disk.facts c.args.disk).now c.in-Err.refused.0 (c.in-Err.ensures.refused honest)

@@ -7,8 +7,7 @@ use Rattle.store.specs.declared.placed_entry.PlacedEntry.{PlacedEntry}
 use Rattle.store.specs.Opened as store
 use Rattle.store.specs.Opened.{Opened}
 use Rattle.store.specs.Stands.{name_of, names_at}
-use Rattle.registry.specs.State.{names_of, has_name}
-use Rattle.disk_registry.specs.Stands.{stored}
+use Rattle.states.specs.State.{names_of, has_name}
 use Rattle.disk_registry.specs.inside.Named.{AreNamed}
 use Rattle.disk_registry.proofs.Names.{lacks_at, none_some, names_more, named_more, none_lacks}
 use Rattle.disk_registry.proofs.States.{count_is}
@@ -16,13 +15,13 @@ use Rattle.disk_registry.proofs.kept.Registry.positions_of.Goals as goal
 
 pub returns-in_default-clause-lacking : goal.returns-in_default-clause-lacking
 returns-in_default-clause-lacking g c s at =
-    let here = subst (λ r. store.IsAt g.D.Disk.facts r (stored s)) (sym c.self.view_is) at.blobs in
+    let here = subst (λ r. store.IsAt g.D.Disk.facts r s) (sym c.self.view_is) at.stored in
     let i = c.loop-name.name-index in
     let names = map (λ (n : Bor (List ℕ)). n.now) c.args.names.now in
     let none : Bor (List ℕ) = record { ref_ptr = (0, 0); now = [] } in
     let lt : i < length names = omega (arith, c.loop-name-test.true, length-map c.args.names.now (λ (n : Bor (List ℕ)). n.now)) in
     let its : get_or names i [] ≡ (get_or c.args.names.now i none).now = get_or-map (λ (n : Bor (List ℕ)). n.now) c.args.names.now i none [] c.loop-name-test.true in
-    (λ isnt. lacks_at s names i lt (λ k k_lt is. none_some ((c.in_default.ensures.state (stored s) here k).1 (k_lt, is ∙ its))), λ lacking. refl)
+    (λ isnt. lacks_at s names i lt (λ k k_lt is. none_some ((c.in_default.ensures.state s here k).1 (k_lt, is ∙ its))), λ lacking. refl)
 
 pub loop-name-preserved : goal.loop-name-preserved
 loop-name-preserved g c =
@@ -40,9 +39,9 @@ loop-name-preserved g c =
       named = subst (λ ps. AreNamed entries ps (map now (take (i + 1) c.args.names.now))) (sym c.push.ensures.items)
           (subst (AreNamed entries (c.loop-name.positions.items ++ position ∷ [])) (sym more) (named_more position name c.loop-name.invariant.named found.0 found.1));
       state = λ s at.
-          let here = subst (λ r. store.IsAt g.D.Disk.facts r (stored s)) (sym c.self.view_is) at.blobs in
-          ap (names_at (stored s).blobs) c.push.ensures.items
-          ∙ names_more s c.loop-name.positions.items position (map now (take i c.args.names.now)) name (c.loop-name.invariant.state s at) ((c.in-Some.ensures.state (stored s) here position).0 refl).1
+          let here = subst (λ r. store.IsAt g.D.Disk.facts r s) (sym c.self.view_is) at.stored in
+          ap (names_at s.libraries) c.push.ensures.items
+          ∙ names_more s c.loop-name.positions.items position (map now (take i c.args.names.now)) name (c.loop-name.invariant.state s at) ((c.in-Some.ensures.state s here position).0 refl).1
           ∙ sym more;
     }
 
@@ -51,7 +50,7 @@ returns-clause-lacking g c s at =
     let now = λ (n : Bor (List ℕ)). n.now in
     let names = map now c.args.names.now in
     let items = c.loop-name.positions.items in
-    let are : names_at (stored s).blobs items ≡ names = c.loop-name.invariant.state s at ∙ ap (map now) (take_all c.loop-name.name-index c.args.names.now (omega (arith, c.loop-name-test.false))) in
+    let are : names_at s.libraries items ≡ names = c.loop-name.invariant.state s at ∙ ap (map now) (take_all c.loop-name.name-index c.args.names.now (omega (arith, c.loop-name-test.false))) in
     let count = count_is g.D.Disk.facts c.args.self.now s at (g.met.D.Disk.holds_now c.args.self.now.disk) in
     let inside = subst (λ n. All (λ p. p < n) items) count c.loop-name.invariant.named.inside in
     let free : list_any (λ name. not (has_name (names_of s.libraries) name)) names ≡ false = ap (list_any (λ name. not (has_name (names_of s.libraries) name))) (sym are) ∙ none_lacks s items inside in

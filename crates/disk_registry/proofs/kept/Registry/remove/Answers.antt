@@ -1,10 +1,7 @@
-use Rattle.std.proofs.Common.{◌≡◌, ◌⊎◌, Ok, Err, sym, ap, subst, ◌∙◌}
+use Rattle.std.proofs.Common.{◌≡◌, Ok, Err, sym, ap, subst, ◌∙◌}
 use Rattle.std.specs.Option.{option_map}
 use Rattle.std.proofs.lemmas.Bool.{false≢true}
 use Rattle.std.proofs.lemmas.Result.{err_from_is_err_and}
-use Rattle.sector_disk.specs.Disk.{LeavesOnly}
-use Rattle.store.specs.Opened as store
-use Rattle.store.specs.Stands as sectors
 use Rattle.store.specs.Step.{refusal_of_change, IsRefusalOfChange}
 use Rattle.registry.specs.Library.{IsLibrary}
 use Rattle.registry.specs.Request.{remove}
@@ -15,9 +12,8 @@ use Rattle.disk_registry.specs.Applied.{Applies}
 use Rattle.disk_registry.specs.Opened.{IsAt}
 use Rattle.disk_registry.specs.Phase.{phase_of}
 use Rattle.disk_registry.specs.Refusals.{refusal_of}
-use Rattle.disk_registry.specs.Stands.{stored}
 use Rattle.disk_registry.proofs.Applying.{untouched, exact_answer, change_done, change_refused}
-use Rattle.disk_registry.proofs.Changed.{stored_removed, change_may}
+use Rattle.disk_registry.proofs.Changed.{change_may}
 use Rattle.disk_registry.proofs.Tested.{last_change, change_deviceless}
 use Rattle.disk_registry.proofs.kept.Registry.remove.Goals.{in-Ok, in-Err}
 use Rattle.disk_registry.proofs.kept.Registry.remove.Goals as goal
@@ -37,20 +33,20 @@ returns-clause-applied g c s at =
     let new = c.delete.new.self in
     let name = c.args.name.now in
     let here : IsAt facts old s = subst (λ r. IsAt facts r s) (sym c.self.view_is) at in
-    let first = refusal_of_change (stored s) in
+    let first = refusal_of_change s in
     let tested : refusal_at (phase_of facts old s) (remove name) ≡ option_map refusal_of first =
     subst (λ r. refusal_at (phase_of facts r s) (remove name) ≡ option_map refusal_of first) (sym c.self.view_is) (c.in_ok-test_remove.ensures.ok s at ∙ last_change (phase_of facts c.args.self.now s)) in
     let libraries = each_left IsLibrary name s.libraries at.libraries in
-    let leaves = subst (λ t. LeavesOnly (facts old.disk) (facts new.disk) (λ m. sectors.Stands m (stored s) ⊎ sectors.Stands m t)) (stored_removed s name) (c.delete.ensures.any_moment (stored s) here.blobs) in
+    let leaves = c.delete.ensures.any_moment s here.stored in
     subst (λ r. Applies facts r new s (remove name) (answer_of c.match-delete.result)) c.self.view_is
     (elim c.match-delete.branch [
       | in-Ok w ↦ subst (λ r. Applies facts old new s (remove name) (answer_of r)) (sym w.result-is)
           (change_done facts old s here (remove name) new first tt tested libraries leaves w.in-Ok.field-0
-          (exact_answer first (Ok w.in-Ok.field-0) (w.in-Ok.ensures.refused (stored s) here.blobs)) w.in-Ok.ensures.on_any_disk.usable
-          (subst (store.IsAt facts new) (stored_removed s name) (w.in-Ok.ensures.ok (stored s) here.blobs)))
+          (exact_answer first (Ok w.in-Ok.field-0) (w.in-Ok.ensures.refused s here.stored)) w.in-Ok.ensures.on_any_disk.usable
+          (w.in-Ok.ensures.ok s here.stored))
       | in-Err w ↦ subst (λ r. Applies facts old new s (remove name) (answer_of r)) (sym (w.result-is ∙ ap Err w.refusal_of.ensures))
           (change_refused facts old s here (remove name) new first tt tested libraries leaves w.in-Err.refusal
-          (exact_answer first (Err w.in-Err.refusal) (w.in-Err.ensures.refused (stored s) here.blobs)) (change_deviceless s)
-          (λ is. false≢true (sym here.blobs.usable ∙ w.in-Err.ensures.on_any_disk.reopen.0 (ap Err is))) (change_may w.in-Err.refusal w.in-Err.ensures.on_any_disk.refusals)
+          (exact_answer first (Err w.in-Err.refusal) (w.in-Err.ensures.refused s here.stored)) (change_deviceless s)
+          (λ is. false≢true (sym here.stored.usable ∙ w.in-Err.ensures.on_any_disk.reopen.0 (ap Err is))) (change_may w.in-Err.refusal w.in-Err.ensures.on_any_disk.refusals)
           w.in-Err.ensures.on_any_disk.device w.in-Err.ensures.on_any_disk.same (λ is. subst IsRefusalOfChange is w.in-Err.ensures.on_any_disk.refusals))
     ])

@@ -7,6 +7,7 @@ use Rattle.store.specs.Opened as store
 use Rattle.store.specs.Stands as sectors
 use Rattle.store.specs.Stands.{names_at}
 use Rattle.store.specs.Step.{refusal_of_change, IsRefusalOfChange}
+use Rattle.states.specs.Changes.{with_preloads}
 use Rattle.registry.specs.Request.{set_preloads}
 use Rattle.registry.specs.Step.{answer_of, refusal_at}
 use Rattle.registry.specs.declared.reply.Reply.TheVariants.{Refused}
@@ -14,9 +15,8 @@ use Rattle.disk_registry.specs.Applied.{Applies}
 use Rattle.disk_registry.specs.Opened.{IsAt}
 use Rattle.disk_registry.specs.Phase.{phase_of}
 use Rattle.disk_registry.specs.Refusals.{refusal_of}
-use Rattle.disk_registry.specs.Stands.{stored}
 use Rattle.disk_registry.proofs.Applying.{untouched, exact_answer, change_done, change_refused}
-use Rattle.disk_registry.proofs.Changed.{stored_preloaded, change_may}
+use Rattle.disk_registry.proofs.Changed.{change_may}
 use Rattle.disk_registry.proofs.Tested.{last_change, change_deviceless}
 use Rattle.disk_registry.proofs.kept.Registry.set_preloads.Goals.{in-Ok, in-Err}
 use Rattle.disk_registry.proofs.kept.Registry.set_preloads.Goals as goal
@@ -38,21 +38,21 @@ returns-clause-applied g c s at =
     let names = map (λ n. n.now) c.args.names.now in
     let q = set_preloads names in
     let here : IsAt facts old s = subst (λ r. IsAt facts r s) (sym c.self.view_is) at in
-    let first = refusal_of_change (stored s) in
+    let first = refusal_of_change s in
     let tested : refusal_at (phase_of facts old s) q ≡ option_map refusal_of first =
     subst (λ r. refusal_at (phase_of facts r s) q ≡ option_map refusal_of first) (sym c.self.view_is) (c.in_ok-positions.ensures.ok s at ∙ last_change (phase_of facts c.args.self.now s)) in
-    let named : names_at (stored s).blobs c.as_slice.result.now ≡ names = ap (names_at (stored s).blobs) c.as_slice.ensures.value ∙ c.in_ok-positions.ensures.state s at in
-    let becomes = stored_preloaded s c.as_slice.result.now names named in
-    let leaves = subst (λ t. LeavesOnly (facts old.disk) (facts new.disk) (λ m. sectors.Stands m (stored s) ⊎ sectors.Stands m t)) becomes (c.set_preloads.ensures.any_moment (stored s) here.blobs) in
+    let named : names_at s.libraries c.as_slice.result.now ≡ names = ap (names_at s.libraries) c.as_slice.ensures.value ∙ c.in_ok-positions.ensures.state s at in
+    let becomes = ap (λ ns. with_preloads ns s) named in
+    let leaves = subst (λ t. LeavesOnly (facts old.disk) (facts new.disk) (λ m. sectors.Stands m s ⊎ sectors.Stands m t)) becomes (c.set_preloads.ensures.any_moment s here.stored) in
     subst (λ r. Applies facts r new s q (answer_of c.match-set_preloads.result)) c.self.view_is
     (elim c.match-set_preloads.branch [
       | in-Ok w ↦ subst (λ r. Applies facts old new s q (answer_of r)) (sym w.result-is)
           (change_done facts old s here q new first tt tested at.libraries leaves w.in-Ok.field-0
-          (exact_answer first (Ok w.in-Ok.field-0) (w.in-Ok.ensures.refused (stored s) here.blobs)) w.in-Ok.ensures.on_any_disk.usable
-          (subst (store.IsAt facts new) becomes (w.in-Ok.ensures.ok (stored s) here.blobs)))
+          (exact_answer first (Ok w.in-Ok.field-0) (w.in-Ok.ensures.refused s here.stored)) w.in-Ok.ensures.on_any_disk.usable
+          (subst (store.IsAt facts new) becomes (w.in-Ok.ensures.ok s here.stored)))
       | in-Err w ↦ subst (λ r. Applies facts old new s q (answer_of r)) (sym (w.result-is ∙ ap Err w.refusal_of.ensures))
           (change_refused facts old s here q new first tt tested at.libraries leaves w.in-Err.refusal
-          (exact_answer first (Err w.in-Err.refusal) (w.in-Err.ensures.refused (stored s) here.blobs)) (change_deviceless s)
-          (λ is. false≢true (sym here.blobs.usable ∙ w.in-Err.ensures.on_any_disk.reopen.0 (ap Err is))) (change_may w.in-Err.refusal w.in-Err.ensures.on_any_disk.refusals)
+          (exact_answer first (Err w.in-Err.refusal) (w.in-Err.ensures.refused s here.stored)) (change_deviceless s)
+          (λ is. false≢true (sym here.stored.usable ∙ w.in-Err.ensures.on_any_disk.reopen.0 (ap Err is))) (change_may w.in-Err.refusal w.in-Err.ensures.on_any_disk.refusals)
           w.in-Err.ensures.on_any_disk.device w.in-Err.ensures.on_any_disk.same (λ is. subst IsRefusalOfChange is w.in-Err.ensures.on_any_disk.refusals))
     ])

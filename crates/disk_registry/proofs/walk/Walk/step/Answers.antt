@@ -3,9 +3,8 @@ use Rattle.std.proofs.lemmas.Result.{err_from_is_err_and}
 use Rattle.store.specs.declared.placed_entry.PlacedEntry.{PlacedEntry}
 use Rattle.elf_dynamic.specs.Strings.{needed}
 use Rattle.scope.specs.Queue.{AreApart}
-use Rattle.store.specs.Stands.{no_blob}
-use Rattle.registry.specs.Library.{Library}
-use Rattle.disk_registry.specs.Stands.{stored, library_of}
+use Rattle.store.specs.Stands.{no_library}
+use Rattle.states.specs.State.{Library}
 use Rattle.disk_registry.specs.inside.Walked.{IsWalked, more_needs}
 use Rattle.disk_registry.proofs.FilesRead.{one_read, place-above, library_there}
 use Rattle.disk_registry.specs.inside.Named.{entry_names}
@@ -27,7 +26,7 @@ returns-in_err-file-clause-intact g c s at =
     let above : 0 < get_or places (n + 1) 0 = place-above places n c.requires.places.first c.count-count.ensures.apart.distinct lt in
     let inside : c.at-position.result - 1 < length c.args.store.now.entries = omega (arith, c.at-position.ensures.at, above, c.at-position.ensures.below, c.requires.places.limit) in
     let p = err_from_is_err_and c.from_residual.result c.from_residual.ensures.1 in
-    rw p.1 (λ is. c.in_err-file.ensures.damaged (stored s) at.blobs (sym p.2 ∙ is)
+    rw p.1 (λ is. c.in_err-file.ensures.damaged s at.stored (sym p.2 ∙ is)
     (library_there g.D.Disk.facts c.args.store.now (g.met.D.Disk.holds_now c.args.store.now.disk) s at (c.at-position.result - 1) inside))
 
 pub returns-clause-ok : goal.returns-clause-ok
@@ -41,7 +40,7 @@ returns-clause-ok g c program start so_far =
     let same : c.read_library.new.store.entries ≡ start.entries = c.read_library.ensures.read.entries ∙ so_far.read.entries in
     subst (IsWalked g.D.Disk.facts program start c.read_library.new.store c.add_needed.new.self) (sym c.in_ok-keep.ensures)
     (one_read g.D.Disk.facts program start (g.met.D.Disk.holds_now start.disk) so_far apart c.requires.next f c.read_library.ensures.read
-    (λ t at. c.in_ok-file.ensures.ok t at ∙ ap (λ (k : ℕ). library_of (get_or t.blobs (k - 1) no_blob)) at_is)
+    (λ t at. c.in_ok-file.ensures.ok t at ∙ ap (λ (k : ℕ). get_or t.libraries (k - 1) no_library) at_is)
     c.in_ok-file.ensures.all_calls c.add_needed.new.self
     (c.in_ok-add_needed.ensures
     ∙ ap (λ (es : List PlacedEntry). more_needs (entry_names es) c.args.self.now.needs c.name.result.now (needed c.object.result)) same

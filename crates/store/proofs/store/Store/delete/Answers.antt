@@ -9,7 +9,8 @@ use Rattle.store.specs.declared.placed_entry.PlacedEntry.{PlacedEntry}
 use Rattle.store.specs.Opened.{IsAt}
 use Rattle.store.specs.Stands.{Stands, StandsBy, name_of, extents_of}
 use Rattle.store.specs.Stands as stands
-use Rattle.store.specs.Step.{HasName, IsNoPreload, without}
+use Rattle.store.specs.Step.{HasName, IsNoPreload}
+use Rattle.states.specs.Changes.{without}
 use Rattle.store.specs.inside.Kept.{IsKept}
 use Rattle.store.specs.inside.Next.{next_root, closed_up}
 use Rattle.store.specs.inside.Room.{IsHeld, extents_with}

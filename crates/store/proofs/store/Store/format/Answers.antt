@@ -1,5 +1,6 @@
 use Rattle.std.proofs.Common.{rules, ⊎_elim, [], length, sym, subst, ap, ◌∙◌}
-use Rattle.store.specs.Opening.{IsGeometry, RefusesFormat}
+use Rattle.store.specs.Opening.{RefusesFormat}
+use Rattle.states.specs.Geometry.{IsGeometry}
 use Rattle.store.specs.inside.First.{first_root}
 use Rattle.store.specs.inside.Kept.{IsKept}
 use Rattle.store.proofs.First.{first_kept, either_stands}

@@ -9,16 +9,17 @@ use Rattle.extents.specs.Longest.{longest_runs}
 use Rattle.store.specs.Opened.{IsAt, layout_in_use}
 use Rattle.roots.specs.Root.{listed_preloads}
 use Rattle.store.specs.declared.placed_entry.PlacedEntry.{PlacedEntry}
-use Rattle.store.specs.State.{State}
+use Rattle.states.specs.State.{State}
 use Rattle.store.specs.Taken.{IsTaken}
 use Rattle.store.specs.Stands.{Stands, StandsBy, name_of, extents_of, used}
 use Rattle.extents.specs.Used.{layout_of}
-use Rattle.store.specs.Step.{LacksName, with_new, longest_free, refusal_of_new, refusal_of_take, IsAnswer}
+use Rattle.store.specs.Step.{LacksName, longest_free, refusal_of_new, refusal_of_take, IsAnswer}
+use Rattle.states.specs.Changes.{with_new}
 use Rattle.store.specs.inside.Kept.{IsKept}
 use Rattle.store.specs.inside.Next.{next_root}
 use Rattle.store.specs.inside.Room.{IsNew, IsPut}
 use Rattle.store.proofs.Following.{following_fits}
-use Rattle.store.proofs.News.{new_next, new_kept, room_place, new_put, length-blobs}
+use Rattle.store.proofs.News.{new_next, new_kept, room_place, new_put, length-libraries}
 use Rattle.store.proofs.Placing.{taken_so}
 use Rattle.store.proofs.Rooms.{put_room, room_held}
 use Rattle.store.proofs.Frees.{free_is, longest_is, put_refused, put_taken, answers_take, new_as_put}
@@ -104,7 +105,7 @@ returns-in_err-room-clause-refused g c s at_entry =
     let free = free_is now c.self.inside.root c.self.inside.entries.items c.self.inside.layout s kept whole by in
     let longest = longest_is c.self.inside.root c.self.inside.entries.items c.self.inside.layout kept in
     let generation : s.generation ≡ c.self.inside.root.generation = ap (λ t. t.generation) by.is in
-    let count : length s.blobs ≡ length c.self.inside.entries.items = ap (λ t. length t.blobs) by.is ∙ length-blobs now c.self.inside.entries.items in
+    let count : length s.libraries ≡ length c.self.inside.entries.items = ap (λ t. length t.libraries) by.is ∙ length-libraries now c.self.inside.entries.items in
     let few = new_as_put c.self.inside.root.sectors (sector_count (longest_runs (layout_of c.self.inside.root.sectors (used c.self.inside.entries.items)))) s c.args.bytes.now (omega (arith, count, c.if-len-ge-MOST_ROOT_ENTRIES.false, c.len.ensures)) in
     let usable : s.generation ≢ 18446744073709551615 = λ is. omega (arith, is, generation, c.if-self-2.false) in
     subst (λ store. IsAnswer (refusal_of_new store.root.sectors (longest_free store) s c.args.bytes.now) c.from_residual-in_err-room.result) c.self.view_is
@@ -123,7 +124,7 @@ returns-in-Err-clause-refused g c s at_entry =
     let free = free_is now c.self.inside.root c.self.inside.entries.items c.self.inside.layout s kept whole by in
     let longest = longest_is c.self.inside.root c.self.inside.entries.items c.self.inside.layout kept in
     let generation : s.generation ≡ c.self.inside.root.generation = ap (λ t. t.generation) by.is in
-    let count : length s.blobs ≡ length c.self.inside.entries.items = ap (λ t. length t.blobs) by.is ∙ length-blobs now c.self.inside.entries.items in
+    let count : length s.libraries ≡ length c.self.inside.entries.items = ap (λ t. length t.libraries) by.is ∙ length-libraries now c.self.inside.entries.items in
     let few = new_as_put c.self.inside.root.sectors (sector_count (longest_runs (layout_of c.self.inside.root.sectors (used c.self.inside.entries.items)))) s c.args.bytes.now (omega (arith, count, c.if-len-ge-MOST_ROOT_ENTRIES.false, c.len.ensures)) in
     let usable : s.generation ≢ 18446744073709551615 = λ is. omega (arith, is, generation, c.if-self-2.false) in
     subst (λ store. IsAnswer (refusal_of_new store.root.sectors (longest_free store) s c.args.bytes.now) (Err c.from.result)) c.self.view_is
@@ -141,7 +142,7 @@ returns-clause-refused g c s at_entry =
     let free = free_is now c.self.inside.root c.self.inside.entries.items c.self.inside.layout s kept whole by in
     let longest = longest_is c.self.inside.root c.self.inside.entries.items c.self.inside.layout kept in
     let generation : s.generation ≡ c.self.inside.root.generation = ap (λ t. t.generation) by.is in
-    let count : length s.blobs ≡ length c.self.inside.entries.items = ap (λ t. length t.blobs) by.is ∙ length-blobs now c.self.inside.entries.items in
+    let count : length s.libraries ≡ length c.self.inside.entries.items = ap (λ t. length t.libraries) by.is ∙ length-libraries now c.self.inside.entries.items in
     let few = new_as_put c.self.inside.root.sectors (sector_count (longest_runs (layout_of c.self.inside.root.sectors (used c.self.inside.entries.items)))) s c.args.bytes.now (omega (arith, count, c.if-len-ge-MOST_ROOT_ENTRIES.false, c.len.ensures)) in
     let usable : s.generation ≢ 18446744073709551615 = λ is. omega (arith, is, generation, c.if-self-2.false) in
     subst (λ store. IsAnswer (refusal_of_new store.root.sectors (longest_free store) s c.args.bytes.now) (Ok tt)) c.self.view_is

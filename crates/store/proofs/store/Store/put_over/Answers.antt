@@ -13,10 +13,11 @@ use Rattle.extents.proofs.LayoutLemmas.{length-with_flags}
 use Rattle.roots.specs.Root.{listed_preloads}
 use Rattle.store.specs.declared.placed_entry.PlacedEntry.{PlacedEntry}
 use Rattle.store.specs.Opened.{IsAt, layout_in_use}
-use Rattle.store.specs.State.{State}
+use Rattle.states.specs.State.{State}
 use Rattle.store.specs.Taken.{IsTaken}
 use Rattle.store.specs.Stands.{Stands, name_of, extents_of, used}
-use Rattle.store.specs.Step.{HasName, with_bytes, longest_free, refusal_of_put, refusal_of_take, IsExactAnswer}
+use Rattle.store.specs.Step.{HasName, longest_free, refusal_of_put, refusal_of_take, IsExactAnswer}
+use Rattle.states.specs.Changes.{with_bytes}
 use Rattle.store.specs.inside.Kept.{HaveSpellings, IsKept}
 use Rattle.store.specs.inside.Next.{next_root}
 use Rattle.store.specs.inside.Room.{IsPut, IsHeld, extents_with}

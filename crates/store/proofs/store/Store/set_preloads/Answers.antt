@@ -2,8 +2,8 @@ use Rattle.std.proofs.Common.{◌⊎◌, ◌<◌, All, length, IsTrue, refl, sym
 use Rattle.sector_disk.specs.Disk.{LeavesOnly}
 use Rattle.store.specs.Opened.{IsAt}
 use Rattle.store.specs.Stands.{Stands, names_at}
-use Rattle.store.specs.State.{State}
-use Rattle.store.specs.Step.{with_preloads}
+use Rattle.states.specs.State.{State}
+use Rattle.states.specs.Changes.{with_preloads}
 use Rattle.store.specs.inside.Next.{IsNext, IsFollowed, next_root}
 use Rattle.store.proofs.Following.{following_fits, following_kept}
 use Rattle.store.proofs.Preloads.{preloads_next, preloads_followed}
@@ -20,7 +20,7 @@ choosing g c =
     let next = c.with_preloads-root.ensures ∙ ap (λ l. next_root c.self.inside.root l c.args.positions.now) c.deref.ensures.value in
     preloads_next c.args.positions.now kept c.requires.few inside c.requires.distinct (omega (arith, c.if-self-2.false, kept.root_fits.generation)) next
 
-chosen : (g : given.Over) (c : After-with_preloads-root g) (s : State) → IsFollowed c.self.inside.root c.self.inside.entries.items s c.with_preloads-root.result c.self.inside.entries.items (with_preloads (names_at s.blobs c.args.positions.now) s)
+chosen : (g : given.Over) (c : After-with_preloads-root g) (s : State) → IsFollowed c.self.inside.root c.self.inside.entries.items s c.with_preloads-root.result c.self.inside.entries.items (with_preloads (names_at s.libraries c.args.positions.now) s)
 chosen g c s = preloads_followed (choosing g c) c.self.invariant.0.root_fits s
 
 pub with_preloads-root-requires-clause-few_entries : goal.with_preloads-root-requires-clause-few_entries
@@ -34,7 +34,7 @@ pub returns-in_err-write_root-clause-any_moment : goal.returns-in_err-write_root
 returns-in_err-write_root-clause-any_moment g c s at_entry =
     let at = subst (λ store. IsAt g.D.Disk.facts store s) (sym c.self.view_is) at_entry in
     let followed = chosen g (goal.at.returns-in_err-write_root-clause-any_moment g c).After-with_preloads-root s in
-    let next = with_preloads (names_at s.blobs c.args.positions.now) s in
+    let next = with_preloads (names_at s.libraries c.args.positions.now) s in
     subst (λ store. LeavesOnly (g.D.Disk.facts store.disk) (g.D.Disk.facts c.write_root.new.disk) (λ m. Stands m s ⊎ Stands m next)) c.self.view_is
     (c.write_root.ensures.any_moment at.honest c.self.inside.root c.self.inside.entries.items s c.self.inside.entries.items next at.stands followed)
 
@@ -42,7 +42,7 @@ pub returns-clause-any_moment : goal.returns-clause-any_moment
 returns-clause-any_moment g c s at_entry =
     let at = subst (λ store. IsAt g.D.Disk.facts store s) (sym c.self.view_is) at_entry in
     let followed = chosen g (goal.at.returns-clause-any_moment g c).After-with_preloads-root s in
-    let next = with_preloads (names_at s.blobs c.args.positions.now) s in
+    let next = with_preloads (names_at s.libraries c.args.positions.now) s in
     subst (λ store. LeavesOnly (g.D.Disk.facts store.disk) (g.D.Disk.facts c.write_root.new.disk) (λ m. Stands m s ⊎ Stands m next)) c.self.view_is
     (c.write_root.ensures.any_moment at.honest c.self.inside.root c.self.inside.entries.items s c.self.inside.entries.items next at.stands followed)
 
@@ -58,7 +58,7 @@ pub returns-clause-ok : goal.returns-clause-ok
 returns-clause-ok g c s at_entry =
     let at = subst (λ store. IsAt g.D.Disk.facts store s) (sym c.self.view_is) at_entry in
     let followed = chosen g (goal.at.returns-clause-ok g c).After-with_preloads-root s in
-    let next = with_preloads (names_at s.blobs c.args.positions.now) s in
+    let next = with_preloads (names_at s.libraries c.args.positions.now) s in
     record {
       honest = subst IsTrue (sym c.write_root.ensures.calls.honest) at.honest;
       usable = refl;

@@ -1,0 +1,5 @@
+pub mod Limits
+pub mod Geometry
+pub mod State
+pub mod Cost
+pub mod Changes

@@ -1,0 +1,18 @@
+-- The limits of a state, and of the disk that holds it (own).
+use Rattle.std.specs.Prelude.{ℕ, ◌-◌, ◌^◌}
+
+-- the least sectors that a disk has
+abbrev pub least_sectors : ℕ
+least_sectors = 8
+
+-- how many libraries a state may have
+abbrev pub most_libraries : ℕ
+most_libraries = 100
+
+-- how many preloads a state may have
+abbrev pub most_preloads : ℕ
+most_preloads = 16
+
+-- the greatest generation, which no change follows
+abbrev pub last_generation : ℕ
+last_generation = 2 ^ 64 - 1
