@@ -9,6 +9,7 @@ that is refused once all files are read and admitted, so that the difference is 
 Beside them stands the time of `cp` of a file as long as the image's bytes.
 """
 
+import random
 import resource
 import struct
 import subprocess
@@ -18,7 +19,7 @@ from pathlib import Path
 
 RUNS, PAGE = 5, 0x1000
 IDENT = bytes.fromhex('7f454c46020101000000000000000000')
-GLOBAL_FUNC, GLOBAL = 0x12, 0x10
+GLOBAL_FUNC, GLOBAL, WEAK = 0x12, 0x10, 0x20
 
 
 def elf_hash(name):
@@ -47,14 +48,14 @@ class Made:
     """An object of one writable segment: its tables, `data` bytes, and `behind` bytes of memory behind the file, into which
     its relocations write. An export has its value in the memory behind the file too."""
 
-    def __init__(self, soname=None, needed=(), exports=(), undefined=(), relocations=(), data=0, behind=0, tags=()):
+    def __init__(self, soname=None, needed=(), exports=(), undefined=(), relocations=(), data=0, behind=0, tags=(), binding=GLOBAL, buckets=None):
         strings, places = b'\0', []
         for name in ([] if soname is None else [soname]) + list(needed) + list(exports) + list(undefined):
             places.append(len(strings))
             strings += name + b'\0'
         own, wanted = len([soname] if soname else []), len(needed)
         table = 64 + 112
-        words = padded(hash_table(list(exports) + list(undefined), len(exports)))
+        words = padded(hash_table(list(exports) + list(undefined), buckets or len(exports)))
         symbols = table + len(words)
         text = symbols + 24 * (1 + len(exports) + len(undefined))
         rela = text + len(padded(strings))
@@ -66,7 +67,7 @@ class Made:
         end = dynamic + 16 * len(entries) + data
         self.memory = end = (end + 7) // 8 * 8
         rows = [struct.pack('<IBBHQQ', p, GLOBAL_FUNC, 0, 1, end + 8 * i, 8) for i, p in enumerate(places[own + wanted:][:len(exports)])]
-        rows += [struct.pack('<IBBHQQ', p, GLOBAL, 0, 0, 0, 0) for p in places[own + wanted + len(exports):]]
+        rows += [struct.pack('<IBBHQQ', p, binding, 0, 0, 0, 0) for p in places[own + wanted + len(exports):]]
         headers = [(1, 6, 0, 0, end, end + behind, PAGE), (2, 6, dynamic, dynamic, 16 * len(entries), 16 * len(entries), 8)]
         file = IDENT + struct.pack('<HHIQQQIHHHHHH', 3, 62, 1, 0, 64, 0, 0, 64, 56, 2, 0, 0, 0)
         file += b''.join(struct.pack('<IIQQQQQQ', k, f, o, a, a, s, m, n) for k, f, o, a, s, m, n in headers)
@@ -142,7 +143,50 @@ def many_lookups():
                 behind=400_000), libraries + [last]
 
 
-MADE = [chain, mesh, exports, own_names, symbolic, one_symbol, megabytes, many_lookups]
+def function(library, i):
+    return b'lib%d_ZN4part%d6module8function%dEv' % (library, i % 97, i)
+
+
+def graph(count):
+    """So many libraries with 2,000 exports each, which name 1,000 exports of three others and 500 of their own; a program that
+    names 2,000 exports of all of them."""
+    libraries = []
+    for k in range(count):
+        pick = random.Random(k)
+        needs = sorted({(k + 1) % count, (2 * k + 1) % count, (3 * k + 7) % count} - {k})
+        theirs = [function(pick.choice(needs), i) for i in pick.sample(range(2_000), 1_000)]
+        relocations = [(6, 8 * i, 2_001 + i, 0) for i in range(1_000)] + [(7, 8_000 + 8 * i, 1 + i, 0) for i in range(500)]
+        relocations += [(8, 12_000 + 8 * i, 0, 64 * i) for i in range(500)]
+        libraries.append(Made(name(k), [name(i) for i in needs], [function(k, i) for i in range(2_000)], theirs, relocations, behind=16_000, buckets=1_501))
+    wanted = [function(i % count, i) for i in range(2_000)]
+    relocations = [(1, 8 * i, 1 + i, 0) for i in range(2_000)]
+    return Made(needed=[name(i) for i in range(count)], undefined=wanted, relocations=relocations, behind=16_000), libraries
+
+
+def graph_25():
+    """25 libraries."""
+    return graph(25)
+
+
+def graph_50():
+    """50 libraries."""
+    return graph(50)
+
+
+def graph_100():
+    """100 libraries."""
+    return graph(100)
+
+
+def absent():
+    """25,000 weak names that none of 100 libraries with 1,000 exports each has."""
+    libraries = [Made(name(k), exports=[function(k, i) for i in range(1_000)], behind=8_000, buckets=501) for k in range(100)]
+    relocations = [(1, 8 * i, 1 + i, 0) for i in range(25_000)]
+    wanted = [b'no_' + function(0, i) for i in range(25_000)]
+    return Made(needed=[name(i) for i in range(100)], undefined=wanted, relocations=relocations, behind=200_000, binding=WEAK), libraries
+
+
+MADE = [chain, mesh, exports, own_names, symbolic, one_symbol, megabytes, many_lookups, graph_25, graph_50, graph_100, absent]
 
 
 def make(folder):

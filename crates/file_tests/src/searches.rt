@@ -1,8 +1,9 @@
 // The rows of the hash, and the search by chains beside a plain one.
 
 use elf_dynamic::{Object, ObjectRefusal};
-use hash_check::{AdmitRefusal, Admitted, FileRefusal, ReadRefusal, elf_hash};
+use hash_check::{AdmitRefusal, Admitted, FileRefusal, KeyedName, ReadRefusal, elf_hash, key_of};
 use std::alloc::Global;
+use std::test::Fail;
 
 /// A library named q with two buckets, which exports f and g and refers to u.
 pub(crate) fn library() -> &'static [u8] {
@@ -142,6 +143,41 @@ fn hashes_names(rt: HostRuntime) {
     assert_eq!(rt; elf_hash(b"printf"), 0x0779_05a6);
     assert_eq!(rt; elf_hash(b"abcdefg"), 0x0789_aba7);
     assert_eq!(rt; elf_hash(b"abcdefgh"), 0x089a_baa8);
+}
+
+#[test]
+fn makes_keys_of_names(rt: HostRuntime) {
+    assert_eq!(rt; key_of(b""), 0);
+    assert_eq!(rt; key_of(b"ab"), 0x6162);
+    assert_eq!(rt; key_of(b"abcdefg"), 0x0061_6263_6465_6667);
+    assert_eq!(rt; key_of(b"abcdefgh"), 0xf09c_bc5d_ba45_a70d);
+    assert_eq!(rt;
+        key_of(b"abcdefghijklmnopqrstuvwxyz"),
+        0xb19e_71bd_eaf6_6dda
+    );
+}
+
+#[test]
+fn exported_names_have_their_keys(rt: HostRuntime) -> Result<(), Fail> {
+    let admitted = Admitted::read(rt.alloc(), library());
+    let admitted = admitted.ok().ok_or("refused")?;
+    let names = admitted.exported_names(rt.alloc())?;
+    let expected = [(1, 0x66), (2, 0x67)];
+    assert_eq!(rt; names.len(), expected.len());
+    for (name, (symbol, key)) in names.iter().zip(expected) {
+        let length = 1;
+        assert_eq!(rt;
+            *name,
+            KeyedName {
+                key,
+                symbol,
+                length
+            }
+        );
+    }
+    assert_eq!(rt; admitted.name_at(2), b"g".as_slice());
+    assert_eq!(rt; admitted.name_at(4), b"".as_slice());
+    Ok(())
 }
 
 #[test]

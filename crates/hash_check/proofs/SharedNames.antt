@@ -18,10 +18,10 @@ use Rattle.elf_dynamic.specs.Strings.{name_of}
 use Rattle.elf_dynamic.specs.Strings.{string_table, string_at}
 use Rattle.hash_check.specs.Export.{is_exported, exported_symbols}
 use Rattle.hash_check.specs.Definition.{is_exported_as, HasUniqueNames, HasSharedName, has_duplicate_definition}
-use Rattle.hash_check.specs.inside.Names.{name_at, IsSymbol, AllDiffer, HasEqualNeighbours}
+use Rattle.hash_check.specs.inside.Names.{IsSymbol, AllDiffer, HasEqualNeighbours}
 use Rattle.hash_check.proofs.Exported.{exported_some, exported_within}
 use Rattle.hash_check.proofs.Ordering.{Differ, differ-moved}
-use Rattle.hash_check.proofs.NameLengths.{name-is-there, name-from-offset}
+use Rattle.hash_check.proofs.NameLengths.{name-is-string}
 
 -- the parts of the test of one symbol
 pub exported-as : (file name : List ℕ) (i : ℕ) → is_exported_as file name i ≡ true → is_exported file i ≡ true
@@ -151,11 +151,8 @@ differ-from-test file none = record {
       let early : i < length (exported_symbols file) = omega arith in
       let fi : is_exported file (get_or (exported_symbols file) i 0) ≡ true = exported-passes file i 0 early in
       let fj : is_exported file (get_or (exported_symbols file) j 0) ≡ true = exported-passes file j 0 lt in
-      let names : name_of file (get_or (exported_symbols file) i 0) ≡ name_of file (get_or (exported_symbols file) j 0) =
-      sym (name-is-there file (get_or (exported_symbols file) i 0) (exported_within file (get_or (exported_symbols file) i 0) fi)) ∙ same
-      ∙ name-is-there file (get_or (exported_symbols file) j 0) (exported_within file (get_or (exported_symbols file) j 0) fj) in
       let one : get_or (exported_symbols file) i 0 ≡ get_or (exported_symbols file) j 0 =
-      (unique-from-test file none).unique (get_or (exported_symbols file) i 0) (get_or (exported_symbols file) j 0) fi fj names in
+      (unique-from-test file none).unique (get_or (exported_symbols file) i 0) (get_or (exported_symbols file) j 0) fi fj same in
       let rise : get_or (exported_symbols file) i 0 < get_or (exported_symbols file) j 0 = exported-rises file i j 0 less lt in
       omega arith;
 }
@@ -164,10 +161,8 @@ shared-doesn't-differ : (file : List ℕ) → AllDiffer file (exported_symbols f
 shared-doesn't-differ file h s =
     let a = stands file s.first s.first_exported in
     let b = stands file s.second s.second_exported in
-    let at-first : name_at file s.first ≡ name_of file s.first = name-is-there file s.first (exported_within file s.first s.first_exported) in
-    let at-second : name_at file s.second ≡ name_of file s.second = name-is-there file s.second (exported_within file s.second s.second_exported) in
-    let same : name_at file (get_or (exported_symbols file) a.place 0) ≡ name_at file (get_or (exported_symbols file) b.place 0) =
-    ap (name_at file) a.is ∙ at-first ∙ s.same ∙ sym at-second ∙ ap (name_at file) (sym b.is) in
+    let same : name_of file (get_or (exported_symbols file) a.place 0) ≡ name_of file (get_or (exported_symbols file) b.place 0) =
+    ap (name_of file) a.is ∙ s.same ∙ ap (name_of file) (sym b.is) in
     elim (cases_lt a.place b.place) [
       | inl less ↦ h.differ a.place b.place less b.within same
       | inr ge ↦ elim (cases_lt b.place a.place) [
@@ -198,19 +193,19 @@ test-some file h = elim (has_duplicate_definition file) as (λ b. has_duplicate_
 pub few-differ : (file : List ℕ) → length (exported_symbols file) < 2 → AllDiffer file (exported_symbols file)
 few-differ file few = record { differ = λ i j less lt same. absurd (omega arith) }
 
-to-differ : (file numbers : List ℕ) → AllDiffer file numbers → Differ (name_at file) numbers
+to-differ : (file numbers : List ℕ) → AllDiffer file numbers → Differ (name_of file) numbers
 to-differ file numbers h = record {
   differ = λ i j d less lt same.
       let early : i < length numbers = omega arith in
-      h.differ i j less lt (ap (name_at file) (sym (get_or_default numbers i d 0 early)) ∙ same ∙ ap (name_at file) (get_or_default numbers j d 0 lt));
+      h.differ i j less lt (ap (name_of file) (sym (get_or_default numbers i d 0 early)) ∙ same ∙ ap (name_of file) (get_or_default numbers j d 0 lt));
 }
 
-from-differ : (file numbers : List ℕ) → Differ (name_at file) numbers → AllDiffer file numbers
+from-differ : (file numbers : List ℕ) → Differ (name_of file) numbers → AllDiffer file numbers
 from-differ file numbers h = record { differ = λ i j less lt same. h.differ i j 0 less lt same }
 
 -- whether they differ doesn't depend on their places
 pub all-differ-moved : (file xs ys : List ℕ) → IsPermutation xs ys → AllDiffer file xs → AllDiffer file ys
-all-differ-moved file xs ys moved h = from-differ file ys (differ-moved (name_at file) xs ys moved (to-differ file xs h))
+all-differ-moved file xs ys moved h = from-differ file ys (differ-moved (name_of file) xs ys moved (to-differ file xs h))
 
 pub symbols-moved : (file xs ys : List ℕ) → IsPermutation xs ys → All (IsSymbol file) xs → All (IsSymbol file) ys
 symbols-moved file xs ys moved h = All-permutation (IsSymbol file) xs ys moved h
@@ -223,7 +218,7 @@ neighbours-share file xs valid h differ =
     let a : ℕ = get_or xs h.place 0 in
     let b : ℕ = get_or xs (h.place + 1) 0 in
     differ.differ h.place (h.place + 1) next h.within
-    (name-from-offset file (get_or xs h.place 0) (valid h.place 0 early) ∙ ap (string_at (string_table file)) h.same ∙ sym (name-from-offset file (get_or xs (h.place + 1) 0) (valid (h.place + 1) 0 h.within)))
+    (name-is-string file (get_or xs h.place 0) (valid h.place 0 early) ∙ ap (string_at (string_table file)) h.same ∙ sym (name-is-string file (get_or xs (h.place + 1) 0) (valid (h.place + 1) 0 h.within)))
 
 -- the answer of a test of symbols that have changed their places
 pub not-differ : (file moved_symbols : List ℕ) → IsPermutation (exported_symbols file) moved_symbols → (b : Bool)

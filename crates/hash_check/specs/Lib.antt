@@ -1,5 +1,7 @@
 pub mod Hash
 pub mod Export
+pub mod Key
+pub mod KeyedName
 pub mod Definition
 pub mod Walk
 pub mod HashTable

@@ -1,9 +1,12 @@
 // An admitted object.
 
-ghost use Rattle.std.specs.Prelude.{◌≡◌, Some, None, true, false, IfOk, IfErr, OnOk, OnErr};
+ghost use Rattle.std.specs.Prelude.{◌≡◌, map, Some, None, true, false, IfOk, IfErr, OnOk, OnErr};
+ghost use Rattle.std.specs.List.Sorted.{IsPermutation};
 ghost use Rattle.elf_dynamic.specs.Refusal.{first_refusal};
-ghost use Rattle.elf_dynamic.specs.Strings.{soname};
+ghost use Rattle.elf_dynamic.specs.Strings.{name_of, soname};
 ghost use Rattle.elf_file.specs.declared.refusal.ObjectRefusal.TheVariants.{BadSoname};
+ghost use Rattle.hash_check.specs.Export.{exported_symbols};
+ghost use Rattle.hash_check.specs.KeyedName.{named};
 ghost use Rattle.hash_check.specs.Hash.{elf_hash};
 ghost use Rattle.hash_check.specs.Definition.{definition_of, HasUniqueNames};
 ghost use Rattle.hash_check.specs.HashTable.{HasGoodTable};
@@ -12,13 +15,16 @@ ghost use Rattle.hash_check.specs.Search.{compared};
 ghost use Rattle.hash_check.specs.Soname.{has_bad_soname};
 
 use crate::duplicates::has_duplicate_definition;
+use crate::exported_names::exported_names;
 use crate::hash::elf_hash;
+use crate::keyed_name::KeyedName;
+use crate::names::name_at;
 use crate::refusal::AdmitRefusal;
 use crate::search::{Found, search};
 use crate::soname::is_library_name;
 use crate::table::has_bad_hash_table;
 use elf_dynamic::{Object, ObjectRefusal};
-use std::alloc::Global;
+use std::alloc::{AllocError, Global};
 use std::marker::Model;
 
 /// A shared object that no test refuses, that exports no name twice, and whose hash table can be
@@ -87,6 +93,13 @@ impl<'a> Admitted<'a> {
         &self.object
     }
 
+    /// The name of the symbol of a number; the empty one where there is no such symbol.
+    pub fn name_at(&self, i: u32) -> &'a [u8]
+        ensures { result.now ≡ name_of self.now i }
+    {
+        name_at(self.object(), i)
+    }
+
     /// The name of a library: its SONAME, or E33.
     #[tactic(auto, unfolding(crate::specs::Soname::has_bad_soname))]
     pub fn library_name(&self) -> Result<&'a [u8], ObjectRefusal>
@@ -116,5 +129,14 @@ impl<'a> Admitted<'a> {
         ensures compared { result.compared ≡ compared self.now name.now hash }
     {
         search(self.object(), name, hash)
+    }
+    /// The exported symbols with the keys of their names, for tables over several objects. It takes
+    /// some 20 bytes an exported symbol, of which it keeps 16.
+    pub fn exported_names(&self, alloc: Global) -> Result<Vec<KeyedName>, AllocError>
+        // Each exported symbol once, in any order.
+        ensures { IfOk result (λ names.
+            IsPermutation (map (named self.now) (exported_symbols self.now)) names.items) }
+    {
+        exported_names(alloc, self.object())
     }
 }

@@ -3,23 +3,18 @@
 ghost use Rattle.std.specs.Prelude.{◌≡◌, ◌<◌, ◌≤◌, ◌+◌, ◌↔◌, length, map, IsTrue, IfOk};
 ghost use Rattle.std.specs.List.{All};
 ghost use Rattle.std.specs.Option.{ForSome};
-ghost use Rattle.hash_check.specs.inside.Names.{name_at, IsSymbol, IsLengthOf, offset_of, IsStretch};
-ghost use Rattle.hash_check.specs.inside.Names.{BeginsIn, named, text_order, order, Rises, AllDiffer};
+ghost use Rattle.elf_dynamic.specs.Strings.{name_of};
+ghost use Rattle.hash_check.specs.KeyedName.{named};
+ghost use Rattle.hash_check.specs.inside.Names.{IsSymbol, IsLengthOf, offset_of, IsStretch};
+ghost use Rattle.hash_check.specs.inside.Names.{BeginsIn, text_order, order, Rises, AllDiffer};
 ghost use Rattle.hash_check.specs.inside.Names.{IsTableOf};
-ghost use Rattle.hash_check.specs.inside.Key.{key_of};
+ghost use Rattle.hash_check.specs.Key.{key_of};
 
 use crate::key::key_of;
+use crate::keyed_name::KeyedName;
 use elf_dynamic::Object;
 use std::alloc::{AllocError, Global};
 use std::cmp::Ordering;
-
-/// A symbol with the key of its name and the lowest 32 bits of its length in bytes.
-#[derive(Clone, Copy)]
-pub(crate) struct Name {
-    key: u64,
-    symbol: u32,
-    length: u32,
-}
 
 /// A string of the string table: where it begins, and how many bytes it has.
 #[derive(Clone, Copy)]
@@ -40,9 +35,8 @@ pub(crate) fn offset_of(object: &Object<'_>, i: u32) -> u32
 }
 
 /// The name of a symbol; the empty one for a number that is no symbol's.
-#[tactic(auto, unfolding(crate::specs::inside::Names::name_at))]
-fn name_at<'a>(object: &Object<'a>, i: u32) -> &'a [u8]
-    ensures { result.now ≡ name_at object.now i }
+pub(crate) fn name_at<'a>(object: &Object<'a>, i: u32) -> &'a [u8]
+    ensures { result.now ≡ name_of object.now i }
 {
     if i < object.symbol_count() {
         object.name_of(i)
@@ -75,7 +69,7 @@ fn stretch_of(object: &Object<'_>, last: Option<Stretch>, i: u32) -> Stretch
 fn text_of<'a>(object: &Object<'a>, symbol: u32, length: usize) -> &'a [u8]
     requires symbol { IsSymbol object.now symbol }
     requires length { IsLengthOf object.now symbol length }
-    ensures { result.now ≡ name_at object.now symbol }
+    ensures { result.now ≡ name_of object.now symbol }
 {
     let table = object.string_table();
     let from = (offset_of(object, symbol) as usize).min(table.len());
@@ -84,12 +78,12 @@ fn text_of<'a>(object: &Object<'a>, symbol: u32, length: usize) -> &'a [u8]
 }
 
 /// A symbol with its key, where the length of its name is known.
-fn name_of_length(object: &Object<'_>, symbol: u32, length: usize) -> Name
+fn name_of_length(object: &Object<'_>, symbol: u32, length: usize) -> KeyedName
     requires symbol { IsSymbol object.now symbol }
     requires length { IsLengthOf object.now symbol length }
     ensures { result ≡ named object.now symbol }
 {
-    Name {
+    KeyedName {
         key: key_of(text_of(object, symbol, length)),
         symbol,
         length: (length % (1 << 32)) as u32,
@@ -98,7 +92,11 @@ fn name_of_length(object: &Object<'_>, symbol: u32, length: usize) -> Name
 
 /// The names of symbols. Where these are sorted by the places of their names, each byte is looked
 /// at once: a name that begins within the one before it ends where that one does.
-fn names_of(alloc: Global, object: &Object<'_>, symbols: &[u32]) -> Result<Vec<Name>, AllocError>
+pub(crate) fn names_of(
+    alloc: Global,
+    object: &Object<'_>,
+    symbols: &[u32],
+) -> Result<Vec<KeyedName>, AllocError>
     requires { All (IsSymbol object.now) symbols.now }
     ensures { IfOk result (λ names. names.items ≡ map (named object.now) symbols.now) }
 {
@@ -117,7 +115,7 @@ fn names_of(alloc: Global, object: &Object<'_>, symbols: &[u32]) -> Result<Vec<N
 
 /// The order of two names of one key: by their lengths, then by their bytes. No byte of two names
 /// of different lengths is read.
-fn compare_texts(object: &Object<'_>, a: Name, b: Name) -> Ordering
+fn compare_texts(object: &Object<'_>, a: KeyedName, b: KeyedName) -> Ordering
     ensures { result ≡ text_order object.now a b }
 {
     match a.length.cmp(&b.length) {
@@ -127,7 +125,7 @@ fn compare_texts(object: &Object<'_>, a: Name, b: Name) -> Ordering
 }
 
 /// The order of two names: by their keys, then by their lengths, then by their bytes.
-fn compare(object: &Object<'_>, a: Name, b: Name) -> Ordering
+fn compare(object: &Object<'_>, a: KeyedName, b: KeyedName) -> Ordering
     ensures { result ≡ order object.now a b }
 {
     match a.key.cmp(&b.key) {
@@ -137,7 +135,7 @@ fn compare(object: &Object<'_>, a: Name, b: Name) -> Ordering
 }
 
 /// Whether each name comes before the next one in the order.
-fn rise(object: &Object<'_>, names: &[Name]) -> bool
+fn rise(object: &Object<'_>, names: &[KeyedName]) -> bool
     ensures { IsTrue result ↔ Rises object.now names.now }
 {
     for i in 1..names.len() {
@@ -155,7 +153,7 @@ fn sorted_names(
     alloc: Global,
     object: &Object<'_>,
     symbols: &[u32],
-) -> Result<Vec<Name>, AllocError>
+) -> Result<Vec<KeyedName>, AllocError>
     requires { All (IsSymbol object.now) symbols.now }
     ensures { IfOk result (λ names. IsTableOf object.now symbols.now names.items) }
 {

@@ -1,6 +1,9 @@
 pub mod Growing
 pub mod Reaching
 pub mod Found
+pub mod EntryOrder
+pub mod AllEntries
+pub mod TableSearch
 pub mod Apart
 pub mod Naming
 pub mod Missing

@@ -6,6 +6,7 @@
 //! undefined.
 #![tactic(auto)]
 
+mod entry;
 mod installed;
 mod level;
 mod library;
@@ -18,7 +19,9 @@ mod order;
 mod places;
 mod refusal;
 mod resolution;
+mod table;
 mod target;
+mod worth;
 
 pub use level::first_level;
 pub use library::Library;

@@ -104,5 +104,5 @@ pub fn load_order<'a>(
     ensures refused { IfErr result (IsRefusal (missing program.now libraries.now preloads.now)) }
 {
     let places = load_places(alloc, program, libraries, preloads)?;
-    Ok(Order::new(objects_at(alloc, program, libraries, &places)?))
+    Ok(Order::new(alloc, objects_at(alloc, program, libraries, &places)?))
 }

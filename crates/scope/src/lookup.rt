@@ -1,12 +1,12 @@
 // The search for a name among objects.
 
-ghost use Rattle.std.specs.Prelude.{◌≡◌, ◌-◌, ◌<◌, ◌≤◌, length, map};
-ghost use Rattle.std.specs.List.{range_with_len};
+ghost use Rattle.std.specs.Prelude.{◌≡◌, ◌<◌, length, map};
 ghost use Rattle.elf_file.specs.FirstOf.{first_of};
 ghost use Rattle.hash_check.specs.Hash.{elf_hash};
-ghost use Rattle.scope.specs.Lookup.{definition_at, lookup};
+ghost use Rattle.scope.specs.Lookup.{all_places, definition_at, lookup};
 
 use crate::order::Order;
+use crate::table::find_first;
 use crate::target::Target;
 use hash_check::elf_hash;
 
@@ -25,21 +25,14 @@ fn definition_at(order: &Order<'_>, place: usize, name: &[u8], hash: u32) -> Opt
     }
 }
 
-/// The first definition of a name of this hash at the places `first` to `end - 1`, weak or not.
-fn first_definition(
-    order: &Order<'_>,
-    first: usize,
-    end: usize,
-    name: &[u8],
-    hash: u32,
-) -> Option<Target>
-    requires places { first ≤ end }
-    requires inside { end ≤ length order.now }
-    requires hash { hash ≡ elf_hash name.now }
+/// The first definition of a name of this hash in load order, weak or not, by a walk in each object
+/// up to the one that defines it.
+fn first_by_walks(order: &Order<'_>, name: &[u8], hash: u32) -> Option<Target>
+    requires { hash ≡ elf_hash name.now }
     ensures { result ≡ first_of
-        (map (definition_at order.now name.now) (range_with_len first (end - first))) }
+        (map (definition_at order.now name.now) (all_places order.now)) }
 {
-    for place in first..end {
+    for place in 0..order.count() {
         if let Some(found) = definition_at(order, place, name, hash) {
             return Some(found);
         }
@@ -47,20 +40,29 @@ fn first_definition(
     None
 }
 
+/// The first definition of a name in load order, weak or not: by one search in the order's table of
+/// all exported names, where it has one.
+fn first_definition(order: &Order<'_>, name: &[u8]) -> Option<Target>
+    ensures { result ≡ first_of
+        (map (definition_at order.now name.now) (all_places order.now)) }
+{
+    match order.table() {
+        Some(table) => find_first(order.objects(), table, name),
+        None => first_by_walks(order, name, elf_hash(name)),
+    }
+}
+
 /// The first definition of a name, weak or not, for the object at a place, that asks: in load
-/// order, and before that in the object itself where it is symbolic. It hashes the name once, and
-/// follows one walk in each object up to the one that defines it, for a symbolic object one more.
+/// order, and before that in the object itself where it is symbolic.
 #[tactic(auto, unfolding(crate::specs::Lookup::lookup))]
 pub(crate) fn lookup(order: &Order<'_>, object: usize, name: &[u8]) -> Option<Target>
     requires { object < length order.now }
     ensures { result ≡ lookup order.now object name.now }
 {
-    let hash = elf_hash(name);
-    let count = order.count();
     if order.is_symbolic(object) {
-        if let Some(own) = first_definition(order, object, object + 1, name, hash) {
+        if let Some(own) = definition_at(order, object, name, elf_hash(name)) {
             return Some(own);
         }
     }
-    first_definition(order, 0, count, name, hash)
+    first_definition(order, name)
 }

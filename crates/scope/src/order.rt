@@ -1,12 +1,16 @@
 // Objects in load order.
 
-ghost use Rattle.std.specs.Prelude.{◌≡◌, ◌<◌, length, IfOk};
+ghost use Rattle.std.specs.Prelude.{◌≡◌, ◌<◌, length, IfOk, IfSome};
+ghost use Rattle.std.specs.List.{All};
 ghost use Rattle.elf_file.specs.Dynamic.{is_symbolic};
 ghost use Rattle.scope.specs.LoadOrder.{available};
-ghost use Rattle.scope.specs.Objects.{IsOrder, name_at, file_at, program_name};
+ghost use Rattle.scope.specs.Objects.{IsOrder, IsTaken, name_at, file_at, program_name};
+ghost use Rattle.scope.specs.inside.Entries.{IsTableOf};
 
+use crate::entry::Entry;
 use crate::library::Library;
 use crate::loaded::LoadedObject;
+use crate::worth::worthy_table;
 use hash_check::Admitted;
 use std::alloc::{AllocError, Global};
 use std::marker::Model;
@@ -22,30 +26,36 @@ pub fn program_name<'a>() -> &'a [u8]
 }
 
 /// A program and the libraries that are bound with it, in load order: the program is the first and
-/// goes by the name `/program`. Contracts see the names and the files' bytes.
+/// goes by the name `/program`. Contracts see the names and the files' bytes. Where there are more
+/// symbols to look up than the objects are worth, it has a table of all exported names.
 #[derive(Drop)]
 pub struct Order<'a> {
     objects: Vec<LoadedObject<'a>>,
+    table: Option<Vec<Entry>>,
 }
 
 impl<'a> Model for Order<'a> {
-    ghost use Rattle.std.specs.Prelude.{List};
+    ghost use Rattle.std.specs.Prelude.{List, IfSome};
     ghost use Rattle.scope.specs.Objects.{Named, IsOrder};
+    ghost use Rattle.scope.specs.inside.Entries.{IsTableOf};
 
     ghost Value = { List Named };
 
     ghost view = { λ o. o.objects.items };
 
-    ghost invariant = { λ o. IsOrder o.objects.items };
+    ghost invariant = { λ o. IsOrder o.objects.items
+        × IfSome o.table (λ t. IsTableOf o.objects.items t.items) };
 }
 
 impl<'a> Order<'a> {
-    /// An order of these objects.
-    pub(crate) fn new(objects: Vec<LoadedObject<'a>>) -> Order<'a>
+    /// An order of these objects. It takes memory for a table of names where this is worth it, and
+    /// goes without where that memory is refused.
+    pub(crate) fn new(alloc: Global, objects: Vec<LoadedObject<'a>>) -> Order<'a>
         requires { IsOrder objects.items }
         ensures { result ≡ objects.entry.items }
     {
-        Order { objects }
+        let table = worthy_table(alloc, &objects);
+        Order { objects, table }
     }
 
     /// The order of a program and of libraries that are in load order already, for callers that
@@ -63,7 +73,7 @@ impl<'a> Order<'a> {
         for library in libraries {
             objects.push(LoadedObject::new(library.name(), library.object()))?;
         }
-        Ok(Order::new(objects))
+        Ok(Order::new(alloc, objects))
     }
 
     /// How many objects there are.
@@ -92,6 +102,24 @@ impl<'a> Order<'a> {
         ensures order { IsOrder self.now }
     {
         self.objects[i].object()
+    }
+
+    /// The objects, for a search in the table.
+    pub(crate) fn objects(&self) -> &[LoadedObject<'a>]
+        ensures objects { result.now ≡ self.now }
+        ensures taken { All (λ o. IsTaken o.file) self.now }
+    {
+        &self.objects
+    }
+
+    /// The table of all exported names, if there is one.
+    pub(crate) fn table(&self) -> Option<&[Entry]>
+        ensures { IfSome result (λ t. IsTableOf self.now t.now) }
+    {
+        match &self.table {
+            Some(entries) => Some(entries),
+            None => None,
+        }
     }
 
     /// Whether the object number `i` is looked in first for its own references.

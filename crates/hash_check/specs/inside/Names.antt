@@ -1,5 +1,5 @@
 -- The names of the exported symbols, as they are sorted to find two that are the same.
-use Rattle.std.specs.Prelude.{ℕ, List, [], ◌∷◌, ◌≡◌, ◌≢◌, ◌<◌, ◌≤◌, ◌+◌, ◌%◌, ◌^◌, nat_lt, length, map, slice_index, slice_index_or, slice_get, if◌then◌else◌}
+use Rattle.std.specs.Prelude.{ℕ, List, ◌∷◌, ◌≡◌, ◌≢◌, ◌<◌, ◌≤◌, ◌+◌, length, map, slice_index, slice_index_or, slice_get}
 use Rattle.std.specs.Cmp.Lexicographic.{slice_cmp}
 use Rattle.std.specs.Ordering.{nat_cmp, is_lt}
 use Rattle.std.specs.List.Sorted.{IsPermutation, IsSortedBy}
@@ -9,13 +9,9 @@ use Rattle.std.specs.declared.cmp.Ordering.TheVariants.{Less}
 use Rattle.elf_dynamic.specs.Symbol.{symbols}
 use Rattle.elf_dynamic.specs.Strings.{name_of}
 use Rattle.elf_dynamic.specs.Strings.{string_table, string_at}
-use Rattle.hash_check.specs.inside.Key.{key_of}
-use Rattle.hash_check.specs.declared.names.Name.{Name}
+use Rattle.hash_check.specs.KeyedName.{named}
+use Rattle.hash_check.specs.declared.keyed_name.KeyedName.{KeyedName}
 use Rattle.hash_check.specs.declared.names.Stretch.{Stretch}
-
--- the name of a symbol; the empty one for a number that is no symbol's
-unfoldable pub name_at : List ℕ → ℕ → List ℕ
-name_at file i = if nat_lt i (length (symbols file)) then name_of file i else []
 
 -- a symbol other than number 0
 pub record IsSymbol (file : List ℕ) (i : ℕ) : Type 0 where
@@ -34,43 +30,39 @@ IsStretch file s = length (string_at (string_table file) s.from) ≡ s.length
 abbrev pub BeginsIn : List ℕ → ℕ → Stretch → Type 0
 BeginsIn file i s = (s.from ≤ offset_of file i) × (offset_of file i ≤ s.from + s.length)
 
--- a symbol with the key of its name and the lowest 32 bits of its length
-unfoldable pub named : List ℕ → ℕ → Name
-named file i = record { key = key_of (name_at file i); symbol = i; length = length (name_at file i) % 2 ^ 32 }
-
 -- names of one key by their lengths, then by their bytes
-unfoldable pub text : List ℕ → Name → List ℕ
-text file name = name.length ∷ name_at file name.symbol
+unfoldable pub text : List ℕ → KeyedName → List ℕ
+text file name = name.length ∷ name_of file name.symbol
 
-abbrev pub text_order : List ℕ → Name → Name → Ordering
+abbrev pub text_order : List ℕ → KeyedName → KeyedName → Ordering
 text_order file a b = slice_cmp nat_cmp (text file a) (text file b)
 
 -- names by their keys, then by their lengths, then by their bytes
-unfoldable pub key : List ℕ → Name → List ℕ
+unfoldable pub key : List ℕ → KeyedName → List ℕ
 key file name = name.key ∷ text file name
 
-abbrev pub order : List ℕ → Name → Name → Ordering
+abbrev pub order : List ℕ → KeyedName → KeyedName → Ordering
 order file a b = slice_cmp nat_cmp (key file a) (key file b)
 
-abbrev pub nth_name : List Name → ℕ → Name
+abbrev pub nth_name : List KeyedName → ℕ → KeyedName
 nth_name names k = slice_index_or names k (record { key = 0; symbol = 0; length = 0 })
 
 -- so many bytes are as long as the name of a symbol
 abbrev pub IsLengthOf : List ℕ → ℕ → ℕ → Type 0
-IsLengthOf file i n = n ≡ length (name_at file i)
+IsLengthOf file i n = n ≡ length (name_of file i)
 
 -- the names of symbols, sorted by their order
-pub record IsTableOf (file symbols : List ℕ) (names : List Name) : Type 0 where
+pub record IsTableOf (file symbols : List ℕ) (names : List KeyedName) : Type 0 where
   pub moved : IsPermutation (map (named file) symbols) names
   pub sorted : IsSortedBy (λ a b. is_lt (order file a b)) names
 
 -- each name comes before the next one
-pub record Rises (file : List ℕ) (names : List Name) : Type 0 where
+pub record Rises (file : List ℕ) (names : List KeyedName) : Type 0 where
   pub rise : (k : ℕ) → k + 1 < length names → order file (nth_name names k) (nth_name names (k + 1)) ≡ Less
 
 -- no two of the symbols have the same name
 pub record AllDiffer (file numbers : List ℕ) : Type 0 where
-  pub differ : (i j : ℕ) → i < j → j < length numbers → name_at file (slice_index numbers i) ≢ name_at file (slice_index numbers j)
+  pub differ : (i j : ℕ) → i < j → j < length numbers → name_of file (slice_index numbers i) ≢ name_of file (slice_index numbers j)
 
 -- two neighbours of a list of symbols have their names at one place
 pub record HasEqualNeighbours (file numbers : List ℕ) : Type 0 where

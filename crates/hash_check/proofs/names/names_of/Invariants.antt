@@ -1,6 +1,7 @@
 use Rattle.std.proofs.Common.{◌≡◌, map, take}
 use Rattle.std.specs.Option.{ForSome}
-use Rattle.hash_check.specs.inside.Names.{IsStretch, named}
+use Rattle.hash_check.specs.inside.Names.{IsStretch}
+use Rattle.hash_check.specs.KeyedName.{named}
 use Rattle.hash_check.proofs.names.names_of.Given as goal
 
 abbrev pub invariant-loop-number : goal.invariant-loop-number

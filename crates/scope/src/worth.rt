@@ -1,0 +1,103 @@
+// Whether a table of names is worth its cost.
+
+ghost use Rattle.std.specs.Prelude.{◌<◌, ◌≤◌, length, IfSome};
+ghost use Rattle.elf_dynamic.specs.HashTable.{buckets};
+ghost use Rattle.scope.specs.inside.Entries.{IsTableOf};
+
+use crate::entry::Entry;
+use crate::loaded::LoadedObject;
+use crate::table::sorted_entries;
+use elf_dynamic::{Object, R_X86_64_64, R_X86_64_GLOB_DAT, R_X86_64_JUMP_SLOT};
+use std::alloc::Global;
+
+/// How many walks of an object are followed to see how long they are.
+const SAMPLES: u32 = 16;
+
+/// How far each of them is followed, in symbols.
+const LONGEST: u32 = 64;
+
+/// How many samples of walks take as long as one search in a table.
+const SAMPLES_OF_A_SEARCH: u64 = 6 * SAMPLES as u64;
+
+/// How many samples of walks take as long as a name takes to be put into a table.
+const SAMPLES_OF_A_NAME: u64 = 3 * SAMPLES as u64;
+
+/// How many symbols the walk from a bucket looks at, up to the longest that counts.
+fn walk_length(object: &Object<'_>, bucket: u32) -> u64
+    requires { bucket < length (buckets object.now) }
+    ensures { result ≤ 64 }
+{
+    let mut at = object.bucket(bucket);
+    for steps in 0..LONGEST {
+        if at == 0 || at >= object.symbol_count() {
+            return u64::from(steps);
+        }
+        at = object.chain(at);
+    }
+    u64::from(LONGEST)
+}
+
+/// How many symbols some walks of an object look at, and one more for each, for the way to it.
+fn sampled_walks(object: &Object<'_>) -> u64 {
+    let buckets = u64::from(object.bucket_count());
+    let mut looked = u64::from(SAMPLES);
+    for sample in 0..SAMPLES {
+        let bucket = u64::from(sample) * buckets / u64::from(SAMPLES);
+        if bucket < buckets {
+            looked += walk_length(object, bucket as u32);
+        }
+    }
+    looked
+}
+
+/// How many symbols of an object are looked up, at most: as many as its relocations name, and no
+/// more than it has.
+fn lookups_of(object: &Object<'_>) -> u64 {
+    let mut naming = 0;
+    for i in 0..object.rela_count() {
+        match object.rela(i).kind {
+            R_X86_64_64 | R_X86_64_GLOB_DAT | R_X86_64_JUMP_SLOT => naming += 1,
+            _ => {}
+        }
+    }
+    u64::from(object.symbol_count()).min(naming)
+}
+
+/// Whether so many searches take less in a table of so many names than by walks through all
+/// objects, of which each looks at so many symbols in all its samples. The making of the table is
+/// counted too.
+fn is_less(lookups: u64, walks: u64, names: u64) -> bool {
+    lookups.saturating_mul(walks.saturating_sub(SAMPLES_OF_A_SEARCH))
+        > names.saturating_mul(SAMPLES_OF_A_NAME)
+}
+
+/// Whether a table of all exported names is worth its cost. Relocations are counted only where
+/// there are so many that it may be.
+fn is_worth(objects: &[LoadedObject<'_>]) -> bool {
+    let (mut most, mut walks, mut names) = (0u64, 0u64, 0u64);
+    for loaded in objects {
+        let object = loaded.object().object();
+        let symbols = u64::from(object.symbol_count());
+        most = most.saturating_add(symbols.min(object.rela_count() as u64));
+        walks = walks.saturating_add(sampled_walks(object));
+        names = names.saturating_add(symbols);
+    }
+    if !is_less(most, walks, names) {
+        return false;
+    }
+    let mut lookups = 0u64;
+    for loaded in objects {
+        lookups = lookups.saturating_add(lookups_of(loaded.object().object()));
+    }
+    is_less(lookups, walks, names)
+}
+
+/// A table of all exported names, where it is worth its cost and there is memory for it.
+pub(crate) fn worthy_table(alloc: Global, objects: &[LoadedObject<'_>]) -> Option<Vec<Entry>>
+    ensures { IfSome result (λ t. IsTableOf objects.now t.items) }
+{
+    if !is_worth(objects) {
+        return None;
+    }
+    sorted_entries(alloc, objects).ok()
+}
