@@ -1,5 +1,10 @@
 // What a layout gives out and takes back.
 
+mod claimed;
+mod pair;
+mod plain;
+mod steps;
+
 use extents::{
     ClaimRefusal, Extent, Layout, MOST_EXTENTS, MOST_SECTORS, ROOT_SECTORS, TakeRefusal,
 };

@@ -6,6 +6,8 @@ mod files;
 #[cfg(test)]
 mod layouts;
 #[cfg(test)]
+mod random;
+#[cfg(test)]
 mod sectors;
 #[cfg(test)]
 mod staging;

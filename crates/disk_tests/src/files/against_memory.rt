@@ -1,19 +1,12 @@
 // The same calls on a disk over a file and on one in memory.
 
 use crate::files::fake::{Fake, Plan, WELL, disk};
+use crate::random::next;
 use crate::stops::{read, write};
 use file_disk::FileDisk;
 use sector_disk::{Disk, Memory, SECTOR_BYTES};
 use std::process::Abort;
 use std::test::Fail;
-
-// Knuth's generator of 64 bits.
-fn next(state: &mut u64) -> u32 {
-    *state = state
-        .wrapping_mul(6_364_136_223_846_793_005)
-        .wrapping_add(1_442_695_040_888_963_407);
-    (*state >> 33) as u32
-}
 
 // One call of both: a write in ten is a sync, a third are reads, and of both kinds three in four
 // go to the sector behind the last one.
