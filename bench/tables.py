@@ -2,6 +2,7 @@
 """Makes the libraries with large and hostile tables that docs/PERFORMANCE.md measures, in the folder that is named, and
 real.c, the source of one that gcc and ld make. Where programs are named behind it, it runs them in turn on each file of
 the folder, and prints the least user + system of seven runs of each in milliseconds."""
+import random
 import resource
 import struct
 import subprocess
@@ -160,6 +161,7 @@ def main():
     same_strings, same = placed([long, long])
     beginnings, begun = placed(numbered(100_000, b'n' * 100))
     tails = b'n' * 16_000 + b'\0'
+    many_tails = b'n' * 74_880 + b'\0'
     made = {
         'one_bucket.so': one_bucket(300_000),
         'own_buckets.so': own_buckets(300_000),
@@ -172,6 +174,9 @@ def main():
         'beginnings.so': library(beginnings, exported(begun), [1], line(100_000)),
         'tails.so': library(tails, exported(range(16_000)), [1], line(16_000)),
         'hashed_tails.so': library(tails, exported(range(16_000)), [1, 0], line(16_000)),
+        'shuffled_tails.so': library(tails, exported(random.Random(0).sample(range(16_000), 16_000)), [1, 0], line(16_000)),
+        'many_hashed.so': library(many_tails, exported(range(74_880)), [1, 0], line(74_880)),
+        'far_hashed.so': library(b'n' * 8_000_000 + b'\0', exported(random.Random(0).sample(range(0, 8_000_000, 2_000), 4_000)), [1, 0], line(4_000)),
         'long_tails.so': library(b'n' * 8_000_000 + b'\0', exported(range(300_000)), [1], line(300_000)),
         'needed.so': library(b'', [], [0], [0], needed=1_000_000),
     }

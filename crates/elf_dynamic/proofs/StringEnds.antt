@@ -1,7 +1,9 @@
 -- The bytes before the first zero byte.
-use Rattle.std.proofs.Common.{◌≡◌, ℕ, ◌≤◌, Bool, true, false, cond, List, [], ◌∷◌, length, arith, refl, ◌∙◌, sym, ap, take, drop, min, suc, zero}
-use Rattle.std.specs.Prelude.{take_while}
-use Rattle.std.proofs.lemmas.List.Sums.{take_while-cons}
+use Rattle.std.proofs.Common.{◌≡◌, ℕ, ◌≤◌, Bool, true, false, cond, List, [], ◌∷◌, length, arith, refl, ◌∙◌, sym, ap, take, drop, min, suc, zero, eqb, get_or, Some, None}
+use Rattle.std.specs.Prelude.{take_while, not, Option, unwrap_or}
+use Rattle.std.proofs.lemmas.List.Sums.{take_while-cons, prefix_len_is}
+use Rattle.std.proofs.lemmas.List.Folds.{length-prefix_len}
+use Rattle.memchr.specs.Find.{IsFirstByte, is_byte}
 
 front-step : {X : Type 0} (x : X) (xs rest : List X) (b : Bool) → take (length rest) xs ≡ rest → take (length (cond b (x ∷ rest) [])) (x ∷ xs) ≡ cond b (x ∷ rest) []
 front-step x xs rest true h = ap (λ t. x ∷ t) h
@@ -34,6 +36,19 @@ drop_min zero (x ∷ xs) =
 drop_min (suc n) (x ∷ xs) =
     let e : min (suc n) (length (x ∷ xs)) ≡ suc (min n (length xs)) = omega arith in
     ap (λ k. drop k (x ∷ xs)) e ∙ drop_min n xs
+
+no-zero : (b : Bool) → (b ≡ true → ⊥) → not b ≡ true
+no-zero true is = absurd (is refl)
+no-zero false is = refl
+
+-- the place of the first zero byte, or the end, is as many bytes as stand before it
+pub zero_found : (xs : List ℕ) (found : Option ℕ) → IsFirstByte (is_byte 0) xs found → unwrap_or found (length xs) ≡ length (take_while (λ b. not (eqb b 0)) xs)
+zero_found xs None none =
+    sym (length-prefix_len (λ b. not (eqb b 0)) xs
+    ∙ prefix_len_is (λ b. not (eqb b 0)) xs (length xs) 0 (omega arith) (λ k lt. let least : 0 ≤ k = omega arith in no-zero (eqb (get_or xs k 0) 0) (none k least lt)) (λ lt. absurd (omega arith)))
+zero_found xs (Some at) first =
+    sym (length-prefix_len (λ b. not (eqb b 0)) xs
+    ∙ prefix_len_is (λ b. not (eqb b 0)) xs at 0 (omega (arith, first.0.high)) (λ k lt. let least : 0 ≤ k = omega arith in no-zero (eqb (get_or xs k 0) 0) (first.0.before k least lt)) (λ lt. ap not first.1))
 
 -- for a string of a table
 pub ruleset ends = (take_front, front_short, drop_min)

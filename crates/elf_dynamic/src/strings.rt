@@ -5,13 +5,15 @@ ghost use Rattle.std.specs.Iterator.{YieldsFirstRef, item_count};
 ghost use Rattle.elf_dynamic.specs.Strings.{string_at};
 
 use elf_file::NeededOffsets;
+use memchr::memchr;
 use std::marker::Model;
 
 /// How many bytes stand before the first zero byte.
+#[tactic(auto, using(crate::proofs::StringEnds::zero_found))]
 fn string_length(bytes: &[u8]) -> usize
     ensures { result ≡ length (take_while (λ b. not (b == 0)) bytes.now) }
 {
-    bytes.iter().take_while(|b| **b != 0).count()
+    memchr(0, bytes).unwrap_or(bytes.len())
 }
 
 /// The string at an offset of a table, up to its zero byte. As long as the string.

@@ -4,6 +4,7 @@ pub mod Paths
 pub mod Climbing
 pub mod StepsLeft
 pub mod Joining
+pub mod Hashing
 pub mod Starting
 pub mod Sorting
 pub mod Exported

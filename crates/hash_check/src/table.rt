@@ -1,29 +1,36 @@
 // Whether a hash table is good.
 
-ghost use Rattle.std.specs.Prelude.{◌≡◌, ◌<◌, ◌≤◌, ◌↔◌, true, length, IsTrue, IfOk, OnErr};
+ghost use Rattle.std.specs.Prelude.{◌≡◌, ◌≢◌, ◌<◌, ◌≤◌, ◌↔◌, true, false, length, slice_index};
+ghost use Rattle.std.specs.Prelude.{IsTrue, IfOk, OnErr};
 ghost use Rattle.std.specs.Prelude.{MatchOption};
 ghost use Rattle.std.specs.List.{All};
 ghost use Rattle.elf_dynamic.specs.Symbol.{symbols};
-ghost use Rattle.elf_dynamic.specs.Strings.{name_of};
 ghost use Rattle.elf_dynamic.specs.HashTable.{buckets, chains};
-ghost use Rattle.hash_check.specs.Hash.{elf_hash};
 ghost use Rattle.hash_check.specs.Export.{is_exported};
 ghost use Rattle.hash_check.specs.Walk.{Ends, Meets};
 ghost use Rattle.hash_check.specs.HashTable.{AreIndices, bucket_of, HasBucket, HasIndexWords};
 ghost use Rattle.hash_check.specs.HashTable.{MeetsExports, HasGoodTable};
 ghost use Rattle.hash_check.specs.Admission.{has_good_words, has_bad_hash_table};
 ghost use Rattle.hash_check.specs.inside.Places.{Placed, IsJoint};
+ghost use Rattle.hash_check.specs.inside.Names.{IsLengthOf};
+ghost use Rattle.hash_check.specs.inside.Lanes.{AreLanes, AllMet, IsMet};
 
 use crate::buckets::Buckets;
 use crate::chains::Chains;
 use crate::export::is_exported;
 use crate::hash::elf_hash;
+use crate::hashes::LANES;
 use crate::joint::joint_of_all;
+use crate::lanes::Lanes;
 use crate::meeting::is_met;
 use crate::place::{Place, first_places};
 use crate::walk::follow;
 use elf_dynamic::Object;
 use std::alloc::{AllocError, Global};
+
+/// From how many bytes on a name is hashed together with others: a shorter one is hashed sooner than
+/// it is given a lane.
+const LONG: usize = 64;
 
 /// Whether there is a bucket, and every word of the table is the index of a symbol.
 fn has_index_words(object: &Object<'_>) -> bool
@@ -58,28 +65,121 @@ fn follow_all(
     Ok(Some(places))
 }
 
-/// Whether the symbol number `i` is met on the walk from the bucket of its name's hash. The name is
-/// hashed only where not all walks meet the symbol.
-fn is_met_by_name(object: &Object<'_>, places: &[Option<Place>], joint: u32, i: u32) -> bool
+/// Whether a symbol is exported, and not all walks meet it: whether the one that does hangs on the
+/// hash of its name.
+fn hangs_on_its_hash(object: &Object<'_>, places: &[Option<Place>], joint: u32, i: u32) -> bool
     requires some { HasBucket object.now }
     requires words { HasIndexWords object.now }
     requires places { Placed (buckets object.now) (chains object.now) places.now }
     requires joint { IsJoint (buckets object.now) (chains object.now) places.now joint }
     requires index { i < length (symbols object.now) }
     requires nonzero { 1 ≤ i }
-    ensures { let from = bucket_of (buckets object.now) (elf_hash (name_of object.now i)) in
+    ensures exported { IsTrue result → is_exported object.now i ≡ true }
+    ensures met { result ≡ false → is_exported object.now i ≡ true → IsMet object.now i }
+{
+    let _count = object.symbol_count();
+    is_exported(object, i) && !is_met(places, &Chains::new(object), joint, i)
+}
+
+/// Whether a symbol is met on the walk from the bucket of a hash.
+fn is_met_by_hash(object: &Object<'_>, places: &[Option<Place>], hash: u32, i: u32) -> bool
+    requires some { HasBucket object.now }
+    requires words { HasIndexWords object.now }
+    requires places { Placed (buckets object.now) (chains object.now) places.now }
+    requires index { i < length (symbols object.now) }
+    requires nonzero { 1 ≤ i }
+    ensures { let from = bucket_of (buckets object.now) hash in
         IsTrue result ↔ Meets (chains object.now) from i }
 {
     let _count = object.symbol_count();
-    let chains = Chains::new(object);
-    if is_met(places, &chains, joint, i) {
-        return true;
-    }
-    let from = Buckets::new(object).of_hash(elf_hash(object.name_of(i)));
-    is_met(places, &chains, from, i)
+    let from = Buckets::new(object).of_hash(hash);
+    is_met(places, &Chains::new(object), from, i)
 }
 
-/// Whether each exported symbol is met on the walk from the bucket of its name's hash.
+/// Whether the symbol of a lane is met on the walk from the bucket of its name's hash, or there is
+/// none.
+fn is_lane_met(object: &Object<'_>, places: &[Option<Place>], lanes: &Lanes, k: usize) -> bool
+    requires some { HasBucket object.now }
+    requires words { HasIndexWords object.now }
+    requires places { Placed (buckets object.now) (chains object.now) places.now }
+    requires lanes { AreLanes object.now lanes.now }
+    requires within { k < 8 }
+    ensures { let symbol = slice_index lanes.now.symbols k in
+        IsTrue result ↔ (symbol ≢ 0 → IsMet object.now symbol) }
+{
+    let symbol = lanes.symbols[k];
+    symbol == 0 || is_met_by_hash(object, places, lanes.hash(object, k), symbol)
+}
+
+/// Takes an exported symbol in among those whose names are hashed, in the place of one whose hash
+/// is made, and answers whether that one is met on the walk from its bucket.
+fn take_in(
+    object: &Object<'_>,
+    places: &[Option<Place>],
+    lanes: &mut Lanes,
+    i: u32,
+    length: usize,
+) -> bool
+    requires some { HasBucket object.now }
+    requires words { HasIndexWords object.now }
+    requires places { Placed (buckets object.now) (chains object.now) places.now }
+    requires lanes { AreLanes object.now lanes.old }
+    requires exported { is_exported object.now i ≡ true }
+    requires length { IsLengthOf object.now i length }
+    ensures lanes { AreLanes object.now lanes.new }
+    ensures others { IsTrue result → AllMet object.now lanes.new.symbols → AllMet object.now lanes.old.symbols }
+    ensures taken { IsTrue result → AllMet object.now lanes.new.symbols → IsMet object.now i }
+    ensures missed { result ≡ false → ¬ MeetsExports object.now }
+{
+    let k = lanes.run(object);
+    let met = is_lane_met(object, places, lanes, k);
+    if met {
+        lanes.put(object, k, i, length);
+    }
+    met
+}
+
+/// Tests an exported symbol by its name's hash: at once where the name is short, and else when its
+/// hash is made. Answers whether each symbol that was tested is met on the walk from its bucket.
+fn test_by_name(object: &Object<'_>, places: &[Option<Place>], lanes: &mut Lanes, i: u32) -> bool
+    requires some { HasBucket object.now }
+    requires words { HasIndexWords object.now }
+    requires places { Placed (buckets object.now) (chains object.now) places.now }
+    requires lanes { AreLanes object.now lanes.old }
+    requires index { i < length (symbols object.now) }
+    requires nonzero { 1 ≤ i }
+    requires exported { is_exported object.now i ≡ true }
+    ensures lanes { AreLanes object.now lanes.new }
+    ensures others { IsTrue result → AllMet object.now lanes.new.symbols → AllMet object.now lanes.old.symbols }
+    ensures taken { IsTrue result → AllMet object.now lanes.new.symbols → IsMet object.now i }
+    ensures missed { result ≡ false → ¬ MeetsExports object.now }
+{
+    let name = object.name_of(i);
+    if name.len() < LONG {
+        is_met_by_hash(object, places, elf_hash(name), i)
+    } else {
+        take_in(object, places, lanes, i, name.len())
+    }
+}
+
+/// Whether the symbols of all lanes are met on the walks from their buckets.
+fn are_met(object: &Object<'_>, places: &[Option<Place>], lanes: &Lanes) -> bool
+    requires some { HasBucket object.now }
+    requires words { HasIndexWords object.now }
+    requires places { Placed (buckets object.now) (chains object.now) places.now }
+    requires lanes { AreLanes object.now lanes.now }
+    ensures { IsTrue result ↔ AllMet object.now lanes.now.symbols }
+{
+    for k in 0..LANES {
+        if !is_lane_met(object, places, lanes, k) {
+            return false;
+        }
+    }
+    true
+}
+
+/// Whether each exported symbol is met on the walk from the bucket of its name's hash. Long names
+/// are hashed several at a time.
 fn meets_exports(object: &Object<'_>, places: &[Option<Place>]) -> bool
     requires some { HasBucket object.now }
     requires words { HasIndexWords object.now }
@@ -87,12 +187,15 @@ fn meets_exports(object: &Object<'_>, places: &[Option<Place>]) -> bool
     ensures { IsTrue result ↔ MeetsExports object.now }
 {
     let joint = joint_of_all(places, &Buckets::new(object), &Chains::new(object));
+    let mut lanes = Lanes::new();
     for i in 1..object.symbol_count() {
-        if is_exported(object, i) && !is_met_by_name(object, places, joint, i) {
+        if hangs_on_its_hash(object, places, joint, i)
+            && !test_by_name(object, places, &mut lanes, i)
+        {
             return false;
         }
     }
-    true
+    are_met(object, places, &lanes)
 }
 
 /// Whether the hash table is good.

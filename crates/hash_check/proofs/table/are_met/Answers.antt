@@ -1,0 +1,5 @@
+use Rattle.std.proofs.Common.{arith, refl}
+use Rattle.hash_check.proofs.table.are_met.Goals as goal
+
+pub returns : goal.returns
+returns c = (λ t. record { met = λ k lt. c.loop-k.invariant k (omega arith) }, λ h. refl)

@@ -1,0 +1,88 @@
+// The hashes of several names at a time.
+
+ghost use Rattle.std.specs.Prelude.{ℕ, ◌≡◌, ◌<◌, ◌≤◌, ◌+◌, ◌*◌, length, take, drop, slice_index, fold};
+ghost use Rattle.hash_check.specs.Hash.{hash_step};
+
+use crate::hash::hash_step;
+use elf_file::u32_at;
+
+/// How many names are hashed at a time. A step of a hash waits for the one before it, those of
+/// other names don't.
+pub(crate) const LANES: usize = 8;
+
+/// How many bytes are read at once.
+const WORD: usize = 4;
+
+/// The hash of a name after one byte more of it, which stands at a place in a table.
+fn hash_byte(table: &[u8], place: usize, hash: u32) -> u32
+    requires { place < length table.now }
+    ensures { result ≡ fold hash_step hash (take 1 (drop place table.now)) }
+{
+    hash_step(hash, table[place])
+}
+
+/// The hash of a name after four bytes more of it, which are read as one number.
+fn hash_word(table: &[u8], place: usize, hash: u32) -> u32
+    requires { place + 4 ≤ length table.now }
+    ensures { result ≡ fold hash_step hash (take 4 (drop place table.now)) }
+{
+    let word = u32_at(table, place);
+    let first = hash_step(hash, (word % 256) as u8);
+    let second = hash_step(first, (word / 256 % 256) as u8);
+    let third = hash_step(second, (word / 65_536 % 256) as u8);
+    hash_step(third, (word / 16_777_216) as u8)
+}
+
+/// Adds one byte more of each name to its hash: the byte number `i` from its place in a table.
+fn add_byte(table: &[u8], places: &[usize; LANES], i: usize, hashes: &mut [u32; LANES])
+    requires { (k : ℕ) → k < 8 → slice_index places.now k + i < length table.now }
+    ensures { (k : ℕ) → k < 8 → slice_index hashes.new k
+        ≡ fold hash_step (slice_index hashes.old k) (take 1 (drop (slice_index places.now k + i) table.now)) }
+{
+    for k in 0..LANES {
+        hashes[k] = hash_byte(table, places[k] + i, hashes[k]);
+    }
+}
+
+/// Adds four bytes more of each name to its hash: those from number `i` on from its place.
+fn add_word(table: &[u8], places: &[usize; LANES], i: usize, hashes: &mut [u32; LANES])
+    requires { (k : ℕ) → k < 8 → slice_index places.now k + i + 4 ≤ length table.now }
+    ensures { (k : ℕ) → k < 8 → slice_index hashes.new k
+        ≡ fold hash_step (slice_index hashes.old k) (take 4 (drop (slice_index places.now k + i) table.now)) }
+{
+    for k in 0..LANES {
+        hashes[k] = hash_word(table, places[k] + i, hashes[k]);
+    }
+}
+
+/// Adds so many words more of each name to its hash: those from its place in a table on.
+fn add_words(table: &[u8], places: &[usize; LANES], words: usize, hashes: &mut [u32; LANES])
+    requires { (k : ℕ) → k < 8 → slice_index places.now k + 4 * words ≤ length table.now }
+    ensures { (k : ℕ) → k < 8 → slice_index hashes.new k
+        ≡ fold hash_step (slice_index hashes.old k) (take (4 * words) (drop (slice_index places.now k) table.now)) }
+{
+    let mut made = *hashes;
+    for i in 0..words {
+        add_word(table, places, WORD * i, &mut made);
+    }
+    *hashes = made;
+}
+
+/// Adds so many bytes more of each name to its hash: those from its place in a table on. A step
+/// for all names is made before the next one.
+pub(crate) fn add_bytes(
+    table: &[u8],
+    places: &[usize; LANES],
+    count: usize,
+    hashes: &mut [u32; LANES],
+)
+    requires { (k : ℕ) → k < 8 → slice_index places.now k + count ≤ length table.now }
+    ensures { (k : ℕ) → k < 8 → slice_index hashes.new k
+        ≡ fold hash_step (slice_index hashes.old k) (take count (drop (slice_index places.now k) table.now)) }
+{
+    let words = count / WORD;
+    add_words(table, places, words, hashes);
+    for i in WORD * words..count {
+        add_byte(table, places, i, hashes);
+    }
+}

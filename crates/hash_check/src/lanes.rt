@@ -1,0 +1,106 @@
+// Names whose hashes are made together.
+
+ghost use Rattle.std.specs.Prelude.{ℕ, List, true, ◌≡◌, ◌≢◌, ◌<◌, ◌≤◌, ◌-◌, ◌+◌, ◌^◌, slice_index, set};
+ghost use Rattle.elf_dynamic.specs.Strings.{name_of};
+ghost use Rattle.hash_check.specs.Hash.{elf_hash};
+ghost use Rattle.hash_check.specs.Export.{is_exported};
+ghost use Rattle.hash_check.specs.inside.Names.{IsLengthOf};
+ghost use Rattle.hash_check.specs.inside.Lanes.{AreLanes, AreOrdered};
+
+use crate::hash::hash_rest;
+use crate::hashes::{LANES, add_bytes};
+use crate::names::offset_of;
+use elf_dynamic::Object;
+
+/// The names of some exported symbols, which are hashed together: where what is left of each stands
+/// in the string table, and the hash of what stands before. A lane whose symbol is number 0 is free.
+#[derive(Clone, Copy)]
+pub(crate) struct Lanes {
+    pub(crate) symbols: [u32; LANES],
+    hashes: [u32; LANES],
+    places: [usize; LANES],
+    ends: [usize; LANES],
+}
+
+/// The number of a lane of which no other has less left.
+fn shortest(places: &[usize; LANES], ends: &[usize; LANES]) -> usize
+    requires { AreOrdered places.now ends.now }
+    ensures within { result < 8 }
+    ensures least { (k : ℕ) → k < 8 → slice_index ends.now result - slice_index places.now result
+        ≤ slice_index ends.now k - slice_index places.now k }
+{
+    let mut best = 0;
+    for k in 1..LANES {
+        if ends[k] - places[k] < ends[best] - places[best] {
+            best = k;
+        }
+    }
+    best
+}
+
+/// Moves each place on by so many bytes.
+fn move_on(places: &mut [usize; LANES], count: usize)
+    requires { (k : ℕ) → k < 8 → slice_index places.old k + count < 2 ^ 64 }
+    ensures { (k : ℕ) → k < 8 → slice_index places.new k ≡ slice_index places.old k + count }
+{
+    for k in 0..LANES {
+        places[k] += count;
+    }
+}
+
+impl Lanes {
+    /// Free lanes.
+    pub(crate) fn new() -> Lanes
+        ensures { (file : List ℕ) → AreLanes file result }
+    {
+        Lanes {
+            symbols: [0; LANES],
+            hashes: [0; LANES],
+            places: [0; LANES],
+            ends: [0; LANES],
+        }
+    }
+
+    /// Hashes all names on as far as the shortest rest goes, and gives the number of its lane.
+    pub(crate) fn run(&mut self, object: &Object<'_>) -> usize
+        requires { AreLanes object.now self.old }
+        ensures within { result < 8 }
+        ensures lanes { AreLanes object.now self.new }
+        ensures symbols { self.new.symbols ≡ self.old.symbols }
+    {
+        let k = shortest(&self.places, &self.ends);
+        let count = self.ends[k] - self.places[k];
+        add_bytes(object.string_table(), &self.places, count, &mut self.hashes);
+        move_on(&mut self.places, count);
+        k
+    }
+
+    /// Gives a lane to an exported symbol, where the length of its name is known.
+    pub(crate) fn put(&mut self, object: &Object<'_>, k: usize, symbol: u32, length: usize)
+        requires within { k < 8 }
+        requires lanes { AreLanes object.now self.old }
+        requires exported { is_exported object.now symbol ≡ true }
+        requires length { IsLengthOf object.now symbol length }
+        ensures lanes { AreLanes object.now self.new }
+        ensures symbols { self.new.symbols ≡ set self.old.symbols k symbol }
+    {
+        let place = (offset_of(object, symbol) as usize).min(object.string_table().len());
+        self.symbols[k] = symbol;
+        self.hashes[k] = 0;
+        self.places[k] = place;
+        self.ends[k] = place + length;
+    }
+
+    /// The hash of the name of a lane's symbol. It costs what is left of the name.
+    pub(crate) fn hash(&self, object: &Object<'_>, k: usize) -> u32
+        requires within { k < 8 }
+        requires lanes { AreLanes object.now self.now }
+        requires some { slice_index self.now.symbols k ≢ 0 }
+        ensures { result ≡ elf_hash (name_of object.now (slice_index self.now.symbols k)) }
+    {
+        hash_rest(
+            self.hashes[k],
+            &object.string_table()[self.places[k]..self.ends[k]],
+        )
+    }
+}
