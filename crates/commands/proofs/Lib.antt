@@ -1,6 +1,7 @@
 pub mod Asking
 pub mod Digits
 pub mod Ending
+pub mod Forms
 pub mod Fronts
 pub mod Ascii
 pub mod Lines

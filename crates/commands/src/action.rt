@@ -1,10 +1,8 @@
 // The commands of the program, and which of them words are.
 
-ghost use Rattle.std.specs.Prelude.{◌≡◌, map, string_bytes};
+ghost use Rattle.std.specs.Prelude.{◌≡◌, ◌∷◌, map, string_bytes};
 ghost use Rattle.std.specs.Option.{option_map};
-ghost use Rattle.commands.specs.Words.{command_line, line_of, format_behind, preload_behind};
-ghost use Rattle.commands.specs.Words.{of_one, of_two, of_three};
-ghost use Rattle.commands.specs.Words.{image, install, replace, remove, list, bind, script};
+ghost use Rattle.commands.specs.Words.{command_line, line_of};
 ghost use Rattle.commands.specs.inside.Access.{disk_of};
 
 use crate::sectors::parse_sectors;
@@ -95,130 +93,28 @@ impl<'a> Action<'a> {
     }
 }
 
-/// PROGRAM BASE.
-fn image(words: &[String]) -> Option<Action<'_>>
+/// The command of this name and these words.
+fn read_form<'a>(name: &str, words: &'a [String]) -> Option<Action<'a>>
     ensures { option_map line_of result
-        ≡ of_two image (map (λ word. string_bytes word) words.now) }
+        ≡ command_line (name.now ∷ map (λ word. string_bytes word) words.now) }
 {
-    match words {
-        [program, base] => Some(Action::Image {
-            program: program.as_str(),
-            base: base.as_str(),
+    match (name, words) {
+        ("image", [program, base]) => Some(Action::Image { program, base }),
+        ("format", [disk, sectors]) => {
+            let sectors = parse_sectors(sectors)?;
+            Some(Action::Format { disk, sectors })
+        }
+        ("install", [disk, file]) => Some(Action::Install { disk, file }),
+        ("replace", [disk, file]) => Some(Action::Replace { disk, file }),
+        ("remove", [disk, name]) => Some(Action::Remove { disk, name }),
+        ("preload", [disk, names @ ..]) => Some(Action::Preload { disk, names }),
+        ("list", [disk]) => Some(Action::List { disk }),
+        ("bind", [disk, program, base]) => Some(Action::Bind {
+            disk,
+            program,
+            base,
         }),
-        _ => None,
-    }
-}
-
-/// DISK SECTORS.
-fn format(words: &[String]) -> Option<Action<'_>>
-    ensures { option_map line_of result
-        ≡ format_behind (map (λ word. string_bytes word) words.now) }
-{
-    match words {
-        [disk, sectors] => match parse_sectors(sectors.as_str()) {
-            Some(sectors) => Some(Action::Format {
-                disk: disk.as_str(),
-                sectors,
-            }),
-            None => None,
-        },
-        _ => None,
-    }
-}
-
-/// DISK FILE, of a library that is new.
-fn install(words: &[String]) -> Option<Action<'_>>
-    ensures { option_map line_of result
-        ≡ of_two install (map (λ word. string_bytes word) words.now) }
-{
-    match words {
-        [disk, file] => Some(Action::Install {
-            disk: disk.as_str(),
-            file: file.as_str(),
-        }),
-        _ => None,
-    }
-}
-
-/// DISK FILE, of a library that is there.
-fn replace(words: &[String]) -> Option<Action<'_>>
-    ensures { option_map line_of result
-        ≡ of_two replace (map (λ word. string_bytes word) words.now) }
-{
-    match words {
-        [disk, file] => Some(Action::Replace {
-            disk: disk.as_str(),
-            file: file.as_str(),
-        }),
-        _ => None,
-    }
-}
-
-/// DISK NAME.
-fn remove(words: &[String]) -> Option<Action<'_>>
-    ensures { option_map line_of result
-        ≡ of_two remove (map (λ word. string_bytes word) words.now) }
-{
-    match words {
-        [disk, name] => Some(Action::Remove {
-            disk: disk.as_str(),
-            name: name.as_str(),
-        }),
-        _ => None,
-    }
-}
-
-/// DISK, and any number of NAMEs.
-fn preload(words: &[String]) -> Option<Action<'_>>
-    ensures { option_map line_of result
-        ≡ preload_behind (map (λ word. string_bytes word) words.now) }
-{
-    match words {
-        [disk, names @ ..] => Some(Action::Preload {
-            disk: disk.as_str(),
-            names,
-        }),
-        _ => None,
-    }
-}
-
-/// DISK, to list.
-fn list(words: &[String]) -> Option<Action<'_>>
-    ensures { option_map line_of result
-        ≡ of_one list (map (λ word. string_bytes word) words.now) }
-{
-    match words {
-        [disk] => Some(Action::List {
-            disk: disk.as_str(),
-        }),
-        _ => None,
-    }
-}
-
-/// DISK PROGRAM BASE.
-fn bind(words: &[String]) -> Option<Action<'_>>
-    ensures { option_map line_of result
-        ≡ of_three bind (map (λ word. string_bytes word) words.now) }
-{
-    match words {
-        [disk, program, base] => Some(Action::Bind {
-            disk: disk.as_str(),
-            program: program.as_str(),
-            base: base.as_str(),
-        }),
-        _ => None,
-    }
-}
-
-/// DISK, to run a script on.
-fn script(words: &[String]) -> Option<Action<'_>>
-    ensures { option_map line_of result
-        ≡ of_one script (map (λ word. string_bytes word) words.now) }
-{
-    match words {
-        [disk] => Some(Action::Script {
-            disk: disk.as_str(),
-        }),
+        ("script", [disk]) => Some(Action::Script { disk }),
         _ => None,
     }
 }
@@ -230,19 +126,6 @@ pub fn read_words(words: &[String]) -> Option<Action<'_>>
     ensures { option_map line_of result
         ≡ command_line (map (λ word. string_bytes word) words.now) }
 {
-    let Some((name, words)) = words.split_first() else {
-        return None;
-    };
-    match name.as_str() {
-        "image" => image(words),
-        "format" => format(words),
-        "install" => install(words),
-        "replace" => replace(words),
-        "remove" => remove(words),
-        "preload" => preload(words),
-        "list" => list(words),
-        "bind" => bind(words),
-        "script" => script(words),
-        _ => None,
-    }
+    let (name, words) = words.split_first()?;
+    read_form(name, words)
 }
