@@ -118,6 +118,8 @@ PLAIN = {
     'store/Opened: IsAt': 'a store at a state: an honest disk, no failed write or sync, and every mixture holds it by these entries',
     'store/Stands: StandsBy': 'by this root and these entries the sectors hold the state',
     'store/Opening: RefusesOpen': 'how `open` may refuse these sectors; Damaged are those with a root that hold no state',
+    'catalogued_store/Changed: Changed': 'a change of at most so many calls, with these refusals, one for a failed device and one for a failed store',
+    'catalogued_store/Opening: RefusesOpen': 'how `open` may refuse these sectors; a current root of version 1 is told whatever else is wrong',
     'scope/Queue: AreApart': 'the places are below the limit, and no place is among them twice',
     'roots/Fields: ListsSectors': 'so many sectors in so many places: behind the root sectors and before `end`, none of them twice',
     'extents/Extent: AreDistinct': 'no number is there twice',
@@ -130,6 +132,7 @@ CRATES = [
     ('text_output', 'Text on its way to a writer'), ('image', 'Images'), ('registry', 'The registry and its step table'),
     ('sector_disk', 'The disk model'), ('file_disk', 'A disk over a file'), ('extents', 'Free and claimed sectors'),
     ('states', 'States'), ('roots', 'Root and entry sectors'), ('passes', 'Passes over a disk'), ('store', 'Named byte strings'),
+    ('catalogued_store', 'Named byte strings on disks of version 2'),
     ('disk_registry', 'The registry on a disk'), ('commands', 'The program')]
 STANDARD = re.compile(r'\(([^()]*(?:\([^()]*\)[^()]*)*)\)')
 VALUE = re.compile(r'^\S+ = (0x[0-9a-f]+|[0-9]+)$')

@@ -1,0 +1,34 @@
+use Rattle.std.proofs.Common.{rules, ⊎_elim, [], length, sym, subst, ap, ◌∙◌}
+use Rattle.catalogued_store.specs.Opening.{RefusesFormat}
+use Rattle.states.specs.Geometry.{IsGeometry}
+use Rattle.catalogued_store.specs.inside.First.{first_root}
+use Rattle.catalogued_store.specs.inside.Kept.{IsKept}
+use Rattle.catalogued_store.specs.inside.NameIndex.{IsIndex}
+use Rattle.catalogued_store.proofs.First.{first_kept, either_stands}
+use Rattle.catalogued_store.proofs.store.Store.format.Goals as goal
+
+pub invariant_of-result : goal.invariant_of-result
+invariant_of-result g c =
+    let sectors = c.sectors-sectors.result in
+    let geometry : IsGeometry sectors = search rules in
+    let root = c.in-Ok-write_first_root.ensures.root in (
+      subst (λ r. IsKept r c.new-in-Ok-write_first_root.result.items c.in-Ok.layout) (sym root)
+          (subst (λ l. IsKept (first_root sectors) l c.in-Ok.layout) (sym c.new-in-Ok-write_first_root.ensures.items)
+          (subst (λ flags. IsKept (first_root sectors) [] flags) (sym c.in-Ok.ensures.ok) (first_kept sectors geometry))),
+      subst (λ l. IsIndex l c.empty.result) (sym c.new-in-Ok-write_first_root.ensures.items) c.empty.ensures,
+      c.write_first_root.ensures.calls.some.sectors ∙ sym c.sectors-sectors.ensures ∙ ap (λ r. r.sectors) (sym root),
+    )
+
+pub returns-in-Err-clause-refused : goal.returns-in-Err-clause-refused
+returns-in-Err-clause-refused g c honest =
+    let now = (g.D.Disk.facts c.args.disk).now in
+    let sectors = c.sectors-sectors.result in
+    let geometry : IsGeometry sectors = search rules in
+    let here : IsGeometry (length now) = subst IsGeometry (c.sectors-sectors.ensures ∙ sym (g.met.D.Disk.holds_now _ honest).size) geometry in
+    ⊎_elim
+    (λ is. subst (RefusesFormat now) (sym is) (record { may = here; formatted = λ other. cc }))
+    (λ is. subst (RefusesFormat now) (sym is) (record { may = here; formatted = λ _. c.in-Err.ensures.formatted honest is }))
+    c.in-Err.ensures.refusals
+
+pub returns-in-Ok-write_first_root-clause-any_moment : goal.returns-in-Ok-write_first_root-clause-any_moment
+returns-in-Ok-write_first_root-clause-any_moment g c honest = either_stands c.sectors-sectors.result (c.write_first_root.ensures.any_moment honest)

@@ -1,0 +1,15 @@
+-- What a change does on any disk, honest or not, by its result.
+use Rattle.std.specs.Prelude.{◌≡◌, ◌≢◌, ◌<◌, ◌↔◌, ℕ, IsTrue, IsFalse, Result, Err, IfErr, OnOk}
+use Rattle.sector_disk.specs.Disk.{DiskFacts, AreCallsExactly, AreCallsAtMost}
+use Rattle.catalogued_store.specs.Opened.{Opened}
+
+-- A change of so many calls at the most, with these refusals, of which one is that of a failing device (S1), and one that of a store that has to be opened again (S2).
+pub record Changed {D R : Type 0} (facts : D → DiskFacts) (s1 s2 : R) (old new : Opened D) (most : ℕ) (Refuses : R → Type 0) (result : Result (Unit {0}) R) : Type 0 where
+  -- after a failed write or sync the disk has to be opened again
+  pub reopen : (result ≡ Err s2) ↔ IsTrue old.failed
+  pub device : IfErr result (λ e. e ≡ s1 → ((facts old.disk).failures < (facts new.disk).failures) × IsTrue new.failed)
+  pub same : IfErr result (λ e. e ≢ s1 → new ≡ old)
+  pub usable : OnOk result (IsFalse new.failed)
+  pub refusals : IfErr result Refuses
+  pub all_calls : OnOk result (AreCallsExactly most (facts old.disk) (facts new.disk))
+  pub calls : AreCallsAtMost most (facts old.disk) (facts new.disk)

@@ -1,0 +1,11 @@
+pub mod Stands
+pub mod Opened
+pub mod Opening
+pub mod Costs
+pub mod Looked
+pub mod Names
+pub mod Reads
+pub mod Changed
+pub mod Step
+pub mod Taken
+pub mod inside

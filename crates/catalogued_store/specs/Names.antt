@@ -1,0 +1,20 @@
+-- What names and byte strings a store takes, and which names it has.
+use Rattle.std.specs.Prelude.{◌≢◌, ℕ, List, length, All}
+use Rattle.std.specs.Int.{IsInRange}
+use Rattle.roots.specs.Limits.{least_file_bytes, most_file_bytes, most_name_bytes}
+use Rattle.roots.specs.Entry.{IsNameByte}
+use Rattle.catalogued_store.specs.Opened.{Opened}
+use Rattle.catalogued_store.specs.Stands.{name_of}
+
+-- what can be a name: 1 to 240 visible characters without `/`
+pub record IsName (name : List ℕ) : Type 0 where
+  pub size : IsInRange 1 most_name_bytes (length name)
+  pub bytes : All IsNameByte name
+
+-- what can be put: 64 bytes to 16 MiB
+abbrev pub IsFileSize : ℕ → Type 0
+IsFileSize size = IsInRange least_file_bytes most_file_bytes size
+
+-- no byte string of the store has this name
+abbrev pub LacksName : {D : Type 0} → Opened D → List ℕ → Type 0
+LacksName store name = All (λ placed. name_of placed.entry ≢ name) store.entries

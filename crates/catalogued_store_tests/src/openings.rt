@@ -1,0 +1,61 @@
+// What a store of version 2 tells, and when one of its size opens.
+use crate::disks::{name_of, refusal_of_open, version_2, write_library};
+use catalogued_store::{Store, StoreRefusal};
+use std::alloc::Global;
+use std::process::Abort;
+use std::test::Fail;
+
+// A disk with so many libraries tells and gives the last of them.
+fn tells_the_last(rt: &impl Abort, alloc: Global, count: u32) -> Result<(), Fail> {
+    assert!(rt; 1 <= count);
+    let last = count as usize - 1;
+    let name = name_of(count - 1);
+    let Ok(mut store) = Store::open(alloc, version_2(rt, alloc, count, 32)?) else {
+        return Err("it doesn't open".into());
+    };
+    let told = (store.count(), store.position(&name), store.preloads().len());
+    let bytes = if last < store.count() {
+        store.read_blob(alloc, last)
+    } else {
+        Err(StoreRefusal::Damaged)
+    };
+    let _ = store.into_disk();
+    assert_eq!(rt; told, (count as usize, Some(last), 1));
+    let Ok(bytes) = bytes else {
+        return Err("it isn't read".into());
+    };
+    assert_eq!(rt; bytes.as_slice(), [((count - 1) % 10) as u8; 64].as_slice());
+    Ok(())
+}
+
+#[test]
+fn the_last_library_of_each_catalogue_is_found(rt: HostRuntime) -> Result<(), Fail> {
+    for count in [1, 2, 63, 64, 65, 128, 129, 2048] {
+        tells_the_last(&rt, rt.alloc(), count)?;
+    }
+    Ok(())
+}
+
+#[test]
+fn a_disk_without_room_for_the_next_catalogues_is_damaged(rt: HostRuntime) -> Result<(), Fail> {
+    // 64 libraries have one catalogue, and 65 two: as many sectors have to be free.
+    for (count, spare) in [(64, 1), (65, 2), (128, 2), (129, 3)] {
+        let enough = refusal_of_open(rt.alloc(), version_2(&rt, rt.alloc(), count, spare)?);
+        assert_eq!(rt; enough, None, "{count}");
+        let fewer = refusal_of_open(rt.alloc(), version_2(&rt, rt.alloc(), count, spare - 1)?);
+        assert_eq!(rt; fewer, Some(StoreRefusal::Damaged), "{count}");
+    }
+    Ok(())
+}
+
+#[test]
+fn a_name_that_stands_twice_is_damage(rt: HostRuntime) -> Result<(), Fail> {
+    // In one catalogue, and in two.
+    for other in [1, 69] {
+        let mut disk = version_2(&rt, rt.alloc(), 70, 2)?;
+        write_library(&rt, &mut disk, other, &name_of(0));
+        let refusal = refusal_of_open(rt.alloc(), disk);
+        assert_eq!(rt; refusal, Some(StoreRefusal::Damaged));
+    }
+    Ok(())
+}
