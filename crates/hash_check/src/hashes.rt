@@ -37,7 +37,8 @@ fn hash_word(table: &[u8], place: usize, hash: u32) -> u32
 fn add_byte(table: &[u8], places: &[usize; LANES], i: usize, hashes: &mut [u32; LANES])
     requires { (k : ℕ) → k < 8 → slice_index places.now k + i < length table.now }
     ensures { (k : ℕ) → k < 8 → slice_index hashes.new k
-        ≡ fold hash_step (slice_index hashes.old k) (take 1 (drop (slice_index places.now k + i) table.now)) }
+        ≡ fold hash_step (slice_index hashes.old k)
+        (take 1 (drop (slice_index places.now k + i) table.now)) }
 {
     for k in 0..LANES {
         hashes[k] = hash_byte(table, places[k] + i, hashes[k]);
@@ -48,7 +49,8 @@ fn add_byte(table: &[u8], places: &[usize; LANES], i: usize, hashes: &mut [u32; 
 fn add_word(table: &[u8], places: &[usize; LANES], i: usize, hashes: &mut [u32; LANES])
     requires { (k : ℕ) → k < 8 → slice_index places.now k + i + 4 ≤ length table.now }
     ensures { (k : ℕ) → k < 8 → slice_index hashes.new k
-        ≡ fold hash_step (slice_index hashes.old k) (take 4 (drop (slice_index places.now k + i) table.now)) }
+        ≡ fold hash_step (slice_index hashes.old k)
+        (take 4 (drop (slice_index places.now k + i) table.now)) }
 {
     for k in 0..LANES {
         hashes[k] = hash_word(table, places[k] + i, hashes[k]);
@@ -59,7 +61,8 @@ fn add_word(table: &[u8], places: &[usize; LANES], i: usize, hashes: &mut [u32; 
 fn add_words(table: &[u8], places: &[usize; LANES], words: usize, hashes: &mut [u32; LANES])
     requires { (k : ℕ) → k < 8 → slice_index places.now k + 4 * words ≤ length table.now }
     ensures { (k : ℕ) → k < 8 → slice_index hashes.new k
-        ≡ fold hash_step (slice_index hashes.old k) (take (4 * words) (drop (slice_index places.now k) table.now)) }
+        ≡ fold hash_step (slice_index hashes.old k)
+        (take (4 * words) (drop (slice_index places.now k) table.now)) }
 {
     let mut made = *hashes;
     for i in 0..words {
@@ -78,7 +81,8 @@ pub(crate) fn add_bytes(
 )
     requires { (k : ℕ) → k < 8 → slice_index places.now k + count ≤ length table.now }
     ensures { (k : ℕ) → k < 8 → slice_index hashes.new k
-        ≡ fold hash_step (slice_index hashes.old k) (take count (drop (slice_index places.now k) table.now)) }
+        ≡ fold hash_step (slice_index hashes.old k)
+        (take count (drop (slice_index places.now k) table.now)) }
 {
     let words = count / WORD;
     add_words(table, places, words, hashes);

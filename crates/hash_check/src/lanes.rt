@@ -13,7 +13,7 @@ use crate::names::offset_of;
 use elf_dynamic::Object;
 
 /// The names of some exported symbols, which are hashed together: where what is left of each stands
-/// in the string table, and the hash of what stands before. A lane whose symbol is number 0 is free.
+/// in the string table, and the hash of what stands before. A lane of symbol number 0 is free.
 #[derive(Clone, Copy)]
 pub(crate) struct Lanes {
     pub(crate) symbols: [u32; LANES],

@@ -28,8 +28,8 @@ use crate::walk::follow;
 use elf_dynamic::Object;
 use std::alloc::{AllocError, Global};
 
-/// From how many bytes on a name is hashed together with others: a shorter one is hashed sooner than
-/// it is given a lane.
+/// From how many bytes on a name is hashed together with others: a shorter one is hashed sooner
+/// than it is given a lane.
 const LONG: usize = 64;
 
 /// Whether there is a bucket, and every word of the table is the index of a symbol.
@@ -127,7 +127,8 @@ fn take_in(
     requires exported { is_exported object.now i ≡ true }
     requires length { IsLengthOf object.now i length }
     ensures lanes { AreLanes object.now lanes.new }
-    ensures others { IsTrue result → AllMet object.now lanes.new.symbols → AllMet object.now lanes.old.symbols }
+    ensures others { IsTrue result → AllMet object.now lanes.new.symbols
+        → AllMet object.now lanes.old.symbols }
     ensures taken { IsTrue result → AllMet object.now lanes.new.symbols → IsMet object.now i }
     ensures missed { result ≡ false → ¬ MeetsExports object.now }
 {
@@ -150,7 +151,8 @@ fn test_by_name(object: &Object<'_>, places: &[Option<Place>], lanes: &mut Lanes
     requires nonzero { 1 ≤ i }
     requires exported { is_exported object.now i ≡ true }
     ensures lanes { AreLanes object.now lanes.new }
-    ensures others { IsTrue result → AllMet object.now lanes.new.symbols → AllMet object.now lanes.old.symbols }
+    ensures others { IsTrue result → AllMet object.now lanes.new.symbols
+        → AllMet object.now lanes.old.symbols }
     ensures taken { IsTrue result → AllMet object.now lanes.new.symbols → IsMet object.now i }
     ensures missed { result ≡ false → ¬ MeetsExports object.now }
 {
