@@ -1,3 +1,4 @@
+pub mod Anew
 pub mod Broken
 pub mod CatalogueParts
 pub mod CatalogueReads
@@ -9,6 +10,7 @@ pub mod Counts
 pub mod EntryReads
 pub mod First
 pub mod Following
+pub mod Frees
 pub mod Given
 pub mod Libraries
 pub mod Listings
@@ -16,15 +18,24 @@ pub mod NameIndex
 pub mod NameInserts
 pub mod NameOrder
 pub mod NameRemovals
+pub mod News
 pub mod Openings
 pub mod Ordered
+pub mod Placing
 pub mod Preloads
 pub mod Puts
 pub mod Queries
 pub mod Releases
+pub mod Relistings
+pub mod Removals
 pub mod Removed
+pub mod Replacements
 pub mod Rooms
+pub mod Staging
 pub mod StandsLemmas
 pub mod Taking
+pub mod Untouched
+pub mod Upgrades
 pub mod UsedAlone
 pub mod Within
+pub mod Written

@@ -1,12 +1,11 @@
 -- The order of names without one of them.
-use Rattle.std.proofs.Common.{◌≡◌, ◌≢◌, ℕ, ◌+◌, ◌-◌, ◌<◌, All, AllPairs, Contains, List, ◌∷◌, ◌++◌, [], length, map, take, drop, get_or, arith, sym, ap, subst, ◌∙◌, ⊎_elim, suc}
+use Rattle.std.proofs.Common.{◌≡◌, ◌≢◌, ℕ, ◌+◌, ◌<◌, All, AllPairs, Contains, List, ◌∷◌, [], length, map, get_or, arith, sym, ap, subst, ◌∙◌, ⊎_elim}
 use Rattle.std.specs.List.{remove}
 use Rattle.std.specs.Cmp.Lexicographic.{slice_cmp}
 use Rattle.std.specs.Ordering.{nat_cmp}
 use Rattle.std.specs.declared.cmp.Ordering.TheVariants.{Less}
 use Rattle.std.proofs.lemmas.Bool.{cases_lt}
-use Rattle.std.proofs.lemmas.Bool.Decides.{nat_tests}
-use Rattle.std.proofs.lemmas.List.{length-map, get_or-map, get_or_default, map-append, take-map, drop-map}
+use Rattle.std.proofs.lemmas.List.{length-map, get_or-map, get_or_default}
 use Rattle.std.proofs.lemmas.List.Edits.{length-remove, get_or-remove_below, get_or-remove_above}
 use Rattle.std.proofs.lemmas.List.Elements.{All-map, Contains-append_cases}
 use Rattle.std.proofs.lemmas.List.Sorted.{IsPermutation-remove, Contains-permutation}
@@ -15,12 +14,7 @@ use Rattle.catalogued_store.specs.declared.placed_entry.PlacedEntry.{PlacedEntry
 use Rattle.catalogued_store.specs.Stands.{name_of}
 use Rattle.catalogued_store.specs.inside.NameIndex.{entry_names, name_at, name_order, closed_up, IsOrderOf}
 use Rattle.catalogued_store.proofs.NameIndex.{IsThere, same_place}
-
-closed-below : (gone p : ℕ) → p < gone → closed_up gone p ≡ p
-closed-below gone p lt = grind (arith, nat_tests, lt)
-
-closed-above : (gone p : ℕ) → gone < p → closed_up gone p ≡ p - 1
-closed-above gone p lt = grind (arith, nat_tests, lt)
+use Rattle.catalogued_store.proofs.Removed.{map_remove, closed-below, closed-above, closed_inside, at_closed}
 
 only-one : (a q : ℕ) → Contains (a ∷ []) q → a ≡ q
 only-one a q found =
@@ -48,24 +42,13 @@ module _ (names : List (List ℕ)) (positions : List ℕ) (place gone : ℕ) (or
       )
 
   -- a name is where it was, over which it closed up
-  named-closed : (p : ℕ) → p < length names → p ≢ gone → name_at (remove names gone) (closed_up gone p) ≡ name_at names p
-  named-closed p lt other = ⊎_elim
-      (λ less. ap (name_at (remove names gone)) (closed-below gone p less) ∙ get_or-remove_below names gone [] p less inside)
-      (λ from.
-      let more : gone < p = omega (arith, from, other) in
-      let is : p - 1 + 1 ≡ p = omega (arith, more) in
-      ap (name_at (remove names gone)) (closed-above gone p more) ∙ get_or-remove_above names gone [] (p - 1) (omega (arith, more)) inside ∙ ap (name_at names) is)
-      (cases_lt p gone)
+  named-closed : (p : ℕ) → p ≢ gone → name_at (remove names gone) (closed_up gone p) ≡ name_at names p
+  named-closed p other = at_closed names gone p [] other inside
 
   closed-within : (p : ℕ) → p < length names → p ≢ gone → closed_up gone p < length (remove names gone)
   closed-within p lt other =
       let n = length-remove names gone inside in
-      ⊎_elim
-      (λ less. omega (arith, less, inside, n, closed-below gone p less))
-      (λ from.
-      let more : gone < p = omega (arith, from, other) in
-      omega (arith, more, lt, n, closed-above gone p more))
-      (cases_lt p gone)
+      closed_inside gone (length (remove names gone)) p other (omega (arith, lt, n)) (omega (arith, inside, n))
 
   still-contained : (p q : ℕ) → closed_up gone q ≡ p → q < length names → q ≢ gone → Contains (map (closed_up gone) (remove positions place)) p
   still-contained p q is lt other =
@@ -96,9 +79,9 @@ module _ (names : List (List ℕ)) (positions : List ℕ) (place gone : ℕ) (or
       let first = others j 0 low in
       let second = others k 0 high in
       let is_a : name_at (remove names gone) (get_or (map (closed_up gone) (remove positions place)) j d) ≡ name_at names (get_or (remove positions place) j 0) =
-      ap (name_at (remove names gone)) (get_or-map (closed_up gone) (remove positions place) j 0 d low) ∙ named-closed (get_or (remove positions place) j 0) first.0 first.1 in
+      ap (name_at (remove names gone)) (get_or-map (closed_up gone) (remove positions place) j 0 d low) ∙ named-closed (get_or (remove positions place) j 0) first.1 in
       let is_b : name_at (remove names gone) (get_or (map (closed_up gone) (remove positions place)) k d) ≡ name_at names (get_or (remove positions place) k 0) =
-      ap (name_at (remove names gone)) (get_or-map (closed_up gone) (remove positions place) k 0 d high) ∙ named-closed (get_or (remove positions place) k 0) second.0 second.1 in
+      ap (name_at (remove names gone)) (get_or-map (closed_up gone) (remove positions place) k 0 d high) ∙ named-closed (get_or (remove positions place) k 0) second.1 in
       ap (λ x. slice_cmp nat_cmp x (name_at (remove names gone) (get_or (map (closed_up gone) (remove positions place)) k d))) is_a
       ∙ ap (slice_cmp nat_cmp (name_at names (get_or (remove positions place) j 0))) is_b
       ∙ all_pairs_remove (λ x y. name_order names x y ≡ Less) positions place at.within order.rise j k 0 less high
@@ -120,8 +103,5 @@ module _ (names : List (List ℕ)) (positions : List ℕ) (place gone : ℕ) (or
 pub removed : (entries : List PlacedEntry) (positions : List ℕ) (place gone : ℕ) → IsOrderOf (entry_names entries) positions → IsThere positions place gone
     → IsOrderOf (entry_names (remove entries gone)) (map (closed_up gone) (remove positions place))
 removed entries positions place gone order at =
-    let names : entry_names (remove entries gone) ≡ remove (entry_names entries) gone =
-    map-append (λ (placed : PlacedEntry). name_of placed.entry) (take gone entries) (drop (suc gone) entries)
-    ∙ ap (λ l. l ++ map (λ (placed : PlacedEntry). name_of placed.entry) (drop (suc gone) entries)) (sym (take-map (λ (placed : PlacedEntry). name_of placed.entry) gone entries))
-    ∙ ap (λ l. take gone (entry_names entries) ++ l) (sym (drop-map (λ (placed : PlacedEntry). name_of placed.entry) (suc gone) entries)) in
-    subst (λ l. IsOrderOf l (map (closed_up gone) (remove positions place))) (sym names) (removed-names (entry_names entries) positions place gone order at)
+    subst (λ l. IsOrderOf l (map (closed_up gone) (remove positions place))) (sym (map_remove (λ (placed : PlacedEntry). name_of placed.entry) entries gone))
+    (removed-names (entry_names entries) positions place gone order at)

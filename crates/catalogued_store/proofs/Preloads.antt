@@ -23,17 +23,17 @@ use Rattle.catalogued_store.proofs.Following.{following_stands}
 use Rattle.catalogued_store.proofs.Listings.{listed_2}
 
 -- a root of version 2 lists as many catalogues as its libraries take,
-enough_in : (libraries disk : ℕ) (list : EntryList) → version_of_list list ≡ Two → ListFits libraries disk list → length (catalogues_in list) ≡ catalogues_for libraries
+pub enough_in : (libraries disk : ℕ) (list : EntryList) → version_of_list list ≡ Two → ListFits libraries disk list → length (catalogues_in list) ≡ catalogues_for libraries
 enough_in libraries disk (InRoot sectors) is fits = absurd (cc is)
 enough_in libraries disk (InCatalogues count listed) is fits = length-take-le count listed (omega (arith, fits.listed.listed.size, fits.listed.listed.room)) ∙ fits.enough
 
 -- counts few,
-few_in : (libraries disk : ℕ) (list : EntryList) → version_of_list list ≡ Two → ListFits libraries disk list → libraries ≤ most_libraries
+pub few_in : (libraries disk : ℕ) (list : EntryList) → version_of_list list ≡ Two → ListFits libraries disk list → libraries ≤ most_libraries
 few_in libraries disk (InRoot sectors) is fits = absurd (cc is)
 few_in libraries disk (InCatalogues count listed) is fits = fits.few
 
 -- and has room for them once more
-room_in : (sectors : ℕ) (list : EntryList) (entries : List PlacedEntry) → version_of_list list ≡ Two → HasRoom sectors list entries → root_sectors + entries_cost entries + 2 * catalogues_for (length entries) ≤ sectors
+pub room_in : (sectors : ℕ) (list : EntryList) (entries : List PlacedEntry) → version_of_list list ≡ Two → HasRoom sectors list entries → root_sectors + entries_cost entries + 2 * catalogues_for (length entries) ≤ sectors
 room_in sectors (InRoot listed) entries is room = absurd (cc is)
 room_in sectors (InCatalogues count listed) entries is room = room
 

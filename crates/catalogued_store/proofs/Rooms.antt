@@ -63,13 +63,14 @@ module _ (layout : List Bool) (root : Root) (entries : List PlacedEntry) (fits :
   list_fits : ListFits (length entries) root.sectors root.list
   list_fits = subst (λ n. ListFits n root.sectors root.list) (sym counted) fits.list
 
-  all : root_sectors + length (catalogues_of root) + entries_cost entries + free_count layout ≡ root.sectors
-  all =
+  -- the sectors of the roots, of the catalogues, of the entries with their bytes, and the free ones are all
+  pub counted_sectors : root_sectors + length (catalogues_of root) + entries_cost entries + free_count layout ≡ root.sectors
+  counted_sectors =
       let free = free_count-used layout (used root entries) apart.once (λ k d lt. (apart.inside k d lt).0) claims in
       all_sectors root.sectors (free_count layout) (catalogues_of root) entries fit (omega (arith, fits.sectors)) (free ∙ ap (λ n. n - root_sectors) size)
 
   pub room_claimed : length (catalogues_of root) ≤ free_count layout → HasRoom root.sectors root.list entries
-  room_claimed enough = has_room root.sectors root.sectors (free_count layout) root.list entries list_fits all enough
+  room_claimed enough = has_room root.sectors root.sectors (free_count layout) root.list entries list_fits counted_sectors enough
 
   pub no_room_claimed : free_count layout < length (catalogues_of root) → HasRoom root.sectors root.list entries → ⊥
-  no_room_claimed few room = no_room root.sectors root.sectors (free_count layout) root.list entries list_fits all few room
+  no_room_claimed few room = no_room root.sectors root.sectors (free_count layout) root.list entries list_fits counted_sectors few room

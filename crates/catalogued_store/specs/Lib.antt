@@ -8,4 +8,5 @@ pub mod Reads
 pub mod Changed
 pub mod Step
 pub mod Taken
+pub mod Upgraded
 pub mod inside

@@ -10,7 +10,7 @@ use Rattle.roots.specs.declared.version.Version.TheVariants.{One}
 use Rattle.roots.specs.declared.choice.ChooseRefusal.{ChooseRefusal}
 use Rattle.roots.specs.declared.choice.ChooseRefusal.TheVariants as choice
 use Rattle.catalogued_store.specs.declared.refusal.StoreRefusal.{StoreRefusal}
-use Rattle.catalogued_store.specs.declared.refusal.StoreRefusal.TheVariants.{BadGeometry, NotFormatted, AlreadyFormatted, Damaged, Device, OutOfMemory, OldFormat}
+use Rattle.catalogued_store.specs.declared.refusal.StoreRefusal.TheVariants.{BadGeometry, NotFormatted, AlreadyFormatted, Damaged, Device, OutOfMemory, OldFormat, GenerationEnd, Full}
 
 -- a root was written to one of the two root sectors, of whatever version
 abbrev pub HasRootMagic : List Sector → Type 0
@@ -50,6 +50,12 @@ IsRefusalOfLook sectors other = ⊥
 abbrev pub IsRefusalOfOpen : ℕ → StoreRefusal → Type 0
 IsRefusalOfOpen sectors OldFormat = IsGeometry sectors
 IsRefusalOfOpen sectors other = IsRefusalOfLook sectors other
+
+-- The refusals of `upgrade` on any disk: two more than those of `look`.
+abbrev pub IsRefusalOfUpgrade : ℕ → StoreRefusal → Type 0
+IsRefusalOfUpgrade sectors GenerationEnd = IsGeometry sectors
+IsRefusalOfUpgrade sectors Full = IsGeometry sectors
+IsRefusalOfUpgrade sectors other = IsRefusalOfLook sectors other
 
 -- how `look` may refuse these sectors; Damaged are those with a root that stand for no state of either version
 pub record RefusesLook (StandsFor : List Sector → State → Type 0) (m : List Sector) (refusal : StoreRefusal) : Type 0 where

@@ -14,8 +14,11 @@ ghost use Rattle.roots.specs.Root.{RootHasSpelling};
 ghost use Rattle.states.specs.State.{State};
 ghost use Rattle.catalogued_store.specs.declared.placed_entry.PlacedEntry.{PlacedEntry};
 ghost use Rattle.catalogued_store.specs.Stands.{StandsBy, StandsAs, Stands, used};
-ghost use Rattle.catalogued_store.specs.inside.Next.{IsFollowed};
+ghost use Rattle.catalogued_store.specs.inside.Catalogues.{CanBeCatalogued};
+ghost use Rattle.catalogued_store.specs.inside.Next.{IsFollowed, IsRelisting};
+ghost use Rattle.catalogued_store.specs.inside.Room.{HavePlaces};
 
+use crate::catalogues::catalogue_singles;
 use extents::Extent;
 use passes::{SingleSector, commit, stage};
 use roots::{Root, encode_root, slot_of};
@@ -68,6 +71,40 @@ pub(crate) fn write_change<D: Disk>(
 {
     stage(disk, extents, bytes, singles)?;
     commit(disk, slot_of(root.generation), &encode_root(root))
+}
+
+/// Writes the catalogues of a list and syncs, and then the root, and syncs. The root may follow one
+/// of either version.
+pub(crate) fn write_list<D: Disk>(
+    disk: &mut D,
+    catalogues: &[u32],
+    sectors: &[u32],
+    root: &Root,
+) -> Result<(), DiskFault>
+    requires root { RootHasSpelling root.now }
+    requires fits { (D.facts disk.old).sectors < 2 ^ 32 }
+    requires roots { root_sectors ≤ (D.facts disk.old).sectors }
+    requires places { HavePlaces (D.facts disk.old).sectors catalogues.now }
+    requires listed { CanBeCatalogued (length catalogues.now) sectors.now }
+    ensures calls { AreCallsInRow (length catalogues.now + 3)
+        (D.facts disk.old) (D.facts disk.new) result }
+    ensures any_moment { IsTrue (D.facts disk.old).honest
+        → (version : Version) → (before : Root) → (entries : List PlacedEntry) → (s : State)
+        → (others : List PlacedEntry) → (s' : State)
+        → ((m : List Sector) → Mixture (D.facts disk.old) m → StandsBy version m before entries s)
+        → IsRelisting version before entries s catalogues.now sectors.now root.now others s'
+        → LeavesOnly (D.facts disk.old) (D.facts disk.new)
+        (λ m. StandsAs version m s ⊎ Stands m s') }
+    ensures done { IsTrue (D.facts disk.old).honest
+        → (version : Version) → (before : Root) → (entries : List PlacedEntry) → (s : State)
+        → (others : List PlacedEntry) → (s' : State)
+        → ((m : List Sector) → Mixture (D.facts disk.old) m → StandsBy version m before entries s)
+        → IsRelisting version before entries s catalogues.now sectors.now root.now others s'
+        → OnOk result ((m : List Sector) → Mixture (D.facts disk.new) m
+        → StandsBy Two m root.now others s') }
+{
+    let singles = catalogue_singles(catalogues, sectors);
+    write_change(disk, &[], &[], singles.as_slice(), root)
 }
 
 /// Writes a root, which lists what stands already, and syncs.

@@ -1,13 +1,16 @@
 //! The store of version 2 of the disk: named byte strings that survive a power cut, 2,048 at most.
 //!
 //! A disk is made a store by `Store::format`, and opened again by `Store::open` after a stop at any
-//! moment; `Store::look` looks at one of either version. `set_preloads` chooses the preloads. No
-//! byte string is put, replaced or taken out yet: that is what the crate `store` does on disks of
-//! version 1. What sectors stand for is defined in specs/Stands.antt.
+//! moment. Byte strings are put behind the others by `put_new`, in the place of those under a name
+//! by `put_over`, and taken out by `delete`; `set_preloads` chooses the preloads. `Store::look`
+//! looks at a disk of either version, and `Store::upgrade` makes one of version 1 one of version 2.
+//! What sectors stand for is defined in specs/Stands.antt.
 #![tactic(auto)]
 
 mod catalogues;
 mod change;
+mod commit;
+mod delete;
 mod entries;
 mod format;
 mod found;
@@ -22,12 +25,16 @@ mod old_store;
 mod open;
 mod placed_entry;
 mod preload;
+mod put;
+mod put_new;
+mod put_over;
 mod query;
 mod read;
 mod refusal;
 mod room;
 mod slots;
 mod store;
+mod upgrade;
 mod used;
 
 pub use look::Look;

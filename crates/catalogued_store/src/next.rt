@@ -16,7 +16,7 @@ use roots::{MOST_LIBRARIES, Root};
 use states::MOST_PRELOADS;
 
 /// The sectors of entries, and zeros behind them.
-fn sectors_of_entries(entries: &[PlacedEntry]) -> [u32; MOST_LIBRARIES]
+pub(crate) fn sectors_of_entries(entries: &[PlacedEntry]) -> [u32; MOST_LIBRARIES]
     requires { length entries.now ≤ most_libraries }
     ensures { take (length entries.now) result ≡ entry_sectors entries.now }
 {

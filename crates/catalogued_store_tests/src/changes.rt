@@ -1,57 +1,164 @@
-// What `format` writes and refuses, and what new preloads write.
-use crate::disks::{version_1, version_2};
-use crate::sectors::{sector, write};
-use catalogued_store::{Store, StoreRefusal};
-use sector_disk::{Memory, SECTOR_BYTES};
-use std::alloc::Global;
+// That changes go through with ample memory, and which sectors they take and write.
+use crate::calls::Change::{Choose, Delete, Put};
+use crate::calls::{Change, disk_after, formatted, make_all, opened};
+use crate::disks::{numbered_name, version_2, write_last_roots};
+use crate::sectors::{are_same, holds, sector};
+use catalogued_store::StoreRefusal;
+use sector_disk::SECTOR_BYTES;
 use std::test::Fail;
 
-// The refusal of `format`, if it refuses, and the disk.
-fn format(alloc: Global, disk: Memory) -> (Option<StoreRefusal>, Memory) {
-    match Store::format(alloc, disk) {
-        Ok(store) => (None, store.into_disk()),
-        Err((refusal, disk)) => (Some(refusal), disk),
-    }
-}
+// The root in sector 1, the bytes in 2 and 3, the entry in 4, the catalogue in 5.
+const PUT: [(u32, usize, u8); 24] = [
+    (0, 8, 0),
+    (1, 7, b'2'),
+    (1, 8, 1),
+    (1, 16, 8),
+    (1, 20, 1),
+    (1, 56, 1),
+    (1, 64, 5),
+    (1, 68, 0),
+    (2, 511, 7),
+    (3, 87, 7),
+    (3, 88, 0),
+    (4, 3, b'E'),
+    (4, 4, 88),
+    (4, 5, 2),
+    (4, 8, 2),
+    (4, 10, 1),
+    (4, 16, b'0'),
+    (4, 256, 2),
+    (4, 260, 2),
+    (5, 3, b'C'),
+    (5, 4, 1),
+    (5, 16, 4),
+    (5, 20, 0),
+    (6, 0, 0),
+];
 
 #[test]
-fn an_empty_store_is_one_root(rt: HostRuntime) -> Result<(), Fail> {
-    let (refusal, mut disk) = format(rt.alloc(), Memory::new(rt.alloc(), 8)?);
-    assert_eq!(rt; refusal, None);
-    let mut root = [0; SECTOR_BYTES];
-    root[..8].copy_from_slice(b"RLIBREG2");
-    root[16] = 8;
-    assert_eq!(rt; sector(&rt, &mut disk, 0), root);
-    for at in 1..8 {
-        assert_eq!(rt; sector(&rt, &mut disk, at), [0; SECTOR_BYTES], "{at}");
-    }
+fn a_put_writes_its_sectors_the_catalogue_and_the_other_root(rt: HostRuntime) -> Result<(), Fail> {
+    let mut disk = disk_after(&rt, rt.alloc(), 8, &[(Put(0, 7, 600), None)])?;
+    holds(&rt, &mut disk, &PUT);
     Ok(())
 }
 
+// The sectors of the first bytes are free again for the third ones.
+const REPLACED: [(Change, Option<StoreRefusal>); 3] = [
+    (Put(0, 7, 344), None),
+    (Put(0, 8, 344), None),
+    (Put(1, 9, 344), None),
+];
+
+// First the bytes are in sector 2, the entry in 3, the catalogue in 4, and then in 5, 6 and 7.
+const AFTER_TWO: [(u32, usize, u8); 13] = [
+    (0, 8, 2),
+    (0, 20, 1),
+    (0, 64, 7),
+    (1, 64, 4),
+    (2, 343, 7),
+    (3, 256, 2),
+    (4, 16, 3),
+    (5, 343, 8),
+    (5, 344, 0),
+    (6, 17, b'0'),
+    (6, 256, 5),
+    (7, 4, 1),
+    (7, 16, 6),
+];
+
+const AFTER_THREE: [(u32, usize, u8); 12] = [
+    (0, 64, 7),
+    (1, 8, 3),
+    (1, 20, 2),
+    (1, 56, 1),
+    (1, 64, 4),
+    (2, 343, 9),
+    (3, 17, b'1'),
+    (3, 256, 2),
+    (4, 4, 2),
+    (4, 16, 6),
+    (4, 20, 3),
+    (7, 16, 6),
+];
+
 #[test]
-fn a_formatted_disk_is_refused(rt: HostRuntime) -> Result<(), Fail> {
-    // A store of either version, and a bad root of either in the other sector.
-    let old = format(rt.alloc(), version_1(&rt, rt.alloc(), 3)?).0;
-    assert_eq!(rt; old, Some(StoreRefusal::AlreadyFormatted));
-    let new = format(rt.alloc(), version_2(&rt, rt.alloc(), 3, 2)?).0;
-    assert_eq!(rt; new, Some(StoreRefusal::AlreadyFormatted));
-    for version in [b'1', b'2'] {
-        let mut disk = Memory::new(rt.alloc(), 8)?;
-        let mut bad = [0; SECTOR_BYTES];
-        bad[..7].copy_from_slice(b"RLIBREG");
-        bad[7] = version;
-        write(&rt, &mut disk, 1, &bad);
-        let refusal = format(rt.alloc(), disk).0;
-        assert_eq!(rt; refusal, Some(StoreRefusal::AlreadyFormatted));
-    }
+fn a_replacement_goes_into_free_sectors(rt: HostRuntime) -> Result<(), Fail> {
+    let mut disk = disk_after(&rt, rt.alloc(), 8, &REPLACED[..2])?;
+    holds(&rt, &mut disk, &AFTER_TWO);
+    let mut disk = disk_after(&rt, rt.alloc(), 8, &REPLACED)?;
+    holds(&rt, &mut disk, &AFTER_THREE);
+    Ok(())
+}
+
+// Two byte strings of two sectors fill the disk, and after a removal there is room for a third.
+const REMOVED: [(Change, Option<StoreRefusal>); 5] = [
+    (Put(0, 7, 2 * SECTOR_BYTES), None),
+    (Put(1, 7, 2 * SECTOR_BYTES), None),
+    (Put(2, 7, 64), Some(StoreRefusal::Full)),
+    (Delete(0), None),
+    (Put(2, 7, 2 * SECTOR_BYTES), None),
+];
+
+#[test]
+fn a_removal_frees_its_sectors(rt: HostRuntime) -> Result<(), Fail> {
+    let mut store = formatted(rt.alloc(), 10)?;
+    let made = make_all(&rt, rt.alloc(), &mut store, &REMOVED);
+    let positions = (
+        store.position(&numbered_name(0)),
+        store.position(&numbered_name(1)),
+        store.position(&numbered_name(2)),
+    );
+    let _ = store.into_disk();
+    made?;
+    assert_eq!(rt; positions, (None, Some(0), Some(1)));
+    Ok(())
+}
+
+// The last removal leaves a root without catalogues, and writes no other sector.
+const EMPTIED: [(Change, Option<StoreRefusal>); 2] = [(Put(0, 7, 344), None), (Delete(0), None)];
+
+#[test]
+fn the_last_removal_leaves_no_catalogue(rt: HostRuntime) -> Result<(), Fail> {
+    let mut disk = disk_after(&rt, rt.alloc(), 8, &EMPTIED)?;
+    let table = [
+        (0, 8, 2),
+        (0, 20, 0),
+        (0, 56, 0),
+        (0, 64, 0),
+        (4, 16, 3),
+        (5, 0, 0),
+    ];
+    holds(&rt, &mut disk, &table);
+    Ok(())
+}
+
+const PRELOADED: [(Change, Option<StoreRefusal>); 3] = [
+    (Put(0, 7, 64), None),
+    (Put(1, 7, 64), None),
+    (Choose(1), None),
+];
+
+#[test]
+fn preloads_are_written_by_position(rt: HostRuntime) -> Result<(), Fail> {
+    let mut disk = disk_after(&rt, rt.alloc(), 8, &PRELOADED)?;
+    let table = [
+        (1, 8, 3),
+        (1, 20, 2),
+        (1, 22, 1),
+        (1, 24, 1),
+        (1, 26, 0),
+        (1, 56, 1),
+        (1, 64, 7),
+        (7, 16, 3),
+        (7, 20, 6),
+    ];
+    holds(&rt, &mut disk, &table);
     Ok(())
 }
 
 #[test]
 fn new_preloads_keep_the_catalogues(rt: HostRuntime) -> Result<(), Fail> {
-    let Ok(mut store) = Store::open(rt.alloc(), version_2(&rt, rt.alloc(), 3, 2)?) else {
-        return Err("it doesn't open".into());
-    };
+    let mut store = opened(rt.alloc(), version_2(&rt, rt.alloc(), 3, 2)?)?;
     let done = if store.count() == 3 {
         store.set_preloads(&[2, 0])
     } else {
@@ -66,11 +173,34 @@ fn new_preloads_keep_the_catalogues(rt: HostRuntime) -> Result<(), Fail> {
     root[22] = 2;
     root[24] = 2;
     assert_eq!(rt; sector(&rt, &mut disk, 1), root);
-    let Ok(store) = Store::open(rt.alloc(), disk) else {
-        return Err("it doesn't open again".into());
-    };
+    let store = opened(rt.alloc(), disk)?;
     let preloads = store.preloads() == [2, 0].as_slice();
     let _ = store.into_disk();
     assert!(rt; preloads);
+    Ok(())
+}
+
+// At the greatest generation, where there would be room and where there wouldn't: each change is
+// refused so, and the store can be used behind it.
+const AT_THE_END: [(Change, Option<StoreRefusal>); 5] = [
+    (Put(3, 7, 64), Some(StoreRefusal::GenerationEnd)),
+    (Put(1, 7, 64), Some(StoreRefusal::GenerationEnd)),
+    (Put(3, 7, 65_536), Some(StoreRefusal::GenerationEnd)),
+    (Delete(1), Some(StoreRefusal::GenerationEnd)),
+    (Choose(1), Some(StoreRefusal::GenerationEnd)),
+];
+
+#[test]
+fn the_last_generation_is_not_followed(rt: HostRuntime) -> Result<(), Fail> {
+    let mut disk = version_2(&rt, rt.alloc(), 3, 20)?;
+    write_last_roots(&rt, &mut disk)?;
+    let mut before = disk.copy()?;
+    let mut store = opened(rt.alloc(), disk)?;
+    let made = make_all(&rt, rt.alloc(), &mut store, &AT_THE_END);
+    let failed = store.has_failed();
+    let mut after = store.into_disk();
+    made?;
+    assert!(rt; !failed);
+    are_same(&rt, &mut before, &mut after);
     Ok(())
 }

@@ -1,18 +1,19 @@
 // Disks that are written by hand. Library i has its entry in sector 2 + 2i and its one sector of
 // bytes behind that; catalogues come behind the libraries.
-use crate::sectors::write;
+use crate::sectors::{sector, write};
 use catalogued_store::{Store, StoreRefusal};
 use extents::Extent;
-use roots::{Catalogue, Entry, Root, encode_catalogue, encode_entry, encode_root};
+use roots::{
+    Catalogue, Entry, Root, Slot, decode_root, encode_catalogue, encode_entry, encode_root,
+};
 use sector_disk::{Memory, SECTOR_BYTES};
 use std::alloc::Global;
 use std::process::Abort;
 use std::test::Fail;
 
-/// The name of library i: `l` and four digits.
-pub(crate) fn name_of(i: u32) -> [u8; 5] {
-    let digit = |power: u32| b'0' + (i / power % 10) as u8;
-    [b'l', digit(1000), digit(100), digit(10), digit(1)]
+/// The name of library i: two characters, each for 6 bits of the number.
+pub(crate) fn numbered_name(i: u32) -> [u8; 2] {
+    [b'0' + (i / 64 % 64) as u8, b'0' + (i % 64) as u8]
 }
 
 /// Where the entry of library i is.
@@ -29,10 +30,14 @@ pub(crate) fn write_library(rt: &impl Abort, disk: &mut Memory, i: u32, name: &[
         start: at + 1,
         count: 1,
     };
-    let entry = Entry::new(name, 64, &[extent]);
-    assert!(rt; entry.has_spelling());
-    write(rt, disk, at, &encode_entry(&entry));
+    write_entry(rt, disk, at, &Entry::new(name, 64, &[extent]));
     write(rt, disk, at + 1, &[(i % 10) as u8; SECTOR_BYTES]);
+}
+
+/// Writes an entry.
+pub(crate) fn write_entry(rt: &impl Abort, disk: &mut Memory, at: u32, entry: &Entry) {
+    assert!(rt; entry.has_spelling());
+    write(rt, disk, at, &encode_entry(entry));
 }
 
 /// Writes a catalogue of these entries.
@@ -72,7 +77,7 @@ pub(crate) fn version_2(
     assert!(rt; first < 30_000 && catalogues <= 32);
     let mut disk = Memory::new(alloc, first + catalogues + spare)?;
     for i in 0..count {
-        write_library(rt, &mut disk, i, &name_of(i));
+        write_library(rt, &mut disk, i, &numbered_name(i));
     }
     let entries = entries_of(rt, alloc, count)?;
     let mut listed = Vec::new(alloc);
@@ -89,13 +94,21 @@ pub(crate) fn version_2(
     Ok(disk)
 }
 
-/// A disk of version 1 with so many libraries.
-pub(crate) fn version_1(rt: &impl Abort, alloc: Global, count: u32) -> Result<Memory, Fail> {
-    assert!(rt; 3 <= count && count <= 100);
-    let sectors = entry_at(rt, count);
+/// A disk of version 1 with so many libraries, the first of them a preload, and so many sectors
+/// more than libraries and roots take.
+pub(crate) fn version_1(
+    rt: &impl Abort,
+    alloc: Global,
+    count: u32,
+    spare: u32,
+) -> Result<Memory, Fail> {
+    assert!(rt; 3 <= count && count <= 100 && spare <= 100);
+    let behind = entry_at(rt, count);
+    assert!(rt; behind < 30_000);
+    let sectors = behind + spare;
     let mut disk = Memory::new(alloc, sectors)?;
     for i in 0..count {
-        write_library(rt, &mut disk, i, &name_of(i));
+        write_library(rt, &mut disk, i, &numbered_name(i));
     }
     let entries = entries_of(rt, alloc, count)?;
     assert!(rt; entries.len() <= 100);
@@ -105,6 +118,17 @@ pub(crate) fn version_1(rt: &impl Abort, alloc: Global, count: u32) -> Result<Me
         &Root::over_entries(0, sectors, &entries, &[0]),
     );
     Ok(disk)
+}
+
+/// Writes the last two roots that there can be in the place of the first one.
+pub(crate) fn write_last_roots(rt: &impl Abort, disk: &mut Memory) -> Result<(), Fail> {
+    let Slot::Good(root) = decode_root(&sector(rt, disk, 0)) else {
+        return Err("no root".into());
+    };
+    for generation in [u64::MAX - 1, u64::MAX] {
+        write_root(rt, disk, &Root { generation, ..root });
+    }
+    Ok(())
 }
 
 /// How `open` refuses a disk, if it refuses.

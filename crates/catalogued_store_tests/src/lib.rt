@@ -1,6 +1,9 @@
-//! Tests of `catalogued_store` through its public calls: disks of both versions, written by hand.
+//! Tests of `catalogued_store` through its public calls: what no clause says, on disks of both
+//! versions.
 #![tactic(auto)]
 
+#[cfg(test)]
+mod calls;
 #[cfg(test)]
 mod catalogues;
 #[cfg(test)]
@@ -10,8 +13,22 @@ mod disks;
 #[cfg(test)]
 mod faults;
 #[cfg(test)]
+mod formats;
+#[cfg(test)]
+mod liars;
+#[cfg(test)]
 mod openings;
 #[cfg(test)]
+mod order;
+#[cfg(test)]
+mod reads;
+#[cfg(test)]
+mod rooms;
+#[cfg(test)]
 mod sectors;
+#[cfg(test)]
+mod seen;
+#[cfg(test)]
+mod upgrades;
 #[cfg(test)]
 mod versions;

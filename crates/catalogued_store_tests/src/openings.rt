@@ -1,6 +1,9 @@
 // What a store of version 2 tells, and when one of its size opens.
-use crate::disks::{name_of, refusal_of_open, version_2, write_library};
-use catalogued_store::{Store, StoreRefusal};
+use crate::calls::Change::Put;
+use crate::calls::{disk_after, opened};
+use crate::disks::{numbered_name, refusal_of_open, version_2, write_library};
+use crate::sectors::{sector, write};
+use catalogued_store::StoreRefusal;
 use std::alloc::Global;
 use std::process::Abort;
 use std::test::Fail;
@@ -9,10 +12,8 @@ use std::test::Fail;
 fn tells_the_last(rt: &impl Abort, alloc: Global, count: u32) -> Result<(), Fail> {
     assert!(rt; 1 <= count);
     let last = count as usize - 1;
-    let name = name_of(count - 1);
-    let Ok(mut store) = Store::open(alloc, version_2(rt, alloc, count, 32)?) else {
-        return Err("it doesn't open".into());
-    };
+    let name = numbered_name(count - 1);
+    let mut store = opened(alloc, version_2(rt, alloc, count, 32)?)?;
     let told = (store.count(), store.position(&name), store.preloads().len());
     let bytes = if last < store.count() {
         store.read_blob(alloc, last)
@@ -53,7 +54,21 @@ fn a_name_that_stands_twice_is_damage(rt: HostRuntime) -> Result<(), Fail> {
     // In one catalogue, and in two.
     for other in [1, 69] {
         let mut disk = version_2(&rt, rt.alloc(), 70, 2)?;
-        write_library(&rt, &mut disk, other, &name_of(0));
+        write_library(&rt, &mut disk, other, &numbered_name(0));
+        let refusal = refusal_of_open(rt.alloc(), disk);
+        assert_eq!(rt; refusal, Some(StoreRefusal::Damaged));
+    }
+    Ok(())
+}
+
+#[test]
+fn damage_of_the_older_root_is_told(rt: HostRuntime) -> Result<(), Fail> {
+    // Without its magic, and with the generation of the other root.
+    for (byte, to) in [(0, b'X'), (8, 1)] {
+        let mut disk = disk_after(&rt, rt.alloc(), 8, &[(Put(0, 7, 64), None)])?;
+        let mut root = sector(&rt, &mut disk, 0);
+        root[byte] = to;
+        write(&rt, &mut disk, 0, &root);
         let refusal = refusal_of_open(rt.alloc(), disk);
         assert_eq!(rt; refusal, Some(StoreRefusal::Damaged));
     }

@@ -1,63 +1,27 @@
 // Disks of version 1, and disks with roots of both versions.
-use crate::disks::{refusal_of_open, version_1, version_2, write_root};
+use crate::disks::{numbered_name, refusal_of_open, version_1, version_2, write_root};
 use crate::sectors::write;
-use catalogued_store::{Look, OldStore, Store, StoreRefusal};
+use crate::seen::{Seen, look, old_store};
+use catalogued_store::StoreRefusal;
 use roots::Root;
 use sector_disk::{Memory, SECTOR_BYTES};
-use std::alloc::Global;
 use std::test::Fail;
-
-/// What `look` answers.
-#[derive(Clone, Copy, Debug, PartialEq, Eq)]
-enum Seen {
-    Current(usize),
-    Old(usize),
-    Refused(StoreRefusal),
-}
-
-fn look(alloc: Global, disk: Memory) -> Seen {
-    match Store::look(alloc, disk) {
-        Ok(Look::Current(store)) => {
-            let seen = Seen::Current(store.count());
-            let _ = store.into_disk();
-            seen
-        }
-        Ok(Look::Old(store)) => {
-            let seen = Seen::Old(store.count());
-            let _ = store.into_disk();
-            seen
-        }
-        Err((refusal, _)) => Seen::Refused(refusal),
-    }
-}
 
 #[test]
 fn a_disk_of_version_1_is_seen_and_not_opened(rt: HostRuntime) -> Result<(), Fail> {
-    let seen = look(rt.alloc(), version_1(&rt, rt.alloc(), 100)?);
+    let seen = look(rt.alloc(), version_1(&rt, rt.alloc(), 100, 0)?);
     assert_eq!(rt; seen, Seen::Old(100));
-    let refusal = refusal_of_open(rt.alloc(), version_1(&rt, rt.alloc(), 100)?);
+    let refusal = refusal_of_open(rt.alloc(), version_1(&rt, rt.alloc(), 100, 0)?);
     assert_eq!(rt; refusal, Some(StoreRefusal::OldFormat));
     let seen = look(rt.alloc(), version_2(&rt, rt.alloc(), 3, 2)?);
     assert_eq!(rt; seen, Seen::Current(3));
     Ok(())
 }
 
-// The store of version 1 that is seen on a disk.
-fn old_store(alloc: Global, disk: Memory) -> Result<OldStore<Memory>, Fail> {
-    match Store::look(alloc, disk) {
-        Ok(Look::Old(store)) => Ok(store),
-        Ok(Look::Current(store)) => {
-            let _ = store.into_disk();
-            Err("it is of version 2".into())
-        }
-        Err(_) => Err("it isn't seen".into()),
-    }
-}
-
 #[test]
 fn an_old_store_tells_and_gives_its_libraries(rt: HostRuntime) -> Result<(), Fail> {
-    let mut store = old_store(rt.alloc(), version_1(&rt, rt.alloc(), 12)?)?;
-    let position = store.position(b"l0011");
+    let mut store = old_store(rt.alloc(), version_1(&rt, rt.alloc(), 12, 0)?)?;
+    let position = store.position(&numbered_name(11));
     let preloads = store.preloads().len();
     let read = if store.count() == 12 {
         Some((store.length(11), store.read_blob(rt.alloc(), 11)))
@@ -76,19 +40,19 @@ fn an_old_store_tells_and_gives_its_libraries(rt: HostRuntime) -> Result<(), Fai
 #[test]
 fn an_old_disk_is_old_whatever_else_is_wrong(rt: HostRuntime) -> Result<(), Fail> {
     // An entry that spells none, and the number of sectors of another disk.
-    let mut broken = version_1(&rt, rt.alloc(), 3)?;
+    let mut broken = version_1(&rt, rt.alloc(), 3, 0)?;
     write(&rt, &mut broken, 2, &[7; SECTOR_BYTES]);
     assert_eq!(rt;
         look(rt.alloc(), broken),
         Seen::Refused(StoreRefusal::Damaged)
     );
-    let mut broken = version_1(&rt, rt.alloc(), 3)?;
+    let mut broken = version_1(&rt, rt.alloc(), 3, 0)?;
     write(&rt, &mut broken, 2, &[7; SECTOR_BYTES]);
     assert_eq!(rt;
         refusal_of_open(rt.alloc(), broken),
         Some(StoreRefusal::OldFormat)
     );
-    let mut other = version_1(&rt, rt.alloc(), 3)?;
+    let mut other = version_1(&rt, rt.alloc(), 3, 0)?;
     write_root(&rt, &mut other, &Root::over_entries(0, 9, &[], &[]));
     assert_eq!(rt;
         refusal_of_open(rt.alloc(), other),

@@ -1,7 +1,11 @@
--- The sectors that a change gives back.
-use Rattle.std.specs.Prelude.{◌≡◌, ℕ, Bool, List, ◌++◌, length, All}
-use Rattle.extents.specs.Extent.{AreDistinct}
+-- The sectors that a change takes, and those that it gives back.
+use Rattle.std.specs.Prelude.{◌≡◌, ℕ, Bool, List, ◌++◌, length, All, AllPairs}
+use Rattle.extents.specs.Extent.{AreDistinct, IsApart}
 use Rattle.extents.specs.Used.{ClaimsJust}
+use Rattle.passes.specs.Bytes.{IsOnDisk}
+use Rattle.roots.specs.Entry.{EntryHasSpelling}
+use Rattle.catalogued_store.specs.declared.placed_entry.PlacedEntry.{PlacedEntry}
+use Rattle.catalogued_store.specs.Stands.{extents_of, sectors_of}
 use Rattle.catalogued_store.specs.inside.Claimed.{IsUsable}
 
 -- these sectors are claimed, beside others, and each of them once
@@ -12,3 +16,16 @@ AreHeld layout gone = (kept : List ℕ) × ClaimsJust layout (kept ++ gone) × A
 pub record IsReleased (old new : List Bool) (gone : List ℕ) : Type 0 where
   pub size : length new ≡ length old
   pub each : (kept : List ℕ) → ClaimsJust old (kept ++ gone) → AreDistinct (kept ++ gone) → ClaimsJust new kept
+
+-- Catalogues have their places on a disk of so many sectors: behind the roots, and apart.
+pub record HavePlaces (sectors : ℕ) (catalogues : List ℕ) : Type 0 where
+  pub inside : All (IsUsable sectors) catalogues
+  pub once : AreDistinct catalogues
+
+-- An entry, its bytes and catalogues have their places on a disk of so many sectors.
+pub record HasPlace (sectors : ℕ) (placed : PlacedEntry) (catalogues : List ℕ) : Type 0 where
+  pub spelling : EntryHasSpelling placed.entry
+  pub on_disk : All (IsOnDisk sectors) (extents_of placed.entry)
+  pub apart : AllPairs IsApart (extents_of placed.entry)
+  pub inside : All (IsUsable sectors) (sectors_of placed ++ catalogues)
+  pub once : AreDistinct (sectors_of placed ++ catalogues)

@@ -1,0 +1,170 @@
+-- A store with one more byte string.
+use Rattle.std.proofs.Common.{◌≡◌, ◌≢◌, ◌↔◌, ⊎_elim, ℕ, suc, ◌+◌, ◌-◌, ◌*◌, ◌^◌, ◌<◌, ◌≤◌, Bool, List, [], ◌∷◌, ◌++◌, length, get_or, map, All, Result, Ok, Err, refl, sym, ap, subst, ◌∙◌, arith}
+use Rattle.std.specs.Prelude.{AllPairs}
+use Rattle.std.specs.List.{flat_map}
+use Rattle.std.proofs.lemmas.Bool.{cases_lt}
+use Rattle.std.proofs.lemmas.Grind.{flat_map-append}
+use Rattle.std.proofs.lemmas.List.{append-nil, length-append, length-take-le, get_or_append_left, get_or-append_right, map_push}
+use Rattle.std.proofs.lemmas.List.Elements.{All-push}
+use Rattle.std.proofs.lemmas.List.Sums.{sum_by_push}
+use Rattle.sector_disk.specs.Disk.{Sector, sector, sector_bytes}
+use Rattle.extents.specs.declared.extent.Extent.{Extent}
+use Rattle.extents.specs.declared.refusal.TakeRefusal.{TakeRefusal}
+use Rattle.extents.specs.declared.refusal.TakeRefusal.TheVariants as take
+use Rattle.extents.specs.Extent.{places, sector_count, IsApart}
+use Rattle.extents.specs.Layout.{free_count}
+use Rattle.passes.specs.Bytes.{IsOnDisk, bytes_at, padded}
+use Rattle.roots.specs.declared.root.Root.{Root}
+use Rattle.roots.specs.declared.version.Version.TheVariants.{Two}
+use Rattle.roots.specs.Limits.{most_libraries, catalogues_for}
+use Rattle.roots.specs.Root.{listed_preloads}
+use Rattle.roots.specs.Entry.{EntryHasSpelling, SpellsEntry}
+use Rattle.roots.proofs.RootLemmas.{listed_sectors-root_over_catalogues}
+use Rattle.states.specs.Cost.{cost}
+use Rattle.states.specs.Changes.{with_new}
+use Rattle.states.specs.State.{Library, State}
+use Rattle.catalogued_store.specs.declared.placed_entry.PlacedEntry.{PlacedEntry}
+use Rattle.catalogued_store.specs.Stands.{HasRoom, HaveOwnNames, catalogues_of, entry_sectors, name_of, extents_of, sectors_of, used, library_of, no_library, names_at}
+use Rattle.catalogued_store.specs.inside.Claimed.{IsClaimedBeside, IsUsable}
+use Rattle.catalogued_store.specs.inside.Kept.{IsKept}
+use Rattle.catalogued_store.specs.inside.Next.{IsNext, IsPut, next_root}
+use Rattle.catalogued_store.specs.inside.Room.{HasPlace}
+use Rattle.catalogued_store.proofs.Anew.{IsMoved, more_unused, more_inside, more_once, moved_apart}
+use Rattle.catalogued_store.proofs.Counts.{occurs, occurs-append}
+use Rattle.catalogued_store.proofs.Following.{following_stands}
+use Rattle.catalogued_store.proofs.Frees.{ok_or_err}
+use Rattle.catalogued_store.proofs.Libraries.{length-libraries}
+use Rattle.catalogued_store.proofs.Rooms.{counted_sectors}
+use Rattle.catalogued_store.proofs.Written.{written_bytes}
+
+-- One more entry, in room that was claimed for it and for the catalogues of the list with it, and the root that follows.
+pub record IsNew (root : Root) (entries : List PlacedEntry) (old new : List Bool) (catalogues : List ℕ) (put : PlacedEntry) (next : Root) : Type 0 where
+  pub kept : IsKept root entries old
+  pub claimed : IsClaimedBeside old new (sectors_of put ++ catalogues)
+  pub fits : EntryHasSpelling put.entry
+  pub named : All (λ other. name_of other.entry ≢ name_of put.entry) entries
+  pub few : length entries < most_libraries
+  pub later : root.generation + 1 < 2 ^ 64
+  pub enough : length catalogues ≡ catalogues_for (length entries + 1)
+  pub room : cost put.entry.file_length + length catalogues + (length catalogues - length (catalogues_of root)) ≤ free_count old
+  pub is_next : next ≡ next_root root (length entries + 1) catalogues (listed_preloads root)
+
+-- where room was given there was as much of it free
+pub free_room : {T : Type 0} {x : T} {free needed : ℕ} → (◌≡◌ {A = Result T TakeRefusal} (Ok x) (Err take.Full) ↔ (free < needed)) → needed ≤ free
+free_room {free = free} {needed = needed} full = ⊎_elim (λ few. absurd (ok_or_err (full.1 few))) (λ enough. enough) (cases_lt free needed)
+
+-- An entry and catalogues in room that was claimed for them have their places.
+pub room_place : {root : Root} {entries : List PlacedEntry} {layout new : List Bool} {catalogues : List ℕ} {put : PlacedEntry} {extents : List Extent} {n : ℕ} → IsKept root entries layout → IsClaimedBeside layout new (sectors_of put ++ catalogues) → EntryHasSpelling put.entry
+    → extents_of put.entry ≡ extents → All (IsOnDisk (length layout)) extents → AllPairs IsApart extents → n ≡ root.sectors → HasPlace n put catalogues
+room_place {layout = layout} {catalogues = catalogues} {put = put} {extents = extents} {n = n} kept claimed fits its inside apart size = record {
+  spelling = fits;
+  on_disk = subst (All (IsOnDisk n)) (sym its) (subst (λ k. All (IsOnDisk k) extents) (kept.size ∙ sym size) inside);
+  apart = subst (AllPairs IsApart) (sym its) apart;
+  inside = subst (λ k. All (IsUsable k) (sectors_of put ++ catalogues)) (sym size) (more_inside kept claimed);
+  once = more_once kept claimed;
+}
+
+-- elements of a list with one more behind it
+last_cases : {A : Type 0} (P : A → Type 0) (xs : List A) (x : A) (i : ℕ) (d : A) → i < length (xs ++ x ∷ []) → (i < length xs → P (get_or xs i d)) → (i ≡ length xs → P x) → P (get_or (xs ++ x ∷ []) i d)
+last_cases P xs x i d lt before at = ⊎_elim
+    (λ lt'. subst P (sym (get_or_append_left xs (x ∷ []) d i lt')) (before lt'))
+    (λ le.
+    let is : i ≡ length xs = omega (arith, lt, le, length-append xs (x ∷ [])) in
+    let first : i - length xs ≡ 0 = omega (arith, is) in
+    subst P (sym (get_or-append_right xs (x ∷ []) (length xs) i d refl (omega (arith, is)) ∙ ap (λ n. get_or (x ∷ []) n d) first)) (at is))
+    (cases_lt i (length xs))
+
+-- names stay apart with a new one behind them
+pub names_more : (entries : List PlacedEntry) (entry : PlacedEntry) → HaveOwnNames entries → All (λ other. name_of other.entry ≢ name_of entry.entry) entries → HaveOwnNames (entries ++ entry ∷ [])
+names_more entries entry names new i j d lt fits =
+    last_cases (λ b. name_of (get_or (entries ++ entry ∷ []) i d).entry ≢ name_of b.entry) entries entry j d fits
+    (λ before. subst (λ a. name_of a.entry ≢ name_of (get_or entries j d).entry) (sym (get_or_append_left entries (entry ∷ []) d i (omega (arith, lt, before)))) (names i j d lt before))
+    (λ last. subst (λ a. name_of a.entry ≢ name_of entry.entry) (sym (get_or_append_left entries (entry ∷ []) d i (omega (arith, lt, last)))) (new i d (omega (arith, lt, last))))
+
+-- positions among the first byte strings name the same with one more
+pub names_at_more : (libraries : List Library) (library : Library) (positions : List ℕ) → All (λ position. position < length libraries) positions → names_at (libraries ++ library ∷ []) positions ≡ names_at libraries positions
+names_at_more libraries library [] inside = refl
+names_at_more libraries library (p ∷ positions) inside =
+    let here : get_or (libraries ++ library ∷ []) p no_library ≡ get_or libraries p no_library = get_or_append_left libraries (library ∷ []) no_library p (inside 0 0 (omega arith)) in
+    let there = names_at_more libraries library positions (λ k d lt. inside (suc k) d (omega (arith, lt))) in
+    λ i. (here i).name ∷ there i
+
+module _ {root : Root} {entries : List PlacedEntry} {layout new : List Bool} {catalogues : List ℕ} {put : PlacedEntry} {next : Root} (is_new : IsNew root entries layout new catalogues put next) where
+  kept : IsKept root entries layout
+  kept = is_new.kept
+
+  abbrev others : List PlacedEntry
+  others = entries ++ put ∷ []
+
+  count_is : length others ≡ length entries + 1
+  count_is = length-append entries (put ∷ [])
+
+  catalogues_are : catalogues_of next ≡ catalogues
+  catalogues_are = ap catalogues_of is_new.is_next ∙ listed_sectors-root_over_catalogues (root.generation + 1) root.sectors (length entries + 1) catalogues (listed_preloads root)
+
+  used_is : used next others ≡ catalogues ++ (flat_map sectors_of entries ++ sectors_of put)
+  used_is = (λ i. catalogues_are i ++ flat_map-append sectors_of entries (put ∷ []) i)
+      ∙ ap (λ l. catalogues ++ (flat_map sectors_of entries ++ l)) (append-nil (sectors_of put))
+
+  -- the old catalogues aren't used any more
+  pub new_moved : IsMoved (used root entries) (sectors_of put ++ catalogues) (used next others) (catalogues_of root)
+  new_moved = record {
+    parts = λ k. omega (
+      arith,
+      ap (occurs k) used_is,
+      occurs-append k catalogues (flat_map sectors_of entries ++ sectors_of put),
+      occurs-append k (flat_map sectors_of entries) (sectors_of put),
+      occurs-append k (used root entries) (sectors_of put ++ catalogues),
+      occurs-append k (catalogues_of root) (flat_map sectors_of entries),
+      occurs-append k (sectors_of put) catalogues,
+    );
+  }
+
+  room_is : HasRoom root.sectors next.list others
+  room_is = subst (λ r. HasRoom root.sectors r.list others) (sym is_new.is_next)
+      (omega (
+        arith,
+        counted_sectors layout root entries kept.root_fits kept.entries_fit kept.counted kept.size kept.apart kept.claims,
+        is_new.room,
+        is_new.enough,
+        count_is,
+        sum_by_push (λ (p : PlacedEntry). cost p.entry.file_length) entries put,
+      ))
+
+  pub new_next : IsNext root others catalogues (listed_preloads root) next
+  new_next = record {
+    is_next = is_new.is_next ∙ ap (λ n. next_root root n catalogues (listed_preloads root)) (sym count_is);
+    later = is_new.later;
+    few = omega (arith, count_is, is_new.few);
+    enough = is_new.enough ∙ ap catalogues_for (sym count_is);
+    fit = All-push (λ (p : PlacedEntry). EntryHasSpelling p.entry) entries put kept.entries_fit is_new.fits;
+    apart = moved_apart kept is_new.claimed next others new_moved;
+    room = room_is;
+    names = names_more entries put kept.names is_new.named;
+    few_preloads = omega (arith, length-take-le root.preload_count root.preloads (omega (arith, kept.root_fits.preloads.listed.size, kept.root_fits.preloads.listed.room)), kept.root_fits.preloads.listed.room);
+    preloads_inside = λ k d lt. omega (arith, kept.root_fits.preloads.listed.used k d lt, kept.counted, count_is);
+    preloads_once = kept.root_fits.preloads.distinct;
+  }
+
+  -- what the put makes of sectors
+  pub new_put : (name bytes : List ℕ) (s : State) → name_of put.entry ≡ name → put.entry.file_length ≡ length bytes → length bytes ≤ 512 * sector_count (extents_of put.entry) → IsPut Two root entries s bytes put catalogues (entry_sectors others) next others (with_new name bytes s)
+  new_put name bytes s its_name its_length enough = record {
+    unused = more_unused kept is_new.claimed;
+    stands = λ m by written spelt listed. following_stands new_next kept.root_fits Two m entries s (with_new name bytes s) by listed
+        (All-push (λ (p : PlacedEntry). SpellsEntry (sector m p.at) p.entry) entries put by.intact.listed.each spelt)
+        (ap (with_new name bytes) by.is ∙ (λ i. record {
+          generation = root.generation + 1;
+          libraries = libraries m written i;
+          preloads = preloads m i;
+        }));
+  }
+    where
+      libraries : (m : List Sector) → bytes_at m (places (extents_of put.entry)) ≡ padded (sector_bytes * sector_count (extents_of put.entry)) bytes → map (library_of m) entries ++ record { name = name; bytes = bytes } ∷ [] ≡ map (library_of m) others
+      libraries m written =
+          let library : record { name = name; bytes = bytes } ≡ library_of m put = sym (λ i. record { name = its_name i; bytes = written_bytes m put.entry bytes written its_length enough i }) in
+          ap (λ b. map (library_of m) entries ++ b ∷ []) library ∙ sym (map_push (library_of m) entries put)
+
+      preloads : (m : List Sector) → names_at (map (library_of m) entries) (listed_preloads root) ≡ names_at (map (library_of m) others) (listed_preloads root)
+      preloads m = sym (ap (λ l. names_at l (listed_preloads root)) (map_push (library_of m) entries put)
+          ∙ names_at_more (map (library_of m) entries) (library_of m put) (listed_preloads root)
+          (λ k d lt. omega (arith, kept.root_fits.preloads.listed.used k d lt, length-libraries m entries, kept.counted)))

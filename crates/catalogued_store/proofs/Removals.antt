@@ -1,0 +1,174 @@
+-- A store with one byte string less.
+use Rattle.std.proofs.Common.{◌≡◌, ◌≢◌, ℕ, zero, suc, ◌+◌, ◌-◌, ◌^◌, ◌<◌, ◌≤◌, Bool, List, [], ◌∷◌, ◌++◌, length, get_or, map, All, refl, sym, ap, subst, ◌∙◌, arith}
+use Rattle.std.specs.Prelude.{bytes_eq}
+use Rattle.std.specs.List.{flat_map, remove}
+use Rattle.std.proofs.lemmas.Bool.{false≢true}
+use Rattle.std.proofs.lemmas.List.{get_or-map, length-map, length-take-le}
+use Rattle.std.proofs.lemmas.List.Edits.{length-remove}
+use Rattle.std.proofs.lemmas.List.Elements.{All-map}
+use Rattle.std.proofs.lemmas.List.Quantifiers.{all_pairs_remove}
+use Rattle.std.proofs.lemmas.List.Sums.{sum_by-remove}
+use Rattle.std.proofs.lemmas.Slice.Eq.{bytes_eq-Decides}
+use Rattle.sector_disk.specs.Disk.{Sector, sector}
+use Rattle.extents.specs.Layout.{free_count}
+use Rattle.roots.specs.declared.root.Root.{Root}
+use Rattle.roots.specs.declared.version.Version.TheVariants.{Two}
+use Rattle.roots.specs.Limits.{catalogues_for}
+use Rattle.roots.specs.Root.{version_of, listed_preloads}
+use Rattle.roots.specs.Entry.{EntryHasSpelling, SpellsEntry}
+use Rattle.roots.proofs.RootLemmas.{listed_sectors-root_over_catalogues}
+use Rattle.states.specs.Cost.{cost}
+use Rattle.states.specs.Limits.{most_preloads}
+use Rattle.states.specs.State.{Library, State}
+use Rattle.states.specs.Changes.{libraries_without, without}
+use Rattle.catalogued_store.specs.declared.placed_entry.PlacedEntry.{PlacedEntry}
+use Rattle.catalogued_store.specs.Stands.{HasRoom, catalogues_of, entry_sectors, name_of, sectors_of, used, library_of, no_library, names_at}
+use Rattle.catalogued_store.specs.inside.Claimed.{IsClaimedBeside}
+use Rattle.catalogued_store.specs.inside.Kept.{IsKept}
+use Rattle.catalogued_store.specs.inside.NameIndex.{closed_up}
+use Rattle.catalogued_store.specs.inside.Next.{IsNext, IsRelisting, next_root}
+use Rattle.catalogued_store.proofs.Anew.{IsMoved, more_unused, moved_apart}
+use Rattle.catalogued_store.proofs.Counts.{occurs, occurs-append, occurs-flat_map}
+use Rattle.catalogued_store.proofs.Following.{following_stands}
+use Rattle.catalogued_store.proofs.Frees.{if_no, if_yes}
+use Rattle.catalogued_store.proofs.Libraries.{length-libraries}
+use Rattle.catalogued_store.proofs.Preloads.{enough_in, few_in, room_in}
+use Rattle.catalogued_store.proofs.Removed.{drop_none, map_remove, all_remove, closed_inside, closed_apart, at_closed}
+use Rattle.catalogued_store.proofs.Rooms.{counted_sectors}
+use Rattle.catalogued_store.proofs.UsedAlone.{no_entry}
+
+-- the byte strings without the first of a name are those without its position
+without_is : (m : List Sector) (name : List ℕ) (entries : List PlacedEntry) (gone : ℕ) → gone < length entries → ((k : ℕ) (d : PlacedEntry) → k < gone → name_of (get_or entries k d).entry ≢ name) → ((d : PlacedEntry) → name_of (get_or entries gone d).entry ≡ name)
+    → libraries_without name (map (library_of m) entries) ≡ map (library_of m) (remove entries gone)
+without_is m name [] gone fits before at = absurd (omega (arith, fits))
+without_is m name (e ∷ entries) zero fits before at =
+    if_yes (bytes_eq name (name_of e.entry)) _ _ (λ isnt. false≢true (sym isnt ∙ (bytes_eq-Decides name (name_of e.entry)).1 (sym (at e))))
+    ∙ ap (map (library_of m)) (sym (drop_none entries))
+without_is m name (e ∷ entries) (suc gone) fits before at =
+    if_no (bytes_eq name (name_of e.entry)) _ _ (λ is. before 0 e (omega arith) (sym ((bytes_eq-Decides name (name_of e.entry)).0 is)))
+    ∙ ap (λ l. library_of m e ∷ l) (without_is m name entries gone (omega (arith, fits)) (λ k d lt. before (suc k) d (omega (arith, lt))) at)
+
+-- positions that close up name the same
+names_closed : (libraries : List Library) (gone : ℕ) (positions : List ℕ) → gone < length libraries → All (λ position. position ≢ gone) positions → names_at (remove libraries gone) (map (closed_up gone) positions) ≡ names_at libraries positions
+names_closed libraries gone [] fits others = refl
+names_closed libraries gone (p ∷ positions) fits others =
+    let here = at_closed libraries gone p no_library (others 0 0 (omega arith)) fits in
+    let there = names_closed libraries gone positions fits (λ k d lt. others (suc k) d (omega (arith, lt))) in
+    λ i. (here i).name ∷ there i
+
+-- A store of version 2 has room for the catalogues of the next change, and for those of fewer byte strings.
+pub catalogues_fit : (root : Root) (entries : List PlacedEntry) (layout : List Bool) → IsKept root entries layout → version_of root ≡ Two → catalogues_for (length entries) ≤ free_count layout
+catalogues_fit root entries layout kept two = omega (
+  arith,
+  counted_sectors layout root entries kept.root_fits kept.entries_fit kept.counted kept.size kept.apart kept.claims,
+  enough_in root.library_count root.sectors root.list two kept.root_fits.list,
+  kept.counted,
+  room_in root.sectors root.list entries two kept.room,
+)
+
+-- The entry of a name goes, which is no preload's, and the next root lists the others by catalogues that were claimed.
+pub record IsRemoval (root : Root) (entries : List PlacedEntry) (layout mid : List Bool) (name : List ℕ) (gone : ℕ) (catalogues : List ℕ) (next : Root) : Type 0 where
+  pub kept : IsKept root entries layout
+  pub two : version_of root ≡ Two
+  pub claimed : IsClaimedBeside layout mid catalogues
+  pub fits : gone < length entries
+  pub named : (d : PlacedEntry) → name_of (get_or entries gone d).entry ≡ name
+  pub others : All (λ position. (d : PlacedEntry) → name_of (get_or entries position d).entry ≢ name) (listed_preloads root)
+  pub later : root.generation + 1 < 2 ^ 64
+  pub enough : length catalogues ≡ catalogues_for (length entries - 1)
+  pub is_next : next ≡ next_root root (length entries - 1) catalogues (map (closed_up gone) (listed_preloads root))
+
+module _ {root : Root} {entries : List PlacedEntry} {layout mid : List Bool} {name : List ℕ} {gone : ℕ} {catalogues : List ℕ} {next : Root} (removal : IsRemoval root entries layout mid name gone catalogues next) where
+  kept : IsKept root entries layout
+  kept = removal.kept
+
+  fits : gone < length entries
+  fits = removal.fits
+
+  others : All (λ position. position ≢ gone) (listed_preloads root)
+  others k d lt = λ same. removal.others k d lt no_entry (ap (λ i. name_of (get_or entries i no_entry).entry) same ∙ removal.named no_entry)
+
+  abbrev old : PlacedEntry
+  old = get_or entries gone no_entry
+
+  abbrev left : List PlacedEntry
+  left = remove entries gone
+
+  -- one less is left
+  pub count_left : length entries - 1 ≡ length left
+  count_left = omega (arith, length-remove entries gone fits)
+
+  listed : catalogues_of next ≡ catalogues
+  listed = ap catalogues_of removal.is_next ∙ listed_sectors-root_over_catalogues (root.generation + 1) root.sectors (length entries - 1) catalogues (map (closed_up gone) (listed_preloads root))
+
+  -- What is used and the new catalogues are used still, or go.
+  pub removal_moved : IsMoved (used root entries) catalogues (used next left) (sectors_of old ++ catalogues_of root)
+  removal_moved = record {
+    parts = λ k. omega (
+      arith,
+      occurs-append k (catalogues_of next) (flat_map sectors_of left),
+      ap (occurs k) listed,
+      occurs-append k (sectors_of old) (catalogues_of root),
+      occurs-append k (used root entries) catalogues,
+      occurs-append k (catalogues_of root) (flat_map sectors_of entries),
+      occurs-flat_map k sectors_of left,
+      occurs-flat_map k sectors_of entries,
+      sum_by-remove (λ (e : PlacedEntry). occurs k (sectors_of e)) entries gone no_entry fits,
+    );
+  }
+
+  -- there is room for what is left
+  room_left : HasRoom root.sectors next.list left
+  room_left = subst (λ r. HasRoom root.sectors r.list left) (sym removal.is_next) (
+      let room = room_in root.sectors root.list entries removal.two kept.room in
+      let costs = sum_by-remove (λ (e : PlacedEntry). cost e.entry.file_length) entries gone no_entry fits in
+      omega (arith, room, costs, count_left)
+      )
+
+  positions_fit : length (listed_preloads root) ≤ most_preloads
+  positions_fit =
+      let size = kept.root_fits.preloads.listed in
+      omega (arith, length-take-le root.preload_count root.preloads (omega (arith, size.size, size.room)), size.room)
+
+  pub removal_next : IsNext root left catalogues (map (closed_up gone) (listed_preloads root)) next
+  removal_next = record {
+    is_next = removal.is_next ∙ ap (λ n. next_root root n catalogues (map (closed_up gone) (listed_preloads root))) count_left;
+    later = removal.later;
+    few = omega (arith, count_left, few_in root.library_count root.sectors root.list removal.two kept.root_fits.list, kept.counted);
+    enough = removal.enough ∙ ap catalogues_for count_left;
+    fit = all_remove (λ (p : PlacedEntry). EntryHasSpelling p.entry) entries gone kept.entries_fit;
+    apart = moved_apart kept removal.claimed next left removal_moved;
+    room = room_left;
+    names = all_pairs_remove (λ (a b : PlacedEntry). name_of a.entry ≢ name_of b.entry) entries gone fits kept.names;
+    few_preloads = omega (arith, length-map (listed_preloads root) (closed_up gone), positions_fit);
+    preloads_inside = All-map (λ position. position < length left) (closed_up gone) (listed_preloads root)
+        (λ k d lt. closed_inside gone (length left) (get_or (listed_preloads root) k d) (others k d lt)
+        (omega (arith, kept.root_fits.preloads.listed.used k d lt, kept.counted, fits, count_left))
+        (omega (arith, fits, count_left)));
+    preloads_once = λ i j d lt inside same.
+        let fewer : j < length (listed_preloads root) = omega (arith, inside, length-map (listed_preloads root) (closed_up gone)) in
+        let one_of = get_or-map (closed_up gone) (listed_preloads root) i 0 d (omega (arith, lt, fewer)) in
+        let other = get_or-map (closed_up gone) (listed_preloads root) j 0 d fewer in
+        kept.root_fits.preloads.distinct i j 0 lt fewer
+        (closed_apart gone (get_or (listed_preloads root) i 0) (get_or (listed_preloads root) j 0) (others i 0 (omega (arith, lt, fewer))) (others j 0 fewer) (sym one_of ∙ same ∙ other));
+  }
+
+  -- What the removal makes of sectors.
+  pub removal_relisting : (s : State) → IsRelisting Two root entries s catalogues (entry_sectors left) next left (without name s)
+  removal_relisting s = record {
+    unused = more_unused kept removal.claimed;
+    stands = λ m by catalogued. following_stands removal_next kept.root_fits Two m entries s (without name s) by catalogued
+        (all_remove (λ (p : PlacedEntry). SpellsEntry (sector m p.at) p.entry) entries gone by.intact.listed.each)
+        (ap (without name) by.is ∙ (λ i. record {
+          generation = root.generation + 1;
+          libraries = libraries m i;
+          preloads = preloads m i;
+        }));
+  }
+    where
+      libraries : (m : List Sector) → libraries_without name (map (library_of m) entries) ≡ map (library_of m) left
+      libraries m = without_is m name entries gone fits (λ k d lt same. kept.names k gone d lt fits (same ∙ sym (removal.named d))) removal.named
+
+      preloads : (m : List Sector) → names_at (map (library_of m) entries) (listed_preloads root) ≡ names_at (map (library_of m) left) (map (closed_up gone) (listed_preloads root))
+      preloads m = sym (ap (λ l. names_at l (map (closed_up gone) (listed_preloads root))) (map_remove (library_of m) entries gone)
+          ∙ names_closed (map (library_of m) entries) gone (listed_preloads root) (omega (arith, fits, length-libraries m entries)) others)

@@ -1,0 +1,44 @@
+use Rattle.std.proofs.Common.{◌≡◌, ◌∷◌, ap, ◌∙◌, subst}
+use Rattle.passes.specs.Singles.{single_places, HoldsSingles}
+use Rattle.catalogued_store.proofs.Staging.{put_inside, put_once, put_elsewhere, put_behind, put_unused, put_followed}
+use Rattle.catalogued_store.proofs.put.write_put.Given as given
+use Rattle.catalogued_store.proofs.put.write_put.Goals.{After-as_slice}
+use Rattle.catalogued_store.proofs.put.write_put.Goals as goal
+
+-- where the single sectors are
+places_are : (g : given.Over) (c : After-as_slice g) → single_places c.as_slice.result.now ≡ c.args.put.now.at ∷ c.args.catalogues.now
+places_are g c = ap single_places c.as_slice.ensures ∙ c.put_singles-singles.ensures.places
+
+pub write_change-requires-clause-room : goal.write_change-requires-clause-room
+write_change-requires-clause-room g c = put_inside c.as_slice.result.now c.file_extents.result.now c.requires.place (places_are g (goal.at.write_change-requires-clause-room g c).After-as_slice) c.file_extents.ensures
+
+pub write_change-requires-clause-once : goal.write_change-requires-clause-once
+write_change-requires-clause-once g c = put_once c.as_slice.result.now c.file_extents.result.now c.requires.place (places_are g (goal.at.write_change-requires-clause-once g c).After-as_slice) c.file_extents.ensures
+
+pub write_change-requires-clause-elsewhere : goal.write_change-requires-clause-elsewhere
+write_change-requires-clause-elsewhere g c = put_elsewhere c.as_slice.result.now c.file_extents.result.now c.requires.place (places_are g (goal.at.write_change-requires-clause-elsewhere g c).After-as_slice) c.file_extents.ensures
+
+pub write_change-requires-clause-behind : goal.write_change-requires-clause-behind
+write_change-requires-clause-behind g c = put_behind c.as_slice.result.now c.file_extents.result.now c.requires.place (places_are g (goal.at.write_change-requires-clause-behind g c).After-as_slice) c.file_extents.ensures
+
+pub returns-clause-any_moment : goal.returns-clause-any_moment
+returns-clause-any_moment g c honest version before entries s others s' stands is_put =
+    let singles = c.as_slice.result.now in
+    let extents = c.file_extents.result.now in
+    let are = places_are g (goal.at.returns-clause-any_moment g c).After-as_slice in
+    c.write_change.ensures.any_moment honest version before entries s others s' stands
+    (put_unused singles extents c.requires.place are c.file_extents.ensures is_put)
+    (put_followed singles extents c.requires.place are c.file_extents.ensures is_put
+    (λ m held. c.put_singles-singles.ensures.entry m (subst (HoldsSingles m) c.as_slice.ensures held))
+    (λ m held. c.put_singles-singles.ensures.catalogues m (subst (HoldsSingles m) c.as_slice.ensures held)))
+
+pub returns-clause-done : goal.returns-clause-done
+returns-clause-done g c honest version before entries s others s' stands is_put =
+    let singles = c.as_slice.result.now in
+    let extents = c.file_extents.result.now in
+    let are = places_are g (goal.at.returns-clause-done g c).After-as_slice in
+    c.write_change.ensures.done honest version before entries s others s' stands
+    (put_unused singles extents c.requires.place are c.file_extents.ensures is_put)
+    (put_followed singles extents c.requires.place are c.file_extents.ensures is_put
+    (λ m held. c.put_singles-singles.ensures.entry m (subst (HoldsSingles m) c.as_slice.ensures held))
+    (λ m held. c.put_singles-singles.ensures.catalogues m (subst (HoldsSingles m) c.as_slice.ensures held)))
