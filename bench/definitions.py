@@ -4,10 +4,11 @@
     python3 bench/definitions.py
 
 The first part is READING: the main definitions, in the order of a reading. The second has the other definitions that the
-CLAUSES of the README's table cite, directly or through others; they are found by following the names in the clauses and in
+CLAUSES of the README's tables cite, directly or through others; they are found by following the names in the clauses and in
 the definitions, down to the toolchain's own. The third has the definitions that only the contracts of single crates cite.
 What is written by hand stays: the text outside the `<!-- .. -->` marks. Nothing is written where a clause or a definition
-of READING or PLAIN isn't there any more, or where a clause doesn't rest on a definition of READING.
+of READING or PLAIN isn't there any more, where no clause rests on a definition of READING, or where CRATES doesn't name
+each crate that has definitions once.
 
 The first definition of a file may have the file's own comment. Constants share the comment of the first of them; any
 other definition without one is reported, and so is each row of over 160 columns.
@@ -25,7 +26,8 @@ CLAUSES = [
     ('sector_disk/disk', 'read write sync', 'calls honest'),
     ('sector_disk/disk', 'sync', 'holds_now whole_sectors'),
     ('disk_registry/format', 'format', 'any_moment'),
-    ('disk_registry/open', 'open', 'any_moment stands ok'),
+    ('disk_registry/open', 'open', 'any_moment stands ok refused'),
+    ('disk_registry/upgrade', 'upgrade', 'any_moment left_alone unwritten now now_refused ok stands stands_old answer refused'),
     ('disk_registry/apply', 'apply', 'applied'),
     ('disk_registry/apply', 'run', 'ok'),
     ('commands/disk_script', 'run_script_on_disk', 'ok err'),
@@ -44,10 +46,12 @@ READING = [
         'image/Placement: place', 'image/Relocating: value_of', 'image/Byte: byte_of', 'image/Image: image_of',
         'image/Refusal: bind_tests']),
     ('5. States and steps', 'What a registry holds, how a command may be answered, and what state this leaves (own).', [
-        'registry/Library: IsLibrary', 'states/State: State', 'registry/Tests: tests_of',
+        'registry/Library: IsLibrary', 'states/State: State', 'states/Cost: cost catalogues_for taken_by free',
+        'registry/Tests: tests_of',
         'registry/Step: accepted IsReply Breaks LacksRead Step']),
     ('6. Sectors', 'Which lists of sectors hold a state (own; `docs/FORMATS.md` has the formats).', [
-        'roots/Choice: IsCurrent', 'store/Stands: IsIntact state_of Stands', 'disk_registry/Stands: Stands']),
+        'roots/Choice: IsCurrent', 'store/Stands: AreCatalogued AreListed HasRoom IsIntact state_of Stands StandsOld',
+        'disk_registry/Stands: Stands StandsOld']),
     ('7. Disks and mixtures', 'What each call does to an honest disk, and what a stop may leave of it (own).', [
         'sector_disk/Disk: DiskFacts Mixture IsRead IsWrite IsSync LeavesOnly']),
     ('8. Crash safety', 'What a stop leaves at each moment of one command, of many, of a script and of rounds (own).', [
@@ -55,6 +59,9 @@ READING = [
         'disk_registry/Acknowledged: acknowledged AreAccepted',
         'disk_registry/Ran: HasBegun HoldsAcknowledged LeavesAccepted FindsAccepted Ran',
         'commands/DiskScript: LinesRan', 'disk_registry/Rounds: AlwaysStands RoundLeads']),
+    ('9. Disks of version 1', 'What opening says of such a disk, and what an upgrade makes of it (own).', [
+        'store/Opening: RefusesOpen', 'store/Upgraded: upgraded', 'disk_registry/Upgraded: IsUpgradeOf',
+        'store/Step: refusal_of_upgrade IsUpgradeAnswer']),
 ]
 PLAIN = {
     # What the comment leaves to its context, or what is longer than a row: in one plain sentence, here and in the table.
@@ -91,11 +98,17 @@ PLAIN = {
     'roots/Root: ListFits': 'places for the sectors that a root lists: in version 1 those of its entries, in version 2 those of its catalogues',
     'states/Geometry: IsGeometry': 'a disk of so many sectors can hold a state, as a premise',
     'roots/Catalogue: CatalogueHasSpelling': 'the limits of the fields: a catalogue has a spelling exactly where it keeps to them',
-    'store/Changed: Changed': 'a change of at most so many calls, with these refusals, one for a failed device and one for a failed store',
-    'store/Stands: IsIntact': 'one root is current, its entries are spelt in their sectors, no used sector is used twice, no name twice',
+    'states/Cost: taken_by': 'how many sectors a state takes: for its libraries, and twice for their catalogues, as a change writes these anew',
+    'states/Cost: free': 'how many of so many sectors a state leaves free, beside the roots and what it takes',
+    'store/Stands: AreCatalogued': 'catalogues list the sectors of entries: each spells its part of them, 64, and the last what remains',
+    'store/Stands: AreListed': "the sectors of a root's entries: in version 1 the root lists them itself, in version 2 its catalogues do",
+    'store/Stands: HasRoom': 'in version 2 there is room for the catalogues twice: for those that stand, and for those of the next change',
+    'store/Stands: IsIntact': 'one root is current, its entries are listed and spelt, no used sector is used twice, no name twice, there is room',
     'store/Stands: state_of': 'the state that is read by a root and its entries',
-    'store/Stands: Stands': 'some root and entries are intact in these sectors, and what is read by them is this state',
+    'store/Stands: Stands': 'some root of version 2 and entries are intact in these sectors, and what is read by them is this state',
+    'store/Stands: StandsOld': 'the same by the old rules: by a root of version 1',
     'disk_registry/Stands: Stands': 'the same of libraries: reading the sectors gives this state, and each file is a library',
+    'disk_registry/Stands: StandsOld': 'the same by the old rules, and each file is a library',
     'sector_disk/Disk: DiskFacts': 'a disk: whether it is honest, its calls, what reads give, and what a stop at each moment may leave',
     'sector_disk/Disk: Mixture': 'what a stop now may leave: each sector, by itself, with one of its contents',
     'sector_disk/Disk: IsSync': 'a sync: reads give the same; where it succeeds, a stop leaves what reads give, and nothing else',
@@ -117,9 +130,13 @@ PLAIN = {
     'sector_disk/Disk: IsRead': 'a read: nothing changes, and where it succeeds it gives what was written last',
     'store/Opened: IsAt': 'a store at a state: an honest disk, no failed write or sync, and every mixture holds it by these entries',
     'store/Stands: StandsBy': 'by this root and these entries the sectors hold the state',
-    'store/Opening: RefusesOpen': 'how `open` may refuse these sectors; Damaged are those with a root that hold no state',
-    'catalogued_store/Changed: Changed': 'a change of at most so many calls, with these refusals, one for a failed device and one for a failed store',
-    'catalogued_store/Opening: RefusesOpen': 'how `open` may refuse these sectors; a current root of version 1 is told whatever else is wrong',
+    'store/Changed: Changed': 'a change of at most so many calls, with these refusals, one for a failed device and one for a failed store',
+    'store/Opening: RefusesOpen': 'how `open` may refuse these sectors: S12 where the current root is of version 1 (S1 or S11 may come in its place)',
+    'store/Step: refusal_of_upgrade': 'why a state of version 1 is not upgraded: S10 at the last generation, S7 where its catalogues have no room',
+    'store/Step: IsUpgradeAnswer': 'the answers to an upgrade: just that refusal, or none; S1 and S11 may come in place of each',
+    'store/Upgraded: IsRelistedFrom': 'the entries by which sectors held a state by the old rules, listed by catalogues in the lowest free sectors',
+    'disk_registry/Upgraded: IsUpgradeOf': 'at the state that sectors held by the new rules, or at the one after that which they held by the old ones',
+    'disk_registry/Calls: calls_of': 'how many calls an accepted command makes: for the bytes of a file, the catalogues, the entry, the root, and two syncs',
     'scope/Queue: AreApart': 'the places are below the limit, and no place is among them twice',
     'roots/Fields: ListsSectors': 'so many sectors in so many places: behind the root sectors and before `end`, none of them twice',
     'extents/Extent: AreDistinct': 'no number is there twice',
@@ -131,8 +148,7 @@ CRATES = [
     ('hash_check', 'Admission and the search of names'), ('scope', 'Load order and lookup'),
     ('text_output', 'Text on its way to a writer'), ('image', 'Images'), ('registry', 'The registry and its step table'),
     ('sector_disk', 'The disk model'), ('file_disk', 'A disk over a file'), ('extents', 'Free and claimed sectors'),
-    ('states', 'States'), ('roots', 'Root and entry sectors'), ('passes', 'Passes over a disk'), ('store', 'Named byte strings'),
-    ('catalogued_store', 'Named byte strings on disks of version 2'),
+    ('states', 'States'), ('roots', 'Root, catalogue and entry sectors'), ('passes', 'Passes over a disk'), ('store', 'Named byte strings'),
     ('disk_registry', 'The registry on a disk'), ('commands', 'The program')]
 STANDARD = re.compile(r'\(([^()]*(?:\([^()]*\)[^()]*)*)\)')
 VALUE = re.compile(r'^\S+ = (0x[0-9a-f]+|[0-9]+)$')
@@ -194,10 +210,13 @@ def key_of(path):
 
 def read_all():
     """The definitions of each file, by crate/File, crate by crate in the order of CRATES."""
-    files = {}
-    left = {path.parts[-2] for path in (ROOT / 'crates').glob('*/specs')} - {crate for crate, _ in CRATES}
-    if left:
-        sys.exit(f'CRATES lacks {", ".join(sorted(left))}. Nothing was written.')
+    files, named = {}, [crate for crate, _ in CRATES]
+    lacking = {path.parts[-2] for path in (ROOT / 'crates').glob('*/specs')} - set(named)
+    gone = {crate for crate in named if not (ROOT / 'crates' / crate).is_dir()}
+    twice = {crate for crate in named if named.count(crate) > 1}
+    for fault, crates in [('lacks', lacking), ('has, although gone,', gone), ('has twice', twice)]:
+        if crates:
+            sys.exit(f'CRATES {fault} {", ".join(sorted(crates))}. Nothing was written.')
     for crate, _ in CRATES:
         for path in sorted((ROOT / 'crates' / crate / 'specs').glob('*.antt')):
             if path.stem not in ('Lib', 'inside'):

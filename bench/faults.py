@@ -17,6 +17,7 @@ import sys
 from pathlib import Path
 
 from libraries import Made
+from old_disks import old_disk
 from streams import try_streams
 
 SECTORS = '64'
@@ -54,8 +55,12 @@ class Bench:
         return text
 
     def seen(self):
-        """What the disk holds, as its user sees it."""
-        return self.run(['list', 'disk']), self.run(['bind', 'disk', 'program', '0x100000'])
+        """What the disk holds, as its user sees it; of version 1, also what an upgrade makes of it."""
+        listed = self.run(['list', 'disk'])
+        if listed[1] == b'refused S12 OldFormat\n':
+            self.done('upgrade', 'disk')
+            return listed, self.run(['list', 'disk']), self.run(['bind', 'disk', 'program', '0x100000'])
+        return listed, self.run(['bind', 'disk', 'program', '0x100000'])
 
     def seen_of(self, disk):
         self.put(disk)
@@ -109,10 +114,11 @@ def main():
     one = bench.disk.read_bytes()
     bench.done('install', 'disk', 'b.so')
     two = bench.disk.read_bytes()
-    held = try_streams(bench.program, folder, one, two)
+    old = old_disk(int(SECTORS), [(b'a', (folder / 'a.so').read_bytes()), (b'b', (folder / 'b.so').read_bytes())])
+    held = try_streams(bench.program, folder, one, two, old)
     commands = [
         (['format', 'disk', SECTORS], None), (['install', 'disk', 'b.so'], one), (['replace', 'disk', 'b2.so'], two),
-        (['remove', 'disk', 'b'], two), (['preload', 'disk', 'b', 'a'], two),
+        (['remove', 'disk', 'b'], two), (['preload', 'disk', 'b', 'a'], two), (['upgrade', 'disk'], old),
     ]
     for words, start in commands:
         for fault in FAULTS:

@@ -23,10 +23,10 @@ Ended = collections.namedtuple('Ended', 'status output errors disk')
 
 
 class Streams:
-    def __init__(self, program, folder, one, two):
+    def __init__(self, program, folder, one, two, old):
         self.program, self.folder, self.disk = str(program), folder, folder / 'disk'
         zeros = bytes(len(one))
-        self.starts = {'a registry': two, 'zeros': zeros, 'no file': None}
+        self.starts = {'a registry': two, 'version 1': old, 'zeros': zeros, 'no file': None}
         self.one = one
         self.wrong = 0
         self.ends = collections.defaultdict(collections.Counter)
@@ -36,6 +36,7 @@ class Streams:
         return [
             ['image', files('alone'), '0x100000'], ['format', disk, '64'], ['install', disk, b], ['replace', disk, b2],
             ['remove', disk, 'b'], ['preload', disk, 'b', 'a'], ['list', disk], ['bind', disk, program, '0x100000'], ['script', disk],
+            ['upgrade', disk],
         ]
 
     def start_of(self, words, start):
@@ -110,7 +111,7 @@ class Streams:
 
     def numbered(self):
         """The same with DISK, FILE and PROGRAM as the numbers of open files."""
-        for start in ('a registry', 'zeros'):
+        for start in ('a registry', 'version 1', 'zeros'):
             for form in ('/dev/fd/%d', '/proc/self/fd/%d'):
                 for at, ordinary in enumerate(self.commands()):
                     before = self.start_of(ordinary, start)
@@ -255,9 +256,9 @@ def kinds():
         yield f'a socket whose peer has gone as {NAMES[stream]}', stream, (3,), gone_peer
 
 
-def try_streams(program, folder, one, two):
+def try_streams(program, folder, one, two, old):
     """All of it, and whether it was as it has to be."""
-    streams = Streams(program, folder, one, two)
+    streams = Streams(program, folder, one, two, old)
     files = streams.others()
     for part in (streams.closed, streams.numbered, streams.the_disk, streams.files_of_streams, streams.odd):
         part()

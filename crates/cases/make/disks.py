@@ -1,142 +1,34 @@
 #!/usr/bin/env python3
-"""Writes the list `data/disks.txt`, and the disks and files that it names.
+"""Writes the lists of command lines over disks, `disks.txt`, `catalogues.txt`, `bytes.txt` and `upgrades.txt` of `data/`, and the
+disks and files that they name.
 
     python3 crates/cases/make/disks.py
 
-It needs files that the other scripts of this folder write. Expected statuses, answers and disks come from `disk.py`, a second
-reading of the sectors of a disk and of the changes of a registry; where a case below has an answer or sectors of its own, worked
-out by hand, the two have to agree. `wrong_disks.py` has readings that break a rule each: for every one of them some case ends
-otherwise, or this stops.
+It needs files that the other scripts of this folder write. Expected statuses, answers and disks come from `program.py` over
+`disk.py`, a second reading of the sectors of a disk and of the changes of a registry; where a case has an answer or sectors of its
+own, worked out by hand, the two have to agree. `wrong_disks.py` has readings that break a rule each: for every one of them some case
+ends otherwise, or this stops.
 """
 
-from disk import Entry, OnDisk, Program, Root, padded, spelt_entry, spelt_root
+import catalogues
+import upgrades
 from make import DATA, write_list
+from on_disk import (
+    A, B_520, CASES, NAMED_Q, bytes_of, changed, each_command, each_opening, find_files, keep, library, listed, on, put, spelt)
 from samples import DEFINED, FUNC, GLOBAL, Object, Symbol, build
 from scripts import SECTOR
+from sectors import Entry, Root, padded, spelt_catalogue, spelt_entry, spelt_root
 from wrong_disks import tell
 
-VERSION_2 = 'bytes=524c494252454732000000000000000008'  # of an empty registry on 8 sectors
-CASES = []  # the disk, the words, what is given, and the status, the answer, the error and the disk behind it
-FILES = {}  # the first name of the objects of the folder that have these bytes
-FILES_OF = {}  # the bytes of each object, by its name
-
-
-def put(content, at, new):
-    assert at + len(new) <= len(content)
-    content[at:at + len(new)] = new
-
-
-def bytes_of(text):
-    """The bytes of a FILE with changes, as docs/CASES.md has them, or None for `none`."""
-    name, *changes = text.split(' ')
-    if text == 'none':
-        return None
-    content = bytearray(bytes.fromhex(name[6:]) if name.startswith('bytes=') else (DATA / name).read_bytes())
-    for change in changes:
-        what, value = change.split('=')
-        if what == 'cut':
-            del content[int(value, 0):]
-        elif what == 'pad':
-            content += bytes(int(value, 0) - len(content))
-        else:
-            put(content, int(what, 0), (DATA / value[1:]).read_bytes() if value.startswith('@') else bytes.fromhex(value))
-    return bytes(content)
-
-
-def spans(old, new):
-    """Where two disks of one length differ: (offset, bytes), with a few bytes that are the same in between."""
-    found = []
-    for k in range(len(new)):
-        if old[k] != new[k]:
-            if found and k - found[-1][1] < 12:
-                found[-1][1] = k + 1
-            else:
-                found.append([k, k + 1])
-    return [(start, new[start:end]) for start, end in found]
-
-
-def changes(old, new):
-    """The changes that make one disk of another: whole files of the folder where they begin in a sector, and bytes."""
-    made, said = bytearray(old), []
-    for at in range(2 * SECTOR, len(new), SECTOR):
-        name = next((FILES[file] for file in FILES if new.startswith(file, at)), None)
-        if new[at:at + SECTOR] != old[at:at + SECTOR] and name:
-            put(made, at, FILES_OF[name])
-            said.append((at, f'@{name}'))
-    said += [(at, content.hex()) for at, content in spans(made, new)]
-    return ''.join(f' 0x{at:x}={what}' for at, what in sorted(said, key=lambda change: change[0]))
-
-
-def spelt(disk):
-    """A disk, spelt."""
-    return f'bytes= pad={len(disk)}' + changes(bytes(len(disk)), disk)
-
-
-def after_text(before, old, new):
-    if new == old:
-        return 'same'
-    if old is not None and new is not None and len(old) == len(new):
-        return 'same' + changes(old, new)
-    return 'none' if new is None else spelt(new)
-
-
-def answer_text(answer, error, file):
-    """The ANSWER of a case. A text of several lines is a file."""
-    if error:
-        return f'error {error[:-1]}'
-    if file:
-        path = DATA / file
-        if not path.exists():
-            path.write_text(answer)
-        assert path.read_text() == answer, (file, answer)
-        return f'file {file}'
-    assert answer.count('\n') <= 1, answer
-    return answer[:-1] if answer else 'nothing'
-
-
-def on(before, words, wanted=None, after=None, given=None, file=None, has=''):
-    """A case. `wanted` is its status and answer and `after` the disk after it, where those were worked out by hand, or `has` some
-    bytes of that disk; `file` has an answer of several lines."""
-    disk, text = bytes_of(before), b'' if given is None else bytes_of(given)
-    status, answer, error, left = Program().run(words.split(' '), disk, text)
-    ending = f'{status} {answer_text(answer, error, file)}'
-    assert wanted is None or ending == wanted, (before, words, ending, wanted)
-    if after is not None:
-        whole = before + after[4:] if after.startswith('same') else after
-        assert bytes_of(whole) == left, (before, words, after, after_text(before, disk, left))
-    assert not has or bytes_of(spelt(left) + ' ' + has) == left, (before, words, has, after_text(before, disk, left))
-    CASES.append((disk, words, text, (status, answer, error, left)))
-    then = after or after_text(before, disk, left)
-    whole = before + then[4:] if then.startswith('same') else then
-    assert bytes_of(whole) == left, (before, words, then)
-    return f'on {before} run {words}{f" < {given}" if given else ""} => {ending} then {then}'
-
-
-def library(name, **parts):
-    return build(Object(soname=name, **parts))[0]
-
-
-def keep(name, content):
-    (DATA / name).write_bytes(content)
-
-
-def changed(disk, *commands):
-    """A disk after commands that are done."""
-    for command in commands:
-        status, _, _, disk = Program().run(command.split(' '), disk)
-        assert status == 0, command
-    return disk
-
-
-A, NAMED_Q, B_520, EIGHT = 'soname-good-0.so', 'no-symbols.so', 'three-words.so', 'real-lld-both.so'
+EIGHT = 'real-lld-both.so'
 
 
 def prepare():
     """Writes the files and the disks of the folder that no other list has."""
     a = (DATA / A).read_bytes()
     assert len(a) == 344 and len((DATA / NAMED_Q).read_bytes()) == 344 and len((DATA / B_520).read_bytes()) == 520
-    keep('long.so', padded(a, 2560))
-    keep('longer.so', padded(a, 2561))
+    keep('long.so', padded(a, 1536))
+    keep('longer.so', padded(a, 1537))
     keep('strong.so', library(b'b', symbols=[Symbol(b'f', GLOBAL, FUNC, DEFINED)]))
     keep('hundredth.so', build(Object(needed=[b'a']))[0])
     keep('formatted.disk', changed(None, 'format disk 8'))
@@ -148,26 +40,20 @@ def prepare():
                                'preload disk b a'))
     keep('gap.disk', changed(bytes_of('three.disk'), 'remove disk q'))
     keep('symbolic.disk', changed(bytes_of('pair.disk'), 'replace disk symbolic-b.so'))
-    disk = changed(None, 'format disk 204')
-    for file in [library(b'x%02d' % k) for k in range(99)] + [a]:
-        registry = OnDisk(disk).open()
-        assert registry.install(file) == 'ok\n'
-        disk = bytes(registry.data)
-    keep('hundred.disk', disk)
-    for path in sorted(DATA.glob('*.so'), key=lambda path: (path.stat().st_size, path.name not in (A, NAMED_Q), path.name)):
-        FILES.setdefault(path.read_bytes(), path.name)
-        FILES_OF[path.name] = path.read_bytes()
+    catalogues.prepare()
+    find_files()
 
 
-ROOT = '524c4942524547310000000000000000'  # the magic, and generation 0
+ROOT = '524c4942524547320000000000000000'  # the magic, and generation 0
 EMPTY = f'bytes={ROOT}0800000000000000 pad=4096'  # a disk of 8 sectors that was formatted
 ENTRY_A = '4c49424558010000010001'  # of a file of 344 bytes, a name of one byte, one extent
+ONE = '4c49424301'  # a catalogue of one library
 
 
 def formats():
     s4, s6 = '1 refused S4 AlreadyFormatted', '1 refused S6 BadGeometry'
     zeros = 'bytes= pad=4096'
-    other = f'bytes={ROOT[:14]}30 pad=4096 0x200=@minimal.so 0x400={ROOT} 0xe00=@first.so'
+    other = f'bytes={ROOT[:14]}33 pad=4096 0x200=@minimal.so 0x400={ROOT} 0xe00=@first.so'
     bad = ['', '0', '1', '7', '+8', '-8', '8.', '0x8', '8s', 'a', '00000008', '4194305', '9999999', '10000000', '18446744073709551624',
            '٨', '8 8', '8 ']
     return [
@@ -185,17 +71,21 @@ def formats():
             on('bytes= pad=8192', 'format disk 8', s6, 'same'), on('bytes= pad=4095', 'format disk 8', s6, 'same'),
             on('bytes= pad=4097', 'format disk 8', s6, 'same'), on('bytes= pad=3584', 'format disk 8', s6, 'same'),
             on('bytes=', 'format disk 8', s6, 'same')]),
-        ('The magic in sector 0 or 1: it was formatted before. The length is tested first.', [
+        ('The magic of either version in sector 0 or 1: it was formatted before. The length is tested first.', [
             on('formatted.disk', 'format disk 8', s4, 'same'), on('formatted.disk', 'format disk 16', s6, 'same'),
             on('one.disk', 'format disk 8', s4, 'same'), on('full.disk', 'format disk 8', s4, 'same'),
             on(f'bytes={ROOT[:16]} pad=4096', 'format disk 8', s4, 'same'),
             on(f'bytes= pad=4096 0x200={ROOT[:16]}', 'format disk 8', s4, 'same'),
             on(f'bytes= pad=4096 0x200={ROOT[:16]}', 'format disk 9', s6, 'same'),
+            on(f'bytes={ROOT[:14]}31 pad=4096', 'format disk 8', s4, 'same'),
+            on(f'bytes= pad=4096 0x200={ROOT[:14]}31', 'format disk 8', s4, 'same'),
+            on(f'bytes= pad=4096 0x200={ROOT[:14]}31', 'format disk 9', s6, 'same'),
+            on(f'bytes={ROOT[:14]}30 pad=4096', 'format disk 8', '0 ok', EMPTY),
             on('one.disk 0x0=00', 'format disk 8', s4, 'same'), on('one.disk 0x200=00', 'format disk 8', s4, 'same'),
             on('one.disk 0x0=00 0x200=00', 'format disk 8', '0 ok', 'same 0x0=52'),
             on(f'bytes= pad=4096 0x1={ROOT[:16]}', 'format disk 8', '0 ok', EMPTY),
             on(f'bytes= pad=4096 0x201={ROOT[:16]}', 'format disk 8', '0 ok'),
-            on('bytes=726c69627265673100 pad=4096', 'format disk 8', '0 ok', EMPTY)]),
+            on('bytes=726c69627265673200 pad=4096', 'format disk 8', '0 ok', EMPTY)]),
         ('Another word SECTORS is a bad command line, and no disk is made.', [
             on('none', f'format disk {word}', '2 error rlibreg: bad command line', 'none') for word in bad]),
     ]
@@ -203,26 +93,31 @@ def formats():
 
 def rows():
     return [
-        ('A library: its data at the lowest free sector, its entry behind it, and the root of generation 1 in sector 1.', [
+        ('A library: its data at the lowest free sector, its entry behind it, then the catalogue, and the root of generation 1 in sector 1.', [
             on('formatted.disk', f'install disk {A}', '0 ok',
-               f'same 0x200={ROOT[:16]}0100000000000000080000000100 0x240=03 0x400=@{A} 0x600={ENTRY_A} 0x610=61 0x700=0200000001')]),
-        ('Another file in its place: data 4, entry 5, generation 2 in sector 0. The old sectors stay as they are.', [
-            on('one.disk', f'replace disk {A}', '0 ok', f'same 0x8=02 0x14=01 0x40=05 0x800=@{A} 0xa00={ENTRY_A} 0xa10=61 0xb00=0400000001')]),
-        ('A removal, preloads, none: a root alone.', [
+               f'same 0x200={ROOT[:16]}0100000000000000080000000100 0x238=01 0x240=04 0x400=@{A} 0x600={ENTRY_A} 0x610=61 0x700=0200000001'
+               f' 0x800={ONE} 0x810=03')]),
+        ('Another file in its place: data 5, entry 6, catalogue 7, generation 2 in sector 0. The old sectors stay as they are.', [
+            on('one.disk', f'replace disk {A}', '0 ok',
+               f'same 0x8=02 0x14=01 0x38=01 0x40=07 0xa00=@{A} 0xc00={ENTRY_A} 0xc10=61 0xd00=0500000001 0xe00={ONE} 0xe10=06')]),
+        ('A removal of the last library needs no catalogue; preloads, and none, keep the one that there is: a root alone.', [
             on('one.disk', 'remove disk a', '0 ok', 'same 0x8=02'),
-            on('one.disk', 'preload disk a', '0 ok', 'same 0x8=02 0x14=01000100 0x40=03'),
-            on('one.disk', 'preload disk', '0 ok', 'same 0x8=02 0x14=01 0x40=03'),
-            on('replaced.disk', 'remove disk a', '0 ok', 'same 0x208=03 0x214=00 0x240=00'),
-            on('replaced.disk', 'preload disk', '0 ok', 'same 0x208=03 0x240=05')]),
-        ('Preloads that stand already are a change as well; a removal closes the list up, and moves the numbers of the preloads.', [
-            on('three.disk', 'preload disk b a', '0 ok', has='0x8=04 0x208=05 0x214=03000200 0x218=02000000 0x240=0300000005000000080000'),
-            on('three.disk', 'preload disk q b a', '0 ok', has='0x214=03000300 0x218=010002000000'),
-            on('three.disk', 'preload disk', '0 ok', has='0x214=03000000 0x218=0000'),
-            on('three.disk', 'remove disk q', '0 ok', has='0x208=05 0x214=02000200 0x218=01000000 0x240=030000000800000000000000'),
-            on('three.disk 0x16=0100 0x18=01000000', 'remove disk a', '0 ok', has='0x208=05 0x214=02000100 0x218=00000000 0x240=050000000800000000'),
-            on('three.disk 0x16=0100 0x18=01000000', 'remove disk b', '0 ok', has='0x214=02000100 0x218=01000000 0x240=030000000500000000')]),
-        ('What was replaced is free afterwards: of two runs of two sectors the lower one is taken.', [
-            on('replaced.disk', f'install disk {NAMED_Q}', '0 ok', f'same 0x208=03 0x214=02 0x240=0500000003 0x400=@{NAMED_Q} 0x610=71')]),
+            on('one.disk', 'preload disk a', '0 ok', 'same 0x8=02 0x14=01000100 0x38=01 0x40=04'),
+            on('one.disk', 'preload disk', '0 ok', 'same 0x8=02 0x14=01 0x38=01 0x40=04'),
+            on('replaced.disk', 'remove disk a', '0 ok', 'same 0x208=03 0x214=00 0x238=00 0x240=00'),
+            on('replaced.disk', 'preload disk', '0 ok', 'same 0x208=03 0x240=07')]),
+        ('Preloads that stand already are a change as well; a removal closes the list up in a new catalogue, and moves the numbers of the\n'
+         'preloads.', [
+            on('three.disk', 'preload disk b a', '0 ok', 'same 0x208=05 0x216=02 0x218=02 0x240=0a'),
+            on('three.disk', 'preload disk q b a', '0 ok', has='0x214=03000300 0x218=010002000000 0x238=01 0x240=0a'),
+            on('three.disk', 'preload disk', '0 ok', has='0x214=03000000 0x218=0000 0x238=01 0x240=0a'),
+            on('three.disk', 'remove disk q', '0 ok', 'same 0x208=05 0x214=02000200 0x218=01 0x240=07 0xe04=02 0xe10=0300000004'),
+            on('three.disk 0x16=0100 0x18=01000000', 'remove disk a', '0 ok',
+               has=f'0x208=05 0x214=02000100 0x218=00000000 0x240=07 0xe00={ONE[:8]}02 0xe10=060000000400000000'),
+            on('three.disk 0x16=0100 0x18=01000000', 'remove disk b', '0 ok', has='0x214=02000100 0x218=01000000 0xe10=030000000600000000')]),
+        ('What was replaced is free afterwards: the data 2, the entry 3 and the catalogue 4 of before are taken.', [
+            on('replaced.disk', f'install disk {NAMED_Q}', '0 ok',
+               f'same 0x208=03 0x214=02 0x400=@{NAMED_Q} 0x610=71 0x804=02 0x810=0600000003')]),
         ('What is listed.', [
             on('formatted.disk', 'list disk', '0 end', 'same'), on('one.disk', 'list disk', file='one.listing', after='same'),
             on('replaced.disk', 'list disk', file='one.listing', after='same'),
@@ -270,20 +165,22 @@ def refusals():
             on('one.disk', 'preload disk z z', '1 refused C5 RepeatedPreload', 'same'),
             on('one.disk', 'preload disk' + 16 * ' z', '1 refused C5 RepeatedPreload', 'same'),
             on('one.disk', seventeen, '1 refused C6 TooManyPreloads', 'same')]),
-        ('Six sectors are free of eight: 2,560 bytes and their entry take all of them, and one byte more has no room.', [
+        ('Six sectors are free of eight: 1,536 bytes, their entry and the catalogue, which counts twice, take all of them, and one byte\n'
+         'more has no room. A removal always has.', [
             on('formatted.disk', 'install disk long.so', '0 ok'),
             on('formatted.disk', 'install disk longer.so', '1 refused S7 Full', 'same'),
-            on('formatted.disk', 'install disk linked-base.so', '0 ok'),
-            on('formatted.disk', 'install disk real-started.so', '1 refused S7 Full', 'same'),
+            on('formatted.disk', 'install disk real-none.so', '0 ok'),
+            on('formatted.disk', 'install disk linked-front.so', '1 refused S7 Full', 'same'),
             on('full.disk', f'replace disk {A}', '1 refused S7 Full', 'same'),
             on('full.disk', 'replace disk long.so', '1 refused S7 Full', 'same'),
             on('full.disk', f'install disk {NAMED_Q}', '1 refused S7 Full', 'same'),
             on('full.disk', 'remove disk a', '0 ok', 'same 0x8=02'),
-            on('full.disk', 'preload disk a', '0 ok')]),
-        ('Four are free beside a library: three sectors of data, and not four.', [
-            on('one.disk', 'install disk real-none.so', '0 ok'),
-            on('one.disk', 'install disk linked-functions.so', '1 refused S7 Full', 'same'),
-            on('one.disk', 'replace disk long.so', '1 refused S7 Full', 'same')]),
+            on('full.disk', 'preload disk a', '0 ok', 'same 0x8=02 0x14=01000100 0x38=01 0x40=06')]),
+        ('Two are free beside a library and its catalogue: a sector of data, and not two.', [
+            on('one.disk', f'install disk {NAMED_Q}', '0 ok', has='0x40=07 0xe04=02 0xe10=0300000006'),
+            on('one.disk', 'install disk soname-240.so', '1 refused S7 Full', 'same'),
+            on('one.disk', 'replace disk long.so', '1 refused S7 Full', 'same'),
+            on('one.disk', 'replace disk first.so', '0 ok')]),
         ('The order of the tests: the file, its name, the generation, the room.', [
             on('one.disk', 'install disk long.so', '1 refused C2 AlreadyInstalled', 'same'),
             on('one.disk', 'replace disk real-started.so', '1 refused C3 NotInstalled', 'same'),
@@ -302,10 +199,12 @@ def refusals():
             on(last, 'preload disk z', '1 refused C3 NotInstalled', 'same'), on(last, 'list disk', file='one.listing', after='same'),
             on(last, 'bind disk minimal.so 0x10000', '0 file minimal.image', 'same', file='minimal.image')]),
         ('The generation before it, and others whose number carries.', [
-            on('one.disk 0x8=feffffffffffffff 0x208=fdffffffffffffff', 'preload disk', '0 ok', 'same 0x208=ff 0x214=00 0x240=00'),
-            on('one.disk 0x8=fe 0x208=ff', 'preload disk', '0 ok', 'same 0x8=0001 0x14=01 0x40=03'),
+            on('one.disk 0x8=feffffffffffffff 0x208=fdffffffffffffff', 'preload disk', '0 ok',
+               'same 0x208=ff 0x214=00 0x238=00 0x240=00'),
+            on('one.disk 0x8=fe 0x208=ff', 'preload disk', '0 ok', 'same 0x8=0001 0x14=01 0x38=01 0x40=04'),
             on('one.disk 0x8=feffffff 0x208=ffffffff', 'remove disk a', '0 ok', 'same 0x8=0000000001'),
-            on('one.disk 0x8=feffffff00 0x208=fdffffff00', 'preload disk', '0 ok', 'same 0x208=ff 0x214=00 0x240=00')]),
+            on('one.disk 0x8=feffffff00 0x208=fdffffff00', 'preload disk', '0 ok',
+               'same 0x208=ff 0x214=00 0x238=00 0x240=00')]),
     ]
 
 
@@ -321,89 +220,94 @@ def with_sectors(count, sectors):
     return spelt(bytes(disk))
 
 
-def scattered(count, data, end, *others):
-    """A disk with a library a of 32 sectors at these places, its entry at `end`, and the entries and data of others."""
-    a = (DATA / A).read_bytes()
-    sectors = {0: spelt_root(Root(0, count, [], [end] + [at for at, _, _ in others])), data[0]: a,
-               end: entry(b'a', SECTOR * 32, *((k, 1) for k in data))}
-    for at, name, place in others:
-        sectors.update({at: entry(name, 344, (place, 1)), place: (DATA / NAMED_Q).read_bytes()})
+def laid_out(count, catalogue, *libraries):
+    """A disk of generation 0 that has its catalogue here, and these libraries: the entry's sector, the name, the file, its extents."""
+    sectors = {0: spelt_root(Root(2, 0, count, len(libraries), [], [catalogue])),
+               catalogue: spelt_catalogue([at for at, _, _, _ in libraries])}
+    for at, name, file, extents in libraries:
+        sectors[at] = entry(name, len(file), *extents)
+        sectors[extents[0][0]] = file[:SECTOR]
     return with_sectors(count, sectors)
+
+
+def of_one_sector(*places):
+    return [(k, 1) for k in places]
 
 
 def room():
     """Which sectors a file takes: the longest free runs first, of runs of one length the lower, the last from its front."""
     exclamation, other = 'soname-good-1.so', 'real-large.so'
     assert len((DATA / other).read_bytes()) == 33 * SECTOR - 136
-    odd = list(range(3, 67, 2))
-    # Free are 34 runs of one sector: 2, 4, .. 66, and 68. In the other disk they are 2, 4, .. 62, 64 with 65, and 67.
-    apart = scattered(71, odd, 67, (70, b'q', 69))
-    nearer = scattered(71, odd[:-1] + [66], 69, (70, b'q', 68))
+    a, q = (DATA / A).read_bytes(), (DATA / NAMED_Q).read_bytes()
+    scattered = padded(a, 32 * SECTOR)
+    odd = range(3, 65, 2)
+    # Free are 35 runs of one sector: 2, 4, .. 70. In the other disk they are 2, 4, .. 62, 64 with 65, 67, 69 and 71.
+    apart = laid_out(73, 72, (67, b'a', scattered, of_one_sector(*odd, 65)), (71, b'q', q, [(69, 1)]))
+    nearer = laid_out(74, 73, (68, b'a', scattered, of_one_sector(*odd, 66)), (72, b'q', q, [(70, 1)]))
+    # Free are 2 with 3, 6 with 7, and 9 with what follows.
+    pairs = laid_out(11, 8, (5, b'a', a, [(4, 1)]))
+    triple = laid_out(12, 8, (5, b'a', a, [(4, 1)]))
     return [
-        ('Free are the sectors 4 and 5, and 9 to 15: the data goes into the longer run, and the entry into the lowest sector.', [
+        ('Free are the sectors 5 and 6, and 10 to 15: the data goes into the longer run, the entry and the catalogue into the lowest.', [
             on('gap.disk', f'install disk {exclamation}', '0 ok',
-               has=f'0x8=06 0x14=03000200 0x18=0100 0x40=030000000800000004 0x800={ENTRY_A} 0x810=2100 0x900=0900000001 0x1200=@{exclamation}'),
-            on('gap.disk', 'install disk soname-240.so', '0 ok', has='0x40=030000000800000004 0x900=0900000002 0x1200=@soname-240.so'),
-            on('gap.disk', 'install disk real-none.so', '0 ok', has='0x40=030000000800000004 0x900=0900000003 0x1200=@real-none.so'),
-            on('gap.disk', 'install disk real-ld-sysv.so', '0 ok', has='0x40=030000000800000004 0x900=0900000007 0x1200=@real-ld-sysv.so'),
-            on('gap.disk', f'replace disk {A}', '0 ok', has=f'0x40=040000000800000000 0x900=0900000001 0x1200=@{A} 0x400=@{A}'),
-            on('gap.disk', 'replace disk protected.so', '0 ok', has='0x40=030000000400000000 0x900=0900000001 0x1200=@protected.so'),
-            on('gap.disk', 'install disk soname-good-3.so', '0 ok', has='0x40=030000000800000004 0x1200=@soname-good-3.so')]),
-        ('Eight sectors: the longer run whole, and one of the other; nine and an entry aren\'t free.', [
-            on('gap.disk', f'install disk {EIGHT}', '0 ok',
-               has='0x40=030000000800000005 0xa0a=02000000 0xb00=09000000070000000400000001'),
-               on('gap.disk', 'install disk real-clang.so', '1 refused S7 Full', 'same')]),
-        ('Two runs of two sectors: the lower, then the higher one\'s front.', [
-            on('replaced.disk', 'install disk real-none.so', '0 ok', has='0x240=0500000007 0xf00=02000000020000000600000001'),
-            on('replaced.disk', 'install disk soname-240.so', '0 ok', has='0x240=0500000006 0xd00=0200000002 0x400=@soname-240.so'),
-            on('replaced.disk', f'replace disk {A}', '0 ok', has='0x208=03 0x240=0300000000 0x700=0200000001')]),
+               has=f'0x8=06 0x14=03000200 0x18=0100 0x38=01 0x40=06 0xa00={ENTRY_A} 0xa10=2100 0xb00=0a00000001 0x1400=@{exclamation}'
+               ' 0xc00=4c49424303 0xc10=030000000400000005'),
+            on('gap.disk', 'install disk soname-240.so', '0 ok', has='0x40=06 0xc10=030000000400000005 0xb00=0a00000002 0x1400=@soname-240.so'),
+            on('gap.disk', 'install disk real-none.so', '0 ok', has='0x40=06 0xc10=030000000400000005 0xb00=0a00000003 0x1400=@real-none.so'),
+            on('gap.disk', 'install disk real-started.so', '0 ok', has='0x40=06 0xb00=0a00000006 0x1400=@real-started.so'),
+            on('gap.disk', 'install disk real-ld-sysv.so', '1 refused S7 Full', 'same'),
+            on('gap.disk', f'install disk {EIGHT}', '1 refused S7 Full', 'same'),
+            on('gap.disk', f'replace disk {A}', '0 ok', has=f'0x40=06 0xc10=050000000400000000 0xb00=0a00000001 0x1400=@{A} 0x400=@{A}'),
+            on('gap.disk', 'replace disk protected.so', '0 ok', has='0x40=06 0xc10=030000000500000000 0xb00=0a00000001 0x1400=@protected.so'),
+            on('gap.disk', 'install disk soname-good-3.so', '0 ok', has='0x40=06 0xc10=030000000400000005 0x1400=@soname-good-3.so')]),
+        ('Three runs of two sectors: the lower, then the next one\'s front; the entry is behind, and the catalogue behind that.', [
+            on(pairs, f'install disk {NAMED_Q}', '0 ok', has=f'0x208=01 0x214=02 0x238=01 0x240=06 0x400=@{NAMED_Q} 0x700=0200000001'
+               ' 0xc00=4c49424302 0xc10=0500000003'),
+            on(pairs, 'install disk soname-240.so', '0 ok', has='0x240=07 0x400=@soname-240.so 0xd00=0200000002 0xe10=0500000006'),
+            on(pairs, 'install disk real-none.so', '0 ok', has='0x240=09 0xe0a=02 0xf00=02000000020000000600000001 0x1210=0500000007'),
+            on(pairs, 'install disk linked-functions.so', '0 ok', has='0x240=0a 0x120a=02 0x1300=02000000020000000600000002 0x1410=0500000009'),
+            on(pairs, 'install disk linked-base.so', '1 refused S7 Full', 'same'),
+            on(pairs, f'replace disk {A}', '0 ok', has='0x214=01 0x240=06 0x700=0200000001 0xc10=03')]),
+        ('Two runs of two sectors and one of three: this whole, and of the others the lower one\'s front.', [
+            on(triple, 'install disk real-none.so', '0 ok', has='0x240=03 0x500=0900000003 0x610=0500000002'),
+            on(triple, 'install disk linked-functions.so', '0 ok',
+               has='0x240=06 0x60a=02 0x700=09000000030000000200000001 0xc10=0500000003'),
+            on(triple, 'install disk linked-base.so', '0 ok', has='0x240=07 0xc0a=02 0xd00=09000000030000000200000002 0xe10=0500000006'),
+            on(triple, 'install disk real-started.so', '1 refused S7 Full', 'same')]),
         ('All 512 bytes of a sector are a file\'s, or zeros behind them; a free sector that nothing takes stays as it is.', [
             on('formatted.disk', 'install disk index-0.so', '0 ok'),
-            on('formatted.disk 0x500=ff 0x558=ff 0x5ff=ff 0x620=ff 0x7ff=ff 0x800=ff 0xfff=ff', f'install disk {A}', '0 ok'),
+            on('formatted.disk 0x500=ff 0x558=ff 0x5ff=ff 0x620=ff 0x7ff=ff 0x806=ff 0x814=ff 0x9ff=ff 0xa00=ff 0xfff=ff', f'install disk {A}',
+               '0 ok'),
             on('formatted.disk 0x200=52 0x240=ff 0x3ff=ff', f'install disk {A}', '0 ok')]),
-        ('33 sectors, where 34 are free and none beside another: too many runs. Of a library removed the sectors are free for it.', [
+        ('33 sectors, where 35 are free and none beside another: too many runs. Of a library removed the sectors are free for it.', [
             on(apart, f'install disk {other}', '1 refused S8 Fragmented', 'same'),
-            on(apart, f'install disk {exclamation}', '0 ok'), on(apart, 'remove disk q', '0 ok'),
+            on(apart, f'install disk {exclamation}', '0 ok', has='0x240=06 0x810=21 0x900=0200000001 0xc10=430000004700000004'),
+            on(apart, 'remove disk q', '0 ok', has='0x214=01 0x240=02 0x410=43'),
             on(apart + ' 0x0=00', f'install disk {other}', '1 refused S3 NotFormatted', 'same')]),
-        ('33 sectors in 32 runs, of which one has two: that first. The entry is behind them all.', [
-            on(nearer, f'install disk {other}', '0 ok', has='0x8604=78410000 0x860a=2000 0x8700=40000000020000000200000001 0x87f8=3e00000001')]),
+        ('33 sectors in 32 runs, of which one has two: that first. The entry is behind them all, and the catalogue behind it.', [
+            on(nearer, f'install disk {other}', '0 ok', has='0x240=45 0x8604=78410000 0x860a=2000 0x8700=40000000020000000200000001'
+               ' 0x87f8=3e00000001 0x8a00=4c49424303 0x8a10=440000004800000043')]),
     ]
-
-
-def each_command(before, answer):
-    """Each command that opens a disk, on one that is none."""
-    return [on(before, command, answer, 'same', given) for command, given in (
-        (f'install disk {A}', None), (f'replace disk {A}', None), ('remove disk a', None), ('preload disk', None), ('preload disk a a', None),
-        ('list disk', None), ('bind disk minimal.so 0x10000', None), ('script disk', 'bytes=6c6973740a'))]
-
-
-def listed(before, file):
-    return on(before, 'list disk', file=file, after='same')
 
 
 def damaged():
     s5, zeros = '1 refused S5 Damaged', bytes(344).hex()
-    bad_roots = ['0x208=02', '0x208=03', '0x208=00', '0x210=09', '0x210=07', '0x210=00', '0x213=01', '0x214=00', '0x214=02', '0x214=65',
-                 '0x216=02', '0x216=11', '0x216=01 0x218=01', '0x218=01', '0x236=01', '0x238=01', '0x23f=01', '0x240=00', '0x240=01', '0x240=02',
-                 '0x240=04', '0x240=08', '0x243=01', '0x244=03', '0x3cf=01', '0x3d0=01', '0x3ff=01']
+    bad_roots = ['0x208=02', '0x208=03', '0x208=00', '0x210=09', '0x210=07', '0x210=00', '0x213=01', '0x214=00', '0x214=02', '0x214=41',
+                 '0x215=08', '0x216=02', '0x216=11', '0x216=01 0x218=01', '0x218=01', '0x236=01', '0x238=00', '0x238=02', '0x239=01', '0x23a=01',
+                 '0x23f=01', '0x240=00', '0x240=01', '0x240=02', '0x240=03', '0x240=05', '0x240=08', '0x243=01', '0x244=04', '0x244=05', '0x2bc=01',
+                 '0x2c0=01', '0x3ff=01']
     bad_entries = ['0x600=00', '0x603=00', '0x604=00', '0x604=57', '0x605=02', '0x605=03', '0x607=01', '0x608=00', '0x608=02', '0x609=01',
                    '0x60a=00', '0x60a=02', '0x60a=21', '0x60c=01', '0x60f=01', '0x610=00', '0x610=62', '0x610=20', '0x610=2f', '0x610=7f',
-                   '0x611=61', '0x611=01', '0x6ff=01', '0x700=00', '0x700=01', '0x700=03', '0x700=04', '0x700=08', '0x702=01', '0x704=00',
+                   '0x611=61', '0x611=01', '0x6ff=01', '0x700=00', '0x700=01', '0x700=03', '0x700=04', '0x700=05', '0x700=08', '0x702=01', '0x704=00',
                    '0x704=02', '0x708=01', '0x7ff=01']
+    none = f'one.disk 0x200={bytes(25).hex()} 0x238=00 0x240=00'  # zeros in sector 1
     return [
         ('Sector 1 has no root: the registry of generation 0, and what is installed is of generation 1 again.', [
-            on('one.disk 0x200=00', 'list disk', '0 end', 'same'),
-            on(f'one.disk 0x200={bytes(25).hex()} 0x240=00', 'list disk', '0 end', 'same'),
-            on('one.disk 0x207=33', 'list disk', '0 end', 'same'),
-            on(f'one.disk 0x200={bytes(25).hex()} 0x240=00', f'install disk {NAMED_Q}', '0 ok'),
+            on('one.disk 0x200=00', 'list disk', '0 end', 'same'), on(none, 'list disk', '0 end', 'same'),
+            on('one.disk 0x207=33', 'list disk', '0 end', 'same'), on(none, f'install disk {NAMED_Q}', '0 ok'),
             on('one.disk 0x200=00', f'install disk {A}', '0 ok', 'same 0x200=52'),
             on('one.disk 0x200=00', 'remove disk a', '1 refused C3 NotInstalled', 'same'),
-            on('one.disk 0x200=00', 'preload disk', '0 ok', 'same 0x200=52 0x214=00 0x240=00')]),
-        ('A root of version 2, alone, beside one of version 1 or where one of version 1 was: no command reads it.', [
-            on(f'{VERSION_2} pad=4096', 'list disk', s5, 'same'), on(f'{VERSION_2} pad=4096', f'install disk {A}', s5, 'same'),
-            on(f'{VERSION_2} pad=4096', 'format disk 8', '1 refused S4 AlreadyFormatted', 'same'),
-            on('one.disk 0x207=32 0x238=01', 'list disk', s5, 'same'), on('one.disk 0x207=32', 'list disk', s5, 'same'),
-            on('one.disk 0x7=32', 'list disk', s5, 'same')]),
+            on('one.disk 0x200=00', 'preload disk', '0 ok', 'same 0x200=52 0x214=00 0x238=00 0x240=00')]),
         ('Two roots whose generations differ by one: the later.', [
             listed('one.disk 0x8=02 0x208=03', 'one.listing'), on('one.disk 0x8=04 0x208=03', 'list disk', '0 end', 'same'),
             on('one.disk 0x8=02', 'list disk', '0 end', 'same'), on('one.disk 0x8=02', f'install disk {A}', '0 ok', 'same 0x208=03'),
@@ -416,32 +320,35 @@ def damaged():
             on(f'bytes= pad=4096 0x200={ROOT}08', 'list disk', s5, 'same'), on(f'{EMPTY} 0x200={ROOT}08', 'list disk', s5, 'same')]),
         ('A root with one byte changed, or two; the older of two as well.', [on(f'one.disk {change}', 'list disk', s5, 'same') for change in bad_roots] + [
             on('one.disk 0x14=01', 'list disk', s5, 'same'), on('one.disk 0x1ff=01', 'list disk', s5, 'same'),
-            on('one.disk 0x10=07', 'list disk', s5, 'same'),
+            on('one.disk 0x38=01', 'list disk', s5, 'same'), on('one.disk 0x10=07', 'list disk', s5, 'same'),
             on('formatted.disk 0x10=09', 'list disk', s5, 'same'), on('formatted.disk 0x3f=01', 'list disk', s5, 'same')]),
-        ('Roots that are others: a preload; the older one of a disk of another size, or with an entry that is none.', [
+        ('Roots that are others: a preload; the older one of a disk of another size, or with a catalogue that is none.', [
             listed('one.disk 0x216=01', 'one-preloaded.listing'), listed('one.disk 0x10=09', 'one.listing'),
-            listed('one.disk 0x14=01 0x40=07', 'one.listing')]),
+            listed('one.disk 0x14=01 0x38=01 0x40=07', 'one.listing')]),
         ('An entry with one byte changed.', [on(f'one.disk {change}', 'list disk', s5, 'same') for change in bad_entries]),
         ('Entries that are others: a byte more of the file.', [listed('one.disk 0x604=59', 'one-345.listing')]),
         ('A file that is no library any more; bytes of it that no test reads, and bytes behind it and in free sectors, may be any.', [
             on('one.disk 0x400=00', 'list disk', s5, 'same'), on(f'one.disk 0x400={zeros}', 'list disk', s5, 'same'),
             on('one.disk 0x410=02', 'list disk', s5, 'same'), on('full.disk 0x412=28', 'list disk', s5, 'same'),
-            listed('one.disk 0x550=ffffffffffffffff', 'one.listing'), listed('one.disk 0x558=ff 0x5ff=ff 0x800=ff 0xfff=ff', 'one.listing')]),
-        ('Two libraries: a sector that is used twice, one name, an entry that is the other\'s.', [
+            listed('one.disk 0x550=ffffffffffffffff', 'one.listing'), listed('one.disk 0x558=ff 0x5ff=ff 0xa00=ff 0xfff=ff', 'one.listing')]),
+        ('Two libraries: a sector that is used twice, one name, an entry that is the other\'s; the list the other way round.', [
             on(f'pair.disk {change}', 'list disk', s5, 'same') for change in (
-                '0x44=03', '0x44=02', '0xb00=02', '0xb00=03', '0x700=05', '0x710=01', '0xa10=61', '0x610=62', '0x40=0500000003000000 0x610=62')] + [
-            on('pair.disk 0x40=0500000003', 'list disk', file='pair-turned.listing', after='same')]),
-        ('A file of two extents that lie one behind the other; a sector of it twice, that of its entry, one behind the disk, a root\'s.', [
-            listed('full.disk 0xe0a=02 0xf00=02000000010000000300000004', 'full.listing'),
-            listed('full.disk 0xe0a=02 0xf00=02000000040000000600000001', 'full.listing')] + [
-            on(f'full.disk 0xe0a=02 0xf00={extents}', 'list disk', s5, 'same') for extents in (
-                '02000000040000000500000001', '02000000040000000700000001', '02000000040000000800000001', '02000000040000000100000001',
-                '02000000040000000600000002', '02000000030000000500000001', '03000000040000000200000001', '02000000050000000600000000')]),
-        ('Each command on a disk that is damaged.', each_command('one.disk 0x0=00', s5)),
-        ('Each on a disk that was not formatted.', each_command('bytes= pad=4096', '1 refused S3 NotFormatted')),
-        ('Each on a file that is no disk: half a sector, one byte, seven sectors, none.', each_command('one.disk cut=3840', '1 refused S6 BadGeometry')
-         + each_command('one.disk pad=4097', '1 refused S6 BadGeometry') + each_command('one.disk cut=3584', '1 refused S6 BadGeometry')
-         + each_command('empty', '1 refused S6 BadGeometry')),
+                '0xe14=03', '0xe14=02', '0xe14=07', '0xd00=02', '0xd00=03', '0xd00=07', '0x700=05', '0x710=01', '0xc10=61', '0x610=62',
+                '0xe10=0600000003 0x610=62')] + [on('pair.disk 0xe10=0600000003', 'list disk', file='pair-turned.listing', after='same')]),
+        ('A file of two extents that lie one behind the other; a sector of it twice, that of its entry, of the catalogue, one behind the disk,\n'
+         'a root\'s.', [
+            listed('full.disk 0xa0a=02 0xb00=02000000010000000300000002', 'full.listing'),
+            listed('full.disk 0xa0a=02 0xb00=02000000020000000400000001', 'full.listing'),
+            listed('full.disk 0xa0a=02 0xb00=02000000020000000700000001', 'full.listing')] + [
+            on(f'full.disk 0xa0a=02 0xb00={extents}', 'list disk', s5, 'same') for extents in (
+                '02000000020000000300000001', '02000000020000000500000001', '02000000020000000600000001', '02000000020000000800000001',
+                '02000000020000000100000001', '02000000020000000400000002', '02000000010000000300000001', '03000000020000000200000001',
+                '02000000030000000400000000')]),
+        ('Each command on a disk that is damaged.', each_opening('one.disk 0x0=00', s5)),
+        ('Each on a disk that was not formatted.', each_opening('bytes= pad=4096', '1 refused S3 NotFormatted')),
+        ('Each on a file that is no disk: half a sector, one byte, seven sectors, none.',
+         [case for before in ('one.disk cut=3840', 'one.disk pad=4097', 'one.disk cut=3584', 'empty')
+          for case in each_opening(before, '1 refused S6 BadGeometry')]),
         ('A disk that lost or got a sector isn\'t the one of its root; no registry at all on nine sectors.', [
             on('pair.disk cut=7680', 'list disk', s5, 'same'), on('one.disk pad=4608', 'list disk', s5, 'same'),
             on('bytes= pad=4608', 'list disk', '1 refused S3 NotFormatted', 'same')]),
@@ -452,7 +359,6 @@ def scripts():
     def run(before, name, status):
         return on(before, 'script disk', f'{status} file script-{name}.output', given=f'script-{name}.script', file=f'script-{name}.output')
     sixty_four = f'bytes={ROOT}40 pad=32768'
-    less = 'hundred.disk 0x14=63 0x1cc=00000000'
     line = 'bytes=6c6973740a'
     return [
         ('Each command of a registry, and most of its refusals, on eight sectors.', [run('formatted.disk', 'commands', 1)]),
@@ -464,8 +370,8 @@ def scripts():
             on('formatted.disk', 'script disk', '1 refused L2 CutLine', 'same', line + ' cut=4'),
             on('one.disk', 'script disk', '1 refused L2 CutLine', 'same', 'bytes=72656d6f76652061'),
             on('one.disk', 'script disk', '0 ok', 'same 0x8=02', 'bytes=72656d6f766520610a')]),
-        ('Eight sectors that are full; what replaces a library has no room but beside it.', [
-            run('formatted.disk', 'full', 1), run('formatted.disk', 'replace-full', 1)]),
+        ('Eight sectors that are full, and twelve; what replaces a library has no room but beside it.', [
+            run('formatted.disk', 'full', 1), run(f'bytes={ROOT}0c pad=6144', 'fuller', 1), run('formatted.disk', 'replace-full', 1)]),
         ('Removals, preloads, places, names, digits, files that are refused, and the orders of the tests, on 64 sectors.', [
             run(sixty_four, name, status) for name, status in (
                 ('remove', 0), ('digits', 0), ('preloads', 1), ('refused', 1), ('order', 1), ('names', 1), ('places', 1))]),
@@ -476,18 +382,6 @@ def scripts():
         ('Binds over symbolic libraries.', [
             run(sixty_four, name, status) for name, status in (
                 ('bind-symbolic', 0), ('bind-flags', 0), ('symbolic-first', 1), ('symbolic-refused', 1))]),
-        ('The hundredth library, and the 101st: the name is tested before, the generation and the room behind; one may be replaced.', [
-            on(less, f'install disk {A}', '0 ok', has='0x8=64 0x208=65 0x214=64'),
-            on(less + ' 0x1cc=01', 'list disk', '1 refused S5 Damaged', 'same'),
-            on('hundred.disk', f'install disk {NAMED_Q}', '1 refused S9 TooMany', 'same'),
-            on('hundred.disk', 'install disk real-large.so', '1 refused S9 TooMany', 'same'),
-            on('hundred.disk', f'install disk {A}', '1 refused C2 AlreadyInstalled', 'same'),
-            on('hundred.disk 0x8=feffffffffffffff 0x208=fdffffffffffffff', f'install disk {NAMED_Q}', '1 refused S9 TooMany', 'same'),
-            on('hundred.disk', f'replace disk {NAMED_Q}', '1 refused C3 NotInstalled', 'same'),
-            on('hundred.disk', f'replace disk {A}', '0 ok', has='0x214=64 0x3cc=cb000000'),
-            on('hundred.disk', 'remove disk a', '0 ok', has='0x214=63'),
-            on('hundred.disk', 'preload disk x98 a', '0 ok', has='0x216=0200 0x218=62006300'),
-            on('hundred.disk', 'list disk', file='hundred.listing')]),
     ]
 
 
@@ -503,16 +397,17 @@ def symbolic_binds(base):
     parts = [
         ('Symbolic libraries, which are kept as any other: one in the place of b, installed, listed and bound; in its bytes on the disk the\n'
          'tag made FLAGS 0, 2 and 8, and REL, which no library may have.', [
-            on('pair.disk', 'replace disk symbolic-b.so', '0 ok', has='0x208=03 0x214=02 0x244=07 0xc00=@symbolic-b.so 0xf00=0600000001'),
-            on('formatted.disk', 'install disk symbolic-b.so', '0 ok', has='0x208=01 0x214=01 0x240=03 0x400=@symbolic-b.so'),
-            on('one.disk', 'install disk real-symbolic.so', '0 ok', has='0x8=02 0x14=02 0x800=@real-symbolic.so'),
+            on('pair.disk', 'replace disk symbolic-b.so', '0 ok', has='0x208=03 0x214=02 0x240=09 0x900=0800000001 0x1000=@symbolic-b.so'
+               ' 0x1210=0300000004'),
+            on('formatted.disk', 'install disk symbolic-b.so', '0 ok', has='0x208=01 0x214=01 0x240=04 0x400=@symbolic-b.so'),
+            on('formatted.disk', 'install disk real-symbolic.so', '0 ok', has='0x208=01 0x214=01 0x240=06 0x400=@real-symbolic.so'),
             on('symbolic.disk', 'list disk', file='symbolic.listing', after='same'),
             on('symbolic.disk', f'bind disk asking.so {base}', '0 file symbolic.image', 'same', file='symbolic.image'),
-            on('symbolic.disk 0xda8=1e00000000000000', f'bind disk asking.so {base}', file='disk-no-flag.image', after='same'),
-            on('symbolic.disk 0xda8=1e0000000000000002', f'bind disk asking.so {base}', file='disk-flag.image', after='same'),
-            on('symbolic.disk 0xda8=1e0000000000000008', f'bind disk asking.so {base}', file='disk-other-flag.image', after='same'),
-            on('symbolic.disk 0xda8=11', 'list disk', '1 refused S5 Damaged', 'same'),
-            on('symbolic.disk 0xda8=11', f'bind disk asking.so {base}', '1 refused S5 Damaged', 'same')])]
+            on('symbolic.disk 0x11a8=1e00000000000000', f'bind disk asking.so {base}', file='disk-no-flag.image', after='same'),
+            on('symbolic.disk 0x11a8=1e0000000000000002', f'bind disk asking.so {base}', file='disk-flag.image', after='same'),
+            on('symbolic.disk 0x11a8=1e0000000000000008', f'bind disk asking.so {base}', file='disk-other-flag.image', after='same'),
+            on('symbolic.disk 0x11a8=11', 'list disk', '1 refused S5 Damaged', 'same'),
+            on('symbolic.disk 0x11a8=11', f'bind disk asking.so {base}', '1 refused S5 Damaged', 'same')])]
     tells_b(0x121d0, 'symbolic.image', 'disk-flag.image')
     tells_b(0x11170, 'disk-no-flag.image', 'disk-other-flag.image')
     return parts
@@ -524,11 +419,8 @@ def binds():
         ('A program over a and b, as they stand on the disk; with b as a preload its f is the first.', [
             on('pair.disk', f'bind disk asking.so {base}', '0 file first.image', 'same', file='first.image'),
             on('pair.disk 0x16=0100 0x18=0100', f'bind disk asking.so {base}', file='disk-preloaded.image', after='same'),
-            on('pair.disk 0x40=0500000003', f'bind disk asking.so {base}', '0 file first.image', 'same', file='first.image'),
+            on('pair.disk 0xe10=0600000003', f'bind disk asking.so {base}', '0 file first.image', 'same', file='first.image'),
             on('formatted.disk', f'bind disk minimal.so {base}', '0 file minimal.image', 'same', file='minimal.image')]),
-        ('The hundredth library is bound, and one that is not there is missed behind it.', [
-            on('hundred.disk', f'bind disk hundredth.so {base}', file='hundred.image', after='same'),
-            on('hundred.disk', f'bind disk asking.so {base}', '1 refused B3 Missing /program b', 'same')]),
         ('What is refused: the program, the base, a need, the room, a symbol.', [
             on('pair.disk', f'bind disk empty {base}', '1 refused B1 E1 TooShort', 'same'),
             on('pair.disk', f'bind disk minimal.image {base}', '1 refused B1 E2 BadMagic', 'same'),
@@ -557,13 +449,13 @@ def missing():
     no_disk = '3 error rlibreg: cannot read disk'
     no_file = '3 error rlibreg: cannot read no-such-file'
     return [
-        ('A disk that doesn\'t stand: only `format` makes one.', each_command('none', no_disk)),
+        ('A disk that doesn\'t stand: only `format` makes one.', each_opening('none', no_disk)),
         ('A file that doesn\'t stand; it is read before the disk is opened.', [
             on(before, command, no_file, 'same') for before in ('one.disk', 'none', 'empty', 'one.disk 0x0=00') for command in (
                 'install disk no-such-file', 'replace disk no-such-file', 'bind disk no-such-file 0x10000')]),
         ('What is no regular file, paths that lead nowhere, the empty path.', [
             on('one.disk', f'{words}', f'3 error rlibreg: cannot read {path}', 'same') for words, path in (
-                ('list .', '.'), ('list ', ''), ('list one.disk/disk', 'one.disk/disk'), ('list no-such-folder/disk', 'no-such-folder/disk'),
+                ('list .', '.'), ('upgrade .', '.'), ('upgrade no-such-disk', 'no-such-disk'), ('upgrade ', ''), ('list ', ''), ('list one.disk/disk', 'one.disk/disk'), ('list no-such-folder/disk', 'no-such-folder/disk'),
                 ('format . 8', '.'), ('format no-such-folder/disk 8', 'no-such-folder/disk'), ('format  8', ''),
                 ('remove . a', '.'), ('preload .', '.'), ('script .', '.'), ('script no-such-disk', 'no-such-disk'),
                 (f'install . {A}', '.'), (f'replace no-such-disk {A}', 'no-such-disk'), ('install disk .', '.'), ('install disk ', ''),
@@ -572,6 +464,8 @@ def missing():
             on('one.disk', 'install disk disk', '1 refused C1 E2 BadMagic', 'same'),
             on('one.disk', 'bind disk disk 0x0', '1 refused B1 E2 BadMagic', 'same'),
             on('empty', 'install disk disk', '1 refused S6 BadGeometry', 'same'), on('none', 'install disk disk', no_disk, 'none')]),
+        ('An upgrade of a disk of version 2 is an opening: nothing is written.', [
+            on(disk, 'upgrade disk', '0 ok', 'same') for disk in ('formatted.disk', 'one.disk', 'replaced.disk', 'full.disk', 'three.disk', 'gap.disk')]),
     ]
 
 
@@ -581,7 +475,8 @@ def command_lines():
              'replace disk', 'replace', 'remove disk', 'remove', 'remove disk a a', 'preload', 'list', 'list disk disk', 'list disk ', 'bind disk minimal.so',
              'bind disk', 'bind', 'bind disk minimal.so 0x10000 0x10000', 'bind disk minimal.so 0x10000 ', 'script', 'script disk disk', 'script disk ',
              'Install disk a', 'LIST disk', 'lists disk', 'lis disk', ' list disk', 'list  disk', 'disk list', '--help', '-h', 'help', 'delete disk a',
-             'open disk', 'image disk', 'install  disk ' + A, '-- list disk']
+             'open disk', 'image disk', 'install  disk ' + A, '-- list disk', 'upgrade', 'upgrade disk disk', 'upgrade disk ', 'upgrade  disk',
+             'Upgrade disk', 'upgrades disk', 'upgrade disk 8']
     return [
         ('A word too few or too many, and words that are no command.', [on('one.disk', words, bad, 'same') for words in lines]),
         ('No disk is made by them.', [on('none', words, bad, 'none') for words in ('format disk', 'format disk 8 8', 'Format disk 8', 'format 8 disk')]),
@@ -604,8 +499,13 @@ def wrong():
              'on none run format disk 8 =/> 0 ok then none', 'on none run format disk 8 =/> 0 ok then same',
              'on none run format disk 8 =/> 0 ok then bytes= pad=4096', 'on one.disk run remove disk a =/> 0 ok then same',
              'on one.disk run remove disk a =/> 0 ok then same 0x208=02', 'on one.disk run remove disk a =/> 0 nothing then same 0x8=02',
+             'on old-one.disk run upgrade disk =/> 0 ok then same', 'on old-one.disk run upgrade disk =/> 1 refused S12 OldFormat then same',
+             'on one.disk run upgrade disk =/> 0 ok then same 0x8=02', 'on one.disk run list disk =/> 1 refused S12 OldFormat then same',
+             'on made=sixty-four.changes run list disk =/> 0 file sixty-five.listing then same',
+             'on made=sixty-four.changes run list disk =/> 0 file sixty-four.listing then same 0x10410=00',
              f'on formatted.disk run install disk {A} =/> 0 ok then one.disk 0x5ff=01',
              f'on formatted.disk run install disk {A} =/> 0 ok then one.disk 0x400=@first.so',
+             f'on formatted.disk run install disk {A} =/> 0 ok then old-one.disk',
              f'on formatted.disk run install disk {A} =/> 0 ok then replaced.disk',
              'on one.disk run list disk =/> 0 file one.listing cut=13 then same',
              'on formatted.disk run script disk =/> 0 end then same',
@@ -625,4 +525,7 @@ if __name__ == '__main__':
     prepare()
     parts = formats() + rows() + refusals() + room() + damaged() + scripts() + binds() + missing() + command_lines()
     write_list('disks.txt', parts + wrong())
+    write_list('upgrades.txt', upgrades.cases())
+    write_list('bytes.txt', catalogues.single_bytes())
+    write_list('catalogues.txt', catalogues.cases())
     tells_wrong_readings()

@@ -14,10 +14,23 @@ from binder import Binder
 from make import BASE, DATA, write_list
 from samples import DEFINED, FUNC, GLOBAL, R_64, WEAK, Object, Symbol, build
 
-MOST_LIBRARIES, MOST_PRELOADS, SECTOR = 100, 16, 512
+MOST_LIBRARIES, MOST_PRELOADS, SECTOR, IN_CATALOGUE = 2048, 16, 512, 64
 HEX = re.compile(rb'(?:[0-9a-fA-F]{2})+')
 NAME = re.compile(rb'[\x21-\x7e]+')
 BASE_WORD = re.compile(rb'0x[0-9a-fA-F]{1,16}')
+
+
+def are_distinct(values):
+    return len(set(values)) == len(values)
+
+
+def sectors_of(length):
+    return (length + SECTOR - 1) // SECTOR
+
+
+def catalogues_for(libraries):
+    """How many catalogues list so many libraries."""
+    return (libraries + IN_CATALOGUE - 1) // IN_CATALOGUE
 
 
 class Model:
@@ -29,10 +42,11 @@ class Model:
     def names(self):
         return [name for name, _ in self.libraries]
 
-    def is_full(self, file):
-        def cost(data):
-            return (len(data) + SECTOR - 1) // SECTOR + 1
-        return cost(file) > self.sectors - 2 - sum(cost(data) for _, data in self.libraries)
+    def is_full(self, file, libraries):
+        """Whether a file has no room in a list that then has so many libraries: beside all files with their entries, each
+        catalogue counts twice, since a change writes all of them anew."""
+        files = [data for _, data in self.libraries] + [file]
+        return sum(sectors_of(len(data)) + 1 for data in files) + 2 * catalogues_for(libraries) > self.sectors - 2
 
     def install(self, file):
         refusal = rules.library_refusal(file)
@@ -43,7 +57,7 @@ class Model:
             return 'refused C2 AlreadyInstalled\n'
         if len(self.libraries) == MOST_LIBRARIES:
             return 'refused S9 TooMany\n'
-        if self.is_full(file):
+        if self.is_full(file, len(self.libraries) + 1):
             return 'refused S7 Full\n'
         self.libraries.append((name, file))
         return 'ok\n'
@@ -54,7 +68,7 @@ class Model:
             return f'refused C1 {refusal}\n'
         if soname(file) not in self.names():
             return 'refused C3 NotInstalled\n'
-        if self.is_full(file):
+        if self.is_full(file, len(self.libraries)):
             return 'refused S7 Full\n'
         self.libraries[self.names().index(soname(file))] = (soname(file), file)
         return 'ok\n'
@@ -70,7 +84,7 @@ class Model:
     def preload(self, names):
         if len(names) > MOST_PRELOADS:
             return 'refused C6 TooManyPreloads\n'
-        if len(set(names)) < len(names):
+        if not are_distinct(names):
             return 'refused C5 RepeatedPreload\n'
         if any(name not in self.names() for name in names):
             return 'refused C3 NotInstalled\n'
@@ -235,34 +249,53 @@ def bad_lines():
 def many_libraries():
     names = [bytes([ord('a') + k // 10, ord('0') + k % 10]) for k in range(101)]
     lines = [install(library(name)) for name in names] + [replace(library(names[99])), install(library(names[0])), b'list',
-             b'remove ' + names[0], install(library(names[100])), b'list']
+             b'remove ' + names[0], install(library(names[0])), b'list']
     listed = [f'library {name.decode()} 344' for name in names]
-    wanted = (['ok'] * 100 + ['refused S9 TooMany', 'ok', 'refused C2 AlreadyInstalled'] + listed[:100] + ['end', 'ok', 'ok']
-              + listed[1:] + ['end'])
+    wanted = ['ok'] * 102 + ['refused C2 AlreadyInstalled'] + listed + ['end', 'ok', 'ok'] + listed[1:] + listed[:1] + ['end']
     assert all(len(library(name)) == 344 for name in names)
     sixteen = b' '.join([b'preload'] + names[:16])
     preloads = [install(library(name)) for name in names[:17]] + [sixteen, sixteen + b' ' + names[16], b'list']
     told = ['ok'] * 18 + ['refused C6 TooManyPreloads'] + listed[:17] + [f'preload {n.decode()}' for n in names[:16]] + ['end']
     return [
-        ('100 libraries and the 101st: it is refused until one is removed, and one that is there may be replaced.',
-         [stored('script-hundred', 4096, lines, wanted)]),
+        ('101 libraries, more than a disk of version 1 could have, in two catalogues.', [stored('script-hundred', 4096, lines, wanted)]),
         ('16 preloads and 17.', [stored('script-preloads', 64, preloads, told)]),
+        ('The 65th library needs a second catalogue, and so four sectors beside its own two: 135 sectors are too few, 136 enough.\n'
+         'A removal needs none; after it a copy of a library has room. The preloads stay whose they were.', catalogue_after_catalogue(names, listed)),
     ]
+
+
+def catalogue_after_catalogue(names, listed):
+    """64 libraries of two sectors each take 130 sectors with the two roots, and 132 with their catalogue twice."""
+    lines = [install(library(name)) for name in names[:64]] + [b'preload ' + names[63], install(library(names[64])), b'list']
+    full = ['ok'] * 65 + ['refused S7 Full'] + listed[:64] + ['preload g3', 'end']
+    room = ['ok'] * 66 + listed[:65] + ['preload g3', 'end']
+    copy = replace(library(names[63]))
+    changed = [copy, b'remove ' + names[0], b'list', copy, b'remove ' + names[64], b'list', copy, b'remove ' + names[63]]
+    told = (['refused S7 Full', 'ok'] + listed[1:65] + ['preload g3', 'end', 'ok', 'ok'] + listed[1:64]
+            + ['preload g3', 'end', 'ok', 'refused C4 InPreloads'])
+    assert names[63] == b'g3'
+    return [stored('script-sixty-four', 135, lines, full), stored('script-sixty-five', 136, lines + changed, room + told)]
 
 
 def sectors():
     full = [
-        # Six sectors are free: five of bytes, and one for the entry.
-        stored('script-full', 8, [install(padded(A, 2561)), install(padded(A, 2560)), b'list', replace(A), install(B), b'remove a',
-                                  install(A), install(B), install(C), replace(padded(A, 513)), b'list'],
-               ['refused S7 Full', 'ok', 'library a 2560', 'end', 'refused S7 Full', 'refused S7 Full', 'ok', 'ok', 'ok', 'ok',
-                'refused S7 Full', 'library a 344', 'library b 344', 'library c 344', 'end'])]
+        # Six sectors are free: three of bytes, one for the entry, and two for the catalogue, which is written anew by each change.
+        stored('script-full', 8, [install(padded(A, 1537)), install(padded(A, 1536)), b'list', replace(A), install(B), b'remove a',
+                                  install(A), install(B), b'list'],
+               ['refused S7 Full', 'ok', 'library a 1536', 'end', 'refused S7 Full', 'refused S7 Full', 'ok', 'ok', 'ok', 'library a 344',
+                'library b 344', 'end']),
+        # The same with four sectors more.
+        stored('script-fuller', 12, [install(padded(A, 3585)), install(padded(A, 3584)), b'list', replace(A), install(B), b'remove a',
+                                     install(A), install(B), install(C), replace(padded(A, 1025)), replace(padded(A, 513)),
+                                     replace(padded(A, 512)), b'remove b', b'list'],
+               ['refused S7 Full', 'ok', 'library a 3584', 'end', 'refused S7 Full', 'refused S7 Full', 'ok', 'ok', 'ok', 'ok',
+                'refused S7 Full', 'refused S7 Full', 'ok', 'ok', 'library a 512', 'library c 344', 'end'])]
     tight = [
-        # The file that is replaced isn't free: four sectors are, of 8 without its two and the two of the registry.
-        stored('script-replace-full', 8, [install(A), replace(padded(A, 1537)), replace(padded(A, 1536)), b'list'],
-               ['ok', 'refused S7 Full', 'ok', 'library a 1536', 'end'])]
+        # The file that is replaced isn't free: two sectors are, of 8 without its two, the two of the registry and the catalogue twice.
+        stored('script-replace-full', 8, [install(A), replace(padded(A, 513)), replace(padded(A, 512)), b'list'],
+               ['ok', 'refused S7 Full', 'ok', 'library a 512', 'end'])]
     return [
-        ('Eight sectors: a library that takes all that are free, and one byte more; what replaces it has no room beside it.', full),
+        ('A library that takes all sectors that are free, and one byte more; what replaces it has no room beside it.', full),
         ('A file may take the sectors that are free beside the one that it replaces, and not one more.', tight),
     ]
 

@@ -1,16 +1,9 @@
 """Readings of a disk that break one rule each. `tell` says which of them no case tells from `disk.py`."""
 
-import rules
-from disk import LAST_GENERATION, MOST_EXTENTS, OnDisk, Program, Refused, Root, is_command, read_entry, sectors_of, spelt_root
-from scripts import MOST_LIBRARIES, SECTOR
-
-
-class RootInTheOtherSector(OnDisk):
-    def commit(self, preloads, entries):
-        generation = self.root.generation + 1
-        self.write((generation + 1) % 2, spelt_root(Root(generation, self.count(), preloads, entries)))
-        self.root = Root(generation, self.count(), preloads, entries)
-        self.entries = [read_entry(self.sector(k)) for k in self.root.entries]
+from disk import LAST_GENERATION, OnDisk, Refused, library_refusal
+from program import Program, is_command
+from scripts import IN_CATALOGUE, MOST_LIBRARIES, SECTOR, catalogues_for, sectors_of
+from sectors import MOST_EXTENTS, Root, read_catalogue, spelt_catalogue, spelt_root
 
 
 class Stays(OnDisk):
@@ -19,11 +12,18 @@ class Stays(OnDisk):
     def following(self, root):
         return root
 
-    def commit(self, preloads, entries):
-        root = self.following(Root(self.root.generation + 1, self.count(), preloads, entries))
-        self.write(root.generation % 2, spelt_root(root))
-        self.root = root
-        self.entries = [read_entry(self.sector(k)) for k in root.entries]
+    def place(self, root):
+        return root.generation % 2
+
+    def commit(self, preloads, places, catalogues):
+        root = self.following(Root(2, self.root.generation + 1, self.count(), len(places), preloads, catalogues))
+        self.write(self.place(root), spelt_root(root))
+        self.look_again(root)
+
+
+class RootInTheOtherSector(Stays):
+    def place(self, root):
+        return (root.generation + 1) % 2
 
 
 class GenerationNotRaised(Stays):
@@ -42,16 +42,14 @@ class GenerationOf32Bits(Stays):
 
 
 class OlderRootWrittenOver(Stays):
-    def commit(self, preloads, entries):
-        super().commit(preloads, entries)
+    def commit(self, preloads, places, catalogues):
+        super().commit(preloads, places, catalogues)
         self.write((self.root.generation + 1) % 2, bytes(SECTOR))
 
 
 class NewEntryInFront(OnDisk):
-    def install_file(self, file):
-        super().install_file(file)
-        entries = self.root.entries
-        self.write(self.root.generation % 2, spelt_root(self.root._replace(entries=[entries[-1]] + entries[:-1])))
+    def new_list(self, place, at):
+        return [at] + self.places if place == len(self.places) else super().new_list(place, at)
 
 
 class HighestSectors(OnDisk):
@@ -80,7 +78,7 @@ class RunsOfOneSector(OnDisk):
 
 
 class EntryFirst(OnDisk):
-    def places(self, need):
+    def places_of(self, need):
         at = self.free()[0]
         free = self.free
         self.free = lambda: [k for k in free() if k != at]
@@ -90,51 +88,313 @@ class EntryFirst(OnDisk):
 
 
 class EntryInTheHighestSector(OnDisk):
-    def take_one(self, extents):
-        taken = [k for start, n in extents for k in range(start, start + n)]
+    def take_one(self, taken):
         return next(k for k in reversed(self.free()) if k not in taken)
 
 
 class EntryBehindTheData(OnDisk):
-    def take_one(self, extents):
-        after = sum(extents[-1])
-        return after if after in self.free() else super().take_one(extents)
+    def take_one(self, taken):
+        after = taken[-1] + 1 if taken else 0
+        return after if after in self.free() and after not in taken else super().take_one(taken)
 
 
 class OldSectorsAtOnce(OnDisk):
+    """The sectors of what is replaced are given to the new file in the same commit."""
+
     def replace_file(self, file):
         name = self.as_library(file)
-        entries, root = self.entries, self.root
-        if name in self.names():
-            place = self.names().index(name)
-            self.entries = entries[:place] + entries[place + 1:]
-            self.root = root._replace(entries=root.entries[:place] + root.entries[place + 1:])
-            free = self.free()
-            self.entries, self.root = entries, root
-            self.free = lambda: free
+        used = self.used
+        self.used = lambda entries: [k for k in used([e for e in entries if e.name != name])
+                                     if name not in self.names() or k != self.places[self.names().index(name)]]
         super().replace_file(file)
-        self.__dict__.pop('free', None)
 
 
-class OldEntryWrittenOver(OnDisk):
-    def replace_file(self, file):
-        name = self.as_library(file)
-        if name not in self.names():
-            raise Refused('C3 NotInstalled')
-        place = self.names().index(name)
-        self.put(name, file)
-        made = self.writes[-1]
-        old = self.root.entries[place]
-        self.write(old, self.sector(made))
-        self.commit(self.root.preloads, self.root.entries)
+class OldCataloguesAtOnce(OnDisk):
+    """The sectors of the old catalogues are given to new data in the same commit."""
+
+    def free(self):
+        return sorted(super().free() + self.catalogues())
+
+
+class CataloguesWrittenOver(OnDisk):
+    """New catalogues are written in the old ones' place, as far as there are any."""
+
+    def put_catalogues(self, places, taken):
+        sectors = []
+        for part in self.part_of_list(places):
+            old = self.catalogues()[len(sectors):]
+            sectors.append(old[0] if old else self.take_one(taken + sectors))
+            self.write(sectors[-1], spelt_catalogue(part))
+        return sectors
+
+
+class CataloguesStay(OnDisk):
+    """Only catalogues that differ are written."""
+
+    def put_catalogues(self, places, taken):
+        sectors = []
+        for part in self.part_of_list(places):
+            old = self.catalogues()[len(sectors):]
+            if old and read_catalogue(self.sector(old[0])) == part:
+                sectors.append(old[0])
+            else:
+                sectors.append(self.take_one(taken + sectors))
+                self.write(sectors[-1], spelt_catalogue(part))
+        return sectors
+
+
+class CataloguesBeforeTheEntry(OnDisk):
+    def places_of(self, need):
+        extents = self.take(need)
+        sectors = [k for start, n in extents for k in range(start, start + n)]
+        for _ in range(catalogues_for(len(self.places))):
+            sectors.append(self.take_one(sectors))
+        return extents, self.take_one(sectors)
+
+
+class CataloguesForPreloads(OnDisk):
+    """Preloads write the catalogues anew."""
+
+    def preload_names(self, names):
+        commit = self.commit
+        self.commit = lambda preloads, places, _: commit(preloads, places, self.put_catalogues(places, []))
+        super().preload_names(names)
+
+
+class CatalogueOfNone(OnDisk):
+    """An empty list has a catalogue."""
+
+    def part_of_list(self, places):
+        return super().part_of_list(places) or [[]]
+
+
+class LastCatalogueIsFull(OnDisk):
+    """The count of the last catalogue is always 64."""
+
+    def catalogue(self, k, wanted):
+        return super().catalogue(k, IN_CATALOGUE)[:wanted]
+
+    def part_of_list(self, places):
+        return [part + [0] * (IN_CATALOGUE - len(part)) for part in super().part_of_list(places)]
+
+
+class OrderLostAtThe65th(OnDisk):
+    def new_list(self, place, at):
+        places = super().new_list(place, at)
+        return places[-1:] + places[:-1] if len(places) == IN_CATALOGUE + 1 else places
+
+
+class CountsOfCataloguesNotTested(OnDisk):
+    def catalogue(self, k, wanted):
+        entries = read_catalogue(self.sector(k)) if k < self.count() else None
+        if entries is None:
+            raise Refused('S5 Damaged')
+        return entries[:wanted]
+
+
+class ShortNotTested(OnDisk):
+    def is_short(self):
+        return False
+
+
+class ShortByOne(OnDisk):
+    """Room for all catalogues and one more is wanted."""
+
+    def is_short(self):
+        return self.root.version == 2 and self.entries and self.unspent(len(self.entries)) <= 0
+
+
+class CataloguesCountOnce(OnDisk):
+    def unspent(self, libraries):
+        return super().unspent(libraries) + catalogues_for(libraries)
+
+
+class CataloguesOfTheListBefore(OnDisk):
+    """An installation counts the catalogues of the list before it."""
+
+    def is_too_long(self, need, libraries):
+        return super().is_too_long(need, len(self.entries))
+
+
+class CataloguesForgotten(OnDisk):
+    def is_too_long(self, need, libraries):
+        return need + 1 > self.unspent(libraries) + 2 * catalogues_for(libraries)
+
+
+class CataloguesForgottenByReplace(CataloguesForgotten):
+    def is_too_long(self, need, libraries):
+        return super().is_too_long(need, libraries) if libraries == len(self.entries) else OnDisk.is_too_long(self, need, libraries)
+
+
+class CataloguesForgottenByInstall(CataloguesForgotten):
+    def is_too_long(self, need, libraries):
+        return super().is_too_long(need, libraries) if libraries > len(self.entries) else OnDisk.is_too_long(self, need, libraries)
+
+
+class ReplaceCountsANewLibrary(OnDisk):
+    def is_too_long(self, need, libraries):
+        return super().is_too_long(need, len(self.entries) + 1)
+
+
+class RemoveIsFull(OnDisk):
+    def remove_name(self, name):
+        if name in self.names() and name not in self.preloads and self.unspent(len(self.entries)) == 0 and len(self.entries) > 1:
+            raise Refused('S7 Full')
+        super().remove_name(name)
+
+
+class CataloguesMayBeOthers(OnDisk):
+    """The sector of a catalogue may be an entry's or a file's as well."""
+
+    def used(self, entries):
+        return [k for k in super().used(entries) if k not in self.catalogues()] + self.catalogues()
+
+
+class OldFormatNeverAnswered(OnDisk):
+    """Version 1 is opened by its own rules."""
+
+    def open(self):
+        self.geometry()
+        self.look(self.choose())
+        return self
+
+
+class OldFormatAfterTheEntries(OnDisk):
+    def open(self):
+        self.geometry()
+        root = self.choose()
+        self.look(root)
+        return super().open()
+
+
+class OldFormatIsDamaged(OnDisk):
+    def open(self):
+        try:
+            return super().open()
+        except Refused as refused:
+            raise Refused('S5 Damaged' if str(refused) == 'S12 OldFormat' else str(refused))
+
+
+class OldFormatWhereARootIsOld(OnDisk):
+    """The older of two roots counts as well."""
+
+    def open(self):
+        self.geometry()
+        self.choose()
+        if any(isinstance(slot, Root) and slot.version == 1 for slot in (self.slot(0), self.slot(1))):
+            raise Refused('S12 OldFormat')
+        return super().open()
+
+
+class OldBehindNew(OnDisk):
+    """A root of version 1 is current behind one of version 2."""
+
+    def goes_back(self, newer, older):
+        return False
+
+
+class NewBesideOldIsDamaged(OnDisk):
+    def goes_back(self, newer, older):
+        return newer.version != older.version
+
+
+class NoOldMagic(OnDisk):
+    """A sector with the magic of version 1 is empty."""
+
+    def slot(self, k):
+        return 'empty' if self.sector(k)[:8] == b'RLIBREG1' else super().slot(k)
+
+
+class FormatsOldDisks(OnDisk):
+    def format(self, sectors):
+        slot = self.slot
+        self.slot = lambda k: 'empty' if self.sector(k)[:8] == b'RLIBREG1' else slot(k)
+        super().format(sectors)
+
+
+class UpgradeKeepsTheGeneration(Stays):
+    def following(self, root):
+        return root._replace(generation=root.generation - 1) if self.root.version == 1 else root
+
+
+class UpgradeRaisesItByTwo(Stays):
+    def following(self, root):
+        return root._replace(generation=root.generation + 1) if self.root.version == 1 else root
+
+
+class UpgradeDropsPreloads(Stays):
+    def following(self, root):
+        return root._replace(preloads=[]) if self.root.version == 1 else root
+
+
+class UpgradeWritesAgain(OnDisk):
+    """A disk of version 2 gets a commit as well."""
+
+    def upgrade(self):
+        if super().upgrade():
+            self.commit(self.root.preloads, self.places, self.root.listed)
+
+
+class UpgradeWipesTheOldRoot(OnDisk):
+    def upgrade(self):
+        if not super().upgrade():
+            self.write((self.root.generation + 1) % 2, bytes(SECTOR))
+
+
+class UpgradeTestsNoFile(OnDisk):
+    def upgrade(self):
+        self.is_library = lambda entry: True
+        return super().upgrade()
+
+
+class UpgradeIsFullBeforeTheGeneration(OnDisk):
+    def has_ended(self):
+        if self.root.version == 1 and self.has_no_room_for_catalogues():
+            raise Refused('S7 Full')
+        return super().has_ended()
+
+
+class UpgradeNeedsOneSectorMore(OnDisk):
+    def has_no_room_for_catalogues(self):
+        return self.unspent(len(self.entries)) <= 0 and bool(self.entries)
+
+
+class UpgradeNeedsItsCatalogues(OnDisk):
+    """Room for the catalogues once is enough."""
+
+    def has_no_room_for_catalogues(self):
+        return self.unspent(len(self.entries)) + catalogues_for(len(self.entries)) < 0
+
+
+class UpgradeNeedsNoRoom(OnDisk):
+    def has_no_room_for_catalogues(self):
+        return self.unspent(len(self.entries)) + 2 * catalogues_for(len(self.entries)) < 0
+
+
+class UpgradeBeforeTheEntries(OnDisk):
+    """S7 comes before what the entries say is tested."""
+
+    def is_sound(self, entries):
+        if self.root.version == 1 and None not in entries and self.has_no_room_for_catalogues():
+            raise Refused('S7 Full')
+        return super().is_sound(entries)
+
+
+class OldEntryWrittenOver(Stays):
+    """The list isn't changed: the new entry is written over the old one."""
+
+    def put_listed(self, name, file, place, libraries):
+        at, taken = self.put(name, file, libraries)
+        if place < len(self.places):
+            self.write(self.places[place], self.sector(at))
+            at = self.places[place]
+        places = self.new_list(place, at)
+        self.commit(self.root.preloads, places, self.put_catalogues(places, taken))
 
 
 class ReplacedComesLast(OnDisk):
-    def replace_file(self, file):
-        super().replace_file(file)
-        place = self.names().index(self.as_library(file))
-        entries = self.root.entries
-        self.write(self.root.generation % 2, spelt_root(self.root._replace(entries=entries[:place] + entries[place + 1:] + [entries[place]])))
+    def new_list(self, place, at):
+        return self.places[:place] + self.places[place + 1:] + [at]
 
 
 class LastSectorNotPadded(OnDisk):
@@ -153,10 +413,11 @@ class RemovedSectorsZeroed(OnDisk):
 class LastMovesIntoTheHole(OnDisk):
     def remove_name(self, name):
         place = self.names().index(name) if name in self.names() else 0
+        put = self.put_catalogues
+        def filled(places, taken):
+            return put(places[:place] + places[-1:] + places[place:-1] if place < len(places) else places, taken)
+        self.put_catalogues = filled
         super().remove_name(name)
-        rest = self.root.entries
-        if place < len(rest):
-            self.write(self.root.generation % 2, spelt_root(self.root._replace(entries=rest[:place] + rest[-1:] + rest[place:-1])))
 
 
 class PreloadsKeepTheirNumbers(OnDisk):
@@ -210,19 +471,19 @@ class FilesNotTested(OnDisk):
 
 class NamesNotCompared(OnDisk):
     def is_library(self, entry):
-        return rules.library_refusal(self.file(entry)) is None
+        return library_refusal(self.file(entry)) is None
 
 
 class OneSectorLess(OnDisk):
-    def is_too_long(self, need):
-        return need + 1 >= len(self.free())
+    def is_too_long(self, need, libraries):
+        return need + 1 >= self.unspent(libraries)
 
 
 class FullBeforeTheGeneration(OnDisk):
-    def put(self, name, file):
-        if self.is_too_long(sectors_of(len(file))):
+    def put(self, name, file, libraries):
+        if self.is_too_long(sectors_of(len(file)), libraries):
             raise Refused('S7 Full')
-        return super().put(name, file)
+        return super().put(name, file, libraries)
 
 
 class GenerationBeforeTheName(OnDisk):
@@ -237,10 +498,10 @@ class GenerationNeverEnds(OnDisk):
     def has_ended(self):
         return False
 
-    def commit(self, preloads, entries):
+    def commit(self, preloads, places, catalogues):
         if self.root.generation == LAST_GENERATION:
             self.root = self.root._replace(generation=-1)
-        super().commit(preloads, entries)
+        super().commit(preloads, places, catalogues)
 
 
 class GenerationEndsEarly(OnDisk):
@@ -251,7 +512,8 @@ class GenerationEndsEarly(OnDisk):
 class TooManyAfterFull(OnDisk):
     def install_file(self, file):
         name = self.as_library(file)
-        if name not in self.names() and len(self.entries) == MOST_LIBRARIES and self.is_too_long(sectors_of(len(file))):
+        if name not in self.names() and len(self.entries) == MOST_LIBRARIES and self.is_too_long(
+                sectors_of(len(file)), MOST_LIBRARIES + 1):
             raise Refused('S7 Full')
         super().install_file(file)
 
@@ -299,13 +561,13 @@ class FormatWipes(OnDisk):
 class FormatWritesBothRoots(OnDisk):
     def format(self, sectors):
         super().format(sectors)
-        self.write(1, spelt_root(Root(1, sectors, [], [])))
+        self.write(1, spelt_root(Root(2, 1, sectors, 0, [], [])))
 
 
 class FormatLooksAtSectorZero(OnDisk):
     def format(self, sectors):
         if len(self.data) == SECTOR * sectors and self.slot(0) == 'empty' and self.slot(1) != 'empty':
-            self.write(0, spelt_root(Root(0, sectors, [], [])))
+            self.write(0, spelt_root(Root(2, 0, sectors, 0, [], [])))
         else:
             super().format(sectors)
 
@@ -314,7 +576,13 @@ class FormatsAgain(OnDisk):
     def format(self, sectors):
         if len(self.data) != SECTOR * sectors:
             raise Refused('S6 BadGeometry')
-        self.write(0, spelt_root(Root(0, sectors, [], [])))
+        self.write(0, spelt_root(Root(2, 0, sectors, 0, [], [])))
+
+
+class FormatWritesVersionOne(OnDisk):
+    def format(self, sectors):
+        super().format(sectors)
+        self.write(0, spelt_root(Root(1, 0, sectors, 0, [], [])))
 
 
 class FormattedBeforeTheLength(OnDisk):

@@ -1,4 +1,4 @@
-// The file of a case: one of the folder or spelt, with what is changed in it.
+// The file of a case: one of the folder, spelt, or made as a text says, with what is changed in it.
 
 use crate::number::parse_number;
 use anyhow::{Context, Result};
@@ -37,10 +37,40 @@ fn change<R: Files + AllocGlobal>(
 }
 
 /// A file of the folder, or the bytes that `bytes=BYTES` spells.
-fn first_bytes<R: Files + AllocGlobal>(rt: &R, name: &str) -> Result<Vec<u8>> {
+fn plain_bytes<R: Files + AllocGlobal>(rt: &R, name: &str) -> Result<Vec<u8>> {
     match name.strip_prefix("bytes=") {
         Some(digits) => Ok(hex::decode(rt.alloc(), digits)?),
         None => fs::read(rt, name).context(format_args!("the file {name}")),
+    }
+}
+
+/// Makes the changes that words say, from left to right.
+fn make_changes<R: Files + AllocGlobal>(rt: &R, bytes: &mut Vec<u8>, changes: &str) -> Result<()> {
+    for word in changes.split_whitespace() {
+        let (what, value) = word
+            .split_once('=')
+            .context(format_args!("the change {word}"))?;
+        change(rt, bytes, what, value)?;
+    }
+    Ok(())
+}
+
+/// The bytes that a text says: its first line is a file of the folder or spelt, with changes, and
+/// each other line has changes.
+fn made_bytes<R: Files + AllocGlobal>(rt: &R, name: &str) -> Result<Vec<u8>> {
+    let text = fs::read_to_string(rt, name).context(format_args!("the text {name}"))?;
+    let (first, changes) = text.split_once(' ').context("a text without changes")?;
+    let mut bytes = plain_bytes(rt, first)?;
+    make_changes(rt, &mut bytes, changes)?;
+    Ok(bytes)
+}
+
+/// The bytes of a file before its changes: those that the text NAME of `made=NAME` says, or those
+/// of a file of the folder, or spelt ones.
+fn first_bytes<R: Files + AllocGlobal>(rt: &R, name: &str) -> Result<Vec<u8>> {
+    match name.strip_prefix("made=") {
+        Some(text) => made_bytes(rt, text),
+        None => plain_bytes(rt, name),
     }
 }
 
@@ -48,11 +78,6 @@ fn first_bytes<R: Files + AllocGlobal>(rt: &R, name: &str) -> Result<Vec<u8>> {
 pub(crate) fn changed_file<R: Files + AllocGlobal>(rt: &R, words: &str) -> Result<Vec<u8>> {
     let (name, changes) = words.split_once(' ').unwrap_or((words, ""));
     let mut bytes = first_bytes(rt, name)?;
-    for word in changes.split_whitespace() {
-        let (what, value) = word
-            .split_once('=')
-            .context(format_args!("the change {word}"))?;
-        change(rt, &mut bytes, what, value)?;
-    }
+    make_changes(rt, &mut bytes, changes)?;
     Ok(bytes)
 }

@@ -12,7 +12,7 @@ use Rattle.registry.specs.declared.reply.Reply.TheVariants as reply
 use Rattle.store.specs.Opened.{Opened}
 use Rattle.file_disk.specs.FileDisk.{file_facts}
 use Rattle.file_disk.specs.declared.disk.FileDisk.{FileDisk}
-use Rattle.commands.specs.Disk.{IsOpenRefusal, IsFormatRefusal}
+use Rattle.commands.specs.Disk.{IsOpenRefusal, IsFormatRefusal, IsUpgradeRefusal}
 use Rattle.commands.specs.DiskStep.{DiskStep}
 use Rattle.commands.specs.Opened.{IsOpened}
 use Rattle.commands.specs.Refusal.{memory_text}
@@ -27,7 +27,7 @@ use Rattle.commands.specs.declared.disk.NoRegistry.{NoRegistry}
 use Rattle.commands.specs.declared.disk.NoRegistry.TheVariants as no
 use Rattle.commands.specs.declared.file.FileFault.{FileFault}
 use Rattle.commands.specs.declared.file.FileFault.TheVariants.{CannotRead, OutOfMemory}
-use Rattle.commands.specs.inside.Ends.{BindEnds, Ends, IsFormatted, IsNoRegistry, IsNotRead, IsTurnedAway, IsWritten, Replied, SaysNoMemory}
+use Rattle.commands.specs.inside.Ends.{BindEnds, Ends, IsFormatted, IsNoRegistry, IsNotRead, IsTurnedAway, IsWritten, Replied, SaysNoMemory, UpgradeEnds}
 use Rattle.commands.proofs.Ending.{reply_answers}
 
 -- a refusal that is want of memory has its line
@@ -164,6 +164,14 @@ module _ (F : Type 0) (before after : Option (List ℕ)) where
   away_formatted n why BadWords is h = absurd h
   away_formatted n why Failed is h = tt
   away_formatted n why NoMemory is h = h
+
+  -- a registry was not upgraded
+  pub away_upgraded : (why : NoRegistry) (status : Status) → IsNoRegistry IsUpgradeRefusal why → IsTurnedAway (λ r. why ≡ no.Refused r) before after status → UpgradeEnds F before after status
+  away_upgraded why Done is h = absurd h
+  away_upgraded why Refused is h = (h.0, subst (IsNoRegistry IsUpgradeRefusal) h.1 is, h.2, h.3)
+  away_upgraded why BadWords is h = absurd h
+  away_upgraded why Failed is h = tt
+  away_upgraded why NoMemory is h = h
 
   -- a bind whose base was read
   pub bind_ends : (at : ℕ) (asked : Option ℕ) (IsAsked : Request → Type 0) (status : Status) → asked ≡ Some at → Replied F IsAsked before after status → BindEnds F asked IsAsked before after status

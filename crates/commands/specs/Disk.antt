@@ -1,8 +1,8 @@
--- The refusals of a disk that isn't opened as a registry, or isn't made one, and their text (own).
+-- The refusals of a disk that isn't opened as a registry, or isn't made or upgraded to one, and their text (own).
 use Rattle.std.specs.Prelude.{ℕ, List, ◌++◌, codes}
-use Rattle.store.specs.Opening.{IsRefusalOfOpen, IsRefusalOfFormat}
+use Rattle.store.specs.Opening.{IsRefusalOfOpen, IsRefusalOfFormat, IsRefusalOfUpgrade}
 use Rattle.store.specs.declared.refusal.StoreRefusal.{StoreRefusal}
-use Rattle.store.specs.declared.refusal.StoreRefusal.TheVariants.{Device, Reopen, NotFormatted, AlreadyFormatted, Damaged, BadGeometry, Full, Fragmented, TooMany, GenerationEnd, OutOfMemory}
+use Rattle.store.specs.declared.refusal.StoreRefusal.TheVariants.{Device, Reopen, NotFormatted, AlreadyFormatted, Damaged, BadGeometry, Full, Fragmented, TooMany, GenerationEnd, OutOfMemory, OldFormat}
 
 -- the number of a refusal and its name
 abbrev pub disk_refusal_name : StoreRefusal → List ℕ
@@ -17,6 +17,7 @@ disk_refusal_name Fragmented = codes "S8 Fragmented"
 disk_refusal_name TooMany = codes "S9 TooMany"
 disk_refusal_name GenerationEnd = codes "S10 GenerationEnd"
 disk_refusal_name OutOfMemory = codes "S11 OutOfMemory"
+disk_refusal_name OldFormat = codes "S12 OldFormat"
 
 -- the line of the refusal
 abbrev pub disk_refusal_text : StoreRefusal → List ℕ
@@ -29,3 +30,7 @@ IsOpenRefusal refusal = (sectors : ℕ) × IsRefusalOfOpen sectors refusal
 -- what making one may refuse with: on a disk of some number of sectors
 abbrev pub IsFormatRefusal : StoreRefusal → Type 0
 IsFormatRefusal refusal = (sectors : ℕ) × IsRefusalOfFormat sectors refusal
+
+-- what upgrading one may refuse with: on a disk of some number of sectors
+abbrev pub IsUpgradeRefusal : StoreRefusal → Type 0
+IsUpgradeRefusal refusal = (sectors : ℕ) × IsRefusalOfUpgrade sectors refusal

@@ -1,7 +1,8 @@
--- A registry on a disk over a file, as it is once it was opened or made (own).
+-- A registry on a disk over a file, as it is once it was opened, made or upgraded (own).
 use Rattle.std.specs.Prelude.{◌≡◌, ◌+◌, ℕ, IsFalse, length, sum_by}
-use Rattle.sector_disk.specs.Disk.{AreCallsExactly}
+use Rattle.sector_disk.specs.Disk.{AreCalls, AreCallsExactly}
 use Rattle.store.specs.Opened.{Opened}
+use Rattle.store.specs.Stands.{catalogues_of}
 use Rattle.states.specs.Geometry.{IsGeometry}
 use Rattle.file_disk.specs.FileDisk.{file_facts, IsNew}
 use Rattle.file_disk.specs.declared.disk.FileDisk.{FileDisk}
@@ -12,7 +13,7 @@ pub record IsOpened {F : Type 0} (disk : FileDisk F) (registry : Opened (FileDis
   pub new : IsNew disk
   pub geometry : IsGeometry (file_facts disk).sectors
   pub usable : IsFalse registry.failed
-  pub calls : AreCallsExactly (3 + length registry.entries + sum_by file_sectors registry.entries) (file_facts disk) (file_facts registry.disk)
+  pub calls : AreCallsExactly (3 + length (catalogues_of registry.root) + length registry.entries + sum_by file_sectors registry.entries) (file_facts disk) (file_facts registry.disk)
 
 -- it was made: on a new disk of so many sectors, without failure, by exactly the calls of making
 pub record IsMade {F : Type 0} (n : ℕ) (disk : FileDisk F) (registry : Opened (FileDisk F)) : Type 0 where
@@ -20,3 +21,10 @@ pub record IsMade {F : Type 0} (n : ℕ) (disk : FileDisk F) (registry : Opened 
   pub sectors : (file_facts disk).sectors ≡ n
   pub usable : IsFalse registry.failed
   pub calls : AreCallsExactly 5 (file_facts disk) (file_facts registry.disk)
+
+-- it was opened or upgraded: on a new disk of a good size, without failure, by calls of that disk
+pub record IsUpgraded {F : Type 0} (disk : FileDisk F) (registry : Opened (FileDisk F)) : Type 0 where
+  pub new : IsNew disk
+  pub geometry : IsGeometry (file_facts disk).sectors
+  pub usable : IsFalse registry.failed
+  pub calls : AreCalls (file_facts disk) (file_facts registry.disk)

@@ -9,16 +9,16 @@ use Rattle.store.specs.declared.refusal.StoreRefusal.{StoreRefusal}
 use Rattle.file_disk.specs.FileDisk.{file_facts}
 use Rattle.file_disk.specs.declared.disk.FileDisk.{FileDisk}
 use Rattle.commands.specs.Base.{base_of}
-use Rattle.commands.specs.Disk.{disk_refusal_text, IsOpenRefusal, IsFormatRefusal}
+use Rattle.commands.specs.Disk.{disk_refusal_text, IsOpenRefusal, IsFormatRefusal, IsUpgradeRefusal}
 use Rattle.commands.specs.DiskStep.{DiskStep}
 use Rattle.commands.specs.File.{read_limit}
-use Rattle.commands.specs.Opened.{IsOpened, IsMade}
+use Rattle.commands.specs.Opened.{IsOpened, IsMade, IsUpgraded}
 use Rattle.commands.specs.Printed.{PrintsImage, PrintsRefusal}
 use Rattle.commands.specs.Refusal.{memory_text}
 use Rattle.commands.specs.Reply.{reply_text}
 use Rattle.commands.specs.Script.{Streams, Finishes, Stops}
 use Rattle.commands.specs.Status.{greatest, reply_status, disk_status, fault_status, lines_status}
-use Rattle.commands.specs.Words.{CommandLine, image, format, install, replace, remove, preload, list, bind, script}
+use Rattle.commands.specs.Words.{CommandLine, image, format, upgrade, install, replace, remove, preload, list, bind, script}
 use Rattle.commands.specs.declared.fault.ScriptFault.{ScriptFault}
 use Rattle.commands.specs.declared.status.Status.{Status}
 use Rattle.commands.specs.declared.status.Status.TheVariants.{Done, Refused, NoMemory}
@@ -66,6 +66,13 @@ pub record Makes (F : Type 0) (sectors : ℕ) (before after : Option (List ℕ))
   pub made : IsMade sectors disk new
   pub written : Appends before after (codes "ok\n")
 
+-- A registry was opened or upgraded on a disk over a file, and exactly `ok` was appended.
+pub record Upgrades (F : Type 0) (before after : Option (List ℕ)) : Type 0 where
+  pub disk : FileDisk F
+  pub new : Opened (FileDisk F)
+  pub upgraded : IsUpgraded disk new
+  pub written : Appends before after (codes "ok\n")
+
 -- exactly the line was appended that tells why a disk isn't made a registry, or isn't opened as one
 abbrev pub TurnsAway : (StoreRefusal → Type 0) → Status → Option (List ℕ) → Option (List ℕ) → Type 0
 TurnsAway MayRefuse status before after = (refusal : StoreRefusal) × MayRefuse refusal × (disk_status refusal ≡ status) × Appends before after (disk_refusal_text refusal)
@@ -103,6 +110,7 @@ pub record RunsInPart (F : Type 0) (io : Streams) (status : Status) : Type 0 whe
 abbrev pub IsDone : (F : Type 0) → Option CommandLine → Streams → Type 0
 IsDone F (Some (image program base)) io = (b : ℕ) × (base_of base ≡ Some b) × PrintsImage b io.before io.after
 IsDone F (Some (format disk sectors)) io = Makes F sectors io.before io.after
+IsDone F (Some (upgrade disk)) io = Upgrades F io.before io.after
 IsDone F (Some (script disk)) io = Runs F io Done
 IsDone F (Some line) io = Replies F (Asks line) Done io.before io.after
 IsDone F None io = ⊥
@@ -111,6 +119,7 @@ IsDone F None io = ⊥
 abbrev pub IsRefused : (F : Type 0) → Option CommandLine → Streams → Type 0
 IsRefused F (Some (image program base)) io = (b : ℕ) × (base_of base ≡ Some b) × PrintsRefusal b io.before io.after
 IsRefused F (Some (format disk sectors)) io = TurnsAway IsFormatRefusal Refused io.before io.after
+IsRefused F (Some (upgrade disk)) io = TurnsAway IsUpgradeRefusal Refused io.before io.after
 IsRefused F (Some (script disk)) io = Runs F io Refused ⊎ TurnsAway IsOpenRefusal Refused io.before io.after
 IsRefused F (Some line) io = Replies F (Asks line) Refused io.before io.after ⊎ TurnsAway IsOpenRefusal Refused io.before io.after
 IsRefused F None io = ⊥

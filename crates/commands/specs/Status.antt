@@ -47,7 +47,7 @@ abbrev pub reply_status : Reply → Status
 reply_status (reply.Refused refusal) = refusal_status refusal
 reply_status other = Done
 
--- what a disk that isn't made a registry, or isn't opened as one, ends with
+-- what a disk that isn't made or upgraded to a registry, or isn't opened as one, ends with
 abbrev pub disk_status : StoreRefusal → Status
 disk_status store.Device = Failed
 disk_status store.Reopen = Failed

@@ -9,6 +9,7 @@ use Rattle.commands.specs.declared.action.Action.TheVariants as action
 pub data CommandLine : Type 0 where
   image : List ℕ → List ℕ → CommandLine
   format : List ℕ → ℕ → CommandLine
+  upgrade : List ℕ → CommandLine
   install : List ℕ → List ℕ → CommandLine
   replace : List ℕ → List ℕ → CommandLine
   remove : List ℕ → List ℕ → CommandLine
@@ -47,6 +48,7 @@ abbrev pub command_line : List (List ℕ) → Option CommandLine
 command_line (name ∷ words) =
     if bytes_eq name (codes "image") then of_two image words
     else if bytes_eq name (codes "format") then format_behind words
+    else if bytes_eq name (codes "upgrade") then of_one upgrade words
     else if bytes_eq name (codes "install") then of_two install words
     else if bytes_eq name (codes "replace") then of_two replace words
     else if bytes_eq name (codes "remove") then of_two remove words
@@ -61,6 +63,7 @@ command_line [] = None
 abbrev pub line_of : Action → CommandLine
 line_of (action.Image program base) = image program.now base.now
 line_of (action.Format disk sectors) = format disk.now sectors
+line_of (action.Upgrade disk) = upgrade disk.now
 line_of (action.Install disk file) = install disk.now file.now
 line_of (action.Replace disk file) = replace disk.now file.now
 line_of (action.Remove disk name) = remove disk.now name.now

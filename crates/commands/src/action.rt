@@ -25,6 +25,11 @@ pub enum Action<'a> {
         /// How many sectors the disk has: from 8 to 4,194,304.
         sectors: u32,
     },
+    /// Makes the registry of a disk of version 1 one of version 2.
+    Upgrade {
+        /// The path of the disk.
+        disk: &'a str,
+    },
     /// Installs a library.
     Install {
         /// The path of the disk.
@@ -82,6 +87,7 @@ impl<'a> Action<'a> {
         match *self {
             Action::Image { .. } => None,
             Action::Format { disk, .. }
+            | Action::Upgrade { disk }
             | Action::Install { disk, .. }
             | Action::Replace { disk, .. }
             | Action::Remove { disk, .. }
@@ -104,6 +110,7 @@ fn read_form<'a>(name: &str, words: &'a [String]) -> Option<Action<'a>>
             let sectors = parse_sectors(sectors)?;
             Some(Action::Format { disk, sectors })
         }
+        ("upgrade", [disk]) => Some(Action::Upgrade { disk }),
         ("install", [disk, file]) => Some(Action::Install { disk, file }),
         ("replace", [disk, file]) => Some(Action::Replace { disk, file }),
         ("remove", [disk, name]) => Some(Action::Remove { disk, name }),

@@ -81,7 +81,8 @@ pub(crate) fn put_answer<W: Write>(
     out: &mut W,
     answer: &Answer,
 ) -> Result<(), ScriptFault>
-    ensures ok { OnOk result (Sends (W.contents out.old) waiting.old (W.contents out.new) waiting.new
+    ensures ok { OnOk result (Sends
+        (W.contents out.old) waiting.old (W.contents out.new) waiting.new
         (answer_text answer.now)) }
     ensures err { IfErr result (λ fault. fault ≡ ScriptFault.Write) }
 {

@@ -1,7 +1,7 @@
 // A command line.
 
-ghost use Rattle.std.specs.Prelude.{◌≡◌, ◌≢◌, ◌≤◌, ◌==◌, ◌⊎◌, Some, None, true, false, map, string_bytes};
-ghost use Rattle.std.specs.Prelude.{MatchResult, vec_len, ◌<◌, IfOk};
+ghost use Rattle.std.specs.Prelude.{◌≡◌, ◌≢◌, ◌≤◌, ◌<◌, ◌==◌, ◌⊎◌, true, false};
+ghost use Rattle.std.specs.Prelude.{Some, None, MatchResult, IfOk, map, string_bytes, vec_len};
 ghost use Rattle.commands.specs.Base.{base_of};
 ghost use Rattle.commands.specs.File.{read_limit};
 ghost use Rattle.commands.specs.Outcome.{are_bad, reads_input, IsDone, IsRefused, LacksMemory};
@@ -13,7 +13,7 @@ use crate::action::{Action, read_words};
 use crate::base::parse_base;
 use crate::file::{FileFault, read_file};
 use crate::message::{bad_base, bad_command_line, cannot_read};
-use crate::on_disk::{ask, bind, format, install, preload, replace};
+use crate::on_disk::{ask, bind, format, install, preload, replace, upgrade};
 use crate::script_on_disk::script;
 use crate::show::run_image;
 use crate::status::{Status, status_of};
@@ -87,6 +87,7 @@ fn run_action<R: Files, I: Read, O: Write, E: Write>(
     match *action {
         Action::Image { program, base } => image(rt, alloc, program, base, output, errors),
         Action::Format { disk, sectors } => format(rt, alloc, disk, sectors, output, errors),
+        Action::Upgrade { disk } => upgrade(rt, alloc, disk, output, errors),
         Action::Install { disk, file } => install(rt, alloc, disk, file, output, errors),
         Action::Replace { disk, file } => replace(rt, alloc, disk, file, output, errors),
         Action::Remove { disk, name } => {

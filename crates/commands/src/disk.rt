@@ -1,4 +1,4 @@
-// The disk of a command: opened or made over a file, or why not.
+// The disk of a command: opened, made or upgraded over a file, or why not.
 
 ghost use Rattle.std.specs.Prelude.{◌≡◌, ◌++◌, codes, true, false, OnOk, OnErr, IfOk, IfErr};
 ghost use Rattle.std.specs.Io.KnownBytes.{Appends};
@@ -7,8 +7,8 @@ ghost use Rattle.store.specs.Opened.{Opened};
 ghost use Rattle.file_disk.specs.FileDisk.{IsNew};
 ghost use Rattle.file_disk.specs.declared.disk.FileDisk.{FileDisk};
 ghost use Rattle.commands.specs.Disk.{disk_refusal_name, disk_refusal_text};
-ghost use Rattle.commands.specs.Disk.{IsOpenRefusal, IsFormatRefusal};
-ghost use Rattle.commands.specs.Opened.{IsOpened, IsMade};
+ghost use Rattle.commands.specs.Disk.{IsOpenRefusal, IsFormatRefusal, IsUpgradeRefusal};
+ghost use Rattle.commands.specs.Opened.{IsOpened, IsMade, IsUpgraded};
 ghost use Rattle.commands.specs.inside.Ends.{IsNoRegistry, IsTurnedAway, is_told};
 
 use crate::access::Access;
@@ -37,6 +37,7 @@ pub(crate) enum NoRegistry {
 fn no_disk(fault: OpenFault) -> NoRegistry
     ensures open { IsNoRegistry IsOpenRefusal result }
     ensures format { IsNoRegistry IsFormatRefusal result }
+    ensures upgrade { IsNoRegistry IsUpgradeRefusal result }
 {
     match fault {
         OpenFault::CannotOpen => NoRegistry::CannotOpen,
@@ -105,6 +106,30 @@ pub(crate) fn make_registry<R: Files>(
     }
 }
 
+/// Makes the registry on the disk that a file is one of version 2; where it is one already, it is
+/// opened, and nothing is written.
+pub(crate) fn upgrade_registry<R: Files>(
+    rt: &R,
+    alloc: Global,
+    path: &str,
+) -> Result<(), NoRegistry>
+    ensures ok { OnOk result ((disk : FileDisk R.File) × (registry : Opened (FileDisk R.File))
+        × IsUpgraded disk registry) }
+    ensures refused { IfErr result (IsNoRegistry IsUpgradeRefusal) }
+{
+    let disk = match open_disk(rt, alloc, path, Access::Writing) {
+        Ok(disk) => disk,
+        Err(fault) => return Err(no_disk(fault)),
+    };
+    match Registry::upgrade(alloc, disk) {
+        Ok(registry) => {
+            drop(registry.into_disk());
+            Ok(())
+        }
+        Err((refusal, _)) => Err(NoRegistry::Refused(refusal)),
+    }
+}
+
 /// The number of a refusal and its name.
 fn disk_refusal_name(refusal: StoreRefusal) -> &'static [u8]
     ensures { result.now ≡ disk_refusal_name refusal }
@@ -121,6 +146,7 @@ fn disk_refusal_name(refusal: StoreRefusal) -> &'static [u8]
         StoreRefusal::TooMany => b"S9 TooMany",
         StoreRefusal::GenerationEnd => b"S10 GenerationEnd",
         StoreRefusal::OutOfMemory => b"S11 OutOfMemory",
+        StoreRefusal::OldFormat => b"S12 OldFormat",
     }
 }
 

@@ -6,12 +6,13 @@ ghost use Rattle.registry.specs.declared.reply.Reply.{Reply};
 ghost use Rattle.commands.specs.Base.{base_of};
 ghost use Rattle.commands.specs.Outcome.{Asks};
 ghost use Rattle.commands.specs.Words as words;
-ghost use Rattle.commands.specs.inside.Ends.{BindEnds, IsFormatted, IsWritten, Replied, is_told};
+ghost use Rattle.commands.specs.inside.Ends.{BindEnds, IsFormatted, IsWritten, Replied};
+ghost use Rattle.commands.specs.inside.Ends.{UpgradeEnds, is_told};
 
 use crate::access::access_of;
 use crate::applies::Applies;
 use crate::base::parse_base;
-use crate::disk::{make_registry, open_registry, turn_away};
+use crate::disk::{make_registry, open_registry, turn_away, upgrade_registry};
 use crate::file::read_file;
 use crate::message::bad_base;
 use crate::reply::write_reply;
@@ -86,6 +87,27 @@ pub(crate) fn format<R: Files, O: Write, E: Write>(
     }
 }
 
+/// `upgrade DISK`.
+#[tactic(auto, using(crate::proofs::Asking::away_upgraded))]
+pub(crate) fn upgrade<R: Files, O: Write, E: Write>(
+    rt: &R,
+    alloc: Global,
+    disk: &str,
+    output: &mut O,
+    errors: &mut E,
+) -> Status
+    ensures ends { UpgradeEnds R.File (O.contents output.old) (O.contents output.new) result }
+    ensures silent { is_told result ≡ false → E.contents errors.new ≡ E.contents errors.old }
+{
+    match upgrade_registry(rt, alloc, disk) {
+        Ok(()) => match write_reply(output, &Reply::Done) {
+            Ok(()) => Status::Done,
+            Err(_) => Status::Failed,
+        },
+        Err(why) => turn_away(why, disk, output, errors),
+    }
+}
+
 /// `install DISK FILE`. The file is read before the disk is opened.
 #[tactic(auto, using(crate::proofs::Asking::unread_replied))]
 pub(crate) fn install<R: Files, O: Write, E: Write>(
@@ -144,7 +166,8 @@ pub(crate) fn preload<R: Files, O: Write, E: Write>(
     output: &mut O,
     errors: &mut E,
 ) -> Status
-    ensures ends { Replied R.File (Asks (words.preload disk.now (map (λ name. string_bytes name) names.now)))
+    ensures ends { Replied R.File
+        (Asks (words.preload disk.now (map (λ name. string_bytes name) names.now)))
         (O.contents output.old) (O.contents output.new) result }
     ensures silent { is_told result ≡ false → E.contents errors.new ≡ E.contents errors.old }
 {

@@ -36,7 +36,8 @@ fn answer_later<W: Write, G: Applies>(
     ensures ok { IfOk result (λ refused. (line : List ℕ)
         → option_map request_asked asked.now ≡ meaning line → (answer : Answer)
         × LineStep G.step registry.old line answer registry.new
-        × Sends (W.contents writer.old) waiting.old (W.contents writer.new) waiting.new (answer_text answer)
+        × Sends (W.contents writer.old) waiting.old (W.contents writer.new) waiting.new
+        (answer_text answer)
         × (refused ≡ is_refused answer)) }
     ensures err { IfErr result (λ fault. (fault ≡ ScriptFault.Write) × ((line : List ℕ)
         → option_map request_asked asked.now ≡ meaning line
@@ -81,7 +82,8 @@ fn answer_whole<W: Write, G: Applies>(
 ) -> Result<bool, ScriptFault>
     ensures ok { IfOk result (λ refused. (answer : Answer)
         × LineStep G.step registry.old line.now answer registry.new
-        × Sends (W.contents writer.old) waiting.old (W.contents writer.new) waiting.new (answer_text answer)
+        × Sends (W.contents writer.old) waiting.old (W.contents writer.new) waiting.new
+        (answer_text answer)
         × (refused ≡ is_refused answer)) }
     ensures sent { IfOk result (λ _. (waiting.new.waiting ≡ []) ⊎ AsksNoChange line.now) }
     ensures err { IfErr result (Misses G.step W.contents registry.old registry.new
@@ -135,7 +137,8 @@ fn next_line<R: Read, W: Write>(
         (append_known (W.contents writer.old) waiting.old.waiting)
         (append_known (W.contents writer.new) waiting.new.waiting) line.new.items) }
     // Where the reader was asked nothing waits.
-    ensures asked { IfOk result (λ _. HasLine (reader_buffer pages.old) ⊎ (waiting.new.waiting ≡ [])) }
+    ensures asked { IfOk result
+        (λ _. HasLine (reader_buffer pages.old) ⊎ (waiting.new.waiting ≡ [])) }
 {
     if pages.buffer().contains(&b'\n') {
         return ask_line(pages, line, waiting);
@@ -153,7 +156,8 @@ fn run_lines<R: Read, W: Write, G: Applies>(
     registry: &mut G,
 ) -> Result<Summary, ScriptFault>
     requires { waiting.old.waiting ≡ [] }
-    ensures ok { IfOk result (λ summary. (held : W) × (whole : List (List ℕ)) × (cut : List ℕ) × (answers : List Answer)
+    ensures ok { IfOk result (λ summary. (held : W)
+        × (whole : List (List ℕ)) × (cut : List ℕ) × (answers : List Answer)
         × Ends G.step (record {
           unread = reader_remaining (λ r. R.remaining r.now) pages.old;
           before = W.contents writer.old;
@@ -161,7 +165,8 @@ fn run_lines<R: Read, W: Write, G: Applies>(
         })
         registry.old registry.new summary whole cut answers
         × Told (W.contents writer.old) (W.contents held) whole answers) }
-    ensures err { IfErr result (λ fault. (held : W) × (whole : List (List ℕ)) × (part : List ℕ) × (answers : List Answer)
+    ensures err { IfErr result (λ fault. (held : W)
+        × (whole : List (List ℕ)) × (part : List ℕ) × (answers : List Answer)
         × Breaks G.step (record {
           unread = reader_remaining (λ r. R.remaining r.now) pages.old;
           before = W.contents writer.old;

@@ -78,7 +78,7 @@ pub(crate) fn reply_status(reply: &Reply) -> Status
     }
 }
 
-/// What a disk that isn't made a registry, or isn't opened as one, ends with.
+/// What a disk that isn't made or upgraded to a registry, or isn't opened as one, ends with.
 pub(crate) fn disk_status(refusal: StoreRefusal) -> Status
     ensures { result ≡ disk_status refusal }
 {

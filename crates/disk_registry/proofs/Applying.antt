@@ -71,6 +71,7 @@ exact_answer (Some e.BadGeometry) (Err refusal) is = is
 exact_answer (Some e.TooMany) (Err refusal) is = is
 exact_answer (Some e.GenerationEnd) (Err refusal) is = is
 exact_answer (Some e.OutOfMemory) (Err refusal) is = is
+exact_answer (Some e.OldFormat) (Err refusal) is = is
 
 -- what is done was refused by no test
 pub none_first : (first : Option StoreRefusal) (done : Unit {0}) → IsAnswer first (Ok done) → first ≡ None
@@ -91,6 +92,7 @@ is_first (Some e.Damaged) refusal is other ample = ap Some (sym is)
 is_first (Some e.BadGeometry) refusal is other ample = ap Some (sym is)
 is_first (Some e.TooMany) refusal is other ample = ap Some (sym is)
 is_first (Some e.GenerationEnd) refusal is other ample = ap Some (sym is)
+is_first (Some e.OldFormat) refusal is other ample = ap Some (sym is)
 
 -- a failing device was met behind all tests
 pub none_before : (first : Option StoreRefusal) → IsAnswer first (Err e.Device) → first ≢ Some e.Device → first ≡ None
@@ -106,6 +108,7 @@ none_before (Some e.Damaged) is tests = absurd cc
 none_before (Some e.BadGeometry) is tests = absurd cc
 none_before (Some e.TooMany) is tests = absurd cc
 none_before (Some e.GenerationEnd) is tests = absurd cc
+none_before (Some e.OldFormat) is tests = absurd cc
 
 module _ {D : Type 0} (facts : D → DiskFacts) (old : Opened D) (s : State) (at : IsAt facts old s) (q : Request) where
   abbrev before : Phase
@@ -185,6 +188,7 @@ module _ {D : Type 0} (facts : D → DiskFacts) (old : Opened D) (s : State) (at
     change_refused e.AlreadyFormatted answer tests usable may device same memory = absurd may
     change_refused e.Damaged answer tests usable may device same memory = absurd may
     change_refused e.BadGeometry answer tests usable may device same memory = absurd may
+    change_refused e.OldFormat answer tests usable may device same memory = absurd may
 
 -- a command and its answer by other words
 pub applies_as : {D : Type 0} (facts : D → DiskFacts) (old new : Opened D) (s : State) {q q' : Request} {r r' : Reply} → q' ≡ q → r' ≡ r → Applies facts old new s q r → Applies facts old new s q' r'

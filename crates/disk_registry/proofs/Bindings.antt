@@ -95,6 +95,7 @@ module _ {D : Type 0} (facts : D → DiskFacts) (old new : Opened D) (s : State)
   unread taken reading.Fragmented is intact = absurd is
   unread taken reading.TooMany is intact = absurd is
   unread taken reading.GenerationEnd is intact = absurd is
+  unread taken reading.OldFormat is intact = absurd is
 
   -- what a step that only reads does to a registry
   pub applied : (answer : Reply) → Step (phase_of facts old s) (bind program base) answer (phase_of facts new s) → Applied facts old new s s (bind program base) answer

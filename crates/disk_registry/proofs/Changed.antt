@@ -15,3 +15,4 @@ change_may e.NotFormatted may = absurd may
 change_may e.AlreadyFormatted may = absurd may
 change_may e.Damaged may = absurd may
 change_may e.BadGeometry may = absurd may
+change_may e.OldFormat may = absurd may

@@ -8,18 +8,19 @@ use Rattle.sector_disk.proofs.Moments.{goes_on, weaken, left_now, at_rest, no_ca
 use Rattle.store.specs.declared.placed_entry.PlacedEntry.{PlacedEntry}
 use Rattle.states.specs.State.{Library, State}
 use Rattle.store.specs.Stands.{no_library}
-use Rattle.store.specs.Opened.{Opened, IsAt}
+use Rattle.roots.specs.declared.version.Version.{Version}
+use Rattle.store.specs.Opened.{Opened, IsAtBy}
 use Rattle.store.specs.declared.refusal.StoreRefusal.{StoreRefusal}
 use Rattle.store.specs.declared.refusal.StoreRefusal.TheVariants as refusal
 use Rattle.store.proofs.UsedAlone.{no_entry}
 use Rattle.registry.specs.Library.{IsLibrary}
 use Rattle.disk_registry.specs.Stands.{file_sectors}
-use Rattle.disk_registry.specs.inside.Reading.{IsRead, IsReadRefusal}
+use Rattle.disk_registry.specs.inside.Reading.{IsReadBy, IsReadRefusal}
 
 -- The files before this position were read, each once, and are libraries.
-pub record AdmittedSoFar {D : Type 0} (facts : D → DiskFacts) (start now : Opened D) (position : ℕ) : Type 0 where
-  pub read : IsRead facts start now
-  pub each : (s : State) → IsAt facts start s → (k : ℕ) → k < position → IsLibrary (get_or s.libraries k no_library)
+pub record AdmittedSoFar (version : Version) {D : Type 0} (facts : D → DiskFacts) (start now : Opened D) (position : ℕ) : Type 0 where
+  pub read : IsReadBy version facts start now
+  pub each : (s : State) → IsAtBy version facts start s → (k : ℕ) → k < position → IsLibrary (get_or s.libraries k no_library)
   pub calls : AreCallsExactly (sum_by file_sectors (take position start.entries)) (facts start.disk) (facts now.disk)
 
 -- one that isn't a library
@@ -33,11 +34,12 @@ same_library P name bytes l named is p =
     let same : ◌≡◌ {A = Library} (record { name = name; bytes = bytes }) l = λ i. record { name = named i; bytes = is i } in
     subst P same p
 
-module _ {D : Type 0} {facts : D → DiskFacts} where
-  pub read_none : (start : Opened D) → IsRead facts start start
+module _ {version : Version} {D : Type 0} {facts : D → DiskFacts} where
+  pub read_none : (start : Opened D) → IsReadBy version facts start start
   read_none start = record {
     leaves = λ honest. at_rest (facts start.disk) (Mixture (facts start.disk)) (λ m mixture. mixture);
     same = λ s at. at;
+    now = λ honest. refl;
     root = refl;
     entries = refl;
     failed = refl;
@@ -45,13 +47,14 @@ module _ {D : Type 0} {facts : D → DiskFacts} where
   }
 
   -- and then more
-  pub read_more : {start mid new : Opened D} → IsRead facts start mid → IsRead facts mid new → IsRead facts start new
+  pub read_more : {start mid new : Opened D} → IsReadBy version facts start mid → IsReadBy version facts mid new → IsReadBy version facts start new
   read_more {start = start} {mid = mid} first second = record {
     leaves = λ is.
         let so_far = first.leaves is in
         goes_on (Mixture (facts start.disk)) so_far
         (weaken (Mixture (facts mid.disk)) (Mixture (facts start.disk)) (left_now (Mixture (facts start.disk)) so_far) (second.leaves (subst IsTrue (sym first.calls.honest) is)));
     same = λ s at. second.same s (first.same s at);
+    now = λ is. second.now (subst IsTrue (sym first.calls.honest) is) ∙ first.now is;
     root = second.root ∙ first.root;
     entries = second.entries ∙ first.entries;
     failed = second.failed ∙ first.failed;
@@ -59,7 +62,7 @@ module _ {D : Type 0} {facts : D → DiskFacts} where
   }
 
   -- what refuses more refuses the whole
-  pub refused_more : {start mid : Opened D} (new : Opened D) (e : StoreRefusal) → IsRead facts start mid → IsReadRefusal facts mid new e → IsReadRefusal facts start new e
+  pub refused_more : {start mid : Opened D} (new : Opened D) (e : StoreRefusal) → IsReadBy version facts start mid → IsReadRefusal facts mid new e → IsReadRefusal facts start new e
   refused_more new refusal.Device first is = omega (arith, is, first.calls.failures)
   refused_more new refusal.Reopen first is = subst IsTrue first.failed is
   refused_more new refusal.Damaged first is = tt
@@ -71,8 +74,9 @@ module _ {D : Type 0} {facts : D → DiskFacts} where
   refused_more new refusal.Fragmented first is = is
   refused_more new refusal.TooMany first is = is
   refused_more new refusal.GenerationEnd first is = is
+  refused_more new refusal.OldFormat first is = is
 
-  pub none_admitted : (start : Opened D) → AdmittedSoFar facts start start 0
+  pub none_admitted : (start : Opened D) → AdmittedSoFar version facts start start 0
   none_admitted start = record {
     read = read_none start;
     each = λ s at k lt. absurd (omega (arith, lt));
@@ -80,10 +84,10 @@ module _ {D : Type 0} {facts : D → DiskFacts} where
   }
 
   -- one file more
-  pub one_admitted : {start mid new : Opened D} {position : ℕ} → position < length start.entries → AdmittedSoFar facts start mid position → IsRead facts mid new
-      → ((s : State) → IsAt facts mid s → IsLibrary (get_or s.libraries position no_library))
+  pub one_admitted : {start mid new : Opened D} {position : ℕ} → position < length start.entries → AdmittedSoFar version facts start mid position → IsReadBy version facts mid new
+      → ((s : State) → IsAtBy version facts mid s → IsLibrary (get_or s.libraries position no_library))
       → ((d : PlacedEntry) → AreCallsExactly (file_sectors (get_or mid.entries position d)) (facts mid.disk) (facts new.disk))
-      → AdmittedSoFar facts start new (position + 1)
+      → AdmittedSoFar version facts start new (position + 1)
   one_admitted {start = start} {mid = mid} {position = position} lt so_far read library calls = record {
     read = read_more so_far.read read;
     each = λ s at k within. ⊎_elim
@@ -96,11 +100,11 @@ module _ {D : Type 0} {facts : D → DiskFacts} where
   }
 
   -- all of them
-  pub all_admitted : {start now : Opened D} {position : ℕ} → AdmittedSoFar facts start now position → (s : State) → IsAt facts start s → length s.libraries ≤ position → All IsLibrary s.libraries
+  pub all_admitted : {start now : Opened D} {position : ℕ} → AdmittedSoFar version facts start now position → (s : State) → IsAtBy version facts start s → length s.libraries ≤ position → All IsLibrary s.libraries
   all_admitted so_far s at le k d lt =
       subst IsLibrary (get_or_default s.libraries k no_library d lt) (so_far.each s at k (omega (arith, lt, le)))
 
   -- a reading behind calls that keep what a stop may leave
-  pub leaves_after : {start : DiskFacts} {old new : Opened D} → IsTrue start.honest → (facts old.disk).honest ≡ start.honest → LeavesOnly start (facts old.disk) (Mixture start) → IsRead facts old new → LeavesOnly start (facts new.disk) (Mixture start)
+  pub leaves_after : {start : DiskFacts} {old new : Opened D} → IsTrue start.honest → (facts old.disk).honest ≡ start.honest → LeavesOnly start (facts old.disk) (Mixture start) → IsReadBy version facts old new → LeavesOnly start (facts new.disk) (Mixture start)
   leaves_after {start = start} {old = old} honest same so_far read =
       goes_on (Mixture start) so_far (weaken (Mixture (facts old.disk)) (Mixture start) (left_now (Mixture start) so_far) (read.leaves (subst IsTrue (sym same) honest)))

@@ -18,7 +18,7 @@ use Rattle.hash_check.specs.FileRefusal.{first_file_refusal, file_tests}
 use Rattle.hash_check.specs.Soname.{has_bad_soname, is_library_name, is_name_byte}
 use Rattle.hash_check.specs.declared.file_refusal.FileRefusal.TheVariants.{Object}
 use Rattle.roots.specs.Entry.{IsNameByte}
-use Rattle.store.specs.Step.{IsName, IsFileSize}
+use Rattle.store.specs.Names.{IsName, IsFileSize}
 use Rattle.registry.specs.Library.{IsLibrary, library_tests, library_refusal}
 use Rattle.states.specs.State.{Library}
 use Rattle.registry.proofs.Sonames.{file_taken, short_file}

@@ -18,3 +18,4 @@ pub mod StateNames
 pub mod NamedPlaces
 pub mod FilesRead
 pub mod Bindings
+pub mod Upgrades

@@ -1,5 +1,5 @@
 -- A library that is put: the tests behind those of its file and its name, in the words of the store.
-use Rattle.std.proofs.Common.{◌≡◌, ◌≢◌, ◌-◌, ◌==◌, nat_lt, ℕ, Bool, true, false, List, [], ◌∷◌, length, Option, Some, None, refl, arith}
+use Rattle.std.proofs.Common.{◌≡◌, ◌≢◌, ◌+◌, ◌-◌, ◌==◌, nat_lt, ℕ, Bool, true, false, List, [], ◌∷◌, length, Option, Some, None, refl, ap, ◌∙◌, arith}
 use Rattle.std.specs.Prelude.{All, nat_le, not, if◌then◌else◌}
 use Rattle.std.specs.Option.{option_map}
 use Rattle.std.proofs.lemmas.Bool.Decides.{nat_tests}
@@ -12,7 +12,7 @@ use Rattle.store.specs.declared.refusal.StoreRefusal.TheVariants as store_refusa
 use Rattle.registry.specs.Library.{IsLibrary, library_refusal, name_of}
 use Rattle.states.specs.Limits.{most_libraries, last_generation}
 use Rattle.states.specs.State.{State}
-use Rattle.states.specs.Cost.{cost, free}
+use Rattle.states.specs.Cost.{cost, free, catalogue_cost}
 use Rattle.registry.specs.Tests.{is_installed, has_most, is_last, is_full, is_fragmented}
 use Rattle.registry.specs.Request.{install, replace}
 use Rattle.registry.specs.Phase.{Phase, table_of}
@@ -32,8 +32,8 @@ most_same m n is = by (nat_le most_libraries m) (nat_lt n most_libraries) refl r
     by false false at it = absurd (grind (arith, nat_tests))
 
 -- no test of a put is a failure of the device
-pub no_failed_put : (sectors longest : ℕ) (t : State) (bytes : List ℕ) → step.refusal_of_put sectors longest t bytes ≢ Some store_refusal.Device
-no_failed_put sectors longest t bytes = by (t.generation == last_generation) (nat_lt (free sectors t) (cost (length bytes))) (nat_lt longest (cost (length bytes) - 1))
+no_failed_bytes : (sectors longest more : ℕ) (t : State) (bytes : List ℕ) → step.refusal_of_bytes sectors longest more t bytes ≢ Some store_refusal.Device
+no_failed_bytes sectors longest more t bytes = by (t.generation == last_generation) (nat_lt (free sectors t) (cost (length bytes) + more)) (nat_lt longest (cost (length bytes) - 1))
   where
     by : (last full short : Bool) → (if last then Some store_refusal.GenerationEnd else if full then Some store_refusal.Full else if short then Some store_refusal.Fragmented else None) ≢ Some store_refusal.Device
     by true full short = λ is. cc
@@ -41,10 +41,16 @@ no_failed_put sectors longest t bytes = by (t.generation == last_generation) (na
     by false false true = λ is. cc
     by false false false = λ is. cc
 
+pub no_failed_put : (sectors longest : ℕ) (t : State) (bytes : List ℕ) → step.refusal_of_put sectors longest t bytes ≢ Some store_refusal.Device
+no_failed_put sectors longest t bytes = no_failed_bytes sectors longest 0 t bytes
+
 pub no_failed_new : (sectors longest : ℕ) (t : State) (bytes : List ℕ) → step.refusal_of_new sectors longest t bytes ≢ Some store_refusal.Device
-no_failed_new sectors longest t bytes = by (nat_lt (length t.libraries) most_libraries) (no_failed_put sectors longest t bytes)
+no_failed_new sectors longest t bytes = by (nat_lt (length t.libraries) most_libraries) (no_failed_bytes sectors longest more t bytes)
   where
-    by : (fits : Bool) → step.refusal_of_put sectors longest t bytes ≢ Some store_refusal.Device → (if fits then step.refusal_of_put sectors longest t bytes else Some store_refusal.TooMany) ≢ Some store_refusal.Device
+    more : ℕ
+    more = catalogue_cost (length t.libraries)
+
+    by : (fits : Bool) → step.refusal_of_bytes sectors longest more t bytes ≢ Some store_refusal.Device → (if fits then step.refusal_of_bytes sectors longest more t bytes else Some store_refusal.TooMany) ≢ Some store_refusal.Device
     by true other = other
     by false other = λ is. cc
 
@@ -54,9 +60,13 @@ module _ (p : Phase) (bytes : List ℕ) (taken : library_refusal bytes ≡ None)
       → refusal_at p (install bytes) ≡ option_map refusal_of (step.refusal_of_new p.sectors p.longest p.state bytes)
   install_refusal absent =
       by (library_refusal bytes) (is_installed (table_of p) (name_of bytes)) (has_most (table_of p)) (nat_lt (length p.state.libraries) most_libraries)
-      (is_last (table_of p)) (is_full (table_of p) bytes) (is_fragmented (table_of p) bytes)
-      taken absent (most_same _ _ (length-map p.state.libraries (λ l. l.name)))
+      (is_last (table_of p)) (is_full (catalogue_cost (length (table_of p).names)) (table_of p) bytes) (is_fragmented (table_of p) bytes)
+      taken absent (most_same _ _ count)
+      ∙ ap (λ n. option_map refusal_of (if nat_lt (length p.state.libraries) most_libraries then step.refusal_of_bytes p.sectors p.longest (catalogue_cost n) p.state bytes else Some store_refusal.TooMany)) count
     where
+      count : length (table_of p).names ≡ length p.state.libraries
+      count = length-map p.state.libraries (λ l. l.name)
+
       by : (o : Option FileRefusal) (installed many fits last full short : Bool) → o ≡ None → installed ≡ false → many ≡ not fits
           → first_of (option_map refusal.Object o ∷ (refusal.AlreadyInstalled when installed) ∷ (refusal.TooMany when many) ∷ (refusal.GenerationEnd when last) ∷ (refusal.Full when full) ∷ (refusal.Fragmented when short) ∷ [])
           ≡ option_map refusal_of (if fits then (if last then Some store_refusal.GenerationEnd else if full then Some store_refusal.Full else if short then Some store_refusal.Fragmented else None) else Some store_refusal.TooMany)
@@ -74,7 +84,7 @@ module _ (p : Phase) (bytes : List ℕ) (taken : library_refusal bytes ≡ None)
   pub replace_refusal : is_installed (table_of p) (name_of bytes) ≡ true
       → refusal_at p (replace bytes) ≡ option_map refusal_of (step.refusal_of_put p.sectors p.longest p.state bytes)
   replace_refusal there =
-      by (library_refusal bytes) (is_installed (table_of p) (name_of bytes)) (is_last (table_of p)) (is_full (table_of p) bytes)
+      by (library_refusal bytes) (is_installed (table_of p) (name_of bytes)) (is_last (table_of p)) (is_full 0 (table_of p) bytes)
       (is_fragmented (table_of p) bytes) taken there
     where
       by : (o : Option FileRefusal) (installed last full short : Bool) → o ≡ None → installed ≡ true
@@ -91,7 +101,7 @@ module _ (p : Phase) (bytes : List ℕ) (taken : library_refusal bytes ≡ None)
   pub is_there : is_installed (table_of p) (name_of bytes) ≡ true → refusal_at p (install bytes) ≡ Some refusal.AlreadyInstalled
   is_there there = by (library_refusal bytes) (is_installed (table_of p) (name_of bytes)) taken there
     where
-      by : (o : Option FileRefusal) (installed : Bool) → o ≡ None → installed ≡ true → first_of (option_map refusal.Object o ∷ (refusal.AlreadyInstalled when installed) ∷ (refusal.TooMany when has_most (table_of p)) ∷ (refusal.GenerationEnd when is_last (table_of p)) ∷ (refusal.Full when is_full (table_of p) bytes) ∷ (refusal.Fragmented when is_fragmented (table_of p) bytes) ∷ []) ≡ Some refusal.AlreadyInstalled
+      by : (o : Option FileRefusal) (installed : Bool) → o ≡ None → installed ≡ true → first_of (option_map refusal.Object o ∷ (refusal.AlreadyInstalled when installed) ∷ (refusal.TooMany when has_most (table_of p)) ∷ (refusal.GenerationEnd when is_last (table_of p)) ∷ (refusal.Full when is_full (catalogue_cost (length (table_of p).names)) (table_of p) bytes) ∷ (refusal.Fragmented when is_fragmented (table_of p) bytes) ∷ []) ≡ Some refusal.AlreadyInstalled
       by (Some r) installed o i = cc
       by None true o i = refl
       by None false o i = cc
@@ -99,7 +109,7 @@ module _ (p : Phase) (bytes : List ℕ) (taken : library_refusal bytes ≡ None)
   pub is_lacking : is_installed (table_of p) (name_of bytes) ≡ false → refusal_at p (replace bytes) ≡ Some refusal.NotInstalled
   is_lacking absent = by (library_refusal bytes) (is_installed (table_of p) (name_of bytes)) taken absent
     where
-      by : (o : Option FileRefusal) (installed : Bool) → o ≡ None → installed ≡ false → first_of (option_map refusal.Object o ∷ (refusal.NotInstalled when not installed) ∷ (refusal.GenerationEnd when is_last (table_of p)) ∷ (refusal.Full when is_full (table_of p) bytes) ∷ (refusal.Fragmented when is_fragmented (table_of p) bytes) ∷ []) ≡ Some refusal.NotInstalled
+      by : (o : Option FileRefusal) (installed : Bool) → o ≡ None → installed ≡ false → first_of (option_map refusal.Object o ∷ (refusal.NotInstalled when not installed) ∷ (refusal.GenerationEnd when is_last (table_of p)) ∷ (refusal.Full when is_full 0 (table_of p) bytes) ∷ (refusal.Fragmented when is_fragmented (table_of p) bytes) ∷ []) ≡ Some refusal.NotInstalled
       by (Some r) installed o i = cc
       by None false o i = refl
       by None true o i = cc

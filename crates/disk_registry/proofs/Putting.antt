@@ -96,6 +96,7 @@ over_is_new store_refusal.NotFormatted is = absurd is
 over_is_new store_refusal.AlreadyFormatted is = absurd is
 over_is_new store_refusal.Damaged is = absurd is
 over_is_new store_refusal.BadGeometry is = absurd is
+over_is_new store_refusal.OldFormat is = absurd is
 
 module _ {D : Type 0} (facts : D → DiskFacts) (old : Opened D) (s : State) (at : IsAt facts old s) (bytes : List ℕ) where
   -- the file is no library, or memory to admit it is refused

@@ -16,6 +16,7 @@ use Rattle.roots.specs.Root.{listed_preloads}
 use Rattle.scope.specs.LoadOrder as order
 use Rattle.scope.specs.Objects.{Named}
 use Rattle.store.specs.Opened.{Opened}
+use Rattle.roots.specs.declared.version.Version.TheVariants.{Two}
 use Rattle.store.specs.Stands.{StandsBy, HaveOwnNames, library_of, no_library, names_at}
 use Rattle.registry.specs.Binding.{object_of, objects, preload_numbers}
 use Rattle.states.specs.State.{Library, State, names_of}
@@ -70,7 +71,7 @@ module _ {D : Type 0} (facts : D → DiskFacts) (kept : Opened D) (s : State) (h
   abbrev now : List Sector
   now = (facts kept.disk).now
 
-  now_stands : StandsBy now kept.root kept.entries s
+  now_stands : StandsBy Two now kept.root kept.entries s
   now_stands = at.stored.stands now (holds at.stored.honest)
 
   names_known : names_of s.libraries ≡ entry_names kept.entries

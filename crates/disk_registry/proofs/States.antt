@@ -5,12 +5,15 @@ use Rattle.std.proofs.lemmas.Bool.{cases_lt}
 use Rattle.std.proofs.lemmas.List.{get_or-map, get_or_default, length-map, length-take-le}
 use Rattle.sector_disk.specs.Disk.{Sector, sector, DiskFacts, Mixture, HoldsNow}
 use Rattle.roots.specs.Root.{RootHasSpelling, listed_preloads}
-use Rattle.roots.proofs.RootLemmas.{few_1}
+use Rattle.roots.specs.declared.version.Version.TheVariants.{Two}
+use Rattle.roots.proofs.RootLemmas.{few_2}
+use Rattle.store.specs.declared.placed_entry.PlacedEntry.{PlacedEntry}
 use Rattle.store.specs.Opened as opened
 use Rattle.store.specs.Stands as sectors
 use Rattle.store.specs.Stands.{no_library, names_at, name_of}
 use Rattle.store.proofs.Queries as queries
-use Rattle.store.proofs.UsedAlone.{current_fits, listed_count, no_entry}
+use Rattle.store.proofs.Listings.{listed_2}
+use Rattle.store.proofs.UsedAlone.{current_fits, no_entry}
 use Rattle.store.proofs.StandsLemmas as sectors_lemmas
 use Rattle.states.specs.State.{Library, State, has_name}
 use Rattle.registry.specs.State.{IsState}
@@ -20,7 +23,7 @@ use Rattle.disk_registry.proofs.Names.{name_stands, same_preload}
 
 -- Sectors stand for at most one state.
 pub one_state : (m : List Sector) (s t : State) → Stands m s → Stands m t → s ≡ t
-one_state m s t a b = sectors_lemmas.one_state m s t a.stored b.stored
+one_state m s t a b = sectors_lemmas.one_state m Two Two s t a.stored b.stored
 
 module _ {D : Type 0} (facts : D → DiskFacts) (registry : opened.Opened D) (s : State) (at : IsAt facts registry s) where
   -- what a stop may leave of a registry at a state stands for it
@@ -28,7 +31,7 @@ module _ {D : Type 0} (facts : D → DiskFacts) (registry : opened.Opened D) (s 
   mixture_stands m mixture = record { stored = (registry.root, registry.entries, at.stored.stands m mixture); libraries = at.libraries }
 
   module _ (holds : IsTrue (facts registry.disk).honest → HoldsNow (facts registry.disk)) where
-    now_stands : sectors.StandsBy (facts registry.disk).now registry.root registry.entries s
+    now_stands : sectors.StandsBy Two (facts registry.disk).now registry.root registry.entries s
     now_stands = at.stored.stands (facts registry.disk).now (holds at.stored.honest)
 
     -- the root's number of sectors is the disk's
@@ -38,11 +41,17 @@ module _ {D : Type 0} (facts : D → DiskFacts) (registry : opened.Opened D) (s 
     root_fits : RootHasSpelling registry.root
     root_fits = current_fits (sector (facts registry.disk).now 0) (sector (facts registry.disk).now 1) registry.root now_stands.intact.current
 
+    -- the root counts the entries
+    counted : length registry.entries ≡ registry.root.library_count
+    counted =
+        sym (length-map registry.entries (λ (p : PlacedEntry). p.at))
+        ∙ ((listed_2 (facts registry.disk).now registry.root.library_count registry.root.list (sectors.entry_sectors registry.entries) now_stands.of_version).0 now_stands.intact.listed.sectors).0
+
     pub count_is : length registry.entries ≡ length s.libraries
-    count_is = queries.count_is facts registry s holds at.stored
+    count_is = queries.count_is facts Two registry s holds at.stored
 
     preloads_are : s.preloads ≡ names_at s.libraries (listed_preloads registry.root)
-    preloads_are = queries.preloads_are facts registry s holds at.stored
+    preloads_are = queries.preloads_are facts Two registry s holds at.stored
 
     count_libraries : length s.libraries ≡ length registry.entries
     count_libraries = sym count_is
@@ -50,13 +59,13 @@ module _ {D : Type 0} (facts : D → DiskFacts) (registry : opened.Opened D) (s 
     library_name_is : (i : ℕ) (d : Library) → i < length s.libraries → (get_or s.libraries i d).name ≡ name_of (get_or registry.entries i no_entry).entry
     library_name_is i d lt =
         ap (λ (l : Library). l.name) (get_or_default s.libraries i d no_library lt)
-        ∙ sym (queries.name_is facts registry s holds at.stored i no_entry (omega (arith, lt, count_libraries)))
+        ∙ sym (queries.name_is facts Two registry s holds at.stored i no_entry (omega (arith, lt, count_libraries)))
 
     preload_inside : (k : ℕ) → k < length (listed_preloads registry.root) → get_or (listed_preloads registry.root) k 0 < length s.libraries
-    preload_inside k lt = omega (arith, root_fits.preloads.listed.used k 0 lt, listed_count registry.root registry.entries root_fits now_stands.intact.listed.sectors, count_is)
+    preload_inside k lt = omega (arith, root_fits.preloads.listed.used k 0 lt, counted, count_is)
 
     preloads_inside : All (λ p. p < length s.libraries) (listed_preloads registry.root)
-    preloads_inside k d lt = omega (arith, root_fits.preloads.listed.used k d lt, listed_count registry.root registry.entries root_fits now_stands.intact.listed.sectors, count_is)
+    preloads_inside k d lt = omega (arith, root_fits.preloads.listed.used k d lt, counted, count_is)
 
     -- a position is that of a preload where its name is that of one
     pub same_preload_name : (name : List ℕ) (position : ℕ) → ((p : ℕ) → (position ≡ p) ↔ ((p < length s.libraries) × ((get_or s.libraries p no_library).name ≡ name)))
@@ -76,7 +85,7 @@ module _ {D : Type 0} (facts : D → DiskFacts) (registry : opened.Opened D) (s 
       own_names = λ i j d lt within. λ same.
           now_stands.intact.names i j no_entry lt (omega (arith, within, count_libraries))
           (sym (library_name_is i d (omega (arith, lt, within))) ∙ same ∙ library_name_is j d within);
-      few = omega (arith, count_libraries, listed_count registry.root registry.entries root_fits now_stands.intact.listed.sectors, few_1 registry.root root_fits now_stands.intact.listed.sectors.version);
+      few = omega (arith, count_libraries, counted, few_2 registry.root root_fits now_stands.of_version);
       installed = λ k d lt.
           let k_lt : k < length (listed_preloads registry.root) = omega (arith, lt, length_preloads) in
           name_stands s (get_or s.preloads k d) (get_or (listed_preloads registry.root) k 0) (preload_inside k k_lt) (sym (preload_is k d k_lt));
@@ -98,7 +107,7 @@ module _ {D : Type 0} (facts : D → DiskFacts) (registry : opened.Opened D) (s 
             let p_in : p < length registry.entries = omega (arith, p_lt, count_is) in
             let q_in : q < length registry.entries = omega (arith, q_lt, count_is) in
             let named : name_of (get_or registry.entries p no_entry).entry ≡ name_of (get_or registry.entries q no_entry).entry =
-            queries.name_is facts registry s holds at.stored p no_entry p_in ∙ same ∙ sym (queries.name_is facts registry s holds at.stored q no_entry q_in) in
+            queries.name_is facts Two registry s holds at.stored p no_entry p_in ∙ same ∙ sym (queries.name_is facts Two registry s holds at.stored q no_entry q_in) in
             ⊎_elim
             (λ before. absurd (own p q no_entry before q_in named))
             (λ le. ⊎_elim

@@ -1,5 +1,5 @@
 -- What a list of sectors stands for as a registry (own).
-use Rattle.std.specs.Prelude.{ℕ, List, All}
+use Rattle.std.specs.Prelude.{◌⊎◌, ℕ, List, All}
 use Rattle.std.specs.Int.{div_ceil}
 use Rattle.sector_disk.specs.Disk.{Sector, sector_bytes}
 use Rattle.states.specs.State.{State}
@@ -15,3 +15,12 @@ file_sectors placed = div_ceil placed.entry.file_length sector_bytes
 pub record Stands (m : List Sector) (s : State) : Type 0 where
   pub stored : store.Stands m s
   pub libraries : All IsLibrary s.libraries
+
+-- The same by the old rules: the sectors are those of a disk of version 1.
+pub record StandsOld (m : List Sector) (s : State) : Type 0 where
+  pub stored : store.StandsOld m s
+  pub libraries : All IsLibrary s.libraries
+
+-- by the new rules or by the old ones
+abbrev pub StandsEither : List Sector → State → Type 0
+StandsEither m s = Stands m s ⊎ StandsOld m s

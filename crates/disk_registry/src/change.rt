@@ -7,15 +7,16 @@ use sector_disk::Disk;
 use states::MOST_PRELOADS;
 
 impl<D: Disk> Registry<D> {
-    ghost use Rattle.std.specs.Prelude.{◌≡◌, ◌≢◌, ◌==◌, ◌<◌, ◌≤◌, ◌↔◌, true, not, map, length, All};
+    ghost use Rattle.std.specs.Prelude.{◌≡◌, ◌≢◌, ◌+◌, ◌-◌, ◌==◌, ◌<◌, ◌≤◌, ◌↔◌, true, not, map, length, All};
     ghost use Rattle.std.specs.Prelude.{IsTrue, IfSome, IsNone, IfOk, IfErr, OnOk};
     ghost use Rattle.std.specs.List.{list_any};
     ghost use Rattle.elf_file.specs.FirstOf.{◌when◌};
     ghost use Rattle.extents.specs.Extent.{AreDistinct};
+    ghost use Rattle.states.specs.Cost.{catalogues_for};
     ghost use Rattle.states.specs.Limits.{most_preloads};
     ghost use Rattle.roots.specs.Root.{listed_preloads};
     ghost use Rattle.store.specs.Stands.{names_at};
-    ghost use Rattle.store.specs.Step.{HasName, IsNoPreload};
+    ghost use Rattle.store.specs.Names.{HasName, IsNoPreload};
     ghost use Rattle.registry.specs.Phase.{table_of};
     ghost use Rattle.store.specs.Changed.{Changed};
     ghost use Rattle.registry.specs.Request.{remove, set_preloads};
@@ -72,7 +73,8 @@ impl<D: Disk> Registry<D> {
             → Applies D.facts self.old self.new s (remove name.now) (answer_of result) }
 
         ensures on_any_disk { Changed D.facts Refusal.Device Refusal.Reopen
-            self.old self.new 2 IsRemoveRefusal result }
+            self.old self.new (catalogues_for (length self.old.entries - 1) + 3)
+            IsRemoveRefusal result }
     {
         self.test_remove(name)?;
         match self.store.delete(name) {

@@ -15,8 +15,8 @@ impl<D: Disk> Registry<D> {
     ghost use Rattle.disk_registry.specs.Opened.{IsAt};
     ghost use Rattle.disk_registry.specs.Stands.{Stands};
 
-    /// Makes an empty registry on a disk where no root was written yet. It writes one sector. It
-    /// refuses with S6, S11, S4 or S1, and hands the disk back.
+    /// Makes an empty registry of version 2 on a disk where no root was written yet, of neither
+    /// version. It writes one sector. It refuses with S6, S11, S4 or S1, and hands the disk back.
     pub fn format(alloc: Global, disk: D) -> Result<Registry<D>, (StoreRefusal, D)>
         // A stop at any moment leaves what it could leave before, or the empty registry.
         ensures any_moment { IsTrue (D.facts disk).honest

@@ -26,7 +26,7 @@ fn place_of<D: Disk>(store: &Store<D>, name: &[u8]) -> Option<usize>
     ensures place { result ≡ place_of (entry_names store.now.entries) name.now }
     ensures within { IfSome result (λ place. place ≤ length store.now.entries) }
 {
-    // There are 100 files at most, as this call says: one more is a place.
+    // There are 2,048 files at most, as this call says: one more is a place.
     let _count = store.count();
     match store.position(name) {
         Some(position) => Some(position + 1),

@@ -22,6 +22,7 @@ pub(crate) fn refusal_of(refusal: StoreRefusal) -> Refusal
         StoreRefusal::NotFormatted
         | StoreRefusal::AlreadyFormatted
         | StoreRefusal::Damaged
-        | StoreRefusal::BadGeometry => unreachable!(),
+        | StoreRefusal::BadGeometry
+        | StoreRefusal::OldFormat => unreachable!(),
     }
 }

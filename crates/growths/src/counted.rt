@@ -34,6 +34,8 @@ pub(crate) fn calls_word(calls: u64) -> &'static str {
         7 => "7 calls of the disk,",
         8 => "8 calls of the disk,",
         9 => "9 calls of the disk,",
+        10 => "10 calls of the disk,",
+        11 => "11 calls of the disk,",
         _ => "more calls of the disk,",
     }
 }

@@ -10,6 +10,7 @@ mod counted;
 mod files;
 mod format;
 mod listed;
+mod old;
 mod replies;
 mod rounds;
 mod run;
@@ -18,6 +19,7 @@ mod seen;
 mod spend;
 mod steps;
 mod texts;
+mod upgrades;
 
 use std::io;
 

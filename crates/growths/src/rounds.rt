@@ -32,7 +32,7 @@ fn all_rounds<'a>(
     };
     let mut all = Vec::new(alloc);
     all.push(round(alloc, [Command::Install(file), Command::List], 1000)?)?;
-    all.push(round(alloc, [Command::Remove(name), Command::List], 11)?)?;
+    all.push(round(alloc, [Command::Remove(name), Command::List], 14)?)?;
     all.push(round(alloc, [Command::List, bind], 1000)?)?;
     Ok(all)
 }

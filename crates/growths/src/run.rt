@@ -8,6 +8,7 @@ use crate::scripts::script;
 use crate::seen::{before, is_as_before};
 use crate::steps::{STEPS, Step};
 use crate::texts::text;
+use crate::upgrades::upgrade;
 use disk_registry::Registry;
 use sector_disk::{Fuse, Memory};
 use std::alloc::{AllocError, Global};
@@ -130,8 +131,11 @@ fn steps(alloc: Global, disk: Memory) -> Result<Went, AllocError> {
     Ok(Went::On(disk))
 }
 
-// What grows on a disk with a registry besides its commands.
+// What grows besides commands: an upgrade, and then what is done to a disk with a registry.
 fn besides(alloc: Global, disk: Memory) -> Result<Option<Words>, AllocError> {
+    if let Some(words) = upgrade(alloc)? {
+        return Ok(Some(words));
+    }
     if let Some(words) = text(alloc, disk.copy()?)? {
         return Ok(Some(words));
     }

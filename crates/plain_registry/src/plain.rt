@@ -17,8 +17,8 @@ struct File {
 }
 
 /// A registry without a disk: the libraries in the order in which they were installed, and the
-/// names of the preloads in theirs. It knows no limit but the room of a disk: that there are at
-/// most 100 libraries, 16 preloads and 2^64 - 1 changes is for its user to see to.
+/// names of the preloads in theirs. It knows two limits, the room of a disk and 2,048 libraries:
+/// that there are at most 16 preloads and 2^64 - 1 changes is for its user to see to.
 #[derive(Drop)]
 pub struct PlainRegistry {
     alloc: Global,
@@ -40,9 +40,17 @@ fn own_name(alloc: Global, file: &[u8]) -> Result<&[u8], Refusal> {
     }
 }
 
+// How many libraries there are at most.
+const MOST_LIBRARIES: usize = 2048;
+
 // How many sectors a file takes: those of its bytes, and one that says where these are.
 fn sectors_of(file: &[u8]) -> usize {
     file.len().div_ceil(512).saturating_add(1)
+}
+
+// How many sectors of catalogues list so many libraries, 64 in each.
+fn catalogues_of(libraries: usize) -> usize {
+    libraries.div_ceil(64)
 }
 
 // Whether one of the names stands twice.
@@ -82,11 +90,16 @@ impl PlainRegistry {
             .position(|file| file.name.as_slice() == name)
     }
 
-    // Whether there is room for a file beside all others and two sectors more.
-    fn has_room(&self, file: &[u8]) -> bool {
+    // Whether there is room for a file beside all others, two sectors for the roots, and the
+    // catalogues of the libraries that there are then, twice: as they stand, and as the next change
+    // writes them.
+    fn has_room(&self, file: &[u8], libraries: usize) -> bool {
         let mut taken = sectors_of(file).saturating_add(2);
         for other in &self.files {
             taken = taken.saturating_add(sectors_of(&other.bytes));
+        }
+        for _ in 0..2 {
+            taken = taken.saturating_add(catalogues_of(libraries));
         }
         taken <= self.sectors as usize
     }
@@ -104,7 +117,10 @@ impl PlainRegistry {
         if self.place(name).is_some() {
             return Err(Refusal::AlreadyInstalled);
         }
-        if !self.has_room(file) {
+        if self.files.len() >= MOST_LIBRARIES {
+            return Err(Refusal::TooMany);
+        }
+        if !self.has_room(file, self.files.len().saturating_add(1)) {
             return Err(Refusal::Full);
         }
         self.add(name, file)?;
@@ -114,7 +130,7 @@ impl PlainRegistry {
     fn replace(&mut self, file: &[u8]) -> Result<(), Refusal> {
         let name = own_name(self.alloc, file)?;
         let place = self.place(name).ok_or(Refusal::NotInstalled)?;
-        if !self.has_room(file) {
+        if !self.has_room(file, self.files.len()) {
             return Err(Refusal::Full);
         }
         let bytes = file.to_vec(self.alloc)?;

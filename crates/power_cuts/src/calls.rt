@@ -3,7 +3,7 @@
 ghost use Rattle.std.specs.Prelude.{◌≡◌, ◌≢◌, ◌↔◌, IsTrue};
 ghost use Rattle.std.specs.Prelude.{slice_index_or, length};
 ghost use Rattle.roots.specs.Entry.{IsNameByte};
-ghost use Rattle.store.specs.Step.{IsName, IsFileSize, IsNoPreload};
+ghost use Rattle.store.specs.Names.{IsName, IsFileSize, IsNoPreload};
 ghost use Rattle.store.specs.declared.placed_entry.PlacedEntry.{PlacedEntry};
 ghost use Rattle.store.specs.Stands.{name_of};
 

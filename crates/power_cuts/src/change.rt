@@ -1,11 +1,11 @@
 // The changes of a store.
 
 use crate::calls::{Answer, delete, put_new, put_over, set_preloads};
-use crate::state::{State, content};
+use crate::state::{State, catalogues, content, cost};
 use anyhow::{Context, Result};
 use cuts::Powered;
 use std::alloc::Global;
-use store::Store;
+use store::{Store, StoreRefusal};
 
 /// A call that changes a store. Names have one byte.
 #[derive(Clone, Copy, Debug)]
@@ -30,15 +30,17 @@ fn positions_of(alloc: Global, store: &Store<Powered>, names: &[u8]) -> Result<V
 }
 
 impl Change {
-    /// How many calls of the disk it makes: the sectors of the bytes, the entry, a sync, the root,
-    /// a sync.
-    pub(crate) fn calls(self) -> u64 {
-        match self {
+    /// How many calls of the disk it makes: the sectors of the bytes, the entry, so many catalogues
+    /// of the new list, a sync, the root, a sync; new preloads make the last two alone.
+    pub(crate) fn calls(self, catalogues: usize) -> u64 {
+        let calls = match self {
             Change::PutNew(_, length) | Change::PutOver(_, length) => {
-                (length.div_ceil(512) as u64).saturating_add(4)
+                cost(length).saturating_add(catalogues).saturating_add(3)
             }
-            Change::Delete(_) | Change::Choose(_) => 2,
-        }
+            Change::Delete(_) => catalogues.saturating_add(3),
+            Change::Choose(_) => 2,
+        };
+        calls as u64
     }
 
     /// Whether the call may be made in this state.
@@ -46,19 +48,27 @@ impl Change {
         match self {
             Change::PutNew(name, _) => !state.has(name),
             Change::PutOver(name, _) => state.has(name),
-            Change::Delete(name) => state.has(name) && !state.preloads(name),
+            Change::Delete(name) => state.has(name) && !state.preloads.contains(&name),
             Change::Choose(names) => names.iter().all(|name| state.has(*name)),
         }
     }
 
-    /// Whether so many free sectors are enough for it.
-    pub(crate) fn fits(self, free: usize) -> bool {
+    // How many sectors have to be free for it.
+    fn need(self, count: usize) -> usize {
         match self {
-            Change::PutNew(_, length) | Change::PutOver(_, length) => {
-                length.div_ceil(512).saturating_add(1) <= free
+            Change::PutNew(_, length) => {
+                let more = catalogues(count.saturating_add(1)).saturating_sub(catalogues(count));
+                cost(length).saturating_add(more.saturating_mul(2))
             }
-            Change::Delete(_) | Change::Choose(_) => true,
+            Change::PutOver(_, length) => cost(length),
+            Change::Delete(_) | Change::Choose(_) => 0,
         }
+    }
+
+    /// The refusal in this state on a disk of so many sectors, if it is refused.
+    pub(crate) fn refusal(self, state: &State, sectors: u32) -> Option<StoreRefusal> {
+        let free = state.free(sectors as usize).unwrap_or(0);
+        (self.need(state.blobs.len()) > free).then_some(StoreRefusal::Full)
     }
 
     /// Makes the change.

@@ -1,158 +1,174 @@
 // Disks that no call of a store leaves, made sector by sector.
 
+use crate::by_hand::put_root;
 use crate::sectors::put_sector;
-use anyhow::{Context, Result, bail};
+use crate::seen::Way;
+use crate::spelling::{Root, catalogue_sector, entry_sector};
+use anyhow::Result;
 use cuts::{Tally, whole};
-use extents::{Extent, MOST_EXTENTS};
-use roots::{Entry, Root, encode_entry, encode_root};
-use sector_disk::{Disk, Memory, SECTOR_BYTES};
+use sector_disk::Memory;
 use std::alloc::Global;
-use store::{Store, StoreRefusal};
+use store::StoreRefusal;
 
-/// The refusal of a disk's opening.
-pub(crate) fn refusal_of_open(alloc: Global, disk: Memory) -> Option<StoreRefusal> {
-    match Store::open(alloc, whole(disk)) {
-        Ok(store) => {
-            let _ = store.into_disk();
-            None
-        }
-        Err((refusal, _)) => Some(refusal),
+// The versions, and how a disk of each is opened.
+const VERSIONS: [(u8, Way); 2] = [(b'1', Way::Look), (b'2', Way::Open)];
+
+// Counts whether a disk is damaged exactly where it is to be.
+fn open<R: Print + AllocGlobal>(
+    rt: &R,
+    tally: &mut Tally,
+    way: Way,
+    disk: Memory,
+    opens: bool,
+    what: &str,
+) -> Result<()> {
+    let (refusal, _) = way.answer(rt.alloc(), whole(disk));
+    let wanted = (!opens).then_some(StoreRefusal::Damaged);
+    tally.count(rt, refusal == wanted, &way, what)
+}
+
+// A root of no byte strings on a disk of 16 sectors.
+fn empty_root(version: u8, generation: u64) -> Root<'static> {
+    Root {
+        version,
+        generation,
+        sectors: 16,
+        count: 0,
+        preloads: &[],
+        listed: &[],
     }
 }
 
-// Writes the sector of a root.
-fn put_root(disk: &mut Memory, at: u32, root: &Root) -> Result<()> {
-    if !root.has_spelling() {
-        bail!("a root without a spelling");
-    }
-    put_sector(disk, at, &encode_root(root))
-}
-
-// Writes the sector of an entry.
-fn put_entry(disk: &mut Memory, at: u32, entry: &Entry) -> Result<()> {
-    if !entry.has_spelling() {
-        bail!("an entry without a spelling");
-    }
-    put_sector(disk, at, &encode_entry(entry))
-}
-
-// The entry of so many bytes under a name, in these extents: the first sector of each and how many.
-fn entry(name: u8, length: u32, places: &[(u32, u32)]) -> Result<Entry> {
-    let mut extents = [Extent { start: 0, count: 0 }; MOST_EXTENTS];
-    for (extent, (start, count)) in extents.iter_mut().zip(places) {
-        *extent = Extent {
-            start: *start,
-            count: *count,
-        };
-    }
-    let used = extents.get(..places.len()).context("too many extents")?;
-    Ok(Entry::new(&[name], length, used))
-}
-
-// A disk of 8 sectors whose roots of generations 0 and 1 say that it has so many, and whose later
-// root lists entries in sectors 6 and 7.
-fn with_entries(alloc: Global, sectors: u32, first: &Entry, second: &Entry) -> Result<Memory> {
-    let mut disk = Memory::new(alloc, 8)?;
-    put_root(&mut disk, 0, &Root::over_entries(0, sectors, &[], &[]))?;
-    put_root(&mut disk, 1, &Root::over_entries(1, sectors, &[6, 7], &[]))?;
-    put_entry(&mut disk, 6, first)?;
-    put_entry(&mut disk, 7, second)?;
+// A disk of 16 sectors whose roots of generations 0 and 1 say that it has so many, and whose later
+// root lists an entry in sector 6 and one in 7, which is that of 512 bytes in sector 5 under the
+// name `b`, in version 2 by a catalogue in sector 8.
+fn with_entries(
+    alloc: Global,
+    version: u8,
+    sectors: u32,
+    first: (u8, u64, &[u32]),
+) -> Result<Memory> {
+    let mut disk = Memory::new(alloc, 16)?;
+    let older = Root {
+        sectors,
+        ..empty_root(version, 0)
+    };
+    put_root(&mut disk, &older)?;
+    let (name, length, extents) = first;
+    put_sector(&mut disk, 6, &entry_sector(name, length, extents))?;
+    put_sector(&mut disk, 7, &entry_sector(b'b', 512, &[5, 1]))?;
+    put_sector(&mut disk, 8, &catalogue_sector(&[6, 7]))?;
+    let listed: &[u32] = if version == b'1' { &[6, 7] } else { &[8] };
+    let root = Root {
+        generation: 1,
+        count: 2,
+        listed,
+        ..older
+    };
+    put_root(&mut disk, &root)?;
     Ok(disk)
 }
 
-// Names, lengths and extents of first entries, and whether the disk opens. The second entry is `b`,
-// with 512 bytes in sector 5.
-const ENTRIES: [(&str, u8, u32, &[(u32, u32)], bool); 8] = [
-    ("two good extents", b'a', 600, &[(4, 1), (2, 1)], true),
-    ("no gap", b'a', 1536, &[(2, 3)], true),
-    ("one sector twice", b'a', 600, &[(2, 1), (2, 1)], false),
-    ("a sector of two entries", b'a', 600, &[(4, 2)], false),
-    ("its own entry's sector", b'a', 64, &[(6, 1)], false),
-    ("the other entry's sector", b'a', 64, &[(7, 1)], false),
-    ("past the disk", b'a', 64, &[(8, 1)], false),
-    ("two of one name", b'b', 64, &[(2, 1)], false),
+// What is said of the first entry, its name, length and extents, and whether the disk opens in
+// version 1 and in version 2. Sector 8 is the catalogue's.
+type Row = (&'static str, (u8, u64, &'static [u32]), bool, bool);
+
+const ENTRIES: [Row; 9] = [
+    ("two good extents", (b'a', 600, &[4, 1, 2, 1]), true, true),
+    ("no gap", (b'a', 1536, &[2, 3]), true, true),
+    ("one sector twice", (b'a', 600, &[2, 1, 2, 1]), false, false),
+    ("a sector of both", (b'a', 600, &[4, 2]), false, false),
+    ("its own entry's sector", (b'a', 64, &[6, 1]), false, false),
+    ("another entry's sector", (b'a', 64, &[7, 1]), false, false),
+    ("the catalogue's sector", (b'a', 64, &[8, 1]), true, false),
+    ("past the disk", (b'a', 64, &[16, 1]), false, false),
+    ("two of one name", (b'b', 64, &[2, 1]), false, false),
 ];
 
 /// Extents that are good, and those that clash with something.
 fn open_entries<R: Print + AllocGlobal>(rt: &R, tally: &mut Tally) -> Result<()> {
-    let other = entry(b'b', 512, &[(5, 1)])?;
-    for (what, name, length, extents, opens) in ENTRIES {
-        let disk = with_entries(rt.alloc(), 8, &entry(name, length, extents)?, &other)?;
-        let wanted = (!opens).then_some(StoreRefusal::Damaged);
-        let right = refusal_of_open(rt.alloc(), disk) == wanted;
-        tally.count(rt, right, &what, "entries")?;
+    for (version, way) in VERSIONS {
+        for (what, first, old, new) in ENTRIES {
+            let disk = with_entries(rt.alloc(), version, 16, first)?;
+            let opens = if version == b'1' { old } else { new };
+            open(rt, tally, way, disk, opens, what)?;
+        }
     }
     Ok(())
 }
 
 // Roots that say another size than the disk has.
 fn open_sizes<R: Print + AllocGlobal>(rt: &R, tally: &mut Tally) -> Result<()> {
-    let first = entry(b'a', 64, &[(2, 1)])?;
-    let second = entry(b'b', 64, &[(3, 1)])?;
-    for sectors in [8, 9, 16, 4_194_304] {
-        let disk = with_entries(rt.alloc(), sectors, &first, &second)?;
-        let wanted = (sectors != 8).then_some(StoreRefusal::Damaged);
-        let right = refusal_of_open(rt.alloc(), disk) == wanted;
-        tally.count(rt, right, &sectors, "the size in the roots")?;
+    for (version, way) in VERSIONS {
+        for sectors in [15, 16, 17, 4_194_304] {
+            let disk = with_entries(rt.alloc(), version, sectors, (b'a', 64, &[2, 1]))?;
+            open(rt, tally, way, disk, sectors == 16, "the size in the roots")?;
+        }
     }
     Ok(())
 }
 
 // Disks of zeros.
 fn open_empty<R: Print + AllocGlobal>(rt: &R, tally: &mut Tally) -> Result<()> {
-    for sectors in [0, 1, 2, 7, 8, 9, 1000] {
-        let disk = Memory::new(rt.alloc(), sectors)?;
-        let wanted = if sectors < 8 {
-            StoreRefusal::BadGeometry
-        } else {
-            StoreRefusal::NotFormatted
-        };
-        let right = refusal_of_open(rt.alloc(), disk) == Some(wanted);
-        tally.count(rt, right, &sectors, "a disk of zeros")?;
+    for way in [Way::Open, Way::Look, Way::Upgrade] {
+        for sectors in [0, 1, 2, 7, 8, 9, 1000] {
+            let disk = Memory::new(rt.alloc(), sectors)?;
+            let wanted = if sectors < 8 {
+                StoreRefusal::BadGeometry
+            } else {
+                StoreRefusal::NotFormatted
+            };
+            let (refusal, _) = way.answer(rt.alloc(), whole(disk));
+            let right = refusal == Some(wanted);
+            tally.count(rt, right, &sectors, "a disk of zeros")?;
+        }
     }
     Ok(())
 }
 
-// The generations of two empty roots, and whether the disk opens.
-const GENERATIONS: [(u64, u64, bool); 9] = [
-    (0, 1, true),
-    (2, 1, true),
-    (2, 3, true),
-    (18_446_744_073_709_551_614, 18_446_744_073_709_551_615, true),
-    (0, 3, false),
-    (4, 1, false),
-    (1, 2, false),
-    (0, 0, false),
-    (0, 18_446_744_073_709_551_615, false),
+// The generations of empty roots in sectors 0 and 1, and whether the disk opens.
+type Pair = (Option<u64>, Option<u64>, bool);
+
+const GENERATIONS: [Pair; 14] = [
+    (Some(0), Some(1), true),
+    (Some(2), Some(1), true),
+    (Some(2), Some(3), true),
+    (Some(u64::MAX - 1), Some(u64::MAX), true),
+    (Some(0), Some(3), false),
+    (Some(4), Some(1), false),
+    (Some(1), Some(2), false),
+    (Some(0), Some(0), false),
+    (Some(0), Some(u64::MAX), false),
+    (Some(0), None, true),
+    (Some(1), None, false),
+    (Some(2), None, false),
+    (None, Some(0), false),
+    (None, Some(1), false),
 ];
 
-// Two roots of any generations.
-fn open_generations<R: Print + AllocGlobal>(rt: &R, tally: &mut Tally) -> Result<()> {
-    for (even, odd, opens) in GENERATIONS {
-        let mut disk = Memory::new(rt.alloc(), 8)?;
-        put_root(&mut disk, 0, &Root::over_entries(even, 8, &[], &[]))?;
-        put_root(&mut disk, 1, &Root::over_entries(odd, 8, &[], &[]))?;
-        let wanted = (!opens).then_some(StoreRefusal::Damaged);
-        let right = refusal_of_open(rt.alloc(), disk) == wanted;
-        tally.count(rt, right, &(even, odd), "two generations")?;
+// Writes an empty root, if it has a generation.
+fn put_empty(disk: &mut Memory, at: u32, version: u8, generation: Option<u64>) -> Result<()> {
+    match generation {
+        Some(generation) => put_sector(disk, at, &empty_root(version, generation).sector()),
+        None => Ok(()),
     }
-    Ok(())
 }
 
-// One root alone stands only where it is the first one, in its sector.
-fn open_alone<R: Print + AllocGlobal>(rt: &R, tally: &mut Tally) -> Result<()> {
-    for (at, generation, opens) in [
-        (0, 0, true),
-        (0, 1, false),
-        (0, 2, false),
-        (1, 0, false),
-        (1, 1, false),
-    ] {
-        let mut disk = Memory::new(rt.alloc(), 8)?;
-        put_root(&mut disk, at, &Root::over_entries(generation, 8, &[], &[]))?;
-        let wanted = (!opens).then_some(StoreRefusal::Damaged);
-        let right = refusal_of_open(rt.alloc(), disk) == wanted;
-        tally.count(rt, right, &(at, generation), "a root alone")?;
+// A disk of two empty roots.
+fn with_roots(alloc: Global, version: u8, even: Option<u64>, odd: Option<u64>) -> Result<Memory> {
+    let mut disk = Memory::new(alloc, 16)?;
+    put_empty(&mut disk, 0, version, even)?;
+    put_empty(&mut disk, 1, version, odd)?;
+    Ok(disk)
+}
+
+// Roots of any generations. One alone stands only where it is the first one, in its sector.
+fn open_generations<R: Print + AllocGlobal>(rt: &R, tally: &mut Tally) -> Result<()> {
+    for (version, way) in VERSIONS {
+        for (even, odd, opens) in GENERATIONS {
+            let disk = with_roots(rt.alloc(), version, even, odd)?;
+            open(rt, tally, way, disk, opens, "the generations of roots")?;
+        }
     }
     Ok(())
 }
@@ -162,6 +178,5 @@ pub(crate) fn open_crafted<R: Print + AllocGlobal>(rt: &R, tally: &mut Tally) ->
     open_entries(rt, tally)?;
     open_sizes(rt, tally)?;
     open_empty(rt, tally)?;
-    open_generations(rt, tally)?;
-    open_alone(rt, tally)
+    open_generations(rt, tally)
 }

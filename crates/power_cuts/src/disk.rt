@@ -1,6 +1,5 @@
 // Disks with stores on them.
 
-use crate::calls::Answer;
 use crate::change::Change;
 use crate::state::State;
 use anyhow::{Context, Result, bail};
@@ -9,15 +8,25 @@ use sector_disk::Memory;
 use std::alloc::Global;
 use store::Store;
 
-// Makes the changes one after the other, and follows the state.
-fn make_all(alloc: Global, store: &mut Store<Powered>, changes: &[Change]) -> Result<State> {
+// Makes those of the changes that are allowed, one after the other, and follows the state. What has
+// no room is refused, and leaves the state as it is.
+fn make_all(
+    alloc: Global,
+    store: &mut Store<Powered>,
+    sectors: u32,
+    changes: &[Change],
+) -> Result<State> {
     let mut state = State::empty(alloc);
     for change in changes {
-        let answer: Answer = change.make(alloc, store)?;
-        if answer.is_err() {
-            bail!("{change:?} was refused");
+        if change.is_allowed(&state) {
+            let refusal = change.refusal(&state, sectors);
+            if change.make(alloc, store)?.err() != refusal {
+                bail!("{change:?} wasn't answered {refusal:?}");
+            }
+            if refusal.is_none() {
+                state = state.after(alloc, *change)?;
+            }
         }
-        state = state.after(alloc, *change)?;
     }
     Ok(state)
 }
@@ -28,7 +37,7 @@ pub(crate) fn prepared(alloc: Global, sectors: u32, changes: &[Change]) -> Resul
     let Ok(mut store) = Store::format(alloc, whole(disk)) else {
         bail!("format was refused");
     };
-    let state = make_all(alloc, &mut store, changes);
+    let state = make_all(alloc, &mut store, sectors, changes);
     let disk = store.into_disk().into_inner();
     Ok((disk, state.context("preparing a disk")?))
 }

@@ -1,73 +1,84 @@
 // The groups, each with its line.
 
-use crate::change::Change;
 use crate::crafted::open_crafted;
 use crate::damage::change_bytes;
-use crate::rows::{compare_sectors, fill_disks, stop_early};
-use crate::scenario::{CHOICES, DELETIONS, PUTS, REPLACEMENTS, cut_changes, cut_formats};
+use crate::scenario::{CHANGES, DELETIONS, cut_changes, cut_formats, stop_early};
+use crate::seen::Way;
+use crate::upgrades::cut_upgrades;
 use anyhow::Result;
 use cuts::Tally;
 
-// A group that cuts changes.
-fn cut_group<R: Print + AllocGlobal>(
-    rt: &R,
-    all: &mut Tally,
-    group: &'static str,
-    changes: &[Change],
-) -> Result<()> {
-    let mut tally = Tally::new(group);
-    cut_changes(rt, &mut tally, false, changes)?;
-    all.end(rt, &tally)
+// The groups that cut changes.
+fn change_groups<R: Print + AllocGlobal>(rt: &R, all: &mut Tally) -> Result<()> {
+    for (group, changes) in CHANGES {
+        let mut tally = Tally::new(group);
+        cut_changes(rt, &mut tally, false, changes)?;
+        all.end(rt, &tally)?;
+    }
+    Ok(())
 }
 
-// The group that cuts formats.
-fn format_group<R: Print + AllocGlobal>(rt: &R, all: &mut Tally) -> Result<()> {
+// How the disks are opened that a cut upgrade has left.
+const WAYS: [(&str, Way); 3] = [
+    ("upgrade, then looked at", Way::Look),
+    ("upgrade, then upgraded", Way::Upgrade),
+    ("upgrade, then opened", Way::Open),
+];
+
+// The groups that cut upgrades.
+fn upgrade_groups<R: Print + AllocGlobal>(rt: &R, all: &mut Tally) -> Result<()> {
+    for (group, way) in WAYS {
+        let mut tally = Tally::new(group);
+        cut_upgrades(rt, &mut tally, false, way)?;
+        all.end(rt, &tally)?;
+    }
+    Ok(())
+}
+
+// The groups that change bytes.
+fn byte_groups<R: Print + AllocGlobal>(rt: &R, all: &mut Tally) -> Result<()> {
+    for (group, version) in [
+        ("changed bytes of version 2", b'2'),
+        ("changed bytes of version 1", b'1'),
+    ] {
+        let mut tally = Tally::new(group);
+        change_bytes(rt, &mut tally, version)?;
+        all.end(rt, &tally)?;
+    }
+    Ok(())
+}
+
+// The groups of one row, of disks that are made by hand, and of formats.
+fn first_groups<R: Print + AllocGlobal>(rt: &R, all: &mut Tally) -> Result<()> {
+    let mut tally = Tally::new("stops before the first sync");
+    stop_early(rt, &mut tally)?;
+    all.end(rt, &tally)?;
+    let mut tally = Tally::new("disks made by hand");
+    open_crafted(rt, &mut tally)?;
+    all.end(rt, &tally)?;
     let mut tally = Tally::new("format");
     cut_formats(rt, &mut tally, false)?;
     all.end(rt, &tally)
 }
 
-// The groups of disks that are damaged, or made by hand.
-fn damage_groups<R: Print + AllocGlobal>(rt: &R, all: &mut Tally) -> Result<()> {
-    let mut tally = Tally::new("disks made by hand");
-    open_crafted(rt, &mut tally)?;
-    all.end(rt, &tally)?;
-    let mut tally = Tally::new("changed bytes");
-    change_bytes(rt, &mut tally)?;
-    all.end(rt, &tally)
-}
-
-// The groups that compare with what is written down.
-fn row_groups<R: Print + AllocGlobal>(rt: &R, all: &mut Tally) -> Result<()> {
-    let mut tally = Tally::new("sectors");
-    compare_sectors(rt, &mut tally)?;
-    all.end(rt, &tally)?;
-    let mut tally = Tally::new("full disks");
-    fill_disks(rt, &mut tally)?;
-    all.end(rt, &tally)?;
-    let mut tally = Tally::new("stops before the first sync");
-    stop_early(rt, &mut tally)?;
-    all.end(rt, &tally)
-}
-
 // What is wrong on purpose: old and new are exchanged, and that has to be seen.
-fn wrong_group<R: Print + AllocGlobal>(rt: &R) -> Result<()> {
+fn wrong_groups<R: Print + AllocGlobal>(rt: &R) -> Result<()> {
     let mut tally = Tally::quiet("old and new exchanged, on purpose");
     cut_formats(rt, &mut tally, true)?;
     cut_changes(rt, &mut tally, true, &DELETIONS)?;
+    tally.print(rt)?;
+    let mut tally = Tally::quiet("upgrade with old and new exchanged, on purpose");
+    cut_upgrades(rt, &mut tally, true, Way::Look)?;
     tally.print(rt)
 }
 
 /// Runs all groups.
 pub(crate) fn run<R: Print + AllocGlobal>(rt: &R) -> Result<()> {
     let mut all = Tally::new("total");
-    row_groups(rt, &mut all)?;
-    damage_groups(rt, &mut all)?;
-    format_group(rt, &mut all)?;
-    cut_group(rt, &mut all, "delete", &DELETIONS)?;
-    cut_group(rt, &mut all, "set_preloads", &CHOICES)?;
-    cut_group(rt, &mut all, "put_new", &PUTS)?;
-    cut_group(rt, &mut all, "put_over", &REPLACEMENTS)?;
+    first_groups(rt, &mut all)?;
+    byte_groups(rt, &mut all)?;
+    change_groups(rt, &mut all)?;
+    upgrade_groups(rt, &mut all)?;
     all.print(rt)?;
-    wrong_group(rt)
+    wrong_groups(rt)
 }

@@ -2,23 +2,24 @@
 //! left, and compares what is read with what may stand.
 #![tactic(auto)]
 
+mod by_hand;
 mod calls;
 mod change;
 mod crafted;
-mod cut;
 mod damage;
+mod deed;
 mod disk;
-mod format;
 mod groups;
 mod opening;
 mod original;
-mod rows;
 mod rules;
 mod scenario;
 mod sectors;
 mod seen;
+mod spelling;
 mod state;
 mod trial;
+mod upgrades;
 
 use anyhow::Result;
 

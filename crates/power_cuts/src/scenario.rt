@@ -1,22 +1,23 @@
 // Every change, on every disk, cut at every call.
 
 use crate::change::Change;
+use crate::deed::Deed;
 use crate::disk::prepared;
-use crate::opening::Sides;
-use crate::seen::Seen;
+use crate::opening::{Side, Sides};
+use crate::seen::Way;
 use crate::state::State;
-use crate::trial::{Deed, Trial};
+use crate::trial::Trial;
 use anyhow::Result;
-use cuts::Tally;
+use cuts::{Cut, FORMAT_CALLS, Mixtures, Tally, Which};
 use sector_disk::Memory;
 use std::alloc::Global;
 use store::StoreRefusal;
 
-// The sizes of the disks, in sectors.
-const SIZES: [u32; 3] = [8, 11, 16];
+/// The sizes of the disks, in sectors.
+pub(crate) const SIZES: [u32; 9] = [8, 9, 10, 11, 12, 13, 14, 15, 16];
 
-// What is on a disk before a change.
-const STARTS: [&[Change]; 8] = [
+// What is done on a disk before a change, as far as there is room.
+const STARTS: [&[Change]; 10] = [
     &[],
     &[Change::PutNew(b'a', 344)],
     &[Change::PutNew(b'a', 344), Change::PutOver(b'a', 600)],
@@ -38,18 +39,32 @@ const STARTS: [&[Change]; 8] = [
         Change::PutNew(b'c', 100),
         Change::Choose(b"b"),
     ],
+    &[
+        Change::PutNew(b'a', 100),
+        Change::Choose(b"a"),
+        Change::Choose(b""),
+        Change::Delete(b'a'),
+    ],
+    &[
+        Change::PutNew(b'a', 1500),
+        Change::PutNew(b'b', 64),
+        Change::Delete(b'a'),
+        Change::PutNew(b'c', 1000),
+        Change::PutOver(b'b', 513),
+        Change::Choose(b"c"),
+    ],
 ];
 
-/// New byte strings of 1 to 3 sectors.
-pub(crate) const PUTS: [Change; 4] = [
+// New byte strings of 1 to 3 sectors.
+const PUTS: [Change; 4] = [
     Change::PutNew(b'd', 64),
     Change::PutNew(b'd', 512),
     Change::PutNew(b'd', 513),
     Change::PutNew(b'd', 1500),
 ];
 
-/// Other bytes in place of those that are there.
-pub(crate) const REPLACEMENTS: [Change; 4] = [
+// Other bytes in place of those that are there.
+const REPLACEMENTS: [Change; 4] = [
     Change::PutOver(b'a', 64),
     Change::PutOver(b'b', 512),
     Change::PutOver(b'b', 513),
@@ -63,8 +78,8 @@ pub(crate) const DELETIONS: [Change; 3] = [
     Change::Delete(b'c'),
 ];
 
-/// Lists of preloads.
-pub(crate) const CHOICES: [Change; 5] = [
+// Lists of preloads.
+const CHOICES: [Change; 5] = [
     Change::Choose(b""),
     Change::Choose(b"a"),
     Change::Choose(b"b"),
@@ -72,40 +87,60 @@ pub(crate) const CHOICES: [Change; 5] = [
     Change::Choose(b"cb"),
 ];
 
+/// The groups of changes.
+pub(crate) const CHANGES: [(&str, &[Change]); 4] = [
+    ("delete", &DELETIONS),
+    ("set_preloads", &CHOICES),
+    ("put_new", &PUTS),
+    ("put_over", &REPLACEMENTS),
+];
+
 // A format of a disk of zeros.
 fn format_trial(alloc: Global, sectors: u32) -> Result<Trial> {
     Ok(Trial {
         disk: Memory::new(alloc, sectors)?,
         deed: Deed::Format,
+        opening: 0,
+        calls: FORMAT_CALLS,
+        refusal: None,
         sides: Sides {
-            old: Seen::Refused(StoreRefusal::NotFormatted),
-            new: Seen::Stands(State::empty(alloc)),
+            way: Way::Open,
+            old: Side::refused(StoreRefusal::NotFormatted),
+            new: Side::standing(State::empty(alloc)),
         },
     })
 }
 
-// A change after others; None where it isn't allowed there or finds no room.
+// A change of the store on a disk of so many sectors.
 fn change_trial(
     alloc: Global,
     sectors: u32,
-    start: &[Change],
+    disk: Memory,
+    state: State,
     change: Change,
-) -> Result<Option<Trial>> {
-    let (disk, state) = prepared(alloc, sectors, start)?;
-    let used = state.cost().saturating_add(2);
-    let free = (sectors as usize).saturating_sub(used);
-    if !change.is_allowed(&state) || !change.fits(free) {
-        return Ok(None);
-    }
-    let new = Seen::Stands(state.after(alloc, change)?);
-    Ok(Some(Trial {
+) -> Result<Trial> {
+    let refusal = change.refusal(&state, sectors);
+    let new = match refusal {
+        Some(_) => state.copy(alloc)?,
+        None => state.after(alloc, change)?,
+    };
+    let calls = match refusal {
+        Some(_) => 0,
+        None => change.calls(new.catalogues()),
+    };
+    let old = Side::standing(state);
+    Ok(Trial {
         disk,
         deed: Deed::Change(change),
+        opening: old.calls,
+        calls,
+        refusal,
         sides: Sides {
-            old: Seen::Stands(state),
-            new,
+            way: Way::Open,
+            old,
+            new: Side::standing(new),
         },
-    }))
+    })
 }
 
 /// Cuts `format` at each of its calls.
@@ -120,21 +155,28 @@ pub(crate) fn cut_formats<R: Print + AllocGlobal>(
     Ok(())
 }
 
-// Cuts each of these changes on a disk of this size after these others.
+// A change on a disk of this size after these others, where it is allowed.
+fn trial(alloc: Global, sectors: u32, start: &[Change], change: Change) -> Result<Option<Trial>> {
+    let (disk, state) = prepared(alloc, sectors, start)?;
+    if change.is_allowed(&state) {
+        return Ok(Some(change_trial(alloc, sectors, disk, state, change)?));
+    }
+    Ok(None)
+}
+
+// Cuts a change on a disk of this size after these others, where it is allowed.
 fn cut_after<R: Print + AllocGlobal>(
     rt: &R,
     tally: &mut Tally,
     wrong: bool,
     sectors: u32,
     start: &[Change],
-    changes: &[Change],
+    change: Change,
 ) -> Result<()> {
-    for change in changes {
-        if let Some(trial) = change_trial(rt.alloc(), sectors, start, *change)? {
-            trial.cut_all(rt, tally, wrong)?;
-        }
+    match trial(rt.alloc(), sectors, start, change)? {
+        Some(trial) => trial.cut_all(rt, tally, wrong),
+        None => Ok(()),
     }
-    Ok(())
 }
 
 /// Cuts each of these changes on each disk at each of its calls.
@@ -146,8 +188,37 @@ pub(crate) fn cut_changes<R: Print + AllocGlobal>(
 ) -> Result<()> {
     for sectors in SIZES {
         for start in STARTS {
-            cut_after(rt, tally, wrong, sectors, start, changes)?;
+            for change in changes {
+                cut_after(rt, tally, wrong, sectors, start, *change)?;
+            }
         }
     }
     Ok(())
+}
+
+// The disk after a stop before the first sync of a put of 1,000 bytes: two sectors of bytes, an
+// entry and a catalogue are written.
+fn early_disk(alloc: Global, cut: Cut) -> Result<Memory> {
+    let (disk, _) = prepared(alloc, 8, &[])?;
+    let put = Deed::Change(Change::PutNew(b'a', 1000));
+    Ok(put.end(alloc, cut.of(disk))?.disk.into_inner())
+}
+
+/// All that may be left of it is the empty store.
+pub(crate) fn stop_early<R: Print + AllocGlobal>(rt: &R, tally: &mut Tally) -> Result<()> {
+    let cut = Cut {
+        opening: 3,
+        call: 5,
+        late: false,
+        forever: true,
+    };
+    let disk = early_disk(rt.alloc(), cut)?;
+    let count = Mixtures::of(rt.alloc(), &disk)?.count()?;
+    tally.count(rt, count == 16, &count, "16 mixtures")?;
+    let sides = Sides {
+        way: Way::Open,
+        old: Side::standing(State::empty(rt.alloc())),
+        new: Side::refused(StoreRefusal::Damaged),
+    };
+    sides.open_mixtures(rt, tally, &disk, cut, Which::Old)
 }

@@ -1,4 +1,4 @@
-// The sectors of a disk, one by one.
+// The sectors of a disk, one by one, and the numbers in them.
 
 use anyhow::{Result, bail};
 use sector_disk::{Disk, Memory, SECTOR_BYTES};
@@ -16,6 +16,14 @@ pub(crate) fn put_sector(disk: &mut Memory, at: u32, content: &[u8; SECTOR_BYTES
 /// Writes over some bytes.
 pub(crate) fn put_bytes(sector: &mut [u8; SECTOR_BYTES], at: usize, bytes: &[u8]) {
     for (place, byte) in sector.iter_mut().skip(at).zip(bytes) {
+        *place = *byte;
+    }
+}
+
+/// Writes a number of so many bytes, eight at most, lowest byte first.
+pub(crate) fn put_number(sector: &mut [u8; SECTOR_BYTES], at: usize, width: usize, value: u64) {
+    let bytes = value.to_le_bytes();
+    for (place, byte) in sector.iter_mut().skip(at).take(width).zip(&bytes) {
         *place = *byte;
     }
 }

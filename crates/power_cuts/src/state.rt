@@ -4,18 +4,20 @@ use crate::change::Change;
 use anyhow::{Context, Result};
 use std::alloc::Global;
 
-/// A byte string with its name.
+/// A byte string with its name, which has one byte.
 #[derive(Drop, PartialEq)]
 pub(crate) struct Blob {
-    pub(crate) name: Vec<u8>,
+    pub(crate) name: u8,
     pub(crate) bytes: Vec<u8>,
 }
 
-/// All that can be seen of a store: its byte strings in their order, and the names of its preloads.
+/// All that can be seen of a store: its generation, its byte strings in their order, and the names
+/// of its preloads.
 #[derive(Drop, PartialEq)]
 pub(crate) struct State {
+    pub(crate) generation: u64,
     pub(crate) blobs: Vec<Blob>,
-    pub(crate) preloads: Vec<Vec<u8>>,
+    pub(crate) preloads: Vec<u8>,
 }
 
 /// So many bytes that tell where they stand, and which string they belong to.
@@ -27,94 +29,107 @@ pub(crate) fn content(alloc: Global, first_byte: u8, length: usize) -> Result<Ve
     Ok(bytes)
 }
 
-impl Blob {
-    fn new(alloc: Global, name: u8, first_byte: u8, length: usize) -> Result<Blob> {
-        Ok(Blob {
-            name: Vec::from_slice(alloc, &[name])?,
-            bytes: content(alloc, first_byte, length)?,
-        })
-    }
+/// How many sectors so many bytes take: their own, and one of an entry.
+pub(crate) fn cost(length: usize) -> usize {
+    length.div_ceil(512).saturating_add(1)
+}
 
-    fn copy(&self, alloc: Global) -> Result<Blob> {
-        Ok(Blob {
-            name: Vec::from_slice(alloc, &self.name)?,
-            bytes: Vec::from_slice(alloc, &self.bytes)?,
-        })
-    }
+/// How many catalogues list so many entries: 64 in each.
+pub(crate) fn catalogues(count: usize) -> usize {
+    count.div_ceil(64)
 }
 
 impl State {
-    /// No byte strings.
+    /// No byte strings, of generation 0.
     pub(crate) fn empty(alloc: Global) -> State {
         State {
+            generation: 0,
             blobs: Vec::new(alloc),
             preloads: Vec::new(alloc),
         }
     }
 
+    /// Byte strings of these names and lengths, and these preloads.
+    pub(crate) fn of(
+        alloc: Global,
+        generation: u64,
+        blobs: &[(u8, usize)],
+        preloads: &[u8],
+    ) -> Result<State> {
+        let mut state = State::empty(alloc);
+        state.generation = generation;
+        for (name, length) in blobs {
+            state.put(*name, content(alloc, *name, *length)?)?;
+        }
+        state.preloads.extend_from_slice(preloads)?;
+        Ok(state)
+    }
+
+    /// Puts bytes behind the others.
+    pub(crate) fn put(&mut self, name: u8, bytes: Vec<u8>) -> Result<()> {
+        self.blobs.push(Blob { name, bytes })?;
+        Ok(())
+    }
+
     /// The same state.
     pub(crate) fn copy(&self, alloc: Global) -> Result<State> {
         let mut copy = State::empty(alloc);
+        copy.generation = self.generation;
         for blob in &self.blobs {
-            copy.blobs.push(blob.copy(alloc)?)?;
+            copy.put(blob.name, Vec::from_slice(alloc, &blob.bytes)?)?;
         }
-        for name in &self.preloads {
-            copy.preloads.push(Vec::from_slice(alloc, name)?)?;
-        }
+        copy.preloads.extend_from_slice(&self.preloads)?;
         Ok(copy)
+    }
+
+    /// The same byte strings and preloads, of the next generation.
+    pub(crate) fn next(&self, alloc: Global) -> Result<State> {
+        let mut next = self.copy(alloc)?;
+        next.generation = self.generation.wrapping_add(1);
+        Ok(next)
     }
 
     /// Whether a byte string has this name.
     pub(crate) fn has(&self, name: u8) -> bool {
-        self.blobs
-            .iter()
-            .any(|blob| blob.name.as_slice() == [name].as_slice())
+        self.blobs.iter().any(|blob| blob.name == name)
     }
 
-    /// Whether a preload has this name.
-    pub(crate) fn preloads(&self, name: u8) -> bool {
-        self.preloads
-            .iter()
-            .any(|preload| preload.as_slice() == [name].as_slice())
-    }
-
-    /// How many sectors the byte strings take: their bytes, and an entry each.
-    pub(crate) fn cost(&self) -> usize {
-        let mut cost = 0usize;
+    /// How many sectors the byte strings and the two roots take.
+    pub(crate) fn used(&self) -> usize {
+        let mut used = 2usize;
         for blob in &self.blobs {
-            cost = cost.saturating_add(blob.bytes.len().div_ceil(512).saturating_add(1));
+            used = used.saturating_add(cost(blob.bytes.len()));
         }
-        cost
+        used
     }
 
-    fn choose(&mut self, alloc: Global, names: &[u8]) -> Result<()> {
-        self.preloads.clear();
-        for name in names {
-            self.preloads.push(Vec::from_slice(alloc, &[*name])?)?;
-        }
+    /// How many catalogues it has.
+    pub(crate) fn catalogues(&self) -> usize {
+        catalogues(self.blobs.len())
+    }
+
+    /// How many sectors of so many are free, where catalogues count twice: None where it doesn't
+    /// fit.
+    pub(crate) fn free(&self, sectors: usize) -> Option<usize> {
+        let twice = self.catalogues().saturating_mul(2);
+        sectors.checked_sub(self.used().saturating_add(twice))
+    }
+
+    // Puts bytes in the place of others.
+    fn replace(&mut self, name: u8, bytes: Vec<u8>) -> Result<()> {
+        let old = self.blobs.iter_mut().find(|blob| blob.name == name);
+        old.context("nothing to replace")?.bytes = bytes;
         Ok(())
     }
 
     /// The state after a change.
     pub(crate) fn after(&self, alloc: Global, change: Change) -> Result<State> {
-        let mut state = self.copy(alloc)?;
+        let mut state = self.next(alloc)?;
         match change {
-            Change::PutNew(name, length) => {
-                state.blobs.push(Blob::new(alloc, name, name, length)?)?;
-            }
-            Change::PutOver(name, length) => {
-                let old = state
-                    .blobs
-                    .iter_mut()
-                    .find(|blob| blob.name.as_slice() == [name].as_slice());
-                old.context("nothing to replace")?.bytes = content(alloc, !name, length)?;
-            }
-            Change::Delete(name) => {
-                state
-                    .blobs
-                    .retain(|blob| blob.name.as_slice() != [name].as_slice());
-            }
-            Change::Choose(names) => state.choose(alloc, names)?,
+            Change::PutNew(name, length) => state.put(name, content(alloc, name, length)?)?,
+            Change::PutOver(name, length) => state.replace(name, content(alloc, !name, length)?)?,
+            Change::Delete(name) => state.blobs.retain(|blob| blob.name != name),
+            Change::Choose(names) => state.preloads = Vec::from_slice(alloc, names)?,
         }
         Ok(state)
     }

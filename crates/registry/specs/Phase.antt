@@ -7,7 +7,7 @@ use Rattle.registry.specs.Table.{Table}
 -- what contracts see of a registry: its state, and what is known of its disk
 pub record Phase : Type 0 where
   pub sectors : ℕ
-  -- how many free sectors lie in as many of the longest runs as a file may have extents
+  -- how many sectors that aren't in use lie in as many of the longest runs as a file may have extents
   pub longest : ℕ
   -- how many calls of its disk have failed
   pub failures : ℕ

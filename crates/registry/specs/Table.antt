@@ -21,7 +21,7 @@ pub record Table : Type 0 where
   -- the names of the libraries
   pub names : List (List ℕ)
   pub preloads : List (List ℕ)
-  -- how many sectors are free
+  -- how many sectors are free beside those that the catalogues of the next change take
   pub free : ℕ
-  -- how many of them lie in as many of the longest runs as a file may have extents
+  -- how many sectors that aren't in use lie in as many of the longest runs as a file may have extents
   pub longest : ℕ

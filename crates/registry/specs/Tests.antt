@@ -1,12 +1,12 @@
 -- The tests of a command in their order, each on what the tests read and on what is asked (own).
-use Rattle.std.specs.Prelude.{ℕ, ◌-◌, ◌==◌, ◌||◌, List, [], ◌∷◌, length, Bool, false, not, nat_le, nat_lt, Option}
+use Rattle.std.specs.Prelude.{ℕ, ◌+◌, ◌-◌, ◌==◌, ◌||◌, List, [], ◌∷◌, length, Bool, false, not, nat_le, nat_lt, Option}
 use Rattle.std.specs.List.{list_any}
 use Rattle.std.specs.Option.{option_map}
 use Rattle.elf_file.specs.FirstOf.{◌when◌, first_of}
 use Rattle.states.specs.Limits.{most_libraries, most_preloads, last_generation}
 use Rattle.registry.specs.Library.{library_refusal, name_of}
 use Rattle.states.specs.State.{has_name}
-use Rattle.states.specs.Cost.{cost}
+use Rattle.states.specs.Cost.{cost, catalogue_cost}
 use Rattle.registry.specs.Table.{Table}
 use Rattle.registry.specs.Request.{Request, install, replace, remove, set_preloads, bind, list}
 use Rattle.registry.specs.declared.refusal.Refusal.{Refusal}
@@ -29,32 +29,32 @@ has_most t = nat_le most_libraries (length t.names)
 abbrev pub is_last : Table → Bool
 is_last t = t.generation == last_generation
 
--- the file costs more sectors than are free
-abbrev pub is_full : Table → List ℕ → Bool
-is_full t bytes = nat_lt t.free (cost (length bytes))
+-- the file and so many sectors more cost more than are free
+abbrev pub is_full : ℕ → Table → List ℕ → Bool
+is_full more t bytes = nat_lt t.free (cost (length bytes) + more)
 
 -- the longest runs of free sectors are too short for its bytes
 abbrev pub is_fragmented : Table → List ℕ → Bool
 is_fragmented t bytes = nat_lt t.longest (cost (length bytes) - 1)
 
--- C1, C2, S9, S10, S7, S8
+-- C1, C2, S9, S10, S7, S8; one library more may take more catalogues
 abbrev pub install_tests : Table → List ℕ → List (Option Refusal)
 install_tests t bytes =
     option_map Object (library_refusal bytes)
     ∷ (AlreadyInstalled when is_installed t (name_of bytes))
     ∷ (TooMany when has_most t)
     ∷ (GenerationEnd when is_last t)
-    ∷ (Full when is_full t bytes)
+    ∷ (Full when is_full (catalogue_cost (length t.names)) t bytes)
     ∷ (Fragmented when is_fragmented t bytes)
     ∷ []
 
--- C1, C3, S10, S7, S8
+-- C1, C3, S10, S7, S8; there are as many libraries as before, and as many catalogues
 abbrev pub replace_tests : Table → List ℕ → List (Option Refusal)
 replace_tests t bytes =
     option_map Object (library_refusal bytes)
     ∷ (NotInstalled when not (is_installed t (name_of bytes)))
     ∷ (GenerationEnd when is_last t)
-    ∷ (Full when is_full t bytes)
+    ∷ (Full when is_full 0 t bytes)
     ∷ (Fragmented when is_fragmented t bytes)
     ∷ []
 

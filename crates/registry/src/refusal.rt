@@ -29,11 +29,12 @@ pub enum Refusal {
     Damaged,
     /// S6: there are fewer than 8 or more than 4,194,304 sectors.
     BadGeometry,
-    /// S7: the file costs more sectors than are free.
+    /// S7: the file, and twice the catalogues that a longer list has more, cost more sectors than
+    /// are free.
     Full,
     /// S8: the longest runs of free sectors are too short for the file.
     Fragmented,
-    /// S9: 100 libraries are installed.
+    /// S9: 2,048 libraries are installed.
     TooMany,
     /// S10: the generation is the greatest.
     GenerationEnd,

@@ -18,10 +18,15 @@ fn sectors_of(length: u32) -> u64 {
     u64::from(length).div_ceil(512)
 }
 
-// How many calls of the disk an opening makes: a sync, two root sectors, and of each library the
-// entry and the file.
+/// How many sectors of catalogues list so many libraries.
+pub(crate) fn catalogues_of(libraries: usize) -> u64 {
+    libraries.div_ceil(64) as u64
+}
+
+// How many calls of the disk an opening makes: a sync, two root sectors, the catalogues, and of each
+// library the entry and the file.
 fn opening_calls(listing: &Listing) -> u64 {
-    let mut calls = 3u64;
+    let mut calls = catalogues_of(listing.libraries.len()).saturating_add(3);
     for (_, length) in &listing.libraries {
         calls = calls.saturating_add(sectors_of(*length)).saturating_add(1);
     }

@@ -1,5 +1,6 @@
 // The commands, with the files that they give.
 
+use crate::answer::catalogues_of;
 use anyhow::Result;
 use registry::Command;
 use std::alloc::Global;
@@ -100,13 +101,17 @@ impl Ask {
         }
     }
 
-    /// How many calls of the disk it makes where it is done: the sectors of the file, the entry, a
-    /// sync, the root, a sync.
-    pub(crate) fn calls(&self) -> u64 {
+    /// How many calls of the disk it makes where it is done and leaves so many libraries: the
+    /// sectors of the file and its entry, the catalogues, a sync, the root, a sync. A removal writes
+    /// no file, and a choice of preloads the root alone.
+    pub(crate) fn calls(&self, libraries: usize) -> u64 {
+        let catalogues = catalogues_of(libraries);
         match self.change {
             Change::Install(..) | Change::Replace(..) => {
-                (self.file.len().div_ceil(512) as u64).saturating_add(4)
+                let file = self.file.len().div_ceil(512) as u64;
+                file.saturating_add(catalogues).saturating_add(4)
             }
+            Change::Remove(_) => catalogues.saturating_add(3),
             _ => 2,
         }
     }

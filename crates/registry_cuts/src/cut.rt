@@ -1,4 +1,4 @@
-// A command and a format whose power is cut.
+// A command, a format and an upgrade whose power is cut.
 
 use crate::answer::Answer;
 use crate::change::{Ask, Change};
@@ -78,12 +78,16 @@ pub(crate) fn cut_command(
     })
 }
 
-/// Formats the disk, cut as it is said. No registry is left that could answer S2.
-pub(crate) fn cut_format(alloc: Global, disk: Memory, cut: Cut) -> Result<Ending> {
-    let (refusal, disk) = match Registry::format(alloc, cut.of(disk)) {
+// How making or opening a registry ended. None is left that could answer S2.
+fn ended(
+    alloc: Global,
+    made: Result<Registry<Powered>, (StoreRefusal, Powered)>,
+) -> Result<Ending> {
+    let (refusal, disk) = match made {
         Ok(registry) => (None, registry.into_disk()),
         Err((StoreRefusal::Device, disk)) => (Some(Refusal::Device), disk),
-        Err((_, _)) => bail!("a format was refused"),
+        Err((StoreRefusal::Full, disk)) => (Some(Refusal::Full), disk),
+        Err((_, _)) => bail!("a disk was refused"),
     };
     Ok(Ending {
         answer: Answer {
@@ -94,4 +98,14 @@ pub(crate) fn cut_format(alloc: Global, disk: Memory, cut: Cut) -> Result<Ending
         behind: Vec::new(alloc),
         disk,
     })
+}
+
+/// Formats the disk, cut as it is said.
+pub(crate) fn cut_format(alloc: Global, disk: Memory, cut: Cut) -> Result<Ending> {
+    ended(alloc, Registry::format(alloc, cut.of(disk)))
+}
+
+/// Upgrades the disk, cut as it is said.
+pub(crate) fn cut_upgrade(alloc: Global, disk: Memory, cut: Cut) -> Result<Ending> {
+    ended(alloc, Registry::upgrade(alloc, cut.of(disk)))
 }

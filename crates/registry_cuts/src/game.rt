@@ -38,7 +38,7 @@ pub(crate) const ROUNDS: [Row; 6] = [
     ),
     (8, &[], &[&[], &[Change::Install(b'a', 0, SIZE)], &[]]),
     (
-        8,
+        10,
         &[],
         &[
             &[
@@ -55,7 +55,7 @@ pub(crate) const ROUNDS: [Row; 6] = [
         ],
     ),
     (
-        8,
+        10,
         &[
             Change::Install(b'a', 0, SIZE),
             Change::Install(b'b', 0, SIZE),
@@ -67,7 +67,7 @@ pub(crate) const ROUNDS: [Row; 6] = [
         ],
     ),
     (
-        9,
+        11,
         &[Change::Install(b'a', 0, 600)],
         &[
             &[Change::Replace(b'a', 1, 1100)],

@@ -7,6 +7,7 @@ use crate::lives::{cut_lists, cut_lives};
 use crate::scenario::{
     CHOICES, INSTALLS, Kind, OTHERS, REMOVALS, REPLACEMENTS, cut_commands, cut_formats,
 };
+use crate::upgrades::{OLD_DISKS, cut_old, cut_unwritten};
 use anyhow::Result;
 use cuts::Tally;
 
@@ -35,6 +36,14 @@ fn cut_group<R: Print + AllocGlobal>(
 fn format_group<R: Print + AllocGlobal>(rt: &R, all: &mut Tally) -> Result<()> {
     let mut tally = Tally::new("format");
     cut_formats(rt, &mut tally, false)?;
+    all.end(rt, &tally)
+}
+
+// The group of upgrades.
+fn upgrade_group<R: Print + AllocGlobal>(rt: &R, all: &mut Tally) -> Result<()> {
+    let mut tally = Tally::new("upgrade");
+    cut_old(rt, &mut tally, &OLD_DISKS, false)?;
+    cut_unwritten(rt, &mut tally)?;
     all.end(rt, &tally)
 }
 
@@ -92,9 +101,17 @@ fn wrong_rounds<R: Print + AllocGlobal>(rt: &R) -> Result<()> {
     tally.print(rt)
 }
 
+// The same of upgrades.
+fn wrong_upgrades<R: Print + AllocGlobal>(rt: &R) -> Result<()> {
+    let mut tally = Tally::quiet("upgrades with old and new exchanged, on purpose");
+    cut_old(rt, &mut tally, &OLD_DISKS, true)?;
+    tally.print(rt)
+}
+
 // All that is wrong on purpose.
 fn wrong_groups<R: Print + AllocGlobal>(rt: &R) -> Result<()> {
     wrong_group(rt)?;
+    wrong_upgrades(rt)?;
     wrong_list(rt)?;
     wrong_rounds(rt)
 }
@@ -107,6 +124,7 @@ pub(crate) fn run<R: Print + AllocGlobal>(rt: &R) -> Result<()> {
         cut_group(rt, &mut all, group, true, changes)?;
     }
     cut_group(rt, &mut all, "refused and read", false, &OTHERS)?;
+    upgrade_group(rt, &mut all)?;
     life_groups(rt, &mut all)?;
     all.print(rt)?;
     wrong_groups(rt)

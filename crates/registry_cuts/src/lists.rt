@@ -7,10 +7,11 @@ use crate::scenario::{A, B, C};
 pub(crate) type List = (u32, &'static [Change]);
 
 /// A list over each size of disk from 8 to 16 sectors, some of which fill it to the last sector. A
-/// library takes a sector for each 512 bytes and one for its entry, a disk has two for its roots.
+/// library takes a sector for each 512 bytes and one for its entry, a disk has two for its roots, and
+/// two for the catalogue, once as it stands and once as the next change writes it.
 pub(crate) const LISTS: [List; 12] = [
     (
-        8,
+        10,
         &[
             Change::Install(b'a', 0, SIZE),
             Change::Install(b'b', 0, SIZE),
@@ -21,7 +22,7 @@ pub(crate) const LISTS: [List; 12] = [
         ],
     ),
     (
-        8,
+        10,
         &[
             Change::Install(b'a', 0, 600),
             Change::Replace(b'a', 1, 600),
@@ -35,7 +36,7 @@ pub(crate) const LISTS: [List; 12] = [
         8,
         &[
             Change::Remove(A),
-            Change::Install(b'a', 0, 2100),
+            Change::Install(b'a', 0, 1500),
             Change::Bind(b'a'),
             Change::Install(b'b', 0, SIZE),
             Change::Remove(A),
@@ -45,16 +46,16 @@ pub(crate) const LISTS: [List; 12] = [
     (
         9,
         &[
-            Change::Install(b'a', 0, 600),
+            Change::Install(b'a', 0, SIZE),
             Change::Bind(b'a'),
-            Change::Replace(b'a', 1, 1100),
+            Change::Replace(b'a', 1, 600),
             Change::Choose(&[A]),
             Change::Remove(A),
             Change::Choose(&[]),
         ],
     ),
     (
-        10,
+        12,
         &[
             Change::Install(b'b', 0, SIZE),
             Change::Install(b'a', 0, 1100),
@@ -87,7 +88,7 @@ pub(crate) const LISTS: [List; 12] = [
         ],
     ),
     (
-        13,
+        15,
         &[
             Change::Install(b'b', 0, 600),
             Change::Install(b'a', 0, 600),
@@ -109,7 +110,7 @@ pub(crate) const LISTS: [List; 12] = [
         ],
     ),
     (
-        15,
+        16,
         &[
             Change::List,
             Change::Install(b'a', 0, 2100),
@@ -126,12 +127,12 @@ pub(crate) const LISTS: [List; 12] = [
             Change::Install(b'b', 0, 600),
             Change::Install(b'a', 0, 1100),
             Change::Choose(&[C, A]),
-            Change::Replace(b'a', 1, 1600),
+            Change::Replace(b'a', 1, 600),
             Change::Remove(B),
         ],
     ),
     (
-        16,
+        13,
         &[
             Change::Install(0, 0, SIZE),
             Change::Install(b'a', 0, SIZE),

@@ -54,7 +54,9 @@ pub(crate) fn cut_lives<R: Print + AllocGlobal>(rt: &R, tally: &mut Tally) -> Re
     Ok(())
 }
 
-// Cuts a list at one place, and then each opening of what is left, before a stop and after it.
+// Cuts a list at one place, and then each opening of what is left, before a stop and after it. Where
+// one call alone is cut, that is what is left where all behind it are: a change that failed is
+// followed by no call, and a bind that failed changes nothing.
 fn cut_list<R: Print + AllocGlobal>(
     rt: &R,
     tally: &mut Tally,
@@ -65,6 +67,9 @@ fn cut_list<R: Print + AllocGlobal>(
     let table = life.wanted(place);
     let wanted = if wrong { table.exchanged() } else { table };
     let disk = cut_life(rt, tally, life, place, wanted)?;
+    if !place.cut.forever {
+        return Ok(());
+    }
     let sides = life.sides(life.first_failed(place))?;
     cut_openings(rt, tally, &disk, sides, wanted)?;
     cut_stopped(rt, tally, &disk, sides)

@@ -10,6 +10,7 @@ mod groups;
 mod life;
 mod lists;
 mod lives;
+mod old;
 mod opening;
 mod probe;
 mod rounds;
@@ -17,6 +18,7 @@ mod scenario;
 mod seen;
 mod step;
 mod trial;
+mod upgrades;
 
 use anyhow::Result;
 

@@ -133,8 +133,8 @@ fn are_told(
     Ok(right)
 }
 
-// Whether two disks hold the same, and a stop leaves nothing else of the first.
-fn are_same(alloc: Global, disk: Memory, other: &Memory) -> Result<bool> {
+/// Whether two disks hold the same, and a stop leaves nothing else of the first.
+pub(crate) fn are_same(alloc: Global, disk: Memory, other: &Memory) -> Result<bool> {
     let mut right = Mixtures::of(alloc, &disk)?.count()? == 1;
     let (mut disk, mut other) = (disk, other.copy()?);
     right = right && disk.sectors() == other.sectors();

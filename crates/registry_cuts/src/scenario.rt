@@ -4,7 +4,7 @@ use crate::change::{Ask, Change, SIZE};
 use crate::probe::Probe;
 use crate::seen::{Seen, look_plain};
 use crate::step::{Step, plain_after};
-use crate::trial::{States, Trial};
+use crate::trial::{Act, States, Trial};
 use anyhow::{Result, bail};
 use cuts::{Powered, Tally, whole};
 use disk_registry::Registry;
@@ -15,7 +15,7 @@ use std::alloc::Global;
 use store::StoreRefusal;
 
 // The sizes of the disks, in sectors.
-const SIZES: [u32; 3] = [8, 11, 16];
+const SIZES: [u32; 4] = [8, 10, 13, 16];
 
 pub(crate) const A: &[u8] = b"a";
 
@@ -25,7 +25,7 @@ pub(crate) const C: &[u8] = b"c";
 
 const D: &[u8] = b"d";
 
-// What is on a disk before a command. Three libraries fill one of 8 sectors.
+// What is on a disk before a command. Two libraries fill one of 8 sectors, and three one of 10.
 const STARTS: [&[Change]; 7] = [
     &[],
     &[Change::Install(b'a', 0, SIZE)],
@@ -97,6 +97,18 @@ pub(crate) const OTHERS: [Change; 11] = [
     Change::List,
 ];
 
+// How many sectors a disk has on which these commands are done: two for each library that was ever
+// installed there, two roots, and a catalogue twice.
+fn least_sectors(start: &[Change]) -> u32 {
+    let mut sectors = 4u32;
+    for change in start {
+        if matches!(change, Change::Install(..)) {
+            sectors = sectors.saturating_add(2);
+        }
+    }
+    sectors
+}
+
 // Gives commands that are done to a registry.
 fn make_all(alloc: Global, registry: &mut Registry<Powered>, changes: &[Change]) -> Result<()> {
     for change in changes {
@@ -144,7 +156,7 @@ fn trial(alloc: Global, sectors: u32, start: &[Change], change: Change) -> Resul
     let (step, states) = step_of(alloc, &mut plain_after(alloc, sectors, start)?, change)?;
     Ok(Trial {
         disk: disk_after(alloc, sectors, start)?,
-        step: Some(step),
+        act: Act::Command(step),
         states,
     })
 }
@@ -159,7 +171,7 @@ pub(crate) fn cut_formats<R: Print + AllocGlobal>(
         let states = format_states(rt.alloc(), sectors)?;
         let trial = Trial {
             disk: Memory::new(rt.alloc(), sectors)?,
-            step: None,
+            act: Act::Format,
             states,
         };
         trial.cut_all(rt, tally, wrong)?;
@@ -202,7 +214,9 @@ pub(crate) fn cut_commands<R: Print + AllocGlobal>(
 ) -> Result<()> {
     for sectors in SIZES {
         for start in STARTS {
-            cut_after(rt, tally, kind, (sectors, start), changes)?;
+            if least_sectors(start) <= sectors {
+                cut_after(rt, tally, kind, (sectors, start), changes)?;
+            }
         }
     }
     Ok(())

@@ -14,18 +14,32 @@ use store::StoreRefusal;
 #[derive(Drop, PartialEq)]
 pub(crate) enum Seen {
     Stands(Vec<Answer>),
+    /// One of version 1, which lists and binds this once it is upgraded.
+    Old(Vec<Answer>),
     Refused(StoreRefusal),
 }
 
-/// Opens a disk, as it stands behind its fuse, and asks.
+// Asks a registry.
+fn ask(alloc: Global, registry: Registry<Powered>, probe: &Probe) -> Result<Vec<Answer>> {
+    let mut registry = registry;
+    let replies = registry.run(&probe.looks());
+    let _ = registry.into_disk();
+    Answer::all(alloc, replies?)
+}
+
+/// Upgrades a disk, as it stands behind its fuse, and asks.
+pub(crate) fn look_upgraded(alloc: Global, disk: Powered, probe: &Probe) -> Result<Seen> {
+    match Registry::upgrade(alloc, disk) {
+        Ok(registry) => Ok(Seen::Stands(ask(alloc, registry, probe)?)),
+        Err((refusal, _)) => Ok(Seen::Refused(refusal)),
+    }
+}
+
+/// Opens a disk, as it stands behind its fuse, and asks. One of version 1 is upgraded for that.
 pub(crate) fn look_behind(alloc: Global, disk: Powered, probe: &Probe) -> Result<Seen> {
     match Registry::open(alloc, disk) {
-        Ok(registry) => {
-            let mut registry = registry;
-            let replies = registry.run(&probe.looks());
-            let _ = registry.into_disk();
-            Ok(Seen::Stands(Answer::all(alloc, replies?)?))
-        }
+        Ok(registry) => Ok(Seen::Stands(ask(alloc, registry, probe)?)),
+        Err((StoreRefusal::OldFormat, disk)) => Ok(look_upgraded(alloc, disk, probe)?.before()),
         Err((refusal, _)) => Ok(Seen::Refused(refusal)),
     }
 }
@@ -42,11 +56,20 @@ pub(crate) fn look_plain(alloc: Global, plain: &mut PlainRegistry, probe: &Probe
 }
 
 impl Seen {
-    /// How many calls of the disk an opening makes: where nothing stands it reads the roots alone.
+    /// The same before an upgrade.
+    pub(crate) fn before(self) -> Seen {
+        match self {
+            Seen::Stands(answers) => Seen::Old(answers),
+            seen => seen,
+        }
+    }
+
+    /// How many calls of the disk an opening makes: where nothing stands, or a registry of version
+    /// 1, it reads the roots alone.
     pub(crate) fn opening_calls(&self) -> u64 {
         match self {
             Seen::Stands(answers) => answers.first().map_or(3, |listed| listed.opening),
-            Seen::Refused(_) => 3,
+            Seen::Old(_) | Seen::Refused(_) => 3,
         }
     }
 }

@@ -15,6 +15,14 @@ pub(crate) struct Step {
     pub(crate) calls: u64,
 }
 
+// How many libraries there are.
+fn count(plain: &mut PlainRegistry) -> usize {
+    match plain.apply(&Command::List) {
+        Reply::Listing(listing) => listing.libraries.len(),
+        _ => 0,
+    }
+}
+
 // How many sectors a bind reads; of other commands none are asked.
 fn reads(plain: &mut PlainRegistry, change: Change) -> u64 {
     match (plain.apply(&Command::List), change) {
@@ -46,7 +54,7 @@ impl Step {
         let reads = reads(plain, change);
         let reply = plain.apply(&ask.command());
         let calls = match &reply {
-            Reply::Done => ask.calls(),
+            Reply::Done => ask.calls(count(plain)),
             Reply::Bound(_) => reads,
             _ => 0,
         };

@@ -104,7 +104,7 @@ const CUT_PRELOADS: [(Asked, &str); 4] = [
     (List, "S2"),
 ];
 
-// A change one of whose calls fails, behind the seven of the opening, and then what its disk holds:
+// A change one of whose calls fails, behind the eight of the opening, and then what its disk holds:
 // a and b as before, or what the change makes of them.
 fn cut(
     rt: &impl Abort,
@@ -122,18 +122,25 @@ fn cut(
     Ok(is_after)
 }
 
+// The changes, what stands after each, and the number of the call that writes its root.
+const CUTS: [(&[(Asked, &str)], Held, u64); 2] = [
+    // Behind the catalogue and a sync.
+    (&CUT_REMOVAL, (ONLY_B, b""), 11),
+    (&CUT_PRELOADS, (AB, A), 9),
+];
+
 #[test]
 fn each_failing_call_of_a_change_is_told(rt: HostRuntime) -> Result<(), Fail> {
     let disk = disk(&rt, rt.alloc())?;
-    // The write of the root, and the sync, each before it reached the disk and behind it.
-    for (call, late) in [(8, false), (8, true), (9, false), (9, true)] {
-        for (commands, after) in [
-            (&CUT_REMOVAL, (ONLY_B, b"".as_slice())),
-            (&CUT_PRELOADS, (AB, A)),
-        ] {
-            let fused = Fuse::new(disk.copy()?, call, false, late);
-            let is_after = cut(&rt, rt.alloc(), fused, commands, after)?;
-            assert!(rt; is_after == (call == 9 || late), "call {call}");
+    for (commands, after, root) in CUTS {
+        // The last one is the sync behind the root.
+        for call in 9..=root + 1 {
+            for late in [false, true] {
+                let fused = Fuse::new(disk.copy()?, call, false, late);
+                let is_after = cut(&rt, rt.alloc(), fused, commands, after)?;
+                let wanted = call > root || call == root && late;
+                assert!(rt; is_after == wanted, "call {call}");
+            }
         }
     }
     Ok(())

@@ -55,8 +55,8 @@ const TAIL: &[u8] =
 /// The names of the front, in their order.
 const LETTERS: &[u8] = b"abcdepfz";
 
-/// Writes bytes over those of a file.
-fn put(file: &mut [u8], at: usize, bytes: &[u8]) {
+/// Writes bytes over those of a file or a sector.
+pub(crate) fn put(file: &mut [u8], at: usize, bytes: &[u8]) {
     for (i, byte) in bytes.iter().enumerate() {
         if let Some(place) = file.get_mut(at.saturating_add(i)) {
             *place = *byte;

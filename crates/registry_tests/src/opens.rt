@@ -68,10 +68,10 @@ fn each_file_is_to_be_a_library_of_its_name(rt: HostRuntime) -> Result<(), Fail>
 #[test]
 fn each_failing_call_of_an_opening_is_told(rt: HostRuntime) -> Result<(), Fail> {
     let disk = filled(&rt, rt.alloc(), &library(b'a'), &library(b'b'))?;
-    // A sync, two roots, two entries, and a sector of each file; there is no eighth.
-    for call in 1..9 {
+    // A sync, two roots, a catalogue, two entries, and a sector of each file; there is no ninth.
+    for call in 1..10 {
         let (refusal, _) = open(rt.alloc(), Fuse::new(disk.copy()?, call, false, false));
-        let wanted = if call < 8 {
+        let wanted = if call < 9 {
             Some(StoreRefusal::Device)
         } else {
             None

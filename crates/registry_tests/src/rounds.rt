@@ -83,20 +83,22 @@ fn install_cut(
 }
 
 // The call of an install's round that fails, whether it reached the disk, the choice of every
-// sector at the stop, the reply, and whether the library is listed then.
-const CUTS: [(u64, bool, usize, &str, bool); 12] = [
+// sector at the stop, the reply, and whether the library is listed then. Behind the three of the
+// opening come the file, its entry, the catalogue, a sync, the root, and a sync.
+const CUTS: [(u64, bool, usize, &str, bool); 13] = [
     (1000, false, 0, "ok", true),
     (1, false, 0, "not run", false),
     (3, true, 0, "not run", false),
     (4, true, 1, "S1", false),
-    (6, false, 1, "S1", false),
+    (6, true, 1, "S1", false),
     (7, false, 1, "S1", false),
-    (7, true, 0, "S1", false),
-    (7, true, 1, "S1", true),
-    (8, false, 0, "S1", false),
-    (8, false, 1, "S1", true),
-    (8, true, 0, "S1", true),
-    (9, false, 1, "ok", true),
+    (8, false, 1, "S1", false),
+    (8, true, 0, "S1", false),
+    (8, true, 1, "S1", true),
+    (9, false, 0, "S1", false),
+    (9, false, 1, "S1", true),
+    (9, true, 0, "S1", true),
+    (10, false, 1, "ok", true),
 ];
 
 #[test]

@@ -57,20 +57,20 @@ fn a_run_gives_one_answer_for_each_command(rt: HostRuntime) -> Result<(), Fail> 
 // after it.
 const CUTS: [(&[u64], [&str; 4], Held, Held); 4] = [
     (
-        &[4, 5, 6, 7, 8],
+        &[4, 5, 6, 7, 8, 9],
         ["S1", "S2", "S2", "S2"],
         (&[], b""),
         (ONLY_A, b""),
     ),
     (
-        &[9, 10, 11, 12, 13],
+        &[10, 11, 12, 13, 14, 15],
         ["ok", "S1", "S2", "S2"],
         (ONLY_A, b""),
         (AB, b""),
     ),
-    (&[14, 15], ["ok", "ok", "S1", "S2"], (AB, b""), (AB, b"b")),
+    (&[16, 17], ["ok", "ok", "S1", "S2"], (AB, b""), (AB, b"b")),
     (
-        &[16, 17],
+        &[18, 19, 20, 21],
         ["ok", "ok", "ok", "S1"],
         (AB, b"b"),
         (ONLY_B, b"b"),

@@ -13,7 +13,8 @@ pub(crate) fn script(alloc: Global) -> Result<Vec<u8>, Fail> {
     let alone = hex::encode(alloc, file(alloc, None, b"", 0)?.as_slice())?;
     let mut text = Vec::new(alloc);
     writeln!(text, "list\nbind 0x10000 {needing}\ninstall {a}")?;
-    writeln!(text, "install {b}\nreplace {a}\npreload b a")?;
+    // Behind these the disk is full.
+    writeln!(text, "replace {a}\ninstall {b}\npreload b a")?;
     // The preloads are read, and they aren't what was installed.
     writeln!(text, "bind 0x10000 {alone}")?;
     writeln!(text, "remove a\npreload\nremove a\nremove a")?;

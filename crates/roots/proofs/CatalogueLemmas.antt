@@ -2,7 +2,7 @@
 use Rattle.std.proofs.Common.{◌≡◌, ℕ, ◌-◌, List, length, refl}
 use Rattle.std.proofs.lemmas.List.{take_at}
 use Rattle.extents.specs.Limits.{most_sectors}
-use Rattle.roots.specs.Limits.{most_catalogue_entries}
+use Rattle.states.specs.Limits.{most_catalogue_entries}
 use Rattle.roots.specs.Fields.{zeros}
 use Rattle.roots.specs.Catalogue.{catalogue_of_sectors, catalogued_sectors, SectorsFit, CatalogueHasSpelling}
 use Rattle.roots.proofs.Placed.{lists_sectors}

@@ -7,8 +7,9 @@ use Rattle.roots.specs.declared.entry_list.EntryList.{EntryList}
 use Rattle.roots.specs.declared.entry_list.EntryList.TheVariants.{InRoot, InCatalogues}
 use Rattle.roots.specs.declared.version.Version.TheVariants.{One, Two}
 use Rattle.roots.specs.declared.root.Root.{Root}
-use Rattle.states.specs.Limits.{most_preloads}
-use Rattle.roots.specs.Limits.{most_libraries, most_root_entries, most_catalogues, catalogues_for}
+use Rattle.states.specs.Limits.{most_preloads, most_libraries}
+use Rattle.roots.specs.Limits.{most_root_entries, most_catalogues}
+use Rattle.states.specs.Cost.{catalogues_for}
 use Rattle.roots.specs.Fields.{zeros}
 use Rattle.roots.proofs.Placed.{uses_first, lists_sectors}
 use Rattle.roots.specs.Root.{root_with, root_over_entries, root_over_catalogues, version_of, version_of_list, used_places, listed_sectors, listed_preloads, ListFits, PreloadsFit, ListsFit, CataloguesFit, RootHasSpelling}

@@ -4,7 +4,7 @@ use Rattle.std.specs.Int.{w16, w32, to_le_bytes}
 use Rattle.extents.specs.Limits.{root_sectors, most_sectors}
 use Rattle.extents.specs.Extent.{AreDistinct}
 use Rattle.roots.specs.declared.catalogue.Catalogue.{Catalogue}
-use Rattle.roots.specs.Limits.{most_catalogue_entries}
+use Rattle.states.specs.Limits.{most_catalogue_entries}
 use Rattle.roots.specs.Fields.{zeros, numbers, ListsSectors}
 
 -- the sector of a catalogue, field by field

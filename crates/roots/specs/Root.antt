@@ -8,8 +8,9 @@ use Rattle.roots.specs.declared.entry_list.EntryList.TheVariants.{InRoot, InCata
 use Rattle.roots.specs.declared.version.Version.{Version}
 use Rattle.roots.specs.declared.version.Version.TheVariants.{One, Two}
 use Rattle.roots.specs.declared.root.Root.{Root}
-use Rattle.states.specs.Limits.{least_sectors, most_preloads}
-use Rattle.roots.specs.Limits.{most_libraries, most_root_entries, most_catalogues, catalogues_for}
+use Rattle.states.specs.Limits.{least_sectors, most_preloads, most_libraries}
+use Rattle.roots.specs.Limits.{most_root_entries, most_catalogues}
+use Rattle.states.specs.Cost.{catalogues_for}
 use Rattle.roots.specs.Fields.{zeros, numbers, UsesFirst, ListsSectors}
 
 -- how the root sectors of version 1 begin

@@ -1,7 +1,7 @@
 //! What a catalogue says.
 
 ghost use Rattle.std.specs.Prelude.{◌≡◌, ◌≤◌, ◌↔◌, IsTrue, length};
-ghost use Rattle.roots.specs.Limits.{most_catalogue_entries};
+ghost use Rattle.states.specs.Limits.{most_catalogue_entries};
 ghost use Rattle.roots.specs.Catalogue.{CatalogueHasSpelling};
 ghost use Rattle.roots.specs.Catalogue.{catalogue_of_sectors, catalogued_sectors};
 

@@ -1,7 +1,8 @@
 //! The two root sectors, the entry sectors and the catalogue sectors of a registry's disk.
 //!
-//! After a stop two sectors decide which registry stands: `choose` picks its root. The root lists
-//! the sectors of the entries, and each entry has a library's name, its file's length, and the
+//! After a stop two sectors decide which registry stands: `choose` picks its root. A root of
+//! version 1 lists the sectors of the entries, one of version 2 those of catalogues, which list the
+//! sectors of the entries; and each entry has a library's name, its file's length, and the
 //! extents that hold the file. A value has one spelling as a sector, and a sector is read exactly
 //! where it is the spelling of a value. No call takes memory.
 #![tactic(auto)]

@@ -1,5 +1,5 @@
 ghost use Rattle.std.specs.Prelude.{◌≡◌};
-ghost use Rattle.roots.specs.Limits.{catalogues_for};
+ghost use Rattle.states.specs.Cost.{catalogues_for};
 
 /// The most libraries that a root counts: one of version 2.
 pub const MOST_LIBRARIES: usize = 2_048;

@@ -3,7 +3,7 @@ use crate::root::Root;
 /// What one of the two root sectors holds.
 #[derive(Clone, Copy, Debug, PartialEq, Eq)]
 pub enum Slot {
-    /// No root was written here: the magic is missing.
+    /// No root was written here: neither magic is there.
     Empty,
     /// The sector spells this root.
     Good(Root),

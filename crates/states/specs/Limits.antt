@@ -7,7 +7,11 @@ least_sectors = 8
 
 -- how many libraries a state may have
 abbrev pub most_libraries : ℕ
-most_libraries = 100
+most_libraries = 2048
+
+-- how many libraries a catalogue lists
+abbrev pub most_catalogue_entries : ℕ
+most_catalogue_entries = 64
 
 -- how many preloads a state may have
 abbrev pub most_preloads : ℕ

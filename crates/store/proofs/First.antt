@@ -9,33 +9,32 @@ use Rattle.roots.specs.declared.slot.Slot.TheVariants.{Good, Bad}
 use Rattle.roots.specs.Slot.{IsSlotOf}
 use Rattle.roots.specs.Root.{root_bytes, RootHasSpelling, HasMagic, LacksMagic}
 use Rattle.roots.proofs.Roots.{spelt_has_magic}
-use Rattle.roots.proofs.RootLemmas.{root_over_entries-has_spelling, listed_sectors-root_over_entries}
+use Rattle.roots.specs.declared.version.Version.TheVariants.{Two}
+use Rattle.roots.proofs.RootLemmas.{root_over_catalogues-has_spelling}
 use Rattle.states.specs.Geometry.{IsGeometry}
 use Rattle.states.specs.State.{empty_state}
 use Rattle.states.proofs.Sizes.{in_range}
-use Rattle.store.specs.Stands.{Lists, StandsBy, Stands}
+use Rattle.store.specs.Stands.{StandsBy, Stands}
 use Rattle.extents.proofs.UsedLemmas.{claims-new}
 use Rattle.store.specs.inside.Kept.{IsKept}
 use Rattle.store.specs.inside.First.{first_root}
 
 pub first_fits : (sectors : ℕ) → IsGeometry sectors → RootHasSpelling (first_root sectors)
-first_fits sectors geometry = root_over_entries-has_spelling 0 sectors [] [] (record {
+first_fits sectors geometry = root_over_catalogues-has_spelling 0 sectors 0 [] [] (record {
   generation_fits = omega arith;
   sectors_fit = in_range sectors geometry;
-  few_entries = omega arith;
+  few_libraries = omega arith;
+  enough = refl;
   few_preloads = omega arith;
-  entries_inside = λ k d lt. absurd (omega (arith, lt));
-  entries_distinct = λ i j d lt fits. absurd (omega (arith, fits));
+  catalogues_inside = λ k d lt. absurd (omega (arith, lt));
+  catalogues_distinct = λ i j d lt fits. absurd (omega (arith, fits));
   preloads_inside = λ k d lt. absurd (omega (arith, lt));
   preloads_distinct = λ i j d lt fits. absurd (omega (arith, fits));
 })
 
--- it lists no entry
-first_listed : (sectors : ℕ) → Lists (first_root sectors) []
-first_listed sectors = record { version = refl; sectors = sym (listed_sectors-root_over_entries 0 sectors [] []) }
-
-pub first_stands : (m : List Sector) (sectors : ℕ) → IsGeometry sectors → length m ≡ sectors → LacksMagic (sector m 1) → StandsBy (set m 0 (root_bytes (first_root sectors))) (first_root sectors) [] empty_state
+pub first_stands : (m : List Sector) (sectors : ℕ) → IsGeometry sectors → length m ≡ sectors → LacksMagic (sector m 1) → StandsBy Two (set m 0 (root_bytes (first_root sectors))) (first_root sectors) [] empty_state
 first_stands m sectors geometry size lacks = record {
+  of_version = refl;
   intact = record {
     current = inl (
       record { has_spelling = first_fits sectors geometry; spelling = get_or-set_same m 0 (root_bytes (first_root sectors)) [] (omega (arith, in_range sectors geometry, size)) },
@@ -43,8 +42,9 @@ first_stands m sectors geometry size lacks = record {
       subst LacksMagic (sym (get_or-set_other m 0 1 (root_bytes (first_root sectors)) [] (omega arith))) lacks,
     );
     size = sym size ∙ sym (length-set m 0 (root_bytes (first_root sectors)));
-    listed = record { sectors = first_listed sectors; each = λ i d lt. absurd (omega (arith, lt)) };
+    listed = record { sectors = (refl, record { each = λ i lt. absurd (omega (arith, lt)) }); each = λ i d lt. absurd (omega (arith, lt)) };
     apart = record { inside = λ k d lt. absurd (omega (arith, lt)); once = λ i j d lt fits. absurd (omega (arith, fits)) };
+    room = omega (arith, in_range sectors geometry, size, length-set m 0 (root_bytes (first_root sectors)));
     names = λ i j d lt fits. absurd (omega (arith, fits));
   };
   is = refl;
@@ -55,9 +55,10 @@ pub first_kept : (sectors : ℕ) → IsGeometry sectors → IsKept (first_root s
 first_kept sectors geometry = record {
   root_fits = first_fits sectors geometry;
   size = length-replicate sectors false;
-  listed = first_listed sectors;
+  counted = refl;
   entries_fit = λ k d lt. absurd (omega (arith, lt));
   apart = record { inside = λ k d lt. absurd (omega (arith, lt)); once = λ i j d lt fits. absurd (omega (arith, fits)) };
+  room = omega (arith, in_range sectors geometry);
   names = λ i j d lt fits. absurd (omega (arith, fits));
   claims = claims-new sectors;
 }
@@ -65,7 +66,7 @@ first_kept sectors geometry = record {
 -- the first root goes into a synced disk: each mixture is an old one, or stands for the empty state
 module _ {old mid : DiskFacts} (sectors : ℕ) (geometry : IsGeometry sectors) (before : LeavesOnly old mid (Mixture old)) (holds : HoldsNow mid) (synced : IsSynced mid) (size : length mid.now ≡ sectors) (lacks : LacksMagic (sector mid.now 1)) (content : Sector) (is : content ≡ root_bytes (first_root sectors)) where
   abbrev IsEmpty : List Sector → Type 0
-  IsEmpty m = StandsBy m (first_root sectors) [] empty_state
+  IsEmpty m = StandsBy Two m (first_root sectors) [] empty_state
 
   abbrev IsEither : List Sector → Type 0
   IsEither m = Mixture old m ⊎ IsEmpty m
@@ -93,7 +94,7 @@ slot_magic slot content is either = ⊎_elim
     either
 
 -- what stands by the first root stands
-pub either_stands : {old new : DiskFacts} (sectors : ℕ) → LeavesOnly old new (λ m. Mixture old m ⊎ StandsBy m (first_root sectors) [] empty_state) → LeavesOnly old new (λ m. Mixture old m ⊎ Stands m empty_state)
-either_stands {old = old} sectors leaves = weaken (λ m. Mixture old m ⊎ StandsBy m (first_root sectors) [] empty_state) (λ m. Mixture old m ⊎ Stands m empty_state)
+pub either_stands : {old new : DiskFacts} (sectors : ℕ) → LeavesOnly old new (λ m. Mixture old m ⊎ StandsBy Two m (first_root sectors) [] empty_state) → LeavesOnly old new (λ m. Mixture old m ⊎ Stands m empty_state)
+either_stands {old = old} sectors leaves = weaken (λ m. Mixture old m ⊎ StandsBy Two m (first_root sectors) [] empty_state) (λ m. Mixture old m ⊎ Stands m empty_state)
     (λ m either. ⊎_elim (λ mixture. inl mixture) (λ by. inr (first_root sectors, [], by)) either)
     leaves

@@ -1,85 +1,105 @@
--- How many sectors a state leaves free, and what follows for the refusals of a put.
-use Rattle.std.proofs.Common.{◌≡◌, ◌≢◌, inl, ⊎_elim, ℕ, suc, ◌+◌, ◌-◌, ◌*◌, ◌<◌, ◌≤◌, Bool, true, false, nat_lt, nat_eq, List, [], ◌∷◌, length, map, sum_by, All, Some, None, Result, Ok, Err, OnErr, ◌↔◌, refl, sym, ap, subst, ◌∙◌, arith}
-use Rattle.std.specs.Prelude.{Contains, if◌then◌else◌}
+-- How many sectors a state leaves free, and what follows for the refusals of a put and of an upgrade.
+use Rattle.std.proofs.Common.{◌≡◌, ◌≢◌, inl, ⊎_elim, ℕ, suc, ◌+◌, ◌-◌, ◌*◌, ◌<◌, ◌≤◌, Bool, true, false, nat_lt, nat_eq, List, [], ◌∷◌, length, map, sum_by, All, IsTrue, Option, Some, None, Result, Ok, Err, OnErr, ◌↔◌, refl, sym, ap, subst, ◌∙◌, arith}
+use Rattle.std.specs.Prelude.{Contains, IsErrAnd, if◌then◌else◌}
 use Rattle.std.specs.Int.{div_ceil}
+use Rattle.std.specs.List.{flat_map}
 use Rattle.std.proofs.lemmas.Bool.{false≢true, eqb-true, eq-eqb, ltb-true, ltb-false, cases_lt}
-use Rattle.std.proofs.lemmas.Grind.{div_ceil_times}
-use Rattle.std.proofs.lemmas.List.{length-append, length-take-le}
+use Rattle.std.proofs.lemmas.Result.{err_from_is_err_and}
 use Rattle.std.proofs.lemmas.List.Sums.{sum_by-cons}
 use Rattle.std.proofs.lemmas.List.FromFn.{length-map-range_with_len}
 use Rattle.std.proofs.lemmas.List.Elements.{All-contains, Contains-append_left, Contains-append_right}
-use Rattle.sector_disk.specs.Disk.{Sector, sector, IsWhole}
+use Rattle.sector_disk.specs.Disk.{Sector, DiskFacts, HoldsNow, HasWholeSectors, IsWhole}
+use Rattle.sector_disk.proofs.Mixtures.{whole_mixture}
 use Rattle.extents.specs.Limits.{root_sectors}
 use Rattle.extents.specs.Extent.{places, sector_count}
 use Rattle.extents.specs.Layout.{free_count}
 use Rattle.extents.specs.Longest.{longest_runs}
 use Rattle.extents.specs.Used.{layout_of}
-use Rattle.extents.proofs.PlacesLemmas.{length-places}
-use Rattle.extents.proofs.UsedLemmas.{free_count-used, layout_of-claims, same-from_used, longest_runs-same}
-use Rattle.passes.specs.Bytes.{bytes_at}
-use Rattle.roots.specs.declared.root.Root.{Root}
-use Rattle.store.specs.declared.placed_entry.PlacedEntry.{PlacedEntry}
-use Rattle.states.specs.Limits.{most_libraries}
-use Rattle.roots.specs.Entry.{EntryHasSpelling}
-use Rattle.store.specs.declared.refusal.StoreRefusal.TheVariants.{Full, Fragmented, GenerationEnd}
+use Rattle.extents.proofs.UsedLemmas.{layout_of-claims, same-from_used, longest_runs-same}
 use Rattle.extents.specs.declared.refusal.TakeRefusal.{TakeRefusal}
 use Rattle.extents.specs.declared.refusal.TakeRefusal.TheVariants as take
+use Rattle.roots.specs.declared.entry_list.EntryList.{EntryList}
+use Rattle.roots.specs.declared.entry_list.EntryList.TheVariants.{InRoot, InCatalogues}
+use Rattle.roots.specs.declared.root.Root.{Root}
+use Rattle.roots.specs.declared.version.Version.{Version}
+use Rattle.roots.specs.declared.version.Version.TheVariants.{One, Two}
+use Rattle.states.specs.Limits.{most_libraries, last_generation}
+use Rattle.states.specs.Cost.{catalogues_for, cost, catalogue_cost, free, taken_by}
+use Rattle.roots.specs.Root.{version_of, version_of_list}
 use Rattle.states.specs.State.{Library, State}
-use Rattle.states.specs.Cost.{cost, free}
-use Rattle.store.specs.Stands.{StandsBy, extents_of, sectors_of, used, library_of}
-use Rattle.store.specs.Step.{refusal_of_put, refusal_of_new, refusal_of_take, refusal_of_change, IsAnswer}
-use Rattle.states.specs.Limits.{last_generation}
+use Rattle.store.specs.declared.placed_entry.PlacedEntry.{PlacedEntry}
+use Rattle.store.specs.declared.refusal.StoreRefusal.{StoreRefusal}
+use Rattle.store.specs.declared.refusal.StoreRefusal.TheVariants.{Device, Full, Fragmented, GenerationEnd}
+use Rattle.store.specs.Opened.{Opened, IsAtBy}
+use Rattle.store.specs.Stands.{StandsBy, catalogues_in, catalogues_of, entries_cost, extents_of, library_of, sectors_of, used}
+use Rattle.store.specs.Step.{longest_free, refusal_of_bytes, refusal_of_put, refusal_of_new, refusal_of_upgrade, refusal_of_take, refusal_of_change, IsAnswer, IsExactAnswer}
 use Rattle.store.specs.inside.Kept.{HaveSpellings, IsKept}
+use Rattle.store.proofs.Libraries.{length-library}
+pub use Rattle.store.proofs.Libraries.{length-libraries}
+use Rattle.store.proofs.Preloads.{enough_in, room_in}
+use Rattle.store.proofs.Rooms.{counted_sectors}
 
--- whole sectors have so many bytes
-length-bytes_at : (m : List Sector) (ks : List ℕ) → All IsWhole m → ((k : ℕ) → Contains ks k → k < length m) → length (bytes_at m ks) ≡ 512 * length ks
-length-bytes_at m [] whole inside = refl
-length-bytes_at m (k ∷ ks) whole inside = omega (
-  arith,
-  length-append (sector m k) (bytes_at m ks),
-  (whole k [] (inside k (0, omega arith, refl))).size,
-  length-bytes_at m ks whole (λ j found. inside j (suc found.0, omega (arith, found.1), found.2)),
-)
-
--- a byte string is as long as its entry says
-pub length-library : (m : List Sector) (placed : PlacedEntry) → All IsWhole m → EntryHasSpelling placed.entry → ((k : ℕ) → Contains (places (extents_of placed.entry)) k → k < length m) → length (library_of m placed).bytes ≡ placed.entry.file_length
-length-library m placed whole fits inside =
-    let entry = placed.entry in
-    let have = length-bytes_at m (places (extents_of entry)) whole inside in
-    let sectors : length (places (extents_of entry)) ≡ div_ceil entry.file_length 512 = length-places (extents_of entry) ∙ fits.extents.sum in
-    length-take-le entry.file_length (bytes_at m (places (extents_of entry))) (omega (arith, have, sectors, (div_ceil_times entry.file_length 512 (omega arith)).0))
-
--- what a byte string costs is what it uses
-cost_is : (m : List Sector) (placed : PlacedEntry) → All IsWhole m → EntryHasSpelling placed.entry → ((k : ℕ) → Contains (sectors_of placed) k → k < length m) → cost (length (library_of m placed).bytes) ≡ length (sectors_of placed)
-cost_is m placed whole fits inside =
-    let sectors : length (places (extents_of placed.entry)) ≡ div_ceil placed.entry.file_length 512 = length-places (extents_of placed.entry) ∙ fits.extents.sum in
-    ap (λ n. div_ceil n 512 + 1) (length-library m placed whole fits (λ k found. inside k (Contains-append_right (placed.at ∷ []) (places (extents_of placed.entry)) k found)))
-    ∙ (let e : div_ceil placed.entry.file_length 512 + 1 ≡ suc (length (places (extents_of placed.entry))) = omega (arith, sectors) in e)
-
-costs_are : (m : List Sector) (entries : List PlacedEntry) → All IsWhole m → HaveSpellings entries → ((k : ℕ) → Contains (used entries) k → k < length m) → sum_by (λ library. cost (length library.bytes)) (map (library_of m) entries) ≡ length (used entries)
+-- byte strings cost what their entries say
+costs_are : (m : List Sector) (entries : List PlacedEntry) → All IsWhole m → HaveSpellings entries → ((k : ℕ) → Contains (flat_map sectors_of entries) k → k < length m)
+    → sum_by (λ library. cost (length library.bytes)) (map (library_of m) entries) ≡ entries_cost entries
 costs_are m [] whole fit inside = refl
-costs_are m (e ∷ entries) whole fit inside = omega (
+costs_are m (e ∷ entries) whole fit inside =
+    let here = ap cost (length-library m e whole (fit 0 e (omega arith)) (λ k found. inside k (Contains-append_left (sectors_of e) (flat_map sectors_of entries) k (Contains-append_right (e.at ∷ []) (places (extents_of e.entry)) k found)))) in
+    omega (
+      arith,
+      sum_by-cons (λ (library : Library). cost (length library.bytes)) (library_of m e) (map (library_of m) entries),
+      sum_by-cons (λ (placed : PlacedEntry). cost placed.entry.file_length) e entries,
+      here,
+      costs_are m entries whole (λ k d lt. fit (suc k) d (omega (arith, lt))) (λ k found. inside k (Contains-append_right (sectors_of e) (flat_map sectors_of entries) k found)),
+    )
+
+-- what a state takes by version 2, whatever version lists it
+taken_is : (version : Version) (m : List Sector) (root : Root) (entries : List PlacedEntry) (s : State) → HaveSpellings entries → All IsWhole m → StandsBy version m root entries s
+    → taken_by s ≡ entries_cost entries + 2 * catalogues_for (length entries)
+taken_is version m root entries s fit whole by =
+    let inside : (k : ℕ) → Contains (flat_map sectors_of entries) k → k < length m = λ k found. (All-contains (λ n. (root_sectors ≤ n) × (n < length m)) (used root entries) k by.intact.apart.inside (Contains-append_right (catalogues_of root) (flat_map sectors_of entries) k found)).1 in
+    let costs = costs_are m entries whole fit inside in
+    ap taken_by by.is ∙ omega (arith, costs, length-libraries m entries)
+
+none_in : (list : EntryList) → version_of_list list ≡ One → catalogues_in list ≡ []
+none_in (InRoot sectors) is = refl
+none_in (InCatalogues count listed) is = absurd (cc is)
+
+module _ (root : Root) (entries : List PlacedEntry) (layout : List Bool) (kept : IsKept root entries layout) where
+  -- the roots' sectors, the used ones and the free ones are all
+  all_sectors : root_sectors + length (catalogues_of root) + entries_cost entries + free_count layout ≡ root.sectors
+  all_sectors = counted_sectors layout root entries kept.root_fits kept.entries_fit kept.counted kept.size kept.apart kept.claims
+
+  -- a root of version 2 lists as many catalogues as its byte strings take
+  pub catalogues_enough : version_of root ≡ Two → length (catalogues_of root) ≡ catalogues_for (length entries)
+  catalogues_enough two = enough_in root.library_count root.sectors root.list two kept.root_fits.list ∙ ap catalogues_for (sym kept.counted)
+
+  -- The longest free runs of the sectors in use are the layout's.
+  pub longest_is : sector_count (longest_runs (layout_of root.sectors (used root entries))) ≡ sector_count (longest_runs layout)
+  longest_is =
+      let claims = layout_of-claims root.sectors (used root entries) (λ k d lt. (kept.apart.inside k d lt).1) in
+      ap sector_count (longest_runs-same (layout_of root.sectors (used root entries)) layout
+      (same-from_used (layout_of root.sectors (used root entries)) layout (used root entries) (length-map-range_with_len _ 0 root.sectors ∙ sym kept.size) claims kept.claims))
+
+-- What a state of version 2 leaves free, and its catalogues once more, are what the layout has free.
+pub free_is : (m : List Sector) (root : Root) (entries : List PlacedEntry) (layout : List Bool) (s : State) → IsKept root entries layout → All IsWhole m → StandsBy Two m root entries s
+    → free root.sectors s + catalogues_for (length entries) ≡ free_count layout
+free_is m root entries layout s kept whole by = omega (
   arith,
-  sum_by-cons (λ (library : Library). cost (length library.bytes)) (library_of m e) (map (library_of m) entries),
-  cost_is m e whole (fit 0 e (omega arith)) (λ k found. inside k (Contains-append_left (sectors_of e) (used entries) k found)),
-  costs_are m entries whole (λ k d lt. fit (suc k) d (omega (arith, lt))) (λ k found. inside k (Contains-append_right (sectors_of e) (used entries) k found)),
-  length-append (sectors_of e) (used entries),
+  taken_is Two m root entries s kept.entries_fit whole by,
+  all_sectors root entries layout kept,
+  catalogues_enough root entries layout kept by.of_version,
+  room_in root.sectors root.list entries by.of_version kept.room,
 )
 
--- A state leaves free what the layout has free,
-pub free_is : (m : List Sector) (root : Root) (entries : List PlacedEntry) (layout : List Bool) (s : State) → IsKept root entries layout → All IsWhole m → StandsBy m root entries s → free root.sectors s ≡ free_count layout
-free_is m root entries layout s kept whole by =
-    let counted = free_count-used layout (used entries) kept.apart.once (λ k d lt. (kept.apart.inside k d lt).0) kept.claims in
-    let costs = costs_are m entries whole kept.entries_fit (λ k found. (All-contains (λ n. (root_sectors ≤ n) × (n < length m)) (used entries) k by.intact.apart.inside found).1) in
-    let same : sum_by (λ library. cost (length library.bytes)) s.libraries ≡ length (used entries) = ap (λ t. sum_by (λ library. cost (length library.bytes)) t.libraries) by.is ∙ costs in
-    omega (arith, counted, same, kept.size)
-
--- and its longest free runs are the layout's.
-pub longest_is : (root : Root) (entries : List PlacedEntry) (layout : List Bool) → IsKept root entries layout → sector_count (longest_runs (layout_of root.sectors (used entries))) ≡ sector_count (longest_runs layout)
-longest_is root entries layout kept =
-    let claims = layout_of-claims root.sectors (used entries) (λ k d lt. (kept.apart.inside k d lt).1) in
-    ap sector_count (longest_runs-same (layout_of root.sectors (used entries)) layout
-    (same-from_used (layout_of root.sectors (used entries)) layout (used entries) (length-map-range_with_len _ 0 root.sectors ∙ sym kept.size) claims kept.claims))
+-- A state of version 1 has no room for its catalogues twice exactly where it takes too much by version 2.
+pub old_free_is : (m : List Sector) (root : Root) (entries : List PlacedEntry) (layout : List Bool) (s : State) → IsKept root entries layout → All IsWhole m → StandsBy One m root entries s
+    → (free_count layout < 2 * catalogues_for (length entries)) ↔ (root.sectors < root_sectors + taken_by s)
+old_free_is m root entries layout s kept whole by =
+    let taken = taken_is One m root entries s kept.entries_fit whole by in
+    let all = all_sectors root entries layout kept in
+    let none : length (catalogues_of root) ≡ 0 = ap length (none_in root.list by.of_version) in
+    (λ lt. omega (arith, lt, taken, all, none), λ lt. omega (arith, lt, taken, all, none))
 
 pub if_no : {A : Type 0} (b : Bool) (x y : A) → (b ≡ true → ⊥) → (if b then x else y) ≡ y
 if_no true x y isnt = absurd (isnt refl)
@@ -90,53 +110,199 @@ if_yes true x y isnt = refl
 if_yes false x y isnt = absurd (isnt refl)
 
 -- The first refusal, by the numbers that decide it.
-module _ (sectors longest : ℕ) (s : State) (bytes : List ℕ) where
-  pub put_accepted : s.generation ≢ last_generation → cost (length bytes) ≤ free sectors s → cost (length bytes) - 1 ≤ longest → refusal_of_put sectors longest s bytes ≡ None
-  put_accepted usable room runs =
-      if_no (nat_eq s.generation last_generation) _ _ (λ is. usable (eqb-true s.generation last_generation is))
-      ∙ if_no (nat_lt (free sectors s) (cost (length bytes))) _ _ (λ is. omega (arith, ltb-true (free sectors s) (cost (length bytes)) is, room))
-      ∙ if_no (nat_lt longest (cost (length bytes) - 1)) _ _ (λ is. omega (arith, ltb-true longest (cost (length bytes) - 1) is, runs))
+module _ (sectors longest more : ℕ) (s : State) (bytes : List ℕ) (usable : s.generation ≢ last_generation) where
+  abbrev needed : ℕ
+  needed = cost (length bytes) + more
 
-  pub put_full : s.generation ≢ last_generation → free sectors s < cost (length bytes) → refusal_of_put sectors longest s bytes ≡ Some Full
-  put_full usable room =
-      if_no (nat_eq s.generation last_generation) _ _ (λ is. usable (eqb-true s.generation last_generation is))
-      ∙ if_yes (nat_lt (free sectors s) (cost (length bytes))) _ _ (λ is. omega (arith, ltb-false (free sectors s) (cost (length bytes)) is, room))
+  abbrev sector_need : ℕ
+  sector_need = cost (length bytes) - 1
 
-  pub put_fragmented : s.generation ≢ last_generation → cost (length bytes) ≤ free sectors s → longest < cost (length bytes) - 1 → refusal_of_put sectors longest s bytes ≡ Some Fragmented
-  put_fragmented usable room runs =
-      if_no (nat_eq s.generation last_generation) _ _ (λ is. usable (eqb-true s.generation last_generation is))
-      ∙ if_no (nat_lt (free sectors s) (cost (length bytes))) _ _ (λ is. omega (arith, ltb-true (free sectors s) (cost (length bytes)) is, room))
-      ∙ if_yes (nat_lt longest (cost (length bytes) - 1)) _ _ (λ is. omega (arith, ltb-false longest (cost (length bytes) - 1) is, runs))
+  going_on : nat_eq s.generation last_generation ≡ true → ⊥
+  going_on is = usable (eqb-true s.generation last_generation is)
 
-  pub new_as_put : length s.libraries < most_libraries → refusal_of_new sectors longest s bytes ≡ refusal_of_put sectors longest s bytes
-  new_as_put few = if_yes (nat_lt (length s.libraries) most_libraries) _ _ (λ is. omega (arith, ltb-false (length s.libraries) most_libraries is, few))
+  bytes_full : free sectors s < needed → refusal_of_bytes sectors longest more s bytes ≡ Some Full
+  bytes_full room =
+      if_no (nat_eq s.generation last_generation) _ _ going_on
+      ∙ if_yes (nat_lt (free sectors s) needed) _ _ (λ is. omega (arith, ltb-false (free sectors s) needed is, room))
+
+  bytes_fragmented : needed ≤ free sectors s → longest < sector_need → refusal_of_bytes sectors longest more s bytes ≡ Some Fragmented
+  bytes_fragmented room runs =
+      if_no (nat_eq s.generation last_generation) _ _ going_on
+      ∙ if_no (nat_lt (free sectors s) needed) _ _ (λ is. omega (arith, ltb-true (free sectors s) needed is, room))
+      ∙ if_yes (nat_lt longest sector_need) _ _ (λ is. omega (arith, ltb-false longest sector_need is, runs))
+
+  bytes_accepted : needed ≤ free sectors s → sector_need ≤ longest → refusal_of_bytes sectors longest more s bytes ≡ None
+  bytes_accepted room runs =
+      if_no (nat_eq s.generation last_generation) _ _ going_on
+      ∙ if_no (nat_lt (free sectors s) needed) _ _ (λ is. omega (arith, ltb-true (free sectors s) needed is, room))
+      ∙ if_no (nat_lt longest sector_need) _ _ (λ is. omega (arith, ltb-true longest sector_need is, runs))
 
 -- an answer isn't a refusal
-ok_or_err : {T E : Type 0} {x : T} {e : E} → ◌≡◌ {A = Result T E} (Ok x) (Err e) → ⊥
+pub ok_or_err : {T E : Type 0} {x : T} {e : E} → ◌≡◌ {A = Result T E} (Ok x) (Err e) → ⊥
 ok_or_err is = subst (λ r. OnErr r ⊥) is tt
 
--- what taking refuses is the put's first refusal
-module _ {T : Type 0} (sectors longest : ℕ) (s : State) (bytes : List ℕ) (usable : s.generation ≢ last_generation) where
-  pub put_refused : (e : TakeRefusal) → (◌≡◌ {A = Result T TakeRefusal} (Err e) (Err take.Full) ↔ (free sectors s < cost (length bytes))) → (◌≡◌ {A = Result T TakeRefusal} (Err e) (Err take.Fragmented) ↔ ((cost (length bytes) ≤ free sectors s) × (longest < cost (length bytes) - 1))) → refusal_of_put sectors longest s bytes ≡ Some (refusal_of_take e)
-  put_refused take.Full full fragmented = put_full sectors longest s bytes usable (full.0 refl)
-  put_refused take.Fragmented full fragmented = let both = fragmented.0 refl in put_fragmented sectors longest s bytes usable both.0 both.1
+-- what taking refuses is the first refusal of these bytes
+module _ {T : Type 0} (sectors longest more : ℕ) (s : State) (bytes : List ℕ) (usable : s.generation ≢ last_generation) where
+  pub bytes_refused : (e : TakeRefusal) → (◌≡◌ {A = Result T TakeRefusal} (Err e) (Err take.Full) ↔ (free sectors s < cost (length bytes) + more))
+      → (◌≡◌ {A = Result T TakeRefusal} (Err e) (Err take.Fragmented) ↔ ((cost (length bytes) + more ≤ free sectors s) × (longest < cost (length bytes) - 1)))
+      → refusal_of_bytes sectors longest more s bytes ≡ Some (refusal_of_take e)
+  bytes_refused take.Full full fragmented = bytes_full sectors longest more s bytes usable (full.0 refl)
+  bytes_refused take.Fragmented full fragmented = let both = fragmented.0 refl in bytes_fragmented sectors longest more s bytes usable both.0 both.1
 
-  pub put_taken : (x : T) → (◌≡◌ {A = Result T TakeRefusal} (Ok x) (Err take.Full) ↔ (free sectors s < cost (length bytes))) → (◌≡◌ {A = Result T TakeRefusal} (Ok x) (Err take.Fragmented) ↔ ((cost (length bytes) ≤ free sectors s) × (longest < cost (length bytes) - 1))) → refusal_of_put sectors longest s bytes ≡ None
-  put_taken x full fragmented = ⊎_elim
+  pub bytes_taken : (x : T) → (◌≡◌ {A = Result T TakeRefusal} (Ok x) (Err take.Full) ↔ (free sectors s < cost (length bytes) + more))
+      → (◌≡◌ {A = Result T TakeRefusal} (Ok x) (Err take.Fragmented) ↔ ((cost (length bytes) + more ≤ free sectors s) × (longest < cost (length bytes) - 1)))
+      → refusal_of_bytes sectors longest more s bytes ≡ None
+  bytes_taken x full fragmented = ⊎_elim
       (λ lt. absurd (ok_or_err (full.1 lt)))
       (λ le. ⊎_elim
       (λ lt. absurd (ok_or_err (fragmented.1 (le, lt))))
-      (λ le'. put_accepted sectors longest s bytes usable le le')
+      (λ le'. bytes_accepted sectors longest more s bytes usable le le')
       (cases_lt longest (cost (length bytes) - 1)))
-      (cases_lt (free sectors s) (cost (length bytes)))
+      (cases_lt (free sectors s) (cost (length bytes) + more))
+
+pub new_as_put : (sectors longest : ℕ) (s : State) (bytes : List ℕ) → length s.libraries < most_libraries
+    → refusal_of_new sectors longest s bytes ≡ refusal_of_bytes sectors longest (catalogue_cost (length s.libraries)) s bytes
+new_as_put sectors longest s bytes few = if_yes (nat_lt (length s.libraries) most_libraries) _ _ (λ is. omega (arith, ltb-false (length s.libraries) most_libraries is, few))
 
 pub answers_take : (e : TakeRefusal) → IsAnswer (Some (refusal_of_take e)) (Err (refusal_of_take e))
 answers_take take.Full = inl refl
 answers_take take.Fragmented = inl refl
 
--- a change that takes no sector is refused at the last generation alone
+answers_take_exactly : (e : TakeRefusal) → IsExactAnswer (Some (refusal_of_take e)) (Err (refusal_of_take e))
+answers_take_exactly take.Full = refl
+answers_take_exactly take.Fragmented = refl
+
+-- a change that takes no more sectors than there is room for is refused at the last generation alone
 pub change_accepted : (s : State) → s.generation ≢ last_generation → refusal_of_change s ≡ None
 change_accepted s usable = if_no (nat_eq s.generation last_generation) _ _ (λ is. usable (eqb-true s.generation last_generation is))
 
 pub change_refused : (s : State) → s.generation ≡ last_generation → refusal_of_change s ≡ Some GenerationEnd
 change_refused s last = if_yes (nat_eq s.generation last_generation) _ _ (λ isnt. false≢true (sym isnt ∙ eq-eqb s.generation last_generation last))
+
+-- An upgrade is refused at the last generation, and where there is no room for the catalogues twice.
+module _ (sectors : ℕ) (s : State) where
+  pub upgrade_last : s.generation ≡ last_generation → refusal_of_upgrade sectors s ≡ Some GenerationEnd
+  upgrade_last last = if_yes (nat_eq s.generation last_generation) _ _ (λ isnt. false≢true (sym isnt ∙ eq-eqb s.generation last_generation last))
+
+  pub upgrade_full : s.generation ≢ last_generation → sectors < root_sectors + taken_by s → refusal_of_upgrade sectors s ≡ Some Full
+  upgrade_full usable many =
+      if_no (nat_eq s.generation last_generation) _ _ (λ is. usable (eqb-true s.generation last_generation is))
+      ∙ if_yes (nat_lt sectors (root_sectors + taken_by s)) _ _ (λ is. omega (arith, ltb-false sectors (root_sectors + taken_by s) is, many))
+
+  pub upgrade_accepted : s.generation ≢ last_generation → root_sectors + taken_by s ≤ sectors → refusal_of_upgrade sectors s ≡ None
+  upgrade_accepted usable room =
+      if_no (nat_eq s.generation last_generation) _ _ (λ is. usable (eqb-true s.generation last_generation is))
+      ∙ if_no (nat_lt sectors (root_sectors + taken_by s)) _ _ (λ is. omega (arith, ltb-true sectors (root_sectors + taken_by s) is, room))
+
+-- What is known of the state before a change of version 2, by what the store keeps.
+pub record IsCounted (root : Root) (entries : List PlacedEntry) (layout : List Bool) (s : State) : Type 0 where
+  pub generation : s.generation ≡ root.generation
+  pub count : length s.libraries ≡ length entries
+  pub room : free root.sectors s + catalogues_for (length entries) ≡ free_count layout
+  pub longest : sector_count (longest_runs (layout_of root.sectors (used root entries))) ≡ sector_count (longest_runs layout)
+
+module _ {D : Type 0} (facts : D → DiskFacts) (holds : (disk : D) → IsTrue (facts disk).honest → HoldsNow (facts disk)) (whole : (disk : D) → IsTrue (facts disk).honest → HasWholeSectors (facts disk)) where
+  module _ {version : Version} {store : Opened D} {s : State} (at : IsAtBy version facts store s) where
+    by : StandsBy version (facts store.disk).now store.root store.entries s
+    by = at.stands (facts store.disk).now (holds store.disk at.honest)
+
+    whole_now : All IsWhole (facts store.disk).now
+    whole_now = whole_mixture (whole store.disk at.honest) (facts store.disk).time (omega arith) (facts store.disk).now (holds store.disk at.honest)
+
+    pub generation_of : s.generation ≡ store.root.generation
+    generation_of = ap (λ t. t.generation) by.is
+
+    pub count_of : length s.libraries ≡ length store.entries
+    count_of = ap (λ t. length t.libraries) by.is ∙ length-libraries (facts store.disk).now store.entries
+
+  -- the view of a store is the store
+  module _ {store view : Opened D} {layout : List Bool} {s : State} (is : view ≡ store) (kept : IsKept view.root view.entries layout) where
+    pub facts_of : IsAtBy Two facts store s → IsCounted view.root view.entries layout s
+    facts_of at_store =
+        let at : IsAtBy Two facts view s = subst (λ o. IsAtBy Two facts o s) (sym is) at_store in
+        record {
+          generation = generation_of at;
+          count = count_of at;
+          room = free_is (facts view.disk).now view.root view.entries layout s kept (whole_now at) (by at);
+          longest = longest_is view.root view.entries layout kept;
+        }
+
+    pub old_facts_of : IsAtBy One facts store s → (free_count layout < 2 * catalogues_for (length view.entries)) ↔ (view.root.sectors < root_sectors + taken_by s)
+    old_facts_of at_store =
+        let at : IsAtBy One facts view s = subst (λ o. IsAtBy One facts o s) (sym is) at_store in
+        old_free_is (facts view.disk).now view.root view.entries layout s kept (whole_now at) (by at)
+
+-- What `take_room` says of a layout by its result, where it needs so many sectors for bytes and so many in all.
+pub record Takes {T : Type 0} (layout : List Bool) (sectors all : ℕ) (result : Result T TakeRefusal) : Type 0 where
+  pub full : (result ≡ Err take.Full) ↔ (free_count layout < all)
+  pub fragmented : (result ≡ Err take.Fragmented) ↔ ((all ≤ free_count layout) × (sector_count (longest_runs layout) < sectors))
+
+-- The first refusal of bytes that replace others, or are put behind them, by what `take_room` says.
+module _ {D : Type 0} {store view : Opened D} {layout : List Bool} {s : State} (is : view ≡ store) (counted : IsCounted view.root view.entries layout s) (bytes : List ℕ) (usable : view.root.generation ≢ last_generation) where
+  usable_state : s.generation ≢ last_generation
+  usable_state last = usable (sym counted.generation ∙ last)
+
+  module _ {T : Type 0} {sectors all : ℕ} {result : Result T TakeRefusal} (more : ℕ) (need : sectors ≡ div_ceil (length bytes) 512) (enough : all ≡ cost (length bytes) + more + catalogues_for (length view.entries)) (takes : Takes layout sectors all result) where
+    full_is : (result ≡ Err take.Full) ↔ (free view.root.sectors s < cost (length bytes) + more)
+    full_is = (
+      λ of. omega (arith, takes.full.0 of, counted.room, enough),
+      λ lt. takes.full.1 (omega (arith, lt, counted.room, enough)),
+    )
+
+    fragmented_is : (result ≡ Err take.Fragmented) ↔ ((cost (length bytes) + more ≤ free view.root.sectors s) × (longest_free view < cost (length bytes) - 1))
+    fragmented_is = (
+      λ of. let both = takes.fragmented.0 of in (omega (arith, both.0, counted.room, enough), omega (arith, both.1, counted.longest, need)),
+      λ both. takes.fragmented.1 (omega (arith, both.0, counted.room, enough), omega (arith, both.1, counted.longest, need)),
+    )
+
+  module _ {sectors count spare : ℕ} (need : sectors ≡ div_ceil (length bytes) 512) where
+    module _ (same : count ≡ catalogues_for (length view.entries)) (none : spare ≡ 0) where
+      over_enough : sectors + 1 + count + spare ≡ cost (length bytes) + 0 + catalogues_for (length view.entries)
+      over_enough = omega (arith, need, same, none)
+
+      pub over_refused : {T : Type 0} (e : TakeRefusal) → Takes {T = T} layout sectors (sectors + 1 + count + spare) (Err e) → refusal_of_put store.root.sectors (longest_free store) s bytes ≡ Some (refusal_of_take e)
+      over_refused e takes = subst (λ o. refusal_of_put o.root.sectors (longest_free o) s bytes ≡ Some (refusal_of_take e)) is
+          (bytes_refused view.root.sectors (longest_free view) 0 s bytes usable_state e (full_is 0 need over_enough takes) (fragmented_is 0 need over_enough takes))
+
+      pub over_taken : {T : Type 0} {x : T} → Takes layout sectors (sectors + 1 + count + spare) (Ok x) → refusal_of_put store.root.sectors (longest_free store) s bytes ≡ None
+      over_taken {x = x} takes = subst (λ o. refusal_of_put o.root.sectors (longest_free o) s bytes ≡ None) is
+          (bytes_taken view.root.sectors (longest_free view) 0 s bytes usable_state x (full_is 0 need over_enough takes) (fragmented_is 0 need over_enough takes))
+
+    module _ (few : length view.entries < most_libraries) (more : count ≡ catalogues_for (length view.entries + 1)) (rest : spare ≡ count - catalogues_for (length view.entries)) where
+      new_enough : sectors + 1 + count + spare ≡ cost (length bytes) + catalogue_cost (length s.libraries) + catalogues_for (length view.entries)
+      new_enough = omega (arith, need, more, rest, counted.count)
+
+      first_is : refusal_of_new view.root.sectors (longest_free view) s bytes ≡ refusal_of_bytes view.root.sectors (longest_free view) (catalogue_cost (length s.libraries)) s bytes
+      first_is = new_as_put view.root.sectors (longest_free view) s bytes (omega (arith, few, counted.count))
+
+      pub new_refused : {T : Type 0} (e : TakeRefusal) → Takes {T = T} layout sectors (sectors + 1 + count + spare) (Err e) → refusal_of_new store.root.sectors (longest_free store) s bytes ≡ Some (refusal_of_take e)
+      new_refused e takes = subst (λ o. refusal_of_new o.root.sectors (longest_free o) s bytes ≡ Some (refusal_of_take e)) is
+          (first_is ∙ bytes_refused view.root.sectors (longest_free view) (catalogue_cost (length s.libraries)) s bytes usable_state e (full_is (catalogue_cost (length s.libraries)) need new_enough takes) (fragmented_is (catalogue_cost (length s.libraries)) need new_enough takes))
+
+      pub new_taken : {T : Type 0} {x : T} → Takes layout sectors (sectors + 1 + count + spare) (Ok x) → refusal_of_new store.root.sectors (longest_free store) s bytes ≡ None
+      new_taken {x = x} takes = subst (λ o. refusal_of_new o.root.sectors (longest_free o) s bytes ≡ None) is
+          (first_is ∙ bytes_taken view.root.sectors (longest_free view) (catalogue_cost (length s.libraries)) s bytes usable_state x (full_is (catalogue_cost (length s.libraries)) need new_enough takes) (fragmented_is (catalogue_cost (length s.libraries)) need new_enough takes))
+
+-- The answers that follow: what was refused,
+pub exactly_refused : {first : Option StoreRefusal} (e : TakeRefusal) (result : Result (Unit {0}) StoreRefusal) → first ≡ Some (refusal_of_take e) → IsErrAnd result (λ y. y ≡ refusal_of_take e) → IsExactAnswer first result
+exactly_refused e result is err =
+    let p = err_from_is_err_and result err in
+    rw (p.1, p.2) (subst (λ refusal. IsExactAnswer refusal (Err (refusal_of_take e))) (sym is) (answers_take_exactly e))
+
+pub answers_refused : {first : Option StoreRefusal} (e : TakeRefusal) (result : Result (Unit {0}) StoreRefusal) → first ≡ Some (refusal_of_take e) → IsErrAnd result (λ y. y ≡ refusal_of_take e) → IsAnswer first result
+answers_refused e result is err =
+    let p = err_from_is_err_and result err in
+    rw (p.1, p.2) (subst (λ refusal. IsAnswer refusal (Err (refusal_of_take e))) (sym is) (answers_take e))
+
+-- and what wasn't, though the device may have failed
+pub exactly_failed : {first : Option StoreRefusal} (refusal : StoreRefusal) → first ≡ None → refusal ≡ Device → IsExactAnswer first (Err refusal)
+exactly_failed refusal is device = subst (λ first. IsExactAnswer first (Err refusal)) (sym is) device
+
+pub answers_failed : {first : Option StoreRefusal} (refusal : StoreRefusal) → first ≡ None → refusal ≡ Device → IsAnswer first (Err refusal)
+answers_failed refusal is device = subst (λ first. IsAnswer first (Err refusal)) (sym is) (inl device)
+
+pub exactly_done : {first : Option StoreRefusal} → first ≡ None → IsExactAnswer first (Ok tt)
+exactly_done is = subst (λ first. IsExactAnswer first (Ok tt)) (sym is) tt
+
+pub answers_done : {first : Option StoreRefusal} → first ≡ None → IsAnswer first (Ok tt)
+answers_done is = subst (λ first. IsAnswer first (Ok tt)) (sym is) tt

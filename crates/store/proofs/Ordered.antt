@@ -1,7 +1,7 @@
 -- Extents in another order: the same sectors, claimed or not to be claimed.
 use Rattle.std.proofs.Common.{◌≡◌, ℕ, ◌+◌, ◌<◌, Bool, List, [], ◌∷◌, ◌++◌, length, get_or, take, append_assoc, sym, ap, ◌∙◌, ⊎_elim, arith}
 use Rattle.std.specs.Prelude.{Contains}
-use Rattle.std.specs.List.{range_with_len}
+use Rattle.std.specs.List.{flat_map, range_with_len}
 use Rattle.std.specs.List.Sorted.{IsPermutation}
 use Rattle.std.proofs.lemmas.Grind.{flat_map-append}
 use Rattle.std.proofs.lemmas.List.{append-nil, take_more}
@@ -11,21 +11,31 @@ use Rattle.extents.specs.declared.extent.Extent.{Extent}
 use Rattle.extents.specs.Extent.{one_sector, places, AreDistinct}
 use Rattle.extents.proofs.UsedLemmas.{claims-same_elements}
 use Rattle.store.specs.declared.placed_entry.PlacedEntry.{PlacedEntry}
-use Rattle.store.specs.Stands.{extents_of, sectors_of, used}
+use Rattle.store.specs.Stands.{extents_of, sectors_of}
 use Rattle.store.specs.inside.Claimed.{AreExtentsOf, IsUsable, IsClaimedBeside, IsUnclaimable}
 use Rattle.store.proofs.Claiming.{all-part}
 use Rattle.store.proofs.Counts.{occurs, occurs-append, occurs-flat_map, occurs_contains, contains_occurs, distinct_occurs, occurs_distinct}
 
+-- extents with one sector more
+pub singles_more : (start : List ℕ) (extents : List Extent) (sectors : List ℕ) (i d : ℕ) → i < length sectors → places extents ≡ start ++ take i sectors
+    → places (extents ++ one_sector (get_or sectors i d) ∷ []) ≡ start ++ take (i + 1) sectors
+singles_more start extents sectors i d lt so_far =
+    let at = get_or sectors i d in
+    flat_map-append (λ (e : Extent). range_with_len e.start e.count) extents (one_sector at ∷ [])
+    ∙ ap (λ l. l ++ at ∷ []) so_far
+    ∙ append_assoc start (take i sectors) (at ∷ [])
+    ∙ ap (λ l. start ++ l) (sym (take_more sectors i d lt))
+
 -- extents with those of one entry more
-pub extents_more : (start : List ℕ) (extents : List Extent) (entries : List PlacedEntry) (i : ℕ) (d : PlacedEntry) → i < length entries → places extents ≡ start ++ used (take i entries)
-    → places ((extents ++ one_sector (get_or entries i d).at ∷ []) ++ extents_of (get_or entries i d).entry) ≡ start ++ used (take (i + 1) entries)
+pub extents_more : (start : List ℕ) (extents : List Extent) (entries : List PlacedEntry) (i : ℕ) (d : PlacedEntry) → i < length entries → places extents ≡ start ++ flat_map sectors_of (take i entries)
+    → places ((extents ++ one_sector (get_or entries i d).at ∷ []) ++ extents_of (get_or entries i d).entry) ≡ start ++ flat_map sectors_of (take (i + 1) entries)
 extents_more start extents entries i d lt so_far =
     let placed = get_or entries i d in
     ap places (append_assoc extents (one_sector placed.at ∷ []) (extents_of placed.entry))
     ∙ flat_map-append (λ (e : Extent). range_with_len e.start e.count) extents (one_sector placed.at ∷ extents_of placed.entry)
     ∙ ap (λ l. l ++ sectors_of placed) so_far
-    ∙ append_assoc start (used (take i entries)) (sectors_of placed)
-    ∙ ap (λ l. start ++ l) (sym (ap used (take_more entries i d lt) ∙ flat_map-append sectors_of (take i entries) (placed ∷ []) ∙ ap (λ l. used (take i entries) ++ l) (append-nil (sectors_of placed))))
+    ∙ append_assoc start (flat_map sectors_of (take i entries)) (sectors_of placed)
+    ∙ ap (λ l. start ++ l) (sym (ap (flat_map sectors_of) (take_more entries i d lt) ∙ flat_map-append sectors_of (take i entries) (placed ∷ []) ∙ ap (λ l. flat_map sectors_of (take i entries) ++ l) (append-nil (sectors_of placed))))
 
 -- each number stands in both lists equally often
 abbrev pub OccurAlike : List ℕ → List ℕ → Type 0

@@ -1,50 +1,93 @@
--- Where a put puts things, by the sectors in use.
-use Rattle.std.proofs.Common.{◌≡◌, ℕ, Bool, true, List, ◌++◌, length, All, sym, subst, ◌∙◌, arith}
+-- Where a change puts things, by the sectors in use.
+use Rattle.std.proofs.Common.{◌≡◌, ⊎_elim, inl, inr, ℕ, ◌<◌, Bool, true, List, [], ◌∷◌, ◌++◌, length, All, sym, subst, ◌∙◌, arith}
 use Rattle.std.proofs.lemmas.List.FromFn.{length-map-range_with_len}
 use Rattle.extents.specs.declared.extent.Extent.{Extent}
-use Rattle.extents.specs.Extent.{places}
-use Rattle.extents.specs.Layout.{IsInside, with_flags}
+use Rattle.extents.specs.Extent.{one_sector, places}
+use Rattle.extents.specs.Layout.{IsFree, IsInside, IsLowestFree, with_flag, with_flags}
 use Rattle.extents.specs.Used.{layout_of, ClaimsJust, ClaimsSame}
-use Rattle.extents.proofs.LayoutLemmas.{length-with_flags}
+use Rattle.extents.proofs.LayoutLemmas.{claimed-claim, free-inside, length-with_flag, length-with_flags}
 use Rattle.extents.proofs.UsedLemmas.{claims-take, layout_of-claims, same-from_used, taken-same, free-same}
+use Rattle.passes.specs.Bytes.{IsOnDisk}
 use Rattle.roots.specs.declared.root.Root.{Root}
+use Rattle.roots.specs.Entry.{IsDataExtent}
 use Rattle.store.specs.declared.placed_entry.PlacedEntry.{PlacedEntry}
-use Rattle.store.specs.Taken.{IsTaken}
+use Rattle.store.specs.Taken.{AreTaken, IsTaken}
 use Rattle.store.specs.Stands.{used}
 use Rattle.store.specs.inside.Kept.{IsKept}
 
 back : {a b : List Bool} → ClaimsSame a b → ClaimsSame b a
 back same = record { size = sym same.size; each = λ s. ((same.each s).1, (same.each s).0) }
 
+-- Layouts with the same claimed sectors have the same lowest free one,
+lowest_same : (a b : List Bool) (at : ℕ) → ClaimsSame a b → IsLowestFree a at → IsLowestFree b at
+lowest_same a b at same lowest = (free-same a b at same lowest.0, λ lower lt free. lowest.1 lower lt (free-same b a lower (back same) free))
+
+-- are still the same once it is claimed in both,
+same_more : (a b : List Bool) (at : ℕ) → ClaimsSame a b → IsFree a at → ClaimsSame (with_flag true (one_sector at) a) (with_flag true (one_sector at) b)
+same_more a b at same free =
+    let lt : at < length a = (free-inside a at free).1 in
+    let in_a : IsInside a (one_sector at) = (omega arith, free.0, omega (arith, lt)) in
+    let in_b : IsInside b (one_sector at) = (omega arith, free.0, omega (arith, lt, same.size)) in
+    record {
+      size = length-with_flag true (one_sector at) a in_a ∙ same.size ∙ sym (length-with_flag true (one_sector at) b in_b);
+      each = λ s.
+          let of_a = claimed-claim (one_sector at) a s in_a in
+          let of_b = claimed-claim (one_sector at) b s in_b in (
+            λ claimed. of_b.1 (⊎_elim inl (λ was. inr ((same.each s).0 was)) (of_a.0 claimed)),
+            λ claimed. of_a.1 (⊎_elim inl (λ was. inr ((same.each s).1 was)) (of_b.0 claimed)),
+          );
+    }
+
+-- and so give the same single sectors.
+singles_same : (ks : List ℕ) (a b : List Bool) → ClaimsSame a b → AreTaken a ks → AreTaken b ks
+singles_same [] a b same taken = tt
+singles_same (k ∷ ks) a b same taken = (
+  lowest_same a b k same taken.0,
+  singles_same ks (with_flag true (one_sector k) a) (with_flag true (one_sector k) b) (same_more a b k same taken.0.0) taken.1,
+)
+
 module _ (root : Root) (entries : List PlacedEntry) (layout : List Bool) (kept : IsKept root entries layout) where
   abbrev pub in_use : List Bool
-  in_use = layout_of root.sectors (used entries)
+  in_use = layout_of root.sectors (used root entries)
 
   size : length layout ≡ length in_use
   size = kept.size ∙ sym (length-map-range_with_len _ 0 root.sectors)
 
-  claims : ClaimsJust in_use (used entries)
-  claims = layout_of-claims root.sectors (used entries) (λ k d lt. (kept.apart.inside k d lt).1)
+  claims : ClaimsJust in_use (used root entries)
+  claims = layout_of-claims root.sectors (used root entries) (λ k d lt. (kept.apart.inside k d lt).1)
+
+  same : ClaimsSame layout in_use
+  same = same-from_used layout in_use (used root entries) size kept.claims claims
 
   -- the same once these extents are taken
   same_taken : (extents : List Extent) → All (IsInside layout) extents → ClaimsSame (with_flags true extents layout) (with_flags true extents in_use)
   same_taken extents inside =
       let there : All (IsInside in_use) extents = λ k d lt. let i = inside k d lt in (i.0, i.1, omega (arith, i.2, size)) in
-      same-from_used (with_flags true extents layout) (with_flags true extents in_use) (places extents ++ used entries)
+      same-from_used (with_flags true extents layout) (with_flags true extents in_use) (places extents ++ used root entries)
       (length-with_flags true extents layout inside ∙ size ∙ sym (length-with_flags true extents in_use there))
-      (claims-take layout (used entries) extents inside kept.claims)
-      (claims-take in_use (used entries) extents there claims)
+      (claims-take layout (used root entries) extents inside kept.claims)
+      (claims-take in_use (used root entries) extents there claims)
 
   -- What is taken of the layout that is kept is taken of the sectors in use.
-  taken_in_use : (need : ℕ) (extents : List Extent) (at : ℕ) → All (IsInside layout) extents → IsTaken layout need extents at → IsTaken in_use need extents at
-  taken_in_use need extents at inside taken =
-      let same = same_taken extents inside in
+  pub singles_in_use : (ks : List ℕ) → AreTaken layout ks → AreTaken in_use ks
+  singles_in_use ks taken = singles_same ks layout in_use same taken
+
+  pub taken_in_use : (need : ℕ) (extents : List Extent) (at : ℕ) (catalogues : List ℕ) → All (IsInside layout) extents → IsTaken layout need extents at catalogues → IsTaken in_use need extents at catalogues
+  taken_in_use need extents at catalogues inside taken =
+      let then = same_taken extents inside in
       record {
-        bytes = taken.bytes ∙ taken-same need layout in_use (same-from_used layout in_use (used entries) size kept.claims claims);
-        entry = (free-same _ _ at same taken.entry.0, λ lower lt free. taken.entry.1 lower lt (free-same _ _ lower (back same) free));
+        bytes = taken.bytes ∙ taken-same need layout in_use same;
+        entry = lowest_same (with_flags true extents layout) (with_flags true extents in_use) at then taken.entry;
+        listed = singles_same catalogues (with_flag true (one_sector at) (with_flags true extents layout)) (with_flag true (one_sector at) (with_flags true extents in_use))
+            (same_more (with_flags true extents layout) (with_flags true extents in_use) at then taken.entry.0) taken.listed;
       }
 
   -- The same by other words for what was needed and given.
-  pub taken_so : {need n at here : ℕ} {extents its : List Extent} → need ≡ n → its ≡ extents → here ≡ at → All (IsInside layout) extents → IsTaken layout need extents at → IsTaken in_use n its here
-  taken_so {need = need} {at = at} {extents = extents} {its = its} so_many are there inside taken =
-      subst (IsTaken in_use _ its) (sym there) (subst (λ k. IsTaken in_use k its at) so_many (subst (λ l. IsTaken in_use need l at) (sym are) (taken_in_use need extents at inside taken)))
+  pub taken_so : {need n at here : ℕ} {extents its : List Extent} {catalogues listed : List ℕ} → need ≡ n → its ≡ extents → here ≡ at → listed ≡ catalogues → All IsDataExtent extents → All (IsOnDisk (length layout)) extents
+      → IsTaken layout need extents at catalogues → IsTaken in_use n its here listed
+  taken_so {need = need} {n = n} {at = at} {here = here} {extents = extents} {its = its} {catalogues = catalogues} {listed = listed} so_many are there these filled on_disk taken =
+      let inside : All (IsInside layout) extents = λ k d lt. let extent = filled k d lt in (omega (arith, extent.filled), extent.low, on_disk k d lt) in
+      subst (λ l. IsTaken in_use n its here l) (sym these)
+      (subst (λ k. IsTaken in_use n its k catalogues) (sym there)
+      (subst (λ k. IsTaken in_use k its at catalogues) so_many
+      (subst (λ l. IsTaken in_use need l at catalogues) (sym are) (taken_in_use need extents at catalogues inside taken))))

@@ -1,21 +1,24 @@
--- The two passes of a put: the first keeps what the mixtures stand for, the second changes it.
-use Rattle.std.proofs.Common.{◌≡◌, ◌≢◌, inl, inr, ⊎_elim, ◌⊎◌, ℕ, ◌+◌, ◌<◌, ◌≤◌, List, [], length, get_or, set, map, refl, sym, ap, subst, ◌∙◌, arith}
+-- The two passes of a change: the first keeps what the mixtures stand for, the second changes it.
+use Rattle.std.proofs.Common.{Result, Ok, Err, OnOk, ◌≡◌, ◌≢◌, inl, inr, ⊎_elim, ◌⊎◌, ℕ, ◌+◌, ◌<◌, ◌≤◌, List, [], length, get_or, set, map, refl, sym, ap, subst, ◌∙◌, arith}
 use Rattle.std.specs.Prelude.{Contains}
 use Rattle.std.proofs.lemmas.List.{length-set, get_or-set_same, get_or-set_other}
-use Rattle.std.proofs.lemmas.List.Elements.{All-contains}
+use Rattle.std.specs.List.{flat_map}
+use Rattle.std.proofs.lemmas.List.Elements.{All-contains, Contains-append_left, Contains-append_right}
 use Rattle.sector_disk.specs.Disk.{Sector, sector, DiskFacts, Mixture, HoldsNow, IsSynced, LeavesOnly, IsMixtureBut, IsMixtureOrSet}
 use Rattle.sector_disk.proofs.Moments.{goes_on, weaken, left_now}
 use Rattle.extents.specs.Limits.{root_sectors}
 use Rattle.roots.specs.declared.root.Root.{Root}
-use Rattle.roots.specs.Root.{RootHasSpelling, SpellsRoot, root_bytes, listed_preloads}
+use Rattle.roots.specs.Root.{RootHasSpelling, SpellsRoot, root_bytes, version_of, listed_preloads}
 use Rattle.roots.specs.Entry.{SpellsEntry}
 use Rattle.roots.specs.Choice.{KeepsVersion, IsCurrent, slot_of}
 use Rattle.roots.proofs.ChoiceLemmas.{current-next_odd, current-next_even}
 use Rattle.store.specs.declared.placed_entry.PlacedEntry.{PlacedEntry}
 use Rattle.states.specs.State.{State}
-use Rattle.store.specs.Stands.{IsListed, UsesApart, HaveOwnNames, StandsBy, Stands, library_of, names_at, used, state_of}
+use Rattle.roots.specs.declared.version.Version.{Version}
+use Rattle.roots.specs.declared.version.Version.TheVariants.{Two}
+use Rattle.store.specs.Stands.{IsListed, UsesApart, HasRoom, HaveOwnNames, StandsBy, StandsAs, Stands, entry_sectors, library_of, names_at, catalogues_of, sectors_of, used, state_of}
 use Rattle.store.specs.inside.Next.{IsFollowed}
-use Rattle.store.proofs.UsedAlone.{same_used, libraries_same, own_used}
+use Rattle.store.proofs.UsedAlone.{same_used, libraries_same, listed_same, own_used}
 
 module _ (m : List Sector) (root next : Root) (others : List PlacedEntry) (fits : RootHasSpelling next) (follows : next.generation ≡ root.generation + 1) (size : next.sectors ≡ length m) (some : root_sectors ≤ length m) (keeps : KeepsVersion root next) where
   abbrev slot : ℕ
@@ -55,70 +58,77 @@ module _ (m : List Sector) (root next : Root) (others : List PlacedEntry) (fits 
       parity = grind arith
 
   -- Sectors in which all that a root lists stands, stand for it once the root is written.
-  pub next_stands : (s' : State) → IsCurrent (sector m 0) (sector m 1) root → IsListed m next others → UsesApart (length m) others → HaveOwnNames others → s' ≡ state_of m next others → StandsBy after next others s'
-  next_stands s' current listed apart names is = record {
+  pub next_stands : (s' : State) → version_of next ≡ Two → IsCurrent (sector m 0) (sector m 1) root → IsListed m next others → UsesApart (length m) next others → HasRoom (length m) next.list others → HaveOwnNames others → s' ≡ state_of m next others → StandsBy Two after next others s'
+  next_stands s' two current listed apart room names is = record {
+    of_version = two;
     intact = record {
       current = next_current current;
       size = size ∙ sym (length-set m slot (root_bytes next));
       listed = record {
-        sectors = listed.sectors;
-        each = λ i d lt. subst (λ c. SpellsEntry c (get_or others i d).entry) (sym (kept (get_or others i d).at (own_used others i d lt))) (listed.each i d lt);
+        sectors = listed_same m after next.library_count next.list (entry_sectors others) (λ k found. kept k (Contains-append_left (catalogues_of next) (flat_map sectors_of others) k found)) listed.sectors;
+        each = λ i d lt. subst (λ c. SpellsEntry c (get_or others i d).entry) (sym (kept (get_or others i d).at (own_used next others i d lt))) (listed.each i d lt);
       };
-      apart = subst (λ n. UsesApart n others) (sym (length-set m slot (root_bytes next))) apart;
+      apart = subst (λ n. UsesApart n next others) (sym (length-set m slot (root_bytes next))) apart;
+      room = subst (λ n. HasRoom n next.list others) (sym (length-set m slot (root_bytes next))) room;
       names = names;
     };
     is = is ∙ sym (λ i. record { generation = next.generation; libraries = libraries i; preloads = names_at (libraries i) (listed_preloads next) });
   }
     where
-      kept : (k : ℕ) → Contains (used others) k → sector after k ≡ sector m k
-      kept k found = behind k (All-contains (λ n. (root_sectors ≤ n) × (n < length m)) (used others) k apart.inside found).0
+      kept : (k : ℕ) → Contains (used next others) k → sector after k ≡ sector m k
+      kept k found = behind k (All-contains (λ n. (root_sectors ≤ n) × (n < length m)) (used next others) k apart.inside found).0
 
       libraries : map (library_of after) others ≡ map (library_of m) others
-      libraries = libraries_same m after others kept
+      libraries = libraries_same m after others (λ k found. kept k (Contains-append_right (catalogues_of next) (flat_map sectors_of others) k found))
 
-module _ {old mid : DiskFacts} (root : Root) (entries : List PlacedEntry) (s : State) (stands : (m : List Sector) → Mixture old m → StandsBy m root entries s) (changed : ℕ → Type 0) (behind : (k : ℕ) → changed k → root_sectors ≤ k) (unused : (k : ℕ) → changed k → Contains (used entries) k → ⊥) (staged : LeavesOnly old mid (IsMixtureBut changed old)) where
+module _ (version : Version) {old mid : DiskFacts} (root : Root) (entries : List PlacedEntry) (s : State) (stands : (m : List Sector) → Mixture old m → StandsBy version m root entries s) (changed : ℕ → Type 0) (behind : (k : ℕ) → changed k → root_sectors ≤ k) (unused : (k : ℕ) → changed k → Contains (used root entries) k → ⊥) (staged : LeavesOnly old mid (IsMixtureBut changed old)) where
   abbrev IsOld : List Sector → Type 0
-  IsOld m = StandsBy m root entries s
+  IsOld m = StandsBy version m root entries s
 
   -- what is staged in unused sectors changes nothing that stands
   pub staged_stands : LeavesOnly old mid IsOld
   staged_stands = weaken (IsMixtureBut changed old) IsOld
-      (λ m but. same_used but.0 m root entries s changed (stands but.0 but.1) but.2
+      (λ m but. same_used version but.0 m root entries s changed (stands but.0 but.1) but.2
       (λ k lt here. omega (arith, lt, behind k here))
       (λ k found here. unused k here found))
       staged
 
-  pub staged_only : (s' : State) → LeavesOnly old mid (λ m. Stands m s ⊎ Stands m s')
-  staged_only s' = weaken IsOld (λ m. Stands m s ⊎ Stands m s') (λ m by. inl (root, entries, by)) staged_stands
+  pub staged_only : (s' : State) → LeavesOnly old mid (λ m. StandsAs version m s ⊎ Stands m s')
+  staged_only s' = weaken IsOld (λ m. StandsAs version m s ⊎ Stands m s') (λ m by. inl (root, entries, by)) staged_stands
 
-  module _ (synced : IsSynced mid) (next : Root) (others : List PlacedEntry) (s' : State) (at : ℕ) (content : Sector) (written : StandsBy (set mid.now at content) next others s') where
+  module _ (synced : IsSynced mid) (next : Root) (others : List PlacedEntry) (s' : State) (at : ℕ) (content : Sector) (written : StandsBy Two (set mid.now at content) next others s') where
     -- the commit leaves the old state or the new one,
-    pub committed_only : {new : DiskFacts} → LeavesOnly mid new (IsMixtureOrSet mid at content) → LeavesOnly old new (λ m. Stands m s ⊎ Stands m s')
-    committed_only committed = goes_on (λ m. Stands m s ⊎ Stands m s') (staged_only s')
-        (weaken (IsMixtureOrSet mid at content) (λ m. Stands m s ⊎ Stands m s')
+    pub committed_only : {new : DiskFacts} → LeavesOnly mid new (IsMixtureOrSet mid at content) → LeavesOnly old new (λ m. StandsAs version m s ⊎ Stands m s')
+    committed_only committed = goes_on (λ m. StandsAs version m s ⊎ Stands m s') (staged_only s')
+        (weaken (IsMixtureOrSet mid at content) (λ m. StandsAs version m s ⊎ Stands m s')
         (λ m either. ⊎_elim
         (λ mixture. inl (root, entries, left_now IsOld staged_stands m mixture))
-        (λ newer. inr (next, others, subst (λ l. StandsBy l next others s') (sym (newer.2 ∙ ap (λ l. set l at content) (synced.each newer.0 newer.1))) written))
+        (λ newer. inr (next, others, subst (λ l. StandsBy Two l next others s') (sym (newer.2 ∙ ap (λ l. set l at content) (synced.each newer.0 newer.1))) written))
         either)
         committed)
 
     -- and once it is synced the new one alone
-    pub committed_stands : {new : DiskFacts} → IsSynced new → new.now ≡ set mid.now at content → (m : List Sector) → Mixture new m → StandsBy m next others s'
-    committed_stands is_synced is_set m mixture = subst (λ l. StandsBy l next others s') (sym (is_synced.each m mixture ∙ is_set)) written
+    pub committed_stands : {new : DiskFacts} → IsSynced new → new.now ≡ set mid.now at content → (m : List Sector) → Mixture new m → StandsBy Two m next others s'
+    committed_stands is_synced is_set m mixture = subst (λ l. StandsBy Two l next others s') (sym (is_synced.each m mixture ∙ is_set)) written
 
 -- A root is written where each mixture stands for a state: each stands for that one or the next.
-module _ {old : DiskFacts} (root : Root) (entries : List PlacedEntry) (s : State) (next : Root) (others : List PlacedEntry) (s' : State) (stands : (m : List Sector) → Mixture old m → StandsBy m root entries s) (followed : IsFollowed root entries s next others s') (at : ℕ) (content : Sector) (slot : at ≡ slot_of next.generation) (spelt : content ≡ root_bytes next) where
-  after_stands : (m : List Sector) → Mixture old m → StandsBy (set m at content) next others s'
-  after_stands m mixture = subst (λ c. StandsBy (set m at c) next others s') (sym spelt)
-      (subst (λ k. StandsBy (set m k (root_bytes next)) next others s') (sym slot) (followed.stands m (stands m mixture)))
+module _ (version : Version) {old : DiskFacts} (root : Root) (entries : List PlacedEntry) (s : State) (next : Root) (others : List PlacedEntry) (s' : State) (stands : (m : List Sector) → Mixture old m → StandsBy version m root entries s) (followed : IsFollowed version root entries s (λ m. Unit) next others s') (at : ℕ) (content : Sector) (slot : at ≡ slot_of next.generation) (spelt : content ≡ root_bytes next) where
+  after_stands : (m : List Sector) → Mixture old m → StandsBy Two (set m at content) next others s'
+  after_stands m mixture = subst (λ c. StandsBy Two (set m at c) next others s') (sym spelt)
+      (subst (λ k. StandsBy Two (set m k (root_bytes next)) next others s') (sym slot) (followed.stands m (stands m mixture) tt))
 
-  pub followed_only : {new : DiskFacts} → LeavesOnly old new (IsMixtureOrSet old at content) → LeavesOnly old new (λ m. Stands m s ⊎ Stands m s')
-  followed_only leaves = weaken (IsMixtureOrSet old at content) (λ m. Stands m s ⊎ Stands m s')
+  pub followed_only : {new : DiskFacts} → LeavesOnly old new (IsMixtureOrSet old at content) → LeavesOnly old new (λ m. StandsAs version m s ⊎ Stands m s')
+  followed_only leaves = weaken (IsMixtureOrSet old at content) (λ m. StandsAs version m s ⊎ Stands m s')
       (λ m either. ⊎_elim
       (λ mixture. inl (root, entries, stands m mixture))
-      (λ newer. inr (next, others, subst (λ l. StandsBy l next others s') (sym newer.2) (after_stands newer.0 newer.1)))
+      (λ newer. inr (next, others, subst (λ l. StandsBy Two l next others s') (sym newer.2) (after_stands newer.0 newer.1)))
       either)
       leaves
 
-  pub followed_done : HoldsNow old → {new : DiskFacts} → IsSynced new → new.now ≡ set old.now at content → (m : List Sector) → Mixture new m → StandsBy m next others s'
-  followed_done holds is_synced is_set m mixture = subst (λ l. StandsBy l next others s') (sym (is_synced.each m mixture ∙ is_set)) (after_stands old.now holds)
+  pub followed_done : HoldsNow old → {new : DiskFacts} → IsSynced new → new.now ≡ set old.now at content → (m : List Sector) → Mixture new m → StandsBy Two m next others s'
+  followed_done holds is_synced is_set m mixture = subst (λ l. StandsBy Two l next others s') (sym (is_synced.each m mixture ∙ is_set)) (after_stands old.now holds)
+
+-- what follows from two facts of an answer that is Ok
+pub ok_both : {T E P Q R : Type 0} (result : Result T E) → (P → Q → R) → OnOk result P → OnOk result Q → OnOk result R
+ok_both (Ok x) to p q = to p q
+ok_both (Err e) to p q = tt

@@ -1,44 +1,37 @@
 -- A store with other bytes in the place of a byte string's.
-use Rattle.std.proofs.Common.{◌≡◌, ◌≢◌, ◌⊎◌, inl, inr, ⊎_elim, nat_eq, ℕ, zero, suc, ◌+◌, ◌*◌, ◌^◌, ◌<◌, ◌≤◌, Bool, List, [], ◌∷◌, ◌++◌, length, get_or, set, map, All, refl, sym, ap, subst, ◌∙◌, arith}
+use Rattle.std.proofs.Common.{◌≡◌, ◌≢◌, ◌⊎◌, inl, inr, ⊎_elim, nat_eq, ℕ, zero, suc, ◌+◌, ◌*◌, ◌^◌, ◌<◌, ◌≤◌, Bool, if◌then◌else◌, List, [], ◌∷◌, ◌++◌, length, get_or, set, map, refl, sym, ap, subst, ◌∙◌, arith}
 use Rattle.std.specs.Prelude.{bytes_eq}
-use Rattle.std.proofs.lemmas.Bool.{cases_Bool, false≢true, eqb-true, eq-eqb}
+use Rattle.std.specs.List.{flat_map}
+use Rattle.std.proofs.lemmas.Bool.{cases_Bool, false_from_ne_true, false≢true, eqb-true, eq-eqb}
 use Rattle.std.proofs.lemmas.List.{length-set, length-take-le, get_or-set_same, get_or-set_other}
 use Rattle.std.proofs.lemmas.List.Elements.{All-set}
 use Rattle.std.proofs.lemmas.List.Sums.{sum_by-set}
 use Rattle.std.proofs.lemmas.Slice.Eq.{bytes_eq-Decides}
 use Rattle.sector_disk.specs.Disk.{Sector, sector, sector_bytes}
-use Rattle.extents.specs.Extent.{places, sector_count, AreDistinct}
+use Rattle.extents.specs.Extent.{places, sector_count}
+use Rattle.extents.specs.Layout.{free_count}
 use Rattle.passes.specs.Bytes.{bytes_at, padded}
 use Rattle.roots.specs.declared.root.Root.{Root}
-use Rattle.roots.specs.declared.entry.Entry.{Entry}
-use Rattle.store.specs.declared.placed_entry.PlacedEntry.{PlacedEntry}
-use Rattle.roots.specs.Root.{listed_preloads}
+use Rattle.roots.specs.declared.version.Version.TheVariants.{Two}
+use Rattle.states.specs.Cost.{catalogues_for, cost}
+use Rattle.roots.specs.Root.{version_of, listed_preloads}
 use Rattle.roots.specs.Entry.{EntryHasSpelling, SpellsEntry}
-use Rattle.states.specs.State.{State}
-use Rattle.store.specs.Stands.{HaveOwnNames, name_of, extents_of, sectors_of, used, library_of, no_library, names_at}
-use Rattle.store.specs.Step.{IsName}
+use Rattle.roots.proofs.RootLemmas.{listed_sectors-root_over_catalogues}
 use Rattle.states.specs.Changes.{libraries_with, with_bytes}
-use Rattle.store.specs.inside.Claimed.{IsUsable}
+use Rattle.states.specs.State.{Library, State}
+use Rattle.store.specs.declared.placed_entry.PlacedEntry.{PlacedEntry}
+use Rattle.store.specs.Stands.{HasRoom, HaveOwnNames, catalogues_of, entry_sectors, name_of, extents_of, sectors_of, used, library_of, no_library, names_at}
+use Rattle.store.specs.inside.Claimed.{IsClaimedBeside}
 use Rattle.store.specs.inside.Kept.{IsKept}
-use Rattle.store.specs.inside.Next.{IsNext, next_root}
-use Rattle.store.specs.inside.Room.{IsRoom, IsPut, extents_with}
-use Rattle.store.proofs.Counts.{occurs, occurs-append, occurs-flat_map, occurs_contains, contains_occurs, distinct_occurs, occurs_distinct}
-use Rattle.store.proofs.Claiming.{all-part}
+use Rattle.store.specs.inside.Next.{IsNext, IsPut, next_root}
+use Rattle.store.proofs.Anew.{IsMoved, more_unused, moved_apart}
+use Rattle.store.proofs.Counts.{occurs, occurs-append, occurs-flat_map}
 use Rattle.store.proofs.Following.{following_stands}
-use Rattle.store.proofs.Frees.{if_no, if_yes}
-use Rattle.store.proofs.News.{claims_room, room_once, room_inside, room_unused, written_bytes}
-use Rattle.store.proofs.Releases.{AreUsed}
-use Rattle.store.proofs.UsedAlone.{no_entry, listed_count, kept_few, preloads_few}
-use Rattle.store.proofs.Within.{entry_filled}
-
--- the name of an entry is a name
-pub named_is_name : (entry : Entry) (name : List ℕ) → EntryHasSpelling entry → name_of entry ≡ name → IsName name
-named_is_name entry name fits named =
-    let size : length (name_of entry) ≡ entry.name_length = length-take-le entry.name_length entry.name (omega (arith, fits.name.listed.size, fits.name.listed.room)) in
-    subst IsName named (record {
-      size = omega (arith, size, fits.name.some, fits.name.listed.room);
-      bytes = fits.name.listed.used;
-    })
+use Rattle.store.proofs.Frees.{catalogues_enough}
+use Rattle.store.proofs.Preloads.{few_in}
+use Rattle.store.proofs.Rooms.{counted_sectors}
+use Rattle.store.proofs.UsedAlone.{no_entry}
+use Rattle.store.proofs.Written.{written_bytes}
 
 -- with one entry in the place of another of its name: no name stands twice,
 set_cases : {A : Type 0} (P : A → Type 0) (xs : List A) (i k : ℕ) (x d : A) → i < length xs → (k ≡ i → P x) → (k ≢ i → P (get_or xs k d)) → P (get_or (set xs i x) k d)
@@ -74,28 +67,34 @@ names_at_with m entries place entry [] same = refl
 names_at_with m entries place entry (p ∷ positions) same = λ i. name_with m entries place entry p same i ∷ names_at_with m entries place entry positions same i
 
 -- and the byte strings are those with its bytes under the name
+abbrev replaces : List Sector → (name bytes : List ℕ) → PlacedEntry → List PlacedEntry → Bool → List Library
+replaces m name bytes e entries found = if found then record { name = name; bytes = bytes } ∷ map (library_of m) entries else library_of m e ∷ libraries_with name bytes (map (library_of m) entries)
+
 libraries_with_is : (m : List Sector) (name bytes : List ℕ) (entries : List PlacedEntry) (place : ℕ) (entry : PlacedEntry) → place < length entries → ((k : ℕ) (d : PlacedEntry) → k < place → name_of (get_or entries k d).entry ≢ name) → ((d : PlacedEntry) → name_of (get_or entries place d).entry ≡ name) → record { name = name; bytes = bytes } ≡ library_of m entry
     → libraries_with name bytes (map (library_of m) entries) ≡ map (library_of m) (set entries place entry)
 libraries_with_is m name bytes [] place entry fits before at is = absurd (omega (arith, fits))
 libraries_with_is m name bytes (e ∷ entries) zero entry fits before at is =
-    if_yes (bytes_eq name (name_of e.entry)) _ _ (λ isnt. false≢true (sym isnt ∙ (bytes_eq-Decides name (name_of e.entry)).1 (sym (at e))))
+    ap (replaces m name bytes e entries) ((bytes_eq-Decides name (name_of e.entry)).1 (sym (at e)))
     ∙ ap (λ b. b ∷ map (library_of m) entries) is
 libraries_with_is m name bytes (e ∷ entries) (suc place) entry fits before at is =
-    if_no (bytes_eq name (name_of e.entry)) _ _ (λ found. before 0 e (omega arith) (sym ((bytes_eq-Decides name (name_of e.entry)).0 found)))
+    ap (replaces m name bytes e entries) (false_from_ne_true (bytes_eq name (name_of e.entry)) (λ found. before 0 e (omega arith) (sym ((bytes_eq-Decides name (name_of e.entry)).0 found))))
     ∙ ap (λ l. library_of m e ∷ l) (libraries_with_is m name bytes entries place entry (omega (arith, fits)) (λ k d lt. before (suc k) d (omega (arith, lt))) at is)
 
--- The entry of a name gives its place to another of the name, in room that was claimed for it.
-pub record IsReplacement (root : Root) (entries : List PlacedEntry) (layout mid : List Bool) (name : List ℕ) (place need : ℕ) (put : PlacedEntry) (next : Root) : Type 0 where
+-- The entry of a name gives its place to another of the name, in room that was claimed for it and for the catalogues of the list.
+pub record IsReplacement (root : Root) (entries : List PlacedEntry) (layout mid : List Bool) (name : List ℕ) (place : ℕ) (catalogues : List ℕ) (put : PlacedEntry) (next : Root) : Type 0 where
   pub kept : IsKept root entries layout
-  pub room : IsRoom need layout mid (extents_of put.entry) put.at
+  pub two : version_of root ≡ Two
+  pub claimed : IsClaimedBeside layout mid (sectors_of put ++ catalogues)
   pub fits : EntryHasSpelling put.entry
   pub inside : place < length entries
   pub named : (d : PlacedEntry) → name_of (get_or entries place d).entry ≡ name
   pub its_name : name_of put.entry ≡ name
   pub later : root.generation + 1 < 2 ^ 64
-  pub is_next : next ≡ next_root root (set entries place put) (listed_preloads root)
+  pub enough : length catalogues ≡ catalogues_for (length entries)
+  pub room : cost put.entry.file_length + length catalogues ≤ free_count layout
+  pub is_next : next ≡ next_root root (length entries) catalogues (listed_preloads root)
 
-module _ {root : Root} {entries : List PlacedEntry} {layout mid : List Bool} {name : List ℕ} {place need : ℕ} {put : PlacedEntry} {next : Root} (is : IsReplacement root entries layout mid name place need put next) where
+module _ {root : Root} {entries : List PlacedEntry} {layout mid : List Bool} {name : List ℕ} {place : ℕ} {catalogues : List ℕ} {put : PlacedEntry} {next : Root} (is : IsReplacement root entries layout mid name place catalogues put next) where
   kept : IsKept root entries layout
   kept = is.kept
 
@@ -105,62 +104,67 @@ module _ {root : Root} {entries : List PlacedEntry} {layout mid : List Bool} {na
   abbrev others : List PlacedEntry
   others = set entries place put
 
-  -- what was in use and the room
-  abbrev all : List ℕ
-  all = used entries ++ sectors_of put
+  size : length others ≡ length entries
+  size = length-set entries place put
 
   same_name : (e : PlacedEntry) → name_of (get_or entries place e).entry ≡ name_of put.entry
   same_name e = is.named e ∙ sym is.its_name
 
-  -- Of these each is used then, or was the old byte string's.
-  pub replacement_parts : (k : ℕ) → occurs k (used others) + occurs k (places (extents_with old)) ≡ occurs k all
-  replacement_parts k =
-      let moved : occurs k (used others) + occurs k (sectors_of old) ≡ occurs k all =
-      omega (
-        arith,
-        occurs-append k (used entries) (sectors_of put),
-        occurs-flat_map k sectors_of others,
-        occurs-flat_map k sectors_of entries,
-        sum_by-set (λ (e : PlacedEntry). occurs k (sectors_of e)) entries place put no_entry is.inside,
-      ) in
-      moved
+  catalogues_are : catalogues_of next ≡ catalogues
+  catalogues_are = ap catalogues_of is.is_next ∙ listed_sectors-root_over_catalogues (root.generation + 1) root.sectors (length entries) catalogues (listed_preloads root)
 
-  once : AreDistinct all
-  once = room_once kept is.room
-
-  -- The old byte string's sectors are in use until they are given back,
-  pub replacement_used : AreUsed mid all (extents_with old)
-  replacement_used = record {
-    claims = (claims_room is.room).each (used entries) kept.claims;
-    once = once;
-    inside = subst (λ n. All (IsUsable n) all) (sym ((claims_room is.room).size ∙ kept.size)) (room_inside kept is.room);
-    filled = entry_filled root.sectors entries kept.apart kept.entries_fit place no_entry is.inside;
-    among = λ s. omega (arith, replacement_parts s);
+  -- Neither the old entry's sectors nor the old catalogues are used any more.
+  pub replacement_moved : IsMoved (used root entries) (sectors_of put ++ catalogues) (used next others) (sectors_of old ++ catalogues_of root)
+  replacement_moved = record {
+    parts = λ k. omega (
+      arith,
+      ap (occurs k) catalogues_are,
+      occurs-append k (catalogues_of next) (flat_map sectors_of others),
+      occurs-append k (used root entries) (sectors_of put ++ catalogues),
+      occurs-append k (catalogues_of root) (flat_map sectors_of entries),
+      occurs-append k (sectors_of put) catalogues,
+      occurs-append k (sectors_of old) (catalogues_of root),
+      occurs-flat_map k sectors_of others,
+      occurs-flat_map k sectors_of entries,
+      sum_by-set (λ (e : PlacedEntry). occurs k (sectors_of e)) entries place put no_entry is.inside,
+    );
   }
 
-  pub replacement_next : IsNext root others (listed_preloads root) next
+  room_is : HasRoom root.sectors next.list others
+  room_is = subst (λ r. HasRoom root.sectors r.list others) (sym is.is_next)
+      (omega (
+        arith,
+        counted_sectors layout root entries kept.root_fits kept.entries_fit kept.counted kept.size kept.apart kept.claims,
+        catalogues_enough root entries layout kept is.two,
+        ap catalogues_for size,
+        is.room,
+        is.enough,
+        sum_by-set (λ (e : PlacedEntry). cost e.entry.file_length) entries place put no_entry is.inside,
+      ))
+
+  pub replacement_next : IsNext root others catalogues (listed_preloads root) next
   replacement_next = record {
-    is_next = is.is_next;
+    is_next = is.is_next ∙ ap (λ n. next_root root n catalogues (listed_preloads root)) (sym size);
     later = is.later;
-    few = omega (arith, length-set entries place put, kept_few kept);
+    few = omega (arith, size, kept.counted, few_in root.library_count root.sectors root.list is.two kept.root_fits.list);
+    enough = is.enough ∙ ap catalogues_for (sym size);
     fit = All-set (λ (p : PlacedEntry). EntryHasSpelling p.entry) entries place put is.fits kept.entries_fit;
-    apart = record {
-      inside = all-part (IsUsable root.sectors) (used others) all
-          (λ s stays. occurs_contains s all (omega (arith, replacement_parts s, contains_occurs s (used others) stays))) (room_inside kept is.room);
-      once = occurs_distinct (used others) (λ k. omega (arith, replacement_parts k, distinct_occurs k all once));
-    };
+    apart = moved_apart kept is.claimed next others replacement_moved;
+    room = room_is;
     names = names_with entries place put is.inside same_name kept.names;
-    few_preloads = preloads_few root kept.root_fits;
-    preloads_inside = λ k d lt. omega (arith, kept.root_fits.preloads.listed.used k d lt, listed_count root entries kept.root_fits kept.listed, length-set entries place put);
+    few_preloads =
+        let fits = kept.root_fits.preloads.listed in
+        omega (arith, length-take-le root.preload_count root.preloads (omega (arith, fits.size, fits.room)), fits.room);
+    preloads_inside = λ k d lt. omega (arith, kept.root_fits.preloads.listed.used k d lt, kept.counted, size);
     preloads_once = kept.root_fits.preloads.distinct;
   }
 
   -- and this is what the put makes of sectors.
-  pub replacement_put : (bytes : List ℕ) (s : State) → put.entry.file_length ≡ length bytes → length bytes ≤ 512 * sector_count (extents_of put.entry) → IsPut root entries s bytes put next others (with_bytes name bytes s)
+  pub replacement_put : (bytes : List ℕ) (s : State) → put.entry.file_length ≡ length bytes → length bytes ≤ 512 * sector_count (extents_of put.entry) → IsPut Two root entries s bytes put catalogues (entry_sectors others) next others (with_bytes name bytes s)
   replacement_put bytes s its_length enough = record {
-    unused = room_unused kept is.room;
-    stands = λ m by written spelt. following_stands replacement_next kept.root_fits m entries s (with_bytes name bytes s) by
-        (All-set (λ (p : PlacedEntry). SpellsEntry (sector m p.at) p.entry) entries place put (record { has_spelling = is.fits; spelling = spelt }) by.intact.listed.each)
+    unused = more_unused kept is.claimed;
+    stands = λ m by written spelt listed. following_stands replacement_next kept.root_fits Two m entries s (with_bytes name bytes s) by listed
+        (All-set (λ (p : PlacedEntry). SpellsEntry (sector m p.at) p.entry) entries place put spelt by.intact.listed.each)
         (ap (with_bytes name bytes) by.is ∙ (λ i. record {
           generation = root.generation + 1;
           libraries = libraries m written i;

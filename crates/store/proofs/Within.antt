@@ -1,38 +1,29 @@
 -- An entry's sectors, by what is said of the used ones.
 use Rattle.std.proofs.Common.{ℕ, ◌+◌, ◌-◌, ◌<◌, ◌≤◌, List, [], ◌∷◌, length, get_or, All, arith}
 use Rattle.std.specs.Prelude.{Contains}
-use Rattle.std.proofs.lemmas.List.Elements.{All-cons, All-contains, Contains-append_right}
+use Rattle.std.proofs.lemmas.List.Elements.{All-contains, Contains-append_right}
 use Rattle.extents.specs.Limits.{root_sectors}
-use Rattle.extents.specs.Extent.{Has, places, one_sector}
+use Rattle.extents.specs.Extent.{Has, places}
 use Rattle.passes.specs.Bytes.{IsOnDisk}
 use Rattle.passes.proofs.Extents.{run_in_places}
+use Rattle.roots.specs.declared.root.Root.{Root}
 use Rattle.store.specs.declared.placed_entry.PlacedEntry.{PlacedEntry}
 use Rattle.store.specs.Stands.{UsesApart, extents_of, used}
 use Rattle.store.specs.inside.Kept.{HaveSpellings}
-use Rattle.store.specs.inside.Room.{extents_with}
-use Rattle.store.proofs.Releases.{IsFilled}
-use Rattle.store.proofs.UsedAlone.{among_used, own_used}
+use Rattle.store.proofs.UsedAlone.{among_used}
 
 -- each of its bytes' lies behind the roots and on the disk
-pub entry_inside : (sectors : ℕ) (entries : List PlacedEntry) → UsesApart sectors entries → (i : ℕ) (d : PlacedEntry) → i < length entries → (k : ℕ) → Contains (places (extents_of (get_or entries i d).entry)) k → (root_sectors ≤ k) × (k < sectors)
-entry_inside sectors entries apart i d lt k found =
-    All-contains (λ n. (root_sectors ≤ n) × (n < sectors)) (used entries) k apart.inside
-    (among_used entries i d lt k (Contains-append_right ((get_or entries i d).at ∷ []) (places (extents_of (get_or entries i d).entry)) k found))
+pub entry_inside : (sectors : ℕ) (root : Root) (entries : List PlacedEntry) → UsesApart sectors root entries → (i : ℕ) (d : PlacedEntry) → i < length entries → (k : ℕ) → Contains (places (extents_of (get_or entries i d).entry)) k → (root_sectors ≤ k) × (k < sectors)
+entry_inside sectors root entries apart i d lt k found =
+    All-contains (λ n. (root_sectors ≤ n) × (n < sectors)) (used root entries) k apart.inside
+    (among_used root entries i d lt k (Contains-append_right ((get_or entries i d).at ∷ []) (places (extents_of (get_or entries i d).entry)) k found))
 
--- so its extents end on the disk,
-pub entry_on_disk : (sectors : ℕ) (entries : List PlacedEntry) → UsesApart sectors entries → HaveSpellings entries → (i : ℕ) (d : PlacedEntry) → i < length entries → All (IsOnDisk sectors) (extents_of (get_or entries i d).entry)
-entry_on_disk sectors entries apart fit i d lt j e in_extents =
+-- so its extents end on the disk
+pub entry_on_disk : (sectors : ℕ) (root : Root) (entries : List PlacedEntry) → UsesApart sectors root entries → HaveSpellings entries → (i : ℕ) (d : PlacedEntry) → i < length entries → All (IsOnDisk sectors) (extents_of (get_or entries i d).entry)
+entry_on_disk sectors root entries apart fit i d lt j e in_extents =
     let entry = (get_or entries i d).entry in
     let extent = get_or (extents_of entry) j e in
     let filled : 1 ≤ extent.count = ((fit i d lt).extents.listed.used j e in_extents).filled in
     let last : Has extent (extent.start + extent.count - 1) = (omega (arith, filled), omega (arith, filled)) in
-    let inside = entry_inside sectors entries apart i d lt (extent.start + extent.count - 1) (run_in_places (extents_of entry) j e in_extents (extent.start + extent.count - 1) last) in
+    let inside = entry_inside sectors root entries apart i d lt (extent.start + extent.count - 1) (run_in_places (extents_of entry) j e in_extents (extent.start + extent.count - 1) last) in
     omega (arith, inside.1, filled)
-
--- and its sector and its extents are behind the roots, and have sectors.
-pub entry_filled : (sectors : ℕ) (entries : List PlacedEntry) → UsesApart sectors entries → HaveSpellings entries → (i : ℕ) (d : PlacedEntry) → i < length entries → All IsFilled (extents_with (get_or entries i d))
-entry_filled sectors entries apart fit i d lt =
-    let placed = get_or entries i d in
-    let usable = All-contains (λ n. (root_sectors ≤ n) × (n < sectors)) (used entries) placed.at apart.inside (own_used entries i d lt) in
-    All-cons IsFilled (one_sector placed.at) (extents_of placed.entry) (usable.0, omega arith)
-    (λ k e has. let its = (fit i d lt).extents.listed.used k e has in (its.low, its.filled))

@@ -1,7 +1,11 @@
 pub mod Stands
 pub mod Opened
-pub mod Changed
 pub mod Opening
-pub mod Taken
+pub mod Looked
+pub mod Names
+pub mod Reads
+pub mod Changed
 pub mod Step
+pub mod Taken
+pub mod Upgraded
 pub mod inside

@@ -2,6 +2,8 @@
 use Rattle.std.specs.Prelude.{Bool, List, IsTrue, IsFalse, Result, Ok, Err}
 use Rattle.sector_disk.specs.Disk.{Sector, DiskFacts, Mixture}
 use Rattle.roots.specs.declared.root.Root.{Root}
+use Rattle.roots.specs.declared.version.Version.{Version}
+use Rattle.roots.specs.declared.version.Version.TheVariants.{One, Two}
 use Rattle.store.specs.declared.placed_entry.PlacedEntry.{PlacedEntry}
 use Rattle.store.specs.declared.refusal.StoreRefusal.{StoreRefusal}
 use Rattle.states.specs.State.{State}
@@ -17,13 +19,21 @@ pub record Opened (D : Type 0) : Type 0 where
 
 -- the layout of its disk, in which exactly the sectors in use are claimed
 abbrev pub layout_in_use : {D : Type 0} → Opened D → List Bool
-layout_in_use store = layout_of store.root.sectors (used store.entries)
+layout_in_use store = layout_of store.root.sectors (used store.root store.entries)
 
--- The store is at a state: every mixture of its disk stands for it.
-pub record IsAt {D : Type 0} (facts : D → DiskFacts) (store : Opened D) (s : State) : Type 0 where
+-- The store is at a state by a root of this version: every mixture of its disk stands for it.
+pub record IsAtBy (version : Version) {D : Type 0} (facts : D → DiskFacts) (store : Opened D) (s : State) : Type 0 where
   pub honest : IsTrue (facts store.disk).honest
   pub usable : IsFalse store.failed
-  pub stands : (m : List Sector) → Mixture (facts store.disk) m → StandsBy m store.root store.entries s
+  pub stands : (m : List Sector) → Mixture (facts store.disk) m → StandsBy version m store.root store.entries s
+
+-- a store is at a state
+abbrev pub IsAt : {D : Type 0} → (D → DiskFacts) → Opened D → State → Type 0
+IsAt facts store s = IsAtBy Two facts store s
+
+-- a store of version 1 is at a state
+abbrev pub IsOldAt : {D : Type 0} → (D → DiskFacts) → Opened D → State → Type 0
+IsOldAt facts store s = IsAtBy One facts store s
 
 -- the disk of the store, or the one that is handed back
 abbrev pub disk_after : {D : Type 0} → Result (Opened D) (StoreRefusal × D) → D

@@ -1,28 +1,52 @@
--- What a put takes for its bytes and its entry: which of the free sectors.
+-- What a change takes for bytes, their entry and the catalogues: which of the free sectors.
 use Rattle.std.specs.Prelude.{◌≡◌, ℕ, ◌<◌, Bool, true, List, [], ◌∷◌, ◌++◌, length, set, slice_index_or}
+use Rattle.std.specs.List.{remove}
 use Rattle.extents.specs.declared.extent.Extent.{Extent}
-use Rattle.extents.specs.Layout.{IsLowestFree, with_flags}
+use Rattle.extents.specs.Extent.{one_sector}
+use Rattle.extents.specs.Layout.{IsLowestFree, with_flag, with_flags}
 use Rattle.extents.specs.Taken.{taken}
-use Rattle.roots.specs.Entry.{name_of, extents_of}
 use Rattle.store.specs.declared.placed_entry.PlacedEntry.{PlacedEntry}
 use Rattle.store.specs.Opened.{Opened, layout_in_use}
+use Rattle.store.specs.Stands.{name_of, extents_of, catalogues_of}
 
--- sectors of this layout are taken: the extents by `take`, then the entry's, the lowest free one
-pub record IsTaken (layout : List Bool) (need : ℕ) (extents : List Extent) (at : ℕ) : Type 0 where
+-- single sectors of this layout are taken: each in its turn is the lowest free one
+abbrev pub AreTaken : List Bool → List ℕ → Type 0
+AreTaken layout [] = Unit
+AreTaken layout (k ∷ ks) = IsLowestFree layout k × AreTaken (with_flag true (one_sector k) layout) ks
+
+-- sectors of this layout are taken: the extents by `take`, then the entry's, the lowest free one, then those of the catalogues
+pub record IsTaken (layout : List Bool) (need : ℕ) (extents : List Extent) (at : ℕ) (catalogues : List ℕ) : Type 0 where
   pub bytes : extents ≡ taken need layout
   pub entry : IsLowestFree (with_flags true extents layout) at
+  pub listed : AreTaken (with_flag true (one_sector at) (with_flags true extents layout)) catalogues
 
--- there is one more entry, the last; it and its bytes are in sectors that weren't in use
+-- there is one more entry, the last; it, its bytes and the catalogues are in sectors that weren't in use
 pub record IsPutBehind {D : Type 0} (old new : Opened D) (need : ℕ) : Type 0 where
   pub put : PlacedEntry
-  pub taken : IsTaken (layout_in_use old) need (extents_of put.entry) put.at
+  pub taken : IsTaken (layout_in_use old) need (extents_of put.entry) put.at (catalogues_of new.root)
   pub entries : new.entries ≡ old.entries ++ put ∷ []
 
--- another entry replaces the one of this name; its sectors are none of those that were in use
+-- the entry of this name, at this position
+pub record IsNamedAt {D : Type 0} (store : Opened D) (name : List ℕ) (position : ℕ) : Type 0 where
+  pub inside : position < length store.entries
+  pub named : (d : PlacedEntry) → name_of (slice_index_or store.entries position d).entry ≡ name
+
+-- another entry replaces the one of this name; its sectors and those of the catalogues are none of those that were in use
 pub record IsPutOver {D : Type 0} (old new : Opened D) (name : List ℕ) (need : ℕ) : Type 0 where
   pub position : ℕ
-  pub inside : position < length old.entries
-  pub named : (d : PlacedEntry) → name_of (slice_index_or old.entries position d).entry ≡ name
+  pub at : IsNamedAt old name position
   pub put : PlacedEntry
-  pub taken : IsTaken (layout_in_use old) need (extents_of put.entry) put.at
+  pub taken : IsTaken (layout_in_use old) need (extents_of put.entry) put.at (catalogues_of new.root)
   pub entries : new.entries ≡ set old.entries position put
+
+-- the entry of this name is gone; the catalogues are in sectors that weren't in use, so none of them in one of the entry's
+pub record IsTakenOut {D : Type 0} (old new : Opened D) (name : List ℕ) : Type 0 where
+  pub position : ℕ
+  pub at : IsNamedAt old name position
+  pub taken : AreTaken (layout_in_use old) (catalogues_of new.root)
+  pub entries : new.entries ≡ remove old.entries position
+
+-- the same entries are listed by catalogues, which are in sectors that weren't in use
+pub record IsRelisted {D : Type 0} (old new : Opened D) : Type 0 where
+  pub taken : AreTaken (layout_in_use old) (catalogues_of new.root)
+  pub entries : new.entries ≡ old.entries

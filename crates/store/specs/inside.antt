@@ -1,6 +1,9 @@
 -- What the code keeps as it goes. No public clause cites it, and nobody has to believe it.
+pub mod Catalogues
 pub mod Claimed
 pub mod First
 pub mod Kept
+pub mod NameIndex
 pub mod Next
+pub mod Reading
 pub mod Room

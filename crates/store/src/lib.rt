@@ -1,31 +1,44 @@
-//! Named byte strings that survive a power cut.
+//! The store of version 2 of the disk: named byte strings that survive a power cut, 2,048 at most.
 //!
-//! A disk is made a store by `Store::format`, and opened again by `Store::open`. Byte strings are
-//! put there, replaced and taken out by `Store::put_new`, `put_over` and `delete`, and
-//! `set_preloads` chooses the preloads: a stop at any moment leaves the state from before the call
-//! or the one after.
+//! A disk is made a store by `Store::format`, and opened again by `Store::open` after a stop at any
+//! moment. Byte strings are put behind the others by `put_new`, in the place of those under a name
+//! by `put_over`, and taken out by `delete`; `set_preloads` chooses the preloads. `Store::look`
+//! looks at a disk of either version, and `Store::upgrade` makes one of version 1 one of version 2.
 //! What sectors stand for is defined in specs/Stands.antt.
 #![tactic(auto)]
 
+mod catalogues;
+mod change;
+mod commit;
+mod delete;
 mod entries;
 mod format;
 mod found;
-mod names;
+mod kept;
+mod kept_query;
+mod listed;
+mod look;
+mod name_index;
 mod next;
+mod old_query;
+mod old_store;
 mod open;
 mod placed_entry;
 mod preload;
 mod put;
+mod put_new;
+mod put_over;
 mod query;
 mod read;
 mod refusal;
-mod remove;
-mod replace;
 mod room;
 mod slots;
 mod store;
+mod upgrade;
 mod used;
 
+pub use look::Look;
+pub use old_store::OldStore;
 pub use placed_entry::PlacedEntry;
 pub use refusal::StoreRefusal;
 pub use store::Store;

@@ -1,5 +1,5 @@
 // Opening a store again.
-use crate::found::{Found, find_store};
+use crate::found::find_current;
 use crate::refusal::StoreRefusal;
 use crate::store::Store;
 use sector_disk::Disk;
@@ -10,15 +10,17 @@ impl<D: Disk> Store<D> {
     ghost use Rattle.std.specs.Prelude.{◌≡◌, ◌+◌, ◌<◌, ◌⊎◌, IsTrue, IsFalse, IfOk, IfErr};
     ghost use Rattle.std.specs.Prelude.{MatchResult, length};
     ghost use Rattle.sector_disk.specs.Disk.{Mixture, LeavesOnly, AreCallsExactly, AreCallsAtMost};
-    ghost use Rattle.roots.specs.Limits.{most_root_entries};
+    ghost use Rattle.roots.specs.Limits.{most_catalogues};
+    ghost use Rattle.states.specs.Limits.{most_libraries};
     ghost use Rattle.store.specs.Opened.{IsAt, disk_after};
     ghost use Rattle.store.specs.Opening.{RefusesOpen, IsRefusalOfOpen};
     ghost use Rattle.states.specs.Geometry.{IsGeometry};
-    ghost use Rattle.store.specs.Stands.{Stands};
+    ghost use Rattle.store.specs.Stands.{Stands, catalogues_of};
     ghost use Rattle.states.specs.State.{State};
 
-    /// Opens the store that a disk holds, after a stop too. It writes nothing: it syncs, and reads
-    /// the two root sectors and one sector an entry. Where it refuses it hands the disk back.
+    /// Opens the store that a disk of version 2 holds, after a stop too; OldFormat where its
+    /// current root is of version 1. It writes nothing: it syncs, and reads the two root sectors,
+    /// each catalogue and one sector an entry. Where it refuses it hands the disk back.
     pub fn open(alloc: Global, disk: D) -> Result<Store<D>, (StoreRefusal, D)>
         // A stop at any moment leaves what it could leave before.
         ensures any_moment { IsTrue (D.facts disk).honest → LeavesOnly (D.facts disk)
@@ -44,29 +46,23 @@ impl<D: Disk> Store<D> {
         ensures device { IfErr result (λ e. e.0 ≡ StoreRefusal.Device
             → (D.facts disk).failures < (D.facts e.1).failures) }
         ensures untouched { IfErr result (λ e. e.0 ≡ StoreRefusal.BadGeometry → e.1 ≡ disk) }
-        ensures calls { AreCallsAtMost (3 + most_root_entries)
+        ensures calls { AreCallsAtMost (3 + most_catalogues + most_libraries)
             (D.facts disk) (D.facts (disk_after result)) }
-        ensures all_calls { IfOk result (λ store. AreCallsExactly (3 + length store.entries)
+        ensures all_calls { IfOk result (λ store.
+            AreCallsExactly (3 + length (catalogues_of store.root) + length store.entries)
             (D.facts disk) (D.facts store.disk)) }
+
+        // A root of version 1 is all that is read of its disk.
+        ensures old_calls { IfErr result (λ e. e.0 ≡ StoreRefusal.OldFormat
+            → AreCallsExactly 3 (D.facts disk) (D.facts e.1)) }
     {
-        let sectors = disk.sectors();
-        if !is_geometry(sectors) {
+        if !is_geometry(disk.sectors()) {
             return Err((StoreRefusal::BadGeometry, disk));
         }
         let mut disk = disk;
-        match find_store(alloc, &mut disk, sectors) {
-            Ok(
-                Found {
-                    root,
-                    entries,
-                    layout,
-                },
-            ) => Ok(Store {
-                disk,
-                root,
-                entries,
-                layout,
-                failed: false,
+        match find_current(alloc, &mut disk) {
+            Ok(found) => Ok(Store {
+                kept: found.beside(disk),
             }),
             Err(refusal) => Err((refusal, disk)),
         }

@@ -1,25 +1,29 @@
-// What a put writes: an entry, and the two passes.
+// What a put writes: bytes, their entry, and the catalogues of the list with it.
 ghost use Rattle.std.specs.Prelude.{◌≡◌, ◌+◌, ◌<◌, ◌≤◌, ◌^◌, ◌⊎◌, List};
-ghost use Rattle.std.specs.Prelude.{length, All, AllPairs, Contains, IsTrue, OnOk};
+ghost use Rattle.std.specs.Prelude.{length, All, IsTrue, OnOk};
 ghost use Rattle.std.specs.Int.{div_ceil};
-ghost use Rattle.extents.specs.Extent.{IsApart, sector_count, places};
+ghost use Rattle.extents.specs.Extent.{sector_count};
 ghost use Rattle.extents.specs.Limits.{most_extents, root_sectors};
 ghost use Rattle.sector_disk.specs.Disk.{Sector, sector_bytes, Mixture, LeavesOnly};
-ghost use Rattle.passes.specs.Bytes.{IsOnDisk};
 ghost use Rattle.passes.specs.Calls.{AreCallsInRow};
 ghost use Rattle.roots.specs.declared.root.Root.{Root};
+ghost use Rattle.roots.specs.declared.version.Version.{Version};
+ghost use Rattle.roots.specs.declared.version.Version.TheVariants.{Two};
 ghost use Rattle.roots.specs.Entry.{EntryHasSpelling, IsDataExtent};
 ghost use Rattle.roots.specs.Root.{RootHasSpelling};
 ghost use Rattle.store.specs.declared.placed_entry.PlacedEntry.{PlacedEntry};
 ghost use Rattle.states.specs.State.{State};
-ghost use Rattle.store.specs.Stands.{StandsBy, Stands, name_of, extents_of, sectors_of};
-ghost use Rattle.store.specs.Step.{IsName, IsFileSize};
-ghost use Rattle.store.specs.inside.Room.{HasPlace, IsPut};
+ghost use Rattle.store.specs.Names.{IsName, IsFileSize};
+ghost use Rattle.store.specs.Stands.{StandsBy, StandsAs, Stands, name_of, extents_of};
+ghost use Rattle.store.specs.inside.Catalogues.{CanBeCatalogued};
+ghost use Rattle.store.specs.inside.Next.{IsPut};
+ghost use Rattle.store.specs.inside.Room.{HasPlace};
 
+use crate::catalogues::put_singles;
+use crate::change::write_change;
 use crate::placed_entry::PlacedEntry;
 use crate::room::Room;
-use passes::{SingleSector, commit, stage};
-use roots::{Entry, Root, encode_entry, encode_root, slot_of};
+use roots::{Entry, Root};
 use sector_disk::{Disk, DiskFault, SECTOR_BYTES};
 
 /// How many sectors the bytes take.
@@ -49,37 +53,47 @@ pub(crate) fn new_entry(name: &[u8], bytes: &[u8], room: &Room) -> PlacedEntry
     }
 }
 
-/// Writes the bytes and the entry into their sectors and syncs, and then the root, and syncs.
+/// Writes bytes, their entry and the catalogues of a list with it and syncs, and then the root, and
+/// syncs.
 pub(crate) fn write_put<D: Disk>(
     disk: &mut D,
     put: &PlacedEntry,
     bytes: &[u8],
+    catalogues: &[u32],
+    sectors: &[u32],
     root: &Root,
 ) -> Result<(), DiskFault>
     requires root { RootHasSpelling root.now }
     requires fits { (D.facts disk.old).sectors < 2 ^ 32 }
-    requires put { HasPlace (D.facts disk.old).sectors put.now }
     requires roots { root_sectors ≤ (D.facts disk.old).sectors }
-    ensures calls { AreCallsInRow (sector_count (extents_of put.now.entry) + 4)
+    requires place { HasPlace (D.facts disk.old).sectors put.now catalogues.now }
+    requires listed { CanBeCatalogued (length catalogues.now) sectors.now }
+    ensures calls { AreCallsInRow
+        (sector_count (extents_of put.now.entry) + length catalogues.now + 4)
         (D.facts disk.old) (D.facts disk.new) result }
     ensures any_moment { IsTrue (D.facts disk.old).honest
-        → (before : Root) → (entries : List PlacedEntry) → (s : State)
+        → (version : Version) → (before : Root) → (entries : List PlacedEntry) → (s : State)
         → (others : List PlacedEntry) → (s' : State)
-        → ((m : List Sector) → Mixture (D.facts disk.old) m → StandsBy m before entries s)
-        → IsPut before entries s bytes.now put.now root.now others s'
-        → LeavesOnly (D.facts disk.old) (D.facts disk.new) (λ m. Stands m s ⊎ Stands m s') }
+        → ((m : List Sector) → Mixture (D.facts disk.old) m → StandsBy version m before entries s)
+        → IsPut version before entries s bytes.now put.now catalogues.now sectors.now
+        root.now others s'
+        → LeavesOnly (D.facts disk.old) (D.facts disk.new)
+        (λ m. StandsAs version m s ⊎ Stands m s') }
     ensures done { IsTrue (D.facts disk.old).honest
-        → (before : Root) → (entries : List PlacedEntry) → (s : State)
+        → (version : Version) → (before : Root) → (entries : List PlacedEntry) → (s : State)
         → (others : List PlacedEntry) → (s' : State)
-        → ((m : List Sector) → Mixture (D.facts disk.old) m → StandsBy m before entries s)
-        → IsPut before entries s bytes.now put.now root.now others s'
+        → ((m : List Sector) → Mixture (D.facts disk.old) m → StandsBy version m before entries s)
+        → IsPut version before entries s bytes.now put.now catalogues.now sectors.now
+        root.now others s'
         → OnOk result ((m : List Sector) → Mixture (D.facts disk.new) m
-        → StandsBy m root.now others s') }
+        → StandsBy Two m root.now others s') }
 {
-    let entry = SingleSector {
-        at: put.at,
-        content: encode_entry(&put.entry),
-    };
-    stage(disk, put.entry.file_extents(), bytes, &[entry])?;
-    commit(disk, slot_of(root.generation), &encode_root(root))
+    let singles = put_singles(put, catalogues, sectors);
+    write_change(
+        disk,
+        put.entry.file_extents(),
+        bytes,
+        singles.as_slice(),
+        root,
+    )
 }

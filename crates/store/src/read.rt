@@ -7,6 +7,8 @@ ghost use Rattle.passes.specs.Calls.{AreReads};
 ghost use Rattle.roots.specs.Entry.{EntryHasSpelling};
 ghost use Rattle.store.specs.Stands.{extents_of, library_of};
 
+use crate::kept::Kept;
+use crate::old_store::OldStore;
 use crate::placed_entry::PlacedEntry;
 use crate::refusal::StoreRefusal;
 use crate::store::Store;
@@ -26,7 +28,8 @@ fn read_file<D: Disk>(
     ensures calls { AreCallsAtMost (div_ceil placed.now.entry.file_length sector_bytes)
         (D.facts disk.old) (D.facts disk.new) }
     ensures all_calls { OnOk result (AreCallsExactly
-        (div_ceil placed.now.entry.file_length sector_bytes) (D.facts disk.old) (D.facts disk.new)) }
+        (div_ceil placed.now.entry.file_length sector_bytes)
+        (D.facts disk.old) (D.facts disk.new)) }
     ensures same { IsTrue (D.facts disk.old).honest
         → AreReads (D.facts disk.old) (D.facts disk.new) }
     ensures read { IsTrue (D.facts disk.old).honest → IfOk result (λ bytes.
@@ -43,30 +46,35 @@ fn read_file<D: Disk>(
     Ok(bytes)
 }
 
-impl<D: Disk> Store<D> {
-    ghost use Rattle.std.specs.Prelude.{◌≡◌, ◌≢◌, ℕ, ◌<◌, ◌⊎◌, ◌↔◌, Err, IsTrue, IfOk, IfErr, OnOk};
+impl<D: Disk> Kept<D> {
+    ghost use Rattle.std.specs.Prelude.{◌≡◌, ◌≢◌, ◌<◌, ◌⊎◌, ◌↔◌, Err, IsTrue, IfOk, IfErr, OnOk};
     ghost use Rattle.std.specs.Prelude.{length, slice_index_or};
     ghost use Rattle.std.specs.Int.{div_ceil};
     ghost use Rattle.sector_disk.specs.Disk.{sector_bytes, Mixture, LeavesOnly};
     ghost use Rattle.sector_disk.specs.Disk.{AreCallsExactly, AreCallsAtMost};
+    ghost use Rattle.roots.specs.declared.version.Version.{Version};
     ghost use Rattle.store.specs.declared.placed_entry.PlacedEntry.{PlacedEntry};
-    ghost use Rattle.store.specs.Opened.{IsAt};
+    ghost use Rattle.store.specs.Opened.{IsAtBy};
     ghost use Rattle.store.specs.Stands.{no_library};
     ghost use Rattle.states.specs.State.{State};
 
     /// The byte string at this position. It reads each of its sectors once, and writes nothing.
-    pub fn read_blob(&mut self, alloc: Global, position: usize) -> Result<Vec<u8>, StoreRefusal>
+    pub(crate) fn read_blob(
+        &mut self,
+        alloc: Global,
+        position: usize,
+    ) -> Result<Vec<u8>, StoreRefusal>
         requires { position < length self.old.entries }
-
-        // A stop at any moment leaves what it could leave before.
         ensures any_moment { IsTrue (D.facts self.old.disk).honest
             → LeavesOnly (D.facts self.old.disk) (D.facts self.new.disk)
             (Mixture (D.facts self.old.disk)) }
-        ensures ok { (s : State) → IsAt D.facts self.old s → IfOk result (λ bytes.
+        ensures ok { (version : Version) → (s : State) → IsAtBy version D.facts self.old s
+            → IfOk result (λ bytes.
             bytes.items ≡ (slice_index_or s.libraries position no_library).bytes) }
-        ensures same { (s : State) → IsAt D.facts self.old s → IsAt D.facts self.new s }
-
-        // On any disk. A read that fails doesn't make the store fail.
+        ensures same { (version : Version) → (s : State) → IsAtBy version D.facts self.old s
+            → IsAtBy version D.facts self.new s }
+        ensures now { IsTrue (D.facts self.old.disk).honest
+            → (D.facts self.new.disk).now ≡ (D.facts self.old.disk).now }
         ensures kept { (self.new.root ≡ self.old.root) × (self.new.entries ≡ self.old.entries)
             × (self.new.failed ≡ self.old.failed) }
         ensures length { (d : PlacedEntry) → IfOk result (λ bytes. length bytes.items
@@ -88,5 +96,33 @@ impl<D: Disk> Store<D> {
             return Err(StoreRefusal::Reopen);
         }
         read_file(alloc, &mut self.disk, &self.entries[position])
+    }
+}
+
+impl<D: Disk> Store<D> {
+    ghost use Rattle.std.specs.Prelude.{◌<◌, length};
+    ghost use Rattle.roots.specs.declared.version.Version.TheVariants.{Two};
+    ghost use Rattle.store.specs.Reads.{ReadsBlob};
+
+    /// The byte string at this position. It reads each of its sectors once, and writes nothing.
+    pub fn read_blob(&mut self, alloc: Global, position: usize) -> Result<Vec<u8>, StoreRefusal>
+        requires { position < length self.old.entries }
+        ensures { ReadsBlob Two D.facts self.old self.new position result }
+    {
+        self.kept.read_blob(alloc, position)
+    }
+}
+
+impl<D: Disk> OldStore<D> {
+    ghost use Rattle.std.specs.Prelude.{◌<◌, length};
+    ghost use Rattle.roots.specs.declared.version.Version.TheVariants.{One};
+    ghost use Rattle.store.specs.Reads.{ReadsBlob};
+
+    /// The byte string at this position. It reads each of its sectors once, and writes nothing.
+    pub fn read_blob(&mut self, alloc: Global, position: usize) -> Result<Vec<u8>, StoreRefusal>
+        requires { position < length self.old.entries }
+        ensures { ReadsBlob One D.facts self.old self.new position result }
+    {
+        self.kept.read_blob(alloc, position)
     }
 }

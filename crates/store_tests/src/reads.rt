@@ -1,41 +1,33 @@
 // What a store tells and reads of a disk that was written by hand.
+use crate::disks::{write_catalogue, write_entry, write_root};
 use crate::sectors::write;
 use extents::Extent;
-use roots::{Entry, Root, encode_entry, encode_root};
+use roots::{Entry, Root};
 use sector_disk::{Fuse, Memory, SECTOR_BYTES};
 use std::alloc::Global;
 use std::process::Abort;
 use std::test::Fail;
 use store::{Store, StoreRefusal};
 
-/// A disk of 8 sectors, each full of its own number, but for the roots and the entry in sector 4:
-/// a byte string of 1,100 bytes lies in the sectors 6, 2 and 3, and is a preload.
+/// A disk of 8 sectors, each full of its own number, but for the roots, the entry in sector 4 and
+/// the catalogue in 5: a byte string of 1,100 bytes lies in the sectors 6, 2 and 3, and is a
+/// preload.
 pub(crate) fn scattered(rt: &impl Abort, alloc: Global) -> Result<Memory, Fail> {
     let mut disk = Memory::new(alloc, 8)?;
     for at in 2..8 {
         write(rt, &mut disk, at, &[at as u8; SECTOR_BYTES]);
     }
-    let entry = Entry::new(
-        b"a",
-        1100,
-        &[Extent { start: 6, count: 1 }, Extent { start: 2, count: 2 }],
-    );
-    assert!(rt; entry.has_spelling());
-    write(rt, &mut disk, 4, &encode_entry(&entry));
-    let root = Root::over_entries(0, 8, &[4], &[0]);
-    assert!(rt; root.has_spelling());
-    write(rt, &mut disk, 0, &encode_root(&root));
+    let extents = [Extent { start: 6, count: 1 }, Extent { start: 2, count: 2 }];
+    write_entry(rt, &mut disk, 4, &Entry::new(b"a", 1100, &extents));
+    write_catalogue(rt, &mut disk, 5, &[4]);
+    write_root(rt, &mut disk, &Root::over_catalogues(0, 8, 1, &[5], &[0]));
     Ok(disk)
 }
 
-// The store on that disk, whose fifth call fails: the fourth one of the opening reads the entry,
-// and the next one the first sector.
+// The store on that disk, whose sixth call fails: the fifth one of the opening reads the entry, and
+// the next one the first sector.
 fn opened(rt: &impl Abort, alloc: Global) -> Result<Store<Fuse<Memory>>, Fail> {
-    let disk = Fuse::new(scattered(rt, alloc)?, 5, false, false);
-    match Store::open(alloc, disk) {
-        Ok(store) => Ok(store),
-        Err(_) => Err("open refused".into()),
-    }
+    crate::calls::opened(alloc, Fuse::new(scattered(rt, alloc)?, 6, false, false))
 }
 
 #[test]

@@ -10,6 +10,7 @@ use Rattle.commands.specs.declared.access.Access.TheVariants.{Reading, Writing}
 abbrev pub disk_of : CommandLine → Option (List ℕ)
 disk_of (words.image program base) = None
 disk_of (words.format disk sectors) = Some disk
+disk_of (words.upgrade disk) = Some disk
 disk_of (words.install disk file) = Some disk
 disk_of (words.replace disk file) = Some disk
 disk_of (words.remove disk name) = Some disk

@@ -11,8 +11,8 @@ use Rattle.registry.specs.Request.{Request}
 use Rattle.store.specs.declared.refusal.StoreRefusal.{StoreRefusal}
 use Rattle.commands.specs.declared.disk.NoRegistry.{NoRegistry}
 use Rattle.commands.specs.declared.disk.NoRegistry.TheVariants as no
-use Rattle.commands.specs.Disk.{IsOpenRefusal, IsFormatRefusal}
-use Rattle.commands.specs.Outcome.{are_bad, IsDone, IsRefused, LacksMemory, Replies, Makes, TurnsAway, RunsThrough, EndsEarly, Runs, RunsInPart}
+use Rattle.commands.specs.Disk.{IsOpenRefusal, IsFormatRefusal, IsUpgradeRefusal}
+use Rattle.commands.specs.Outcome.{are_bad, IsDone, IsRefused, LacksMemory, Replies, Makes, Upgrades, TurnsAway, RunsThrough, EndsEarly, Runs, RunsInPart}
 use Rattle.commands.specs.Printed.{PrintsImage, PrintsRefusal}
 use Rattle.commands.specs.Refusal.{memory_text}
 use Rattle.commands.specs.Reply.{reply_text}
@@ -96,6 +96,11 @@ BindEnds F asked IsAsked before after status = (is_some asked ≡ true) × Repli
 abbrev pub IsFormatted : (F : Type 0) → ℕ → Option (List ℕ) → Option (List ℕ) → Status → Type 0
 IsFormatted F sectors before after Done = Makes F sectors before after
 IsFormatted F sectors before after status = IsTurnedAway IsFormatRefusal before after status
+
+-- what upgrading a registry ends with
+abbrev pub UpgradeEnds : (F : Type 0) → Option (List ℕ) → Option (List ℕ) → Status → Type 0
+UpgradeEnds F before after Done = Upgrades F before after
+UpgradeEnds F before after status = IsTurnedAway IsUpgradeRefusal before after status
 
 -- what a script over a registry ends with
 abbrev pub IsRun : {S : Type 0} → (S → Request → Reply → S → Type 0) → S → S → Streams → Status → Type 0

@@ -35,6 +35,7 @@ fn the_file_behind_a_stream_is_no_disk(rt: HostRuntime) -> Result<(), Fail> {
     // What would be said of it would be written into it.
     for text in [
         "format /proc/self/fd/2 8",
+        "upgrade /proc/self/fd/2",
         "install /proc/self/fd/2 commands_apart",
         "replace /proc/self/fd/2 commands_apart",
         "remove /proc/self/fd/2 a",

@@ -40,7 +40,7 @@ fn a_disk_is_formatted_once(rt: HostRuntime) -> Result<(), Fail> {
     let root = &disk[..24];
     assert_eq!(rt;
         root,
-        b"RLIBREG1\0\0\0\0\0\0\0\0\x08\0\0\0\0\0\0\0".as_slice()
+        b"RLIBREG2\0\0\0\0\0\0\0\0\x08\0\0\0\0\0\0\0".as_slice()
     );
     assert!(rt; disk[24..].iter().all(|byte| *byte == 0));
     fs::remove_dir_all(&rt, "commands_format")?;
@@ -61,6 +61,7 @@ fn other_files_are_no_disks(rt: HostRuntime) -> Result<(), Fail> {
     ] {
         File::create(&rt, path)?.set_len(length)?;
         for text in [
+            "upgrade commands_disks/disk",
             "install commands_disks/disk commands_disks/file",
             "replace commands_disks/disk commands_disks/file",
             "remove commands_disks/disk a",
@@ -81,26 +82,22 @@ fn other_files_are_no_disks(rt: HostRuntime) -> Result<(), Fail> {
         "refused S6 BadGeometry\n",
         "",
     )?;
-    // A root that is none.
-    let mut bytes = vec![in rt.alloc(); 0u8; 4096]?;
-    bytes[..8].copy_from_slice(b"RLIBREG1");
-    fs::write(&rt, path, bytes.as_slice())?;
-    expect(
-        &rt,
-        "list commands_disks/disk",
-        "",
-        1,
-        "refused S5 Damaged\n",
-        "",
-    )?;
-    expect(
-        &rt,
-        "format commands_disks/disk 8",
-        "",
-        1,
-        "refused S4 AlreadyFormatted\n",
-        "",
-    )?;
+    // Roots of either version that are none.
+    for magic in [b"RLIBREG1", b"RLIBREG2"] {
+        let mut bytes = vec![in rt.alloc(); 0u8; 4096]?;
+        bytes[..8].copy_from_slice(magic);
+        fs::write(&rt, path, bytes.as_slice())?;
+        for (text, answer) in [
+            ("list commands_disks/disk", "refused S5 Damaged\n"),
+            ("upgrade commands_disks/disk", "refused S5 Damaged\n"),
+            (
+                "format commands_disks/disk 8",
+                "refused S4 AlreadyFormatted\n",
+            ),
+        ] {
+            expect(&rt, text, "", 1, answer, "")?;
+        }
+    }
     fs::remove_dir_all(&rt, "commands_disks")?;
     Ok(())
 }
@@ -111,6 +108,7 @@ fn disks_that_are_not_there(rt: HostRuntime) -> Result<(), Fail> {
     fs::write(&rt, "commands_file", b"\x7f".as_slice())?;
     for text in [
         "format commands_none/disk 8",
+        "upgrade commands_none/disk",
         "install commands_none/disk commands_file",
         "replace commands_none/disk commands_file",
         "remove commands_none/disk a",

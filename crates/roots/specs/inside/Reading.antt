@@ -4,8 +4,8 @@ use Rattle.std.specs.List.{range_with_len, starts_with}
 use Rattle.std.specs.Int.{Width, w16, w32, w64, from_le_bytes}
 use Rattle.extents.specs.declared.extent.Extent.{Extent}
 use Rattle.extents.specs.Limits.{most_extents}
-use Rattle.states.specs.Limits.{most_preloads}
-use Rattle.roots.specs.Limits.{most_root_entries, most_catalogues, most_catalogue_entries, most_name_bytes}
+use Rattle.states.specs.Limits.{most_preloads, most_catalogue_entries}
+use Rattle.roots.specs.Limits.{most_root_entries, most_catalogues, most_name_bytes}
 use Rattle.roots.specs.declared.entry_list.EntryList.{EntryList}
 use Rattle.roots.specs.declared.entry_list.EntryList.TheVariants.{InRoot, InCatalogues}
 use Rattle.roots.specs.Root.{magic_2}

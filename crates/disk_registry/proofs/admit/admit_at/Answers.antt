@@ -11,6 +11,7 @@ pub returns-in_err-bytes-clause-read : goal.returns-in_err-bytes-clause-read
 returns-in_err-bytes-clause-read g c = record {
   leaves = c.read_blob.ensures.any_moment;
   same = c.read_blob.ensures.same;
+  now = c.read_blob.ensures.now;
   root = c.read_blob.ensures.kept.0;
   entries = c.read_blob.ensures.kept.1;
   failed = c.read_blob.ensures.kept.2;
@@ -21,6 +22,7 @@ pub returns-clause-read : goal.returns-clause-read
 returns-clause-read g c = record {
   leaves = c.read_blob.ensures.any_moment;
   same = c.read_blob.ensures.same;
+  now = c.read_blob.ensures.now;
   root = c.read_blob.ensures.kept.0;
   entries = c.read_blob.ensures.kept.1;
   failed = c.read_blob.ensures.kept.2;
@@ -31,6 +33,7 @@ pub returns-in_err-admit_file-clause-read : goal.returns-in_err-admit_file-claus
 returns-in_err-admit_file-clause-read g c = record {
   leaves = c.read_blob.ensures.any_moment;
   same = c.read_blob.ensures.same;
+  now = c.read_blob.ensures.now;
   root = c.read_blob.ensures.kept.0;
   entries = c.read_blob.ensures.kept.1;
   failed = c.read_blob.ensures.kept.2;

@@ -15,6 +15,7 @@ pub returns-in_err-bytes-clause-read : goal.returns-in_err-bytes-clause-read
 returns-in_err-bytes-clause-read g c = record {
   leaves = c.read_blob.ensures.any_moment;
   same = c.read_blob.ensures.same;
+  now = c.read_blob.ensures.now;
   root = c.read_blob.ensures.kept.0;
   entries = c.read_blob.ensures.kept.1;
   failed = c.read_blob.ensures.kept.2;
@@ -25,6 +26,7 @@ pub returns-clause-read : goal.returns-clause-read
 returns-clause-read g c = record {
   leaves = c.read_blob.ensures.any_moment;
   same = c.read_blob.ensures.same;
+  now = c.read_blob.ensures.now;
   root = c.read_blob.ensures.kept.0;
   entries = c.read_blob.ensures.kept.1;
   failed = c.read_blob.ensures.kept.2;
@@ -45,5 +47,5 @@ pub returns-clause-all_calls : goal.returns-clause-all_calls
 returns-clause-all_calls g c =
     IfOk-weaker c.new.result _ (λ (file : Library). AreCallsExactly (div_ceil (length file.bytes) sector_bytes) (g.D.Disk.facts c.args.store.now.disk) (g.D.Disk.facts c.read_blob.new.self.disk))
     (λ file is. subst (λ n. AreCallsExactly (div_ceil n sector_bytes) (g.D.Disk.facts c.args.store.now.disk) (g.D.Disk.facts c.read_blob.new.self.disk))
-    (sym (ap (λ (l : Library). length l.bytes) is ∙ c.in_ok-bytes.ensures.length no_entry)) (c.in_ok-bytes.ensures.all_calls no_entry))
+    (sym (ap (λ (l : Library). length l.bytes) is ∙ c.in_ok-bytes.ensures.size no_entry)) (c.in_ok-bytes.ensures.all_calls no_entry))
     c.new.ensures.ok

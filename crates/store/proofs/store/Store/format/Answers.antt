@@ -3,6 +3,7 @@ use Rattle.store.specs.Opening.{RefusesFormat}
 use Rattle.states.specs.Geometry.{IsGeometry}
 use Rattle.store.specs.inside.First.{first_root}
 use Rattle.store.specs.inside.Kept.{IsKept}
+use Rattle.store.specs.inside.NameIndex.{IsIndex}
 use Rattle.store.proofs.First.{first_kept, either_stands}
 use Rattle.store.proofs.store.Store.format.Goals as goal
 
@@ -14,6 +15,7 @@ invariant_of-result g c =
       subst (λ r. IsKept r c.new-in-Ok-write_first_root.result.items c.in-Ok.layout) (sym root)
           (subst (λ l. IsKept (first_root sectors) l c.in-Ok.layout) (sym c.new-in-Ok-write_first_root.ensures.items)
           (subst (λ flags. IsKept (first_root sectors) [] flags) (sym c.in-Ok.ensures.ok) (first_kept sectors geometry))),
+      subst (λ l. IsIndex l c.empty.result) (sym c.new-in-Ok-write_first_root.ensures.items) c.empty.ensures,
       c.write_first_root.ensures.calls.some.sectors ∙ sym c.sectors-sectors.ensures ∙ ap (λ r. r.sectors) (sym root),
     )
 

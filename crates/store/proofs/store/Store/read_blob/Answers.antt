@@ -1,14 +1,21 @@
-use Rattle.std.proofs.Common.{◌<◌, length, sym, subst, All}
-use Rattle.store.specs.declared.placed_entry.PlacedEntry.{PlacedEntry}
-use Rattle.passes.specs.Bytes.{IsOnDisk}
-use Rattle.store.specs.Stands.{extents_of}
-use Rattle.store.proofs.Within.{entry_on_disk}
+use Rattle.std.proofs.Common.{subst}
+use Rattle.roots.specs.declared.version.Version.TheVariants.{Two}
+use Rattle.store.specs.Reads.{ReadsBlob}
 use Rattle.store.proofs.store.Store.read_blob.Goals as goal
 
-pub read_file-requires-clause-inside : goal.read_file-requires-clause-inside
-read_file-requires-clause-inside g c =
-    let lt = subst (λ store. c.args.position < length store.entries) (sym c.self.view_is) c.requires in
-    let kept = c.self.invariant.0 in
-    subst (λ n. All (IsOnDisk n) (extents_of c.index.result.now.entry)) (sym c.self.invariant.1)
-    (subst (λ (placed : PlacedEntry). All (IsOnDisk c.self.inside.root.sectors) (extents_of placed.entry)) (sym c.index.ensures)
-    (entry_on_disk c.self.inside.root.sectors c.self.inside.entries.items kept.apart kept.entries_fit c.args.position c.index.result.now lt))
+pub returns : goal.returns
+returns g c =
+    subst (λ old. ReadsBlob Two g.D.Disk.facts old c.read_blob.new.self c.args.position c.read_blob.result) c.self.view_is (record {
+      any_moment = c.read_blob.ensures.any_moment;
+      ok = c.read_blob.ensures.ok Two;
+      same = c.read_blob.ensures.same Two;
+      now = c.read_blob.ensures.now;
+      kept = c.read_blob.ensures.kept;
+      size = c.read_blob.ensures.length;
+      reopen = c.read_blob.ensures.reopen;
+      refusals = c.read_blob.ensures.refusals;
+      device = c.read_blob.ensures.device;
+      untouched = c.read_blob.ensures.untouched;
+      all_calls = c.read_blob.ensures.all_calls;
+      calls = c.read_blob.ensures.calls;
+    })

@@ -1,0 +1,171 @@
+"""Cases of disks with many libraries, and so with several catalogues, and of catalogues and roots that are damaged."""
+
+import struct
+
+from make import DATA
+from on_disk import A, NAMED_Q, bytes_of, keep, library, listed, on
+from scripts import SECTOR, catalogues_for
+from sectors import Entry, padded, spelt_entry
+
+ROOT = '524c494252454732'
+S5, S7, END = '1 refused S5 Damaged', '1 refused S7 Full', '0 end'
+
+
+def numbered(i):
+    return b'x%03x' % i
+
+
+def hexed(form, *values):
+    return struct.pack('<' + form, *values).hex()
+
+
+def one_library(i):
+    """The changes that write library i: the sectors of the first one, with its own name in the file and in the entry, and its place."""
+    at, digits = SECTOR * (2 * i + 2), numbered(i)[1:].hex()
+    return f'0x{at:x}=@numbered.sectors 0x{at + 0xda:x}={digits} 0x{at + 0x211:x}={digits} 0x{at + 0x300:x}={hexed("H", 2 * i + 2)}'
+
+
+def a_behind(i):
+    """The changes that write the library a in the place of library i."""
+    at = SECTOR * (2 * i + 2)
+    entry = hexed('4sIHHI', b'LIBE', 344, 1, 1, 0)
+    return f'0x{at:x}=@{A} 0x{at + 0x200:x}={entry}61 0x{at + 0x300:x}={hexed("II", 2 * i + 2, 1)}'
+
+
+def catalogue_of(count, j):
+    """The changes that write catalogue j of a list of so many libraries: library i has its entry in sector 2i + 3."""
+    at, libraries = SECTOR * (2 * count + 2 + j), range(64 * j, min(64 * (j + 1), count))
+    return f'0x{at:x}={b"LIBC".hex()}{hexed("H", len(libraries))} 0x{at + 16:x}=' + ''.join(hexed('I', 2 * i + 3) for i in libraries)
+
+
+def made(count, sectors, last=one_library):
+    """The text of a disk of so many libraries, of generation 1: the data of library i is in sector 2i + 2, its entry in the next one,
+    and the catalogues are behind them all. `last` writes the last library."""
+    catalogues = range(2 * count + 2, 2 * count + 2 + catalogues_for(count))
+    lines = [f'bytes={ROOT}{hexed("QI", 0, sectors)} pad={SECTOR * sectors}',
+             f'0x200={ROOT}{hexed("QIH", 1, sectors, count)} 0x238={hexed("H", len(catalogues))} 0x240=' + ''.join(hexed('I', k) for k in catalogues)]
+    lines += [catalogue_of(count, j) for j in range(len(catalogues))]
+    lines += [one_library(i) for i in range(count - 1)] + [last(count - 1)]
+    return ''.join(line + '\n' for line in lines)
+
+
+def prepare():
+    file = library(numbered(0))
+    assert len(file) == 344 and file[0xd9:0xde] == b'x000\0'
+    keep('numbered.so', file)
+    keep('numbered.sectors', padded(file, SECTOR) + spelt_entry(Entry(numbered(0), 344, [(2, 1)])))
+    for name, count, sectors, last in (('sixty-four', 64, 135, one_library), ('sixty-five', 65, 136, one_library),
+                                       ('hundred', 100, 208, a_behind), ('many', 2048, 4164, one_library)):
+        (DATA / f'{name}.changes').write_text(made(count, sectors, last))
+        names = [numbered(i).decode() for i in range(count - 1)] + ['a' if last == a_behind else numbered(count - 1).decode()]
+        (DATA / f'{name}.listing').write_text(''.join(f'library {n} 344\n' for n in names) + 'end\n')
+
+
+def sixty_fours():
+    four, five = 'made=sixty-four.changes', 'made=sixty-five.changes'
+    roomy, roomier = f'{four} pad=69632 0x210=88', f'{five} pad=70656 0x210=8a'
+    return [
+        ('64 libraries in a catalogue, sector 130; of 135 sectors three are free beside the one of the next catalogue, which are too few for\n'
+         'a library and a second catalogue.', [
+            listed(four, 'sixty-four.listing'), on(four, f'install disk {NAMED_Q}', S7, 'same'),
+            on(four, 'replace disk numbered.so', '0 ok', has='0x8=02 0x14=40 0x38=01 0x40=85 0x10900=83 0x10a04=40 0x10a10=8400000005'),
+            on(four, 'remove disk x000', '0 ok', has='0x14=3f 0x38=01 0x40=83 0x10604=3f 0x10610=0500000007'),
+            on(four, 'preload disk x03f', '0 ok', 'same 0x8=02 0x14=40000100 0x18=3f 0x38=01 0x40=82')]),
+        ('With 136 sectors they aren\'t: data 131, entry 132, the catalogues 133 and 134.', [
+            on(roomy, f'install disk {NAMED_Q}', '0 ok', has='0x14=4100 0x38=02 0x40=8500000086 0x10900=83 0x10a00=4c4942434000 0x10a10=03'
+               ' 0x10b0c=81 0x10c00=4c4942430100 0x10c10=8400000000')]),
+        ('65 libraries in two catalogues, sectors 132 and 133; of 136 sectors none is free beside those of the next two catalogues. A removal\n'
+         'needs one of them, and preloads neither; these stay whose they were.', [
+            listed(five, 'sixty-five.listing'), on(five, f'install disk {NAMED_Q}', S7, 'same'), on(five, 'replace disk numbered.so', S7, 'same'),
+            on(five, 'remove disk x000', '0 ok', has='0x14=40 0x38=01 0x40=8600000000 0x10c04=40 0x10c10=05 0x10d0c=83'),
+            on(five, 'remove disk x03f', '0 ok', has='0x14=40 0x38=01 0x40=8600000000 0x10c10=03 0x10d0c=83'),
+            on(five, 'remove disk x040', '0 ok', has='0x14=40 0x38=01 0x40=8600000000 0x10c10=03 0x10d0c=81'),
+            on(f'{five} 0x216=01 0x218=40', 'remove disk x000', '0 ok', has='0x14=40000100 0x18=3f 0x38=01 0x40=86'),
+            on(f'{five} 0x216=01 0x218=3f', 'remove disk x040', '0 ok', has='0x14=40000100 0x18=3f 0x38=01 0x40=86'),
+            on(five, 'preload disk x040 x000', '0 ok', 'same 0x8=02 0x14=41000200 0x18=40 0x38=02 0x40=8400000085'),
+            on(five, 'upgrade disk', '0 ok', 'same')]),
+        ('On 138 sectors a library is replaced, or the 66th installed: both catalogues are new.', [
+            on(roomier, 'replace disk numbered.so', '0 ok', has='0x14=41 0x38=02 0x40=8800000089 0x11010=87 0x11200=4c49424301 0x11210=83'),
+            on(roomier, f'install disk {NAMED_Q}', '0 ok', has='0x14=42 0x38=02 0x40=8800000089 0x11010=03 0x11200=4c49424302 0x11210=8300000087')]),
+    ]
+
+
+def damaged():
+    five = 'made=sixty-five.changes'
+    # Eight sectors: data 2 to 5, entry 6, catalogue 7, and none for another catalogue.
+    too_full = (f'formatted.disk 0x200={ROOT}{hexed("QIH", 1, 8, 1)} 0x238=01 0x240=07 0x400=@{A} 0xc00={hexed("4sIHHI", b"LIBE", 2048, 1, 1, 0)}61'
+                f' 0xd00={hexed("II", 2, 4)} 0xe00=4c49424301 0xe10=06')
+    return [
+        ('Catalogues that are none, or have another count than the root says: the first of 63, the second of two, of none.', [
+            on(f'{five} {change}', 'list disk', S5, 'same') for change in (
+                '0x10800=4d', '0x10803=45', '0x10804=3f', '0x10804=3f 0x1090c=00', '0x10804=41', '0x10805=01', '0x10806=01', '0x1080f=01',
+                '0x10a04=00', '0x10a04=00 0x10a10=00', '0x10a04=02', '0x10a04=02 0x10a14=86', '0x10a14=86', '0x10910=01', '0x109ff=01')]),
+        ('A root with other catalogues: too few or too many, one twice, the second one first, a library more or fewer.', [
+            on(f'{five} {change}', 'list disk', S5, 'same') for change in (
+                '0x238=01', '0x238=01 0x244=00', '0x238=03 0x248=86', '0x244=84', '0x240=8500000084', '0x214=42', '0x214=40', '0x214=81',
+                '0x244=83', '0x244=82', '0x244=86', '0x244=88')] + [
+            listed(f'{five} 0x214=40 0x238=01 0x244=00', 'sixty-four.listing')]),
+        ('Entry sectors of a catalogue: one of the first catalogue again, twice in one, data, a catalogue, a root, one behind the disk.', [
+            on(f'{five} {change}', 'list disk', S5, 'same') for change in (
+                '0x10a10=03', '0x10810=05', '0x10a10=02', '0x10a10=84', '0x10a10=85', '0x10a10=00', '0x10a10=01', '0x10a10=88', '0x10a12=01',
+                '0x10a12=40', '0x10a13=ff', '0x10a10=ffff3f', '0x10a10=86')]),
+        ('A catalogue whose sector is an entry\'s data as well, or a second one\'s.', [
+            on(f'{five} {change}', 'list disk', S5, 'same') for change in ('0x10700=84', '0x10700=85', '0x10704=02', '0x10700=80')]),
+        ('A disk with no room for its catalogues twice: one sector fewer, and two, where nothing else is amiss; and one library on eight.', [
+            on(f'{five} cut=69120 0x210=87', 'list disk', S5, 'same'), on(f'{five} cut=68608 0x210=86', 'list disk', S5, 'same'),
+            on(f'{five} cut=68608 0x210=86', 'remove disk x000', S5, 'same'), on(f'{five} cut=68608 0x210=86', 'upgrade disk', S5, 'same'),
+            on(too_full, 'list disk', S5, 'same'), on(too_full, 'remove disk a', S5, 'same'), on(too_full, 'upgrade disk', S5, 'same')]),
+    ]
+
+
+def hundreds():
+    hundred, many, a = 'made=hundred.changes', 'made=many.changes', A
+    last = f'{many} 0x8=feffffffffffffff 0x208=ffffffffffffffff'
+    cut = f'{many} cut=2131456 0x210=43'
+    fewer = f'{many} 0x214=ff07 0x{SECTOR * 4129 + 4:x}=3f 0x{SECTOR * 4129 + 16 + 4 * 63:x}=0000'
+    s9 = '1 refused S9 TooMany'
+    return [
+        ('A hundred libraries and one more; the hundredth is replaced, removed, a preload, bound.', [
+            listed(hundred, 'hundred.listing'),
+            on(hundred, f'install disk {NAMED_Q}', '0 ok', has='0x14=65 0x38=02 0x40=ce000000cf'),
+            on(hundred, f'replace disk {a}', '0 ok', has='0x14=64 0x38=02 0x40=ce000000cf'),
+            on(hundred, f'install disk {a}', '1 refused C2 AlreadyInstalled', 'same'),
+            on(hundred, 'remove disk a', '0 ok', has='0x14=63 0x38=02 0x40=cc000000cd'),
+            on(hundred, 'preload disk x062 a', '0 ok', has='0x16=0200 0x18=62006300 0x38=02 0x40=ca000000cb'),
+            on(hundred, 'bind disk hundredth.so 0x10000', '0 file hundred.image', 'same', file='hundred.image'),
+            on(hundred, 'bind disk asking.so 0x10000', '1 refused B3 Missing /program b', 'same')]),
+        ('2,048 libraries, and no more: the name is tested before, the generation and the room behind.', [
+            listed(many, 'many.listing'), on(many, f'install disk {NAMED_Q}', s9, 'same'), on(many, 'install disk real-large.so', s9, 'same'),
+            on(last, f'install disk {NAMED_Q}', s9, 'same'), on(many, 'install disk numbered.so', '1 refused C2 AlreadyInstalled', 'same'),
+            on(many, f'replace disk {NAMED_Q}', '1 refused C3 NotInstalled', 'same'),
+            on(last, 'replace disk numbered.so', '1 refused S10 GenerationEnd', 'same'), on(cut, 'replace disk numbered.so', S7, 'same'),
+            on(f'{many} 0x215=09', 'list disk', S5, 'same'), on(f'{many} 0x214=01', 'list disk', S5, 'same')]),
+        ('One of them replaced, the first and the last removed, the last a preload; and the 2,048th installed.', [
+            on(many, 'replace disk numbered.so', '0 ok', has='0x14=0008 0x38=20 0x40=24100000'),
+            on(cut, 'remove disk x000', '0 ok', has='0x14=ff07 0x38=20 0x40=22100000'),
+            on(many, 'remove disk x7ff', '0 ok', has='0x14=ff07 0x38=20 0x40=22100000'),
+            on(many, 'preload disk x7ff', '0 ok', has='0x14=00080100 0x18=ff07 0x38=20 0x40=02100000'),
+            on(fewer, f'install disk {NAMED_Q}', '0 ok', has='0x14=0008 0x38=20')]),
+    ]
+
+
+def cases():
+    return sixty_fours() + damaged() + hundreds()
+
+
+def single_bytes():
+    """A root, an entry and a catalogue with one byte raised by one: each byte of a field, and some of those that have to be zero."""
+    one = bytes_of('one.disk')
+    def raised(at):
+        return f'one.disk 0x{at:x}={(one[at] + 1) % 256:02x}'
+    def bad(start, *places):
+        return [on(raised(start + at), 'list disk', S5, 'same') for at in places]
+    root, entry, catalogue = 0x200, 0x600, 0x800
+    return [
+        ('The current root: without the magic that of generation 0 is current; with a preload more, a; else it is damaged.', [
+            on(raised(root + at), 'list disk', END, 'same') for at in range(8)] + bad(root, *range(8, 22)) + [
+            listed(raised(root + 22), 'one-preloaded.listing')] + bad(root, *range(23, 72), *range(72, 192, 4), *range(192, 512, 16), 511)),
+        ('The entry: with a byte more of the file, a zero; else it is damaged.', bad(entry, *range(4)) + [
+            listed(raised(entry + 4), 'one-345.listing')] + bad(entry, *range(5, 18), *range(18, 256, 8), *range(256, 272), *range(272, 512, 8), 511)),
+        ('The catalogue.', bad(catalogue, *range(24), *range(24, 272, 4), *range(272, 512, 16), 511)),
+    ]

@@ -1,7 +1,0 @@
-use Rattle.std.proofs.Common.{sym, subst}
-use Rattle.roots.specs.declared.version.Version.TheVariants.{One}
-use Rattle.catalogued_store.specs.Opened.{IsOldAt}
-use Rattle.catalogued_store.proofs.old_store.OldStore.position.Goals as goal
-
-pub returns-clause-state : goal.returns-clause-state
-returns-clause-state g c s at = c.position.ensures.state One s (subst (λ store. IsOldAt g.D.Disk.facts store s) (sym c.self.view_is) at)

@@ -1,6 +1,0 @@
-use Rattle.std.proofs.Common.{drop}
-use Rattle.catalogued_store.proofs.Releases.{IsReleasedTo}
-use Rattle.catalogued_store.proofs.room.release_sectors.Given as goal
-
-abbrev pub invariant-loop-at : goal.invariant-loop-at
-invariant-loop-at l = IsReleasedTo l.initial.layout l.layout l.sectors (drop l.at-index l.sectors)

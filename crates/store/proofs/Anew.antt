@@ -1,0 +1,142 @@
+-- The sectors in use before a change and after it, and those that it took and gave back.
+use Rattle.std.proofs.Common.{◌≡◌, ℕ, ◌+◌, Bool, List, [], ◌∷◌, ◌++◌, length, All, refl, sym, subst, ◌∙◌, arith}
+use Rattle.std.specs.Prelude.{Contains}
+use Rattle.std.proofs.lemmas.List.{append-nil}
+use Rattle.std.proofs.lemmas.List.Elements.{All-append}
+use Rattle.std.proofs.lemmas.List.Sums.{sum_by-cons}
+use Rattle.extents.specs.declared.extent.Extent.{Extent}
+use Rattle.extents.specs.Extent.{places, AreDistinct}
+use Rattle.extents.specs.Used.{ClaimsJust}
+use Rattle.extents.proofs.UsedLemmas.{claims-same_elements}
+use Rattle.roots.specs.declared.root.Root.{Root}
+use Rattle.store.specs.declared.placed_entry.PlacedEntry.{PlacedEntry}
+use Rattle.store.specs.Stands.{UsesApart, extents_of, sectors_of, used}
+use Rattle.store.specs.inside.Claimed.{IsUsable, IsClaimedBeside}
+use Rattle.store.specs.inside.Kept.{IsKept}
+use Rattle.store.specs.inside.Room.{AreHeld, IsReleased}
+use Rattle.store.proofs.Claiming.{all-part, distinct-parts}
+use Rattle.store.proofs.Counts.{one, occurs, occurs-append, contains_occurs, occurs_contains, distinct_occurs, occurs_distinct}
+
+-- lists in which each number stands as often have the same elements
+same_elements : (a b : List ℕ) → ((k : ℕ) → occurs k a ≡ occurs k b) → (s : ℕ) → Contains a s → Contains b s
+same_elements a b counts s found = occurs_contains s b (omega (arith, counts s, contains_occurs s a found))
+
+claims_as : (flags : List Bool) (a b : List ℕ) → ((k : ℕ) → occurs k a ≡ occurs k b) → ClaimsJust flags a → ClaimsJust flags b
+claims_as flags a b counts just = claims-same_elements flags a b (λ s. (same_elements a b counts s, same_elements b a (λ k. sym (counts k)) s)) just
+
+distinct_as : (a b : List ℕ) → ((k : ℕ) → occurs k a ≡ occurs k b) → AreDistinct a → AreDistinct b
+distinct_as a b counts once = occurs_distinct b (λ k. omega (arith, counts k, distinct_occurs k a once))
+
+-- the same sectors in another order are claimed as well
+pub claimed_as : (old mid : List Bool) (a b : List ℕ) → ((k : ℕ) → occurs k a ≡ occurs k b) → IsClaimedBeside old mid a → IsClaimedBeside old mid b
+claimed_as old mid a b counts claimed = record {
+  size = claimed.size;
+  each = λ used just. claims_as mid (used ++ a) (used ++ b) (beside used) (claimed.each used just);
+  once = λ used just once. distinct_as (used ++ a) (used ++ b) (beside used) (claimed.once used just once);
+  inside = all-part (IsUsable (length old)) b a (same_elements b a (λ k. sym (counts k))) claimed.inside;
+}
+  where
+    beside : (used : List ℕ) (k : ℕ) → occurs k (used ++ a) ≡ occurs k (used ++ b)
+    beside used k = omega (arith, occurs-append k used a, occurs-append k used b, counts k)
+
+-- the room of a put, in the order of the entry's sectors
+pub put_claimed : (old mid : List Bool) (extents : List Extent) (at : ℕ) (catalogues : List ℕ) (put : PlacedEntry) → extents_of put.entry ≡ extents → put.at ≡ at
+    → IsClaimedBeside old mid (places extents ++ at ∷ catalogues) → IsClaimedBeside old mid (sectors_of put ++ catalogues)
+put_claimed old mid extents at catalogues put its there claimed =
+    subst (λ l. IsClaimedBeside old mid (put.at ∷ places l ++ catalogues)) (sym its)
+    (subst (λ n. IsClaimedBeside old mid (n ∷ places extents ++ catalogues)) (sym there)
+    (claimed_as old mid (places extents ++ at ∷ catalogues) (at ∷ places extents ++ catalogues) counts claimed))
+  where
+    counts : (k : ℕ) → occurs k (places extents ++ at ∷ catalogues) ≡ occurs k (at ∷ places extents ++ catalogues)
+    counts k = omega (
+      arith,
+      occurs-append k (places extents) (at ∷ catalogues),
+      sum_by-cons (one k) at catalogues,
+      sum_by-cons (one k) at (places extents ++ catalogues),
+      occurs-append k (places extents) catalogues,
+    )
+
+-- where nothing is given back all is as it was
+pub released_nothing : (mid : List Bool) → IsReleased mid mid []
+released_nothing mid = record { size = refl; each = λ kept just once. subst (ClaimsJust mid) (append-nil kept) just }
+
+-- What is in use after a change, and what it gave back, are what was in use before it and what it took.
+pub record IsMoved (before more after gone : List ℕ) : Type 0 where
+  pub parts : (k : ℕ) → occurs k after + occurs k gone ≡ occurs k (before ++ more)
+
+module _ {root : Root} {entries : List PlacedEntry} {layout mid : List Bool} {more : List ℕ} (kept : IsKept root entries layout) (claimed : IsClaimedBeside layout mid more) where
+  abbrev before : List ℕ
+  before = used root entries
+
+  -- what was in use, and what is taken
+  abbrev all : List ℕ
+  all = used root entries ++ more
+
+  claims : ClaimsJust mid all
+  claims = claimed.each before kept.claims
+
+  once : AreDistinct all
+  once = claimed.once before kept.claims kept.apart.once
+
+  -- what is taken lies apart behind the roots,
+  pub more_inside : All (IsUsable root.sectors) more
+  more_inside = subst (λ n. All (IsUsable n) more) kept.size claimed.inside
+
+  inside : All (IsUsable root.sectors) all
+  inside = All-append (IsUsable root.sectors) before more kept.apart.inside more_inside
+
+  pub more_once : AreDistinct more
+  more_once = occurs_distinct more (λ k. omega (arith, occurs-append k before more, distinct_occurs k all once))
+
+  -- and none of it was in use;
+  pub more_unused : (k : ℕ) → Contains more k → Contains (used root entries) k → ⊥
+  more_unused k found there = distinct-parts before more k once there found
+
+  size : length mid ≡ root.sectors
+  size = claimed.size ∙ kept.size
+
+  -- it can be given back, and then all is kept as it was
+  pub more_held : AreHeld mid more
+  more_held = (before, claims, once, subst (λ n. All (IsUsable n) more) (sym size) more_inside)
+
+  pub back_kept : (new : List Bool) → IsReleased mid new more → IsKept root entries new
+  back_kept new released = record {
+    root_fits = kept.root_fits;
+    size = released.size ∙ size;
+    counted = kept.counted;
+    entries_fit = kept.entries_fit;
+    apart = kept.apart;
+    room = kept.room;
+    names = kept.names;
+    claims = released.each before claims once;
+  }
+
+  -- What is used then lies apart too, and with it the rest can be given back.
+  module _ (next : Root) (others : List PlacedEntry) {gone : List ℕ} (moved : IsMoved (used root entries) more (used next others) gone) where
+    abbrev after : List ℕ
+    after = used next others
+
+    counts : (k : ℕ) → occurs k all ≡ occurs k (after ++ gone)
+    counts k = omega (arith, moved.parts k, occurs-append k after gone)
+
+    pub moved_apart : UsesApart root.sectors next others
+    moved_apart = record {
+      inside = all-part (IsUsable root.sectors) after all
+          (λ s found. occurs_contains s all (omega (arith, moved.parts s, contains_occurs s after found))) inside;
+      once = occurs_distinct after (λ k. omega (arith, moved.parts k, distinct_occurs k all once));
+    }
+
+    pub moved_held : AreHeld mid gone
+    moved_held = (
+      after,
+      claims_as mid all (after ++ gone) counts claims,
+      distinct_as all (after ++ gone) counts once,
+      subst (λ n. All (IsUsable n) gone) (sym size)
+          (all-part (IsUsable root.sectors) gone all (λ s found. occurs_contains s all (omega (arith, moved.parts s, contains_occurs s gone found))) inside),
+    )
+
+    pub moved_size : (new : List Bool) → IsReleased mid new gone → length new ≡ root.sectors
+    moved_size new released = released.size ∙ size
+
+    pub moved_claims : (new : List Bool) → IsReleased mid new gone → ClaimsJust new (used next others)
+    moved_claims new released = released.each after (claims_as mid all (after ++ gone) counts claims) (distinct_as all (after ++ gone) counts once)

@@ -1,0 +1,80 @@
+-- What an upgrade makes of what a look saw.
+use Rattle.std.proofs.Common.{◌≡◌, ◌⊎◌, inl, inr, ⊎_elim, List, Option, Some, None, Result, Ok, Err, sym, subst, ◌∙◌}
+use Rattle.sector_disk.specs.Disk.{Sector, DiskFacts, HoldsNow, Mixture, LeavesOnly}
+use Rattle.sector_disk.proofs.Moments.{goes_on, weaken}
+use Rattle.store.specs.declared.look.Look.{Look}
+use Rattle.store.specs.declared.look.Look.TheVariants.{Current, Old}
+use Rattle.store.specs.declared.refusal.StoreRefusal.{StoreRefusal}
+use Rattle.store.specs.declared.refusal.StoreRefusal.TheVariants.{Device, OutOfMemory}
+use Rattle.store.specs.Looked.{seen, IsSeenAt, IsSeenOldAt}
+use Rattle.store.specs.Opened.{Opened, IsAt, IsOldAt}
+use Rattle.store.specs.Stands.{Stands, StandsOld}
+use Rattle.store.specs.Step.{IsExactAnswer, IsUpgradeAnswer}
+use Rattle.extents.specs.Used.{layout_of}
+use Rattle.roots.specs.declared.version.Version.TheVariants.{One}
+use Rattle.store.specs.Stands.{StandsBy, catalogues_of, used}
+use Rattle.store.specs.Taken.{AreTaken, IsRelisted}
+use Rattle.store.specs.Upgraded.{upgraded, IsRelistedFrom}
+use Rattle.states.specs.State.{State}
+
+-- An upgrade answers what a commit answers,
+pub as_committed : (first : Option StoreRefusal) (answer : Result (Unit {0}) StoreRefusal) → IsExactAnswer first answer → IsUpgradeAnswer first answer
+as_committed None (Ok done) exact = tt
+as_committed None (Err refusal) exact = inl exact
+as_committed (Some first) (Ok done) exact = exact
+as_committed (Some first) (Err refusal) exact = inl exact
+
+-- or what a look refused.
+pub as_looked : (first : Option StoreRefusal) (refusal : StoreRefusal) → (refusal ≡ Device) ⊎ (refusal ≡ OutOfMemory) → IsUpgradeAnswer first (Err refusal)
+as_looked None refusal which = which
+as_looked (Some first) refusal which = inr which
+
+module _ {D : Type 0} (facts : D → DiskFacts) (look : Look D) (store : Opened D) where
+  -- Where a store of version 2 was seen, the sectors don't stand by the old rules,
+  pub seen_current : look ≡ Current store → (s : State) → IsSeenOldAt facts look s → ⊥
+  seen_current is s at = subst (λ l. IsSeenOldAt facts l s) is at
+
+  pub current_at : look ≡ Current store → (s : State) → IsSeenAt facts look s → IsAt facts store s
+  current_at is s at = subst (λ l. IsSeenAt facts l s) is at
+
+  -- and where one of version 1 was, they don't by the new ones.
+  pub seen_old : look ≡ Old store → (s : State) → IsSeenAt facts look s → ⊥
+  seen_old is s at = subst (λ l. IsSeenAt facts l s) is at
+
+  pub old_at : look ≡ Old store → (s : State) → IsSeenOldAt facts look s → IsOldAt facts store s
+  old_at is s at = subst (λ l. IsSeenOldAt facts l s) is at
+
+  module _ (m : List Sector) (found : (s : State) × ((Stands m s × IsSeenAt facts look s) ⊎ (StandsOld m s × IsSeenOldAt facts look s))) where
+    pub current_found : look ≡ Current store → (s : State) × Stands m s × IsAt facts store s
+    current_found is =
+        let both : Stands m found.0 × IsAt facts store found.0 = ⊎_elim (λ new. (new.0, current_at is found.0 new.1)) (λ old. absurd (seen_current is found.0 old.1)) found.1 in
+        (found.0, both.0, both.1)
+
+    pub old_found : look ≡ Old store → (s : State) × StandsOld m s × IsOldAt facts store s
+    old_found is =
+        let both : StandsOld m found.0 × IsOldAt facts store found.0 = ⊎_elim (λ new. absurd (seen_old is found.0 new.1)) (λ old. (old.0, old_at is found.0 old.1)) found.1 in
+        (found.0, both.0, both.1)
+
+  -- The disk of the store that was seen has the sectors that its root counts.
+  pub sectors_seen : (s : State) → IsOldAt facts store s → HoldsNow (facts store.disk) → store.root.sectors ≡ (facts store.disk).sectors
+  sectors_seen s at holds = (at.stands (facts store.disk).now holds).intact.size ∙ holds.size
+
+  -- What was left before a commit, or by it
+  pub then_committed : (old new : DiskFacts) (s : State) → look ≡ Old store → LeavesOnly old (facts (seen look).disk) (Mixture old)
+      → LeavesOnly (facts store.disk) new (λ m. StandsOld m s ⊎ Stands m (upgraded s))
+      → LeavesOnly old new (λ m. Mixture old m ⊎ StandsOld m s ⊎ Stands m (upgraded s))
+  then_committed old new s is before after =
+      let P : List Sector → Type 0 = λ m. Mixture old m ⊎ StandsOld m s ⊎ Stands m (upgraded s) in
+      goes_on P
+      (weaken (Mixture old) P (λ m mixture. inl mixture) (subst (λ l. LeavesOnly old (facts (seen l).disk) (Mixture old)) is before))
+      (weaken (λ m. StandsOld m s ⊎ Stands m (upgraded s)) P (λ m which. inr which) after)
+
+-- What is relisted is what the sectors stood for by the old rules.
+pub relisted_from : {D : Type 0} (facts : D → DiskFacts) (store : Opened D) (s : State) → IsOldAt facts store s → HoldsNow (facts store.disk)
+    → (m : List Sector) → (facts store.disk).now ≡ m → (new : Opened D) → IsRelisted store new → IsRelistedFrom m s new
+relisted_from facts store s at holds m same new is = record {
+  root = store.root;
+  stood = subst (λ es. StandsBy One m store.root es s) (sym is.entries)
+      (subst (λ l. StandsBy One l store.root store.entries s) same (at.stands (facts store.disk).now holds));
+  taken = subst (λ es. AreTaken (layout_of store.root.sectors (used store.root es)) (catalogues_of new.root)) (sym is.entries) is.taken;
+}

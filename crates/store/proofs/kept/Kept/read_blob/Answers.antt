@@ -1,0 +1,26 @@
+use Rattle.std.proofs.Common.{◌<◌, length, sym, subst, All, IsTrue}
+use Rattle.passes.proofs.Readings.{still_mixture}
+use Rattle.store.specs.Opened.{IsAtBy}
+use Rattle.store.specs.declared.placed_entry.PlacedEntry.{PlacedEntry}
+use Rattle.passes.specs.Bytes.{IsOnDisk}
+use Rattle.store.specs.Stands.{extents_of}
+use Rattle.store.proofs.Within.{entry_on_disk}
+use Rattle.store.proofs.kept.Kept.read_blob.Goals as goal
+
+pub read_file-requires-clause-inside : goal.read_file-requires-clause-inside
+read_file-requires-clause-inside g c =
+    let lt = subst (λ store. c.args.position < length store.entries) (sym c.self.view_is) c.requires in
+    let kept = c.self.invariant.0 in
+    let root = c.self.inside.root in
+    subst (λ n. All (IsOnDisk n) (extents_of c.index.result.now.entry)) (sym c.self.invariant.2)
+    (subst (λ (placed : PlacedEntry). All (IsOnDisk root.sectors) (extents_of placed.entry)) (sym c.index.ensures)
+    (entry_on_disk root.sectors root c.self.inside.entries.items kept.apart kept.entries_fit c.args.position c.index.result.now lt))
+
+pub returns-clause-same : goal.returns-clause-same
+returns-clause-same g c version s at =
+    let before = subst (λ store. IsAtBy version g.D.Disk.facts store s) (sym c.self.view_is) at in
+    record {
+      honest = subst IsTrue (sym c.read_file.ensures.calls.some.honest) before.honest;
+      usable = before.usable;
+      stands = λ m mixture. before.stands m (still_mixture (c.read_file.ensures.same before.honest) m mixture);
+    }

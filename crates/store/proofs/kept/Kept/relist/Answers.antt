@@ -1,0 +1,158 @@
+use Rattle.std.proofs.Common.{◌≡◌, ◌≢◌, ◌⊎◌, ⊎_elim, ◌↔◌, ◌+◌, ◌*◌, ◌<◌, ◌≤◌, IsTrue, None, Ok, Err, length, take, refl, sym, ap, subst, ◌∙◌, arith}
+use Rattle.std.proofs.lemmas.Bool.{cases_lt}
+use Rattle.sector_disk.specs.Disk.{LeavesOnly}
+use Rattle.states.specs.Cost.{catalogues_for, taken_by}
+use Rattle.store.specs.inside.Claimed.{IsClaimedBeside}
+use Rattle.roots.specs.Root.{listed_preloads, version_of}
+use Rattle.roots.specs.declared.version.Version.TheVariants.{One}
+use Rattle.sector_disk.proofs.Mixtures.{whole_mixture}
+use Rattle.extents.specs.Limits.{root_sectors}
+use Rattle.extents.specs.Used.{layout_of}
+use Rattle.states.specs.Limits.{last_generation}
+use Rattle.states.specs.State.{State}
+use Rattle.store.specs.declared.refusal.StoreRefusal.TheVariants.{Full}
+use Rattle.store.specs.Step.{refusal_of_upgrade, IsExactAnswer}
+use Rattle.store.specs.Opened.{IsOldAt}
+use Rattle.store.specs.Stands.{Stands, StandsOld, catalogues_of, entry_sectors, used}
+use Rattle.store.specs.Taken.{AreTaken}
+use Rattle.store.specs.Upgraded.{upgraded}
+use Rattle.store.specs.inside.Catalogues.{CanBeCatalogued}
+use Rattle.store.specs.inside.Next.{IsRelisting, next_root}
+use Rattle.store.specs.inside.Room.{HavePlaces}
+use Rattle.store.proofs.Anew.{more_inside, more_once, moved_claims, moved_size, released_nothing}
+use Rattle.store.proofs.CataloguedEntries.{can_be_catalogued}
+use Rattle.store.proofs.Frees.{old_free_is, upgrade_full, upgrade_accepted}
+use Rattle.store.proofs.Following.{following_fits, following_kept}
+use Rattle.store.proofs.Relistings.{IsRelist, relist_next, relist_moved, relist_taken, relisting}
+use Rattle.store.proofs.kept.Kept.relist.Given as given
+use Rattle.store.proofs.kept.Kept.relist.Goals.{After-free_count, After-next_root-root}
+use Rattle.store.proofs.kept.Kept.relist.Goals as goal
+
+-- the next root lists the same entries by the catalogues that were taken
+relisted : (g : given.Over) (c : After-next_root-root g) → IsRelist c.self.inside.root c.self.inside.entries.items c.self.inside.layout c.take_catalogues-taken.new.layout c.as_slice-listed.result.now c.next_root-root.result
+relisted g c =
+    let kept = c.self.invariant.0 in
+    let cats = c.as_slice-listed.ensures.value in
+    let count : c.len-libraries.result ≡ length c.self.inside.entries.items = omega (arith, c.len-libraries.ensures) in
+    record {
+      kept = kept;
+      one = subst (λ store. version_of store.root ≡ One) (sym c.self.view_is) c.requires.version;
+      claimed = subst (λ l. IsClaimedBeside c.self.inside.layout c.take_catalogues-taken.new.layout l) (sym cats) c.take_catalogues-taken.ensures.claimed;
+      enough = omega (arith, ap length cats, c.take_catalogues-taken.ensures.count, c.catalogues_for-count.ensures, ap catalogues_for count);
+      free = omega (arith, c.if-free_count-count.false, c.free_count.ensures.value, c.catalogues_for-count.ensures, ap catalogues_for count);
+      later = omega (arith, c.if-self.false, kept.root_fits.generation);
+      is_next = c.next_root-root.ensures ∙ ap (λ n. next_root c.self.inside.root n c.as_slice-listed.result.now (listed_preloads c.self.inside.root)) count;
+    }
+
+-- and these list the entries' sectors
+sectors_are : (g : given.Over) (c : After-next_root-root g) → take c.len-libraries.result c.sectors_of_entries-sectors.result ≡ entry_sectors c.self.inside.entries.items
+sectors_are g c =
+    let same : c.len-libraries.result ≡ length c.deref.result.now = omega (arith, c.len-libraries.ensures, ap length c.deref.ensures.value) in
+    ap (λ n. take n c.sectors_of_entries-sectors.result) same ∙ c.sectors_of_entries-sectors.ensures ∙ ap entry_sectors c.deref.ensures.value
+
+following : (g : given.Over) (c : After-next_root-root g) (s : State) → IsRelisting One c.self.inside.root c.self.inside.entries.items s c.as_slice-listed.result.now (take c.len-libraries.result c.sectors_of_entries-sectors.result) c.next_root-root.result c.self.inside.entries.items (upgraded s)
+following g c s =
+    subst (λ l. IsRelisting One c.self.inside.root c.self.inside.entries.items s c.as_slice-listed.result.now l c.next_root-root.result c.self.inside.entries.items (upgraded s)) (sym (sectors_are g c)) (relisting (relisted g c) s)
+
+pub write_list-requires-clause-root : goal.write_list-requires-clause-root
+write_list-requires-clause-root g c =
+    following_fits (relist_next (relisted g (goal.at.write_list-requires-clause-root g c).After-next_root-root)) c.self.invariant.0.root_fits
+
+pub write_list-requires-clause-places : goal.write_list-requires-clause-places
+write_list-requires-clause-places g c =
+    let is = relisted g (goal.at.write_list-requires-clause-places g c).After-next_root-root in
+    subst (λ n. HavePlaces n c.as_slice-listed.result.now) (sym c.self.invariant.2) (record { inside = more_inside is.kept is.claimed; once = more_once is.kept is.claimed })
+
+pub write_list-requires-clause-listed : goal.write_list-requires-clause-listed
+write_list-requires-clause-listed g c =
+    let before = (goal.at.write_list-requires-clause-listed g c).After-next_root-root in
+    let is = relisted g before in
+    let next = relist_next is in
+    subst (CanBeCatalogued (length c.as_slice-listed.result.now)) (sym (sectors_are g before))
+    (can_be_catalogued c.self.inside.root.sectors (length c.as_slice-listed.result.now) c.next_root-root.result c.self.inside.entries.items (omega (arith, is.kept.root_fits.sectors)) is.enough next.few next.apart)
+
+pub returns-in-Err-clause-any_moment : goal.returns-in-Err-clause-any_moment
+returns-in-Err-clause-any_moment g c s at_entry =
+    let at = subst (λ store. IsOldAt g.D.Disk.facts store s) (sym c.self.view_is) at_entry in
+    let before = (goal.at.returns-in-Err-clause-any_moment g c).After-next_root-root in
+    subst (λ store. LeavesOnly (g.D.Disk.facts store.disk) (g.D.Disk.facts c.write_list.new.disk) (λ m. StandsOld m s ⊎ Stands m (upgraded s))) c.self.view_is
+    (c.write_list.ensures.any_moment at.honest One c.self.inside.root c.self.inside.entries.items s c.self.inside.entries.items (upgraded s) at.stands (following g before s))
+
+pub returns-clause-any_moment : goal.returns-clause-any_moment
+returns-clause-any_moment g c s at_entry =
+    let at = subst (λ store. IsOldAt g.D.Disk.facts store s) (sym c.self.view_is) at_entry in
+    let before = (goal.at.returns-clause-any_moment g c).After-next_root-root in
+    subst (λ store. LeavesOnly (g.D.Disk.facts store.disk) (g.D.Disk.facts c.write_list.new.disk) (λ m. StandsOld m s ⊎ Stands m (upgraded s))) c.self.view_is
+    (c.write_list.ensures.any_moment at.honest One c.self.inside.root c.self.inside.entries.items s c.self.inside.entries.items (upgraded s) at.stands (following g before s))
+
+pub invariant_of-self-2 : goal.invariant_of-self-2
+invariant_of-self-2 g c =
+    let is = relisted g (goal.at.invariant_of-self-2 g c).After-next_root-root in
+    let mid = c.take_catalogues-taken.new.layout in
+    let nothing = released_nothing mid in (
+      following_kept (relist_next is) is.kept.root_fits mid (moved_size is.kept is.claimed c.next_root-root.result c.self.inside.entries.items (relist_moved is) mid nothing) (moved_claims is.kept is.claimed c.next_root-root.result c.self.inside.entries.items (relist_moved is) mid nothing),
+      c.self.invariant.1,
+      c.write_list.ensures.calls.sectors ∙ c.self.invariant.2 ∙ sym (ap (λ r. r.sectors) c.next_root-root.ensures),
+    )
+
+pub returns-clause-ok : goal.returns-clause-ok
+returns-clause-ok g c s at_entry =
+    let at = subst (λ store. IsOldAt g.D.Disk.facts store s) (sym c.self.view_is) at_entry in
+    let before = (goal.at.returns-clause-ok g c).After-next_root-root in
+    record {
+      honest = subst IsTrue (sym c.write_list.ensures.calls.honest) at.honest;
+      usable = refl;
+      stands = c.in_default.ensures.done at.honest One c.self.inside.root c.self.inside.entries.items s c.self.inside.entries.items (upgraded s) at.stands (following g before s);
+    }
+
+-- a commit is refused by its generation or for want of room, and not otherwise
+usable_of : (g : given.Over) (c : After-free_count g) (s : State) → IsOldAt g.D.Disk.facts c.args.self.now s → s.generation ≢ last_generation
+usable_of g c s at_entry is =
+    let at = subst (λ store. IsOldAt g.D.Disk.facts store s) (sym c.self.view_is) at_entry in
+    let by = at.stands (g.D.Disk.facts c.self.inside.disk).now (g.met.D.Disk.holds_now _ at.honest) in
+    omega (arith, is, ap (λ t. t.generation) by.is, c.if-self.false)
+
+room_of : (g : given.Over) (c : After-free_count g) (s : State) → IsOldAt g.D.Disk.facts c.args.self.now s → (c.free_count.result < 2 * c.catalogues_for-count.result) ↔ (c.self.inside.root.sectors < root_sectors + taken_by s)
+room_of g c s at_entry =
+    let at = subst (λ store. IsOldAt g.D.Disk.facts store s) (sym c.self.view_is) at_entry in
+    let now = (g.D.Disk.facts c.self.inside.disk).now in
+    let holds = g.met.D.Disk.holds_now _ at.honest in
+    let whole = whole_mixture (g.met.D.Disk.whole_sectors _ at.honest) (g.D.Disk.facts c.self.inside.disk).time (omega arith) now holds in
+    let count : c.len-libraries.result ≡ length c.self.inside.entries.items = omega (arith, c.len-libraries.ensures) in
+    let all : c.catalogues_for-count.result ≡ catalogues_for (length c.self.inside.entries.items) = c.catalogues_for-count.ensures ∙ ap catalogues_for count in
+    let is = old_free_is now c.self.inside.root c.self.inside.entries.items c.self.inside.layout s c.self.invariant.0 whole (at.stands now holds) in (
+      λ lt. is.0 (omega (arith, lt, c.free_count.ensures.value, all)),
+      λ lt. omega (arith, is.1 lt, c.free_count.ensures.value, all),
+    )
+
+pub returns-then-free_count-count-clause-refused : goal.returns-then-free_count-count-clause-refused
+returns-then-free_count-count-clause-refused g c s at =
+    let before = (goal.at.returns-then-free_count-count-clause-refused g c).After-free_count in
+    let first = upgrade_full c.self.inside.root.sectors s (usable_of g before s at) ((room_of g before s at).0 c.if-free_count-count.true) in
+    subst (λ store. IsExactAnswer (refusal_of_upgrade store.root.sectors s) (Err Full)) c.self.view_is
+    (subst (λ refusal. IsExactAnswer refusal (Err Full)) (sym first) refl)
+
+accepted_of : (g : given.Over) (c : After-free_count g) (s : State) → IsOldAt g.D.Disk.facts c.args.self.now s → 2 * c.catalogues_for-count.result ≤ c.free_count.result → refusal_of_upgrade c.self.inside.root.sectors s ≡ None
+accepted_of g c s at enough = upgrade_accepted c.self.inside.root.sectors s (usable_of g c s at)
+    (⊎_elim (λ few. omega (arith, (room_of g c s at).1 few, enough)) (λ room. room) (cases_lt c.self.inside.root.sectors (root_sectors + taken_by s)))
+
+pub returns-in-Err-clause-refused : goal.returns-in-Err-clause-refused
+returns-in-Err-clause-refused g c s at =
+    let first = accepted_of g (goal.at.returns-in-Err-clause-refused g c).After-free_count s at (omega (arith, c.if-free_count-count.false)) in
+    subst (λ store. IsExactAnswer (refusal_of_upgrade store.root.sectors s) (Err c.from.result)) c.self.view_is
+    (subst (λ refusal. IsExactAnswer refusal (Err c.from.result)) (sym first) c.from.ensures)
+
+pub returns-clause-refused : goal.returns-clause-refused
+returns-clause-refused g c s at =
+    let first = accepted_of g (goal.at.returns-clause-refused g c).After-free_count s at (omega (arith, c.if-free_count-count.false)) in
+    subst (λ store. IsExactAnswer (refusal_of_upgrade store.root.sectors s) (Ok tt)) c.self.view_is
+    (subst (λ refusal. IsExactAnswer refusal (Ok tt)) (sym first) tt)
+
+pub returns-clause-placed : goal.returns-clause-placed
+returns-clause-placed g c =
+    let is = relisted g (goal.at.returns-clause-placed g c).After-next_root-root in
+    let taken = subst (AreTaken c.self.inside.layout) (sym c.as_slice-listed.ensures.value) c.take_catalogues-taken.ensures.taken in
+    record {
+      taken = subst (λ store. AreTaken (layout_of store.root.sectors (used store.root store.entries)) (catalogues_of c.next_root-root.result)) c.self.view_is (relist_taken is taken);
+      entries = ap (λ store. store.entries) c.self.view_is;
+    }

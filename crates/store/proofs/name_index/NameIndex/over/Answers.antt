@@ -1,0 +1,18 @@
+use Rattle.std.proofs.Common.{subst, sym, ◌∙◌}
+use Rattle.std.proofs.lemmas.Bool.{false≢true}
+use Rattle.store.specs.inside.NameIndex.{entry_names, Rises}
+use Rattle.store.proofs.NameOrder.{order_from_rises, rises_from_own}
+use Rattle.store.proofs.NameIndex.{own_from_order, names_from_own}
+use Rattle.store.proofs.name_index.NameIndex.over.Goals as goal
+
+pub returns-then-rise-clause-own : goal.returns-then-rise-clause-own
+returns-then-rise-clause-own c =
+    let rises = subst (Rises (entry_names c.args.entries.now)) c.deref.ensures.value (c.rise.ensures.0 c.if-rise.true) in
+    let index = order_from_rises (entry_names c.args.entries.now) c.in_ok-positions.positions.items c.in_ok-positions.ensures rises in
+    (index, own_from_order c.args.entries.now c.in_ok-positions.positions.items index)
+
+pub returns-else-rise-clause-twice : goal.returns-else-rise-clause-twice
+returns-else-rise-clause-twice c = λ none own.
+    let rises = rises_from_own (entry_names c.args.entries.now) c.in_ok-positions.positions.items c.in_ok-positions.ensures (names_from_own c.args.entries.now own) in
+    let found = c.rise.ensures.1 (subst (Rises (entry_names c.args.entries.now)) (sym c.deref.ensures.value) rises) in
+    false≢true (sym c.if-rise.false ∙ found)

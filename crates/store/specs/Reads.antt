@@ -1,0 +1,29 @@
+-- What reading a byte string does, by its result.
+use Rattle.std.specs.Prelude.{◌≡◌, ◌≢◌, ◌↔◌, ◌⊎◌, ◌<◌, ℕ, length, slice_index_or, IsTrue, Result, Err, IfOk, IfErr, OnOk}
+use Rattle.std.specs.Global.{Vec}
+use Rattle.std.specs.Int.{div_ceil}
+use Rattle.sector_disk.specs.Disk.{DiskFacts, sector_bytes, Mixture, LeavesOnly, AreCallsExactly, AreCallsAtMost}
+use Rattle.roots.specs.declared.version.Version.{Version}
+use Rattle.store.specs.declared.placed_entry.PlacedEntry.{PlacedEntry}
+use Rattle.store.specs.declared.refusal.StoreRefusal.{StoreRefusal}
+use Rattle.store.specs.declared.refusal.StoreRefusal.TheVariants.{Device, Reopen, OutOfMemory}
+use Rattle.store.specs.Opened.{Opened, IsAtBy}
+use Rattle.store.specs.Stands.{no_library}
+use Rattle.states.specs.State.{State}
+
+-- The byte string at a position of a store of this version is read: each of its sectors once, and nothing is written.
+pub record ReadsBlob (version : Version) {D : Type 0} (facts : D → DiskFacts) (old new : Opened D) (position : ℕ) (result : Result (Vec ℕ) StoreRefusal) : Type 0 where
+  -- a stop at any moment leaves what it could leave before
+  pub any_moment : IsTrue (facts old.disk).honest → LeavesOnly (facts old.disk) (facts new.disk) (Mixture (facts old.disk))
+  pub ok : (s : State) → IsAtBy version facts old s → IfOk result (λ bytes. bytes.items ≡ (slice_index_or s.libraries position no_library).bytes)
+  pub now : IsTrue (facts old.disk).honest → (facts new.disk).now ≡ (facts old.disk).now
+  pub same : (s : State) → IsAtBy version facts old s → IsAtBy version facts new s
+  -- on any disk: a read that fails doesn't make the store fail
+  pub kept : (new.root ≡ old.root) × (new.entries ≡ old.entries) × (new.failed ≡ old.failed)
+  pub size : (d : PlacedEntry) → IfOk result (λ bytes. length bytes.items ≡ (slice_index_or old.entries position d).entry.file_length)
+  pub reopen : (result ≡ Err Reopen) ↔ IsTrue old.failed
+  pub refusals : IfErr result (λ e. (e ≡ Device) ⊎ (e ≡ Reopen) ⊎ (e ≡ OutOfMemory))
+  pub device : IfErr result (λ e. e ≡ Device → (facts old.disk).failures < (facts new.disk).failures)
+  pub untouched : IfErr result (λ e. e ≢ Device → new ≡ old)
+  pub all_calls : (d : PlacedEntry) → OnOk result (AreCallsExactly (div_ceil (slice_index_or old.entries position d).entry.file_length sector_bytes) (facts old.disk) (facts new.disk))
+  pub calls : (d : PlacedEntry) → AreCallsAtMost (div_ceil (slice_index_or old.entries position d).entry.file_length sector_bytes) (facts old.disk) (facts new.disk)

@@ -1,0 +1,61 @@
+-- The order of names in which entries are found.
+use Rattle.std.specs.Prelude.{◌≡◌, ℕ, ◌+◌, ◌<◌, ◌≤◌, List, [], length, map, slice_index, slice_index_or, All, AllPairs, false, nat_lt, ◌-◌, if◌then◌else◌}
+use Rattle.std.specs.List.{Contains, range_with_len}
+use Rattle.std.specs.List.Sorted.{IsPermutation, IsSortedBy}
+use Rattle.std.specs.Cmp.Lexicographic.{slice_cmp}
+use Rattle.std.specs.Ordering.{nat_cmp, is_lt}
+use Rattle.std.specs.declared.cmp.Ordering.{Ordering}
+use Rattle.std.specs.declared.cmp.Ordering.TheVariants.{Less}
+use Rattle.store.specs.declared.placed_entry.PlacedEntry.{PlacedEntry}
+use Rattle.store.specs.Stands.{name_of}
+
+-- what an index keeps: positions, and how many more it takes without new memory
+pub record Index : Type 0 where
+  pub positions : List ℕ
+  pub room : ℕ
+
+-- the names of entries
+abbrev pub entry_names : List PlacedEntry → List (List ℕ)
+entry_names entries = map (λ placed. name_of placed.entry) entries
+
+-- the name at a position; the empty one where there is none
+abbrev pub name_at : List (List ℕ) → ℕ → List ℕ
+name_at names position = slice_index_or names position []
+
+-- names byte by byte, a shorter one before those that it begins
+abbrev pub name_order : List (List ℕ) → ℕ → ℕ → Ordering
+name_order names a b = slice_cmp nat_cmp (name_at names a) (name_at names b)
+
+-- the name at a position against one that is looked for
+abbrev pub order_to : List (List ℕ) → List ℕ → ℕ → Ordering
+order_to names name position = slice_cmp nat_cmp (name_at names position) name
+
+-- Each position of these names once, in the order of the names, of which none stands twice.
+pub record IsOrderOf (names : List (List ℕ)) (positions : List ℕ) : Type 0 where
+  pub size : length positions ≡ length names
+  pub within : All (λ position. position < length names) positions
+  pub every : (position : ℕ) → position < length names → Contains positions position
+  pub rise : AllPairs (λ a b. name_order names a b ≡ Less) positions
+
+-- It has the positions of these entries in the order of their names.
+abbrev pub IsIndex : List PlacedEntry → Index → Type 0
+IsIndex entries index = IsOrderOf (entry_names entries) index.positions
+
+-- each position of these names once, where no name falls
+pub record IsSortedOrder (names : List (List ℕ)) (positions : List ℕ) : Type 0 where
+  pub moved : IsPermutation (range_with_len 0 (length names)) positions
+  pub sorted : IsSortedBy (λ a b. is_lt (name_order names a b)) positions
+
+-- each name comes before the next one
+pub record Rises (names : List (List ℕ)) (positions : List ℕ) : Type 0 where
+  pub rise : (k : ℕ) → k + 1 < length positions → name_order names (slice_index positions k) (slice_index positions (k + 1)) ≡ Less
+
+-- the place of a name: as many names come before it
+pub record IsPlace (names : List (List ℕ)) (positions name : List ℕ) (place : ℕ) : Type 0 where
+  pub within : place ≤ length positions
+  pub before : (k : ℕ) → k < place → order_to names name (slice_index positions k) ≡ Less
+  pub behind : (k : ℕ) → place ≤ k → k < length positions → is_lt (order_to names name (slice_index positions k)) ≡ false
+
+-- a position once an entry is gone, over which those behind it closed up
+abbrev pub closed_up : ℕ → ℕ → ℕ
+closed_up gone position = if nat_lt gone position then position - 1 else position

@@ -1,0 +1,23 @@
+-- What each part of the reading of a disk refuses.
+use Rattle.std.specs.Prelude.{◌≡◌, ◌⊎◌, List, length}
+use Rattle.sector_disk.specs.Disk.{Sector, sector}
+use Rattle.roots.specs.declared.root.Root.{Root}
+use Rattle.roots.specs.Choice.{IsCurrent}
+use Rattle.store.specs.declared.placed_entry.PlacedEntry.{PlacedEntry}
+use Rattle.store.specs.declared.refusal.StoreRefusal.{StoreRefusal}
+use Rattle.store.specs.declared.refusal.StoreRefusal.TheVariants.{NotFormatted, Damaged, Device, OutOfMemory}
+use Rattle.store.specs.Opening.{HasRootMagic}
+use Rattle.store.specs.Stands.{IsIntact}
+
+-- the refusals of the choice of a root
+pub record RefusesRoot (m : List Sector) (refusal : StoreRefusal) : Type 0 where
+  pub may : (refusal ≡ Device) ⊎ (refusal ≡ NotFormatted) ⊎ (refusal ≡ Damaged)
+  pub unformatted : refusal ≡ NotFormatted → HasRootMagic m → ⊥
+  pub formatted : refusal ≡ Damaged → HasRootMagic m
+  pub damaged : refusal ≡ Damaged → (root : Root) → IsCurrent (sector m 0) (sector m 1) root → ⊥
+
+-- the refusals of the entries of a root that is current
+pub record RefusesEntries (m : List Sector) (root : Root) (refusal : StoreRefusal) : Type 0 where
+  pub may : (refusal ≡ Device) ⊎ (refusal ≡ Damaged) ⊎ (refusal ≡ OutOfMemory)
+  pub damaged : refusal ≡ Damaged → (entries : List PlacedEntry) → IsIntact m root entries → ⊥
+  pub memory : refusal ≡ OutOfMemory → root.sectors ≡ length m

@@ -1,0 +1,117 @@
+// Committing what was found on a disk of version 1 as one of version 2.
+use crate::change::write_list;
+use crate::kept::Kept;
+use crate::next::{next_root, sectors_of_entries};
+use crate::old_store::OldStore;
+use crate::refusal::StoreRefusal;
+use crate::room::{release_sectors, take_catalogues};
+use crate::store::Store;
+use roots::catalogues_for;
+use sector_disk::Disk;
+
+impl<D: Disk> Kept<D> {
+    ghost use Rattle.std.specs.Prelude.{◌≡◌, ◌+◌, ◌⊎◌, IsFalse, length, OnOk};
+    ghost use Rattle.sector_disk.specs.Disk.{LeavesOnly};
+    ghost use Rattle.states.specs.Cost.{catalogues_for};
+    ghost use Rattle.roots.specs.declared.version.Version.TheVariants.{One, Two};
+    ghost use Rattle.roots.specs.Root.{version_of};
+    ghost use Rattle.store.specs.Changed.{Changed};
+    ghost use Rattle.store.specs.Opened.{IsAt, IsOldAt};
+    ghost use Rattle.store.specs.Taken.{IsRelisted};
+    ghost use Rattle.store.specs.Stands.{Stands, StandsOld};
+    ghost use Rattle.states.specs.State.{State};
+    ghost use Rattle.store.specs.Step.{refusal_of_upgrade, IsExactAnswer};
+    ghost use Rattle.store.specs.Step.{IsRefusalOfCommit};
+    ghost use Rattle.store.specs.Upgraded.{upgraded};
+
+    /// Lists by catalogues what a root of version 1 listed. It takes no memory.
+    fn relist(&mut self) -> Result<(), StoreRefusal>
+        requires version { version_of self.old.root ≡ One }
+        requires usable { IsFalse self.old.failed }
+        ensures any_moment { (s : State) → IsOldAt D.facts self.old s
+            → LeavesOnly (D.facts self.old.disk) (D.facts self.new.disk)
+            (λ m. StandsOld m s ⊎ Stands m (upgraded s)) }
+        ensures ok { (s : State) → IsOldAt D.facts self.old s
+            → OnOk result (IsAt D.facts self.new (upgraded s)) }
+        ensures refused { (s : State) → IsOldAt D.facts self.old s
+            → IsExactAnswer (refusal_of_upgrade self.old.root.sectors s) result }
+        ensures placed { OnOk result (IsRelisted self.old self.new) }
+        ensures version { OnOk result (version_of self.new.root ≡ Two) }
+        ensures on_any_disk { Changed D.facts StoreRefusal.Device StoreRefusal.Reopen
+            self.old self.new (catalogues_for (length self.old.entries) + 3)
+            IsRefusalOfCommit result }
+    {
+        if self.root.generation == u64::MAX {
+            return Err(StoreRefusal::GenerationEnd);
+        }
+        let libraries = self.entries.len();
+        let count = catalogues_for(libraries);
+        if (self.layout.free_count() as usize) < 2 * count {
+            return Err(StoreRefusal::Full);
+        }
+        let taken = take_catalogues(&mut self.layout, count);
+        let sectors = sectors_of_entries(&self.entries);
+        let listed = taken.as_slice();
+        let root = next_root(&self.root, libraries, listed);
+        self.failed = true;
+        if let Err(fault) = write_list(&mut self.disk, listed, &sectors[..libraries], &root) {
+            release_sectors(&mut self.layout, listed);
+            return Err(StoreRefusal::from(fault));
+        }
+        self.root = root;
+        self.failed = false;
+        Ok(())
+    }
+}
+
+impl<D: Disk> OldStore<D> {
+    ghost use Rattle.std.specs.Prelude.{◌≡◌, ◌≢◌, ◌+◌, ◌<◌, ◌≤◌, ◌⊎◌, IsFalse, IfOk};
+    ghost use Rattle.std.specs.Prelude.{IfErr, length};
+    ghost use Rattle.sector_disk.specs.Disk.{LeavesOnly, AreCallsExactly, AreCallsAtMost};
+    ghost use Rattle.roots.specs.Limits.{most_root_entries};
+    ghost use Rattle.states.specs.Cost.{catalogues_for};
+    ghost use Rattle.store.specs.Opened.{IsAt, IsOldAt, disk_after};
+    ghost use Rattle.store.specs.Taken.{IsRelisted};
+    ghost use Rattle.store.specs.Stands.{Stands, StandsOld};
+    ghost use Rattle.states.specs.State.{State};
+    ghost use Rattle.store.specs.Step.{refusal_of_upgrade, answer_of, IsExactAnswer};
+    ghost use Rattle.store.specs.Step.{IsRefusalOfCommit};
+    ghost use Rattle.store.specs.Upgraded.{upgraded};
+
+    /// Makes it a store of version 2, of the same byte strings and preloads. It writes their
+    /// catalogues and the next root: it refuses with GenerationEnd or Full before the first write,
+    /// and takes no memory. Where it refuses it hands the disk back.
+    pub fn commit(self) -> Result<Store<D>, (StoreRefusal, D)>
+        // A stop at any moment leaves the old state, by the old rules, or the one after it.
+        ensures any_moment { (s : State) → IsOldAt D.facts self s
+            → LeavesOnly (D.facts self.disk) (D.facts (disk_after result))
+            (λ m. StandsOld m s ⊎ Stands m (upgraded s)) }
+        ensures ok { (s : State) → IsOldAt D.facts self s
+            → IfOk result (λ store. IsAt D.facts store (upgraded s)) }
+        ensures refused { (s : State) → IsOldAt D.facts self s
+            → IsExactAnswer (refusal_of_upgrade self.root.sectors s) (answer_of result) }
+
+        // It takes the sectors of the catalogues.
+        ensures placed { IfOk result (λ store. IsRelisted self store) }
+
+        // On any disk
+        ensures usable { IfOk result (λ store. IsFalse store.failed) }
+        ensures refusals { IfErr result (λ e. IsRefusalOfCommit e.0) }
+        ensures device { IfErr result (λ e. e.0 ≡ StoreRefusal.Device
+            → (D.facts self.disk).failures < (D.facts e.1).failures) }
+        ensures untouched { IfErr result (λ e. e.0 ≢ StoreRefusal.Device → e.1 ≡ self.disk) }
+        ensures few { length self.entries ≤ most_root_entries }
+        ensures calls { AreCallsAtMost (catalogues_for (length self.entries) + 3)
+            (D.facts self.disk) (D.facts (disk_after result)) }
+        ensures all_calls { IfOk result (λ store. AreCallsExactly
+            (catalogues_for (length self.entries) + 3)
+            (D.facts self.disk) (D.facts store.disk)) }
+    {
+        let OldStore { kept } = self;
+        let mut kept = kept;
+        match kept.relist() {
+            Ok(()) => Ok(Store { kept }),
+            Err(refusal) => Err((refusal, kept.into_disk())),
+        }
+    }
+}

@@ -1,0 +1,57 @@
+use crate::name_index::NameIndex;
+use crate::placed_entry::PlacedEntry;
+use extents::Layout;
+use roots::Root;
+use sector_disk::Disk;
+use std::marker::Model;
+
+/// What a store keeps in memory beside its disk, of either version: the current root, and its
+/// entries with their sectors. No byte of a byte string is kept.
+pub(crate) struct Kept<D: Disk> {
+    pub disk: D,
+    pub root: Root,
+    pub entries: Vec<PlacedEntry>,
+    pub index: NameIndex,
+    pub layout: Layout,
+    // A write or a sync failed: what the disk holds is known again once it is opened.
+    pub failed: bool,
+}
+
+impl<D: Disk> Model for Kept<D> {
+    ghost use Rattle.store.specs.Opened.{Opened};
+    ghost use Rattle.store.specs.inside.Kept.{IsKept};
+    ghost use Rattle.store.specs.inside.NameIndex.{IsIndex};
+    ghost use Rattle.std.specs.Prelude.{◌≡◌};
+
+    ghost Value = { Opened D };
+
+    ghost view = { λ kept. record {
+      disk = kept.disk;
+      root = kept.root;
+      entries = kept.entries.items;
+      failed = kept.failed;
+    } };
+
+    ghost invariant = { λ kept. IsKept kept.root kept.entries.items kept.layout
+        × IsIndex kept.entries.items kept.index
+        × ((D.facts kept.disk).sectors ≡ kept.root.sectors) };
+}
+
+impl<D: Disk> Kept<D> {
+    ghost use Rattle.std.specs.Prelude.{◌≡◌};
+
+    /// The disk.
+    pub(crate) fn into_disk(self) -> D
+        ensures { result ≡ self.disk }
+    {
+        let Kept {
+            disk,
+            root: _,
+            entries: _,
+            index: _,
+            layout: _,
+            failed: _,
+        } = self;
+        disk
+    }
+}

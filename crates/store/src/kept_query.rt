@@ -1,0 +1,84 @@
+// What a store of either version tells of its state. It reads what is kept in memory, and makes no
+// call of the disk.
+use crate::kept::Kept;
+use sector_disk::Disk;
+
+impl<D: Disk> Kept<D> {
+    ghost use Rattle.std.specs.Prelude.{◌≡◌, ◌≢◌, ℕ, ◌<◌, ◌≤◌, ◌↔◌, ◌^◌, All, Some, IsFalse};
+    ghost use Rattle.std.specs.Prelude.{IsNone, IfSome, length, slice_index_or};
+    ghost use Rattle.extents.specs.Extent.{AreDistinct};
+    ghost use Rattle.states.specs.Limits.{most_libraries, most_preloads};
+    ghost use Rattle.roots.specs.Root.{listed_preloads};
+    ghost use Rattle.roots.specs.declared.version.Version.{Version};
+    ghost use Rattle.store.specs.declared.placed_entry.PlacedEntry.{PlacedEntry};
+    ghost use Rattle.store.specs.Opened.{IsAtBy};
+    ghost use Rattle.store.specs.Stands.{HaveOwnNames, name_of, no_library, names_at};
+    ghost use Rattle.store.specs.Names.{LacksName, IsName, IsFileSize};
+    ghost use Rattle.states.specs.State.{State};
+
+    /// How many byte strings there are.
+    pub(crate) fn count(&self) -> usize
+        ensures value { result ≡ length self.now.entries }
+        ensures few { result ≤ most_libraries }
+        ensures own_names { HaveOwnNames self.now.entries }
+        ensures counted { result ≡ self.now.root.library_count }
+        ensures state { (version : Version) → (s : State) → IsAtBy version D.facts self.now s
+            → result ≡ length s.libraries }
+    {
+        self.entries.len()
+    }
+
+    /// The name of the byte string at this position.
+    pub(crate) fn name(&self, position: usize) -> &[u8]
+        requires { position < length self.now.entries }
+        ensures value { (d : PlacedEntry) →
+            result.now ≡ name_of (slice_index_or self.now.entries position d).entry }
+        ensures form { IsName result.now }
+        ensures state { (version : Version) → (s : State) → IsAtBy version D.facts self.now s
+            → result.now ≡ (slice_index_or s.libraries position no_library).name }
+    {
+        self.entries[position].entry.name_bytes()
+    }
+
+    /// The length in bytes of the byte string at this position.
+    pub(crate) fn length(&self, position: usize) -> u32
+        requires { position < length self.now.entries }
+        ensures value { (d : PlacedEntry) →
+            result ≡ (slice_index_or self.now.entries position d).entry.file_length }
+        ensures size { IsFileSize result }
+        ensures state { (version : Version) → (s : State) → IsAtBy version D.facts self.now s
+            → result ≡ length (slice_index_or s.libraries position no_library).bytes }
+    {
+        self.entries[position].entry.file_length
+    }
+
+    /// The position of the byte string with this name. It halves an order of the names: 12
+    /// comparisons at most.
+    pub(crate) fn position(&self, name: &[u8]) -> Option<usize>
+        ensures none { IsNone result → LacksName self.now name.now }
+        ensures some { IfSome result (λ i. (i < length self.now.entries)
+            × ((d : PlacedEntry)
+            → name_of (slice_index_or self.now.entries i d).entry ≡ name.now)) }
+
+        // No two byte strings have one name, so a position at which the name stands is the answer.
+        ensures own_names { HaveOwnNames self.now.entries }
+        ensures state { (version : Version) → (s : State) → IsAtBy version D.facts self.now s
+            → (i : ℕ) → (result ≡ Some i)
+            ↔ ((i < length s.libraries)
+            × ((slice_index_or s.libraries i no_library).name ≡ name.now)) }
+    {
+        self.index.position_of(&self.entries, name)
+    }
+
+    /// The positions of the preloads, in their order.
+    pub(crate) fn preloads(&self) -> &[u16]
+        ensures value { result.now ≡ listed_preloads self.now.root }
+        ensures few { length result.now ≤ most_preloads }
+        ensures inside { All (λ position. position < length self.now.entries) result.now }
+        ensures once { AreDistinct result.now }
+        ensures state { (version : Version) → (s : State) → IsAtBy version D.facts self.now s
+            → s.preloads ≡ names_at s.libraries result.now }
+    {
+        self.root.preload_positions()
+    }
+}
