@@ -24,22 +24,22 @@ fn are_same(disk: &mut Memory, other: &mut Memory) -> bool {
     same
 }
 
-// What an upgrade is answered, and whether the registry then has what it has after all commands.
-fn again(alloc: Global, words: Words, disk: Memory) -> Result<Words, AllocError> {
-    let mut words = words;
+// Whether the registry that was upgraded has what it has after all commands.
+fn left(alloc: Global, disk: Memory) -> Result<&'static str, AllocError> {
+    let same = seen(alloc, disk)? == seen(alloc, before(alloc, STEPS.len())?)?;
+    Ok(if same {
+        "ok with what all commands leave"
+    } else {
+        "ok WITH ANOTHER REGISTRY"
+    })
+}
+
+// What an upgrade is answered, and what the registry then has.
+fn again(alloc: Global, disk: Memory) -> Result<&'static str, AllocError> {
     match Registry::upgrade(alloc, counted(disk)) {
-        Ok(registry) => {
-            let disk = registry.into_disk().into_inner();
-            let same = seen(alloc, disk)? == seen(alloc, before(alloc, STEPS.len())?)?;
-            words.push(if same {
-                "ok with what all commands leave"
-            } else {
-                "ok WITH ANOTHER REGISTRY"
-            })?;
-        }
-        Err((refusal, _)) => words.push(refusal_word(refusal))?,
+        Ok(registry) => left(alloc, registry.into_disk().into_inner()),
+        Err((refusal, _disk)) => Ok(refusal_word(refusal)),
     }
-    Ok(words)
 }
 
 // What is told of an upgrade that was refused.
@@ -60,7 +60,8 @@ fn refused(
     } else {
         "SECTORS OTHERWISE, again:"
     })?;
-    again(alloc, words, disk)
+    words.push(again(alloc, disk)?)?;
+    Ok(words)
 }
 
 /// Upgrades a disk of version 1, a copy, so that its first write grows.

@@ -6,24 +6,33 @@ use std::alloc::Global;
 use std::fs;
 use std::test::Fail;
 
+/// Puts bytes into a disk from a place on.
+fn put(disk: &mut [u8], place: usize, bytes: &[u8]) {
+    for (to, from) in disk.iter_mut().skip(place).zip(bytes) {
+        *to = *from;
+    }
+}
+
 /// A disk of eight sectors of version 1, after the first install: its empty registry in sector 0,
 /// the file `a` from sector 2 on, its entry behind it, and the root of generation 1 in sector 1.
 fn old_disk(alloc: Global, file: &[u8]) -> Result<Vec<u8>, Fail> {
     let data = u8::try_from(file.len().div_ceil(512))?;
-    let entry = 2 + data;
+    let entry = data.wrapping_add(2);
     let mut disk = vec![in alloc; 0u8; 4096]?;
-    disk[..24].copy_from_slice(b"RLIBREG1\0\0\0\0\0\0\0\0\x08\0\0\0\0\0\0\0");
-    disk[512..536].copy_from_slice(b"RLIBREG1\x01\0\0\0\0\0\0\0\x08\0\0\0\x01\0\0\0");
-    disk[576] = entry;
-    disk[1024..][..file.len()].copy_from_slice(file);
+    put(&mut disk, 0, b"RLIBREG1\0\0\0\0\0\0\0\0\x08\0\0\0\0\0\0\0");
+    put(
+        &mut disk,
+        512,
+        b"RLIBREG1\x01\0\0\0\0\0\0\0\x08\0\0\0\x01\0\0\0",
+    );
+    put(&mut disk, 576, &[entry]);
+    put(&mut disk, 1024, file);
     let at = 512 * usize::from(entry);
-    disk[at..][..4].copy_from_slice(b"LIBE");
-    disk[at + 4..][..4].copy_from_slice(&u32::try_from(file.len())?.to_le_bytes());
-    disk[at + 8] = 1;
-    disk[at + 10] = 1;
-    disk[at + 16] = b'a';
-    disk[at + 256] = 2;
-    disk[at + 260] = data;
+    put(&mut disk, at, b"LIBE");
+    put(&mut disk, at + 4, &u32::try_from(file.len())?.to_le_bytes());
+    put(&mut disk, at + 8, b"\x01\0\x01");
+    put(&mut disk, at + 16, b"a");
+    put(&mut disk, at + 256, &[2, 0, 0, 0, data]);
     Ok(disk)
 }
 
@@ -41,11 +50,15 @@ fn an_old_disk_is_upgraded_once(rt: HostRuntime) -> Result<(), Fail> {
     fs::write(&rt, path, disk.as_slice())?;
     expect(&rt, "upgrade commands_old", "", 0, "ok\n", "")?;
     // A catalogue in the first free sector, and the next root over the older one.
-    disk[2048..2054].copy_from_slice(b"LIBC\x01\0");
-    disk[2064] = 3;
-    disk[..24].copy_from_slice(b"RLIBREG2\x02\0\0\0\0\0\0\0\x08\0\0\0\x01\0\0\0");
-    disk[56] = 1;
-    disk[64] = 4;
+    put(&mut disk, 2048, b"LIBC\x01\0");
+    put(&mut disk, 2064, &[3]);
+    put(
+        &mut disk,
+        0,
+        b"RLIBREG2\x02\0\0\0\0\0\0\0\x08\0\0\0\x01\0\0\0",
+    );
+    put(&mut disk, 56, &[1]);
+    put(&mut disk, 64, &[4]);
     assert!(rt; fs::read(&rt, path)?.as_slice() == disk.as_slice());
     let listing = "library a 344\nend\n";
     expect(&rt, "list commands_old", "", 0, listing, "")?;
@@ -99,7 +112,7 @@ fn a_refused_upgrade_writes_nothing(rt: HostRuntime) -> Result<(), Fail> {
         (&[(1024, 0)], "refused S5 Damaged\n"),
     ] {
         for &(at, word) in changes {
-            disk[at..][..8].copy_from_slice(&u64::to_le_bytes(word));
+            put(&mut disk, at, &u64::to_le_bytes(word));
         }
         fs::write(&rt, path, disk.as_slice())?;
         expect(&rt, "upgrade commands_full", "", 1, answer, "")?;
