@@ -42,6 +42,7 @@ module _ {version : Version} {D : Type 0} {facts : D → DiskFacts} where
     now = λ honest. refl;
     root = refl;
     entries = refl;
+    held = refl;
     failed = refl;
     calls = no_calls (facts start.disk);
   }
@@ -57,6 +58,7 @@ module _ {version : Version} {D : Type 0} {facts : D → DiskFacts} where
     now = λ is. second.now (subst IsTrue (sym first.calls.honest) is) ∙ first.now is;
     root = second.root ∙ first.root;
     entries = second.entries ∙ first.entries;
+    held = second.held ∙ first.held;
     failed = second.failed ∙ first.failed;
     calls = more_calls first.calls second.calls;
   }

@@ -1,5 +1,5 @@
 // The registry of a store of version 2, once every file was admitted.
-ghost use Rattle.std.specs.Prelude.{◌≡◌, ◌<◌, ◌⊎◌, sum_by, All, IsTrue, IsFalse, IfOk, IfErr};
+ghost use Rattle.std.specs.Prelude.{◌≡◌, ◌<◌, ◌⊎◌, [], sum_by, All, IsTrue, IsFalse, IfOk, IfErr};
 ghost use Rattle.sector_disk.specs.Disk.{Mixture, LeavesOnly, AreCalls, AreCallsExactly};
 ghost use Rattle.states.specs.State.{State};
 ghost use Rattle.store.specs.Opened as opened;
@@ -21,6 +21,7 @@ pub(crate) fn admit_current<D: Disk>(
     store: Store<D>,
 ) -> Result<Registry<D>, (StoreRefusal, D)>
     requires usable { IsFalse store.failed }
+    requires unheld { store.held ≡ [] }
     ensures any_moment { IsTrue (D.facts store.disk).honest
         → LeavesOnly (D.facts store.disk) (D.facts (disk_after result))
         (Mixture (D.facts store.disk)) }

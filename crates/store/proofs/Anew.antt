@@ -1,8 +1,8 @@
 -- The sectors in use before a change and after it, and those that it took and gave back.
-use Rattle.std.proofs.Common.{◌≡◌, ℕ, ◌+◌, Bool, List, [], ◌∷◌, ◌++◌, length, All, refl, sym, subst, ◌∙◌, arith}
+use Rattle.std.proofs.Common.{◌≡◌, ℕ, ◌+◌, Bool, List, [], ◌∷◌, ◌++◌, length, All, refl, sym, ap, subst, ◌∙◌, arith}
 use Rattle.std.specs.Prelude.{Contains}
 use Rattle.std.proofs.lemmas.List.{append-nil}
-use Rattle.std.proofs.lemmas.List.Elements.{All-append}
+use Rattle.std.proofs.lemmas.List.Elements.{All-append, Contains-append_left}
 use Rattle.std.proofs.lemmas.List.Sums.{sum_by-cons}
 use Rattle.extents.specs.declared.extent.Extent.{Extent}
 use Rattle.extents.specs.Extent.{places, AreDistinct}
@@ -10,21 +10,27 @@ use Rattle.extents.specs.Used.{ClaimsJust}
 use Rattle.extents.proofs.UsedLemmas.{claims-same_elements}
 use Rattle.roots.specs.declared.root.Root.{Root}
 use Rattle.store.specs.declared.placed_entry.PlacedEntry.{PlacedEntry}
+use Rattle.store.specs.declared.holding.Holding.{Holding}
+use Rattle.store.specs.Held.{in_use, lone_sectors}
 use Rattle.store.specs.Stands.{UsesApart, extents_of, sectors_of, used}
 use Rattle.store.specs.inside.Claimed.{IsUsable, IsClaimedBeside}
-use Rattle.store.specs.inside.Kept.{IsKept}
+use Rattle.store.specs.inside.Kept.{AreClaimed, IsKept}
 use Rattle.store.specs.inside.Room.{AreHeld, IsReleased}
 use Rattle.store.proofs.Claiming.{all-part, distinct-parts}
 use Rattle.store.proofs.Counts.{one, occurs, occurs-append, contains_occurs, occurs_contains, distinct_occurs, occurs_distinct}
+
+-- all that is kept can be used
+pub all_usable : {root : Root} {entries : List PlacedEntry} {held : List Holding} {layout : List Bool} → (kept : IsKept root entries held layout) → All (IsUsable root.sectors) (in_use root entries held)
+all_usable {root = root} {entries = entries} {held = held} kept = All-append (IsUsable root.sectors) (used root entries) (lone_sectors held) kept.apart.inside kept.claimed.inside
 
 -- lists in which each number stands as often have the same elements
 same_elements : (a b : List ℕ) → ((k : ℕ) → occurs k a ≡ occurs k b) → (s : ℕ) → Contains a s → Contains b s
 same_elements a b counts s found = occurs_contains s b (omega (arith, counts s, contains_occurs s a found))
 
-claims_as : (flags : List Bool) (a b : List ℕ) → ((k : ℕ) → occurs k a ≡ occurs k b) → ClaimsJust flags a → ClaimsJust flags b
+pub claims_as : (flags : List Bool) (a b : List ℕ) → ((k : ℕ) → occurs k a ≡ occurs k b) → ClaimsJust flags a → ClaimsJust flags b
 claims_as flags a b counts just = claims-same_elements flags a b (λ s. (same_elements a b counts s, same_elements b a (λ k. sym (counts k)) s)) just
 
-distinct_as : (a b : List ℕ) → ((k : ℕ) → occurs k a ≡ occurs k b) → AreDistinct a → AreDistinct b
+pub distinct_as : (a b : List ℕ) → ((k : ℕ) → occurs k a ≡ occurs k b) → AreDistinct a → AreDistinct b
 distinct_as a b counts once = occurs_distinct b (λ k. omega (arith, counts k, distinct_occurs k a once))
 
 -- the same sectors in another order are claimed as well
@@ -64,42 +70,48 @@ released_nothing mid = record { size = refl; each = λ kept just once. subst (Cl
 pub record IsMoved (before more after gone : List ℕ) : Type 0 where
   pub parts : (k : ℕ) → occurs k after + occurs k gone ≡ occurs k (before ++ more)
 
-module _ {root : Root} {entries : List PlacedEntry} {layout mid : List Bool} {more : List ℕ} (kept : IsKept root entries layout) (claimed : IsClaimedBeside layout mid more) where
+module _ {root : Root} {entries : List PlacedEntry} {held : List Holding} {layout mid : List Bool} {more : List ℕ} (kept : IsKept root entries held layout) (claimed : IsClaimedBeside layout mid more) where
   abbrev before : List ℕ
-  before = used root entries
+  before = in_use root entries held
 
   -- what was in use, and what is taken
   abbrev all : List ℕ
-  all = used root entries ++ more
+  all = before ++ more
 
   claims : ClaimsJust mid all
-  claims = claimed.each before kept.claims
+  claims = claimed.each before kept.claimed.claims
 
   once : AreDistinct all
-  once = claimed.once before kept.claims kept.apart.once
+  once = claimed.once before kept.claimed.claims kept.claimed.once
 
   -- what is taken lies apart behind the roots,
   pub more_inside : All (IsUsable root.sectors) more
   more_inside = subst (λ n. All (IsUsable n) more) kept.size claimed.inside
 
   inside : All (IsUsable root.sectors) all
-  inside = All-append (IsUsable root.sectors) before more kept.apart.inside more_inside
+  inside = All-append (IsUsable root.sectors) before more (all_usable kept) more_inside
 
   pub more_once : AreDistinct more
   more_once = occurs_distinct more (λ k. omega (arith, occurs-append k before more, distinct_occurs k all once))
 
-  -- and none of it was in use;
+  -- and none of it was in use, by the state or by a holder;
+  pub more_free : (k : ℕ) → Contains more k → Contains (in_use root entries held) k → ⊥
+  more_free k found there = distinct-parts before more k once there found
+
   pub more_unused : (k : ℕ) → Contains more k → Contains (used root entries) k → ⊥
-  more_unused k found there = distinct-parts before more k once there found
+  more_unused k found there = more_free k found (Contains-append_left (used root entries) (lone_sectors held) k there)
 
   size : length mid ≡ root.sectors
   size = claimed.size ∙ kept.size
+
+  pub moved_size : (new : List Bool) {back : List ℕ} → IsReleased mid new back → length new ≡ root.sectors
+  moved_size new released = released.size ∙ size
 
   -- it can be given back, and then all is kept as it was
   pub more_held : AreHeld mid more
   more_held = (before, claims, once, subst (λ n. All (IsUsable n) more) (sym size) more_inside)
 
-  pub back_kept : (new : List Bool) → IsReleased mid new more → IsKept root entries new
+  pub back_kept : (new : List Bool) → IsReleased mid new more → IsKept root entries held new
   back_kept new released = record {
     root_fits = kept.root_fits;
     size = released.size ∙ size;
@@ -108,22 +120,32 @@ module _ {root : Root} {entries : List PlacedEntry} {layout mid : List Bool} {mo
     apart = kept.apart;
     room = kept.room;
     names = kept.names;
-    claims = released.each before claims once;
+    rows = kept.rows;
+    claimed = record { inside = kept.claimed.inside; once = kept.claimed.once; claims = released.each before claims once };
   }
 
   -- What is used then lies apart too, and with it the rest can be given back.
   module _ (next : Root) (others : List PlacedEntry) {gone : List ℕ} (moved : IsMoved (used root entries) more (used next others) gone) where
+    -- what is in use where holders keep what they had,
     abbrev after : List ℕ
-    after = used next others
+    after = used next others ++ lone_sectors held
 
     counts : (k : ℕ) → occurs k all ≡ occurs k (after ++ gone)
-    counts k = omega (arith, moved.parts k, occurs-append k after gone)
+    counts k = omega (
+      arith,
+      moved.parts k,
+      occurs-append k (used root entries) more,
+      occurs-append k (used root entries) (lone_sectors held),
+      occurs-append k before more,
+      occurs-append k (used next others) (lone_sectors held),
+      occurs-append k after gone,
+    )
 
     pub moved_apart : UsesApart root.sectors next others
     moved_apart = record {
-      inside = all-part (IsUsable root.sectors) after all
-          (λ s found. occurs_contains s all (omega (arith, moved.parts s, contains_occurs s after found))) inside;
-      once = occurs_distinct after (λ k. omega (arith, moved.parts k, distinct_occurs k all once));
+      inside = all-part (IsUsable root.sectors) (used next others) all
+          (λ s found. occurs_contains s all (omega (arith, counts s, occurs-append s after gone, occurs-append s (used next others) (lone_sectors held), contains_occurs s (used next others) found))) inside;
+      once = occurs_distinct (used next others) (λ k. omega (arith, counts k, occurs-append k after gone, occurs-append k (used next others) (lone_sectors held), distinct_occurs k all once));
     }
 
     pub moved_held : AreHeld mid gone
@@ -132,11 +154,49 @@ module _ {root : Root} {entries : List PlacedEntry} {layout mid : List Bool} {mo
       claims_as mid all (after ++ gone) counts claims,
       distinct_as all (after ++ gone) counts once,
       subst (λ n. All (IsUsable n) gone) (sym size)
-          (all-part (IsUsable root.sectors) gone all (λ s found. occurs_contains s all (omega (arith, moved.parts s, contains_occurs s gone found))) inside),
+          (all-part (IsUsable root.sectors) gone all (λ s found. occurs_contains s all (omega (arith, counts s, occurs-append s after gone, contains_occurs s gone found))) inside),
     )
 
-    pub moved_size : (new : List Bool) → IsReleased mid new gone → length new ≡ root.sectors
-    moved_size new released = released.size ∙ size
+    pub moved_claimed : (new : List Bool) → IsReleased mid new gone → AreClaimed root.sectors new (used next others) (lone_sectors held)
+    moved_claimed new released = record {
+      inside = kept.claimed.inside;
+      once = occurs_distinct after (λ k. omega (arith, counts k, occurs-append k after gone, distinct_occurs k all once));
+      claims = released.each after (claims_as mid all (after ++ gone) counts claims) (distinct_as all (after ++ gone) counts once);
+    }
 
-    pub moved_claims : (new : List Bool) → IsReleased mid new gone → ClaimsJust new (used next others)
-    moved_claims new released = released.each after (claims_as mid all (after ++ gone) counts claims) (distinct_as all (after ++ gone) counts once)
+    -- and where holders keep some of what the state gave up, and the rest is given back.
+    module _ (lone freed own catalogues : List ℕ) (is : gone ≡ own ++ catalogues) (parts : (k : ℕ) → occurs k lone + occurs k freed ≡ occurs k (lone_sectors held) + occurs k own) where
+      abbrev left : List ℕ
+      left = used next others ++ lone
+
+      left_counts : (k : ℕ) → occurs k all ≡ occurs k (left ++ (freed ++ catalogues))
+      left_counts k = omega (
+        arith,
+        counts k,
+        parts k,
+        ap (occurs k) is,
+        occurs-append k after gone,
+        occurs-append k own catalogues,
+        occurs-append k (used next others) (lone_sectors held),
+        occurs-append k left (freed ++ catalogues),
+        occurs-append k freed catalogues,
+        occurs-append k (used next others) lone,
+      )
+
+      pub left_claimed : (new : List Bool) → IsReleased mid new (freed ++ catalogues) → AreClaimed root.sectors new (used next others) lone
+      left_claimed new released = record {
+        inside = all-part (IsUsable root.sectors) lone all
+            (λ s found. occurs_contains s all (omega (arith, left_counts s, occurs-append s left (freed ++ catalogues), occurs-append s (used next others) lone, contains_occurs s lone found))) inside;
+        once = occurs_distinct left (λ k. omega (arith, left_counts k, occurs-append k left (freed ++ catalogues), distinct_occurs k all once));
+        claims = released.each left (claims_as mid all (left ++ (freed ++ catalogues)) left_counts claims) (distinct_as all (left ++ (freed ++ catalogues)) left_counts once);
+      }
+
+      -- what holders keep needn't be released for the rest to be
+      pub freed_held : AreHeld mid (freed ++ catalogues)
+      freed_held = (
+        left,
+        claims_as mid all (left ++ (freed ++ catalogues)) left_counts claims,
+        distinct_as all (left ++ (freed ++ catalogues)) left_counts once,
+        subst (λ n. All (IsUsable n) (freed ++ catalogues)) (sym size)
+            (all-part (IsUsable root.sectors) (freed ++ catalogues) all (λ s found. occurs_contains s all (omega (arith, left_counts s, occurs-append s left (freed ++ catalogues), contains_occurs s (freed ++ catalogues) found))) inside),
+      )

@@ -17,6 +17,7 @@ use Rattle.states.proofs.Sizes.{in_range}
 use Rattle.store.specs.Stands.{StandsBy, Stands}
 use Rattle.extents.proofs.UsedLemmas.{claims-new}
 use Rattle.store.specs.inside.Kept.{IsKept}
+use Rattle.store.proofs.Beside.{no_rows, none_beside}
 use Rattle.store.specs.inside.First.{first_root}
 
 pub first_fits : (sectors : ℕ) → IsGeometry sectors → RootHasSpelling (first_root sectors)
@@ -51,7 +52,7 @@ first_stands m sectors geometry size lacks = record {
 }
 
 -- what is kept of an empty store
-pub first_kept : (sectors : ℕ) → IsGeometry sectors → IsKept (first_root sectors) [] (replicate sectors false)
+pub first_kept : (sectors : ℕ) → IsGeometry sectors → IsKept (first_root sectors) [] [] (replicate sectors false)
 first_kept sectors geometry = record {
   root_fits = first_fits sectors geometry;
   size = length-replicate sectors false;
@@ -60,7 +61,8 @@ first_kept sectors geometry = record {
   apart = record { inside = λ k d lt. absurd (omega (arith, lt)); once = λ i j d lt fits. absurd (omega (arith, fits)) };
   room = omega (arith, in_range sectors geometry);
   names = λ i j d lt fits. absurd (omega (arith, fits));
-  claims = claims-new sectors;
+  rows = no_rows [];
+  claimed = none_beside [] (λ i j d lt fits. absurd (omega (arith, fits))) (claims-new sectors);
 }
 
 -- the first root goes into a synced disk: each mixture is an old one, or stands for the empty state

@@ -1,11 +1,10 @@
 -- The root that follows another: it fits, what is kept with it, and what it makes of sectors.
-use Rattle.std.proofs.Common.{◌≡◌, ℕ, ◌+◌, Bool, List, length, get_or, set, map, All, sym, ap, subst, ◌∙◌, arith}
+use Rattle.std.proofs.Common.{◌≡◌, ℕ, ◌+◌, ◌-◌, Bool, List, length, get_or, set, map, All, sym, ap, subst, ◌∙◌, arith}
 use Rattle.std.specs.List.{flat_map}
 use Rattle.std.proofs.lemmas.List.{length-map}
 use Rattle.std.proofs.lemmas.List.Elements.{All-contains, Contains-append_left, Contains-get_or}
 use Rattle.sector_disk.specs.Disk.{Sector, sector}
 use Rattle.extents.specs.Extent.{AreDistinct}
-use Rattle.extents.specs.Used.{ClaimsJust}
 use Rattle.roots.specs.declared.root.Root.{Root}
 use Rattle.roots.specs.declared.version.Version.{Version}
 use Rattle.roots.specs.declared.version.Version.TheVariants.{One, Two}
@@ -17,7 +16,10 @@ use Rattle.store.specs.declared.placed_entry.PlacedEntry.{PlacedEntry}
 use Rattle.states.specs.State.{State}
 use Rattle.store.specs.Stands.{AreListed, AreCatalogued, UsesApart, HasRoom, StandsBy, entry_sectors, catalogues_of, sectors_of, used, library_of, names_at}
 use Rattle.store.specs.inside.Claimed.{IsUsable}
-use Rattle.store.specs.inside.Kept.{IsKept}
+use Rattle.store.specs.declared.holding.Holding.{Holding}
+use Rattle.store.specs.Held.{lone_sectors}
+use Rattle.store.specs.inside.Holdings.{AreHoldings}
+use Rattle.store.specs.inside.Kept.{AreClaimed, IsKept}
 use Rattle.store.specs.inside.Next.{IsNext}
 use Rattle.store.proofs.Claiming.{distinct-first}
 use Rattle.store.proofs.Puts.{next_stands}
@@ -61,17 +63,18 @@ module _ {root : Root} {others : List PlacedEntry} {catalogues preloads : List �
     preloads_distinct = is.preloads_once;
   }))
 
-  -- with a layout that claims just what is used then all is kept,
-  pub following_kept : (new : List Bool) → length new ≡ root.sectors → ClaimsJust new (used next others) → IsKept next others new
-  following_kept new size claims = record {
+  -- with a layout that claims just what is in use then all is kept,
+  pub following_kept : (held : List Holding) (new : List Bool) → length new ≡ root.sectors → HasRoom (root.sectors - length (lone_sectors held)) next.list others → AreHoldings others held → AreClaimed root.sectors new (used next others) (lone_sectors held) → IsKept next others held new
+  following_kept held new size room rows claimed = record {
     root_fits = following_fits;
     size = size ∙ sym sectors_are;
     counted = count_is;
     entries_fit = is.fit;
     apart = subst (λ n. UsesApart n next others) (sym sectors_are) is.apart;
-    room = subst (λ n. HasRoom n next.list others) (sym sectors_are) is.room;
+    room = subst (λ n. HasRoom (n - length (lone_sectors held)) next.list others) (sym sectors_are) room;
     names = is.names;
-    claims = claims;
+    rows = rows;
+    claimed = subst (λ n. AreClaimed n new (used next others) (lone_sectors held)) (sym sectors_are) claimed;
   }
 
   -- what the catalogues list in these sectors is what the root lists,

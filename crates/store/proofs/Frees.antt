@@ -30,14 +30,17 @@ use Rattle.states.specs.State.{Library, State}
 use Rattle.store.specs.declared.placed_entry.PlacedEntry.{PlacedEntry}
 use Rattle.store.specs.declared.refusal.StoreRefusal.{StoreRefusal}
 use Rattle.store.specs.declared.refusal.StoreRefusal.TheVariants.{Device, Full, Fragmented, GenerationEnd}
-use Rattle.store.specs.Opened.{Opened, IsAtBy}
+use Rattle.store.specs.declared.holding.Holding.{Holding}
+use Rattle.store.specs.Held.{in_use, lone_sectors}
+use Rattle.store.specs.Opened.{Opened, IsAtBy, room_of}
 use Rattle.store.specs.Stands.{StandsBy, catalogues_in, catalogues_of, entries_cost, extents_of, library_of, sectors_of, used}
 use Rattle.store.specs.Step.{longest_free, refusal_of_bytes, refusal_of_put, refusal_of_new, refusal_of_upgrade, refusal_of_take, refusal_of_change, IsAnswer, IsExactAnswer}
 use Rattle.store.specs.inside.Kept.{HaveSpellings, IsKept}
 use Rattle.store.proofs.Libraries.{length-library}
 pub use Rattle.store.proofs.Libraries.{length-libraries}
 use Rattle.store.proofs.Preloads.{enough_in, room_in}
-use Rattle.store.proofs.Rooms.{counted_sectors}
+use Rattle.store.proofs.Rooms.{kept_sectors}
+use Rattle.store.proofs.Anew.{all_usable}
 
 -- byte strings cost what their entries say
 costs_are : (m : List Sector) (entries : List PlacedEntry) → All IsWhole m → HaveSpellings entries → ((k : ℕ) → Contains (flat_map sectors_of entries) k → k < length m)
@@ -65,41 +68,39 @@ none_in : (list : EntryList) → version_of_list list ≡ One → catalogues_in 
 none_in (InRoot sectors) is = refl
 none_in (InCatalogues count listed) is = absurd (cc is)
 
-module _ (root : Root) (entries : List PlacedEntry) (layout : List Bool) (kept : IsKept root entries layout) where
-  -- the roots' sectors, the used ones and the free ones are all
-  all_sectors : root_sectors + length (catalogues_of root) + entries_cost entries + free_count layout ≡ root.sectors
-  all_sectors = counted_sectors layout root entries kept.root_fits kept.entries_fit kept.counted kept.size kept.apart kept.claims
-
+module _ (root : Root) (entries : List PlacedEntry) (held : List Holding) (layout : List Bool) (kept : IsKept root entries held layout) where
   -- a root of version 2 lists as many catalogues as its byte strings take
   pub catalogues_enough : version_of root ≡ Two → length (catalogues_of root) ≡ catalogues_for (length entries)
   catalogues_enough two = enough_in root.library_count root.sectors root.list two kept.root_fits.list ∙ ap catalogues_for (sym kept.counted)
 
-  -- The longest free runs of the sectors in use are the layout's.
-  pub longest_is : sector_count (longest_runs (layout_of root.sectors (used root entries))) ≡ sector_count (longest_runs layout)
+  -- The longest free runs beside the sectors in use are the layout's.
+  pub longest_is : sector_count (longest_runs (layout_of root.sectors (in_use root entries held))) ≡ sector_count (longest_runs layout)
   longest_is =
-      let claims = layout_of-claims root.sectors (used root entries) (λ k d lt. (kept.apart.inside k d lt).1) in
-      ap sector_count (longest_runs-same (layout_of root.sectors (used root entries)) layout
-      (same-from_used (layout_of root.sectors (used root entries)) layout (used root entries) (length-map-range_with_len _ 0 root.sectors ∙ sym kept.size) claims kept.claims))
+      let sectors = in_use root entries held in
+      let claims = layout_of-claims root.sectors sectors (λ k d lt. (all_usable kept k d lt).1) in
+      ap sector_count (longest_runs-same (layout_of root.sectors sectors) layout
+      (same-from_used (layout_of root.sectors sectors) layout sectors (length-map-range_with_len _ 0 root.sectors ∙ sym kept.size) claims kept.claimed.claims))
 
--- What a state of version 2 leaves free, and its catalogues once more, are what the layout has free.
-pub free_is : (m : List Sector) (root : Root) (entries : List PlacedEntry) (layout : List Bool) (s : State) → IsKept root entries layout → All IsWhole m → StandsBy Two m root entries s
-    → free root.sectors s + catalogues_for (length entries) ≡ free_count layout
-free_is m root entries layout s kept whole by = omega (
-  arith,
-  taken_is Two m root entries s kept.entries_fit whole by,
-  all_sectors root entries layout kept,
-  catalogues_enough root entries layout kept by.of_version,
-  room_in root.sectors root.list entries by.of_version kept.room,
-)
+  -- What a state of version 2 leaves free beside what is held, and its catalogues once more, are what the layout has free.
+  pub free_is : (m : List Sector) (s : State) → All IsWhole m → StandsBy Two m root entries s
+      → free (root.sectors - length (lone_sectors held)) s + catalogues_for (length entries) ≡ free_count layout
+  free_is m s whole by = omega (
+    arith,
+    taken_is Two m root entries s kept.entries_fit whole by,
+    kept_sectors root entries held layout kept,
+    catalogues_enough by.of_version,
+    room_in (root.sectors - length (lone_sectors held)) root.list entries by.of_version kept.room,
+  )
 
--- A state of version 1 has no room for its catalogues twice exactly where it takes too much by version 2.
-pub old_free_is : (m : List Sector) (root : Root) (entries : List PlacedEntry) (layout : List Bool) (s : State) → IsKept root entries layout → All IsWhole m → StandsBy One m root entries s
-    → (free_count layout < 2 * catalogues_for (length entries)) ↔ (root.sectors < root_sectors + taken_by s)
-old_free_is m root entries layout s kept whole by =
-    let taken = taken_is One m root entries s kept.entries_fit whole by in
-    let all = all_sectors root entries layout kept in
-    let none : length (catalogues_of root) ≡ 0 = ap length (none_in root.list by.of_version) in
-    (λ lt. omega (arith, lt, taken, all, none), λ lt. omega (arith, lt, taken, all, none))
+  -- Where nothing is held, a state of version 1 has no room for its catalogues twice exactly where it takes too much by version 2.
+  pub old_free_is : held ≡ [] → (m : List Sector) (s : State) → All IsWhole m → StandsBy One m root entries s
+      → (free_count layout < 2 * catalogues_for (length entries)) ↔ (root.sectors < root_sectors + taken_by s)
+  old_free_is unheld m s whole by =
+      let taken = taken_is One m root entries s kept.entries_fit whole by in
+      let all = kept_sectors root entries held layout kept in
+      let no_catalogues : length (catalogues_of root) ≡ 0 = ap length (none_in root.list by.of_version) in
+      let alone : length (lone_sectors held) ≡ 0 = ap (λ l. length (lone_sectors l)) unheld in
+      (λ lt. omega (arith, lt, taken, all, no_catalogues, alone), λ lt. omega (arith, lt, taken, all, no_catalogues, alone))
 
 pub if_no : {A : Type 0} (b : Bool) (x y : A) → (b ≡ true → ⊥) → (if b then x else y) ≡ y
 if_no true x y isnt = absurd (isnt refl)
@@ -195,11 +196,11 @@ module _ (sectors : ℕ) (s : State) where
       ∙ if_no (nat_lt sectors (root_sectors + taken_by s)) _ _ (λ is. omega (arith, ltb-true sectors (root_sectors + taken_by s) is, room))
 
 -- What is known of the state before a change of version 2, by what the store keeps.
-pub record IsCounted (root : Root) (entries : List PlacedEntry) (layout : List Bool) (s : State) : Type 0 where
+pub record IsCounted (root : Root) (entries : List PlacedEntry) (held : List Holding) (layout : List Bool) (s : State) : Type 0 where
   pub generation : s.generation ≡ root.generation
   pub count : length s.libraries ≡ length entries
-  pub room : free root.sectors s + catalogues_for (length entries) ≡ free_count layout
-  pub longest : sector_count (longest_runs (layout_of root.sectors (used root entries))) ≡ sector_count (longest_runs layout)
+  pub room : free (root.sectors - length (lone_sectors held)) s + catalogues_for (length entries) ≡ free_count layout
+  pub longest : sector_count (longest_runs (layout_of root.sectors (in_use root entries held))) ≡ sector_count (longest_runs layout)
 
 module _ {D : Type 0} (facts : D → DiskFacts) (holds : (disk : D) → IsTrue (facts disk).honest → HoldsNow (facts disk)) (whole : (disk : D) → IsTrue (facts disk).honest → HasWholeSectors (facts disk)) where
   module _ {version : Version} {store : Opened D} {s : State} (at : IsAtBy version facts store s) where
@@ -216,21 +217,21 @@ module _ {D : Type 0} (facts : D → DiskFacts) (holds : (disk : D) → IsTrue (
     count_of = ap (λ t. length t.libraries) by.is ∙ length-libraries (facts store.disk).now store.entries
 
   -- the view of a store is the store
-  module _ {store view : Opened D} {layout : List Bool} {s : State} (is : view ≡ store) (kept : IsKept view.root view.entries layout) where
-    pub facts_of : IsAtBy Two facts store s → IsCounted view.root view.entries layout s
+  module _ {store view : Opened D} {layout : List Bool} {s : State} (is : view ≡ store) (kept : IsKept view.root view.entries view.held layout) where
+    pub facts_of : IsAtBy Two facts store s → IsCounted view.root view.entries view.held layout s
     facts_of at_store =
         let at : IsAtBy Two facts view s = subst (λ o. IsAtBy Two facts o s) (sym is) at_store in
         record {
           generation = generation_of at;
           count = count_of at;
-          room = free_is (facts view.disk).now view.root view.entries layout s kept (whole_now at) (by at);
-          longest = longest_is view.root view.entries layout kept;
+          room = free_is view.root view.entries view.held layout kept (facts view.disk).now s (whole_now at) (by at);
+          longest = longest_is view.root view.entries view.held layout kept;
         }
 
-    pub old_facts_of : IsAtBy One facts store s → (free_count layout < 2 * catalogues_for (length view.entries)) ↔ (view.root.sectors < root_sectors + taken_by s)
-    old_facts_of at_store =
+    pub old_facts_of : view.held ≡ [] → IsAtBy One facts store s → (free_count layout < 2 * catalogues_for (length view.entries)) ↔ (view.root.sectors < root_sectors + taken_by s)
+    old_facts_of unheld at_store =
         let at : IsAtBy One facts view s = subst (λ o. IsAtBy One facts o s) (sym is) at_store in
-        old_free_is (facts view.disk).now view.root view.entries layout s kept (whole_now at) (by at)
+        old_free_is view.root view.entries view.held layout kept unheld (facts view.disk).now s (whole_now at) (by at)
 
 -- What `take_room` says of a layout by its result, where it needs so many sectors for bytes and so many in all.
 pub record Takes {T : Type 0} (layout : List Bool) (sectors all : ℕ) (result : Result T TakeRefusal) : Type 0 where
@@ -238,18 +239,18 @@ pub record Takes {T : Type 0} (layout : List Bool) (sectors all : ℕ) (result :
   pub fragmented : (result ≡ Err take.Fragmented) ↔ ((all ≤ free_count layout) × (sector_count (longest_runs layout) < sectors))
 
 -- The first refusal of bytes that replace others, or are put behind them, by what `take_room` says.
-module _ {D : Type 0} {store view : Opened D} {layout : List Bool} {s : State} (is : view ≡ store) (counted : IsCounted view.root view.entries layout s) (bytes : List ℕ) (usable : view.root.generation ≢ last_generation) where
+module _ {D : Type 0} {store view : Opened D} {layout : List Bool} {s : State} (is : view ≡ store) (counted : IsCounted view.root view.entries view.held layout s) (bytes : List ℕ) (usable : view.root.generation ≢ last_generation) where
   usable_state : s.generation ≢ last_generation
   usable_state last = usable (sym counted.generation ∙ last)
 
   module _ {T : Type 0} {sectors all : ℕ} {result : Result T TakeRefusal} (more : ℕ) (need : sectors ≡ div_ceil (length bytes) 512) (enough : all ≡ cost (length bytes) + more + catalogues_for (length view.entries)) (takes : Takes layout sectors all result) where
-    full_is : (result ≡ Err take.Full) ↔ (free view.root.sectors s < cost (length bytes) + more)
+    full_is : (result ≡ Err take.Full) ↔ (free (room_of view) s < cost (length bytes) + more)
     full_is = (
       λ of. omega (arith, takes.full.0 of, counted.room, enough),
       λ lt. takes.full.1 (omega (arith, lt, counted.room, enough)),
     )
 
-    fragmented_is : (result ≡ Err take.Fragmented) ↔ ((cost (length bytes) + more ≤ free view.root.sectors s) × (longest_free view < cost (length bytes) - 1))
+    fragmented_is : (result ≡ Err take.Fragmented) ↔ ((cost (length bytes) + more ≤ free (room_of view) s) × (longest_free view < cost (length bytes) - 1))
     fragmented_is = (
       λ of. let both = takes.fragmented.0 of in (omega (arith, both.0, counted.room, enough), omega (arith, both.1, counted.longest, need)),
       λ both. takes.fragmented.1 (omega (arith, both.0, counted.room, enough), omega (arith, both.1, counted.longest, need)),
@@ -260,28 +261,28 @@ module _ {D : Type 0} {store view : Opened D} {layout : List Bool} {s : State} (
       over_enough : sectors + 1 + count + spare ≡ cost (length bytes) + 0 + catalogues_for (length view.entries)
       over_enough = omega (arith, need, same, none)
 
-      pub over_refused : {T : Type 0} (e : TakeRefusal) → Takes {T = T} layout sectors (sectors + 1 + count + spare) (Err e) → refusal_of_put store.root.sectors (longest_free store) s bytes ≡ Some (refusal_of_take e)
-      over_refused e takes = subst (λ o. refusal_of_put o.root.sectors (longest_free o) s bytes ≡ Some (refusal_of_take e)) is
-          (bytes_refused view.root.sectors (longest_free view) 0 s bytes usable_state e (full_is 0 need over_enough takes) (fragmented_is 0 need over_enough takes))
+      pub over_refused : {T : Type 0} (e : TakeRefusal) → Takes {T = T} layout sectors (sectors + 1 + count + spare) (Err e) → refusal_of_put (room_of store) (longest_free store) s bytes ≡ Some (refusal_of_take e)
+      over_refused e takes = subst (λ o. refusal_of_put (room_of o) (longest_free o) s bytes ≡ Some (refusal_of_take e)) is
+          (bytes_refused (room_of view) (longest_free view) 0 s bytes usable_state e (full_is 0 need over_enough takes) (fragmented_is 0 need over_enough takes))
 
-      pub over_taken : {T : Type 0} {x : T} → Takes layout sectors (sectors + 1 + count + spare) (Ok x) → refusal_of_put store.root.sectors (longest_free store) s bytes ≡ None
-      over_taken {x = x} takes = subst (λ o. refusal_of_put o.root.sectors (longest_free o) s bytes ≡ None) is
-          (bytes_taken view.root.sectors (longest_free view) 0 s bytes usable_state x (full_is 0 need over_enough takes) (fragmented_is 0 need over_enough takes))
+      pub over_taken : {T : Type 0} {x : T} → Takes layout sectors (sectors + 1 + count + spare) (Ok x) → refusal_of_put (room_of store) (longest_free store) s bytes ≡ None
+      over_taken {x = x} takes = subst (λ o. refusal_of_put (room_of o) (longest_free o) s bytes ≡ None) is
+          (bytes_taken (room_of view) (longest_free view) 0 s bytes usable_state x (full_is 0 need over_enough takes) (fragmented_is 0 need over_enough takes))
 
     module _ (few : length view.entries < most_libraries) (more : count ≡ catalogues_for (length view.entries + 1)) (rest : spare ≡ count - catalogues_for (length view.entries)) where
       new_enough : sectors + 1 + count + spare ≡ cost (length bytes) + catalogue_cost (length s.libraries) + catalogues_for (length view.entries)
       new_enough = omega (arith, need, more, rest, counted.count)
 
-      first_is : refusal_of_new view.root.sectors (longest_free view) s bytes ≡ refusal_of_bytes view.root.sectors (longest_free view) (catalogue_cost (length s.libraries)) s bytes
-      first_is = new_as_put view.root.sectors (longest_free view) s bytes (omega (arith, few, counted.count))
+      first_is : refusal_of_new (room_of view) (longest_free view) s bytes ≡ refusal_of_bytes (room_of view) (longest_free view) (catalogue_cost (length s.libraries)) s bytes
+      first_is = new_as_put (room_of view) (longest_free view) s bytes (omega (arith, few, counted.count))
 
-      pub new_refused : {T : Type 0} (e : TakeRefusal) → Takes {T = T} layout sectors (sectors + 1 + count + spare) (Err e) → refusal_of_new store.root.sectors (longest_free store) s bytes ≡ Some (refusal_of_take e)
-      new_refused e takes = subst (λ o. refusal_of_new o.root.sectors (longest_free o) s bytes ≡ Some (refusal_of_take e)) is
-          (first_is ∙ bytes_refused view.root.sectors (longest_free view) (catalogue_cost (length s.libraries)) s bytes usable_state e (full_is (catalogue_cost (length s.libraries)) need new_enough takes) (fragmented_is (catalogue_cost (length s.libraries)) need new_enough takes))
+      pub new_refused : {T : Type 0} (e : TakeRefusal) → Takes {T = T} layout sectors (sectors + 1 + count + spare) (Err e) → refusal_of_new (room_of store) (longest_free store) s bytes ≡ Some (refusal_of_take e)
+      new_refused e takes = subst (λ o. refusal_of_new (room_of o) (longest_free o) s bytes ≡ Some (refusal_of_take e)) is
+          (first_is ∙ bytes_refused (room_of view) (longest_free view) (catalogue_cost (length s.libraries)) s bytes usable_state e (full_is (catalogue_cost (length s.libraries)) need new_enough takes) (fragmented_is (catalogue_cost (length s.libraries)) need new_enough takes))
 
-      pub new_taken : {T : Type 0} {x : T} → Takes layout sectors (sectors + 1 + count + spare) (Ok x) → refusal_of_new store.root.sectors (longest_free store) s bytes ≡ None
-      new_taken {x = x} takes = subst (λ o. refusal_of_new o.root.sectors (longest_free o) s bytes ≡ None) is
-          (first_is ∙ bytes_taken view.root.sectors (longest_free view) (catalogue_cost (length s.libraries)) s bytes usable_state x (full_is (catalogue_cost (length s.libraries)) need new_enough takes) (fragmented_is (catalogue_cost (length s.libraries)) need new_enough takes))
+      pub new_taken : {T : Type 0} {x : T} → Takes layout sectors (sectors + 1 + count + spare) (Ok x) → refusal_of_new (room_of store) (longest_free store) s bytes ≡ None
+      new_taken {x = x} takes = subst (λ o. refusal_of_new (room_of o) (longest_free o) s bytes ≡ None) is
+          (first_is ∙ bytes_taken (room_of view) (longest_free view) (catalogue_cost (length s.libraries)) s bytes usable_state x (full_is (catalogue_cost (length s.libraries)) need new_enough takes) (fragmented_is (catalogue_cost (length s.libraries)) need new_enough takes))
 
 -- The answers that follow: what was refused,
 pub exactly_refused : {first : Option StoreRefusal} (e : TakeRefusal) (result : Result (Unit {0}) StoreRefusal) → first ≡ Some (refusal_of_take e) → IsErrAnd result (λ y. y ≡ refusal_of_take e) → IsExactAnswer first result

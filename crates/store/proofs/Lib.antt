@@ -1,4 +1,5 @@
 pub mod Anew
+pub mod Beside
 pub mod Broken
 pub mod CatalogueParts
 pub mod CatalogueReads
@@ -12,6 +13,11 @@ pub mod First
 pub mod Following
 pub mod Frees
 pub mod Given
+pub mod GivenUp
+pub mod Handles
+pub mod HeldRows
+pub mod Holders
+pub mod Holdings
 pub mod Libraries
 pub mod Listings
 pub mod NameIndex
@@ -33,6 +39,7 @@ pub mod Replacements
 pub mod Rooms
 pub mod Staging
 pub mod StandsLemmas
+pub mod SwapRemoves
 pub mod Taking
 pub mod Untouched
 pub mod Upgrades

@@ -26,6 +26,8 @@ use Rattle.states.specs.State.{Library, State}
 use Rattle.store.specs.declared.placed_entry.PlacedEntry.{PlacedEntry}
 use Rattle.store.specs.Stands.{HasRoom, HaveOwnNames, catalogues_of, entry_sectors, name_of, extents_of, sectors_of, used, library_of, no_library, names_at}
 use Rattle.store.specs.inside.Claimed.{IsClaimedBeside, IsUsable}
+use Rattle.store.specs.declared.holding.Holding.{Holding}
+use Rattle.store.specs.Held.{lone_sectors}
 use Rattle.store.specs.inside.Kept.{IsKept}
 use Rattle.store.specs.inside.Next.{IsNext, IsPut, next_root}
 use Rattle.store.specs.inside.Room.{HasPlace}
@@ -34,12 +36,12 @@ use Rattle.store.proofs.Counts.{occurs, occurs-append}
 use Rattle.store.proofs.Following.{following_stands}
 use Rattle.store.proofs.Frees.{ok_or_err}
 use Rattle.store.proofs.Libraries.{length-libraries}
-use Rattle.store.proofs.Rooms.{counted_sectors}
+use Rattle.store.proofs.Rooms.{kept_sectors}
 use Rattle.store.proofs.Written.{written_bytes}
 
 -- One more entry, in room that was claimed for it and for the catalogues of the list with it, and the root that follows.
-pub record IsNew (root : Root) (entries : List PlacedEntry) (old new : List Bool) (catalogues : List ℕ) (put : PlacedEntry) (next : Root) : Type 0 where
-  pub kept : IsKept root entries old
+pub record IsNew (root : Root) (entries : List PlacedEntry) (held : List Holding) (old new : List Bool) (catalogues : List ℕ) (put : PlacedEntry) (next : Root) : Type 0 where
+  pub kept : IsKept root entries held old
   pub claimed : IsClaimedBeside old new (sectors_of put ++ catalogues)
   pub fits : EntryHasSpelling put.entry
   pub named : All (λ other. name_of other.entry ≢ name_of put.entry) entries
@@ -54,7 +56,7 @@ pub free_room : {T : Type 0} {x : T} {free needed : ℕ} → (◌≡◌ {A = Res
 free_room {free = free} {needed = needed} full = ⊎_elim (λ few. absurd (ok_or_err (full.1 few))) (λ enough. enough) (cases_lt free needed)
 
 -- An entry and catalogues in room that was claimed for them have their places.
-pub room_place : {root : Root} {entries : List PlacedEntry} {layout new : List Bool} {catalogues : List ℕ} {put : PlacedEntry} {extents : List Extent} {n : ℕ} → IsKept root entries layout → IsClaimedBeside layout new (sectors_of put ++ catalogues) → EntryHasSpelling put.entry
+pub room_place : {root : Root} {entries : List PlacedEntry} {held : List Holding} {layout new : List Bool} {catalogues : List ℕ} {put : PlacedEntry} {extents : List Extent} {n : ℕ} → IsKept root entries held layout → IsClaimedBeside layout new (sectors_of put ++ catalogues) → EntryHasSpelling put.entry
     → extents_of put.entry ≡ extents → All (IsOnDisk (length layout)) extents → AllPairs IsApart extents → n ≡ root.sectors → HasPlace n put catalogues
 room_place {layout = layout} {catalogues = catalogues} {put = put} {extents = extents} {n = n} kept claimed fits its inside apart size = record {
   spelling = fits;
@@ -89,8 +91,8 @@ names_at_more libraries library (p ∷ positions) inside =
     let there = names_at_more libraries library positions (λ k d lt. inside (suc k) d (omega (arith, lt))) in
     λ i. (here i).name ∷ there i
 
-module _ {root : Root} {entries : List PlacedEntry} {layout new : List Bool} {catalogues : List ℕ} {put : PlacedEntry} {next : Root} (is_new : IsNew root entries layout new catalogues put next) where
-  kept : IsKept root entries layout
+module _ {root : Root} {entries : List PlacedEntry} {held : List Holding} {layout new : List Bool} {catalogues : List ℕ} {put : PlacedEntry} {next : Root} (is_new : IsNew root entries held layout new catalogues put next) where
+  kept : IsKept root entries held layout
   kept = is_new.kept
 
   abbrev others : List PlacedEntry
@@ -120,14 +122,16 @@ module _ {root : Root} {entries : List PlacedEntry} {layout new : List Bool} {ca
     );
   }
 
-  room_is : HasRoom root.sectors next.list others
-  room_is = subst (λ r. HasRoom root.sectors r.list others) (sym is_new.is_next)
+  -- there is room for the new bytes, beside what is held
+  pub new_room : (sectors : ℕ) → root.sectors ≤ sectors + length (lone_sectors held) → HasRoom sectors next.list others
+  new_room sectors enough = subst (λ r. HasRoom sectors r.list others) (sym is_new.is_next)
       (omega (
         arith,
-        counted_sectors layout root entries kept.root_fits kept.entries_fit kept.counted kept.size kept.apart kept.claims,
+        kept_sectors root entries held layout kept,
         is_new.room,
         is_new.enough,
         count_is,
+        enough,
         sum_by_push (λ (p : PlacedEntry). cost p.entry.file_length) entries put,
       ))
 
@@ -139,7 +143,7 @@ module _ {root : Root} {entries : List PlacedEntry} {layout new : List Bool} {ca
     enough = is_new.enough ∙ ap catalogues_for (sym count_is);
     fit = All-push (λ (p : PlacedEntry). EntryHasSpelling p.entry) entries put kept.entries_fit is_new.fits;
     apart = moved_apart kept is_new.claimed next others new_moved;
-    room = room_is;
+    room = new_room root.sectors (omega arith);
     names = names_more entries put kept.names is_new.named;
     few_preloads = omega (arith, length-take-le root.preload_count root.preloads (omega (arith, kept.root_fits.preloads.listed.size, kept.root_fits.preloads.listed.room)), kept.root_fits.preloads.listed.room);
     preloads_inside = λ k d lt. omega (arith, kept.root_fits.preloads.listed.used k d lt, kept.counted, count_is);

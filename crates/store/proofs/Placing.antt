@@ -12,8 +12,10 @@ use Rattle.roots.specs.declared.root.Root.{Root}
 use Rattle.roots.specs.Entry.{IsDataExtent}
 use Rattle.store.specs.declared.placed_entry.PlacedEntry.{PlacedEntry}
 use Rattle.store.specs.Taken.{AreTaken, IsTaken}
-use Rattle.store.specs.Stands.{used}
+use Rattle.store.specs.declared.holding.Holding.{Holding}
+use Rattle.store.specs.Held.{in_use}
 use Rattle.store.specs.inside.Kept.{IsKept}
+use Rattle.store.proofs.Anew.{all_usable}
 
 back : {a b : List Bool} → ClaimsSame a b → ClaimsSame b a
 back same = record { size = sym same.size; each = λ s. ((same.each s).1, (same.each s).0) }
@@ -46,48 +48,51 @@ singles_same (k ∷ ks) a b same taken = (
   singles_same ks (with_flag true (one_sector k) a) (with_flag true (one_sector k) b) (same_more a b k same taken.0.0) taken.1,
 )
 
-module _ (root : Root) (entries : List PlacedEntry) (layout : List Bool) (kept : IsKept root entries layout) where
-  abbrev pub in_use : List Bool
-  in_use = layout_of root.sectors (used root entries)
+module _ (root : Root) (entries : List PlacedEntry) (held : List Holding) (layout : List Bool) (kept : IsKept root entries held layout) where
+  abbrev sectors_in_use : List ℕ
+  sectors_in_use = in_use root entries held
 
-  size : length layout ≡ length in_use
+  abbrev pub in_layout : List Bool
+  in_layout = layout_of root.sectors sectors_in_use
+
+  size : length layout ≡ length in_layout
   size = kept.size ∙ sym (length-map-range_with_len _ 0 root.sectors)
 
-  claims : ClaimsJust in_use (used root entries)
-  claims = layout_of-claims root.sectors (used root entries) (λ k d lt. (kept.apart.inside k d lt).1)
+  claims : ClaimsJust in_layout sectors_in_use
+  claims = layout_of-claims root.sectors sectors_in_use (λ k d lt. (all_usable kept k d lt).1)
 
-  same : ClaimsSame layout in_use
-  same = same-from_used layout in_use (used root entries) size kept.claims claims
+  same : ClaimsSame layout in_layout
+  same = same-from_used layout in_layout sectors_in_use size kept.claimed.claims claims
 
   -- the same once these extents are taken
-  same_taken : (extents : List Extent) → All (IsInside layout) extents → ClaimsSame (with_flags true extents layout) (with_flags true extents in_use)
+  same_taken : (extents : List Extent) → All (IsInside layout) extents → ClaimsSame (with_flags true extents layout) (with_flags true extents in_layout)
   same_taken extents inside =
-      let there : All (IsInside in_use) extents = λ k d lt. let i = inside k d lt in (i.0, i.1, omega (arith, i.2, size)) in
-      same-from_used (with_flags true extents layout) (with_flags true extents in_use) (places extents ++ used root entries)
-      (length-with_flags true extents layout inside ∙ size ∙ sym (length-with_flags true extents in_use there))
-      (claims-take layout (used root entries) extents inside kept.claims)
-      (claims-take in_use (used root entries) extents there claims)
+      let there : All (IsInside in_layout) extents = λ k d lt. let i = inside k d lt in (i.0, i.1, omega (arith, i.2, size)) in
+      same-from_used (with_flags true extents layout) (with_flags true extents in_layout) (places extents ++ sectors_in_use)
+      (length-with_flags true extents layout inside ∙ size ∙ sym (length-with_flags true extents in_layout there))
+      (claims-take layout sectors_in_use extents inside kept.claimed.claims)
+      (claims-take in_layout sectors_in_use extents there claims)
 
   -- What is taken of the layout that is kept is taken of the sectors in use.
-  pub singles_in_use : (ks : List ℕ) → AreTaken layout ks → AreTaken in_use ks
-  singles_in_use ks taken = singles_same ks layout in_use same taken
+  pub singles_in_use : (ks : List ℕ) → AreTaken layout ks → AreTaken in_layout ks
+  singles_in_use ks taken = singles_same ks layout in_layout same taken
 
-  pub taken_in_use : (need : ℕ) (extents : List Extent) (at : ℕ) (catalogues : List ℕ) → All (IsInside layout) extents → IsTaken layout need extents at catalogues → IsTaken in_use need extents at catalogues
+  pub taken_in_use : (need : ℕ) (extents : List Extent) (at : ℕ) (catalogues : List ℕ) → All (IsInside layout) extents → IsTaken layout need extents at catalogues → IsTaken in_layout need extents at catalogues
   taken_in_use need extents at catalogues inside taken =
       let then = same_taken extents inside in
       record {
-        bytes = taken.bytes ∙ taken-same need layout in_use same;
-        entry = lowest_same (with_flags true extents layout) (with_flags true extents in_use) at then taken.entry;
-        listed = singles_same catalogues (with_flag true (one_sector at) (with_flags true extents layout)) (with_flag true (one_sector at) (with_flags true extents in_use))
-            (same_more (with_flags true extents layout) (with_flags true extents in_use) at then taken.entry.0) taken.listed;
+        bytes = taken.bytes ∙ taken-same need layout in_layout same;
+        entry = lowest_same (with_flags true extents layout) (with_flags true extents in_layout) at then taken.entry;
+        listed = singles_same catalogues (with_flag true (one_sector at) (with_flags true extents layout)) (with_flag true (one_sector at) (with_flags true extents in_layout))
+            (same_more (with_flags true extents layout) (with_flags true extents in_layout) at then taken.entry.0) taken.listed;
       }
 
   -- The same by other words for what was needed and given.
   pub taken_so : {need n at here : ℕ} {extents its : List Extent} {catalogues listed : List ℕ} → need ≡ n → its ≡ extents → here ≡ at → listed ≡ catalogues → All IsDataExtent extents → All (IsOnDisk (length layout)) extents
-      → IsTaken layout need extents at catalogues → IsTaken in_use n its here listed
+      → IsTaken layout need extents at catalogues → IsTaken in_layout n its here listed
   taken_so {need = need} {n = n} {at = at} {here = here} {extents = extents} {its = its} {catalogues = catalogues} {listed = listed} so_many are there these filled on_disk taken =
       let inside : All (IsInside layout) extents = λ k d lt. let extent = filled k d lt in (omega (arith, extent.filled), extent.low, on_disk k d lt) in
-      subst (λ l. IsTaken in_use n its here l) (sym these)
-      (subst (λ k. IsTaken in_use n its k catalogues) (sym there)
-      (subst (λ k. IsTaken in_use k its at catalogues) so_many
-      (subst (λ l. IsTaken in_use need l at catalogues) (sym are) (taken_in_use need extents at catalogues inside taken))))
+      subst (λ l. IsTaken in_layout n its here l) (sym these)
+      (subst (λ k. IsTaken in_layout n its k catalogues) (sym there)
+      (subst (λ k. IsTaken in_layout k its at catalogues) so_many
+      (subst (λ l. IsTaken in_layout need l at catalogues) (sym are) (taken_in_use need extents at catalogues inside taken))))

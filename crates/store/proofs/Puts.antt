@@ -4,7 +4,7 @@ use Rattle.std.specs.Prelude.{Contains}
 use Rattle.std.proofs.lemmas.List.{length-set, get_or-set_same, get_or-set_other}
 use Rattle.std.specs.List.{flat_map}
 use Rattle.std.proofs.lemmas.List.Elements.{All-contains, Contains-append_left, Contains-append_right}
-use Rattle.sector_disk.specs.Disk.{Sector, sector, DiskFacts, Mixture, HoldsNow, IsSynced, LeavesOnly, IsMixtureBut, IsMixtureOrSet}
+use Rattle.sector_disk.specs.Disk.{Sector, sector, DiskFacts, Mixture, HoldsNow, IsSynced, LeavesOnly, SameBut, IsMixtureBut, IsMixtureOrSet}
 use Rattle.sector_disk.proofs.Moments.{goes_on, weaken, left_now}
 use Rattle.extents.specs.Limits.{root_sectors}
 use Rattle.roots.specs.declared.root.Root.{Root}
@@ -18,6 +18,7 @@ use Rattle.roots.specs.declared.version.Version.{Version}
 use Rattle.roots.specs.declared.version.Version.TheVariants.{Two}
 use Rattle.store.specs.Stands.{IsListed, UsesApart, HasRoom, HaveOwnNames, StandsBy, StandsAs, Stands, entry_sectors, library_of, names_at, catalogues_of, sectors_of, used, state_of}
 use Rattle.store.specs.inside.Next.{IsFollowed}
+use Rattle.store.specs.inside.Room.{IsRootOr}
 use Rattle.store.proofs.UsedAlone.{same_used, libraries_same, listed_same, own_used}
 
 module _ (m : List Sector) (root next : Root) (others : List PlacedEntry) (fits : RootHasSpelling next) (follows : next.generation ≡ root.generation + 1) (size : next.sectors ≡ length m) (some : root_sectors ≤ length m) (keeps : KeepsVersion root next) where
@@ -132,3 +133,30 @@ module _ (version : Version) {old : DiskFacts} (root : Root) (entries : List Pla
 pub ok_both : {T E P Q R : Type 0} (result : Result T E) → (P → Q → R) → OnOk result P → OnOk result Q → OnOk result R
 ok_both (Ok x) to p q = to p q
 ok_both (Err e) to p q = tt
+
+-- a root's sector is set in what differs elsewhere in these alone
+set_others : (changed : List ℕ) {first m' m : List Sector} (at : ℕ) (content : Sector) → at < 2 → SameBut (IsRootOr changed) first m' → m ≡ set m' at content → SameBut (IsRootOr changed) first m
+set_others changed {m' = m'} at content low same is = record {
+  size = ap length is ∙ length-set m' at content ∙ same.size;
+  others = λ k other. ap (λ l. sector l k) is ∙ get_or-set_other m' at k content [] (λ here. other (inl (omega (arith, here, low)))) ∙ same.others k other;
+}
+
+-- What is staged, and then committed, changes no sector but the staged ones and the roots'.
+module _ {old mid : DiskFacts} (changed : List ℕ) (staged : LeavesOnly old mid (IsMixtureBut (Contains changed) old)) where
+  pub staged_others : (m : List Sector) → Mixture mid m → IsMixtureBut (IsRootOr changed) old m
+  staged_others m mixture =
+      let but = left_now (IsMixtureBut (Contains changed) old) staged m mixture in
+      (but.0, but.1, record { size = but.2.size; others = λ k other. but.2.others k (λ here. other (inr here)) })
+
+  pub committed_others : {new : DiskFacts} (at : ℕ) (content : Sector) → at < 2 → LeavesOnly mid new (IsMixtureOrSet mid at content) → (m : List Sector) → Mixture new m → IsMixtureBut (IsRootOr changed) old m
+  committed_others at content low committed m mixture = ⊎_elim
+      (λ before. staged_others m before)
+      (λ newer. let but = staged_others newer.0 newer.1 in (but.0, but.1, set_others changed at content low but.2 newer.2))
+      (left_now (IsMixtureOrSet mid at content) committed m mixture)
+
+-- What is committed alone changes no sector but the roots'.
+pub root_others : {old new : DiskFacts} (at : ℕ) (content : Sector) → at < 2 → LeavesOnly old new (IsMixtureOrSet old at content) → (m : List Sector) → Mixture new m → IsMixtureBut (IsRootOr []) old m
+root_others {old = old} at content low committed m mixture = ⊎_elim
+    (λ before. (m, before, record { size = refl; others = λ k other. refl }))
+    (λ newer. (newer.0, newer.1, set_others [] at content low (record { size = refl; others = λ k other. refl }) newer.2))
+    (left_now (IsMixtureOrSet old at content) committed m mixture)

@@ -18,13 +18,15 @@ use Rattle.store.specs.Stands.{HasRoom, catalogues_in, catalogues_of, entry_sect
 use Rattle.store.specs.Taken.{AreTaken}
 use Rattle.store.specs.Upgraded.{upgraded}
 use Rattle.store.specs.inside.Claimed.{IsClaimedBeside}
+use Rattle.store.specs.declared.holding.Holding.{Holding}
+use Rattle.store.specs.Held.{in_use, lone_sectors}
 use Rattle.store.specs.inside.Kept.{IsKept}
 use Rattle.store.specs.inside.Next.{IsNext, IsRelisting, next_root}
 use Rattle.store.proofs.Anew.{IsMoved, more_unused, moved_apart}
 use Rattle.store.proofs.Counts.{occurs, occurs-append}
 use Rattle.store.proofs.Following.{following_stands}
 use Rattle.store.proofs.Placing.{singles_in_use}
-use Rattle.store.proofs.Rooms.{counted_sectors}
+use Rattle.store.proofs.Rooms.{kept_sectors}
 
 -- a root of version 1 has no catalogues,
 pub none_in : (list : EntryList) → version_of_list list ≡ One → catalogues_in list ≡ []
@@ -37,8 +39,8 @@ few_old libraries disk (InRoot sectors) is fits = fits.listed.room
 few_old libraries disk (InCatalogues count listed) is fits = absurd (cc is)
 
 -- Catalogues were claimed for the entries that a root of version 1 lists, and the next root lists these.
-pub record IsRelist (root : Root) (entries : List PlacedEntry) (layout mid : List Bool) (catalogues : List ℕ) (next : Root) : Type 0 where
-  pub kept : IsKept root entries layout
+pub record IsRelist (root : Root) (entries : List PlacedEntry) (held : List Holding) (layout mid : List Bool) (catalogues : List ℕ) (next : Root) : Type 0 where
+  pub kept : IsKept root entries held layout
   pub one : version_of root ≡ One
   pub claimed : IsClaimedBeside layout mid catalogues
   pub enough : length catalogues ≡ catalogues_for (length entries)
@@ -46,7 +48,7 @@ pub record IsRelist (root : Root) (entries : List PlacedEntry) (layout mid : Lis
   pub later : root.generation + 1 < 2 ^ 64
   pub is_next : next ≡ next_root root (length entries) catalogues (listed_preloads root)
 
-module _ {root : Root} {entries : List PlacedEntry} {layout mid : List Bool} {catalogues : List ℕ} {next : Root} (is : IsRelist root entries layout mid catalogues next) where
+module _ {root : Root} {entries : List PlacedEntry} {held : List Holding} {layout mid : List Bool} {catalogues : List ℕ} {next : Root} (is : IsRelist root entries held layout mid catalogues next) where
   none : catalogues_of root ≡ []
   none = none_in root.list is.one
 
@@ -66,6 +68,11 @@ module _ {root : Root} {entries : List PlacedEntry} {layout mid : List Bool} {ca
     );
   }
 
+  -- there is room for the catalogues twice, beside what is held
+  pub relist_room : (sectors : ℕ) → root.sectors ≤ sectors + length (lone_sectors held) → HasRoom sectors next.list entries
+  relist_room sectors enough = subst (λ r. HasRoom sectors r.list entries) (sym is.is_next)
+      (omega (arith, kept_sectors root entries held layout is.kept, is.free, enough))
+
   pub relist_next : IsNext root entries catalogues (listed_preloads root) next
   relist_next = record {
     is_next = is.is_next;
@@ -74,10 +81,7 @@ module _ {root : Root} {entries : List PlacedEntry} {layout mid : List Bool} {ca
     enough = is.enough;
     fit = is.kept.entries_fit;
     apart = moved_apart is.kept is.claimed next entries relist_moved;
-    room = subst (λ r. HasRoom root.sectors r.list entries) (sym is.is_next) (
-        let all = counted_sectors layout root entries is.kept.root_fits is.kept.entries_fit is.kept.counted is.kept.size is.kept.apart is.kept.claims in
-        omega (arith, all, is.free)
-        );
+    room = relist_room root.sectors (omega arith);
     names = is.kept.names;
     few_preloads =
         let fits = is.kept.root_fits.preloads.listed in
@@ -94,5 +98,5 @@ module _ {root : Root} {entries : List PlacedEntry} {layout mid : List Bool} {ca
   }
 
   -- The catalogues are in sectors that weren't in use.
-  pub relist_taken : AreTaken layout catalogues → AreTaken (layout_of root.sectors (used root entries)) (catalogues_of next)
-  relist_taken taken = subst (AreTaken (layout_of root.sectors (used root entries))) (sym listed) (singles_in_use root entries layout is.kept catalogues taken)
+  pub relist_taken : AreTaken layout catalogues → AreTaken (layout_of root.sectors (in_use root entries held)) (catalogues_of next)
+  relist_taken taken = subst (AreTaken (layout_of root.sectors (in_use root entries held))) (sym listed) (singles_in_use root entries held layout is.kept catalogues taken)

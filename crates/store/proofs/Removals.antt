@@ -23,6 +23,8 @@ use Rattle.states.specs.Changes.{libraries_without, without}
 use Rattle.store.specs.declared.placed_entry.PlacedEntry.{PlacedEntry}
 use Rattle.store.specs.Stands.{HasRoom, catalogues_of, entry_sectors, name_of, sectors_of, used, library_of, no_library, names_at}
 use Rattle.store.specs.inside.Claimed.{IsClaimedBeside}
+use Rattle.store.specs.declared.holding.Holding.{Holding}
+use Rattle.store.specs.Held.{lone_sectors}
 use Rattle.store.specs.inside.Kept.{IsKept}
 use Rattle.store.specs.inside.NameIndex.{closed_up}
 use Rattle.store.specs.inside.Next.{IsNext, IsRelisting, next_root}
@@ -33,7 +35,7 @@ use Rattle.store.proofs.Frees.{if_no, if_yes}
 use Rattle.store.proofs.Libraries.{length-libraries}
 use Rattle.store.proofs.Preloads.{enough_in, few_in, room_in}
 use Rattle.store.proofs.Removed.{drop_none, map_remove, all_remove, closed_inside, closed_apart, at_closed}
-use Rattle.store.proofs.Rooms.{counted_sectors}
+use Rattle.store.proofs.Rooms.{cost_is, kept_sectors}
 use Rattle.store.proofs.UsedAlone.{no_entry}
 
 -- the byte strings without the first of a name are those without its position
@@ -56,18 +58,18 @@ names_closed libraries gone (p ∷ positions) fits others =
     λ i. (here i).name ∷ there i
 
 -- A store of version 2 has room for the catalogues of the next change, and for those of fewer byte strings.
-pub catalogues_fit : (root : Root) (entries : List PlacedEntry) (layout : List Bool) → IsKept root entries layout → version_of root ≡ Two → catalogues_for (length entries) ≤ free_count layout
-catalogues_fit root entries layout kept two = omega (
+pub catalogues_fit : (root : Root) (entries : List PlacedEntry) (held : List Holding) (layout : List Bool) → IsKept root entries held layout → version_of root ≡ Two → catalogues_for (length entries) ≤ free_count layout
+catalogues_fit root entries held layout kept two = omega (
   arith,
-  counted_sectors layout root entries kept.root_fits kept.entries_fit kept.counted kept.size kept.apart kept.claims,
+  kept_sectors root entries held layout kept,
   enough_in root.library_count root.sectors root.list two kept.root_fits.list,
   kept.counted,
-  room_in root.sectors root.list entries two kept.room,
+  room_in (root.sectors - length (lone_sectors held)) root.list entries two kept.room,
 )
 
 -- The entry of a name goes, which is no preload's, and the next root lists the others by catalogues that were claimed.
-pub record IsRemoval (root : Root) (entries : List PlacedEntry) (layout mid : List Bool) (name : List ℕ) (gone : ℕ) (catalogues : List ℕ) (next : Root) : Type 0 where
-  pub kept : IsKept root entries layout
+pub record IsRemoval (root : Root) (entries : List PlacedEntry) (held : List Holding) (layout mid : List Bool) (name : List ℕ) (gone : ℕ) (catalogues : List ℕ) (next : Root) : Type 0 where
+  pub kept : IsKept root entries held layout
   pub two : version_of root ≡ Two
   pub claimed : IsClaimedBeside layout mid catalogues
   pub fits : gone < length entries
@@ -77,8 +79,8 @@ pub record IsRemoval (root : Root) (entries : List PlacedEntry) (layout mid : Li
   pub enough : length catalogues ≡ catalogues_for (length entries - 1)
   pub is_next : next ≡ next_root root (length entries - 1) catalogues (map (closed_up gone) (listed_preloads root))
 
-module _ {root : Root} {entries : List PlacedEntry} {layout mid : List Bool} {name : List ℕ} {gone : ℕ} {catalogues : List ℕ} {next : Root} (removal : IsRemoval root entries layout mid name gone catalogues next) where
-  kept : IsKept root entries layout
+module _ {root : Root} {entries : List PlacedEntry} {held : List Holding} {layout mid : List Bool} {name : List ℕ} {gone : ℕ} {catalogues : List ℕ} {next : Root} (removal : IsRemoval root entries held layout mid name gone catalogues next) where
+  kept : IsKept root entries held layout
   kept = removal.kept
 
   fits : gone < length entries
@@ -116,12 +118,12 @@ module _ {root : Root} {entries : List PlacedEntry} {layout mid : List Bool} {na
     );
   }
 
-  -- there is room for what is left
-  room_left : HasRoom root.sectors next.list left
-  room_left = subst (λ r. HasRoom root.sectors r.list left) (sym removal.is_next) (
-      let room = room_in root.sectors root.list entries removal.two kept.room in
+  -- there is room for what is left, and beside it for what holders keep of the state from before
+  pub removal_room : (sectors : ℕ) → root.sectors ≤ sectors + (length (lone_sectors held) + length (sectors_of old)) → HasRoom sectors next.list left
+  removal_room sectors enough = subst (λ r. HasRoom sectors r.list left) (sym removal.is_next) (
+      let room = room_in (root.sectors - length (lone_sectors held)) root.list entries removal.two kept.room in
       let costs = sum_by-remove (λ (e : PlacedEntry). cost e.entry.file_length) entries gone no_entry fits in
-      omega (arith, room, costs, count_left)
+      omega (arith, room, costs, count_left, enough, cost_is old (kept.entries_fit gone no_entry fits))
       )
 
   positions_fit : length (listed_preloads root) ≤ most_preloads
@@ -137,7 +139,7 @@ module _ {root : Root} {entries : List PlacedEntry} {layout mid : List Bool} {na
     enough = removal.enough ∙ ap catalogues_for count_left;
     fit = all_remove (λ (p : PlacedEntry). EntryHasSpelling p.entry) entries gone kept.entries_fit;
     apart = moved_apart kept removal.claimed next left removal_moved;
-    room = room_left;
+    room = removal_room root.sectors (omega arith);
     names = all_pairs_remove (λ (a b : PlacedEntry). name_of a.entry ≢ name_of b.entry) entries gone fits kept.names;
     few_preloads = omega (arith, length-map (listed_preloads root) (closed_up gone), positions_fit);
     preloads_inside = All-map (λ position. position < length left) (closed_up gone) (listed_preloads root)

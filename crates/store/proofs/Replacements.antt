@@ -22,6 +22,8 @@ use Rattle.states.specs.State.{Library, State}
 use Rattle.store.specs.declared.placed_entry.PlacedEntry.{PlacedEntry}
 use Rattle.store.specs.Stands.{HasRoom, HaveOwnNames, catalogues_of, entry_sectors, name_of, extents_of, sectors_of, used, library_of, no_library, names_at}
 use Rattle.store.specs.inside.Claimed.{IsClaimedBeside}
+use Rattle.store.specs.declared.holding.Holding.{Holding}
+use Rattle.store.specs.Held.{lone_sectors}
 use Rattle.store.specs.inside.Kept.{IsKept}
 use Rattle.store.specs.inside.Next.{IsNext, IsPut, next_root}
 use Rattle.store.proofs.Anew.{IsMoved, more_unused, moved_apart}
@@ -29,7 +31,7 @@ use Rattle.store.proofs.Counts.{occurs, occurs-append, occurs-flat_map}
 use Rattle.store.proofs.Following.{following_stands}
 use Rattle.store.proofs.Frees.{catalogues_enough}
 use Rattle.store.proofs.Preloads.{few_in}
-use Rattle.store.proofs.Rooms.{counted_sectors}
+use Rattle.store.proofs.Rooms.{cost_is, kept_sectors}
 use Rattle.store.proofs.UsedAlone.{no_entry}
 use Rattle.store.proofs.Written.{written_bytes}
 
@@ -81,8 +83,8 @@ libraries_with_is m name bytes (e ∷ entries) (suc place) entry fits before at 
     ∙ ap (λ l. library_of m e ∷ l) (libraries_with_is m name bytes entries place entry (omega (arith, fits)) (λ k d lt. before (suc k) d (omega (arith, lt))) at is)
 
 -- The entry of a name gives its place to another of the name, in room that was claimed for it and for the catalogues of the list.
-pub record IsReplacement (root : Root) (entries : List PlacedEntry) (layout mid : List Bool) (name : List ℕ) (place : ℕ) (catalogues : List ℕ) (put : PlacedEntry) (next : Root) : Type 0 where
-  pub kept : IsKept root entries layout
+pub record IsReplacement (root : Root) (entries : List PlacedEntry) (held : List Holding) (layout mid : List Bool) (name : List ℕ) (place : ℕ) (catalogues : List ℕ) (put : PlacedEntry) (next : Root) : Type 0 where
+  pub kept : IsKept root entries held layout
   pub two : version_of root ≡ Two
   pub claimed : IsClaimedBeside layout mid (sectors_of put ++ catalogues)
   pub fits : EntryHasSpelling put.entry
@@ -94,8 +96,8 @@ pub record IsReplacement (root : Root) (entries : List PlacedEntry) (layout mid 
   pub room : cost put.entry.file_length + length catalogues ≤ free_count layout
   pub is_next : next ≡ next_root root (length entries) catalogues (listed_preloads root)
 
-module _ {root : Root} {entries : List PlacedEntry} {layout mid : List Bool} {name : List ℕ} {place : ℕ} {catalogues : List ℕ} {put : PlacedEntry} {next : Root} (is : IsReplacement root entries layout mid name place catalogues put next) where
-  kept : IsKept root entries layout
+module _ {root : Root} {entries : List PlacedEntry} {held : List Holding} {layout mid : List Bool} {name : List ℕ} {place : ℕ} {catalogues : List ℕ} {put : PlacedEntry} {next : Root} (is : IsReplacement root entries held layout mid name place catalogues put next) where
+  kept : IsKept root entries held layout
   kept = is.kept
 
   abbrev old : PlacedEntry
@@ -130,15 +132,18 @@ module _ {root : Root} {entries : List PlacedEntry} {layout mid : List Bool} {na
     );
   }
 
-  room_is : HasRoom root.sectors next.list others
-  room_is = subst (λ r. HasRoom root.sectors r.list others) (sym is.is_next)
+  -- there is room for the bytes, and beside them for what holders keep of the state from before
+  pub replacement_room : (sectors : ℕ) → root.sectors ≤ sectors + (length (lone_sectors held) + length (sectors_of old)) → HasRoom sectors next.list others
+  replacement_room sectors enough = subst (λ r. HasRoom sectors r.list others) (sym is.is_next)
       (omega (
         arith,
-        counted_sectors layout root entries kept.root_fits kept.entries_fit kept.counted kept.size kept.apart kept.claims,
-        catalogues_enough root entries layout kept is.two,
+        kept_sectors root entries held layout kept,
+        catalogues_enough root entries held layout kept is.two,
         ap catalogues_for size,
         is.room,
         is.enough,
+        enough,
+        cost_is old (kept.entries_fit place no_entry is.inside),
         sum_by-set (λ (e : PlacedEntry). cost e.entry.file_length) entries place put no_entry is.inside,
       ))
 
@@ -150,7 +155,7 @@ module _ {root : Root} {entries : List PlacedEntry} {layout mid : List Bool} {na
     enough = is.enough ∙ ap catalogues_for (sym size);
     fit = All-set (λ (p : PlacedEntry). EntryHasSpelling p.entry) entries place put is.fits kept.entries_fit;
     apart = moved_apart kept is.claimed next others replacement_moved;
-    room = room_is;
+    room = replacement_room root.sectors (omega arith);
     names = names_with entries place put is.inside same_name kept.names;
     few_preloads =
         let fits = kept.root_fits.preloads.listed in

@@ -1,5 +1,5 @@
 -- What a change stages: the places of its single sectors beside those of its bytes.
-use Rattle.std.proofs.Common.{◌≡◌, ℕ, ◌+◌, ◌*◌, ◌<◌, ◌≤◌, List, [], ◌∷◌, ◌++◌, get_or, All, sym, ap, subst, ◌∙◌, arith}
+use Rattle.std.proofs.Common.{◌≡◌, inl, inr, ⊎_elim, ℕ, ◌+◌, ◌*◌, ◌<◌, ◌≤◌, List, [], ◌∷◌, ◌++◌, get_or, All, sym, ap, subst, ◌∙◌, arith}
 use Rattle.std.specs.Prelude.{Contains}
 use Rattle.std.proofs.lemmas.List.{append-nil}
 use Rattle.std.proofs.lemmas.List.Elements.{All-contains, Contains-get_or}
@@ -7,7 +7,7 @@ use Rattle.std.proofs.lemmas.List.Sums.{sum_by-cons}
 use Rattle.extents.specs.declared.extent.Extent.{Extent}
 use Rattle.extents.specs.Limits.{root_sectors}
 use Rattle.extents.specs.Extent.{AreDistinct, places, sector_count}
-use Rattle.sector_disk.specs.Disk.{Sector, sector, sector_bytes}
+use Rattle.sector_disk.specs.Disk.{Sector, sector, sector_bytes, DiskFacts, IsMixtureBut}
 use Rattle.passes.specs.Bytes.{bytes_at, padded}
 use Rattle.passes.specs.Singles.{single_places, HoldsSingles}
 use Rattle.passes.specs.declared.single.SingleSector.{SingleSector}
@@ -19,7 +19,7 @@ use Rattle.store.specs.declared.placed_entry.PlacedEntry.{PlacedEntry}
 use Rattle.store.specs.Stands.{AreCatalogued, extents_of, sectors_of, used}
 use Rattle.store.specs.inside.Claimed.{IsUsable}
 use Rattle.store.specs.inside.Next.{IsFollowed, IsPut, IsRelisting}
-use Rattle.store.specs.inside.Room.{HavePlaces, HasPlace}
+use Rattle.store.specs.inside.Room.{HavePlaces, HasPlace, IsRootOr}
 use Rattle.store.proofs.CataloguedEntries.{all_singles}
 use Rattle.store.proofs.Counts.{one, occurs, occurs-append, contains_occurs, occurs_contains, distinct_occurs, occurs_distinct}
 
@@ -62,6 +62,10 @@ module _ {sectors : ℕ} {put : PlacedEntry} {catalogues : List ℕ} (singles : 
 
   staged_among : (k : ℕ) → Contains (single_places singles ++ places extents) k → Contains all k
   staged_among k found = occurs_contains k all (omega (arith, parts k, occurs-append k (single_places singles) (places extents), contains_occurs k (single_places singles ++ places extents) found))
+
+  -- so a stop finds all but the entry's sectors, the catalogues and the roots as it might have before
+  pub put_others : {disk : DiskFacts} {m : List Sector} → IsMixtureBut (IsRootOr (single_places singles ++ places extents)) disk m → IsMixtureBut (IsRootOr (sectors_of put ++ catalogues)) disk m
+  put_others but = (but.0, but.1, record { size = but.2.size; others = λ k other. but.2.others k (λ here. other (⊎_elim inl (λ found. inr (staged_among k found)) here)) })
 
   pub put_behind : (k : ℕ) → Contains (single_places singles ++ places extents) k → root_sectors ≤ k
   put_behind k found = (All-contains (IsUsable sectors) all k place.inside (staged_among k found)).0

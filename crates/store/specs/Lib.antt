@@ -1,5 +1,8 @@
 pub mod Stands
+pub mod Held
 pub mod Opened
+pub mod Holders
+pub mod Holding
 pub mod Opening
 pub mod Looked
 pub mod Names

@@ -7,6 +7,7 @@ use Rattle.roots.specs.declared.version.Version.{Version}
 use Rattle.store.specs.declared.placed_entry.PlacedEntry.{PlacedEntry}
 use Rattle.store.specs.declared.refusal.StoreRefusal.{StoreRefusal}
 use Rattle.store.specs.declared.refusal.StoreRefusal.TheVariants.{Device, Reopen, OutOfMemory}
+use Rattle.store.specs.Holders.{KeepsHeld}
 use Rattle.store.specs.Opened.{Opened, IsAtBy}
 use Rattle.store.specs.Stands.{no_library}
 use Rattle.states.specs.State.{State}
@@ -20,6 +21,8 @@ pub record ReadsBlob (version : Version) {D : Type 0} (facts : D → DiskFacts) 
   pub same : (s : State) → IsAtBy version facts old s → IsAtBy version facts new s
   -- on any disk: a read that fails doesn't make the store fail
   pub kept : (new.root ≡ old.root) × (new.entries ≡ old.entries) × (new.failed ≡ old.failed)
+  pub table : new.held ≡ old.held
+  pub held : KeepsHeld facts old new
   pub size : (d : PlacedEntry) → IfOk result (λ bytes. length bytes.items ≡ (slice_index_or old.entries position d).entry.file_length)
   pub reopen : (result ≡ Err Reopen) ↔ IsTrue old.failed
   pub refusals : IfErr result (λ e. (e ≡ Device) ⊎ (e ≡ Reopen) ⊎ (e ≡ OutOfMemory))

@@ -5,9 +5,10 @@ use Rattle.extents.specs.declared.extent.Extent.{Extent}
 use Rattle.extents.specs.Extent.{one_sector}
 use Rattle.extents.specs.Layout.{IsLowestFree, with_flag, with_flags}
 use Rattle.extents.specs.Taken.{taken}
+use Rattle.extents.specs.Used.{layout_of}
 use Rattle.store.specs.declared.placed_entry.PlacedEntry.{PlacedEntry}
 use Rattle.store.specs.Opened.{Opened, layout_in_use}
-use Rattle.store.specs.Stands.{name_of, extents_of, catalogues_of}
+use Rattle.store.specs.Stands.{name_of, extents_of, catalogues_of, used}
 
 -- single sectors of this layout are taken: each in its turn is the lowest free one
 abbrev pub AreTaken : List Bool → List ℕ → Type 0
@@ -48,5 +49,5 @@ pub record IsTakenOut {D : Type 0} (old new : Opened D) (name : List ℕ) : Type
 
 -- the same entries are listed by catalogues, which are in sectors that weren't in use
 pub record IsRelisted {D : Type 0} (old new : Opened D) : Type 0 where
-  pub taken : AreTaken (layout_in_use old) (catalogues_of new.root)
+  pub taken : AreTaken (layout_of old.root.sectors (used old.root old.entries)) (catalogues_of new.root)
   pub entries : new.entries ≡ old.entries

@@ -1,9 +1,9 @@
 // What a change writes: what is staged in sectors that nothing uses, and the root that follows.
 ghost use Rattle.std.specs.Prelude.{◌≡◌, ◌+◌, ◌*◌, ◌<◌, ◌≤◌, ◌^◌, ◌⊎◌, ◌++◌, List};
-ghost use Rattle.std.specs.Prelude.{length, All, AllPairs, Contains, IsTrue, OnOk};
+ghost use Rattle.std.specs.Prelude.{[], length, All, AllPairs, Contains, IsTrue, OnOk};
 ghost use Rattle.extents.specs.Extent.{AreDistinct, IsApart, sector_count, places};
 ghost use Rattle.extents.specs.Limits.{root_sectors};
-ghost use Rattle.sector_disk.specs.Disk.{Sector, sector_bytes, Mixture, LeavesOnly};
+ghost use Rattle.sector_disk.specs.Disk.{Sector, sector_bytes, Mixture, IsMixtureBut, LeavesOnly};
 ghost use Rattle.passes.specs.Bytes.{IsOnDisk, bytes_at, padded};
 ghost use Rattle.passes.specs.Calls.{AreCallsInRow};
 ghost use Rattle.passes.specs.Singles.{single_places, HoldsSingles};
@@ -16,7 +16,7 @@ ghost use Rattle.store.specs.declared.placed_entry.PlacedEntry.{PlacedEntry};
 ghost use Rattle.store.specs.Stands.{StandsBy, StandsAs, Stands, used};
 ghost use Rattle.store.specs.inside.Catalogues.{CanBeCatalogued};
 ghost use Rattle.store.specs.inside.Next.{IsFollowed, IsRelisting};
-ghost use Rattle.store.specs.inside.Room.{HavePlaces};
+ghost use Rattle.store.specs.inside.Room.{HavePlaces, IsRootOr};
 
 use crate::catalogues::catalogue_singles;
 use extents::Extent;
@@ -68,6 +68,11 @@ pub(crate) fn write_change<D: Disk>(
         × HoldsSingles m singles.now) root.now others s'
         → OnOk result ((m : List Sector) → Mixture (D.facts disk.new) m
         → StandsBy Two m root.now others s') }
+
+    // A stop finds each other sector as it might have been found before.
+    ensures others { IsTrue (D.facts disk.old).honest
+        → (m : List Sector) → Mixture (D.facts disk.new) m
+        → IsMixtureBut (IsRootOr (single_places singles.now ++ places extents.now)) (D.facts disk.old) m }
 {
     stage(disk, extents, bytes, singles)?;
     commit(disk, slot_of(root.generation), &encode_root(root))
@@ -102,6 +107,11 @@ pub(crate) fn write_list<D: Disk>(
         → IsRelisting version before entries s catalogues.now sectors.now root.now others s'
         → OnOk result ((m : List Sector) → Mixture (D.facts disk.new) m
         → StandsBy Two m root.now others s') }
+
+    // A stop finds each other sector as it might have been found before.
+    ensures others { IsTrue (D.facts disk.old).honest
+        → (m : List Sector) → Mixture (D.facts disk.new) m
+        → IsMixtureBut (IsRootOr catalogues.now) (D.facts disk.old) m }
 {
     let singles = catalogue_singles(catalogues, sectors);
     write_change(disk, &[], &[], singles.as_slice(), root)
@@ -126,6 +136,11 @@ pub(crate) fn write_root<D: Disk>(disk: &mut D, root: &Root) -> Result<(), DiskF
         → IsFollowed version before entries s (λ m. Unit) root.now others s'
         → OnOk result ((m : List Sector) → Mixture (D.facts disk.new) m
         → StandsBy Two m root.now others s') }
+
+    // A stop finds each other sector as it might have been found before.
+    ensures others { IsTrue (D.facts disk.old).honest
+        → (m : List Sector) → Mixture (D.facts disk.new) m
+        → IsMixtureBut (IsRootOr []) (D.facts disk.old) m }
 {
     commit(disk, slot_of(root.generation), &encode_root(root))
 }

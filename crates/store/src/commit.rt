@@ -10,7 +10,7 @@ use roots::catalogues_for;
 use sector_disk::Disk;
 
 impl<D: Disk> Kept<D> {
-    ghost use Rattle.std.specs.Prelude.{◌≡◌, ◌+◌, ◌⊎◌, IsFalse, length, OnOk};
+    ghost use Rattle.std.specs.Prelude.{◌≡◌, ◌+◌, ◌⊎◌, [], IsFalse, length, OnOk};
     ghost use Rattle.sector_disk.specs.Disk.{LeavesOnly};
     ghost use Rattle.states.specs.Cost.{catalogues_for};
     ghost use Rattle.roots.specs.declared.version.Version.TheVariants.{One, Two};
@@ -28,6 +28,7 @@ impl<D: Disk> Kept<D> {
     fn relist(&mut self) -> Result<(), StoreRefusal>
         requires version { version_of self.old.root ≡ One }
         requires usable { IsFalse self.old.failed }
+        requires unheld { self.old.held ≡ [] }
         ensures any_moment { (s : State) → IsOldAt D.facts self.old s
             → LeavesOnly (D.facts self.old.disk) (D.facts self.new.disk)
             (λ m. StandsOld m s ⊎ Stands m (upgraded s)) }
@@ -37,6 +38,7 @@ impl<D: Disk> Kept<D> {
             → IsExactAnswer (refusal_of_upgrade self.old.root.sectors s) result }
         ensures placed { OnOk result (IsRelisted self.old self.new) }
         ensures version { OnOk result (version_of self.new.root ≡ Two) }
+        ensures unheld { self.new.held ≡ [] }
         ensures on_any_disk { Changed D.facts StoreRefusal.Device StoreRefusal.Reopen
             self.old self.new (catalogues_for (length self.old.entries) + 3)
             IsRefusalOfCommit result }
@@ -66,7 +68,7 @@ impl<D: Disk> Kept<D> {
 
 impl<D: Disk> OldStore<D> {
     ghost use Rattle.std.specs.Prelude.{◌≡◌, ◌≢◌, ◌+◌, ◌<◌, ◌≤◌, ◌⊎◌, IsFalse, IfOk};
-    ghost use Rattle.std.specs.Prelude.{IfErr, length};
+    ghost use Rattle.std.specs.Prelude.{[], IfErr, length};
     ghost use Rattle.sector_disk.specs.Disk.{LeavesOnly, AreCallsExactly, AreCallsAtMost};
     ghost use Rattle.roots.specs.Limits.{most_root_entries};
     ghost use Rattle.states.specs.Cost.{catalogues_for};
@@ -95,6 +97,7 @@ impl<D: Disk> OldStore<D> {
         ensures placed { IfOk result (λ store. IsRelisted self store) }
 
         // On any disk
+        ensures unheld { IfOk result (λ store. store.held ≡ []) }
         ensures usable { IfOk result (λ store. IsFalse store.failed) }
         ensures refusals { IfErr result (λ e. IsRefusalOfCommit e.0) }
         ensures device { IfErr result (λ e. e.0 ≡ StoreRefusal.Device

@@ -4,7 +4,7 @@ use crate::kept::Kept;
 use crate::listed::catalogues;
 use crate::next::{root_without, sectors_without};
 use crate::refusal::StoreRefusal;
-use crate::room::{give_back_room, release_sectors, take_catalogues};
+use crate::room::{give_up, release_sectors, take_catalogues};
 use crate::store::Store;
 use roots::catalogues_for;
 use sector_disk::Disk;
@@ -14,6 +14,7 @@ impl<D: Disk> Kept<D> {
     ghost use Rattle.sector_disk.specs.Disk.{LeavesOnly};
     ghost use Rattle.states.specs.Cost.{catalogues_for};
     ghost use Rattle.store.specs.Changed.{Changed};
+    ghost use Rattle.store.specs.Holders.{KeepsHeld};
     ghost use Rattle.store.specs.Names.{HasName, IsNoPreload};
     ghost use Rattle.store.specs.Opened.{IsAt};
     ghost use Rattle.store.specs.Taken.{IsTakenOut};
@@ -43,6 +44,9 @@ impl<D: Disk> Kept<D> {
         // It takes the sectors of the catalogues of what is left.
         ensures placed { OnOk result (IsTakenOut self.old self.new name.now) }
 
+        // What somebody holds stays as it was.
+        ensures held { KeepsHeld D.facts self.old self.new }
+
         // On any disk. After a failed call the store has to be opened again.
         ensures on_any_disk { Changed D.facts StoreRefusal.Device StoreRefusal.Reopen
             self.old self.new (catalogues_for (length self.old.entries - 1) + 3)
@@ -68,8 +72,9 @@ impl<D: Disk> Kept<D> {
             release_sectors(&mut self.layout, listed);
             return Err(StoreRefusal::from(fault));
         }
-        give_back_room(
+        give_up(
             &mut self.layout,
+            &mut self.held,
             &self.entries[position],
             catalogues(&self.root),
         );
@@ -86,6 +91,7 @@ impl<D: Disk> Store<D> {
     ghost use Rattle.sector_disk.specs.Disk.{LeavesOnly};
     ghost use Rattle.states.specs.Cost.{catalogues_for};
     ghost use Rattle.store.specs.Changed.{Changed};
+    ghost use Rattle.store.specs.Holders.{KeepsHeld};
     ghost use Rattle.store.specs.Names.{HasName, IsNoPreload};
     ghost use Rattle.store.specs.Opened.{IsAt};
     ghost use Rattle.store.specs.Taken.{IsTakenOut};
@@ -111,6 +117,9 @@ impl<D: Disk> Store<D> {
 
         // It takes the sectors of the catalogues of what is left.
         ensures placed { OnOk result (IsTakenOut self.old self.new name.now) }
+
+        // What somebody holds stays as it was.
+        ensures held { KeepsHeld D.facts self.old self.new }
 
         // On any disk. After a failed call the store has to be opened again.
         ensures on_any_disk { Changed D.facts StoreRefusal.Device StoreRefusal.Reopen

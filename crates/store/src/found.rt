@@ -1,5 +1,5 @@
 // What a disk holds: the current root, the entries that are listed, and the sectors in use.
-ghost use Rattle.std.specs.Prelude.{◌≡◌, ◌+◌, ◌<◌, ◌⊎◌, IsTrue, IfOk, IfErr, OnOk, length, false};
+ghost use Rattle.std.specs.Prelude.{◌≡◌, ◌+◌, ◌<◌, ◌⊎◌, [], IsTrue, IfOk, IfErr, OnOk, length, false};
 ghost use Rattle.sector_disk.specs.Disk.{sector, Mixture, LeavesOnly, IsSynced};
 ghost use Rattle.sector_disk.specs.Disk.{AreCallsExactly, AreCallsAtMost};
 ghost use Rattle.passes.specs.Calls.{AreReads};
@@ -16,6 +16,7 @@ ghost use Rattle.store.specs.inside.NameIndex.{IsIndex};
 ghost use Rattle.store.specs.inside.Reading.{RefusesRoot, RefusesEntries};
 
 use crate::entries::read_entries;
+use crate::held_versions::HeldVersions;
 use crate::kept::Kept;
 use crate::listed::read_listed;
 use crate::name_index::NameIndex;
@@ -64,13 +65,14 @@ pub(crate) struct Found {
 
 impl Found {
     /// What was found, kept beside the disk where it was.
-    pub(crate) fn beside<D: Disk>(self, disk: D) -> Kept<D>
-        requires kept { IsKept self.root self.entries.items self.layout }
+    pub(crate) fn beside<D: Disk>(self, alloc: Global, disk: D) -> Kept<D>
+        requires kept { IsKept self.root self.entries.items [] self.layout }
         requires index { IsIndex self.entries.items self.index }
         requires sectors { (D.facts disk).sectors ≡ self.root.sectors }
         ensures disk { result.disk ≡ disk }
         ensures root { result.root ≡ self.root }
         ensures entries { result.entries ≡ self.entries.items }
+        ensures unheld { result.held ≡ [] }
         ensures usable { result.failed ≡ false }
     {
         let Found {
@@ -84,6 +86,7 @@ impl Found {
             root,
             entries,
             index,
+            held: HeldVersions::new(alloc),
             layout,
             failed: false,
         }
@@ -101,7 +104,7 @@ fn find_entries<D: Disk>(alloc: Global, disk: &mut D, root: Root) -> Result<Foun
         (D.facts disk.old) (D.facts disk.new)) }
     ensures same { IsTrue (D.facts disk.old).honest
         → AreReads (D.facts disk.old) (D.facts disk.new) }
-    ensures kept { IfOk result (λ found. IsKept found.root found.entries.items found.layout
+    ensures kept { IfOk result (λ found. IsKept found.root found.entries.items [] found.layout
         × IsIndex found.entries.items found.index
         × (found.root ≡ root) × (root.sectors ≡ (D.facts disk.old).sectors)) }
     ensures intact { IsTrue (D.facts disk.old).honest
@@ -145,7 +148,7 @@ pub(crate) fn find_store<D: Disk>(alloc: Global, disk: &mut D) -> Result<Found, 
     ensures now { IsTrue (D.facts disk.old).honest
         → (D.facts disk.new).now ≡ (D.facts disk.old).now }
     ensures synced { IsTrue (D.facts disk.old).honest → OnOk result (IsSynced (D.facts disk.new)) }
-    ensures kept { IfOk result (λ found. IsKept found.root found.entries.items found.layout
+    ensures kept { IfOk result (λ found. IsKept found.root found.entries.items [] found.layout
         × IsIndex found.entries.items found.index
         × (found.root.sectors ≡ (D.facts disk.old).sectors)) }
     ensures intact { IsTrue (D.facts disk.old).honest → IfOk result (λ found.
@@ -175,7 +178,7 @@ pub(crate) fn find_current<D: Disk>(alloc: Global, disk: &mut D) -> Result<Found
     ensures now { IsTrue (D.facts disk.old).honest
         → (D.facts disk.new).now ≡ (D.facts disk.old).now }
     ensures synced { IsTrue (D.facts disk.old).honest → OnOk result (IsSynced (D.facts disk.new)) }
-    ensures kept { IfOk result (λ found. IsKept found.root found.entries.items found.layout
+    ensures kept { IfOk result (λ found. IsKept found.root found.entries.items [] found.layout
         × IsIndex found.entries.items found.index
         × (version_of found.root ≡ Two)
         × (found.root.sectors ≡ (D.facts disk.old).sectors)) }

@@ -1,3 +1,4 @@
+use crate::held_versions::HeldVersions;
 use crate::name_index::NameIndex;
 use crate::placed_entry::PlacedEntry;
 use extents::Layout;
@@ -12,6 +13,7 @@ pub(crate) struct Kept<D: Disk> {
     pub root: Root,
     pub entries: Vec<PlacedEntry>,
     pub index: NameIndex,
+    pub held: HeldVersions,
     pub layout: Layout,
     // A write or a sync failed: what the disk holds is known again once it is opened.
     pub failed: bool,
@@ -29,10 +31,11 @@ impl<D: Disk> Model for Kept<D> {
       disk = kept.disk;
       root = kept.root;
       entries = kept.entries.items;
+      held = kept.held;
       failed = kept.failed;
     } };
 
-    ghost invariant = { λ kept. IsKept kept.root kept.entries.items kept.layout
+    ghost invariant = { λ kept. IsKept kept.root kept.entries.items kept.held kept.layout
         × IsIndex kept.entries.items kept.index
         × ((D.facts kept.disk).sectors ≡ kept.root.sectors) };
 }
@@ -49,6 +52,7 @@ impl<D: Disk> Kept<D> {
             root: _,
             entries: _,
             index: _,
+            held: _,
             layout: _,
             failed: _,
         } = self;

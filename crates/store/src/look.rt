@@ -17,7 +17,7 @@ pub enum Look<D: Disk> {
 }
 
 impl<D: Disk> Store<D> {
-    ghost use Rattle.std.specs.Prelude.{◌≡◌, ◌+◌, ◌<◌, ◌⊎◌, IsTrue, IsFalse, IfOk, IfErr};
+    ghost use Rattle.std.specs.Prelude.{◌≡◌, ◌+◌, ◌<◌, ◌⊎◌, [], IsTrue, IsFalse, IfOk, IfErr};
     ghost use Rattle.std.specs.Prelude.{MatchResult, length};
     ghost use Rattle.sector_disk.specs.Disk.{Mixture, LeavesOnly, AreCallsExactly, AreCallsAtMost};
     ghost use Rattle.roots.specs.Limits.{most_catalogues};
@@ -56,6 +56,7 @@ impl<D: Disk> Store<D> {
             → IfErr result (λ e. RefusesLook StandsEither (D.facts disk).now e.0) }
 
         // On any disk
+        ensures unheld { IfOk result (λ look. (seen look).held ≡ []) }
         ensures usable { IfOk result (λ look. IsFalse (seen look).failed) }
         ensures geometry { IfOk result (λ _. IsGeometry (D.facts disk).sectors) }
         ensures refusals { IfErr result (λ e. IsRefusalOfLook (D.facts disk).sectors e.0) }
@@ -76,10 +77,10 @@ impl<D: Disk> Store<D> {
         match find_store(alloc, &mut disk) {
             Ok(found) => match found.root.version() {
                 Version::One => Ok(Look::Old(OldStore {
-                    kept: found.beside(disk),
+                    kept: found.beside(alloc, disk),
                 })),
                 Version::Two => Ok(Look::Current(Store {
-                    kept: found.beside(disk),
+                    kept: found.beside(alloc, disk),
                 })),
             },
             Err(refusal) => Err((refusal, disk)),

@@ -12,13 +12,14 @@ impl<D: Disk> Model for OldStore<D> {
     ghost use Rattle.store.specs.Opened.{Opened};
     ghost use Rattle.roots.specs.Root.{version_of};
     ghost use Rattle.roots.specs.declared.version.Version.TheVariants.{One};
-    ghost use Rattle.std.specs.Prelude.{◌≡◌, IsFalse};
+    ghost use Rattle.std.specs.Prelude.{◌≡◌, [], IsFalse};
 
     ghost Value = { Opened D };
 
     ghost view = { λ store. store.kept };
 
-    ghost invariant = { λ store. (version_of store.kept.root ≡ One) × IsFalse store.kept.failed };
+    ghost invariant = { λ store. (version_of store.kept.root ≡ One) × IsFalse store.kept.failed
+        × (store.kept.held ≡ []) };
 }
 
 impl<D: Disk> OldStore<D> {

@@ -7,7 +7,7 @@ use states::is_geometry;
 use std::alloc::Global;
 
 impl<D: Disk> Store<D> {
-    ghost use Rattle.std.specs.Prelude.{◌≡◌, ◌+◌, ◌<◌, ◌⊎◌, IsTrue, IsFalse, IfOk, IfErr};
+    ghost use Rattle.std.specs.Prelude.{◌≡◌, ◌+◌, ◌<◌, ◌⊎◌, [], IsTrue, IsFalse, IfOk, IfErr};
     ghost use Rattle.std.specs.Prelude.{MatchResult, length};
     ghost use Rattle.sector_disk.specs.Disk.{Mixture, LeavesOnly, AreCallsExactly, AreCallsAtMost};
     ghost use Rattle.roots.specs.Limits.{most_catalogues};
@@ -40,6 +40,7 @@ impl<D: Disk> Store<D> {
             → IfErr result (λ e. RefusesOpen Stands (D.facts disk).now e.0) }
 
         // On any disk
+        ensures unheld { IfOk result (λ store. store.held ≡ []) }
         ensures usable { IfOk result (λ store. IsFalse store.failed) }
         ensures geometry { IfOk result (λ _. IsGeometry (D.facts disk).sectors) }
         ensures refusals { IfErr result (λ e. IsRefusalOfOpen (D.facts disk).sectors e.0) }
@@ -62,7 +63,7 @@ impl<D: Disk> Store<D> {
         let mut disk = disk;
         match find_current(alloc, &mut disk) {
             Ok(found) => Ok(Store {
-                kept: found.beside(disk),
+                kept: found.beside(alloc, disk),
             }),
             Err(refusal) => Err((refusal, disk)),
         }

@@ -11,6 +11,7 @@ impl<D: Disk> Kept<D> {
     ghost use Rattle.states.specs.Limits.{most_preloads};
     ghost use Rattle.sector_disk.specs.Disk.{LeavesOnly};
     ghost use Rattle.store.specs.Changed.{Changed};
+    ghost use Rattle.store.specs.Holders.{KeepsHeld};
     ghost use Rattle.store.specs.Opened.{IsAt};
     ghost use Rattle.store.specs.Stands.{Stands, catalogues_of, names_at};
     ghost use Rattle.roots.specs.declared.version.Version.TheVariants.{Two};
@@ -42,6 +43,9 @@ impl<D: Disk> Kept<D> {
         ensures catalogues { OnOk result
             (catalogues_of self.new.root ≡ catalogues_of self.old.root) }
 
+        // What somebody holds stays as it was.
+        ensures held { KeepsHeld D.facts self.old self.new }
+
         // On any disk. After a failed call the store has to be opened again.
         ensures on_any_disk { Changed D.facts StoreRefusal.Device StoreRefusal.Reopen
             self.old self.new 2 IsRefusalOfChange result }
@@ -67,6 +71,7 @@ impl<D: Disk> Store<D> {
     ghost use Rattle.states.specs.Limits.{most_preloads};
     ghost use Rattle.sector_disk.specs.Disk.{LeavesOnly};
     ghost use Rattle.store.specs.Changed.{Changed};
+    ghost use Rattle.store.specs.Holders.{KeepsHeld};
     ghost use Rattle.store.specs.Opened.{IsAt};
     ghost use Rattle.store.specs.Stands.{Stands, catalogues_of, names_at};
     ghost use Rattle.states.specs.State.{State};
@@ -92,6 +97,9 @@ impl<D: Disk> Store<D> {
         // It keeps the catalogues.
         ensures catalogues { OnOk result
             (catalogues_of self.new.root ≡ catalogues_of self.old.root) }
+
+        // What somebody holds stays as it was.
+        ensures held { KeepsHeld D.facts self.old self.new }
 
         // On any disk. After a failed call the store has to be opened again.
         ensures on_any_disk { Changed D.facts StoreRefusal.Device StoreRefusal.Reopen

@@ -1,10 +1,10 @@
 // What a put writes: bytes, their entry, and the catalogues of the list with it.
-ghost use Rattle.std.specs.Prelude.{◌≡◌, ◌+◌, ◌<◌, ◌≤◌, ◌^◌, ◌⊎◌, List};
+ghost use Rattle.std.specs.Prelude.{◌≡◌, ◌+◌, ◌<◌, ◌≤◌, ◌^◌, ◌⊎◌, ◌++◌, List};
 ghost use Rattle.std.specs.Prelude.{length, All, IsTrue, OnOk};
 ghost use Rattle.std.specs.Int.{div_ceil};
 ghost use Rattle.extents.specs.Extent.{sector_count};
 ghost use Rattle.extents.specs.Limits.{most_extents, root_sectors};
-ghost use Rattle.sector_disk.specs.Disk.{Sector, sector_bytes, Mixture, LeavesOnly};
+ghost use Rattle.sector_disk.specs.Disk.{Sector, sector_bytes, Mixture, IsMixtureBut, LeavesOnly};
 ghost use Rattle.passes.specs.Calls.{AreCallsInRow};
 ghost use Rattle.roots.specs.declared.root.Root.{Root};
 ghost use Rattle.roots.specs.declared.version.Version.{Version};
@@ -14,10 +14,10 @@ ghost use Rattle.roots.specs.Root.{RootHasSpelling};
 ghost use Rattle.store.specs.declared.placed_entry.PlacedEntry.{PlacedEntry};
 ghost use Rattle.states.specs.State.{State};
 ghost use Rattle.store.specs.Names.{IsName, IsFileSize};
-ghost use Rattle.store.specs.Stands.{StandsBy, StandsAs, Stands, name_of, extents_of};
+ghost use Rattle.store.specs.Stands.{StandsBy, StandsAs, Stands, name_of, extents_of, sectors_of};
 ghost use Rattle.store.specs.inside.Catalogues.{CanBeCatalogued};
 ghost use Rattle.store.specs.inside.Next.{IsPut};
-ghost use Rattle.store.specs.inside.Room.{HasPlace};
+ghost use Rattle.store.specs.inside.Room.{HasPlace, IsRootOr};
 
 use crate::catalogues::put_singles;
 use crate::change::write_change;
@@ -87,6 +87,11 @@ pub(crate) fn write_put<D: Disk>(
         root.now others s'
         → OnOk result ((m : List Sector) → Mixture (D.facts disk.new) m
         → StandsBy Two m root.now others s') }
+
+    // A stop finds each other sector as it might have been found before.
+    ensures others { IsTrue (D.facts disk.old).honest
+        → (m : List Sector) → Mixture (D.facts disk.new) m
+        → IsMixtureBut (IsRootOr (sectors_of put.now ++ catalogues.now)) (D.facts disk.old) m }
 {
     let singles = put_singles(put, catalogues, sectors);
     write_change(

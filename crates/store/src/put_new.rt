@@ -15,8 +15,9 @@ impl<D: Disk> Kept<D> {
     ghost use Rattle.sector_disk.specs.Disk.{sector_bytes, LeavesOnly};
     ghost use Rattle.states.specs.Cost.{catalogues_for};
     ghost use Rattle.store.specs.Changed.{Changed};
+    ghost use Rattle.store.specs.Holders.{KeepsHeld};
     ghost use Rattle.store.specs.Names.{IsName, IsFileSize, LacksName};
-    ghost use Rattle.store.specs.Opened.{IsAt};
+    ghost use Rattle.store.specs.Opened.{IsAt, room_of};
     ghost use Rattle.store.specs.Taken.{IsPutBehind};
     ghost use Rattle.store.specs.Stands.{Stands};
     ghost use Rattle.states.specs.State.{State};
@@ -39,12 +40,15 @@ impl<D: Disk> Kept<D> {
         ensures ok { (s : State) → IsAt D.facts self.old s
             → OnOk result (IsAt D.facts self.new (with_new name.now bytes.now s)) }
         ensures refused { (s : State) → IsAt D.facts self.old s → IsAnswer
-            (refusal_of_new self.old.root.sectors (longest_free self.old) s bytes.now) result }
+            (refusal_of_new (room_of self.old) (longest_free self.old) s bytes.now) result }
 
         // It takes the sectors of the bytes first, then that of the entry, and then those of the
         // catalogues.
         ensures placed { OnOk result
             (IsPutBehind self.old self.new (div_ceil (length bytes.now) sector_bytes)) }
+
+        // What somebody holds stays as it was.
+        ensures held { KeepsHeld D.facts self.old self.new }
 
         // On any disk. After a failed call the store has to be opened again.
         ensures on_any_disk { Changed D.facts StoreRefusal.Device StoreRefusal.Reopen
@@ -102,8 +106,9 @@ impl<D: Disk> Store<D> {
     ghost use Rattle.sector_disk.specs.Disk.{sector_bytes, LeavesOnly};
     ghost use Rattle.states.specs.Cost.{catalogues_for};
     ghost use Rattle.store.specs.Changed.{Changed};
+    ghost use Rattle.store.specs.Holders.{KeepsHeld};
     ghost use Rattle.store.specs.Names.{IsName, IsFileSize, LacksName};
-    ghost use Rattle.store.specs.Opened.{IsAt};
+    ghost use Rattle.store.specs.Opened.{IsAt, room_of};
     ghost use Rattle.store.specs.Taken.{IsPutBehind};
     ghost use Rattle.store.specs.Stands.{Stands};
     ghost use Rattle.states.specs.State.{State};
@@ -123,12 +128,15 @@ impl<D: Disk> Store<D> {
         ensures ok { (s : State) → IsAt D.facts self.old s
             → OnOk result (IsAt D.facts self.new (with_new name.now bytes.now s)) }
         ensures refused { (s : State) → IsAt D.facts self.old s → IsAnswer
-            (refusal_of_new self.old.root.sectors (longest_free self.old) s bytes.now) result }
+            (refusal_of_new (room_of self.old) (longest_free self.old) s bytes.now) result }
 
         // It takes the sectors of the bytes first, then that of the entry, and then those of the
         // catalogues.
         ensures placed { OnOk result
             (IsPutBehind self.old self.new (div_ceil (length bytes.now) sector_bytes)) }
+
+        // What somebody holds stays as it was.
+        ensures held { KeepsHeld D.facts self.old self.new }
 
         // On any disk. After a failed call the store has to be opened again.
         ensures on_any_disk { Changed D.facts StoreRefusal.Device StoreRefusal.Reopen

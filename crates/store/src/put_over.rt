@@ -4,7 +4,7 @@ use crate::listed::catalogues;
 use crate::next::{next_root, sectors_at};
 use crate::put::{new_entry, sector_need, write_put};
 use crate::refusal::StoreRefusal;
-use crate::room::{give_back_room, take_room};
+use crate::room::{give_back_room, give_up, take_room};
 use crate::store::Store;
 use roots::catalogues_for;
 use sector_disk::Disk;
@@ -15,8 +15,9 @@ impl<D: Disk> Kept<D> {
     ghost use Rattle.sector_disk.specs.Disk.{sector_bytes, LeavesOnly};
     ghost use Rattle.states.specs.Cost.{catalogues_for};
     ghost use Rattle.store.specs.Changed.{Changed};
+    ghost use Rattle.store.specs.Holders.{KeepsHeld};
     ghost use Rattle.store.specs.Names.{HasName, IsFileSize};
-    ghost use Rattle.store.specs.Opened.{IsAt};
+    ghost use Rattle.store.specs.Opened.{IsAt, room_of};
     ghost use Rattle.store.specs.Taken.{IsPutOver};
     ghost use Rattle.store.specs.Stands.{Stands};
     ghost use Rattle.states.specs.State.{State};
@@ -40,12 +41,15 @@ impl<D: Disk> Kept<D> {
         ensures ok { (s : State) → IsAt D.facts self.old s
             → OnOk result (IsAt D.facts self.new (with_bytes name.now bytes.now s)) }
         ensures refused { (s : State) → IsAt D.facts self.old s → IsExactAnswer
-            (refusal_of_put self.old.root.sectors (longest_free self.old) s bytes.now) result }
+            (refusal_of_put (room_of self.old) (longest_free self.old) s bytes.now) result }
 
         // It takes the sectors of the bytes first, then that of the entry, and then those of the
         // catalogues.
         ensures placed { OnOk result
             (IsPutOver self.old self.new name.now (div_ceil (length bytes.now) sector_bytes)) }
+
+        // What somebody holds stays as it was.
+        ensures held { KeepsHeld D.facts self.old self.new }
 
         // On any disk. After a failed call the store has to be opened again.
         ensures on_any_disk { Changed D.facts StoreRefusal.Device StoreRefusal.Reopen
@@ -82,8 +86,9 @@ impl<D: Disk> Kept<D> {
             give_back_room(&mut self.layout, &put, listed);
             return Err(StoreRefusal::from(fault));
         }
-        give_back_room(
+        give_up(
             &mut self.layout,
+            &mut self.held,
             &self.entries[position],
             catalogues(&self.root),
         );
@@ -100,8 +105,9 @@ impl<D: Disk> Store<D> {
     ghost use Rattle.sector_disk.specs.Disk.{sector_bytes, LeavesOnly};
     ghost use Rattle.states.specs.Cost.{catalogues_for};
     ghost use Rattle.store.specs.Changed.{Changed};
+    ghost use Rattle.store.specs.Holders.{KeepsHeld};
     ghost use Rattle.store.specs.Names.{HasName, IsFileSize};
-    ghost use Rattle.store.specs.Opened.{IsAt};
+    ghost use Rattle.store.specs.Opened.{IsAt, room_of};
     ghost use Rattle.store.specs.Taken.{IsPutOver};
     ghost use Rattle.store.specs.Stands.{Stands};
     ghost use Rattle.states.specs.State.{State};
@@ -122,12 +128,15 @@ impl<D: Disk> Store<D> {
         ensures ok { (s : State) → IsAt D.facts self.old s
             → OnOk result (IsAt D.facts self.new (with_bytes name.now bytes.now s)) }
         ensures refused { (s : State) → IsAt D.facts self.old s → IsExactAnswer
-            (refusal_of_put self.old.root.sectors (longest_free self.old) s bytes.now) result }
+            (refusal_of_put (room_of self.old) (longest_free self.old) s bytes.now) result }
 
         // It takes the sectors of the bytes first, then that of the entry, and then those of the
         // catalogues.
         ensures placed { OnOk result
             (IsPutOver self.old self.new name.now (div_ceil (length bytes.now) sector_bytes)) }
+
+        // What somebody holds stays as it was.
+        ensures held { KeepsHeld D.facts self.old self.new }
 
         // On any disk. After a failed call the store has to be opened again.
         ensures on_any_disk { Changed D.facts StoreRefusal.Device StoreRefusal.Reopen

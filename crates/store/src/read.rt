@@ -17,7 +17,7 @@ use sector_disk::{Disk, SECTOR_BYTES};
 use std::alloc::Global;
 
 /// The byte string of an entry. Each of its sectors is read once, into the vector that is given.
-fn read_file<D: Disk>(
+pub(crate) fn read_file<D: Disk>(
     alloc: Global,
     disk: &mut D,
     placed: &PlacedEntry,
@@ -54,6 +54,7 @@ impl<D: Disk> Kept<D> {
     ghost use Rattle.sector_disk.specs.Disk.{AreCallsExactly, AreCallsAtMost};
     ghost use Rattle.roots.specs.declared.version.Version.{Version};
     ghost use Rattle.store.specs.declared.placed_entry.PlacedEntry.{PlacedEntry};
+    ghost use Rattle.store.specs.Holders.{KeepsHeld};
     ghost use Rattle.store.specs.Opened.{IsAtBy};
     ghost use Rattle.store.specs.Stands.{no_library};
     ghost use Rattle.states.specs.State.{State};
@@ -77,6 +78,8 @@ impl<D: Disk> Kept<D> {
             → (D.facts self.new.disk).now ≡ (D.facts self.old.disk).now }
         ensures kept { (self.new.root ≡ self.old.root) × (self.new.entries ≡ self.old.entries)
             × (self.new.failed ≡ self.old.failed) }
+        ensures table { self.new.held ≡ self.old.held }
+        ensures held { KeepsHeld D.facts self.old self.new }
         ensures length { (d : PlacedEntry) → IfOk result (λ bytes. length bytes.items
             ≡ (slice_index_or self.old.entries position d).entry.file_length) }
         ensures reopen { (result ≡ Err StoreRefusal.Reopen) ↔ IsTrue self.old.failed }

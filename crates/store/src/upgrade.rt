@@ -6,8 +6,8 @@ use sector_disk::Disk;
 use std::alloc::Global;
 
 impl<D: Disk> Store<D> {
-    ghost use Rattle.std.specs.Prelude.{◌≡◌, ◌≢◌, ◌+◌, ◌<◌, ◌⊎◌, IsTrue, IsFalse, IfOk, IfErr};
-    ghost use Rattle.std.specs.Prelude.{MatchResult, length};
+    ghost use Rattle.std.specs.Prelude.{◌≡◌, ◌≢◌, ◌+◌, ◌<◌, ◌⊎◌, [], IsTrue, IsFalse, IfOk};
+    ghost use Rattle.std.specs.Prelude.{IfErr, MatchResult, length};
     ghost use Rattle.sector_disk.specs.Disk.{Mixture, LeavesOnly, AreCallsExactly, AreCallsAtMost};
     ghost use Rattle.roots.specs.Limits.{most_catalogues, most_root_entries};
     ghost use Rattle.states.specs.Limits.{most_libraries};
@@ -75,6 +75,7 @@ impl<D: Disk> Store<D> {
             (D.facts disk) (D.facts store.disk)) }
 
         // On any disk
+        ensures unheld { IfOk result (λ store. store.held ≡ []) }
         ensures usable { IfOk result (λ store. IsFalse store.failed) }
         ensures geometry { IfOk result (λ _. IsGeometry (D.facts disk).sectors) }
         ensures refusals { IfErr result (λ e. IsRefusalOfUpgrade (D.facts disk).sectors e.0) }

@@ -15,6 +15,8 @@ mod faults;
 #[cfg(test)]
 mod formats;
 #[cfg(test)]
+mod holds;
+#[cfg(test)]
 mod liars;
 #[cfg(test)]
 mod openings;

@@ -17,6 +17,7 @@ pub record IsReadBy (version : Version) {D : Type 0} (facts : D → DiskFacts) (
   pub now : IsTrue (facts old.disk).honest → (facts new.disk).now ≡ (facts old.disk).now
   pub root : new.root ≡ old.root
   pub entries : new.entries ≡ old.entries
+  pub held : new.held ≡ old.held
   pub failed : new.failed ≡ old.failed
   pub calls : AreCalls (facts old.disk) (facts new.disk)
 

@@ -1,22 +1,35 @@
 -- What a store keeps beside its disk, whatever the disk does.
-use Rattle.std.specs.Prelude.{◌≡◌, Bool, List, length, All}
+use Rattle.std.specs.Prelude.{◌≡◌, ◌-◌, ℕ, Bool, List, ◌++◌, length, All}
+use Rattle.extents.specs.Extent.{AreDistinct}
 use Rattle.extents.specs.Used.{ClaimsJust}
 use Rattle.roots.specs.declared.root.Root.{Root}
 use Rattle.roots.specs.Root.{RootHasSpelling}
 use Rattle.roots.specs.Entry.{EntryHasSpelling}
 use Rattle.store.specs.declared.placed_entry.PlacedEntry.{PlacedEntry}
+use Rattle.store.specs.declared.holding.Holding.{Holding}
+use Rattle.store.specs.Held.{lone_sectors}
 use Rattle.store.specs.Stands.{used, UsesApart, HasRoom, HaveOwnNames}
+use Rattle.store.specs.inside.Claimed.{IsUsable}
+use Rattle.store.specs.inside.Holdings.{AreHoldings}
 
 -- each entry has a spelling
 abbrev pub HaveSpellings : List PlacedEntry → Type 0
 HaveSpellings entries = All (λ placed. EntryHasSpelling placed.entry) entries
 
-pub record IsKept (root : Root) (entries : List PlacedEntry) (layout : List Bool) : Type 0 where
+-- Just the sectors in use are claimed in the layout of a disk of so many, by the state and by holders alone; and each of them once.
+pub record AreClaimed (sectors : ℕ) (layout : List Bool) (used lone : List ℕ) : Type 0 where
+  pub inside : All (IsUsable sectors) lone
+  pub once : AreDistinct (used ++ lone)
+  pub claims : ClaimsJust layout (used ++ lone)
+
+pub record IsKept (root : Root) (entries : List PlacedEntry) (held : List Holding) (layout : List Bool) : Type 0 where
   pub root_fits : RootHasSpelling root
   pub size : length layout ≡ root.sectors
   pub counted : length entries ≡ root.library_count
   pub entries_fit : HaveSpellings entries
   pub apart : UsesApart root.sectors root entries
-  pub room : HasRoom root.sectors root.list entries
+  -- beside the sectors that holders alone use there is room for the catalogues of the next change
+  pub room : HasRoom (root.sectors - length (lone_sectors held)) root.list entries
   pub names : HaveOwnNames entries
-  pub claims : ClaimsJust layout (used root entries)
+  pub rows : AreHoldings entries held
+  pub claimed : AreClaimed root.sectors layout (used root entries) (lone_sectors held)

@@ -1,12 +1,19 @@
 -- The sectors that a change takes, and those that it gives back.
-use Rattle.std.specs.Prelude.{◌≡◌, ℕ, Bool, List, ◌++◌, length, All, AllPairs}
+use Rattle.std.specs.Prelude.{◌≡◌, ◌⊎◌, ℕ, ◌<◌, Bool, List, ◌++◌, length, All, AllPairs, Contains}
+use Rattle.extents.specs.Limits.{root_sectors}
 use Rattle.extents.specs.Extent.{AreDistinct, IsApart}
 use Rattle.extents.specs.Used.{ClaimsJust}
 use Rattle.passes.specs.Bytes.{IsOnDisk}
 use Rattle.roots.specs.Entry.{EntryHasSpelling}
 use Rattle.store.specs.declared.placed_entry.PlacedEntry.{PlacedEntry}
 use Rattle.store.specs.Stands.{extents_of, sectors_of}
+use Rattle.store.specs.declared.holding.Holding.{Holding}
 use Rattle.store.specs.inside.Claimed.{IsUsable}
+use Rattle.store.specs.inside.Holdings.{IsLeft, IsUnheld}
+
+-- a root sector, or one of these
+abbrev pub IsRootOr : List ℕ → ℕ → Type 0
+IsRootOr places k = (k < root_sectors) ⊎ Contains places k
 
 -- these sectors are claimed, beside others, and each of them once
 abbrev pub AreHeld : List Bool → List ℕ → Type 0
@@ -16,6 +23,12 @@ AreHeld layout gone = (kept : List ℕ) × ClaimsJust layout (kept ++ gone) × A
 pub record IsReleased (old new : List Bool) (gone : List ℕ) : Type 0 where
   pub size : length new ≡ length old
   pub each : (kept : List ℕ) → ClaimsJust old (kept ++ gone) → AreDistinct (kept ++ gone) → ClaimsJust new kept
+
+-- The state uses an entry's sectors and those of catalogues no longer. They are free now, but for the entry's where somebody holds it.
+abbrev pub IsGivenUp : (held left : List Holding) (old new : List Bool) (placed : PlacedEntry) (catalogues : List ℕ) → Type 0
+IsGivenUp held left old new placed catalogues =
+    (IsLeft held left placed.at × IsReleased old new catalogues)
+    ⊎ (IsUnheld held placed.at × (left ≡ held) × IsReleased old new (sectors_of placed ++ catalogues))
 
 -- Catalogues have their places on a disk of so many sectors: behind the roots, and apart.
 pub record HavePlaces (sectors : ℕ) (catalogues : List ℕ) : Type 0 where

@@ -14,6 +14,7 @@ returns-in_err-bytes-clause-read g c = record {
   now = c.read_blob.ensures.now;
   root = c.read_blob.ensures.kept.0;
   entries = c.read_blob.ensures.kept.1;
+  held = c.read_blob.ensures.table;
   failed = c.read_blob.ensures.kept.2;
   calls = (c.read_blob.ensures.calls no_entry).some;
 }
@@ -25,6 +26,7 @@ returns-clause-read g c = record {
   now = c.read_blob.ensures.now;
   root = c.read_blob.ensures.kept.0;
   entries = c.read_blob.ensures.kept.1;
+  held = c.read_blob.ensures.table;
   failed = c.read_blob.ensures.kept.2;
   calls = (c.read_blob.ensures.calls no_entry).some;
 }
@@ -36,6 +38,7 @@ returns-in_err-admit_file-clause-read g c = record {
   now = c.read_blob.ensures.now;
   root = c.read_blob.ensures.kept.0;
   entries = c.read_blob.ensures.kept.1;
+  held = c.read_blob.ensures.table;
   failed = c.read_blob.ensures.kept.2;
   calls = (c.read_blob.ensures.calls no_entry).some;
 }

@@ -18,6 +18,7 @@ returns-in_err-bytes-clause-read g c = record {
   now = c.read_blob.ensures.now;
   root = c.read_blob.ensures.kept.0;
   entries = c.read_blob.ensures.kept.1;
+  held = c.read_blob.ensures.table;
   failed = c.read_blob.ensures.kept.2;
   calls = (c.read_blob.ensures.calls no_entry).some;
 }
@@ -29,6 +30,7 @@ returns-clause-read g c = record {
   now = c.read_blob.ensures.now;
   root = c.read_blob.ensures.kept.0;
   entries = c.read_blob.ensures.kept.1;
+  held = c.read_blob.ensures.table;
   failed = c.read_blob.ensures.kept.2;
   calls = (c.read_blob.ensures.calls no_entry).some;
 }

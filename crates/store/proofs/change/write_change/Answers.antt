@@ -1,4 +1,4 @@
-use Rattle.std.proofs.Common.{IsTrue, ◌++◌, set, sym, subst}
+use Rattle.std.proofs.Common.{IsTrue, ◌<◌, ◌++◌, set, sym, subst, arith}
 use Rattle.std.specs.Prelude.{Contains}
 use Rattle.sector_disk.proofs.Moments.{left_now}
 use Rattle.extents.specs.Extent.{places}
@@ -6,7 +6,7 @@ use Rattle.passes.specs.Singles.{single_places}
 use Rattle.roots.specs.declared.version.Version.TheVariants.{Two}
 use Rattle.roots.specs.Root.{root_bytes}
 use Rattle.store.specs.Stands.{StandsBy}
-use Rattle.store.proofs.Puts.{ok_both, staged_only, staged_stands, committed_only, committed_stands}
+use Rattle.store.proofs.Puts.{ok_both, staged_only, staged_stands, committed_only, committed_others, committed_stands, staged_others}
 use Rattle.store.proofs.change.write_change.Goals as goal
 
 pub returns-in_err-stage-clause-any_moment : goal.returns-in_err-stage-clause-any_moment
@@ -39,3 +39,12 @@ returns-clause-done g c honest version before entries s others s' stands unused 
     ok_both c.commit.result
     (committed_stands version before entries s stands changed c.requires.behind unused staged (c.in_ok-stage.ensures.synced honest) c.args.root.now others s' c.slot_of.result c.encode_root.result by_content {new = g.D.Disk.facts c.commit.new.disk})
     (c.commit.ensures.synced honest_mid) (c.commit.ensures.now honest_mid)
+
+pub returns-in_err-stage-clause-others : goal.returns-in_err-stage-clause-others
+returns-in_err-stage-clause-others g c honest = staged_others (single_places c.args.singles.now ++ places c.args.extents.now) (c.stage.ensures.any_moment honest)
+
+pub returns-clause-others : goal.returns-clause-others
+returns-clause-others g c honest =
+    let honest_mid = subst IsTrue (sym c.stage.ensures.calls.honest) honest in
+    let low : c.slot_of.result < 2 = grind (arith, c.slot_of.ensures.value) in
+    committed_others (single_places c.args.singles.now ++ places c.args.extents.now) (c.stage.ensures.any_moment honest) c.slot_of.result c.encode_root.result low (c.commit.ensures.any_moment honest_mid)

@@ -1,5 +1,8 @@
 use Rattle.std.proofs.Common.{◌≡◌, ap, ◌∙◌, subst}
+use Rattle.std.proofs.lemmas.List.{append-nil}
+use Rattle.sector_disk.specs.Disk.{IsMixtureBut}
 use Rattle.passes.specs.Singles.{single_places, HoldsSingles}
+use Rattle.store.specs.inside.Room.{IsRootOr}
 use Rattle.store.proofs.Staging.{list_inside, list_unused, list_followed}
 use Rattle.store.proofs.change.write_list.Given as given
 use Rattle.store.proofs.change.write_list.Goals.{After-as_slice}
@@ -27,3 +30,8 @@ returns-clause-done g c honest version before entries s others s' stands relisti
     c.write_change.ensures.done honest version before entries s others s' stands
     (list_unused singles c.requires.places are relisting)
     (list_followed singles c.requires.places are relisting _ (λ m staged. c.catalogue_singles-singles.ensures.held m (subst (HoldsSingles m) c.as_slice.ensures staged.1)))
+
+pub returns-clause-others : goal.returns-clause-others
+returns-clause-others g c honest m mixture =
+    let are = places_are g (goal.at.returns-clause-others g c).After-as_slice in
+    subst (λ l. IsMixtureBut (IsRootOr l) (g.D.Disk.facts c.args.disk.now) m) (append-nil (single_places c.as_slice.result.now) ∙ are) (c.write_change.ensures.others honest m mixture)

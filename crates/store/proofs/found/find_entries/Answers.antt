@@ -1,4 +1,4 @@
-use Rattle.std.proofs.Common.{rules, ◌≡◌, ◌⊎◌, List, All, IsTrue, inl, inr, ⊎_elim, refl, sym, ap, subst, ◌∙◌, length, arith}
+use Rattle.std.proofs.Common.{rules, ◌≡◌, ◌⊎◌, ◌-◌, List, All, IsTrue, inl, inr, ⊎_elim, refl, sym, ap, subst, ◌∙◌, length, arith}
 use Rattle.std.specs.Prelude.{IfSome}
 use Rattle.std.proofs.lemmas.Result.{err_from_is_err_and}
 use Rattle.sector_disk.specs.Disk.{sector}
@@ -10,6 +10,7 @@ use Rattle.store.specs.declared.refusal.StoreRefusal.TheVariants.{Damaged, OutOf
 use Rattle.store.specs.Stands.{UsesApart, HasRoom, HaveOwnNames, entry_sectors, used}
 use Rattle.std.proofs.lemmas.List.{length-map}
 use Rattle.store.specs.inside.NameIndex.{IsIndex}
+use Rattle.store.proofs.Beside.{no_rows, none_beside, room_more}
 use Rattle.store.proofs.Broken.{not_listed, not_spelt, not_apart}
 use Rattle.store.proofs.Openings.{entries_refuse}
 use Rattle.store.proofs.found.find_entries.Goals as goal
@@ -86,16 +87,18 @@ returns-clause-kept g c =
     let root = c.args.root in
     let layout = c.in_ok-layout.layout in
     let items = c.in_ok-entries.entries.items in
-    let both = subst (λ o. IfSome o (λ index. IsIndex c.deref-2.result.now index × HaveOwnNames c.deref-2.result.now)) c.in-Some.is c.in_ok-index.ensures.own in (
+    let both = subst (λ o. IfSome o (λ index. IsIndex c.deref-2.result.now index × HaveOwnNames c.deref-2.result.now)) c.in-Some.is c.in_ok-index.ensures.own in
+    let apart = subst (UsesApart root.sectors root) c.deref-3.ensures.value c.in_ok-layout.ensures.apart in (
       record {
         root_fits = c.requires.root;
         size = c.in_ok-layout.ensures.size;
         counted = sym (length-map items (λ (p : PlacedEntry). p.at)) ∙ ap length (c.in_ok-entries.ensures.sectors ∙ c.deref.ensures.value) ∙ c.in_ok-listed.ensures.count;
         entries_fit = c.in_ok-entries.ensures.fit;
-        apart = subst (UsesApart root.sectors root) c.deref-3.ensures.value c.in_ok-layout.ensures.apart;
-        room = subst (HasRoom root.sectors root.list) c.deref-3.ensures.value c.in_ok-layout.ensures.room;
+        apart = apart;
+        room = room_more root.sectors (root.sectors - 0) root.list items (omega arith) (subst (HasRoom root.sectors root.list) c.deref-3.ensures.value c.in_ok-layout.ensures.room);
         names = subst HaveOwnNames c.deref-2.ensures.value both.1;
-        claims = subst (λ (l : List PlacedEntry). ClaimsJust layout (used root l)) c.deref-3.ensures.value c.in_ok-layout.ensures.claims;
+        rows = no_rows items;
+        claimed = none_beside (used root items) apart.once (subst (λ (l : List PlacedEntry). ClaimsJust layout (used root l)) c.deref-3.ensures.value c.in_ok-layout.ensures.claims);
       },
       subst (λ (l : List PlacedEntry). IsIndex l c.in-Some.index) c.deref-2.ensures.value both.0,
       refl,

@@ -1,6 +1,6 @@
 use Rattle.std.proofs.Common.{◌≡◌, ◌∷◌, ap, ◌∙◌, subst}
 use Rattle.passes.specs.Singles.{single_places, HoldsSingles}
-use Rattle.store.proofs.Staging.{put_inside, put_once, put_elsewhere, put_behind, put_unused, put_followed}
+use Rattle.store.proofs.Staging.{put_inside, put_once, put_elsewhere, put_behind, put_unused, put_followed, put_others}
 use Rattle.store.proofs.put.write_put.Given as given
 use Rattle.store.proofs.put.write_put.Goals.{After-as_slice}
 use Rattle.store.proofs.put.write_put.Goals as goal
@@ -42,3 +42,8 @@ returns-clause-done g c honest version before entries s others s' stands is_put 
     (put_followed singles extents c.requires.place are c.file_extents.ensures is_put
     (λ m held. c.put_singles-singles.ensures.entry m (subst (HoldsSingles m) c.as_slice.ensures held))
     (λ m held. c.put_singles-singles.ensures.catalogues m (subst (HoldsSingles m) c.as_slice.ensures held)))
+
+pub returns-clause-others : goal.returns-clause-others
+returns-clause-others g c honest m mixture =
+    let are = places_are g (goal.at.returns-clause-others g c).After-as_slice in
+    put_others c.as_slice.result.now c.file_extents.result.now c.requires.place are c.file_extents.ensures (c.write_change.ensures.others honest m mixture)

@@ -11,22 +11,26 @@ use Rattle.states.specs.Changes.{without}
 use Rattle.store.specs.declared.placed_entry.PlacedEntry.{PlacedEntry}
 use Rattle.store.specs.Names.{HasName, IsNoPreload}
 use Rattle.store.specs.Opened.{IsAt, layout_in_use}
-use Rattle.store.specs.Stands.{Stands, StandsBy, catalogues_of, entry_sectors, name_of, sectors_of, used}
+use Rattle.store.specs.Stands.{Stands, StandsBy, catalogues_of, entry_sectors, name_of, sectors_of}
 use Rattle.store.specs.Taken.{AreTaken, IsNamedAt}
 use Rattle.store.specs.inside.Catalogues.{CanBeCatalogued}
 use Rattle.store.specs.inside.Claimed.{IsClaimedBeside, IsUsable}
 use Rattle.store.specs.inside.Kept.{IsKept}
 use Rattle.store.specs.inside.NameIndex.{IsOrderOf, entry_names, closed_up}
 use Rattle.store.specs.inside.Next.{IsRelisting, next_root}
-use Rattle.store.specs.inside.Room.{AreHeld, IsReleased}
-use Rattle.store.proofs.Anew.{more_inside, more_once, moved_held, moved_size, moved_claims}
+use Rattle.store.specs.Held.{in_use, lone_sectors}
+use Rattle.store.specs.Holders.{KeepsHolders}
+use Rattle.store.specs.inside.Room.{AreHeld, IsGivenUp}
+use Rattle.store.proofs.Anew.{more_free, more_inside, more_once, moved_held}
 use Rattle.store.proofs.CataloguedEntries.{can_be_catalogued}
 use Rattle.store.proofs.Following.{following_fits, following_kept, next_catalogues}
+use Rattle.store.proofs.GivenUp.{given_claimed, given_few, given_keeps, given_rows, given_size, still_removed}
+use Rattle.store.proofs.Holders.{keeps_table}
 use Rattle.store.proofs.Placing.{singles_in_use}
-use Rattle.store.proofs.Removals.{IsRemoval, catalogues_fit, removal_next, removal_moved, removal_relisting}
+use Rattle.store.proofs.Removals.{IsRemoval, catalogues_fit, removal_next, removal_moved, removal_relisting, removal_room}
 use Rattle.store.proofs.UsedAlone.{no_entry}
 use Rattle.store.proofs.kept.Kept.delete.Given as given
-use Rattle.store.proofs.kept.Kept.delete.Goals.{After-root_without-root, After-write_list, After-catalogues}
+use Rattle.store.proofs.kept.Kept.delete.Goals.{After-root_without-root, After-write_list, After-catalogues, After-give_up}
 use Rattle.store.proofs.kept.Kept.delete.Goals as goal
 
 pub unreachable-requires : goal.unreachable-requires
@@ -38,13 +42,13 @@ unreachable-requires g c =
 pub take_catalogues-taken-requires-clause-enough : goal.take_catalogues-taken-requires-clause-enough
 take_catalogues-taken-requires-clause-enough g c =
     let two = subst (λ store. version_of store.root ≡ Two) (sym c.self.view_is) c.requires.version in
-    omega (arith, c.catalogues_for.ensures, c.len-libraries.ensures, catalogues_fit c.self.inside.root c.self.inside.entries.items c.self.inside.layout c.self.invariant.0 two)
+    omega (arith, c.catalogues_for.ensures, c.len-libraries.ensures, catalogues_fit c.self.inside.root c.self.inside.entries.items c.self.inside.held c.self.inside.layout c.self.invariant.0 two)
 
 count_is : (g : given.Over) (c : After-root_without-root g) → c.len-libraries.result ≡ length c.self.inside.entries.items
 count_is g c = c.len-libraries.ensures ∙ sym c.deref-2.ensures.len ∙ ap length c.deref-2.ensures.value
 
 -- the entry of the name goes
-removing : (g : given.Over) (c : After-root_without-root g) → IsRemoval c.self.inside.root c.self.inside.entries.items c.self.inside.layout c.take_catalogues-taken.new.layout c.args.name.now c.in-Some.position c.as_slice-listed.result.now c.root_without-root.result
+removing : (g : given.Over) (c : After-root_without-root g) → IsRemoval c.self.inside.root c.self.inside.entries.items c.self.inside.held c.self.inside.layout c.take_catalogues-taken.new.layout c.args.name.now c.in-Some.position c.as_slice-listed.result.now c.root_without-root.result
 removing g c =
     let gone = c.in-Some.position in
     let listed = c.as_slice-listed.result.now in
@@ -120,29 +124,52 @@ gone_are g c =
     ap (λ (p : PlacedEntry). sectors_of p ++ c.catalogues.result.now) (get_or_read items c.in-Some.position c.index.result.now lt c.index.ensures no_entry)
     ∙ ap (λ l. sectors_of (get_or items c.in-Some.position no_entry) ++ l) c.catalogues.ensures
 
-pub give_back_room-requires-clause-held : goal.give_back_room-requires-clause-held
-give_back_room-requires-clause-held g c =
-    let before = (goal.at.give_back_room-requires-clause-held g c).After-root_without-root in
+pub give_up-requires-clause-held : goal.give_up-requires-clause-held
+give_up-requires-clause-held g c =
+    let before = (goal.at.give_up-requires-clause-held g c).After-root_without-root in
     let removal = removing g before in
-    subst (AreHeld c.take_catalogues-taken.new.layout) (sym (gone_are g (goal.at.give_back_room-requires-clause-held g c).After-catalogues))
+    subst (AreHeld c.take_catalogues-taken.new.layout) (sym (gone_are g (goal.at.give_up-requires-clause-held g c).After-catalogues))
     (moved_held removal.kept removal.claimed c.root_without-root.result (remove c.self.inside.entries.items c.in-Some.position) (removal_moved removal))
+
+-- what is given up is what stood there
+given_up : (g : given.Over) (c : After-give_up g) → IsGivenUp c.self.inside.held c.give_up.new.held c.take_catalogues-taken.new.layout c.give_up.new.layout (get_or c.self.inside.entries.items c.in-Some.position no_entry) (catalogues_of c.self.inside.root)
+given_up g c =
+    let items = c.self.inside.entries.items in
+    let lt : c.in-Some.position < length items = omega (arith, c.in-Some.ensures.some.0, ap length c.deref.ensures.value) in
+    let old = get_or_read items c.in-Some.position c.index.result.now lt c.index.ensures no_entry in
+    subst (λ p. IsGivenUp c.self.inside.held c.give_up.new.held c.take_catalogues-taken.new.layout c.give_up.new.layout p (catalogues_of c.self.inside.root)) old
+    (subst (λ l. IsGivenUp c.self.inside.held c.give_up.new.held c.take_catalogues-taken.new.layout c.give_up.new.layout c.index.result.now l) c.catalogues.ensures c.give_up.ensures)
 
 pub invariant_of-self-2 : goal.invariant_of-self-2
 invariant_of-self-2 g c =
     let at = goal.at.invariant_of-self-2 g c in
     let removal = removing g at.After-root_without-root in
-    let left = remove c.self.inside.entries.items c.in-Some.position in
+    let gone = c.in-Some.position in
+    let left = remove c.self.inside.entries.items gone in
     let next = c.root_without-root.result in
-    let new = c.give_back_room.new.layout in
-    let moved = removal_moved removal in
-    let gone = sectors_of (get_or c.self.inside.entries.items c.in-Some.position no_entry) ++ catalogues_of c.self.inside.root in
-    let released : IsReleased c.take_catalogues-taken.new.layout new gone = subst (IsReleased c.take_catalogues-taken.new.layout new) (gone_are g at.After-catalogues) c.give_back_room.ensures in (
-      subst (λ l. IsKept next l new) (sym c.remove-2.ensures.items) (following_kept (removal_next removal) removal.kept.root_fits new
-          (moved_size removal.kept removal.claimed next left moved new released)
-          (moved_claims removal.kept removal.claimed next left moved new released)),
+    let new = c.give_up.new.layout in
+    let up = given_up g at.After-give_up in (
+      subst (λ l. IsKept next l c.give_up.new.held new) (sym c.remove-2.ensures.items) (following_kept (removal_next removal) removal.kept.root_fits c.give_up.new.held new
+          (given_size removal.kept gone removal.fits up removal.claimed)
+          (removal_room removal (c.self.inside.root.sectors - length (lone_sectors c.give_up.new.held)) (omega (arith, given_few removal.kept gone removal.fits up)))
+          (given_rows removal.kept gone removal.fits up left (still_removed c.self.inside.entries.items gone removal.fits))
+          (given_claimed removal.kept gone removal.fits up removal.claimed next left (removal_moved removal))),
       subst (λ l. IsOrderOf (entry_names l) c.remove.new.self.positions) (ap (λ l. remove l c.in-Some.position) c.deref-3.ensures.value ∙ sym c.remove-2.ensures.items) c.remove.ensures,
       c.write_list.ensures.calls.sectors ∙ c.self.invariant.2 ∙ sym (ap (λ r. r.sectors) c.root_without-root.ensures),
     )
+
+pub returns-in-Err-clause-held : goal.returns-in-Err-clause-held
+returns-in-Err-clause-held g c =
+    let removal = removing g (goal.at.returns-in-Err-clause-held g c).After-root_without-root in
+    subst (λ store. KeepsHolders (g.D.Disk.facts store.disk) (g.D.Disk.facts c.write_list.new.disk) store.held c.self.inside.held) c.self.view_is
+    (keeps_table removal.kept c.as_slice-listed.result.now (more_free removal.kept removal.claimed) (c.write_list.ensures.others))
+
+pub returns-clause-held : goal.returns-clause-held
+returns-clause-held g c =
+    let at = goal.at.returns-clause-held g c in
+    let removal = removing g at.After-root_without-root in
+    subst (λ store. KeepsHolders (g.D.Disk.facts store.disk) (g.D.Disk.facts c.write_list.new.disk) store.held c.give_up.new.held) c.self.view_is
+    (given_keeps removal.kept c.in-Some.position removal.fits (given_up g at.After-give_up) removal.claimed (c.write_list.ensures.others))
 
 pub returns-clause-ok : goal.returns-clause-ok
 returns-clause-ok g c s at_entry =
@@ -165,7 +192,7 @@ returns-clause-placed g c =
       position = gone;
       at = subst (λ store. IsNamedAt store c.args.name.now gone) c.self.view_is (record { inside = removal.fits; named = removal.named });
       taken = subst (λ store. AreTaken (layout_in_use store) (catalogues_of next)) c.self.view_is
-          (subst (AreTaken (layout_of c.self.inside.root.sectors (used c.self.inside.root c.self.inside.entries.items))) (sym listed)
-          (singles_in_use c.self.inside.root c.self.inside.entries.items c.self.inside.layout removal.kept c.take_catalogues-taken.result c.take_catalogues-taken.ensures.taken));
+          (subst (AreTaken (layout_of c.self.inside.root.sectors (in_use c.self.inside.root c.self.inside.entries.items c.self.inside.held))) (sym listed)
+          (singles_in_use c.self.inside.root c.self.inside.entries.items c.self.inside.held c.self.inside.layout removal.kept c.take_catalogues-taken.result c.take_catalogues-taken.ensures.taken));
       entries = c.remove-2.ensures.items ∙ ap (λ store. remove store.entries gone) c.self.view_is;
     }

@@ -10,6 +10,8 @@ use Rattle.roots.specs.declared.version.Version.TheVariants.{Two}
 use Rattle.store.specs.declared.placed_entry.PlacedEntry.{PlacedEntry}
 use Rattle.states.specs.State.{State}
 use Rattle.states.specs.Changes.{with_new}
+use Rattle.store.specs.Held.{lone_sectors}
+use Rattle.store.specs.Holders.{KeepsHolders}
 use Rattle.store.specs.Names.{LacksName}
 use Rattle.store.specs.Opened.{IsAt, layout_in_use}
 use Rattle.store.specs.Stands.{Stands, StandsBy, catalogues_of, entry_sectors, extents_of, name_of, sectors_of}
@@ -20,11 +22,13 @@ use Rattle.store.specs.inside.Kept.{IsKept}
 use Rattle.store.specs.inside.NameIndex.{IsOrderOf, entry_names}
 use Rattle.store.specs.inside.Next.{IsPut, next_root}
 use Rattle.store.specs.inside.Room.{AreHeld, IsReleased}
-use Rattle.store.proofs.Anew.{put_claimed, more_held, back_kept, moved_held, moved_size, moved_claims}
+use Rattle.store.proofs.Anew.{put_claimed, more_free, more_held, back_kept, moved_held, moved_size, moved_claimed}
 use Rattle.store.proofs.CataloguedEntries.{can_be_catalogued}
 use Rattle.store.proofs.Following.{following_fits, following_kept, next_catalogues}
 use Rattle.store.proofs.Frees.{IsCounted, facts_of, catalogues_enough, new_refused, new_taken, answers_refused, answers_failed, answers_done}
-use Rattle.store.proofs.News.{IsNew, free_room, room_place, new_next, new_moved, new_put}
+use Rattle.store.proofs.GivenUp.{rows_more}
+use Rattle.store.proofs.Holders.{keeps_same, keeps_table}
+use Rattle.store.proofs.News.{IsNew, free_room, room_place, new_next, new_moved, new_put, new_room}
 use Rattle.store.proofs.Placing.{taken_so}
 use Rattle.store.proofs.Untouched.{untouched}
 use Rattle.store.proofs.kept.Kept.put_new.Given as given
@@ -32,7 +36,7 @@ use Rattle.store.proofs.kept.Kept.put_new.Goals.{After-take_room, After-next_roo
 use Rattle.store.proofs.kept.Kept.put_new.Goals as goal
 
 -- what is known of the state before
-counted : (g : given.Over) (c : After-take_room g) (s : State) → IsAt g.D.Disk.facts c.args.self.now s → IsCounted c.self.inside.root c.self.inside.entries.items c.self.inside.layout s
+counted : (g : given.Over) (c : After-take_room g) (s : State) → IsAt g.D.Disk.facts c.args.self.now s → IsCounted c.self.inside.root c.self.inside.entries.items c.self.inside.held c.self.inside.layout s
 counted g c s at = facts_of g.D.Disk.facts (λ disk honest. g.met.D.Disk.holds_now _ honest) (λ disk honest. g.met.D.Disk.whole_sectors _ honest) c.self.view_is c.self.invariant.0 at
 
 usable : (g : given.Over) (c : After-take_room g) → c.self.inside.root.generation ≢ last_generation
@@ -48,7 +52,7 @@ more g c = omega (arith, c.catalogues_for-count.ensures, c.len-libraries.ensures
 rest : (g : given.Over) (c : After-take_room g) → c.catalogues_for-count.result - length c.catalogues.result.now ≡ c.catalogues_for-count.result - catalogues_for (length c.self.inside.entries.items)
 rest g c =
     let two = subst (λ store. version_of store.root ≡ Two) (sym c.self.view_is) c.requires.version in
-    ap (λ n. c.catalogues_for-count.result - n) (ap length c.catalogues.ensures ∙ catalogues_enough c.self.inside.root c.self.inside.entries.items c.self.inside.layout c.self.invariant.0 two)
+    ap (λ n. c.catalogues_for-count.result - n) (ap length c.catalogues.ensures ∙ catalogues_enough c.self.inside.root c.self.inside.entries.items c.self.inside.held c.self.inside.layout c.self.invariant.0 two)
 
 -- the entries are as they were while there is room for one more
 entries_are : (g : given.Over) (c : After-next_root-root g) → c.deref.result.now ≡ c.self.inside.entries.items
@@ -58,7 +62,7 @@ count_is : (g : given.Over) (c : After-next_root-root g) → c.len-libraries.res
 count_is g c = omega (arith, c.len-libraries.ensures, ap length c.reserve-2.ensures.items)
 
 -- what is put is one more entry
-newly : (g : given.Over) (c : After-next_root-root g) → IsNew c.self.inside.root c.self.inside.entries.items c.self.inside.layout c.take_room.new.layout c.as_slice-listed.result.now c.new_entry-put.result c.next_root-root.result
+newly : (g : given.Over) (c : After-next_root-root g) → IsNew c.self.inside.root c.self.inside.entries.items c.self.inside.held c.self.inside.layout c.take_room.new.layout c.as_slice-listed.result.now c.new_entry-put.result c.next_root-root.result
 newly g c =
     let put = c.new_entry-put.result in
     let room = c.in_ok-room.room in
@@ -136,7 +140,7 @@ pub invariant_of-self-in-Err : goal.invariant_of-self-in-Err
 invariant_of-self-in-Err g c =
     let is_new = newly g (goal.at.invariant_of-self-in-Err g c).After-next_root-root in
     let items = c.reserve-2.ensures.items in (
-      subst (λ l. IsKept c.self.inside.root l c.give_back_room.new.layout) (sym items) (back_kept is_new.kept is_new.claimed c.give_back_room.new.layout c.give_back_room.ensures),
+      subst (λ l. IsKept c.self.inside.root l c.self.inside.held c.give_back_room.new.layout) (sym items) (back_kept is_new.kept is_new.claimed c.give_back_room.new.layout c.give_back_room.ensures),
       subst (λ l. IsOrderOf (entry_names l) c.reserve.new.self.positions) (sym items) (subst (IsOrderOf (entry_names c.self.inside.entries.items)) (sym c.reserve.ensures.positions) c.self.invariant.1),
       c.write_put.ensures.calls.sectors ∙ c.self.invariant.2,
     )
@@ -170,12 +174,35 @@ invariant_of-self-2 g c =
     let new = c.release_sectors.new.layout in
     let released : IsReleased c.take_room.new.layout new (catalogues_of c.self.inside.root) = subst (IsReleased c.take_room.new.layout new) c.catalogues-2.ensures c.release_sectors.ensures in
     let moved = new_moved is_new in (
-      subst (λ l. IsKept c.next_root-root.result l new) (sym items) (following_kept (new_next is_new) is_new.kept.root_fits new
-          (moved_size is_new.kept is_new.claimed c.next_root-root.result others moved new released)
-          (moved_claims is_new.kept is_new.claimed c.next_root-root.result others moved new released)),
+      subst (λ l. IsKept c.next_root-root.result l c.self.inside.held new) (sym items) (following_kept (new_next is_new) is_new.kept.root_fits c.self.inside.held new
+          (moved_size is_new.kept is_new.claimed new released)
+          (new_room is_new (c.self.inside.root.sectors - length (lone_sectors c.self.inside.held)) (omega arith))
+          (rows_more put is_new.kept.rows)
+          (moved_claimed is_new.kept is_new.claimed c.next_root-root.result others moved new released)),
       subst (λ l. IsOrderOf (entry_names l) c.insert.new.self.positions) (ap (λ l. l ++ put ∷ []) c.deref-2.ensures.value ∙ sym c.in-Ok.ensures.items) (c.insert.ensures put c.new_entry-put.ensures.name),
       c.write_put.ensures.calls.sectors ∙ c.self.invariant.2 ∙ sym (ap (λ r. r.sectors) c.next_root-root.ensures),
     )
+
+pub returns-in_err-reserve-clause-held : goal.returns-in_err-reserve-clause-held
+returns-in_err-reserve-clause-held g c = keeps_same g.D.Disk.facts c.self.view_is
+
+pub returns-in_err-reserve-2-clause-held : goal.returns-in_err-reserve-2-clause-held
+returns-in_err-reserve-2-clause-held g c = keeps_same g.D.Disk.facts c.self.view_is
+
+pub returns-in_err-room-clause-held : goal.returns-in_err-room-clause-held
+returns-in_err-room-clause-held g c = keeps_same g.D.Disk.facts c.self.view_is
+
+pub returns-in-Err-clause-held : goal.returns-in-Err-clause-held
+returns-in-Err-clause-held g c =
+    let is_new = newly g (goal.at.returns-in-Err-clause-held g c).After-next_root-root in
+    subst (λ store. KeepsHolders (g.D.Disk.facts store.disk) (g.D.Disk.facts c.write_put.new.disk) store.held c.self.inside.held) c.self.view_is
+    (keeps_table is_new.kept (sectors_of c.new_entry-put.result ++ c.as_slice-listed.result.now) (more_free is_new.kept is_new.claimed) (c.write_put.ensures.others))
+
+pub returns-clause-held : goal.returns-clause-held
+returns-clause-held g c =
+    let is_new = newly g (goal.at.returns-clause-held g c).After-next_root-root in
+    subst (λ store. KeepsHolders (g.D.Disk.facts store.disk) (g.D.Disk.facts c.write_put.new.disk) store.held c.self.inside.held) c.self.view_is
+    (keeps_table is_new.kept (sectors_of c.new_entry-put.result ++ c.as_slice-listed.result.now) (more_free is_new.kept is_new.claimed) (c.write_put.ensures.others))
 
 pub returns-clause-any_moment : goal.returns-clause-any_moment
 returns-clause-any_moment g c s at_entry =
@@ -207,7 +234,7 @@ returns-clause-placed g c =
     let is_new = newly g (goal.at.returns-clause-placed g c).After-next_root-root in
     let put = c.new_entry-put.result in
     let room = c.in_ok-room.ensures in
-    let taken = taken_so c.self.inside.root c.self.inside.entries.items c.self.inside.layout c.self.invariant.0 c.sector_need.ensures c.new_entry-put.ensures.extents c.new_entry-put.ensures.at (next_catalogues (new_next is_new) is_new.kept.root_fits ∙ c.as_slice-listed.ensures.value) room.data room.inside room.taken in
+    let taken = taken_so c.self.inside.root c.self.inside.entries.items c.self.inside.held c.self.inside.layout c.self.invariant.0 c.sector_need.ensures c.new_entry-put.ensures.extents c.new_entry-put.ensures.at (next_catalogues (new_next is_new) is_new.kept.root_fits ∙ c.as_slice-listed.ensures.value) room.data room.inside room.taken in
     record {
       put = put;
       taken = subst (λ store. IsTaken (layout_in_use store) (div_ceil (length c.args.bytes.now) 512) (extents_of put.entry) put.at (catalogues_of c.next_root-root.result)) c.self.view_is taken;

@@ -1,4 +1,4 @@
-use Rattle.std.proofs.Common.{◌≡◌, ◌≢◌, ◌⊎◌, ◌*◌, ◌<◌, ◌≤◌, ◌++◌, All, get_or, set, length, take, IsTrue, None, refl, sym, subst, ap, ◌∙◌, arith}
+use Rattle.std.proofs.Common.{◌≡◌, ◌≢◌, ◌⊎◌, ◌-◌, ◌*◌, ◌<◌, ◌≤◌, ◌++◌, All, get_or, set, length, take, IsTrue, None, refl, sym, subst, ap, ◌∙◌, arith}
 use Rattle.std.specs.Int.{div_ceil}
 use Rattle.std.proofs.lemmas.Grind.{div_ceil_times}
 use Rattle.std.proofs.lemmas.List.{get_or_default}
@@ -10,35 +10,39 @@ use Rattle.roots.specs.declared.version.Version.TheVariants.{Two}
 use Rattle.store.specs.declared.placed_entry.PlacedEntry.{PlacedEntry}
 use Rattle.states.specs.State.{State}
 use Rattle.states.specs.Changes.{with_bytes}
+use Rattle.store.specs.Held.{lone_sectors}
+use Rattle.store.specs.Holders.{KeepsHolders}
 use Rattle.store.specs.Names.{HasName, IsName}
-use Rattle.store.specs.Opened.{IsAt, layout_in_use}
+use Rattle.store.specs.Opened.{IsAt, layout_in_use, room_of}
 use Rattle.store.specs.Stands.{Stands, catalogues_of, entry_sectors, extents_of, name_of, sectors_of}
 use Rattle.store.specs.Step.{longest_free, refusal_of_put}
 use Rattle.store.specs.Taken.{IsNamedAt, IsTaken}
 use Rattle.store.specs.inside.Catalogues.{CanBeCatalogued}
 use Rattle.store.specs.inside.Claimed.{IsClaimedBeside}
 use Rattle.store.specs.inside.Next.{IsPut, next_root}
-use Rattle.store.specs.inside.Room.{AreHeld, IsReleased}
-use Rattle.store.proofs.Anew.{put_claimed, more_held, back_kept, moved_held, moved_size, moved_claims}
+use Rattle.store.specs.inside.Room.{AreHeld, IsGivenUp}
+use Rattle.store.proofs.Anew.{put_claimed, more_free, more_held, back_kept, moved_held}
 use Rattle.store.proofs.CataloguedEntries.{can_be_catalogued}
 use Rattle.store.proofs.Following.{following_fits, following_kept, next_catalogues}
 use Rattle.store.proofs.Frees.{facts_of, over_refused, over_taken, exactly_refused, exactly_failed, exactly_done}
+use Rattle.store.proofs.GivenUp.{given_claimed, given_few, given_keeps, given_rows, given_size, still_set}
+use Rattle.store.proofs.Holders.{keeps_same, keeps_table}
 use Rattle.store.proofs.Libraries.{name_fits}
 use Rattle.store.proofs.NameIndex.{replaced}
 use Rattle.store.proofs.News.{free_room, room_place}
 use Rattle.store.proofs.Placing.{taken_so}
-use Rattle.store.proofs.Replacements.{IsReplacement, replacement_moved, replacement_next, replacement_put}
+use Rattle.store.proofs.Replacements.{IsReplacement, replacement_moved, replacement_next, replacement_put, replacement_room}
 use Rattle.store.proofs.Untouched.{untouched}
 use Rattle.store.proofs.UsedAlone.{no_entry}
 use Rattle.store.proofs.kept.Kept.put_over.Given as given
-use Rattle.store.proofs.kept.Kept.put_over.Goals.{After-next_root-root, After-catalogues}
+use Rattle.store.proofs.kept.Kept.put_over.Goals.{After-next_root-root, After-catalogues, After-give_up}
 use Rattle.store.proofs.kept.Kept.put_over.Goals as goal
 
 count_is : (g : given.Over) (c : After-next_root-root g) → c.len-libraries.result ≡ length c.self.inside.entries.items
 count_is g c = omega (arith, c.len-libraries.ensures)
 
 -- what is put stands in the place of the entry of its name
-replacing : (g : given.Over) (c : After-next_root-root g) → IsReplacement c.self.inside.root c.self.inside.entries.items c.self.inside.layout c.take_room.new.layout c.args.name.now c.in-Some.position c.as_slice-listed.result.now c.new_entry-put.result c.next_root-root.result
+replacing : (g : given.Over) (c : After-next_root-root g) → IsReplacement c.self.inside.root c.self.inside.entries.items c.self.inside.held c.self.inside.layout c.take_room.new.layout c.args.name.now c.in-Some.position c.as_slice-listed.result.now c.new_entry-put.result c.next_root-root.result
 replacing g c =
     let entries = c.self.inside.entries.items in
     let put = c.new_entry-put.result in
@@ -142,12 +146,21 @@ returns-in-Err-clause-any_moment g c s at_entry =
     subst (λ store. LeavesOnly (g.D.Disk.facts store.disk) (g.D.Disk.facts c.write_put.new.disk) (λ m. Stands m s ⊎ Stands m next)) c.self.view_is
     (c.write_put.ensures.any_moment at.honest Two c.self.inside.root entries s (set entries c.in-Some.position c.new_entry-put.result) next at.stands put)
 
-pub give_back_room-requires-2-clause-held : goal.give_back_room-requires-2-clause-held
-give_back_room-requires-2-clause-held g c =
-    let before = goal.at.give_back_room-requires-2-clause-held g c in
+pub give_up-requires-clause-held : goal.give_up-requires-clause-held
+give_up-requires-clause-held g c =
+    let before = goal.at.give_up-requires-clause-held g c in
     let is = replacing g before.After-next_root-root in
     let others = set c.self.inside.entries.items c.in-Some.position c.new_entry-put.result in
     subst (AreHeld c.take_room.new.layout) (sym (gone_is g before.After-catalogues)) (moved_held is.kept is.claimed c.next_root-root.result others (replacement_moved is))
+
+-- what is given up is what stood there
+given_up : (g : given.Over) (c : After-give_up g) → IsGivenUp c.self.inside.held c.give_up.new.held c.take_room.new.layout c.give_up.new.layout (get_or c.self.inside.entries.items c.in-Some.position no_entry) (catalogues_of c.self.inside.root)
+given_up g c =
+    let entries = c.self.inside.entries.items in
+    let inside : c.in-Some.position < length entries = omega (arith, c.in-Some.ensures.some.0, ap length c.deref.ensures.value) in
+    let old : c.index.result.now ≡ get_or entries c.in-Some.position no_entry = c.index.ensures ∙ get_or_default entries c.in-Some.position _ no_entry inside in
+    subst (λ p. IsGivenUp c.self.inside.held c.give_up.new.held c.take_room.new.layout c.give_up.new.layout p (catalogues_of c.self.inside.root)) old
+    (subst (λ l. IsGivenUp c.self.inside.held c.give_up.new.held c.take_room.new.layout c.give_up.new.layout c.index.result.now l) c.catalogues.ensures c.give_up.ensures)
 
 pub invariant_of-self-2 : goal.invariant_of-self-2
 invariant_of-self-2 g c =
@@ -158,16 +171,31 @@ invariant_of-self-2 g c =
     let position = c.in-Some.position in
     let root = c.next_root-root.result in
     let others = set entries position put in
-    let new = c.give_back_room-2.new.layout in
-    let released : IsReleased c.take_room.new.layout new (sectors_of (get_or entries position no_entry) ++ catalogues_of c.self.inside.root) =
-    subst (IsReleased c.take_room.new.layout new) (gone_is g before.After-catalogues) c.give_back_room-2.ensures in
-    let moved = replacement_moved is in (
-      following_kept (replacement_next is) is.kept.root_fits new
-          (moved_size is.kept is.claimed root others moved new released)
-          (moved_claims is.kept is.claimed root others moved new released),
+    let up = given_up g before.After-give_up in (
+      following_kept (replacement_next is) is.kept.root_fits c.give_up.new.held c.give_up.new.layout
+          (given_size is.kept position is.inside up is.claimed)
+          (replacement_room is (c.self.inside.root.sectors - length (lone_sectors c.give_up.new.held)) (omega (arith, given_few is.kept position is.inside up)))
+          (given_rows is.kept position is.inside up others (still_set entries position is.inside put))
+          (given_claimed is.kept position is.inside up is.claimed root others (replacement_moved is)),
       replaced entries c.self.inside.index position put no_entry c.self.invariant.1 is.inside (is.named no_entry ∙ sym is.its_name),
       c.write_put.ensures.calls.sectors ∙ c.self.invariant.2 ∙ sym (ap (λ r. r.sectors) c.next_root-root.ensures),
     )
+
+pub returns-in_err-room-clause-held : goal.returns-in_err-room-clause-held
+returns-in_err-room-clause-held g c = keeps_same g.D.Disk.facts c.self.view_is
+
+pub returns-in-Err-clause-held : goal.returns-in-Err-clause-held
+returns-in-Err-clause-held g c =
+    let is = replacing g (goal.at.returns-in-Err-clause-held g c).After-next_root-root in
+    subst (λ store. KeepsHolders (g.D.Disk.facts store.disk) (g.D.Disk.facts c.write_put.new.disk) store.held c.self.inside.held) c.self.view_is
+    (keeps_table is.kept (sectors_of c.new_entry-put.result ++ c.as_slice-listed.result.now) (more_free is.kept is.claimed) (c.write_put.ensures.others))
+
+pub returns-clause-held : goal.returns-clause-held
+returns-clause-held g c =
+    let before = goal.at.returns-clause-held g c in
+    let is = replacing g before.After-next_root-root in
+    subst (λ store. KeepsHolders (g.D.Disk.facts store.disk) (g.D.Disk.facts c.write_put.new.disk) store.held c.give_up.new.held) c.self.view_is
+    (given_keeps is.kept c.in-Some.position is.inside (given_up g before.After-give_up) is.claimed (c.write_put.ensures.others))
 
 pub returns-clause-any_moment : goal.returns-clause-any_moment
 returns-clause-any_moment g c s at_entry =
@@ -190,7 +218,7 @@ returns-clause-ok g c s at_entry =
     }
 
 -- where room was taken no refusal comes first
-accepted : (g : given.Over) (c : After-next_root-root g) (s : State) → IsAt g.D.Disk.facts c.args.self.now s → refusal_of_put c.args.self.now.root.sectors (longest_free c.args.self.now) s c.args.bytes.now ≡ None
+accepted : (g : given.Over) (c : After-next_root-root g) (s : State) → IsAt g.D.Disk.facts c.args.self.now s → refusal_of_put (room_of c.args.self.now) (longest_free c.args.self.now) s c.args.bytes.now ≡ None
 accepted g c s at_entry =
     let counted = facts_of g.D.Disk.facts g.met.D.Disk.holds_now g.met.D.Disk.whole_sectors c.self.view_is c.self.invariant.0 at_entry in
     over_taken c.self.view_is counted c.args.bytes.now (λ last. omega (arith, last, c.if-self-2.false)) c.sector_need.ensures (omega (arith, c.catalogues_for-count.ensures, c.len-libraries.ensures)) refl
@@ -218,7 +246,7 @@ returns-clause-placed g c =
     let put = c.new_entry-put.result in
     let room = c.in_ok-room.ensures in
     let listed = next_catalogues (replacement_next is) is.kept.root_fits ∙ c.as_slice-listed.ensures.value in
-    let taken = taken_so c.self.inside.root c.self.inside.entries.items c.self.inside.layout is.kept c.sector_need.ensures c.new_entry-put.ensures.extents c.new_entry-put.ensures.at listed room.data room.inside room.taken in
+    let taken = taken_so c.self.inside.root c.self.inside.entries.items c.self.inside.held c.self.inside.layout is.kept c.sector_need.ensures c.new_entry-put.ensures.extents c.new_entry-put.ensures.at listed room.data room.inside room.taken in
     record {
       position = c.in-Some.position;
       at = subst (λ store. IsNamedAt store c.args.name.now c.in-Some.position) c.self.view_is (record { inside = is.inside; named = is.named });

@@ -4,6 +4,8 @@ use Rattle.store.specs.Opened.{IsAtBy}
 use Rattle.store.specs.declared.placed_entry.PlacedEntry.{PlacedEntry}
 use Rattle.passes.specs.Bytes.{IsOnDisk}
 use Rattle.store.specs.Stands.{extents_of}
+use Rattle.store.specs.Holders.{KeepsHolders}
+use Rattle.store.proofs.Holders.{keeps_reads}
 use Rattle.store.proofs.Within.{entry_on_disk}
 use Rattle.store.proofs.kept.Kept.read_blob.Goals as goal
 
@@ -24,3 +26,8 @@ returns-clause-same g c version s at =
       usable = before.usable;
       stands = λ m mixture. before.stands m (still_mixture (c.read_file.ensures.same before.honest) m mixture);
     }
+
+pub returns-clause-held : goal.returns-clause-held
+returns-clause-held g c =
+    subst (λ store. KeepsHolders (g.D.Disk.facts store.disk) (g.D.Disk.facts c.read_file.new.disk) store.held c.self.inside.held) c.self.view_is
+    (keeps_reads c.self.inside.held (λ honest. still_mixture (c.read_file.ensures.same honest)))

@@ -1,4 +1,4 @@
-use Rattle.std.proofs.Common.{◌≡◌, ◌≢◌, ◌⊎◌, ⊎_elim, ◌↔◌, ◌+◌, ◌*◌, ◌<◌, ◌≤◌, IsTrue, None, Ok, Err, length, take, refl, sym, ap, subst, ◌∙◌, arith}
+use Rattle.std.proofs.Common.{◌≡◌, ◌≢◌, ◌⊎◌, ⊎_elim, ◌↔◌, ◌+◌, ◌-◌, ◌*◌, ◌<◌, ◌≤◌, IsTrue, [], None, Ok, Err, length, take, refl, sym, ap, subst, ◌∙◌, arith}
 use Rattle.std.proofs.lemmas.Bool.{cases_lt}
 use Rattle.sector_disk.specs.Disk.{LeavesOnly}
 use Rattle.states.specs.Cost.{catalogues_for, taken_by}
@@ -13,23 +13,25 @@ use Rattle.states.specs.State.{State}
 use Rattle.store.specs.declared.refusal.StoreRefusal.TheVariants.{Full}
 use Rattle.store.specs.Step.{refusal_of_upgrade, IsExactAnswer}
 use Rattle.store.specs.Opened.{IsOldAt}
+use Rattle.store.specs.Held.{lone_sectors}
 use Rattle.store.specs.Stands.{Stands, StandsOld, catalogues_of, entry_sectors, used}
 use Rattle.store.specs.Taken.{AreTaken}
 use Rattle.store.specs.Upgraded.{upgraded}
 use Rattle.store.specs.inside.Catalogues.{CanBeCatalogued}
 use Rattle.store.specs.inside.Next.{IsRelisting, next_root}
 use Rattle.store.specs.inside.Room.{HavePlaces}
-use Rattle.store.proofs.Anew.{more_inside, more_once, moved_claims, moved_size, released_nothing}
+use Rattle.store.proofs.Anew.{more_inside, more_once, moved_claimed, moved_size, released_nothing}
+use Rattle.store.proofs.Beside.{in_use_alone}
 use Rattle.store.proofs.CataloguedEntries.{can_be_catalogued}
 use Rattle.store.proofs.Frees.{old_free_is, upgrade_full, upgrade_accepted}
 use Rattle.store.proofs.Following.{following_fits, following_kept}
-use Rattle.store.proofs.Relistings.{IsRelist, relist_next, relist_moved, relist_taken, relisting}
+use Rattle.store.proofs.Relistings.{IsRelist, relist_next, relist_moved, relist_room, relist_taken, relisting}
 use Rattle.store.proofs.kept.Kept.relist.Given as given
 use Rattle.store.proofs.kept.Kept.relist.Goals.{After-free_count, After-next_root-root}
 use Rattle.store.proofs.kept.Kept.relist.Goals as goal
 
 -- the next root lists the same entries by the catalogues that were taken
-relisted : (g : given.Over) (c : After-next_root-root g) → IsRelist c.self.inside.root c.self.inside.entries.items c.self.inside.layout c.take_catalogues-taken.new.layout c.as_slice-listed.result.now c.next_root-root.result
+relisted : (g : given.Over) (c : After-next_root-root g) → IsRelist c.self.inside.root c.self.inside.entries.items c.self.inside.held c.self.inside.layout c.take_catalogues-taken.new.layout c.as_slice-listed.result.now c.next_root-root.result
 relisted g c =
     let kept = c.self.invariant.0 in
     let cats = c.as_slice-listed.ensures.value in
@@ -90,7 +92,11 @@ invariant_of-self-2 g c =
     let is = relisted g (goal.at.invariant_of-self-2 g c).After-next_root-root in
     let mid = c.take_catalogues-taken.new.layout in
     let nothing = released_nothing mid in (
-      following_kept (relist_next is) is.kept.root_fits mid (moved_size is.kept is.claimed c.next_root-root.result c.self.inside.entries.items (relist_moved is) mid nothing) (moved_claims is.kept is.claimed c.next_root-root.result c.self.inside.entries.items (relist_moved is) mid nothing),
+      following_kept (relist_next is) is.kept.root_fits c.self.inside.held mid
+          (moved_size is.kept is.claimed mid nothing)
+          (relist_room is (c.self.inside.root.sectors - length (lone_sectors c.self.inside.held)) (omega arith))
+          is.kept.rows
+          (moved_claimed is.kept is.claimed c.next_root-root.result c.self.inside.entries.items (relist_moved is) mid nothing),
       c.self.invariant.1,
       c.write_list.ensures.calls.sectors ∙ c.self.invariant.2 ∙ sym (ap (λ r. r.sectors) c.next_root-root.ensures),
     )
@@ -120,7 +126,8 @@ room_of g c s at_entry =
     let whole = whole_mixture (g.met.D.Disk.whole_sectors _ at.honest) (g.D.Disk.facts c.self.inside.disk).time (omega arith) now holds in
     let count : c.len-libraries.result ≡ length c.self.inside.entries.items = omega (arith, c.len-libraries.ensures) in
     let all : c.catalogues_for-count.result ≡ catalogues_for (length c.self.inside.entries.items) = c.catalogues_for-count.ensures ∙ ap catalogues_for count in
-    let is = old_free_is now c.self.inside.root c.self.inside.entries.items c.self.inside.layout s c.self.invariant.0 whole (at.stands now holds) in (
+    let unheld = subst (λ store. store.held ≡ []) (sym c.self.view_is) c.requires.unheld in
+    let is = old_free_is c.self.inside.root c.self.inside.entries.items c.self.inside.held c.self.inside.layout c.self.invariant.0 unheld now s whole (at.stands now holds) in (
       λ lt. is.0 (omega (arith, lt, c.free_count.ensures.value, all)),
       λ lt. omega (arith, is.1 lt, c.free_count.ensures.value, all),
     )
@@ -151,8 +158,10 @@ returns-clause-refused g c s at =
 pub returns-clause-placed : goal.returns-clause-placed
 returns-clause-placed g c =
     let is = relisted g (goal.at.returns-clause-placed g c).After-next_root-root in
+    let unheld = subst (λ store. store.held ≡ []) (sym c.self.view_is) c.requires.unheld in
     let taken = subst (AreTaken c.self.inside.layout) (sym c.as_slice-listed.ensures.value) c.take_catalogues-taken.ensures.taken in
     record {
-      taken = subst (λ store. AreTaken (layout_of store.root.sectors (used store.root store.entries)) (catalogues_of c.next_root-root.result)) c.self.view_is (relist_taken is taken);
+      taken = subst (λ store. AreTaken (layout_of store.root.sectors (used store.root store.entries)) (catalogues_of c.next_root-root.result)) c.self.view_is
+          (subst (λ l. AreTaken (layout_of c.self.inside.root.sectors l) (catalogues_of c.next_root-root.result)) (in_use_alone c.self.inside.root c.self.inside.entries.items c.self.inside.held unheld) (relist_taken is taken));
       entries = ap (λ store. store.entries) c.self.view_is;
     }

@@ -1,6 +1,5 @@
-use Rattle.std.proofs.Common.{◌≡◌, ◌⊎◌, ◌<◌, All, length, IsTrue, refl, sym, subst, ap, ◌∙◌, arith}
+use Rattle.std.proofs.Common.{◌≡◌, ◌⊎◌, ◌<◌, [], All, length, IsTrue, refl, sym, subst, ap, ◌∙◌, arith}
 use Rattle.sector_disk.specs.Disk.{LeavesOnly}
-use Rattle.extents.specs.Used.{ClaimsJust}
 use Rattle.roots.specs.declared.version.Version.TheVariants.{Two}
 use Rattle.roots.specs.Root.{version_of}
 use Rattle.store.specs.Opened.{IsAt}
@@ -8,8 +7,10 @@ use Rattle.store.specs.Stands.{Stands, catalogues_of, names_at}
 use Rattle.states.specs.State.{State}
 use Rattle.states.specs.Changes.{with_preloads}
 use Rattle.store.specs.inside.Next.{IsNext, IsFollowed}
+use Rattle.store.specs.Holders.{KeepsHolders}
+use Rattle.store.proofs.Holders.{keeps_table}
 use Rattle.store.proofs.Following.{following_fits, following_kept, next_version}
-use Rattle.store.proofs.Preloads.{preloads_next, preloads_followed, same_catalogues, same_used_sectors}
+use Rattle.store.proofs.Preloads.{preloads_next, preloads_followed, preloads_room, same_catalogues, same_claimed}
 use Rattle.store.proofs.kept.Kept.set_preloads.Given as given
 use Rattle.store.proofs.kept.Kept.set_preloads.Goals.{After-with_preloads-root}
 use Rattle.store.proofs.kept.Kept.set_preloads.Goals as goal
@@ -57,7 +58,10 @@ invariant_of-self-2 g c =
     let kept = c.self.invariant.0 in
     let before = (goal.at.invariant_of-self-2 g c).After-with_preloads-root in
     let next = choosing g before in (
-      following_kept next kept.root_fits c.self.inside.layout kept.size (subst (ClaimsJust c.self.inside.layout) (sym (same_used_sectors c.args.positions.now kept (is_two g before) before.with_preloads-root.ensures)) kept.claims),
+      following_kept next kept.root_fits c.self.inside.held c.self.inside.layout kept.size
+          (preloads_room c.args.positions.now kept (is_two g before) before.with_preloads-root.ensures)
+          kept.rows
+          (same_claimed c.args.positions.now kept (is_two g before) before.with_preloads-root.ensures),
       c.self.invariant.1,
       c.write_root.ensures.calls.sectors ∙ c.self.invariant.2 ∙ sym (ap (λ r. r.sectors) c.with_preloads-root.ensures),
     )
@@ -81,3 +85,13 @@ returns-clause-catalogues g c =
     let before = (goal.at.returns-clause-catalogues g c).After-with_preloads-root in
     subst (λ store. catalogues_of c.with_preloads-root.result ≡ catalogues_of store.root) c.self.view_is
     (same_catalogues c.args.positions.now c.self.invariant.0 (is_two g before) before.with_preloads-root.ensures)
+
+pub returns-in_err-write_root-clause-held : goal.returns-in_err-write_root-clause-held
+returns-in_err-write_root-clause-held g c =
+    subst (λ store. KeepsHolders (g.D.Disk.facts store.disk) (g.D.Disk.facts c.write_root.new.disk) store.held c.self.inside.held) c.self.view_is
+    (keeps_table c.self.invariant.0 [] (λ k found. omega (arith, found.1)) (c.write_root.ensures.others))
+
+pub returns-clause-held : goal.returns-clause-held
+returns-clause-held g c =
+    subst (λ store. KeepsHolders (g.D.Disk.facts store.disk) (g.D.Disk.facts c.write_root.new.disk) store.held c.self.inside.held) c.self.view_is
+    (keeps_table c.self.invariant.0 [] (λ k found. omega (arith, found.1)) (c.write_root.ensures.others))

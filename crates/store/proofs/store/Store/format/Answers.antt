@@ -12,9 +12,10 @@ invariant_of-result g c =
     let sectors = c.sectors-sectors.result in
     let geometry : IsGeometry sectors = search rules in
     let root = c.in-Ok-write_first_root.ensures.root in (
-      subst (λ r. IsKept r c.new-in-Ok-write_first_root.result.items c.in-Ok.layout) (sym root)
-          (subst (λ l. IsKept (first_root sectors) l c.in-Ok.layout) (sym c.new-in-Ok-write_first_root.ensures.items)
-          (subst (λ flags. IsKept (first_root sectors) [] flags) (sym c.in-Ok.ensures.ok) (first_kept sectors geometry))),
+      subst (λ r. IsKept r c.new-in-Ok-write_first_root.result.items c.new-in-Ok-write_first_root-2.result c.in-Ok.layout) (sym root)
+          (subst (λ l. IsKept (first_root sectors) l c.new-in-Ok-write_first_root-2.result c.in-Ok.layout) (sym c.new-in-Ok-write_first_root.ensures.items)
+          (subst (λ held. IsKept (first_root sectors) [] held c.in-Ok.layout) (sym c.new-in-Ok-write_first_root-2.ensures)
+          (subst (λ flags. IsKept (first_root sectors) [] [] flags) (sym c.in-Ok.ensures.ok) (first_kept sectors geometry)))),
       subst (λ l. IsIndex l c.empty.result) (sym c.new-in-Ok-write_first_root.ensures.items) c.empty.ensures,
       c.write_first_root.ensures.calls.some.sectors ∙ sym c.sectors-sectors.ensures ∙ ap (λ r. r.sectors) (sym root),
     )

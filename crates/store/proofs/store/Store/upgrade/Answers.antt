@@ -19,6 +19,10 @@ returns-in_err-store-clause-answer g c honest s stands =
     let p = err_from_is_err_and c.from_residual.result c.from_residual.ensures.1 in
     rw (p.1, p.2) (as_looked (refusal_of_upgrade (g.D.Disk.facts c.args.disk).sectors s) c.in_err-store.field-0.0.0 (c.in_err-store.ensures.stands_old honest s stands))
 
+pub returns-in-Current-clause-any_moment : goal.returns-in-Current-clause-any_moment
+returns-in-Current-clause-any_moment g c honest s stands =
+    absurd (seen_current g.D.Disk.facts c.in_ok-store.field-0 c.in-Current.store c.in-Current.is s (c.in_ok-store.ensures.stands_old honest s stands))
+
 pub returns-in-Current-clause-ok : goal.returns-in-Current-clause-ok
 returns-in-Current-clause-ok g c honest =
     let found = current_found g.D.Disk.facts c.in_ok-store.field-0 c.in-Current.store (g.D.Disk.facts c.args.disk).now (c.in_ok-store.ensures.ok honest) c.in-Current.is in

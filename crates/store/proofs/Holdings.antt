@@ -1,0 +1,408 @@
+-- The rows of held versions: what each change of them keeps.
+use Rattle.std.proofs.Common.{◌≡◌, ◌≢◌, ⊎_elim, ℕ, zero, suc, ◌+◌, ◌-◌, ◌<◌, ◌≤◌, ◌==◌, nat_eq, Bool, true, false, if◌then◌else◌, sum_by, List, [], ◌∷◌, ◌++◌, length, get_or, set, refl, sym, ap, subst, ◌∙◌, arith}
+use Rattle.std.specs.Prelude.{AllPairs, Contains}
+use Rattle.std.specs.List.{flat_map}
+use Rattle.std.proofs.Math.ListN.{get_or-map}
+use Rattle.std.proofs.Math.Seq.{map-set_same}
+use Rattle.std.proofs.lemmas.Bool.{cases_Bool, cases_lt, eq-eqb, eqb-true, eqb-false, ne_eqb, false≢true}
+use Rattle.std.proofs.lemmas.Grind.{flat_map-append, get_or-set_at}
+use Rattle.std.proofs.lemmas.List.{append-nil, get_or-set_other, get_or_append_left, get_or_default, length-append, length-set}
+use Rattle.std.proofs.lemmas.List.Concat.{length-flat_map}
+use Rattle.std.proofs.lemmas.List.Elements.{All-push, All-set, Contains-push}
+use Rattle.std.proofs.lemmas.List.Quantifiers.{all_pairs_push}
+use Rattle.std.proofs.lemmas.List.Sums.{get_or-le-sum_by, sum_by-append, sum_by-cons, sum_by-set}
+use Rattle.roots.specs.Entry.{EntryHasSpelling}
+use Rattle.store.specs.declared.placed_entry.PlacedEntry.{PlacedEntry}
+use Rattle.store.specs.declared.holding.Holding.{Holding}
+use Rattle.store.specs.Held.{own_sectors, lone_sectors, holders_of, IsHeldBy}
+use Rattle.store.specs.Stands.{sectors_of}
+use Rattle.store.specs.inside.Holdings.{IsUnheld, IsAtPlace, IsHeldOnce, IsHeldMore, IsLeft, IsHeldLess, IsLetGo, IsHolding, AreHoldings, with_holders, unlisted, first_holding}
+use Rattle.store.proofs.Counts.{occurs, occurs-flat_map}
+use Rattle.store.proofs.HeldRows.{no_holding}
+use Rattle.store.proofs.SwapRemoves.{All-swap_remove, AllPairs-swap_remove, length-swap_remove, sum_by-swap_removed, swap_remove_cases}
+
+-- no two rows have one sector
+abbrev pub HaveOwnSectors : List Holding → Type 0
+HaveOwnSectors held = AllPairs (λ a b. a.placed.at ≢ b.placed.at) held
+
+-- so two places with one sector are one place
+pub same_place : (held : List Holding) (i j : ℕ) (d : Holding) → HaveOwnSectors held → i < length held → j < length held → (get_or held i d).placed.at ≡ (get_or held j d).placed.at → i ≡ j
+same_place held i j d own first second same = ⊎_elim
+    (λ less. absurd (own i j d less second same))
+    (λ from. ⊎_elim
+    (λ more. absurd (own j i d more first (sym same)))
+    (λ upto. omega (arith, from, upto))
+    (cases_lt j i))
+    (cases_lt i j)
+
+-- rows say the same of something once one stands in a place that does
+pub field_set : {A : Type 0} (f : Holding → A) (held : List Holding) (place : ℕ) (row : Holding) → ((d : Holding) → f row ≡ f (get_or held place d)) → (k : ℕ) (d : Holding) → f (get_or (set held place row) k d) ≡ f (get_or held k d)
+field_set f held place row same k d =
+    sym (get_or-map f (set held place row) k d) ∙ ap (λ l. get_or l k (f d)) (map-set_same f held place row d (same d)) ∙ get_or-map f held k d
+
+own_set : (held : List Holding) (place : ℕ) (row : Holding) → ((d : Holding) → row.placed.at ≡ (get_or held place d).placed.at) → HaveOwnSectors held → HaveOwnSectors (set held place row)
+own_set held place row same own i j d less fits = λ equal.
+    let sector = λ (h : Holding). h.placed.at in
+    own i j d less (omega (arith, fits, length-set held place row)) (sym (field_set sector held place row same i d) ∙ equal ∙ field_set sector held place row same j d)
+
+-- The rows of a store.
+module _ {entries : List PlacedEntry} {old : List Holding} (are : AreHoldings entries old) where
+  -- the row of a sector
+  pub row_of : {sector place : ℕ} {holding : Holding} → IsAtPlace old sector place holding → IsHolding entries holding
+  row_of {place = place} at = subst (IsHolding entries) (at.is no_holding) (are.each place no_holding at.inside)
+
+  -- a listed version is held for the first time
+  pub held_once : {new : List Holding} → {placed : PlacedEntry} → IsHeldOnce old new placed → EntryHasSpelling placed.entry → Contains entries placed → AreHoldings entries new
+  held_once {placed = placed} once fits listed =
+      let row = first_holding placed in
+      subst (AreHoldings entries) (sym once.is) (record {
+        each = All-push (IsHolding entries) old row are.each (record { fits = fits; some = omega arith; listed = λ _. listed });
+        own = all_pairs_push (λ (a b : Holding). a.placed.at ≢ b.placed.at) old row are.own once.absent;
+      })
+
+  -- the same version with another count
+  counted : {sector place : ℕ} {holding : Holding} (holders : ℕ) → 0 < holders → IsAtPlace old sector place holding → AreHoldings entries (set old place (with_holders holders holding))
+  counted {place = place} {holding = holding} holders some at =
+      let was = row_of at in
+      let row = with_holders holders holding in record {
+        each = All-set (IsHolding entries) old place row (record { fits = was.fits; some = some; listed = was.listed }) are.each;
+        own = own_set old place row (λ d. ap (λ (h : Holding). h.placed.at) (sym (at.is d))) are.own;
+      }
+
+  pub held_more : {new : List Holding} → {sector : ℕ} → IsHeldMore old new sector → AreHoldings entries new
+  held_more more = subst (AreHoldings entries) (sym more.is) (counted (more.holding.holders + 1) (omega arith) more.at)
+
+  pub held_less : {new : List Holding} → {sector : ℕ} → IsHeldLess old new sector → AreHoldings entries new
+  held_less less = subst (AreHoldings entries) (sym less.is) (counted less.holders less.some less.at)
+
+  -- the last holder lets a version go
+  pub held_gone : {new : List Holding} → {sector : ℕ} {holding : Holding} → IsLetGo old new sector holding → AreHoldings entries new
+  held_gone {holding = holding} gone = subst (AreHoldings entries) (sym gone.is) (record {
+    each = All-swap_remove old gone.place holding gone.at.inside (IsHolding entries) are.each;
+    own = AllPairs-swap_remove old gone.place holding gone.at.inside (λ (a b : Holding). a.placed.at ≢ b.placed.at) (λ a b apart same. apart (sym same)) are.own;
+  })
+
+  -- The state lists other entries, where the rows of all sectors but one hold for these,
+  module _ {others : List PlacedEntry} where
+    -- which is left,
+    pub held_left : {new : List Holding} → {at : ℕ} → IsLeft old new at → ((h : Holding) → IsHolding entries h → h.placed.at ≢ at → IsHolding others h) → AreHoldings others new
+    held_left left moves =
+        let was = row_of left.at in
+        let row = unlisted left.holding in
+        let sector = λ (h : Holding). h.placed.at in
+        subst (AreHoldings others) (sym left.is) (record {
+          each = λ k d lt.
+              let fits : k < length old = omega (arith, lt, length-set old left.place row) in
+              ⊎_elim
+              (λ is. subst (IsHolding others) (sym (get_or-set_at old left.place k row d (eqb-true k left.place is) left.at.inside)) (record { fits = was.fits; some = was.some; listed = λ lists. absurd (false≢true lists) }))
+              (λ isnt.
+              let other : k ≢ left.place = eqb-false k left.place isnt in
+              subst (IsHolding others) (sym (get_or-set_other old left.place k row d other))
+              (moves (get_or old k d) (are.each k d fits) (λ same. other (same_place old k left.place d are.own fits left.at.inside (same ∙ sym (ap sector (left.at.is d) ∙ left.at.its))))))
+              (cases_Bool (nat_eq k left.place));
+          own = own_set old left.place row (λ d. ap sector (sym (left.at.is d))) are.own;
+        })
+
+    -- or not held.
+    pub held_unheld : {at : ℕ} → IsUnheld old at → ((h : Holding) → IsHolding entries h → h.placed.at ≢ at → IsHolding others h) → AreHoldings others old
+    held_unheld absent moves = record {
+      each = λ k d lt. moves (get_or old k d) (are.each k d lt) (absent k d lt);
+      own = are.own;
+    }
+
+-- A sum over the rows: one more row,
+sum_once : (f : Holding → ℕ) {old new : List Holding} {placed : PlacedEntry} → IsHeldOnce old new placed → sum_by f new ≡ sum_by f old + f (first_holding placed)
+sum_once f {old = old} {placed = placed} once =
+    let row = first_holding placed in
+    omega (arith, ap (sum_by f) once.is, sum_by-append f old (row ∷ []), sum_by-cons f row [])
+
+-- another row in a place,
+sum_set : (f : Holding → ℕ) {old : List Holding} {sector place : ℕ} {holding : Holding} → IsAtPlace old sector place holding → (row : Holding) → sum_by f (set old place row) + f holding ≡ sum_by f old + f row
+sum_set f {old = old} {place = place} at row = omega (arith, ap f (at.is no_holding), sum_by-set f old place row no_holding at.inside)
+
+-- and one row less.
+sum_gone : (f : Holding → ℕ) {old new : List Holding} {sector : ℕ} {holding : Holding} → IsLetGo old new sector holding → sum_by f new + f holding ≡ sum_by f old
+sum_gone f {old = old} {holding = holding} gone = omega (arith, ap (sum_by f) gone.is, sum_by-swap_removed old gone.place holding gone.at.inside f gone.at.is)
+
+-- a row keeps all sectors of its version where the state doesn't list it, and else none
+own_all : (holding : Holding) → holding.listed ≡ false → own_sectors holding ≡ sectors_of holding.placed
+own_all holding is = ap (λ b. if b then [] else sectors_of holding.placed) is
+
+own_none : (holding : Holding) → holding.listed ≡ true → own_sectors holding ≡ []
+own_none holding is = ap (λ b. if b then [] else sectors_of holding.placed) is
+
+flat_map-set_same : {X : Type 0} (f : X → List ℕ) (xs : List X) (i : ℕ) (x d : X) → f x ≡ f (get_or xs i d) → flat_map f (set xs i x) ≡ flat_map f xs
+flat_map-set_same f [] i x d same = refl
+flat_map-set_same f (y ∷ xs) zero x d same = ap (λ l. l ++ flat_map f xs) same
+flat_map-set_same f (y ∷ xs) (suc i) x d same = ap (λ l. f y ++ l) (flat_map-set_same f xs i x d same)
+
+-- The first holder of a version keeps no sectors, since the state lists it,
+pub lone_once : {old new : List Holding} {placed : PlacedEntry} → IsHeldOnce old new placed → lone_sectors new ≡ lone_sectors old
+lone_once {old = old} {placed = placed} once = ap lone_sectors once.is ∙ flat_map-append own_sectors old (first_holding placed ∷ []) ∙ append-nil (lone_sectors old)
+
+-- and how many hold it changes none.
+lone_counted : {old : List Holding} {sector place : ℕ} {holding : Holding} (holders : ℕ) → IsAtPlace old sector place holding → lone_sectors (set old place (with_holders holders holding)) ≡ lone_sectors old
+lone_counted {old = old} {place = place} {holding = holding} holders at = flat_map-set_same own_sectors old place (with_holders holders holding) no_holding (ap own_sectors (sym (at.is no_holding)))
+
+pub lone_more : {old new : List Holding} {sector : ℕ} → IsHeldMore old new sector → lone_sectors new ≡ lone_sectors old
+lone_more more = ap lone_sectors more.is ∙ lone_counted (more.holding.holders + 1) more.at
+
+pub lone_less : {old new : List Holding} {sector : ℕ} → IsHeldLess old new sector → lone_sectors new ≡ lone_sectors old
+lone_less less = ap lone_sectors less.is ∙ lone_counted less.holders less.at
+
+-- What counts sectors, one by one:
+module _ (f : List ℕ → ℕ) (none : f [] ≡ 0) (adds : (held : List Holding) → f (lone_sectors held) ≡ sum_by (λ holding. f (own_sectors holding)) held) where
+  left_adds : {old new : List Holding} {sector : ℕ} (left : IsLeft old new sector) → left.holding.listed ≡ true → f (lone_sectors new) ≡ f (lone_sectors old) + f (sectors_of left.holding.placed)
+  left_adds {old = old} {new = new} left listed =
+      let g = λ (holding : Holding). f (own_sectors holding) in
+      omega (arith, none, adds old, adds new, ap (sum_by g) left.is, sum_set g left.at (unlisted left.holding), ap f (own_none left.holding listed))
+
+  gone_takes : {old new : List Holding} {sector : ℕ} {holding : Holding} → IsLetGo old new sector holding → holding.listed ≡ false → f (lone_sectors new) + f (sectors_of holding.placed) ≡ f (lone_sectors old)
+  gone_takes {old = old} {new = new} {holding = holding} gone listed =
+      omega (arith, adds old, adds new, sum_gone (λ (row : Holding). f (own_sectors row)) gone, ap f (own_all holding listed))
+
+  gone_leaves : {old new : List Holding} {sector : ℕ} {holding : Holding} → IsLetGo old new sector holding → holding.listed ≡ true → f (lone_sectors new) ≡ f (lone_sectors old)
+  gone_leaves {old = old} {new = new} {holding = holding} gone listed =
+      omega (arith, none, adds old, adds new, sum_gone (λ (row : Holding). f (own_sectors row)) gone, ap f (own_none holding listed))
+
+-- once the state lists a version no longer, its holders keep its sectors,
+pub left_occurs : {old new : List Holding} {sector : ℕ} (left : IsLeft old new sector) → left.holding.listed ≡ true → (k : ℕ) → occurs k (lone_sectors new) ≡ occurs k (lone_sectors old) + occurs k (sectors_of left.holding.placed)
+left_occurs left listed k = left_adds (occurs k) refl (occurs-flat_map k own_sectors) left listed
+
+pub left_length : {old new : List Holding} {sector : ℕ} (left : IsLeft old new sector) → left.holding.listed ≡ true → length (lone_sectors new) ≡ length (lone_sectors old) + length (sectors_of left.holding.placed)
+left_length left listed = left_adds length refl (length-flat_map own_sectors) left listed
+
+-- until the last of them lets it go.
+pub gone_occurs : {old new : List Holding} {sector : ℕ} {holding : Holding} → IsLetGo old new sector holding → holding.listed ≡ false → (k : ℕ) → occurs k (lone_sectors new) + occurs k (sectors_of holding.placed) ≡ occurs k (lone_sectors old)
+gone_occurs gone listed k = gone_takes (occurs k) refl (occurs-flat_map k own_sectors) gone listed
+
+pub gone_length : {old new : List Holding} {sector : ℕ} {holding : Holding} → IsLetGo old new sector holding → holding.listed ≡ false → length (lone_sectors new) + length (sectors_of holding.placed) ≡ length (lone_sectors old)
+gone_length gone listed = gone_takes length refl (length-flat_map own_sectors) gone listed
+
+-- One that the state lists goes with no sector.
+pub gone_listed_occurs : {old new : List Holding} {sector : ℕ} {holding : Holding} → IsLetGo old new sector holding → holding.listed ≡ true → (k : ℕ) → occurs k (lone_sectors new) ≡ occurs k (lone_sectors old)
+gone_listed_occurs gone listed k = gone_leaves (occurs k) refl (occurs-flat_map k own_sectors) gone listed
+
+pub gone_listed_length : {old new : List Holding} {sector : ℕ} {holding : Holding} → IsLetGo old new sector holding → holding.listed ≡ true → length (lone_sectors new) ≡ length (lone_sectors old)
+gone_listed_length gone listed = gone_leaves length refl (length-flat_map own_sectors) gone listed
+
+-- by a row alone, how many hold the version with this entry sector
+abbrev holders_at : ℕ → Holding → ℕ
+holders_at sector holding = if holding.placed.at == sector then holding.holders else 0
+
+one_more : (b : Bool) (n : ℕ) → (if b then n + 1 else 0) ≡ (if b then n else 0) + (if b then 1 else 0)
+one_more true n = refl
+one_more false n = refl
+
+-- How many hold a version: one more where it is held once more,
+pub holders_once : {old new : List Holding} {placed : PlacedEntry} → IsHeldOnce old new placed → (sector : ℕ) → holders_of new sector ≡ holders_of old sector + (if placed.at == sector then 1 else 0)
+holders_once once sector = sum_once (holders_at sector) once
+
+pub holders_more : {old new : List Holding} {at : ℕ} → IsHeldMore old new at → (sector : ℕ) → holders_of new sector ≡ holders_of old sector + (if at == sector then 1 else 0)
+holders_more {old = old} {at = at} more sector =
+    let row = more.holding in
+    omega (
+      arith,
+      ap (λ l. holders_of l sector) more.is,
+      sum_set (holders_at sector) more.at (with_holders (row.holders + 1) row),
+      one_more (row.placed.at == sector) row.holders,
+      ap {B = ℕ} (λ k. if k == sector then 1 else 0) more.at.its,
+    )
+
+-- as many once the state lists it no longer,
+pub holders_left : {old new : List Holding} {at : ℕ} → IsLeft old new at → (sector : ℕ) → holders_of new sector ≡ holders_of old sector
+holders_left left sector =
+    omega (arith, ap (λ l. holders_of l sector) left.is, sum_set (holders_at sector) left.at (unlisted left.holding))
+
+-- one less where one lets it go,
+pub holders_less : {old new : List Holding} {at : ℕ} → IsHeldLess old new at → (sector : ℕ) → holders_of old sector ≡ holders_of new sector + (if at == sector then 1 else 0)
+holders_less less sector =
+    let row = less.holding in
+    omega (
+      arith,
+      ap (λ l. holders_of l sector) less.is,
+      sum_set (holders_at sector) less.at (with_holders less.holders row),
+      ap (λ n. if row.placed.at == sector then n else 0) less.was,
+      one_more (row.placed.at == sector) less.holders,
+      ap {B = ℕ} (λ k. if k == sector then 1 else 0) less.at.its,
+    )
+
+-- also where it is the last,
+pub holders_gone : {entries : List PlacedEntry} {old new : List Holding} {at : ℕ} {holding : Holding} → AreHoldings entries old → IsLetGo old new at holding → (sector : ℕ) → holders_of old sector ≡ holders_of new sector + (if at == sector then 1 else 0)
+holders_gone {holding = holding} are gone sector =
+    let one : holding.holders ≡ 1 = omega (arith, gone.last, (row_of are gone.at).some) in
+    omega (
+      arith,
+      sum_gone (holders_at sector) gone,
+      ap (λ n. if holding.placed.at == sector then n else 0) one,
+      ap {B = ℕ} (λ k. if k == sector then 1 else 0) gone.at.its,
+    )
+
+-- and none where it isn't held.
+pub holders_unheld : (held : List Holding) (sector : ℕ) → IsUnheld held sector → holders_of held sector ≡ 0
+holders_unheld [] sector absent = refl
+holders_unheld (row ∷ held) sector absent =
+    let other : (row.placed.at == sector) ≡ false = ne_eqb row.placed.at sector (absent 0 row (omega arith)) in
+    omega (
+      arith,
+      sum_by-cons (holders_at sector) row held,
+      ap (λ b. if b then row.holders else 0) other,
+      holders_unheld held sector (λ k d lt. absent (suc k) d (omega (arith, lt))),
+    )
+
+-- The entry of a held version stands in its row,
+pub by_place : {held : List Holding} {sector place : ℕ} {holding : Holding} → IsAtPlace held sector place holding → IsHeldBy held sector holding.placed
+by_place {place = place} at = record { place = place; inside = at.inside; is = λ d. ap (λ (h : Holding). h.placed) (at.is d); its = at.its }
+
+pub by_first : {old new : List Holding} {placed : PlacedEntry} → IsHeldOnce old new placed → IsHeldBy new placed.at placed
+by_first {old = old} {placed = placed} once =
+    let row = first_holding placed in
+    let found = Contains-push old row in
+    subst (λ l. IsHeldBy l placed.at placed) (sym once.is) (record {
+      place = found.0;
+      inside = found.1;
+      is = λ d. ap (λ (h : Holding). h.placed) (get_or_default (old ++ row ∷ []) found.0 d row found.1 ∙ found.2);
+      its = refl;
+    })
+
+-- and it has one row.
+pub by_one : {held : List Holding} {sector : ℕ} {p q : PlacedEntry} → HaveOwnSectors held → IsHeldBy held sector p → IsHeldBy held sector q → p ≡ q
+by_one {held = held} own first second =
+    let sector = λ (placed : PlacedEntry). placed.at in
+    let same = ap sector (first.is no_holding) ∙ first.its ∙ sym (ap sector (second.is no_holding) ∙ second.its) in
+    let is : first.place ≡ second.place = same_place held first.place second.place no_holding own first.inside second.inside same in
+    sym (first.is no_holding) ∙ ap (λ k. (get_or held k no_holding).placed) is ∙ second.is no_holding
+
+-- It stands there once another version is held,
+pub by_once : {old new : List Holding} {sector : ℕ} {p placed : PlacedEntry} → IsHeldOnce old new placed → IsHeldBy old sector p → IsHeldBy new sector p
+by_once {old = old} {sector = sector} {p = p} {placed = placed} once by =
+    let row = first_holding placed in
+    subst (λ l. IsHeldBy l sector p) (sym once.is) (record {
+      place = by.place;
+      inside = omega (arith, by.inside, length-append old (row ∷ []));
+      is = λ d. ap (λ (h : Holding). h.placed) (get_or_append_left old (row ∷ []) d by.place by.inside) ∙ by.is d;
+      its = by.its;
+    })
+
+-- or the row of one is written,
+by_set : {old : List Holding} {sector at place : ℕ} {p : PlacedEntry} {holding : Holding} → IsAtPlace old at place holding → (row : Holding) → row.placed ≡ holding.placed → IsHeldBy old sector p → IsHeldBy (set old place row) sector p
+by_set {old = old} {place = place} at row same by =
+    let entry = λ (h : Holding). h.placed in record {
+      place = by.place;
+      inside = omega (arith, by.inside, length-set old place row);
+      is = λ d. field_set entry old place row (λ e. same ∙ ap entry (sym (at.is e))) by.place d ∙ by.is d;
+      its = by.its;
+    }
+
+pub by_more : {old new : List Holding} {sector at : ℕ} {p : PlacedEntry} → IsHeldMore old new at → IsHeldBy old sector p → IsHeldBy new sector p
+by_more {sector = sector} {p = p} more by = subst (λ l. IsHeldBy l sector p) (sym more.is) (by_set more.at (with_holders (more.holding.holders + 1) more.holding) refl by)
+
+pub by_left : {old new : List Holding} {sector at : ℕ} {p : PlacedEntry} → IsLeft old new at → IsHeldBy old sector p → IsHeldBy new sector p
+by_left {sector = sector} {p = p} left by = subst (λ l. IsHeldBy l sector p) (sym left.is) (by_set left.at (unlisted left.holding) refl by)
+
+pub by_less : {old new : List Holding} {sector at : ℕ} {p : PlacedEntry} → IsHeldLess old new at → IsHeldBy old sector p → IsHeldBy new sector p
+by_less {sector = sector} {p = p} less by = subst (λ l. IsHeldBy l sector p) (sym less.is) (by_set less.at (with_holders less.holders less.holding) refl by)
+
+-- or that of another one goes.
+below : (a b : ℕ) → a ≢ b → a ≤ b → a < b
+below a b apart le = ⊎_elim (λ lt. lt) (λ ge. absurd (apart (omega (arith, le, ge)))) (cases_lt a b)
+
+pub by_gone_other : {old new : List Holding} {sector at : ℕ} {p : PlacedEntry} {holding : Holding} → IsLetGo old new at holding → sector ≢ at → IsHeldBy old sector p → IsHeldBy new sector p
+by_gone_other {old = old} {new = new} {sector = sector} {at = at} {p = p} {holding = holding} gone apart by =
+    let entry = λ (h : Holding). h.placed in
+    let last = length old - 1 in
+    let count = length-swap_remove old gone.place holding gone.at.inside in
+    let other : by.place ≢ gone.place = (λ same.
+    let is : p ≡ holding.placed = sym (by.is no_holding) ∙ ap (λ k. (get_or old k no_holding).placed) same ∙ ap entry (gone.at.is no_holding) in
+    apart (sym by.its ∙ ap (λ (placed : PlacedEntry). placed.at) is ∙ gone.at.its)) in
+    subst (λ l. IsHeldBy l sector p) (sym gone.is) (⊎_elim
+    (λ is_last.
+    let at_last : by.place ≡ last = eqb-true by.place last is_last in
+    let before : gone.place + 1 < length old = omega (arith, below gone.place last (λ same. other (at_last ∙ sym same)) (omega (arith, gone.at.inside))) in record {
+      place = gone.place;
+      inside = omega (arith, count, before);
+      is = λ d. swap_remove_cases old gone.place holding gone.at.inside (λ (h : Holding). h.placed ≡ p) gone.place d before
+          (λ _. ap (λ k. (get_or old k d).placed) (sym at_last) ∙ by.is d)
+          (λ elsewhere. absurd (elsewhere refl));
+      its = by.its;
+    })
+    (λ isnt.
+    let before : by.place + 1 < length old = omega (arith, below by.place last (eqb-false by.place last isnt) (omega (arith, by.inside))) in record {
+      place = by.place;
+      inside = omega (arith, count, before);
+      is = λ d. swap_remove_cases old gone.place holding gone.at.inside (λ (h : Holding). h.placed ≡ p) by.place d before
+          (λ here. absurd (other here))
+          (λ _. by.is d);
+      its = by.its;
+    })
+    (cases_Bool (nat_eq by.place last)))
+
+-- Where a row goes there is none of its sector,
+pub gone_unheld : {old new : List Holding} {at : ℕ} {holding : Holding} → HaveOwnSectors old → IsLetGo old new at holding → IsUnheld new at
+gone_unheld {old = old} {at = at} {holding = holding} own gone =
+    let sector = λ (h : Holding). h.placed.at in
+    let last = length old - 1 in
+    subst (λ l. IsUnheld l at) (sym gone.is) (λ k d lt.
+    let before : k + 1 < length old = omega (arith, lt, length-swap_remove old gone.place holding gone.at.inside) in
+    let only : (i : ℕ) → i < length old → (get_or old i d).placed.at ≡ at → i ≡ gone.place =
+    λ i fits same. same_place old i gone.place d own fits gone.at.inside (same ∙ sym (ap sector (gone.at.is d) ∙ gone.at.its)) in
+    swap_remove_cases old gone.place holding gone.at.inside (λ (h : Holding). h.placed.at ≢ at) k d before
+    (λ here same. absurd (omega (arith, here, before, only last (omega (arith, before)) same)))
+    (λ other same. other (only k (omega (arith, before)) same)))
+
+-- so a version that somebody holds still has its row.
+pub by_gone : {old new : List Holding} {sector at : ℕ} {p : PlacedEntry} {holding : Holding} → HaveOwnSectors old → IsLetGo old new at holding → 0 < holders_of new sector → IsHeldBy old sector p → IsHeldBy new sector p
+by_gone {new = new} {sector = sector} {at = at} own gone some by =
+    by_gone_other gone (λ same. absurd (omega (arith, some, ap (holders_of new) same, holders_unheld new at (gone_unheld own gone)))) by
+
+-- What stands in a row afterwards stood in one before.
+by_set_back : {old : List Holding} {sector at place : ℕ} {p : PlacedEntry} {holding : Holding} → IsAtPlace old at place holding → (row : Holding) → row.placed ≡ holding.placed → IsHeldBy (set old place row) sector p → IsHeldBy old sector p
+by_set_back {old = old} {place = place} at row same by =
+    let entry = λ (h : Holding). h.placed in record {
+      place = by.place;
+      inside = omega (arith, by.inside, length-set old place row);
+      is = λ d. sym (field_set entry old place row (λ e. same ∙ ap entry (sym (at.is e))) by.place d) ∙ by.is d;
+      its = by.its;
+    }
+
+pub by_left_back : {old new : List Holding} {sector at : ℕ} {p : PlacedEntry} → IsLeft old new at → IsHeldBy new sector p → IsHeldBy old sector p
+by_left_back {sector = sector} {p = p} left by = by_set_back left.at (unlisted left.holding) refl (subst (λ l. IsHeldBy l sector p) left.is by)
+
+pub by_less_back : {old new : List Holding} {sector at : ℕ} {p : PlacedEntry} → IsHeldLess old new at → IsHeldBy new sector p → IsHeldBy old sector p
+by_less_back {sector = sector} {p = p} less by = by_set_back less.at (with_holders less.holders less.holding) refl (subst (λ l. IsHeldBy l sector p) less.is by)
+
+pub by_gone_back : {old new : List Holding} {sector at : ℕ} {p : PlacedEntry} {holding : Holding} → IsLetGo old new at holding → IsHeldBy new sector p → IsHeldBy old sector p
+by_gone_back {old = old} {sector = sector} {p = p} {holding = holding} gone by_new =
+    let by = subst (λ l. IsHeldBy l sector p) gone.is by_new in
+    let last = length old - 1 in
+    let count = length-swap_remove old gone.place holding gone.at.inside in
+    let before : by.place + 1 < length old = omega (arith, by.inside, count) in
+    let stood = λ (d : Holding). swap_remove_cases old gone.place holding gone.at.inside (λ (h : Holding). (by.place ≡ gone.place → h ≡ get_or old last d) × (by.place ≢ gone.place → h ≡ get_or old by.place d)) by.place d before
+    (λ here. (λ _. refl, λ other. absurd (other here)))
+    (λ other. (λ here. absurd (other here), λ _. refl)) in
+    ⊎_elim
+    (λ here. record {
+      place = last;
+      inside = omega (arith, before);
+      is = λ d. ap (λ (h : Holding). h.placed) (sym ((stood d).0 (eqb-true by.place gone.place here))) ∙ by.is d;
+      its = by.its;
+    })
+    (λ other. record {
+      place = by.place;
+      inside = omega (arith, before);
+      is = λ d. ap (λ (h : Holding). h.placed) (sym ((stood d).1 (eqb-false by.place gone.place other))) ∙ by.is d;
+      its = by.its;
+    })
+    (cases_Bool (nat_eq by.place gone.place))
+
+-- Somebody holds what has a row.
+pub by_some : {entries : List PlacedEntry} {held : List Holding} {sector : ℕ} {p : PlacedEntry} → AreHoldings entries held → IsHeldBy held sector p → 0 < holders_of held sector
+by_some {held = held} {sector = sector} are by =
+    let row = get_or held by.place no_holding in
+    let its : (row.placed.at == sector) ≡ true = eq-eqb row.placed.at sector (ap (λ (placed : PlacedEntry). placed.at) (by.is no_holding) ∙ by.its) in
+    omega (
+      arith,
+      (are.each by.place no_holding by.inside).some,
+      ap (λ b. if b then row.holders else 0) its,
+      get_or-le-sum_by (holders_at sector) held by.place no_holding by.inside,
+    )

@@ -1,0 +1,126 @@
+// The table of the versions that somebody holds.
+ghost use Rattle.std.specs.Prelude.{◌≡◌, ◌⊎◌, [], IsTrue, IsFalse, IsNone};
+ghost use Rattle.std.specs.Prelude.{IfSome, IfErr, OnOk, OnErr};
+ghost use Rattle.store.specs.declared.holding.Holding.{Holding};
+ghost use Rattle.store.specs.Held.{IsHeldBy};
+ghost use Rattle.store.specs.inside.Holdings.{IsUnheld, IsAtPlace, IsHeldOnce, IsHeldMore};
+ghost use Rattle.store.specs.inside.Holdings.{IsLeft, IsHeldLess, IsLetGo};
+
+use crate::holding::Holding;
+use crate::placed_entry::PlacedEntry;
+use crate::refusal::StoreRefusal;
+use indexmap::IndexMap;
+use std::alloc::Global;
+use std::marker::Model;
+
+/// The versions that somebody holds, one row each, found by the sector of their entry.
+#[derive(Drop)]
+pub(crate) struct HeldVersions {
+    rows: IndexMap<u32, Holding>,
+}
+
+impl Model for HeldVersions {
+    ghost use Rattle.std.specs.Prelude.{◌≡◌, List, map};
+    ghost use Rattle.indexmap.specs.IndexMap.{keys, values};
+    ghost use Rattle.store.specs.declared.holding.Holding.{Holding};
+
+    ghost Value = { List Holding };
+
+    ghost view = { λ held. values held.rows };
+
+    ghost invariant = { λ held. keys held.rows ≡ map (λ h. h.placed.at) (values held.rows) };
+}
+
+impl HeldVersions {
+    /// Nothing is held. It takes no memory.
+    pub(crate) fn new(alloc: Global) -> HeldVersions
+        ensures { result ≡ [] }
+    {
+        HeldVersions {
+            rows: IndexMap::new(alloc),
+        }
+    }
+
+    /// The place of the row with this entry sector.
+    fn place_of(&self, sector: u32) -> Option<usize>
+        ensures none { IsNone result → IsUnheld self.now sector }
+        ensures some { IfSome result (λ place. (holding : Holding)
+            × IsAtPlace self.now sector place holding) }
+    {
+        self.rows.get_index_of(&sector)
+    }
+
+    /// The entry of the held version with this entry sector.
+    pub(crate) fn placed(&self, sector: u32) -> Option<&PlacedEntry>
+        ensures none { IsNone result → IsUnheld self.now sector }
+        ensures some { IfSome result (λ placed. IsHeldBy self.now sector placed.now) }
+    {
+        let place = self.place_of(sector)?;
+        Some(&self.rows[place].placed)
+    }
+
+    /// A version that nobody held gets a row.
+    fn add(&mut self, placed: &PlacedEntry) -> Result<(), StoreRefusal>
+        requires { IsUnheld self.old placed.now.at }
+        ensures ok { OnOk result (IsHeldOnce self.old self.new placed.now) }
+        ensures err { OnErr result (self.new ≡ self.old) }
+        ensures refusals { IfErr result (λ e. e ≡ StoreRefusal.OutOfMemory) }
+    {
+        let first = Holding {
+            placed: *placed,
+            holders: 1,
+            listed: true,
+        };
+        let Ok(_) = self.rows.insert(placed.at, first) else {
+            return Err(StoreRefusal::OutOfMemory);
+        };
+        Ok(())
+    }
+
+    /// One more holds the version of this entry. Only the first takes memory.
+    pub(crate) fn hold(&mut self, placed: &PlacedEntry) -> Result<(), StoreRefusal>
+        ensures ok { OnOk result (IsHeldOnce self.old self.new placed.now
+            ⊎ IsHeldMore self.old self.new placed.now.at) }
+        ensures err { OnErr result (self.new ≡ self.old) }
+        ensures refusals { IfErr result (λ e. e ≡ StoreRefusal.OutOfMemory) }
+    {
+        let Some(place) = self.place_of(placed.at) else {
+            return self.add(placed);
+        };
+        let Some(holders) = self.rows[place].holders.checked_add(1) else {
+            return Err(StoreRefusal::OutOfMemory);
+        };
+        self.rows[place].holders = holders;
+        Ok(())
+    }
+
+    /// The state lists the version with this entry sector no longer. Whether it is held.
+    pub(crate) fn leave(&mut self, sector: u32) -> bool
+        ensures no { IsFalse result → (IsUnheld self.old sector) × (self.new ≡ self.old) }
+        ensures yes { IsTrue result → IsLeft self.old self.new sector }
+    {
+        match self.place_of(sector) {
+            Some(place) => {
+                self.rows[place].listed = false;
+                true
+            }
+            None => false,
+        }
+    }
+
+    /// One less holds the version with this entry sector. The version, where nobody does now. It
+    /// takes no memory, and moves one row at most.
+    pub(crate) fn let_go(&mut self, sector: u32) -> Option<Holding>
+        ensures none { IsNone result → (IsHeldLess self.old self.new sector)
+            ⊎ ((IsUnheld self.old sector) × (self.new ≡ self.old)) }
+        ensures some { IfSome result (IsLetGo self.old self.new sector) }
+    {
+        let place = self.place_of(sector)?;
+        if self.rows[place].holders > 1 {
+            self.rows[place].holders -= 1;
+            return None;
+        }
+        let (_, holding) = self.rows.swap_remove_index(place)?;
+        Some(holding)
+    }
+}

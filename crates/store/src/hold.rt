@@ -1,0 +1,83 @@
+// Holding versions of byte strings: what is held is read as it was, whatever is put over it.
+use crate::held::Held;
+use crate::kept::Kept;
+use crate::read::read_file;
+use crate::refusal::StoreRefusal;
+use crate::room::give_back;
+use crate::store::Store;
+use sector_disk::Disk;
+use std::alloc::Global;
+
+impl<D: Disk> Kept<D> {
+    ghost use Rattle.std.specs.Prelude.{◌<◌, length};
+    ghost use Rattle.store.specs.Holding.{Holds, LetsGo, ReadsHeld};
+
+    /// Holds the byte string at this position as it is now.
+    fn hold(&mut self, position: usize) -> Result<Held, StoreRefusal>
+        requires { position < length self.old.entries }
+        ensures { Holds D.facts self.old self.new position result }
+    {
+        if self.failed {
+            return Err(StoreRefusal::Reopen);
+        }
+        let placed = &self.entries[position];
+        self.held.hold(placed)?;
+        Ok(Held { at: placed.at })
+    }
+
+    /// The byte string that is held.
+    fn read_held(&mut self, alloc: Global, held: &Held) -> Result<Vec<u8>, StoreRefusal>
+        ensures { ReadsHeld D.facts self.old self.new held.now result }
+    {
+        if self.failed {
+            return Err(StoreRefusal::Reopen);
+        }
+        let Some(placed) = self.held.placed(held.at) else {
+            return Err(StoreRefusal::Damaged);
+        };
+        read_file(alloc, &mut self.disk, placed)
+    }
+
+    /// Lets a version go.
+    fn let_go(&mut self, held: Held)
+        ensures { LetsGo D.facts self.old self.new held }
+    {
+        let Held { at } = held;
+        if let Some(version) = self.held.let_go(at) {
+            if !version.listed {
+                give_back(&mut self.layout, &version.placed);
+            }
+        }
+    }
+}
+
+impl<D: Disk> Store<D> {
+    ghost use Rattle.std.specs.Prelude.{◌<◌, length};
+    ghost use Rattle.store.specs.Holding.{Holds, LetsGo, ReadsHeld};
+
+    /// Holds the byte string at this position as it is now. It makes no call of the disk, and copies
+    /// none of its bytes. The first holder of a version takes memory, for all that follows of it.
+    pub fn hold(&mut self, position: usize) -> Result<Held, StoreRefusal>
+        requires { position < length self.old.entries }
+        ensures { Holds D.facts self.old self.new position result }
+    {
+        self.kept.hold(position)
+    }
+
+    /// The byte string that is held. It reads each of its sectors once, and writes nothing. Damaged,
+    /// without a call of the disk, where nobody holds it here: the handle is another store's.
+    pub fn read_held(&mut self, alloc: Global, held: &Held) -> Result<Vec<u8>, StoreRefusal>
+        ensures { ReadsHeld D.facts self.old self.new held.now result }
+    {
+        self.kept.read_held(alloc, held)
+    }
+
+    /// Lets a version go. Where this was its last holder and the state lists it no longer, its
+    /// sectors are free. It makes no call of the disk and takes no memory, also after S2; and it
+    /// does nothing where nobody holds the version here.
+    pub fn let_go(&mut self, held: Held)
+        ensures { LetsGo D.facts self.old self.new held }
+    {
+        self.kept.let_go(held);
+    }
+}
