@@ -1,8 +1,8 @@
 //! Cutting the power of a disk in memory, for programs that look at all that is left.
 //!
-//! A cut fails one call of a disk. What a stop may leave then is a number of mixtures, each of which
-//! is opened and compared with what may be found there by the call that failed. A tally counts the
-//! comparisons of a group, and those that are wrong.
+//! A cut fails one call of a disk. What a stop may leave then is a number of mixtures, each of
+//! which is opened and compared with what may be found there by the call that failed. A tally
+//! counts the comparisons of a group, and those that are wrong.
 #![tactic(auto)]
 
 mod mixture;

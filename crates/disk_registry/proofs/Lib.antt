@@ -3,6 +3,7 @@ pub mod Applying
 pub mod Changed
 pub mod Files
 pub mod Forms
+pub mod Keeping
 pub mod Names
 pub mod Openings
 pub mod Putting

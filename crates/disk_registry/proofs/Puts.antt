@@ -57,12 +57,12 @@ no_failed_new sectors longest t bytes = by (nat_lt (length t.libraries) most_lib
 module _ (p : Phase) (bytes : List ℕ) (taken : library_refusal bytes ≡ None) where
   -- where the file is a library with a new name, the first refusal is the store's
   pub install_refusal : is_installed (table_of p) (name_of bytes) ≡ false
-      → refusal_at p (install bytes) ≡ option_map refusal_of (step.refusal_of_new p.sectors p.longest p.state bytes)
+      → refusal_at p (install bytes) ≡ option_map refusal_of (step.refusal_of_new (p.sectors - p.lone) p.longest p.state bytes)
   install_refusal absent =
       by (library_refusal bytes) (is_installed (table_of p) (name_of bytes)) (has_most (table_of p)) (nat_lt (length p.state.libraries) most_libraries)
       (is_last (table_of p)) (is_full (catalogue_cost (length (table_of p).names)) (table_of p) bytes) (is_fragmented (table_of p) bytes)
       taken absent (most_same _ _ count)
-      ∙ ap (λ n. option_map refusal_of (if nat_lt (length p.state.libraries) most_libraries then step.refusal_of_bytes p.sectors p.longest (catalogue_cost n) p.state bytes else Some store_refusal.TooMany)) count
+      ∙ ap (λ n. option_map refusal_of (if nat_lt (length p.state.libraries) most_libraries then step.refusal_of_bytes (p.sectors - p.lone) p.longest (catalogue_cost n) p.state bytes else Some store_refusal.TooMany)) count
     where
       count : length (table_of p).names ≡ length p.state.libraries
       count = length-map p.state.libraries (λ l. l.name)
@@ -82,7 +82,7 @@ module _ (p : Phase) (bytes : List ℕ) (taken : library_refusal bytes ≡ None)
 
   -- where it is a library whose name is there, too
   pub replace_refusal : is_installed (table_of p) (name_of bytes) ≡ true
-      → refusal_at p (replace bytes) ≡ option_map refusal_of (step.refusal_of_put p.sectors p.longest p.state bytes)
+      → refusal_at p (replace bytes) ≡ option_map refusal_of (step.refusal_of_put (p.sectors - p.lone) p.longest p.state bytes)
   replace_refusal there =
       by (library_refusal bytes) (is_installed (table_of p) (name_of bytes)) (is_last (table_of p)) (is_full 0 (table_of p) bytes)
       (is_fragmented (table_of p) bytes) taken there

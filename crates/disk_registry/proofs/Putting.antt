@@ -1,5 +1,5 @@
 -- What putting a library does to a registry on a disk, by what the store did.
-use Rattle.std.proofs.Common.{◌≡◌, ◌≢◌, ◌↔◌, ◌<◌, ◌⊎◌, ℕ, true, false, List, ◌∷◌, length, get_or, Option, Some, None, Result, Ok, Err, IsTrue, IsFalse, refl, sym, ap, subst, ◌∙◌}
+use Rattle.std.proofs.Common.{◌≡◌, ◌≢◌, ◌↔◌, ◌<◌, ◌-◌, ◌⊎◌, ℕ, true, false, List, ◌∷◌, length, get_or, Option, Some, None, Result, Ok, Err, IsTrue, IsFalse, refl, sym, ap, subst, ◌∙◌}
 use Rattle.std.specs.Prelude.{is_some, IfSome}
 use Rattle.std.specs.Option.{option_map}
 use Rattle.std.proofs.lemmas.Bool.{false≢true}
@@ -8,8 +8,9 @@ use Rattle.hash_check.specs.FileRefusal.{ReadNeedsMemory}
 use Rattle.hash_check.specs.declared.file_refusal.FileRefusal.{FileRefusal}
 use Rattle.sector_disk.specs.Disk.{DiskFacts, LeavesOnly}
 use Rattle.states.specs.Changes.{with_new, with_bytes}
+use Rattle.store.specs.Held.{lone_sectors}
 use Rattle.store.specs.Opened as store
-use Rattle.store.specs.Opened.{Opened}
+use Rattle.store.specs.Opened.{Opened, room_of}
 use Rattle.store.specs.Stands as sectors
 use Rattle.store.specs.Stands.{no_library}
 use Rattle.store.specs.Step.{longest_free, refusal_of_new, refusal_of_put, IsAnswer, IsExactAnswer, IsRefusalOfPutOver, IsRefusalOfPutNew}
@@ -123,24 +124,24 @@ module _ {D : Type 0} (facts : D → DiskFacts) (old : Opened D) (s : State) (at
         new_leaves : LeavesOnly (facts old.disk) (facts new.disk) (λ m. sectors.Stands m s ⊎ sectors.Stands m (accepted s (install bytes)))
         new_leaves = subst (λ n. LeavesOnly (facts old.disk) (facts new.disk) (λ m. sectors.Stands m s ⊎ sectors.Stands m (with_new n bytes s))) named leaves
 
-        new_tested : refusal_at (phase_of facts old s) (install bytes) ≡ option_map refusal_of (refusal_of_new old.root.sectors (longest_free old) s bytes)
+        new_tested : refusal_at (phase_of facts old s) (install bytes) ≡ option_map refusal_of (refusal_of_new (room_of old) (longest_free old) s bytes)
         new_tested =
             install_refusal (phase_of facts old s) bytes taken (subst (λ n. has_name (names_of s.libraries) n ≡ false) named absent)
-            ∙ ap (λ n. option_map refusal_of (refusal_of_new n (longest_free old) s bytes)) (sym root)
+            ∙ ap (λ n. option_map refusal_of (refusal_of_new (n - length (lone_sectors old.held)) (longest_free old) s bytes)) (sym root)
 
-        pub install_done : (done : Unit {0}) → IsAnswer (refusal_of_new old.root.sectors (longest_free old) s bytes) (Ok done) → IsFalse new.failed
+        pub install_done : (done : Unit {0}) → IsAnswer (refusal_of_new (room_of old) (longest_free old) s bytes) (Ok done) → IsFalse new.failed
             → store.IsAt facts new (with_new name bytes s) → Applies facts old new s (install bytes) Done
         install_done done answer usable after =
-            change_done facts old s at (install bytes) new (refusal_of_new old.root.sectors (longest_free old) s bytes) tt new_tested (each_installed s bytes taken at.libraries) new_leaves
+            change_done facts old s at (install bytes) new (refusal_of_new (room_of old) (longest_free old) s bytes) tt new_tested (each_installed s bytes taken at.libraries) new_leaves
             done answer usable (subst (λ n. store.IsAt facts new (with_new n bytes s)) named after)
 
-        pub install_refused : (e : StoreRefusal) → IsAnswer (refusal_of_new old.root.sectors (longest_free old) s bytes) (Err e)
+        pub install_refused : (e : StoreRefusal) → IsAnswer (refusal_of_new (room_of old) (longest_free old) s bytes) (Err e)
             → ◌↔◌ (◌≡◌ {A = Result (Unit {0}) StoreRefusal} (Err e) (Err store_refusal.Reopen)) (IsTrue old.failed) → IsRefusalOfPutNew e
             → (e ≡ store_refusal.Device → ((facts old.disk).failures < (facts new.disk).failures) × IsTrue new.failed) → (e ≢ store_refusal.Device → new ≡ old) → ReadNeedsMemory bytes
             → Applies facts old new s (install bytes) (Refused (refusal_of e))
         install_refused e answer reopen may device same memory =
-            change_refused facts old s at (install bytes) new (refusal_of_new old.root.sectors (longest_free old) s bytes) tt new_tested (each_installed s bytes taken at.libraries) new_leaves
-            e answer (no_failed_new old.root.sectors (longest_free old) s bytes) (λ is. false≢true (sym at.stored.usable ∙ reopen.0 (ap Err is))) may device same (λ is. memory)
+            change_refused facts old s at (install bytes) new (refusal_of_new (room_of old) (longest_free old) s bytes) tt new_tested (each_installed s bytes taken at.libraries) new_leaves
+            e answer (no_failed_new (room_of old) (longest_free old) s bytes) (λ is. false≢true (sym at.stored.usable ∙ reopen.0 (ap Err is))) may device same (λ is. memory)
 
       -- it is put in the place of the one of its name
       module _ (there : has_name (names_of s.libraries) name ≡ true)
@@ -148,23 +149,23 @@ module _ {D : Type 0} (facts : D → DiskFacts) (old : Opened D) (s : State) (at
         over_leaves : LeavesOnly (facts old.disk) (facts new.disk) (λ m. sectors.Stands m s ⊎ sectors.Stands m (accepted s (replace bytes)))
         over_leaves = subst (λ n. LeavesOnly (facts old.disk) (facts new.disk) (λ m. sectors.Stands m s ⊎ sectors.Stands m (with_bytes n bytes s))) named leaves
 
-        over_tested : refusal_at (phase_of facts old s) (replace bytes) ≡ option_map refusal_of (refusal_of_put old.root.sectors (longest_free old) s bytes)
+        over_tested : refusal_at (phase_of facts old s) (replace bytes) ≡ option_map refusal_of (refusal_of_put (room_of old) (longest_free old) s bytes)
         over_tested =
             replace_refusal (phase_of facts old s) bytes taken (subst (λ n. has_name (names_of s.libraries) n ≡ true) named there)
-            ∙ ap (λ n. option_map refusal_of (refusal_of_put n (longest_free old) s bytes)) (sym root)
+            ∙ ap (λ n. option_map refusal_of (refusal_of_put (n - length (lone_sectors old.held)) (longest_free old) s bytes)) (sym root)
 
-        pub replace_done : (done : Unit {0}) → IsExactAnswer (refusal_of_put old.root.sectors (longest_free old) s bytes) (Ok done) → IsFalse new.failed
+        pub replace_done : (done : Unit {0}) → IsExactAnswer (refusal_of_put (room_of old) (longest_free old) s bytes) (Ok done) → IsFalse new.failed
             → store.IsAt facts new (with_bytes name bytes s) → Applies facts old new s (replace bytes) Done
         replace_done done answer usable after =
-            let first = refusal_of_put old.root.sectors (longest_free old) s bytes in
+            let first = refusal_of_put (room_of old) (longest_free old) s bytes in
             change_done facts old s at (replace bytes) new first tt over_tested (each_put s bytes taken at.libraries) over_leaves
             done (exact_answer first (Ok done) answer) usable (subst (λ n. store.IsAt facts new (with_bytes n bytes s)) named after)
 
-        pub replace_refused : (e : StoreRefusal) → IsExactAnswer (refusal_of_put old.root.sectors (longest_free old) s bytes) (Err e)
+        pub replace_refused : (e : StoreRefusal) → IsExactAnswer (refusal_of_put (room_of old) (longest_free old) s bytes) (Err e)
             → ◌↔◌ (◌≡◌ {A = Result (Unit {0}) StoreRefusal} (Err e) (Err store_refusal.Reopen)) (IsTrue old.failed) → IsRefusalOfPutOver e
             → (e ≡ store_refusal.Device → ((facts old.disk).failures < (facts new.disk).failures) × IsTrue new.failed) → (e ≢ store_refusal.Device → new ≡ old) → ReadNeedsMemory bytes
             → Applies facts old new s (replace bytes) (Refused (refusal_of e))
         replace_refused e answer reopen may device same memory =
-            let first = refusal_of_put old.root.sectors (longest_free old) s bytes in
+            let first = refusal_of_put (room_of old) (longest_free old) s bytes in
             change_refused facts old s at (replace bytes) new first tt over_tested (each_put s bytes taken at.libraries) over_leaves
-            e (exact_answer first (Err e) answer) (no_failed_put old.root.sectors (longest_free old) s bytes) (λ is. false≢true (sym at.stored.usable ∙ reopen.0 (ap Err is))) (over_is_new e may) device same (λ is. memory)
+            e (exact_answer first (Err e) answer) (no_failed_put (room_of old) (longest_free old) s bytes) (λ is. false≢true (sym at.stored.usable ∙ reopen.0 (ap Err is))) (over_is_new e may) device same (λ is. memory)

@@ -45,13 +45,13 @@ module _ (s : State) (round : Round) (told : RoundReplies × Fuse Memory) (memor
   was_left = (same_disk_mixture into (memory_facts result).now).0 stopped.mixture
 
   -- the commands ran
-  pub round_ran : (old new : Opened (Fuse Memory)) (replies : Vec Reply Global) → IsAt fused_memory old s → RunsOver fused_memory old new s (asked round) replies.items → told ≡ (Ran replies, new.disk)
+  pub round_ran : (old new : Opened (Fuse Memory)) (replies : Vec Reply Global) → IsAt fused_memory old s → old.held ≡ [] → RunsOver fused_memory old new s (asked round) replies.items → told ≡ (Ran replies, new.disk)
       → (s' : State) × RoundLeads s round told.0 s' × AlwaysStands result s'
-  round_ran old new replies at runs is =
+  round_ran old new replies at unheld runs is =
       let left : Mixture (fused_memory new.disk) (memory_facts result).now = subst (λ (t : RoundReplies × Fuse Memory). Mixture (fused_memory t.1) (memory_facts result).now) is was_left in
       let found = runs.2.found (memory_facts result).now left in (
         state_after s found.0,
-        subst (λ (t : RoundReplies × Fuse Memory). RoundLeads s round t.0 (state_after s found.0)) (sym is) (old, new, at, runs, found.0, found.1, refl),
+        subst (λ (t : RoundReplies × Fuse Memory). RoundLeads s round t.0 (state_after s found.0)) (sym is) (old, new, at, unheld, runs, found.0, found.1, refl),
         stopped_stands memory result (state_after s found.0) stopped found.2,
       )
 

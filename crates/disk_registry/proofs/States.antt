@@ -1,5 +1,5 @@
 -- What a registry's disk stands for, and what is known of a registry at a state.
-use Rattle.std.proofs.Common.{◌≡◌, ◌↔◌, ◌==◌, ◌<◌, ℕ, All, List, [], length, get_or, IsTrue, ⊎_elim, sym, ap, ◌∙◌, arith}
+use Rattle.std.proofs.Common.{◌≡◌, ◌↔◌, ◌==◌, ◌<◌, ℕ, All, List, length, get_or, IsTrue, ⊎_elim, sym, ap, ◌∙◌, arith}
 use Rattle.std.specs.List.{list_any}
 use Rattle.std.proofs.lemmas.Bool.{cases_lt}
 use Rattle.std.proofs.lemmas.List.{get_or-map, get_or_default, length-map, length-take-le}
@@ -9,7 +9,6 @@ use Rattle.roots.specs.declared.version.Version.TheVariants.{Two}
 use Rattle.roots.proofs.RootLemmas.{few_2}
 use Rattle.store.specs.declared.placed_entry.PlacedEntry.{PlacedEntry}
 use Rattle.store.specs.Opened as opened
-use Rattle.store.specs.Held.{lone_sectors}
 use Rattle.store.specs.Stands as sectors
 use Rattle.store.specs.Stands.{no_library, names_at, name_of}
 use Rattle.store.proofs.Queries as queries
@@ -21,10 +20,6 @@ use Rattle.registry.specs.State.{IsState}
 use Rattle.disk_registry.specs.Opened.{IsAt}
 use Rattle.disk_registry.specs.Stands.{Stands}
 use Rattle.disk_registry.proofs.Names.{name_stands, same_preload}
-
--- Where nobody holds anything, the state has all sectors of the disk.
-pub room_alone : {D : Type 0} (registry : opened.Opened D) → registry.held ≡ [] → opened.room_of registry ≡ registry.root.sectors
-room_alone registry unheld = omega (arith, ap (λ l. length (lone_sectors l)) unheld)
 
 -- Sectors stand for at most one state.
 pub one_state : (m : List Sector) (s t : State) → Stands m s → Stands m t → s ≡ t

@@ -1,6 +1,7 @@
 -- What an answer says on any disk, also on one that lies (own).
 use Rattle.std.specs.Prelude.{◌≡◌, ◌≢◌, ◌<◌, ◌↔◌, IsTrue, IsFalse, List, [], ◌∷◌, None}
 use Rattle.sector_disk.specs.Disk.{DiskFacts, AreCalls}
+use Rattle.store.specs.Holders.{KeepsHeld}
 use Rattle.store.specs.Opened.{Opened}
 use Rattle.image.specs.Refusal.{program_refusal}
 use Rattle.registry.specs.Request.{Request, install, replace, remove, set_preloads, bind, list}
@@ -93,7 +94,7 @@ ChangeLeaves old new other = Unit {0}
 
 -- what is known of the state is kept
 abbrev pub KeepsState : {D : Type 0} → Opened D → Opened D → Type 0
-KeepsState old new = (new.root ≡ old.root) × (new.entries ≡ old.entries) × (new.failed ≡ old.failed)
+KeepsState old new = (new.root ≡ old.root) × (new.entries ≡ old.entries) × (new.held ≡ old.held) × (new.failed ≡ old.failed)
 
 -- a command leaves what a change leaves, or, as a bind and a listing, what was known of the state
 abbrev pub Leaves : {D : Type 0} → Opened D → Opened D → Request → Reply → Type 0
@@ -113,6 +114,8 @@ pub record Answered {D : Type 0} (facts : D → DiskFacts) (old new : Opened D) 
   pub device : answer ≡ Refused Device → (facts old.disk).failures < (facts new.disk).failures
   pub answers : IsAnswerTo request answer
   pub leaves : Leaves old new request answer
+  -- what somebody holds stays held by as many, and on an honest disk its bytes are what they were
+  pub held : KeepsHeld facts old new
   pub calls : AreCalls (facts old.disk) (facts new.disk)
 
 -- commands were answered so, one after the other, one answer each

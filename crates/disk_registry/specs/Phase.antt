@@ -1,5 +1,7 @@
 -- A registry on a disk between two commands, in the words of the step table (own).
+use Rattle.std.specs.Prelude.{length}
 use Rattle.sector_disk.specs.Disk.{DiskFacts}
+use Rattle.store.specs.Held.{lone_sectors}
 use Rattle.store.specs.Opened.{Opened}
 use Rattle.store.specs.Step.{longest_free}
 use Rattle.states.specs.State.{State}
@@ -9,6 +11,7 @@ use Rattle.registry.specs.Phase.{Phase}
 abbrev pub phase_of : {D : Type 0} → (D → DiskFacts) → Opened D → State → Phase
 phase_of facts registry s = record {
   sectors = (facts registry.disk).sectors;
+  lone = length (lone_sectors registry.held);
   longest = longest_free registry;
   failures = (facts registry.disk).failures;
   failed = registry.failed;

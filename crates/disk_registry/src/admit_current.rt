@@ -33,6 +33,7 @@ pub(crate) fn admit_current<D: Disk>(
         → IfErr result (λ e. e.0 ≡ StoreRefusal.Damaged → All IsLibrary s.libraries → ⊥) }
     ensures kept { IfOk result (λ registry. (registry.root ≡ store.root)
         × (registry.entries ≡ store.entries) × IsFalse registry.failed) }
+    ensures unheld { IfOk result (λ registry. registry.held ≡ []) }
     ensures refusals { IfErr result (λ e. (e.0 ≡ StoreRefusal.Device)
         ⊎ (e.0 ≡ StoreRefusal.Damaged) ⊎ (e.0 ≡ StoreRefusal.OutOfMemory)) }
     ensures device { IfErr result (λ e. e.0 ≡ StoreRefusal.Device

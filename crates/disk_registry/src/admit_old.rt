@@ -1,5 +1,5 @@
 // The registry of a store of version 1, once every file was admitted.
-ghost use Rattle.std.specs.Prelude.{◌≡◌, ◌≢◌, ◌+◌, ◌<◌, ◌⊎◌, length, slice_index_or, sum_by};
+ghost use Rattle.std.specs.Prelude.{◌≡◌, ◌≢◌, ◌+◌, ◌<◌, ◌⊎◌, [], length, slice_index_or, sum_by};
 ghost use Rattle.std.specs.Prelude.{All, IsTrue, IsFalse, IfOk, IfErr, OnOk};
 ghost use Rattle.sector_disk.specs.Disk.{Mixture, LeavesOnly, AreCalls, AreCallsExactly};
 ghost use Rattle.roots.specs.declared.version.Version.TheVariants.{One};
@@ -96,6 +96,7 @@ pub(crate) fn admit_old<D: Disk>(
         → IfErr result (λ e. (e.0 ≡ StoreRefusal.Device)
         ⊎ (e.0 ≡ StoreRefusal.Damaged) ⊎ (e.0 ≡ StoreRefusal.OutOfMemory)) }
     ensures usable { IfOk result (λ registry. IsFalse registry.failed) }
+    ensures unheld { IfOk result (λ registry. registry.held ≡ []) }
     ensures placed { IfOk result (IsRelisted store) }
     ensures refusals { IfErr result (λ e. (e.0 ≡ StoreRefusal.Device)
         ⊎ (e.0 ≡ StoreRefusal.Damaged) ⊎ (e.0 ≡ StoreRefusal.OutOfMemory)

@@ -27,6 +27,7 @@ impl<D: Disk> Registry<D> {
     ghost use Rattle.std.specs.Prelude.{◌≡◌, ◌≢◌, ◌<◌, Err, None, IsTrue, IfOk, IfErr};
     ghost use Rattle.sector_disk.specs.Disk.{AreCalls, AreCallsExactly};
     ghost use Rattle.image.specs.Refusal.{program_refusal};
+    ghost use Rattle.store.specs.Holders.{KeepsHeld};
     ghost use Rattle.registry.specs.Request.{bind};
     ghost use Rattle.states.specs.State.{State};
     ghost use Rattle.registry.specs.Step.{Step};
@@ -95,6 +96,10 @@ impl<D: Disk> Registry<D> {
         ensures all_calls { (s : State) → IsAt D.facts self.old s → IfBound result
             (AreCallsExactly (bind_sectors s program.now)
             (D.facts self.old.disk) (D.facts self.new.disk)) }
+
+        // What somebody holds stays as it was.
+        ensures table { self.new.held ≡ self.old.held }
+        ensures held { KeepsHeld D.facts self.old self.new }
 
         // On any disk. A program that is refused by itself takes no call.
         ensures alone { program_refusal program.now base ≢ None → self.new ≡ self.old }

@@ -19,6 +19,7 @@ impl<D: Disk> Registry<D> {
     ghost use Rattle.store.specs.Names.{HasName, IsNoPreload};
     ghost use Rattle.registry.specs.Phase.{table_of};
     ghost use Rattle.store.specs.Changed.{Changed};
+    ghost use Rattle.store.specs.Holders.{KeepsHeld};
     ghost use Rattle.registry.specs.Request.{remove, set_preloads};
     ghost use Rattle.states.specs.State.{State};
     ghost use Rattle.registry.specs.Step.{Step, refusal_at, answer_of};
@@ -71,6 +72,9 @@ impl<D: Disk> Registry<D> {
     pub(crate) fn remove(&mut self, name: &[u8]) -> Result<(), Refusal>
         ensures applied { (s : State) → IsAt D.facts self.old s
             → Applies D.facts self.old self.new s (remove name.now) (answer_of result) }
+
+        // What somebody holds stays as it was.
+        ensures held { KeepsHeld D.facts self.old self.new }
 
         ensures on_any_disk { Changed D.facts Refusal.Device Refusal.Reopen
             self.old self.new (catalogues_for (length self.old.entries - 1) + 3)
@@ -145,6 +149,9 @@ impl<D: Disk> Registry<D> {
         ensures applied { (s : State) → IsAt D.facts self.old s
             → Applies D.facts self.old self.new s (set_preloads (map (λ n. n.now) names.now))
             (answer_of result) }
+
+        // What somebody holds stays as it was.
+        ensures held { KeepsHeld D.facts self.old self.new }
 
         ensures on_any_disk { Changed D.facts Refusal.Device Refusal.Reopen
             self.old self.new 2 IsPreloadsRefusal result }

@@ -5,7 +5,7 @@ use std::alloc::Global;
 use store::{Store, StoreRefusal};
 
 impl<D: Disk> Registry<D> {
-    ghost use Rattle.std.specs.Prelude.{◌≡◌, ◌≢◌, ◌<◌, ◌⊎◌, IsTrue, IsFalse, IfOk, IfErr, OnOk};
+    ghost use Rattle.std.specs.Prelude.{◌≡◌, ◌≢◌, ◌<◌, ◌⊎◌, [], IsTrue, IsFalse, IfOk, IfErr, OnOk};
     ghost use Rattle.sector_disk.specs.Disk.{Mixture, LeavesOnly, AreCallsExactly, AreCallsAtMost};
     ghost use Rattle.store.specs.Opened.{disk_after};
     ghost use Rattle.store.specs.Opening.{HasRootMagic};
@@ -40,6 +40,7 @@ impl<D: Disk> Registry<D> {
         // On any disk
         ensures geometry { IfOk result (λ _. IsGeometry (D.facts disk).sectors) }
         ensures usable { IfOk result (λ registry. IsFalse registry.failed) }
+        ensures unheld { IfOk result (λ registry. registry.held ≡ []) }
         ensures refusals { IfErr result (λ e. IsRefusalOfFormat (D.facts disk).sectors e.0) }
         ensures device { IfErr result (λ e. e.0 ≡ StoreRefusal.Device
             → (D.facts disk).failures < (D.facts e.1).failures) }

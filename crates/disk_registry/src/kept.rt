@@ -14,15 +14,11 @@ pub struct Registry<D: Disk> {
 }
 
 impl<D: Disk> Model for Registry<D> {
-    ghost use Rattle.std.specs.Prelude.{◌≡◌, []};
     ghost use Rattle.store.specs.Opened.{Opened};
 
     ghost Value = { Opened D };
 
     ghost view = { λ r. r.store };
-
-    // Nobody holds a version between two commands.
-    ghost invariant = { λ r. r.store.held ≡ [] };
 }
 
 impl<D: Disk> Registry<D> {

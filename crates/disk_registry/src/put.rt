@@ -10,6 +10,7 @@ impl<D: Disk> Registry<D> {
     ghost use Rattle.sector_disk.specs.Disk.{sector_bytes};
     ghost use Rattle.states.specs.Cost.{catalogues_for};
     ghost use Rattle.store.specs.Changed.{Changed};
+    ghost use Rattle.store.specs.Holders.{KeepsHeld};
     ghost use Rattle.registry.specs.Request.{install, replace};
     ghost use Rattle.states.specs.State.{State};
     ghost use Rattle.registry.specs.Step.{answer_of};
@@ -23,6 +24,9 @@ impl<D: Disk> Registry<D> {
     pub(crate) fn install(&mut self, bytes: &[u8]) -> Result<(), Refusal>
         ensures applied { (s : State) → IsAt D.facts self.old s
             → Applies D.facts self.old self.new s (install bytes.now) (answer_of result) }
+
+        // What somebody holds stays as it was.
+        ensures held { KeepsHeld D.facts self.old self.new }
 
         ensures on_any_disk { Changed D.facts Refusal.Device Refusal.Reopen
             self.old self.new (div_ceil (length bytes.now) sector_bytes
@@ -47,6 +51,9 @@ impl<D: Disk> Registry<D> {
     pub(crate) fn replace(&mut self, bytes: &[u8]) -> Result<(), Refusal>
         ensures applied { (s : State) → IsAt D.facts self.old s
             → Applies D.facts self.old self.new s (replace bytes.now) (answer_of result) }
+
+        // What somebody holds stays as it was.
+        ensures held { KeepsHeld D.facts self.old self.new }
 
         ensures on_any_disk { Changed D.facts Refusal.Device Refusal.Reopen
             self.old self.new (div_ceil (length bytes.now) sector_bytes

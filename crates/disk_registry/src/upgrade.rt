@@ -8,7 +8,7 @@ use store::{Look, Store, StoreRefusal};
 
 impl<D: Disk> Registry<D> {
     ghost use Rattle.std.specs.Prelude.{◌≡◌, ◌≢◌, ◌+◌, ◌<◌, ◌⊎◌, IsTrue, IsFalse, IfOk, IfErr};
-    ghost use Rattle.std.specs.Prelude.{MatchResult, length, sum_by};
+    ghost use Rattle.std.specs.Prelude.{[], MatchResult, length, sum_by};
     ghost use Rattle.sector_disk.specs.Disk.{Mixture, LeavesOnly, AreCalls, AreCallsExactly};
     ghost use Rattle.states.specs.Cost.{catalogues_for};
     ghost use Rattle.states.specs.Geometry.{IsGeometry};
@@ -80,6 +80,7 @@ impl<D: Disk> Registry<D> {
 
         // On any disk
         ensures usable { IfOk result (λ registry. IsFalse registry.failed) }
+        ensures unheld { IfOk result (λ registry. registry.held ≡ []) }
         ensures geometry { IfOk result (λ _. IsGeometry (D.facts disk).sectors) }
         ensures refusals { IfErr result (λ e. IsRefusalOfUpgrade (D.facts disk).sectors e.0) }
         ensures device { IfErr result (λ e. e.0 ≡ StoreRefusal.Device

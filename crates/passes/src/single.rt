@@ -23,7 +23,8 @@ pub(crate) fn write_singles<D: Disk>(
 ) -> Result<(), DiskFault>
     requires room { All (λ single. single.at < (D.facts disk.old).sectors) singles.now }
     requires once { AreDistinct (single_places singles.now) }
-    ensures calls { AreCallsInRow (length singles.now) (D.facts disk.old) (D.facts disk.new) result }
+    ensures calls { AreCallsInRow (length singles.now)
+        (D.facts disk.old) (D.facts disk.new) result }
     ensures any_moment { IsTrue (D.facts disk.old).honest
         → LeavesOnly (D.facts disk.old) (D.facts disk.new)
         (IsMixtureBut (Contains (single_places singles.now)) (D.facts disk.old)) }

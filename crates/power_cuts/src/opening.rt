@@ -16,7 +16,8 @@ pub(crate) struct Side {
 }
 
 impl Side {
-    /// A store of version 2: it is opened by a sync, and by a read of each root, catalogue and entry.
+    /// A store of version 2: it is opened by a sync, and by a read of each root, catalogue and
+    /// entry.
     pub(crate) fn standing(state: State) -> Side {
         let lists = state.catalogues().saturating_add(state.blobs.len()) as u64;
         Side {

@@ -23,8 +23,8 @@ pub(crate) fn catalogues_of(libraries: usize) -> u64 {
     libraries.div_ceil(64) as u64
 }
 
-// How many calls of the disk an opening makes: a sync, two root sectors, the catalogues, and of each
-// library the entry and the file.
+// How many calls of the disk an opening makes: a sync, two root sectors, the catalogues, and of
+// each library the entry and the file.
 fn opening_calls(listing: &Listing) -> u64 {
     let mut calls = catalogues_of(listing.libraries.len()).saturating_add(3);
     for (_, length) in &listing.libraries {

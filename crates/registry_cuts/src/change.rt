@@ -102,8 +102,8 @@ impl Ask {
     }
 
     /// How many calls of the disk it makes where it is done and leaves so many libraries: the
-    /// sectors of the file and its entry, the catalogues, a sync, the root, a sync. A removal writes
-    /// no file, and a choice of preloads the root alone.
+    /// sectors of the file and its entry, the catalogues, a sync, the root, a sync. A removal
+    /// writes no file, and a choice of preloads the root alone.
     pub(crate) fn calls(&self, libraries: usize) -> u64 {
         let catalogues = catalogues_of(libraries);
         match self.change {

@@ -7,8 +7,8 @@ use crate::scenario::{A, B, C};
 pub(crate) type List = (u32, &'static [Change]);
 
 /// A list over each size of disk from 8 to 16 sectors, some of which fill it to the last sector. A
-/// library takes a sector for each 512 bytes and one for its entry, a disk has two for its roots, and
-/// two for the catalogue, once as it stands and once as the next change writes it.
+/// library takes a sector for each 512 bytes and one for its entry, a disk has two for its roots,
+/// and two for the catalogue, once as it stands and once as the next change writes it.
 pub(crate) const LISTS: [List; 12] = [
     (
         10,

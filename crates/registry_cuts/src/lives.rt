@@ -54,9 +54,9 @@ pub(crate) fn cut_lives<R: Print + AllocGlobal>(rt: &R, tally: &mut Tally) -> Re
     Ok(())
 }
 
-// Cuts a list at one place, and then each opening of what is left, before a stop and after it. Where
-// one call alone is cut, that is what is left where all behind it are: a change that failed is
-// followed by no call, and a bind that failed changes nothing.
+// Cuts a list at one place, and then each opening of what is left, before a stop and after it.
+// Where one call alone is cut, that is what is left where all behind it are: a change that failed
+// is followed by no call, and a bind that failed changes nothing.
 fn cut_list<R: Print + AllocGlobal>(
     rt: &R,
     tally: &mut Tally,

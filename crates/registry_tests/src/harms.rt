@@ -28,9 +28,9 @@ const HELD: Wanted = Ok((
 const EMPTY: Wanted = Ok(("end\nrefused B3 Missing /program a\nok\n", 7));
 
 /// What is changed of the disk. Then how the disk is refused, by a store and by a registry that is
-/// opened. Then a liar with its sectors as answers: opened, where they are in the order of the disk,
-/// and in the order in which an opening reads them; and formatted. `format` refuses the disk itself
-/// as it does the liar.
+/// opened. Then a liar with its sectors as answers: opened, where they are in the order of the
+/// disk, and in the order in which an opening reads them; and formatted. `format` refuses the disk
+/// itself as it does the liar.
 pub(crate) type Row = (&'static [Harm], [Option<StoreRefusal>; 2], [Wanted; 3]);
 
 // What is refused as damaged by both, and whatever way a liar has it.

@@ -88,7 +88,8 @@ fn an_upgrade_writes_nothing_where_a_file_is_no_library_of_its_name(
     Ok(())
 }
 
-// A disk with the libraries a and b, of which b is a preload: it has room for their catalogue twice.
+// A disk with the libraries a and b, of which b is a preload: it has room for their catalogue
+// twice.
 fn both(rt: &impl Abort, alloc: Global) -> Result<Memory, Fail> {
     let sectors = old_sectors(&[(b'a', &library(b'a')), (b'b', &library(b'b'))]);
     disk_of(

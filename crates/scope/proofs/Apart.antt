@@ -1,15 +1,16 @@
 -- Places that differ, and the flags that tell which are there.
-use Rattle.std.proofs.Common.{◌≡◌, ℕ, ◌+◌, ◌<◌, ◌≤◌, eqb, nat_eq, Bool, true, false, ◌||◌, List, [], ◌∷◌, ◌++◌, length, take, get_or, set, replicate, map, sym, ap, subst, ◌∙◌, refl, arith, length-take, length-append, append_assoc, append-nil, fold, if◌then◌else◌}
+use Rattle.std.proofs.Common.{◌≡◌, ℕ, ◌+◌, ◌<◌, ◌≤◌, eqb, nat_eq, Bool, true, false, ◌||◌, List, [], ◌∷◌, ◌++◌, length, take, get_or, set, Some, replicate, map, sym, ap, subst, ◌∙◌, refl, arith, length-take, length-append, append_assoc, append-nil, fold, if◌then◌else◌}
 use Rattle.std.specs.List.{All, AllByRecursion, IsDistinct, list_any}
 use Rattle.std.specs.Cmp.{IsEquivalence}
 use Rattle.std.proofs.Math.Seq.{get_or-append_seam, take-append_seam}
 use Rattle.std.proofs.lemmas.Bool.{eqb-true, eqb-false, ne_eqb}
 use Rattle.std.proofs.lemmas.Cmp.{nat_eq_equiv}
 use Rattle.std.proofs.lemmas.List.{length-set, get_or-set_same, get_or-set_other, get_or-replicate, get_or-take, length-replicate}
-use Rattle.std.proofs.lemmas.List.Elements.{All-push, All-from_get_or}
+use Rattle.std.proofs.lemmas.List.Elements.{All-push, All-pop, All-from_get_or}
 use Rattle.std.proofs.lemmas.List.Folds.{list_any-append, list_any_none, Any-from_list_any}
 use Rattle.std.proofs.lemmas.Map.Keys.{IsDistinct-push, apart_from_distinct}
 use Rattle.std.proofs.lemmas.Map.Steps.{length-le_from_distinct_below}
+use Rattle.indexmap.proofs.MapLemmas.{distinct-take}
 use Rattle.scope.specs.Levels.{is_among}
 use Rattle.scope.specs.LoadOrder.{level_0}
 use Rattle.scope.specs.Queue.{grown_by, AreApart}
@@ -69,6 +70,33 @@ distinct-front {K} {eq} laws ks i d distinct lt =
     (All-from_get_or (λ x. eq (get_or ks i d) x ≡ false) (take i ks) d (λ k ltk.
     let before : k < i = omega (arith, ltk, length-take i ks) in
     ap (eq (get_or ks i d)) (get_or-take i ks k d before) ∙ laws.symm (get_or ks i d) (get_or ks k d) ∙ apart_from_distinct eq ks k i d distinct before lt))
+
+-- of places that differ the last is not among those before it
+fresh_last : (ps : List ℕ) (q : ℕ) → IsDistinct nat_eq (ps ++ q ∷ []) → is_among ps q ≡ false
+fresh_last ps q distinct =
+    ap (λ k. is_among ps k) (sym (get_or-append_seam ps q [] 0))
+    ∙ ap (λ l. is_among l (get_or (ps ++ q ∷ []) (length ps) 0)) (sym (take-append_seam ps (q ∷ [])))
+    ∙ distinct-front nat_eq_equiv (ps ++ q ∷ []) (length ps) 0 distinct (omega (arith, length-append ps (q ∷ [])))
+
+-- one less: as the places differ, the last isn't among those that stay
+pub told-fewer : (flags : List Bool) (places : List ℕ) (p : ℕ) → AreTold flags (places ++ p ∷ []) → AreTold (set flags p false) places
+told-fewer flags places p told = record {
+  told = λ q ltq. by q (omega (arith, ltq, length-set flags p false)) (eqb q p) refl;
+  apart = record {
+    below = subst (λ n. All (λ r. r < n) places) (sym (length-set flags p false)) (All-pop (λ r. r < length flags) (places ++ p ∷ []) places (Some p) refl told.apart.below).0;
+    distinct = subst (IsDistinct nat_eq) (take-append_seam places (p ∷ [])) (distinct-take nat_eq_equiv (length places) (places ++ p ∷ []) told.apart.distinct);
+  };
+}
+  where
+    by : (q : ℕ) → q < length flags → (b : Bool) → eqb q p ≡ b → get_or (set flags p false) q false ≡ is_among places q
+    by q ltq true e =
+        let same = eqb-true q p e in
+        ap (λ k. get_or (set flags p false) k false) same ∙ get_or-set_same flags p false false (subst (λ k. k < length flags) same ltq)
+        ∙ sym (fresh_last places p told.apart.distinct) ∙ ap (is_among places) (sym same)
+    by q ltq false e =
+        get_or-set_other flags p q false false (eqb-false q p e) ∙ told.told q ltq
+        ∙ list_any-append (λ x. eqb q x) places (p ∷ []) ∙ ap (λ b. is_among places q || (b || false)) e
+        ∙ sym (or_false (is_among places q))
 
 -- what differs is taken as it is
 pub grown-apart : (ps qs : List ℕ) → IsDistinct nat_eq (ps ++ qs) → grown ps qs ≡ ps ++ qs

@@ -1,6 +1,7 @@
 // A queue of places.
 
-ghost use Rattle.std.specs.Prelude.{◌≡◌, ◌<◌, ◌≤◌, [], length, slice_index, false, IfOk, OnOk, OnErr};
+ghost use Rattle.std.specs.Prelude.{◌≡◌, ◌<◌, ◌≤◌, ◌-◌, [], length, take, slice_index};
+ghost use Rattle.std.specs.Prelude.{false, IfOk, OnOk, OnErr};
 ghost use Rattle.scope.specs.Levels.{is_among};
 ghost use Rattle.scope.specs.Queue.{grown_by, AreApart};
 
@@ -71,6 +72,30 @@ impl Places {
             self.flags[place] = true;
         }
         Ok(())
+    }
+
+    /// Takes the last places off, down to this many; nothing where there are no more. It takes no
+    /// memory, and costs what it takes off.
+    pub fn shorten(&mut self, count: usize)
+        ensures { self.new
+            ≡ record { limit = self.old.limit; places = take count self.old.places } }
+    {
+        while count < self.places.len() {
+            self.drop_last();
+        }
+    }
+
+    // Takes the last place off, with its flag.
+    fn drop_last(&mut self)
+        requires { 0 < length self.old.places }
+        ensures { self.new ≡ record {
+          limit = self.old.limit;
+          places = take (length self.old.places - 1) self.old.places;
+        } }
+    {
+        if let Some(place) = self.places.pop() {
+            self.flags[place] = false;
+        }
     }
 
     /// All of them.

@@ -126,6 +126,7 @@ module _ {D : Type 0} (facts : D → DiskFacts) (store : Opened D) {layout : Lis
     version = tt;
     holders = tt;
     others = λ sector library is. is;
+    versions = λ sector placed by. by;
     lone = refl;
     flags = flags kept;
     kept = (refl, refl, refl, refl);
@@ -169,6 +170,7 @@ module _ {D : Type 0} (facts : D → DiskFacts) (store : Opened D) {layout : Lis
         by = ⊎_elim (λ once. by_once once is.by) (λ more. by_more more is.by) either;
         stands = is.stands;
       };
+      versions = λ sector placed by. ⊎_elim (λ once. by_once once by) (λ more. by_more more by) either;
       lone = holding_lone;
       flags = flags (kept_held kept holding_rows holding_lone);
       kept = (refl, refl, refl, refl);
@@ -188,12 +190,14 @@ module _ {D : Type 0} (facts : D → DiskFacts) (store : Opened D) {layout : Lis
     kept = (refl, refl, refl, refl);
     reopen = (λ is. reopen.0 (err_is is), λ failed. ap (λ r. Err r) (reopen.1 failed));
     unknown = (λ is. unknown.0 (err_is is), λ both. ap (λ r. Err r) (unknown.1 both));
+    known = λ placed by is. omega (arith, (unknown.0 is).1, by_some kept.rows by);
     refusals = inr which;
     device = λ is. ⊎_elim (λ other. absurd (cc (is, other))) (λ rest. ⊎_elim (λ other. absurd (cc (is, other))) (λ other. absurd (cc (is, other))) rest) which;
     untouched = λ other. refl;
     size = λ placed by. tt;
     all_calls = λ placed by. tt;
     calls = λ placed by. record { some = no_calls (facts store.disk); time = omega arith };
+    called = no_calls (facts store.disk);
   }
 
   -- What a read of the version that is held leaves.
@@ -211,8 +215,8 @@ module _ {D : Type 0} (facts : D → DiskFacts) (store : Opened D) {layout : Lis
     its_calls : (other : PlacedEntry) → IsHeldBy store.held held other → AreCallsAtMost (div_ceil other.entry.file_length sector_bytes) (facts store.disk) (facts after)
     its_calls other its = subst (λ (p : PlacedEntry). AreCallsAtMost (div_ceil p.entry.file_length sector_bytes) (facts store.disk) (facts after)) (by_one kept.rows.own by its) calls
 
-    known : holders_of store.held held ≡ 0 → ⊥
-    known none = omega (arith, none, by_some kept.rows by)
+    has_holders : holders_of store.held held ≡ 0 → ⊥
+    has_holders none = omega (arith, none, by_some kept.rows by)
 
     pub read_done : (result : Result (Vec ℕ) StoreRefusal)
         → OnOk result (AreCallsExactly (div_ceil placed.entry.file_length sector_bytes) (facts store.disk) (facts after))
@@ -228,13 +232,15 @@ module _ {D : Type 0} (facts : D → DiskFacts) (store : Opened D) {layout : Lis
       same = still_at;
       kept = (refl, refl, refl, refl);
       reopen = (λ is. absurd (cc is), λ failed. absurd (false≢true (sym usable ∙ failed)));
-      unknown = (λ is. absurd (cc is), λ both. absurd (known both.1));
+      unknown = (λ is. absurd (cc is), λ both. absurd (has_holders both.1));
+      known = λ other its. tt;
       refusals = tt;
       device = tt;
       untouched = tt;
       size = λ other its. size ∙ ap (λ (p : PlacedEntry). p.entry.file_length) (by_one kept.rows.own by its);
       all_calls = λ other its. subst (λ (p : PlacedEntry). AreCallsExactly (div_ceil p.entry.file_length sector_bytes) (facts store.disk) (facts after)) (by_one kept.rows.own by its) all_calls;
       calls = its_calls;
+      called = calls.some;
     }
     read_done (Err e) all_calls read size refused = record {
       any_moment = λ honest. (reads honest).leaves;
@@ -244,13 +250,15 @@ module _ {D : Type 0} (facts : D → DiskFacts) (store : Opened D) {layout : Lis
       same = still_at;
       kept = (refl, refl, refl, refl);
       reopen = (λ is. absurd (other_than Reopen (λ same. cc same) (λ same. cc same) (err_is is)), λ failed. absurd (false≢true (sym usable ∙ failed)));
-      unknown = (λ is. absurd (other_than Damaged (λ same. cc same) (λ same. cc same) (err_is is)), λ both. absurd (known both.1));
+      unknown = (λ is. absurd (other_than Damaged (λ same. cc same) (λ same. cc same) (err_is is)), λ both. absurd (has_holders both.1));
+      known = λ other its. other_than Damaged (λ same. cc same) (λ same. cc same);
       refusals = ⊎_elim (λ both. inl both.0) (λ both. inr (inr (inr both.0))) refused;
       device = λ is. ⊎_elim (λ both. both.1) (λ both. absurd (cc (is, both.0))) refused;
       untouched = λ other. ⊎_elim (λ both. absurd (other both.0)) (λ both. ap (λ disk. record { disk = disk; root = store.root; entries = store.entries; held = store.held; failed = store.failed }) both.1) refused;
       size = λ other its. tt;
       all_calls = λ other its. tt;
       calls = its_calls;
+      called = calls.some;
     }
       where
         other_than : (y : StoreRefusal) → (y ≡ Device → ⊥) → (y ≡ OutOfMemory → ⊥) → e ≡ y → ⊥

@@ -10,7 +10,8 @@ use Rattle.std.proofs.lemmas.Cmp.{nat_list_cmp_total, tied_itself}
 use Rattle.std.proofs.lemmas.List.{length-map, get_or-map, get_or_default, map-set, set-get_or}
 use Rattle.store.specs.declared.placed_entry.PlacedEntry.{PlacedEntry}
 use Rattle.store.specs.Stands.{HaveOwnNames, name_of}
-use Rattle.store.specs.inside.NameIndex.{entry_names, name_at, order_to, Index, IsOrderOf, IsIndex, IsPlace}
+use Rattle.store.specs.NameOrder.{entry_names, name_at, IsOrderOf}
+use Rattle.store.specs.inside.NameIndex.{order_to, Index, IsIndex, IsPlace}
 
 -- the same name doesn't come before itself
 not-less : (a b : List ℕ) → a ≡ b → slice_cmp nat_cmp a b ≡ Less → ⊥

@@ -14,7 +14,8 @@ use Rattle.std.proofs.lemmas.List.Sorted.{IsPermutation-insert, Contains-permuta
 use Rattle.std.proofs.lemmas.Map.Lookups.{exact_bytes}
 use Rattle.store.specs.declared.placed_entry.PlacedEntry.{PlacedEntry}
 use Rattle.store.specs.Stands.{name_of}
-use Rattle.store.specs.inside.NameIndex.{entry_names, name_at, name_order, order_to, IsOrderOf, IsPlace}
+use Rattle.store.specs.NameOrder.{entry_names, name_at, name_order, IsOrderOf}
+use Rattle.store.specs.inside.NameIndex.{order_to, IsPlace}
 use Rattle.store.proofs.NameIndex.{entry_name, entry_count}
 
 module _ {X : Type 0} (R : X → X → Type 0) (xs : List X) (i : ℕ) (y : X) where

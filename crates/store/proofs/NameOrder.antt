@@ -13,7 +13,8 @@ use Rattle.std.proofs.lemmas.List.FromFn.{length-range_with_len, get_or-range_wi
 use Rattle.std.proofs.lemmas.List.Sorted.{All-permutation, Contains-permutation, length_permutation}
 use Rattle.std.proofs.lemmas.Map.Keys.{IsDistinct-from_apart, IsDistinct-IsPermutation, apart_from_distinct, sorted_from_all_adjacent, Less-from_sorted}
 use Rattle.std.proofs.lemmas.Map.Lookups.{exact_bytes}
-use Rattle.store.specs.inside.NameIndex.{name_at, name_order, IsOrderOf, IsSortedOrder, Rises}
+use Rattle.store.specs.NameOrder.{name_at, name_order, IsOrderOf}
+use Rattle.store.specs.inside.NameIndex.{IsSortedOrder, Rises}
 
 -- one position more
 pub range_more : (n : ℕ) → range_with_len 0 (n + 1) ≡ range_with_len 0 n ++ n ∷ []

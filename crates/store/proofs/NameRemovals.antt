@@ -12,7 +12,8 @@ use Rattle.std.proofs.lemmas.List.Sorted.{IsPermutation-remove, Contains-permuta
 use Rattle.std.proofs.lemmas.List.Quantifiers.{all_pairs_remove}
 use Rattle.store.specs.declared.placed_entry.PlacedEntry.{PlacedEntry}
 use Rattle.store.specs.Stands.{name_of}
-use Rattle.store.specs.inside.NameIndex.{entry_names, name_at, name_order, closed_up, IsOrderOf}
+use Rattle.store.specs.NameOrder.{entry_names, name_at, name_order, IsOrderOf}
+use Rattle.store.specs.inside.NameIndex.{closed_up}
 use Rattle.store.proofs.NameIndex.{IsThere, same_place}
 use Rattle.store.proofs.Removed.{map_remove, closed-below, closed-above, closed_inside, at_closed}
 

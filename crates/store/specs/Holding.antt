@@ -2,7 +2,7 @@
 use Rattle.std.specs.Prelude.{◌≡◌, ◌≢◌, ◌↔◌, ◌⊎◌, ℕ, ◌+◌, ◌-◌, ◌<◌, ◌==◌, length, slice_index_or, IsTrue, IsFalse, Result, Err, IfOk, IfErr, OnOk, OnErr, if◌then◌else◌}
 use Rattle.std.specs.Global.{Vec}
 use Rattle.std.specs.Int.{div_ceil}
-use Rattle.sector_disk.specs.Disk.{DiskFacts, sector_bytes, Mixture, LeavesOnly, AreCallsExactly, AreCallsAtMost}
+use Rattle.sector_disk.specs.Disk.{DiskFacts, sector_bytes, Mixture, LeavesOnly, AreCalls, AreCallsExactly, AreCallsAtMost}
 use Rattle.states.specs.State.{Library, State}
 use Rattle.store.specs.declared.placed_entry.PlacedEntry.{PlacedEntry}
 use Rattle.store.specs.declared.refusal.StoreRefusal.{StoreRefusal}
@@ -20,6 +20,7 @@ pub record Holds {D : Type 0} (facts : D → DiskFacts) (old new : Opened D) (po
   pub version : IfOk result (λ held. (d : PlacedEntry) → IsHeldBy new.held held (slice_index_or old.entries position d))
   pub holders : IfOk result (λ held. (sector : ℕ) → holders_of new.held sector ≡ holders_of old.held sector + (if held == sector then 1 else 0))
   pub others : (sector : ℕ) (library : Library) → HeldIs facts old sector library → HeldIs facts new sector library
+  pub versions : (sector : ℕ) (placed : PlacedEntry) → IsHeldBy old.held sector placed → IsHeldBy new.held sector placed
   pub lone : lone_sectors new.held ≡ lone_sectors old.held
   pub flags : AreFlagged new
   pub kept : (new.disk ≡ old.disk) × (new.root ≡ old.root) × (new.entries ≡ old.entries) × (new.failed ≡ old.failed)
@@ -39,12 +40,16 @@ pub record ReadsHeld {D : Type 0} (facts : D → DiskFacts) (old new : Opened D)
   pub kept : (new.root ≡ old.root) × (new.entries ≡ old.entries) × (new.held ≡ old.held) × (new.failed ≡ old.failed)
   pub reopen : (result ≡ Err Reopen) ↔ IsTrue old.failed
   pub unknown : (result ≡ Err Damaged) ↔ (IsFalse old.failed × (holders_of old.held held ≡ 0))
+  -- who holds it is never told Damaged
+  pub known : (placed : PlacedEntry) → IsHeldBy old.held held placed → IfErr result (λ e. e ≢ Damaged)
   pub refusals : IfErr result (λ e. (e ≡ Device) ⊎ (e ≡ Reopen) ⊎ (e ≡ Damaged) ⊎ (e ≡ OutOfMemory))
   pub device : IfErr result (λ e. e ≡ Device → (facts old.disk).failures < (facts new.disk).failures)
   pub untouched : IfErr result (λ e. e ≢ Device → new ≡ old)
   pub size : (placed : PlacedEntry) → IsHeldBy old.held held placed → IfOk result (λ bytes. length bytes.items ≡ placed.entry.file_length)
   pub all_calls : (placed : PlacedEntry) → IsHeldBy old.held held placed → OnOk result (AreCallsExactly (div_ceil placed.entry.file_length sector_bytes) (facts old.disk) (facts new.disk))
   pub calls : (placed : PlacedEntry) → IsHeldBy old.held held placed → AreCallsAtMost (div_ceil placed.entry.file_length sector_bytes) (facts old.disk) (facts new.disk)
+  -- also where nobody holds it
+  pub called : AreCalls (facts old.disk) (facts new.disk)
 
 -- A holder lets a version go, and nothing else changes; where nobody holds it here, nothing does.
 pub record LetsGo {D : Type 0} (facts : D → DiskFacts) (old new : Opened D) (held : ℕ) : Type 0 where

@@ -1,4 +1,5 @@
 pub mod Stands
+pub mod NameOrder
 pub mod Held
 pub mod Opened
 pub mod Holders

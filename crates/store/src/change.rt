@@ -72,7 +72,8 @@ pub(crate) fn write_change<D: Disk>(
     // A stop finds each other sector as it might have been found before.
     ensures others { IsTrue (D.facts disk.old).honest
         → (m : List Sector) → Mixture (D.facts disk.new) m
-        → IsMixtureBut (IsRootOr (single_places singles.now ++ places extents.now)) (D.facts disk.old) m }
+        → IsMixtureBut (IsRootOr (single_places singles.now ++ places extents.now))
+        (D.facts disk.old) m }
 {
     stage(disk, extents, bytes, singles)?;
     commit(disk, slot_of(root.generation), &encode_root(root))

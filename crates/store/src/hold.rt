@@ -9,8 +9,11 @@ use sector_disk::Disk;
 use std::alloc::Global;
 
 impl<D: Disk> Kept<D> {
-    ghost use Rattle.std.specs.Prelude.{◌<◌, length};
+    ghost use Rattle.std.specs.Prelude.{◌≡◌, ◌<◌, ◌↔◌, IsNone, IfSome, length};
+    ghost use Rattle.store.specs.declared.placed_entry.PlacedEntry.{PlacedEntry};
+    ghost use Rattle.store.specs.Held.{IsHeldBy, holders_of};
     ghost use Rattle.store.specs.Holding.{Holds, LetsGo, ReadsHeld};
+    ghost use Rattle.store.specs.Stands.{name_of};
 
     /// Holds the byte string at this position as it is now.
     fn hold(&mut self, position: usize) -> Result<Held, StoreRefusal>
@@ -23,6 +26,16 @@ impl<D: Disk> Kept<D> {
         let placed = &self.entries[position];
         self.held.hold(placed)?;
         Ok(Held { at: placed.at })
+    }
+
+    /// The name of the version that is held.
+    fn held_name(&self, held: &Held) -> Option<&[u8]>
+        ensures none { IsNone result ↔ (holders_of self.now.held held.now ≡ 0) }
+        ensures some { IfSome result (λ name. (placed : PlacedEntry)
+            → IsHeldBy self.now.held held.now placed → name.now ≡ name_of placed.entry) }
+    {
+        let placed = self.held.placed(held.at)?;
+        Some(placed.entry.name_bytes())
     }
 
     /// The byte string that is held.
@@ -52,11 +65,15 @@ impl<D: Disk> Kept<D> {
 }
 
 impl<D: Disk> Store<D> {
-    ghost use Rattle.std.specs.Prelude.{◌<◌, length};
+    ghost use Rattle.std.specs.Prelude.{◌≡◌, ◌<◌, ◌↔◌, IsNone, IfSome, length};
+    ghost use Rattle.store.specs.declared.placed_entry.PlacedEntry.{PlacedEntry};
+    ghost use Rattle.store.specs.Held.{IsHeldBy, holders_of};
     ghost use Rattle.store.specs.Holding.{Holds, LetsGo, ReadsHeld};
+    ghost use Rattle.store.specs.Stands.{name_of};
 
-    /// Holds the byte string at this position as it is now. It makes no call of the disk, and copies
-    /// none of its bytes. The first holder of a version takes memory, for all that follows of it.
+    /// Holds the byte string at this position as it is now. It makes no call of the disk, and
+    /// copies none of its bytes. The first holder of a version takes memory, for all that follows
+    /// of it.
     pub fn hold(&mut self, position: usize) -> Result<Held, StoreRefusal>
         requires { position < length self.old.entries }
         ensures { Holds D.facts self.old self.new position result }
@@ -64,8 +81,19 @@ impl<D: Disk> Store<D> {
         self.kept.hold(position)
     }
 
-    /// The byte string that is held. It reads each of its sectors once, and writes nothing. Damaged,
-    /// without a call of the disk, where nobody holds it here: the handle is another store's.
+    /// The name of the version that is held, found by hashing; None where nobody holds it here. It
+    /// makes no call of the disk.
+    pub fn held_name(&self, held: &Held) -> Option<&[u8]>
+        ensures none { IsNone result ↔ (holders_of self.now.held held.now ≡ 0) }
+        ensures some { IfSome result (λ name. (placed : PlacedEntry)
+            → IsHeldBy self.now.held held.now placed → name.now ≡ name_of placed.entry) }
+    {
+        self.kept.held_name(held)
+    }
+
+    /// The byte string that is held. It reads each of its sectors once, and writes nothing.
+    /// Damaged, without a call of the disk, where nobody holds it here: the handle is another
+    /// store's.
     pub fn read_held(&mut self, alloc: Global, held: &Held) -> Result<Vec<u8>, StoreRefusal>
         ensures { ReadsHeld D.facts self.old self.new held.now result }
     {

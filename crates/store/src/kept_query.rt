@@ -13,7 +13,10 @@ impl<D: Disk> Kept<D> {
     ghost use Rattle.store.specs.declared.placed_entry.PlacedEntry.{PlacedEntry};
     ghost use Rattle.store.specs.Opened.{IsAtBy};
     ghost use Rattle.store.specs.Stands.{HaveOwnNames, name_of, no_library, names_at};
+    ghost use Rattle.store.specs.NameOrder.{IsOrderOf, entry_names};
     ghost use Rattle.store.specs.Names.{LacksName, IsName, IsFileSize};
+    ghost use Rattle.store.specs.Held.{IsHeldBy, holders_of};
+    ghost use Rattle.store.specs.Holders.{AreFlagged};
     ghost use Rattle.states.specs.State.{State};
 
     /// How many byte strings there are.
@@ -22,6 +25,9 @@ impl<D: Disk> Kept<D> {
         ensures few { result ≤ most_libraries }
         ensures own_names { HaveOwnNames self.now.entries }
         ensures counted { result ≡ self.now.root.library_count }
+        ensures flags { AreFlagged self.now }
+        ensures holders { (sector : ℕ) (placed : PlacedEntry) → IsHeldBy self.now.held sector placed
+            → 0 < holders_of self.now.held sector }
         ensures state { (version : Version) → (s : State) → IsAtBy version D.facts self.now s
             → result ≡ length s.libraries }
     {
@@ -68,6 +74,13 @@ impl<D: Disk> Kept<D> {
             × ((slice_index_or s.libraries i no_library).name ≡ name.now)) }
     {
         self.index.position_of(&self.entries, name)
+    }
+
+    /// The positions of all byte strings in the order of their names.
+    pub(crate) fn order(&self) -> &[u16]
+        ensures { IsOrderOf (entry_names self.now.entries) result.now }
+    {
+        self.index.positions()
     }
 
     /// The positions of the preloads, in their order.

@@ -7,7 +7,7 @@ ghost use Rattle.store.specs.declared.placed_entry.PlacedEntry.{PlacedEntry};
 ghost use Rattle.store.specs.Stands.{HaveOwnNames, name_of};
 ghost use Rattle.store.specs.inside.Kept.{HaveSpellings};
 ghost use Rattle.store.specs.inside.NameIndex.{IsIndex, IsSortedOrder, Rises, IsPlace};
-ghost use Rattle.store.specs.inside.NameIndex.{entry_names, name_at, name_order};
+ghost use Rattle.store.specs.NameOrder.{entry_names, name_at, name_order};
 ghost use Rattle.store.specs.inside.NameIndex.{order_to, closed_up};
 
 use crate::placed_entry::PlacedEntry;
@@ -144,6 +144,13 @@ impl NameIndex {
         } else {
             Ok(None)
         }
+    }
+
+    /// The positions in the order of the names.
+    pub(crate) fn positions(&self) -> &[u16]
+        ensures { result.now ≡ self.now.positions }
+    {
+        &self.positions
     }
 
     /// The place of a name in the order: as many names come before it.

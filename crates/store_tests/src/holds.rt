@@ -193,8 +193,8 @@ fn versions_are_let_go_in_any_order(rt: HostRuntime) -> Result<(), Fail> {
     Ok(())
 }
 
-// The store on 8 sectors with a byte string of 344 ones, whose sixth call fails: the first one after
-// the opening.
+// The store on 8 sectors with a byte string of 344 ones, whose sixth call fails: the first one
+// after the opening.
 fn failing(rt: &impl Abort, alloc: Global) -> Result<Store<Fuse<Memory>>, Fail> {
     let disk = disk_after(rt, alloc, 8, &[(Put(0, 1, 344), None)])?;
     opened(alloc, Fuse::new(disk, 6, false, false))

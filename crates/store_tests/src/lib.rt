@@ -31,6 +31,8 @@ mod sectors;
 #[cfg(test)]
 mod seen;
 #[cfg(test)]
+mod snapshot;
+#[cfg(test)]
 mod upgrades;
 #[cfg(test)]
 mod versions;

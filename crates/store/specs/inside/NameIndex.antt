@@ -1,41 +1,22 @@
 -- The order of names in which entries are found.
-use Rattle.std.specs.Prelude.{◌≡◌, ℕ, ◌+◌, ◌<◌, ◌≤◌, List, [], length, map, slice_index, slice_index_or, All, AllPairs, false, nat_lt, ◌-◌, if◌then◌else◌}
-use Rattle.std.specs.List.{Contains, range_with_len}
+use Rattle.std.specs.Prelude.{◌≡◌, ℕ, ◌+◌, ◌<◌, ◌≤◌, List, length, slice_index, false, nat_lt, ◌-◌, if◌then◌else◌}
+use Rattle.std.specs.List.{range_with_len}
 use Rattle.std.specs.List.Sorted.{IsPermutation, IsSortedBy}
 use Rattle.std.specs.Cmp.Lexicographic.{slice_cmp}
 use Rattle.std.specs.Ordering.{nat_cmp, is_lt}
 use Rattle.std.specs.declared.cmp.Ordering.{Ordering}
 use Rattle.std.specs.declared.cmp.Ordering.TheVariants.{Less}
 use Rattle.store.specs.declared.placed_entry.PlacedEntry.{PlacedEntry}
-use Rattle.store.specs.Stands.{name_of}
+use Rattle.store.specs.NameOrder.{entry_names, name_at, name_order, IsOrderOf}
 
 -- what an index keeps: positions, and how many more it takes without new memory
 pub record Index : Type 0 where
   pub positions : List ℕ
   pub room : ℕ
 
--- the names of entries
-abbrev pub entry_names : List PlacedEntry → List (List ℕ)
-entry_names entries = map (λ placed. name_of placed.entry) entries
-
--- the name at a position; the empty one where there is none
-abbrev pub name_at : List (List ℕ) → ℕ → List ℕ
-name_at names position = slice_index_or names position []
-
--- names byte by byte, a shorter one before those that it begins
-abbrev pub name_order : List (List ℕ) → ℕ → ℕ → Ordering
-name_order names a b = slice_cmp nat_cmp (name_at names a) (name_at names b)
-
 -- the name at a position against one that is looked for
 abbrev pub order_to : List (List ℕ) → List ℕ → ℕ → Ordering
 order_to names name position = slice_cmp nat_cmp (name_at names position) name
-
--- Each position of these names once, in the order of the names, of which none stands twice.
-pub record IsOrderOf (names : List (List ℕ)) (positions : List ℕ) : Type 0 where
-  pub size : length positions ≡ length names
-  pub within : All (λ position. position < length names) positions
-  pub every : (position : ℕ) → position < length names → Contains positions position
-  pub rise : AllPairs (λ a b. name_order names a b ≡ Less) positions
 
 -- It has the positions of these entries in the order of their names.
 abbrev pub IsIndex : List PlacedEntry → Index → Type 0

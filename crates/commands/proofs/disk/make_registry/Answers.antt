@@ -9,6 +9,7 @@ returns-in-Ok-format-clause-ok g c =
         new = c.in-Ok.ensures.new;
         sectors = c.in-Ok.ensures.sectors;
         usable = e.usable;
+        unheld = e.unheld;
         calls = e.all_calls;
       },
     )

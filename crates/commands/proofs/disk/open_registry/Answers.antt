@@ -8,6 +8,7 @@ returns-in-Ok-open-clause-ok g c =
         new = c.in-Ok.ensures;
         geometry = e.geometry;
         usable = e.usable;
+        unheld = e.unheld;
         calls = e.all_calls;
       },
     )

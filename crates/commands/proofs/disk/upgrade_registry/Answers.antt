@@ -9,6 +9,7 @@ returns-in-Ok-upgrade-clause-ok g c =
         new = c.in-Ok.ensures;
         geometry = e.geometry;
         usable = e.usable;
+        unheld = e.unheld;
         calls = e.calls;
       },
     )

@@ -1,6 +1,6 @@
 use Rattle.std.proofs.Common.{◌≡◌, ◌<◌, ◌+◌, ℕ, slice_index}
 use Rattle.std.specs.declared.cmp.Ordering.TheVariants.{Less}
-use Rattle.store.specs.inside.NameIndex.{entry_names, name_order}
+use Rattle.store.specs.NameOrder.{entry_names, name_order}
 use Rattle.store.proofs.name_index.rise.Given as goal
 
 abbrev pub invariant-loop-i : goal.invariant-loop-i

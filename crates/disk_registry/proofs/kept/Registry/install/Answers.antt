@@ -1,4 +1,4 @@
-use Rattle.std.proofs.Common.{◌≡◌, Ok, Err, true, false, sym, subst, ◌∙◌}
+use Rattle.std.proofs.Common.{◌≡◌, true, false, sym, subst, ◌∙◌}
 use Rattle.std.proofs.lemmas.Result.{err_from_is_err_and}
 use Rattle.registry.specs.Reading.{IsLibraryRefusal}
 use Rattle.states.specs.State.{names_of, has_name}
@@ -9,8 +9,7 @@ use Rattle.disk_registry.specs.Applied.{Applies}
 use Rattle.disk_registry.specs.Opened.{IsAt}
 use Rattle.disk_registry.proofs.Forms.{is_name, file_size}
 use Rattle.disk_registry.proofs.Putting.{installed, install_no_library, install_there, install_done, install_refused}
-use Rattle.store.specs.Step.{IsAnswer, refusal_of_new, longest_free}
-use Rattle.disk_registry.proofs.States.{room_alone, same_sectors}
+use Rattle.disk_registry.proofs.States.{same_sectors}
 use Rattle.disk_registry.proofs.kept.Registry.install.Goals as goal
 use Rattle.disk_registry.proofs.kept.Registry.install.Goals.{in-Ok, in-Err}
 
@@ -41,14 +40,13 @@ returns-clause-applied g c s at =
     let bytes = c.args.bytes.now in
     let absent : has_name (names_of s.libraries) name ≡ false = installed s name c.position.result (c.position.ensures.state s here.stored) ∙ sym c.is_some.ensures ∙ c.if-is_some.false in
     let root = same_sectors facts old s here (λ honest. g.met.D.Disk.holds_now _ honest) in
-    let alone = room_alone old c.self.invariant in
     let leaves = c.put_new.ensures.any_moment s here.stored in
     subst (λ r. Applies facts r new s (install bytes) (answer_of c.match-put_new.result)) c.self.view_is (elim c.match-put_new.branch [
       | in-Ok w ↦ subst (λ r. Applies facts old new s (install bytes) (answer_of r)) (sym w.result-is)
           (install_done facts old s here bytes c.in_ok-name.ensures.ok name c.in_ok-name.ensures.name new root absent leaves tt
-          (subst (λ n. IsAnswer (refusal_of_new n (longest_free old) s bytes) (Ok tt)) alone (w.in-Ok.ensures.refused s here.stored)) w.in-Ok.ensures.on_any_disk.usable (w.in-Ok.ensures.ok s here.stored))
+          (w.in-Ok.ensures.refused s here.stored) w.in-Ok.ensures.on_any_disk.usable (w.in-Ok.ensures.ok s here.stored))
       | in-Err w ↦ subst (λ r. Applies facts old new s (install bytes) (answer_of r)) (sym w.result-is)
           (subst (λ r. Applies facts old new s (install bytes) (Refused r)) (sym w.refusal_of.ensures)
           (install_refused facts old s here bytes c.in_ok-name.ensures.ok name c.in_ok-name.ensures.name new root absent leaves w.in-Err.refusal
-          (subst (λ n. IsAnswer (refusal_of_new n (longest_free old) s bytes) (Err w.in-Err.refusal)) alone (w.in-Err.ensures.refused s here.stored)) w.in-Err.ensures.on_any_disk.reopen w.in-Err.ensures.on_any_disk.refusals w.in-Err.ensures.on_any_disk.device w.in-Err.ensures.on_any_disk.same c.in_ok-name.ensures.memory))
+          (w.in-Err.ensures.refused s here.stored) w.in-Err.ensures.on_any_disk.reopen w.in-Err.ensures.on_any_disk.refusals w.in-Err.ensures.on_any_disk.device w.in-Err.ensures.on_any_disk.same c.in_ok-name.ensures.memory))
     ])

@@ -1,4 +1,4 @@
-use Rattle.std.proofs.Common.{◌≡◌, Ok, Err, true, false, not, sym, ap, subst, ◌∙◌}
+use Rattle.std.proofs.Common.{◌≡◌, true, false, not, sym, ap, subst, ◌∙◌}
 use Rattle.std.proofs.lemmas.Result.{err_from_is_err_and}
 use Rattle.registry.specs.Reading.{IsLibraryRefusal}
 use Rattle.states.specs.State.{names_of, has_name}
@@ -9,8 +9,7 @@ use Rattle.disk_registry.specs.Applied.{Applies}
 use Rattle.disk_registry.specs.Opened.{IsAt}
 use Rattle.disk_registry.proofs.Forms.{file_size}
 use Rattle.disk_registry.proofs.Putting.{installed, has_position, replace_no_library, replace_lacking, replace_done, replace_refused}
-use Rattle.store.specs.Step.{IsExactAnswer, refusal_of_put, longest_free}
-use Rattle.disk_registry.proofs.States.{room_alone, same_sectors}
+use Rattle.disk_registry.proofs.States.{same_sectors}
 use Rattle.disk_registry.proofs.kept.Registry.replace.Goals as goal
 use Rattle.disk_registry.proofs.kept.Registry.replace.Goals.{in-Ok, in-Err}
 
@@ -43,14 +42,13 @@ returns-clause-applied g c s at =
     let bytes = c.args.bytes.now in
     let there : has_name (names_of s.libraries) name ≡ true = installed s name c.position.result (c.position.ensures.state s here.stored) ∙ c.is_none.ensures ∙ ap not c.if-is_none.false in
     let root = same_sectors facts old s here (λ honest. g.met.D.Disk.holds_now _ honest) in
-    let alone = room_alone old c.self.invariant in
     let leaves = c.put_over.ensures.any_moment s here.stored in
     subst (λ r. Applies facts r new s (replace bytes) (answer_of c.match-put_over.result)) c.self.view_is (elim c.match-put_over.branch [
       | in-Ok w ↦ subst (λ r. Applies facts old new s (replace bytes) (answer_of r)) (sym w.result-is)
           (replace_done facts old s here bytes c.in_ok-name.ensures.ok name c.in_ok-name.ensures.name new root there leaves tt
-          (subst (λ n. IsExactAnswer (refusal_of_put n (longest_free old) s bytes) (Ok tt)) alone (w.in-Ok.ensures.refused s here.stored)) w.in-Ok.ensures.on_any_disk.usable (w.in-Ok.ensures.ok s here.stored))
+          (w.in-Ok.ensures.refused s here.stored) w.in-Ok.ensures.on_any_disk.usable (w.in-Ok.ensures.ok s here.stored))
       | in-Err w ↦ subst (λ r. Applies facts old new s (replace bytes) (answer_of r)) (sym w.result-is)
           (subst (λ r. Applies facts old new s (replace bytes) (Refused r)) (sym w.refusal_of.ensures)
           (replace_refused facts old s here bytes c.in_ok-name.ensures.ok name c.in_ok-name.ensures.name new root there leaves w.in-Err.refusal
-          (subst (λ n. IsExactAnswer (refusal_of_put n (longest_free old) s bytes) (Err w.in-Err.refusal)) alone (w.in-Err.ensures.refused s here.stored)) w.in-Err.ensures.on_any_disk.reopen w.in-Err.ensures.on_any_disk.refusals w.in-Err.ensures.on_any_disk.device w.in-Err.ensures.on_any_disk.same c.in_ok-name.ensures.memory))
+          (w.in-Err.ensures.refused s here.stored) w.in-Err.ensures.on_any_disk.reopen w.in-Err.ensures.on_any_disk.refusals w.in-Err.ensures.on_any_disk.device w.in-Err.ensures.on_any_disk.same c.in_ok-name.ensures.memory))
     ])

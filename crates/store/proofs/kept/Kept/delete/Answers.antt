@@ -16,7 +16,8 @@ use Rattle.store.specs.Taken.{AreTaken, IsNamedAt}
 use Rattle.store.specs.inside.Catalogues.{CanBeCatalogued}
 use Rattle.store.specs.inside.Claimed.{IsClaimedBeside, IsUsable}
 use Rattle.store.specs.inside.Kept.{IsKept}
-use Rattle.store.specs.inside.NameIndex.{IsOrderOf, entry_names, closed_up}
+use Rattle.store.specs.NameOrder.{IsOrderOf, entry_names}
+use Rattle.store.specs.inside.NameIndex.{closed_up}
 use Rattle.store.specs.inside.Next.{IsRelisting, next_root}
 use Rattle.store.specs.Held.{in_use, lone_sectors}
 use Rattle.store.specs.Holders.{KeepsHolders}

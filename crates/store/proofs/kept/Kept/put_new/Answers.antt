@@ -19,7 +19,7 @@ use Rattle.store.specs.Taken.{IsTaken}
 use Rattle.store.specs.inside.Catalogues.{CanBeCatalogued}
 use Rattle.store.specs.inside.Claimed.{IsClaimedBeside}
 use Rattle.store.specs.inside.Kept.{IsKept}
-use Rattle.store.specs.inside.NameIndex.{IsOrderOf, entry_names}
+use Rattle.store.specs.NameOrder.{IsOrderOf, entry_names}
 use Rattle.store.specs.inside.Next.{IsPut, next_root}
 use Rattle.store.specs.inside.Room.{AreHeld, IsReleased}
 use Rattle.store.proofs.Anew.{put_claimed, more_free, more_held, back_kept, moved_held, moved_size, moved_claimed}

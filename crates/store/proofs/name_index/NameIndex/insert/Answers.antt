@@ -1,6 +1,7 @@
 use Rattle.std.proofs.Common.{◌≡◌, ◌∙◌, ◌++◌, ◌∷◌, [], length, ap, subst, sym}
 use Rattle.std.specs.List.{insert}
-use Rattle.store.specs.inside.NameIndex.{Index, entry_names, IsOrderOf}
+use Rattle.store.specs.NameOrder.{entry_names, IsOrderOf}
+use Rattle.store.specs.inside.NameIndex.{Index}
 use Rattle.store.proofs.NameInserts.{inserted}
 use Rattle.store.proofs.name_index.NameIndex.insert.Goals as goal
 

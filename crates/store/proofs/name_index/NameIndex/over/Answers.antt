@@ -1,6 +1,7 @@
 use Rattle.std.proofs.Common.{subst, sym, ◌∙◌}
 use Rattle.std.proofs.lemmas.Bool.{false≢true}
-use Rattle.store.specs.inside.NameIndex.{entry_names, Rises}
+use Rattle.store.specs.NameOrder.{entry_names}
+use Rattle.store.specs.inside.NameIndex.{Rises}
 use Rattle.store.proofs.NameOrder.{order_from_rises, rises_from_own}
 use Rattle.store.proofs.NameIndex.{own_from_order, names_from_own}
 use Rattle.store.proofs.name_index.NameIndex.over.Goals as goal

@@ -1,7 +1,8 @@
 use Rattle.std.proofs.Common.{◌≡◌, ◌∙◌, ap, subst, sym, rules}
 use Rattle.std.specs.Ordering.{is_lt}
 use Rattle.std.proofs.lemmas.List.Sorted.{IsPartitionPoint-from_clause}
-use Rattle.store.specs.inside.NameIndex.{entry_names, order_to, Index, IsPlace, IsOrderOf}
+use Rattle.store.specs.NameOrder.{entry_names, IsOrderOf}
+use Rattle.store.specs.inside.NameIndex.{order_to, Index, IsPlace}
 use Rattle.store.proofs.NameIndex.{partitioned, place_from}
 use Rattle.store.proofs.name_index.NameIndex.place_of.Goals as goal
 

@@ -2,7 +2,8 @@ use Rattle.std.proofs.Common.{◌≡◌, ◌<◌, ◌∙◌, ap, sym, length, ge
 use Rattle.std.proofs.lemmas.Bool.{false≢true}
 use Rattle.std.proofs.lemmas.List.{get_or_read}
 use Rattle.std.proofs.lemmas.Slice.Eq.{bytes_eq-Decides}
-use Rattle.store.specs.inside.NameIndex.{Index, entry_names, name_at}
+use Rattle.store.specs.NameOrder.{entry_names, name_at}
+use Rattle.store.specs.inside.NameIndex.{Index}
 use Rattle.store.proofs.NameIndex.{absent, entry_name, entry_count}
 use Rattle.store.proofs.name_index.NameIndex.position_of.Goals as goal
 

@@ -1,7 +1,8 @@
 use Rattle.std.proofs.Common.{◌≡◌, ◌∙◌, length, map, ap, subst, sym, arith}
 use Rattle.std.specs.List.{remove}
 use Rattle.std.proofs.lemmas.List.{length-map, with_items_is, get_or_read}
-use Rattle.store.specs.inside.NameIndex.{Index, entry_names, closed_up, IsOrderOf}
+use Rattle.store.specs.NameOrder.{entry_names, IsOrderOf}
+use Rattle.store.specs.inside.NameIndex.{Index, closed_up}
 use Rattle.store.proofs.NameIndex.{there, IsThere, entry_name, entry_count}
 use Rattle.store.proofs.NameRemovals.{removed}
 use Rattle.store.proofs.name_index.NameIndex.remove.Goals as goal

@@ -1,0 +1,108 @@
+-- Byte strings are held one by one, and let go again where one is refused.
+use Rattle.std.proofs.Common.{◌≡◌, ⊎_elim, ℕ, ◌+◌, ◌<◌, ◌≤◌, ◌==◌, if◌then◌else◌, List, [], ◌∷◌, ◌++◌, get_or, Ok, Err, IsFalse, refl, sym, ap, subst, ◌∙◌, arith}
+use Rattle.std.proofs.lemmas.Bool.{cases_lt, false≢true}
+use Rattle.std.proofs.lemmas.List.{get_or_append_left, get_or_push, length-append}
+use Rattle.std.proofs.lemmas.List.Sums.{sum_by-append, sum_by-cons}
+use Rattle.sector_disk.specs.Disk.{DiskFacts}
+use Rattle.store.specs.declared.placed_entry.PlacedEntry.{PlacedEntry}
+use Rattle.store.specs.declared.refusal.StoreRefusal.{StoreRefusal}
+use Rattle.store.specs.declared.refusal.StoreRefusal.TheVariants.{OutOfMemory}
+use Rattle.store.specs.Held.{IsHeldBy, holders_of}
+use Rattle.store.specs.Holders.{AreFlagged, HeldIs}
+use Rattle.store.specs.Holding.{Holds}
+use Rattle.store.specs.Opened.{Opened}
+use Rattle.store.specs.Stands.{no_library}
+use Rattle.snapshots.specs.Snapshot.{LetsAllGo, times}
+use Rattle.snapshots.specs.inside.Holding.{AreSome, HoldsFirst, StaysBeside}
+
+-- one handle more is as often among handles, and once more for its own sector
+pub times-push : (sector handle : ℕ) (handles : List ℕ) → times sector (handles ++ handle ∷ []) ≡ times sector handles + (if handle == sector then 1 else 0)
+times-push sector handle handles =
+    let one : ℕ → ℕ = λ h. if h == sector then 1 else 0 in
+    omega (arith, sum_by-append one handles (handle ∷ []), sum_by-cons one handle [])
+
+module _ {D : Type 0} (facts : D → DiskFacts) {old : Opened D} where
+  -- what a store that is as it was stays beside
+  pub stays : AreFlagged old → StaysBeside facts old old
+  stays flags = record {
+    others = λ sector library is. is;
+    versions = λ sector placed by. by;
+    flags = flags;
+    kept = (refl, refl, refl, refl);
+    same = λ s at. at;
+  }
+
+  -- no byte string is held yet,
+  pub none_held : AreFlagged old → HoldsFirst facts old old 0 []
+  none_held flags = record {
+    size = refl;
+    each = λ i d lt. absurd (omega (arith, lt));
+    libraries = λ s at i lt. absurd (omega (arith, lt));
+    holders = λ sector. omega arith;
+    beside = stays flags;
+  }
+
+  -- and one more is
+  module _ {between new : Opened D} (count handle : ℕ) (handles : List ℕ) (before : HoldsFirst facts old between count handles) (now : Holds facts between new count (Ok handle)) where
+    abbrev more : List ℕ
+    more = handles ++ handle ∷ []
+
+    its : (i : ℕ) → i < count → get_or handles i 0 ≡ get_or more i 0
+    its i lt = sym (get_or_append_left handles (handle ∷ []) 0 i (omega (arith, lt, before.size)))
+
+    last : (i : ℕ) → count ≤ i → i < count + 1 → handle ≡ get_or more i 0
+    last i from upto = sym (get_or_push handles handle 0 i (omega (arith, from, upto, before.size)))
+
+    pub more_held : HoldsFirst facts old new (count + 1) more
+    more_held = record {
+      size = omega (arith, length-append handles (handle ∷ []), before.size);
+      each = λ i d lt. ⊎_elim
+          (λ early. subst (λ h. IsHeldBy new.held h (get_or old.entries i d)) (its i early) (now.versions (get_or handles i 0) (get_or old.entries i d) (before.each i d early)))
+          (λ from.
+          let is : count ≡ i = omega (arith, from, lt) in
+          subst (λ h. IsHeldBy new.held h (get_or old.entries i d)) (last i from lt)
+          (subst (λ k. IsHeldBy new.held handle (get_or old.entries k d)) is
+          (subst (λ l. IsHeldBy new.held handle (get_or l count d)) before.beside.kept.2 (now.version d))))
+          (cases_lt i count);
+      libraries = λ s at i lt. ⊎_elim
+          (λ early. subst (λ h. HeldIs facts new h (get_or s.libraries i no_library)) (its i early) (now.others (get_or handles i 0) (get_or s.libraries i no_library) (before.libraries s at i early)))
+          (λ from.
+          let is : count ≡ i = omega (arith, from, lt) in
+          subst (λ h. HeldIs facts new h (get_or s.libraries i no_library)) (last i from lt)
+          (subst (λ k. HeldIs facts new handle (get_or s.libraries k no_library)) is
+          (now.ok s (before.beside.same s at))))
+          (cases_lt i count);
+      holders = λ sector. omega (arith, now.holders sector, before.holders sector, times-push sector handle handles);
+      beside = record {
+        others = λ sector library is. now.others sector library (before.beside.others sector library is);
+        versions = λ sector placed by. now.versions sector placed (before.beside.versions sector placed by);
+        flags = now.flags;
+        kept = (now.kept.0 ∙ before.beside.kept.0, now.kept.1 ∙ before.beside.kept.1, now.kept.2 ∙ before.beside.kept.2, now.kept.3 ∙ before.beside.kept.3);
+        same = λ s at. now.same s (before.beside.same s at);
+      };
+    }
+
+  -- Once the handles let their versions go again, as many hold each as before,
+  module _ {between new : Opened D} {count : ℕ} {handles : List ℕ} (some : AreSome old) (before : HoldsFirst facts old between count handles) (gone : LetsAllGo facts between new handles) where
+    pub undone : (sector : ℕ) → holders_of new.held sector ≡ holders_of old.held sector
+    undone sector = omega (arith, gone.holders sector, before.holders sector)
+
+    still : (sector : ℕ) (placed : PlacedEntry) → IsHeldBy old.held sector placed → 0 < holders_of new.held sector
+    still sector placed by = omega (arith, undone sector, some sector placed by)
+
+    -- and all that was held is
+    pub undone_beside : StaysBeside facts old new
+    undone_beside = record {
+      others = λ sector library is. gone.others sector library (still sector is.placed is.by) (before.beside.others sector library is);
+      versions = λ sector placed by. (gone.versions sector placed).1 (before.beside.versions sector placed by, still sector placed by);
+      flags = gone.flags;
+      kept = (gone.kept.0 ∙ before.beside.kept.0, gone.kept.1 ∙ before.beside.kept.1, gone.kept.2 ∙ before.beside.kept.2, gone.kept.3 ∙ before.beside.kept.3);
+      same = λ s at. gone.same s (before.beside.same s at);
+    }
+
+-- A refusal to hold in a store that hasn't failed is want of memory, and changes nothing.
+pub memory_refused : {D : Type 0} (facts : D → DiskFacts) {between new : Opened D} {position : ℕ} {e : StoreRefusal} → IsFalse between.failed → Holds facts between new position (Err e) → e ≡ OutOfMemory
+memory_refused facts usable refused = ⊎_elim
+    (λ reopen. absurd (false≢true (sym usable ∙ refused.reopen.0 (ap (λ e. Err e) reopen))))
+    (λ memory. memory)
+    refused.refusals

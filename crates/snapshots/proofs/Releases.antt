@@ -1,0 +1,45 @@
+-- Handles are let go one by one.
+use Rattle.std.proofs.Common.{◌≡◌, ℕ, ◌+◌, ◌<◌, ◌==◌, if◌then◌else◌, List, [], ◌∷◌, refl, ◌∙◌, arith}
+use Rattle.std.proofs.lemmas.List.Sums.{sum_by-cons}
+use Rattle.sector_disk.specs.Disk.{DiskFacts}
+use Rattle.store.specs.Held.{holders_of}
+use Rattle.store.specs.Holders.{AreFlagged}
+use Rattle.store.specs.Holding.{LetsGo}
+use Rattle.store.specs.Opened.{Opened}
+use Rattle.snapshots.specs.Snapshot.{LetsAllGo, times}
+use Rattle.snapshots.specs.inside.Holding.{AreSome}
+
+-- one handle more is as often among handles, and once more for its own sector
+pub times-cons : (sector handle : ℕ) (handles : List ℕ) → times sector (handle ∷ handles) ≡ (if handle == sector then 1 else 0) + times sector handles
+times-cons sector handle handles = sum_by-cons (λ h. if h == sector then 1 else 0) handle handles
+
+module _ {D : Type 0} (facts : D → DiskFacts) {old : Opened D} where
+  -- where no handle is let go, nothing changes,
+  pub none_gone : AreSome old → AreFlagged old → LetsAllGo facts old old []
+  none_gone some flags = record {
+    holders = λ sector. omega arith;
+    others = λ sector library still is. is;
+    versions = λ sector placed. (λ by. (by, some sector placed by), λ both. both.0);
+    flags = flags;
+    kept = (refl, refl, refl, refl);
+    same = λ s at. at;
+  }
+
+  -- and one more goes
+  pub one_gone : {between new : Opened D} (handle : ℕ) (gone : List ℕ) → LetsAllGo facts old between gone → LetsGo facts between new handle → LetsAllGo facts old new (handle ∷ gone)
+  one_gone {between = between} {new = new} handle gone before now = record {
+    holders = λ sector. omega (arith, now.holders sector, before.holders sector, times-cons sector handle gone);
+    others = λ sector library still is. now.others sector library still (before.others sector library (more sector still) is);
+    versions = λ sector placed. (
+      λ by.
+          let both = (now.versions sector placed).0 by in
+          (((before.versions sector placed).0 both.0).0, both.1),
+      λ both. (now.versions sector placed).1 ((before.versions sector placed).1 (both.0, more sector both.1), both.1),
+    );
+    flags = now.flags;
+    kept = (now.kept.0 ∙ before.kept.0, now.kept.1 ∙ before.kept.1, now.kept.2 ∙ before.kept.2, now.kept.3 ∙ before.kept.3);
+    same = λ s at. now.same s (before.same s at);
+  }
+    where
+      more : (sector : ℕ) → 0 < holders_of new.held sector → 0 < holders_of between.held sector
+      more sector still = omega (arith, still, now.holders sector)

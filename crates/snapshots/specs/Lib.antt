@@ -1,0 +1,2 @@
+pub mod Snapshot
+pub mod inside

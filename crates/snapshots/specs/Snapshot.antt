@@ -1,0 +1,68 @@
+-- All byte strings of a store as they were at one moment, and what taking them and letting them go does.
+use Rattle.std.specs.Prelude.{◌≡◌, ◌↔◌, ◌⊎◌, ℕ, ◌+◌, ◌-◌, ◌<◌, ◌==◌, List, length, slice_index_or, IsTrue, Result, Err, IfOk, IfErr, OnErr}
+use Rattle.std.specs.List.{count_by}
+use Rattle.sector_disk.specs.Disk.{DiskFacts}
+use Rattle.roots.specs.Root.{listed_preloads}
+use Rattle.states.specs.State.{Library, State}
+use Rattle.store.specs.declared.holding.Holding.{Holding}
+use Rattle.store.specs.declared.placed_entry.PlacedEntry.{PlacedEntry}
+use Rattle.store.specs.declared.refusal.StoreRefusal.{StoreRefusal}
+use Rattle.store.specs.declared.refusal.StoreRefusal.TheVariants.{Reopen, OutOfMemory}
+use Rattle.store.specs.Held.{IsHeldBy, holders_of}
+use Rattle.store.specs.Holders.{AreFlagged, HeldIs}
+use Rattle.store.specs.NameOrder.{IsOrderOf, entry_names}
+use Rattle.store.specs.Opened.{Opened, IsAt}
+use Rattle.store.specs.Stands.{no_library}
+
+-- what a snapshot keeps: a handle for each byte string, their positions in the order of the names, and those of the preloads
+pub record Taken : Type 0 where
+  pub handles : List ℕ
+  pub order : List ℕ
+  pub preloads : List ℕ
+
+-- how often a sector is among handles
+abbrev pub times : ℕ → List ℕ → ℕ
+times sector handles = count_by (λ handle. handle == sector) handles
+
+-- each of these entries is held by the handle at its place
+pub record AreHeldBy (held : List Holding) (handles : List ℕ) (entries : List PlacedEntry) : Type 0 where
+  pub count : length handles ≡ length entries
+  pub each : (i : ℕ) (d : PlacedEntry) → i < length entries → IsHeldBy held (slice_index_or handles i 0) (slice_index_or entries i d)
+
+-- The snapshot has these entries: it holds each, and their names have its order.
+pub record IsTakenOf (table : List Holding) (snapshot : Taken) (entries : List PlacedEntry) : Type 0 where
+  pub held : AreHeldBy table snapshot.handles entries
+  pub order : IsOrderOf (entry_names entries) snapshot.order
+
+-- In every mixture of the disk the byte strings that are held are these.
+pub record AreHeldAs {D : Type 0} (facts : D → DiskFacts) (store : Opened D) (handles : List ℕ) (libraries : List Library) : Type 0 where
+  pub count : length handles ≡ length libraries
+  pub each : (i : ℕ) → i < length libraries → HeldIs facts store (slice_index_or handles i 0) (slice_index_or libraries i no_library)
+
+-- The snapshot was taken of a store, and holds in the store as it is now what that one had.
+pub record IsSnapshotOf {D : Type 0} (facts : D → DiskFacts) (taken now : Opened D) (snapshot : Taken) : Type 0 where
+  pub entries : IsTakenOf now.held snapshot taken.entries
+  pub preloads : snapshot.preloads ≡ listed_preloads taken.root
+  pub libraries : (s : State) → IsAt facts taken s → IsTrue (facts now.disk).honest × AreHeldAs facts now snapshot.handles s.libraries
+
+-- A snapshot of a store is taken: each byte string is held once more, or none is. No call of the disk is made.
+pub record Takes {D : Type 0} (facts : D → DiskFacts) (old new : Opened D) (result : Result Taken StoreRefusal) : Type 0 where
+  pub ok : IfOk result (λ snapshot. IsSnapshotOf facts old new snapshot)
+  pub holders : IfOk result (λ snapshot. (sector : ℕ) → holders_of new.held sector ≡ holders_of old.held sector + times sector snapshot.handles)
+  pub unheld : OnErr result ((sector : ℕ) → holders_of new.held sector ≡ holders_of old.held sector)
+  pub others : (sector : ℕ) (library : Library) → HeldIs facts old sector library → HeldIs facts new sector library
+  pub versions : (sector : ℕ) (placed : PlacedEntry) → IsHeldBy old.held sector placed → IsHeldBy new.held sector placed
+  pub flags : AreFlagged new
+  pub kept : (new.disk ≡ old.disk) × (new.root ≡ old.root) × (new.entries ≡ old.entries) × (new.failed ≡ old.failed)
+  pub same : (s : State) → IsAt facts old s → IsAt facts new s
+  pub reopen : (result ≡ Err Reopen) ↔ IsTrue old.failed
+  pub refusals : IfErr result (λ e. (e ≡ Reopen) ⊎ (e ≡ OutOfMemory))
+
+-- All these handles let their versions go, and nothing else changes.
+pub record LetsAllGo {D : Type 0} (facts : D → DiskFacts) (old new : Opened D) (handles : List ℕ) : Type 0 where
+  pub holders : (sector : ℕ) → holders_of new.held sector ≡ holders_of old.held sector - times sector handles
+  pub others : (sector : ℕ) (library : Library) → 0 < holders_of new.held sector → HeldIs facts old sector library → HeldIs facts new sector library
+  pub versions : (sector : ℕ) (placed : PlacedEntry) → IsHeldBy new.held sector placed ↔ (IsHeldBy old.held sector placed × (0 < holders_of new.held sector))
+  pub flags : AreFlagged new
+  pub kept : (new.disk ≡ old.disk) × (new.root ≡ old.root) × (new.entries ≡ old.entries) × (new.failed ≡ old.failed)
+  pub same : (s : State) → IsAt facts old s → IsAt facts new s

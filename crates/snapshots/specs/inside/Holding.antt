@@ -1,0 +1,39 @@
+-- How far the holding of all byte strings has come.
+use Rattle.std.specs.Prelude.{◌≡◌, ℕ, ◌+◌, ◌<◌, List, length, slice_index_or, Result, IfOk, IfErr}
+use Rattle.std.specs.Global.{Vec}
+use Rattle.sector_disk.specs.Disk.{DiskFacts}
+use Rattle.states.specs.State.{Library, State}
+use Rattle.store.specs.declared.placed_entry.PlacedEntry.{PlacedEntry}
+use Rattle.store.specs.declared.refusal.StoreRefusal.{StoreRefusal}
+use Rattle.store.specs.declared.refusal.StoreRefusal.TheVariants.{OutOfMemory}
+use Rattle.store.specs.Held.{IsHeldBy, holders_of}
+use Rattle.store.specs.Holders.{AreFlagged, HeldIs}
+use Rattle.store.specs.Opened.{Opened, IsAt}
+use Rattle.store.specs.Stands.{no_library}
+use Rattle.snapshots.specs.Snapshot.{times}
+
+-- whatever was held before is held as it was, and all else of the store is as it was
+pub record StaysBeside {D : Type 0} (facts : D → DiskFacts) (old new : Opened D) : Type 0 where
+  pub others : (sector : ℕ) (library : Library) → HeldIs facts old sector library → HeldIs facts new sector library
+  pub versions : (sector : ℕ) (placed : PlacedEntry) → IsHeldBy old.held sector placed → IsHeldBy new.held sector placed
+  pub flags : AreFlagged new
+  pub kept : (new.disk ≡ old.disk) × (new.root ≡ old.root) × (new.entries ≡ old.entries) × (new.failed ≡ old.failed)
+  pub same : (s : State) → IsAt facts old s → IsAt facts new s
+
+-- somebody holds each version of the table
+abbrev pub AreSome : {D : Type 0} → Opened D → Type 0
+AreSome store = (sector : ℕ) (placed : PlacedEntry) → IsHeldBy store.held sector placed → 0 < holders_of store.held sector
+
+-- Of the byte strings of a store the first so many are held by these handles.
+pub record HoldsFirst {D : Type 0} (facts : D → DiskFacts) (old new : Opened D) (count : ℕ) (handles : List ℕ) : Type 0 where
+  pub size : length handles ≡ count
+  pub each : (i : ℕ) (d : PlacedEntry) → i < count → IsHeldBy new.held (slice_index_or handles i 0) (slice_index_or old.entries i d)
+  pub libraries : (s : State) → IsAt facts old s → (i : ℕ) → i < count → HeldIs facts new (slice_index_or handles i 0) (slice_index_or s.libraries i no_library)
+  pub holders : (sector : ℕ) → holders_of new.held sector ≡ holders_of old.held sector + times sector handles
+  pub beside : StaysBeside facts old new
+
+-- All byte strings are held, or none is.
+pub record HoldsAll {D : Type 0} (facts : D → DiskFacts) (old new : Opened D) (result : Result (Vec ℕ) StoreRefusal) : Type 0 where
+  pub ok : IfOk result (λ handles. HoldsFirst facts old new (length old.entries) handles.items)
+  pub err : IfErr result (λ e. (e ≡ OutOfMemory) × ((sector : ℕ) → holders_of new.held sector ≡ holders_of old.held sector))
+  pub beside : StaysBeside facts old new

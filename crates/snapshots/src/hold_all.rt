@@ -1,0 +1,34 @@
+// Holding all byte strings of a store.
+ghost use Rattle.std.specs.Prelude.{◌≡◌, ◌≤◌, [], IsFalse, length, vec_capacity};
+ghost use Rattle.snapshots.specs.inside.Holding.{HoldsAll};
+
+use crate::release::release;
+use sector_disk::Disk;
+use store::{Held, Store, StoreRefusal};
+
+/// Holds each byte string of a store, in the order of the positions. The handles go into the room
+/// that is given; where one is refused, those that there are let go.
+pub(crate) fn hold_all<D: Disk>(
+    store: &mut Store<D>,
+    room: Vec<Held>,
+) -> Result<Vec<Held>, StoreRefusal>
+    requires empty { room.items ≡ [] }
+    requires room { length store.old.entries ≤ vec_capacity room }
+    requires usable { IsFalse store.old.failed }
+    ensures { HoldsAll D.facts store.old store.new result }
+{
+    let mut handles = room;
+    for position in 0..store.count() {
+        match store.hold(position) {
+            Ok(held) => match handles.push(held) {
+                Ok(()) => {}
+                Err(_) => unreachable!(),
+            },
+            Err(refusal) => {
+                release(store, handles);
+                return Err(refusal);
+            }
+        }
+    }
+    Ok(handles)
+}

@@ -1,0 +1,17 @@
+// Letting versions go.
+ghost use Rattle.snapshots.specs.Snapshot.{LetsAllGo};
+
+use sector_disk::Disk;
+use store::{Held, Store};
+
+/// Lets all these versions go. It takes no memory.
+pub(crate) fn release<D: Disk>(store: &mut Store<D>, handles: Vec<Held>)
+    ensures { LetsAllGo D.facts store.old store.new handles.items }
+{
+    // On any disk: what is held has holders, also where no handle is given.
+    let _ = store.count();
+    let mut left = handles;
+    while let Some(held) = left.pop() {
+        store.let_go(held);
+    }
+}

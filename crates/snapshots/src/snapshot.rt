@@ -1,0 +1,133 @@
+use crate::find::{find, held_name};
+use crate::hold_all::hold_all;
+use crate::release::release;
+use sector_disk::Disk;
+use std::alloc::Global;
+use std::marker::Model;
+use store::{Held, Store, StoreRefusal};
+
+/// All byte strings of a store as they were when it was taken, held one by one. It is good for its
+/// own store alone, as each handle is, until it is given to `let_go`.
+#[derive(Drop)]
+pub struct Snapshot {
+    handles: Vec<Held>,
+    // Positions in the order of the names, and those of the preloads.
+    order: Vec<u16>,
+    preloads: Vec<u16>,
+}
+
+impl Model for Snapshot {
+    ghost use Rattle.snapshots.specs.Snapshot.{Taken};
+    ghost use Rattle.snapshots.specs.inside.Places.{AreInside};
+
+    ghost Value = { Taken };
+
+    ghost view = { λ snapshot. record {
+      handles = snapshot.handles.items;
+      order = snapshot.order.items;
+      preloads = snapshot.preloads.items;
+    } };
+
+    ghost invariant = { λ s. AreInside s.handles.items s.preloads.items };
+}
+
+impl Snapshot {
+    ghost use Rattle.std.specs.Prelude.{◌≡◌, ◌≢◌, ◌<◌, ◌≤◌, List, All, IsNone, IfSome, length};
+    ghost use Rattle.std.specs.Prelude.{nat_eq, slice_index_or};
+    ghost use Rattle.std.specs.List.{IsDistinct};
+    ghost use Rattle.snapshots.specs.Snapshot.{Takes, LetsAllGo, IsTakenOf};
+    ghost use Rattle.store.specs.declared.placed_entry.PlacedEntry.{PlacedEntry};
+    ghost use Rattle.store.specs.Held.{IsHeldBy};
+    ghost use Rattle.store.specs.Holding.{ReadsHeld};
+    ghost use Rattle.store.specs.Stands.{name_of};
+
+    /// Holds all byte strings of a store as they are now. It makes no call of the disk, and copies
+    /// none of their bytes. All its own memory is taken before the first byte string is held.
+    pub fn take<D: Disk>(alloc: Global, store: &mut Store<D>) -> Result<Snapshot, StoreRefusal>
+        ensures { Takes D.facts store.old store.new result }
+    {
+        let count = store.count();
+        if store.has_failed() {
+            return Err(StoreRefusal::Reopen);
+        }
+        let room = Vec::with_capacity(alloc, count)?;
+        let order = store.order().to_vec(alloc)?;
+        let preloads = store.preloads().to_vec(alloc)?;
+        let handles = hold_all(store, room)?;
+        Ok(Snapshot {
+            handles,
+            order,
+            preloads,
+        })
+    }
+
+    /// How many byte strings there are.
+    pub fn count(&self) -> usize
+        ensures count { result ≡ length self.now.handles }
+        ensures few { result ≤ 2048 }
+    {
+        self.handles.len()
+    }
+
+    /// The positions of the preloads, in their order.
+    pub fn preloads(&self) -> &[u16]
+        ensures value { result.now ≡ self.now.preloads }
+
+        // On any disk: each is the position of a byte string, and none stands twice.
+        ensures inside { All (λ p. p < length self.now.handles) result.now }
+        ensures once { IsDistinct nat_eq result.now }
+    {
+        &self.preloads
+    }
+
+    /// The name of the byte string at a position; the empty one where nobody holds it in this
+    /// store.
+    pub fn name<'a, D: Disk>(&self, store: &'a Store<D>, position: usize) -> &'a [u8]
+        requires { position < length self.now.handles }
+        ensures { (placed : PlacedEntry)
+            → IsHeldBy store.now.held (slice_index_or self.now.handles position 0) placed
+            → result.now ≡ name_of placed.entry }
+    {
+        held_name(store, &self.handles[position])
+    }
+
+    /// The position of the byte string of this name. It halves the order of the names: 13
+    /// comparisons at most, each with a look into the store's table of held versions.
+    pub fn position<D: Disk>(&self, store: &Store<D>, name: &[u8]) -> Option<usize>
+        ensures within { IfSome result (λ i. i < length self.now.handles) }
+        ensures none { (entries : List PlacedEntry) → IsTakenOf store.now.held self.now entries
+            → IsNone result → All (λ placed. name_of placed.entry ≢ name.now) entries }
+        ensures some { (entries : List PlacedEntry) → IsTakenOf store.now.held self.now entries
+            → IfSome result (λ i. (i < length entries) × ((d : PlacedEntry)
+            → name_of (slice_index_or entries i d).entry ≡ name.now)) }
+    {
+        find(store, &self.handles, &self.order, name)
+    }
+
+    /// The byte string at a position, as it was. It reads each of its sectors once, and writes
+    /// nothing.
+    pub fn read<D: Disk>(
+        &self,
+        alloc: Global,
+        store: &mut Store<D>,
+        position: usize,
+    ) -> Result<Vec<u8>, StoreRefusal>
+        requires { position < length self.now.handles }
+        ensures { ReadsHeld D.facts store.old store.new (slice_index_or self.now.handles position 0)
+            result }
+    {
+        store.read_held(alloc, &self.handles[position])
+    }
+
+    /// Lets all of it go. It takes no memory and makes no call of the disk, also after S2.
+    pub fn let_go<D: Disk>(self, store: &mut Store<D>)
+        ensures { LetsAllGo D.facts store.old store.new self.handles }
+    {
+        let Snapshot {
+            handles,
+            order: _,
+            preloads: _,
+        } = self;
+        release(store, handles);
+    }
+}

@@ -1,0 +1,15 @@
+use Rattle.std.proofs.Common.{◌<◌, ℕ, subst}
+use Rattle.store.specs.declared.placed_entry.PlacedEntry.{PlacedEntry}
+use Rattle.store.specs.Held.{IsHeldBy, holders_of}
+use Rattle.store.specs.Holders.{AreFlagged}
+use Rattle.store.proofs.GivenUp.{flags}
+use Rattle.store.proofs.Holdings.{by_some}
+use Rattle.store.proofs.kept.Kept.count.Goals as goal
+
+pub returns-clause-flags : goal.returns-clause-flags
+returns-clause-flags g c = subst (λ store. AreFlagged store) c.self.view_is (flags c.self.invariant.0)
+
+pub returns-clause-holders : goal.returns-clause-holders
+returns-clause-holders g c =
+    subst (λ store. (sector : ℕ) (placed : PlacedEntry) → IsHeldBy store.held sector placed → 0 < holders_of store.held sector) c.self.view_is
+    (λ sector placed by. by_some c.self.invariant.0.rows by)
