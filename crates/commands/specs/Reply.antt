@@ -5,7 +5,7 @@ use Rattle.std.specs.Fmt.{decimal}
 use Rattle.text_output.specs.Name.{name_text}
 use Rattle.registry.specs.Table.{Listed}
 use Rattle.registry.specs.declared.refusal.Refusal.{Refusal}
-use Rattle.registry.specs.declared.refusal.Refusal.TheVariants.{Object, AlreadyInstalled, NotInstalled, InPreloads, RepeatedPreload, TooManyPreloads, Device, Reopen, Damaged, BadGeometry, Full, Fragmented, TooMany, GenerationEnd, OutOfMemory, Bind}
+use Rattle.registry.specs.declared.refusal.Refusal.TheVariants.{Object, AlreadyInstalled, NotInstalled, InPreloads, RepeatedPreload, TooManyPreloads, NoSlot, NoSuchBinder, Device, Reopen, Damaged, BadGeometry, Full, Fragmented, TooMany, GenerationEnd, OutOfMemory, Bind}
 use Rattle.registry.specs.declared.reply.Reply.{Reply}
 use Rattle.registry.specs.declared.reply.Reply.TheVariants.{Done, Listing, Bound, Refused}
 use Rattle.image.specs.Text.{image_text}
@@ -23,6 +23,8 @@ command_refusal_text NotInstalled = refused_line (codes "C3 NotInstalled")
 command_refusal_text InPreloads = refused_line (codes "C4 InPreloads")
 command_refusal_text RepeatedPreload = refused_line (codes "C5 RepeatedPreload")
 command_refusal_text TooManyPreloads = refused_line (codes "C6 TooManyPreloads")
+command_refusal_text NoSlot = refused_line (codes "C7 NoSlot")
+command_refusal_text NoSuchBinder = refused_line (codes "C8 NoSuchBinder")
 command_refusal_text (Bind refusal) = refusal_text refusal
 command_refusal_text Device = refused_line (codes "S1 Device")
 command_refusal_text Reopen = refused_line (codes "S2 Reopen")

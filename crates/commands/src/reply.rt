@@ -45,6 +45,8 @@ fn put_command_refusal<W: Write>(
         Refusal::InPreloads => put_plain_refusal(line, out, b"C4 InPreloads"),
         Refusal::RepeatedPreload => put_plain_refusal(line, out, b"C5 RepeatedPreload"),
         Refusal::TooManyPreloads => put_plain_refusal(line, out, b"C6 TooManyPreloads"),
+        Refusal::NoSlot => put_plain_refusal(line, out, b"C7 NoSlot"),
+        Refusal::NoSuchBinder => put_plain_refusal(line, out, b"C8 NoSuchBinder"),
         Refusal::Bind(refusal) => put_refusal(line, out, refusal),
         Refusal::Device => put_plain_refusal(line, out, b"S1 Device"),
         Refusal::Reopen => put_plain_refusal(line, out, b"S2 Reopen"),

@@ -1,5 +1,5 @@
 -- Files that are read one after the other as the queue of a load order is walked.
-use Rattle.std.proofs.Common.{◌≡◌, ℕ, zero, suc, ◌+◌, ◌-◌, ◌<◌, ◌≤◌, List, [], ◌∷◌, ◌++◌, length, map, take, drop, get_or, sum_by, nat_eq, Option, None, IsTrue, refl, sym, ap, subst, ◌∙◌, arith, false, append-nil}
+use Rattle.std.proofs.Common.{◌≡◌, ℕ, zero, suc, ◌+◌, ◌-◌, ◌<◌, ◌≤◌, List, [], ◌∷◌, ◌++◌, length, map, take, drop, get_or, nat_eq, Option, None, IsTrue, refl, sym, ap, subst, ◌∙◌, arith, false, append-nil}
 use Rattle.std.specs.Prelude.{All}
 use Rattle.std.specs.List.{IsDistinct, filter_map, flat_map, find}
 use Rattle.std.specs.Option.{option_or}
@@ -9,10 +9,8 @@ use Rattle.std.proofs.lemmas.Grind.{flat_map-append}
 use Rattle.std.proofs.lemmas.List.{length-map, get_or-map, map_push, take_more, length_push}
 use Rattle.std.proofs.lemmas.List.Elements.{All-get_or}
 use Rattle.std.proofs.lemmas.List.Folds.{find-append}
-use Rattle.std.proofs.lemmas.List.Sums.{sum_by-append, sum_by-cons}
 use Rattle.std.proofs.lemmas.Map.Keys.{apart_from_distinct}
-use Rattle.sector_disk.specs.Disk.{DiskFacts, HoldsNow, AreCallsExactly}
-use Rattle.sector_disk.proofs.Moments.{exactly_none, exactly_sum}
+use Rattle.sector_disk.specs.Disk.{DiskFacts, HoldsNow}
 use Rattle.roots.specs.Root.{listed_preloads}
 use Rattle.elf_dynamic.specs.Strings.{needed}
 use Rattle.scope.specs.LoadOrder as order
@@ -26,18 +24,14 @@ use Rattle.scope.proofs.LoadOrderLemmas.{low-level_0}
 use Rattle.scope.proofs.Naming.{object_later}
 use Rattle.scope.proofs.Queueing.{IsReached, reached-more, places-end, order-behind, order-whole}
 use Rattle.scope.proofs.Reaching.{reached-start}
-use Rattle.store.specs.Opened as opened
 use Rattle.store.specs.Opened.{Opened}
 use Rattle.store.specs.Stands.{HaveOwnNames, no_library}
 use Rattle.registry.specs.Binding.{object_of, objects, preload_numbers}
 use Rattle.registry.specs.Library.{IsLibrary}
 use Rattle.states.specs.State.{Library, State}
 use Rattle.disk_registry.specs.Opened.{IsAt}
-use Rattle.disk_registry.specs.Binding.{data_sectors}
-use Rattle.disk_registry.specs.inside.Reading.{IsRead}
-use Rattle.disk_registry.specs.inside.Walked.{more_needs, walked, IsWalked}
+use Rattle.disk_registry.specs.inside.Walked.{more_needs, walked, next_place, IsWalked}
 use Rattle.disk_registry.specs.declared.needs.Needs.{Needs}
-use Rattle.disk_registry.proofs.Files.{read_more, read_none}
 use Rattle.disk_registry.specs.inside.Named.{entry_names}
 use Rattle.disk_registry.proofs.StateNames.{names_are, object_count, numbers_are}
 
@@ -103,7 +97,7 @@ module _ {D : Type 0} (facts : D → DiskFacts) (program : List ℕ) (start : Op
   -- before the first file: level 0 and what the program needs
   pub none_read : HaveOwnNames start.entries → All (λ p. p < length start.entries) (listed_preloads start.root) → IsDistinct nat_eq (listed_preloads start.root)
       → (needs : Needs) → needs ≡ more_needs (entry_names start.entries) (first_needs (length start.entries + 1) (listed_preloads start.root)) program_name (needed program)
-      → IsWalked facts program start start needs []
+      → IsWalked facts program start needs []
   none_read own inside once needs is =
       let ks : List ℕ = listed_preloads start.root in
       let places : List ℕ = needs.places.places in
@@ -111,9 +105,10 @@ module _ {D : Type 0} (facts : D → DiskFacts) (program : List ℕ) (start : Op
       let grows : places ≡ grown (level_0 ks) more = ap (λ (n : Needs). n.places.places) is in
       let begins : take 1 places ≡ 0 ∷ [] = ap (take 1) grows ∙ grown-take 1 (level_0 ks) more (omega arith) in
       record {
-        read = read_none start;
-        places = record { limit = ap (λ (n : Needs). n.places.limit) is; first = first-of places begins };
-        within = omega (arith, grown-longer (level_0 ks) more, ap length grows);
+        among = record {
+          places = record { limit = ap (λ (n : Needs). n.places.limit) is; first = first-of places begins };
+          within = omega (arith, grown-longer (level_0 ks) more, ap length grows);
+        };
         missing = ap (λ (n : Needs). n.missing) is ∙ ap (find (is_missing (entry_names start.entries))) (sym (append-nil (needed_by (object_of_program program))));
         each = λ s at. ap (map (object_at (available program (objects s)))) (sym (ap (drop 1) begins));
         reached = λ s at.
@@ -127,7 +122,6 @@ module _ {D : Type 0} (facts : D → DiskFacts) (program : List ℕ) (start : Op
             (subst (λ ps. IsReached program (objects s) ps (grown (level_0 ks) (needs_of program (objects s) 0)) 1) (sym numbers)
             (reached-more program (objects s) ks (level_0 ks) 0
             (reached-start (needs_of program (objects s)) limit (level_0 ks) (omega arith)) (omega arith) fits));
-        calls = exactly_none (facts start.disk);
       }
     where
       first-of : (ps : List ℕ) → take 1 ps ≡ 0 ∷ [] → get_or ps 0 1 ≡ 0
@@ -135,7 +129,7 @@ module _ {D : Type 0} (facts : D → DiskFacts) (program : List ℕ) (start : Op
       first-of (p ∷ ps) e = ap (λ l. get_or l 0 1) e
 
   -- the library that a place stands for
-  library-at : (s : State) → IsAt facts start s → (p : ℕ) (f : Library) → 0 < p → p < length start.entries + 1
+  pub library-at : (s : State) → IsAt facts start s → (p : ℕ) (f : Library) → 0 < p → p < length start.entries + 1
       → f ≡ get_or s.libraries (p - 1) no_library → object_of f ≡ object_at (available program (objects s)) p
   library-at s at zero f some lt is = absurd (omega (arith, some))
   library-at s at (suc k) f some lt is =
@@ -150,14 +144,12 @@ module _ {D : Type 0} (facts : D → DiskFacts) (program : List ℕ) (start : Op
       ∙ sym (object_later (record { name = program_name; file = program }) (objects s) k (object_of no_library) inside)
 
   -- one file more
-  pub one_read : {now new : Opened D} {needs : Needs} {files : List Library} → IsWalked facts program start now needs files
+  pub one_read : {needs : Needs} {files : List Library} → IsWalked facts program start needs files
       → AreApart (length start.entries + 1) needs.places.places → length files + 1 < length needs.places.places
-      → (f : Library) → IsRead facts now new
-      → ((t : State) → opened.IsAt facts now t → f ≡ get_or t.libraries (get_or needs.places.places (length files + 1) 0 - 1) no_library)
-      → AreCallsExactly (data_sectors f.bytes) (facts now.disk) (facts new.disk)
+      → (f : Library) → ((t : State) → IsAt facts start t → f ≡ get_or t.libraries (next_place needs files - 1) no_library)
       → (more : Needs) → more ≡ more_needs (entry_names start.entries) needs f.name (needed f.bytes)
-      → IsWalked facts program start new more (files ++ f ∷ [])
-  one_read {now = now} {new = new} {needs = needs} {files = files} so_far apart lt f read is calls more after =
+      → IsWalked facts program start more (files ++ f ∷ [])
+  one_read {needs = needs} {files = files} so_far apart lt f is more after =
       let n : ℕ = length files in
       let names : List (List ℕ) = entry_names start.entries in
       let places : List ℕ = needs.places.places in
@@ -167,18 +159,19 @@ module _ {D : Type 0} (facts : D → DiskFacts) (program : List ℕ) (start : Op
       let count : length (files ++ f ∷ []) ≡ n + 1 = length_push files f in
       let longer : length places ≤ length more.places.places = omega (arith, grown-longer places found, ap length grows) in
       let below : p < length start.entries + 1 = All-get_or (λ q. q < length start.entries + 1) places (n + 1) 0 lt apart.below in
-      let above : 0 < p = place-above places n so_far.places.first apart.distinct lt in
+      let above : 0 < p = place-above places n so_far.among.places.first apart.distinct lt in
       let behind : walked more.places.places (length (files ++ f ∷ [])) ≡ walked places n ++ p ∷ [] =
       ap (walked more.places.places) count ∙ ap (λ ps. walked ps (n + 1)) grows ∙ walked-more places found n lt in
       let object = λ (s : State) (at : IsAt facts start s).
-      library-at s at p f above below (is s (so_far.read.same s at.stored)) in
+      library-at s at p f above below (is s at) in
       record {
-        read = read_more so_far.read read;
-        places = record {
-          limit = ap (λ (q : Needs). q.places.limit) after ∙ so_far.places.limit;
-          first = ap (λ ps. get_or ps 0 1) grows ∙ front places found so_far.places.first (omega (arith, lt));
+        among = record {
+          places = record {
+            limit = ap (λ (q : Needs). q.places.limit) after ∙ so_far.among.places.limit;
+            first = ap (λ ps. get_or ps 0 1) grows ∙ front places found so_far.among.places.first (omega (arith, lt));
+          };
+          within = omega (arith, lt, longer, count);
         };
-        within = omega (arith, lt, longer, count);
         missing = ap (λ (q : Needs). q.missing) after
             ∙ ap (λ (o : Option Need). option_or o (find (is_missing names) (needed_by (object_of f)))) so_far.missing
             ∙ missing-more names program files f;
@@ -195,16 +188,11 @@ module _ {D : Type 0} (facts : D → DiskFacts) (program : List ℕ) (start : Op
             subst (λ k. IsReached program (objects s) (preload_numbers s) more.places.places (k + 1)) (sym count)
             (subst (λ ps. IsReached program (objects s) (preload_numbers s) ps (n + 1 + 1)) (ap (grown places) (sym all) ∙ sym grows)
             (reached-more program (objects s) (preload_numbers s) places (n + 1) (so_far.reached s at) lt fits));
-        calls = exactly_sum so_far.calls calls
-            (sym (sum_by-append (λ (l : Library). data_sectors l.bytes) files (f ∷ []) ∙ one-sum));
       }
     where
       front : (ps qs : List ℕ) → get_or ps 0 1 ≡ 0 → 0 < length ps → get_or (grown ps qs) 0 1 ≡ 0
       front [] qs first some = absurd (omega (arith, some))
       front (x ∷ ps) qs first some = ap (λ l. get_or l 0 1) (grown_is (x ∷ ps) qs) ∙ first
-
-      one-sum : sum_by (λ l. data_sectors l.bytes) files + sum_by (λ l. data_sectors l.bytes) (f ∷ []) ≡ sum_by (λ l. data_sectors l.bytes) files + data_sectors f.bytes
-      one-sum = ap (λ k. sum_by (λ (l : Library). data_sectors l.bytes) files + k) (let e : sum_by (λ (l : Library). data_sectors l.bytes) (f ∷ []) ≡ data_sectors f.bytes = omega (arith, sum_by-cons (λ (l : Library). data_sectors l.bytes) f []) in e)
 
   whole-walked : (places : List ℕ) (n : ℕ) → n < length places → length places ≤ n + 1 → walked places n ≡ drop 1 places
   whole-walked places n inside outside =
@@ -212,7 +200,7 @@ module _ {D : Type 0} (facts : D → DiskFacts) (program : List ℕ) (start : Op
       ap (λ k. drop 1 (take k places)) e ∙ ap (drop 1) (take-length places)
 
   -- where the queue has been walked: the program and the files are the load order
-  pub all_read : {now : Opened D} {needs : Needs} {files : List Library} → IsWalked facts program start now needs files → length needs.places.places ≤ length files + 1
+  pub all_read : {needs : Needs} {files : List Library} → IsWalked facts program start needs files → length needs.places.places ≤ length files + 1
       → (s : State) → IsAt facts start s → load_order program (objects s) (preload_numbers s) ≡ available program (map object_of files)
   all_read {needs = needs} {files = files} so_far outside s at =
       let ks : List ℕ = preload_numbers s in
@@ -220,12 +208,12 @@ module _ {D : Type 0} (facts : D → DiskFacts) (program : List ℕ) (start : Op
       ∙ ap (available program)
       (order-behind program (objects s) ks
       ∙ ap (map (object_at (available program (objects s))))
-      (sym (whole-walked needs.places.places (length files) so_far.within outside
+      (sym (whole-walked needs.places.places (length files) so_far.among.within outside
       ∙ ap (drop 1) (sym (places-end program (objects s) ks needs.places.places (length files + 1) (so_far.reached s at) outside))))
       ∙ sym (so_far.each s at))
 
   -- and the first missing name is noted
-  pub missing_read : {now : Opened D} {needs : Needs} {files : List Library} → IsWalked facts program start now needs files → length needs.places.places ≤ length files + 1
+  pub missing_read : {needs : Needs} {files : List Library} → IsWalked facts program start needs files → length needs.places.places ≤ length files + 1
       → (s : State) → IsAt facts start s → missing program (objects s) (preload_numbers s) ≡ needs.missing
   unfolding missing
   missing_read {needs = needs} {files = files} so_far outside s at =

@@ -2,6 +2,8 @@ pub mod Acknowledging
 pub mod Applying
 pub mod Changed
 pub mod Files
+pub mod Grows
+pub mod Sources
 pub mod Forms
 pub mod Keeping
 pub mod Names
@@ -18,5 +20,6 @@ pub mod Tested
 pub mod StateNames
 pub mod NamedPlaces
 pub mod FilesRead
+pub mod Flights
 pub mod Bindings
 pub mod Upgrades

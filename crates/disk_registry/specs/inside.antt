@@ -1,4 +1,7 @@
--- What the code keeps as it goes. No public clause cites it, and nobody has to believe it.
+-- What the code keeps as it goes. Nobody has to believe it; of public clauses only those of binders in flight cite it.
+pub mod Binding
 pub mod Named
 pub mod Reading
+pub mod Source
+pub mod Stepping
 pub mod Walked

@@ -12,7 +12,7 @@ use sector_disk::Disk;
 use store::StoreRefusal;
 
 /// What reading a file refuses, in the registry's word for it.
-fn refusal_of_read(refusal: StoreRefusal) -> Refusal
+pub(crate) fn refusal_of_read(refusal: StoreRefusal) -> Refusal
     ensures { result ≡ refusal_of_read refusal }
 {
     match refusal {
@@ -57,7 +57,7 @@ impl<D: Disk> Registry<D> {
             Ok(walk) => walk,
             Err(refusal) => return Err(refusal_of_read(refusal)),
         };
-        let image = bind_walked(self.alloc, program, base, walk)?;
+        let image = bind_walked(self.alloc, program, base, &walk)?;
         Ok(image)
     }
 

@@ -3,12 +3,11 @@ ghost use Rattle.std.specs.Prelude.{◌≡◌, ℕ, map, true, None, IfOk, IfErr
 ghost use Rattle.image.specs.Byte.{byte_of};
 ghost use Rattle.image.specs.Image.{image_byte, image_of};
 ghost use Rattle.image.specs.Placement.{is_good_base};
-ghost use Rattle.image.specs.Refusal.{placed_refusal, IsFirstOrWantsMemory};
+ghost use Rattle.image.specs.Refusal.{missing_by, placed_refusal, IsFirstOrWantsMemory};
 ghost use Rattle.registry.specs.Binding.{object_of};
 ghost use Rattle.disk_registry.specs.inside.Walked.{walked_objects, walked_refusal};
 
 use crate::library_file::LibraryFile;
-use crate::needs::Needs;
 use crate::walk::Walk;
 use hash_check::Admitted;
 use image::{BindRefusal, Image, bind};
@@ -48,28 +47,38 @@ fn bind_files(
     bind(alloc, &order, base)
 }
 
+/// B3: a needed name that no file goes by, with its needer. Both names are copied.
+fn missing(alloc: Global, need: &NeededName) -> Result<BindRefusal, AllocError>
+    ensures { IfOk result (λ refusal. refusal ≡ missing_by need.now) }
+{
+    let NeededName { needer, name } = NeededName::copy_of(
+        alloc,
+        need.needer.as_bytes(),
+        need.name.as_bytes(),
+    )?;
+    Ok(BindRefusal::Missing { needer, name })
+}
+
 /// Binds a program at a base that is good for it with what a walk has found: B3 where a name is
-/// missing, else from B4 on. The names of a missing one are moved, not copied.
+/// missing, else from B4 on.
 pub(crate) fn bind_walked(
     alloc: Global,
     program: &Admitted<'_>,
     base: u64,
-    walk: Walk,
+    walk: &Walk,
 ) -> Result<Image, BindRefusal>
     requires { is_good_base program.now base ≡ true }
     ensures accepted { OnOk result
-        (walked_refusal program.now base walk.needs.missing walk.files.items ≡ None) }
+        (walked_refusal program.now base walk.now.needs.missing walk.now.files.items ≡ None) }
     ensures refused { IfErr result (IsFirstOrWantsMemory
-        (walked_refusal program.now base walk.needs.missing walk.files.items)) }
+        (walked_refusal program.now base walk.now.needs.missing walk.now.files.items)) }
     ensures ok { IfOk result (λ image. image
-        ≡ image_of (walked_objects program.now base walk.files.items)) }
+        ≡ image_of (walked_objects program.now base walk.now.files.items)) }
     ensures bytes { IfOk result (λ image. (a : ℕ) → image_byte image a
-        ≡ byte_of (walked_objects program.now base walk.files.items) a) }
+        ≡ byte_of (walked_objects program.now base walk.now.files.items) a) }
 {
-    let Walk { needs, files } = walk;
-    let Needs { places: _, missing } = needs;
-    match missing {
-        Some(NeededName { needer, name }) => Err(BindRefusal::Missing { needer, name }),
-        None => bind_files(alloc, program, base, &files),
+    match &walk.needs.missing {
+        Some(need) => Err(missing(alloc, need)?),
+        None => bind_files(alloc, program, base, &walk.files),
     }
 }

@@ -22,6 +22,14 @@ impl<D: Disk> Model for Registry<D> {
 }
 
 impl<D: Disk> Registry<D> {
+    /// Whether a write or a sync failed. Then every command answers S2, until the disk is opened
+    /// again.
+    pub fn has_failed(&self) -> bool
+        ensures { result ≡ self.now.failed }
+    {
+        self.store.has_failed()
+    }
+
     /// The disk.
     pub fn into_disk(self) -> D
         ensures { result ≡ self.disk }

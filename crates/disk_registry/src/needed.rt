@@ -8,6 +8,7 @@ ghost use Rattle.disk_registry.specs.Opened.{IsAt};
 ghost use Rattle.disk_registry.specs.Binding.{data_sectors};
 ghost use Rattle.disk_registry.specs.inside.Reading.{IsRead, IsReadRefusal};
 
+use crate::source::Source;
 use crate::walk::Walk;
 use hash_check::Admitted;
 use sector_disk::Disk;
@@ -38,9 +39,12 @@ pub(crate) fn read_needed<D: Disk>(
         (sum_by (λ file. data_sectors file.bytes) walk.files.items)
         (D.facts store.old.disk) (D.facts store.new.disk)) }
 {
-    let mut walk = Walk::start(alloc, store, program)?;
+    // No two files have one name, as this call says.
+    let _count = store.count();
+    let source = Source::Current;
+    let mut walk = Walk::start(alloc, store, source, program)?;
     while walk.has_next() {
-        walk.step(alloc, store)?;
+        walk.step(alloc, store, source)?;
     }
     Ok(walk)
 }

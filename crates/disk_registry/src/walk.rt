@@ -1,18 +1,23 @@
 // The walk of a bind through the files of its load order.
-ghost use Rattle.std.specs.Prelude.{◌≡◌, ◌<◌, ◌≤◌, ◌+◌, ◌++◌, ◌∷◌, [], ℕ, List, length};
-ghost use Rattle.std.specs.Prelude.{nat_eq, true, false};
-ghost use Rattle.std.specs.Prelude.{All, IfOk, IfErr, OnOk};
-ghost use Rattle.std.specs.List.{IsDistinct};
-ghost use Rattle.roots.specs.Root.{listed_preloads};
+ghost use Rattle.std.specs.Prelude.{◌≡◌, ◌<◌, ◌≤◌, ◌+◌, ◌-◌, ◌++◌, ◌∷◌, [], ℕ, List, length};
+ghost use Rattle.std.specs.Prelude.{get_or, slice_index_or, true, false, IfOk, IfErr, OnOk, OnErr};
+ghost use Rattle.sector_disk.specs.Disk.{AreCallsAtMost, AreCallsExactly};
+ghost use Rattle.scope.specs.Queue.{AreApart};
 ghost use Rattle.store.specs.Opened.{Opened};
-ghost use Rattle.states.specs.State.{State};
+ghost use Rattle.store.specs.Stands.{no_library};
+ghost use Rattle.store.specs.declared.placed_entry.PlacedEntry.{PlacedEntry};
+ghost use Rattle.states.specs.State.{Library, State};
+ghost use Rattle.disk_registry.specs.Binding.{data_sectors};
 ghost use Rattle.disk_registry.specs.Opened.{IsAt};
+ghost use Rattle.disk_registry.specs.Stands.{file_sectors};
 ghost use Rattle.disk_registry.specs.inside.Reading.{IsRead, IsReadRefusal};
-ghost use Rattle.disk_registry.specs.inside.Walked.{ArePlaces, IsWalked};
+ghost use Rattle.disk_registry.specs.inside.Source.{HasEntries, HasFiles, Offers, offered};
+ghost use Rattle.disk_registry.specs.inside.Walked.{ArePlaces, IsAmong, IsWalked, next_place};
 
 use crate::library_file::LibraryFile;
 use crate::needs::Needs;
 use crate::reading::read_library;
+use crate::source::{Source, count, preload_numbers};
 use hash_check::Admitted;
 use scope::{first_level, program_name};
 use sector_disk::Disk;
@@ -27,44 +32,28 @@ pub(crate) struct Walk {
     pub(crate) files: Vec<LibraryFile>,
 }
 
-/// The positions of the preloads, as numbers.
-fn preload_numbers<D: Disk>(alloc: Global, store: &Store<D>) -> Result<Vec<usize>, AllocError>
-    ensures same { IfOk result (λ v. v.items ≡ listed_preloads store.now.root) }
-    ensures inside { All (λ p. p < length store.now.entries) (listed_preloads store.now.root) }
-    ensures once { IsDistinct nat_eq (listed_preloads store.now.root) }
-{
-    store
-        .preloads()
-        .iter()
-        .map(|position| *position as usize)
-        .collect(alloc)
-}
-
-/// Keeps one more file.
-fn keep(files: &mut Vec<LibraryFile>, file: LibraryFile) -> Result<(), AllocError>
-    ensures { OnOk result (files.new.items ≡ files.old.items ++ file ∷ []) }
-{
-    files.push(file)?;
-    Ok(())
-}
-
 impl Walk {
     /// A walk at its start: the program was looked at, and no file was read.
     pub(crate) fn start<D: Disk>(
         alloc: Global,
         store: &Store<D>,
+        source: Source<'_>,
         program: &Admitted<'_>,
     ) -> Result<Walk, AllocError>
-        ensures { IfOk result (λ walk. IsWalked D.facts program.now store.now store.now
+        ensures ok { (taken : Opened D) → Offers D.facts source.entry taken store.now
+            → IfOk result (λ walk. IsWalked D.facts program.now taken
             walk.needs walk.files.items) }
+        ensures among { IfOk result (λ walk. IsAmong (offered source.entry store.now)
+            walk.needs walk.files.items) }
+        ensures none { IfOk result (λ walk. walk.files.items ≡ []) }
     {
-        let preloads = preload_numbers(alloc, store)?;
-        let places = first_level(alloc, store.count(), &preloads)?;
+        let preloads = preload_numbers(alloc, store, source)?;
+        let places = first_level(alloc, count(store, source), &preloads)?;
         let mut needs = Needs {
             places,
             missing: None,
         };
-        needs.add_needed(alloc, store, program_name(), program.object())?;
+        needs.add_needed(alloc, store, source, program_name(), program.object())?;
         let files = Vec::new(alloc);
         Ok(Walk { needs, files })
     }
@@ -76,37 +65,73 @@ impl Walk {
         ensures no { result ≡ false
             → length self.now.needs.places.places ≤ length self.now.files.items + 1 }
         ensures few { length self.now.needs.places.places ≤ self.now.needs.places.limit }
+        ensures apart { AreApart self.now.needs.places.limit self.now.needs.places.places }
     {
         self.files.len() + 1 < self.needs.places.count()
     }
 
-    /// Reads the next file, whole, admits it, and looks at what it needs. After a refusal the walk
-    /// isn't gone on with.
+    /// The position of the file that is to be read next.
+    fn next_position(&self) -> usize
+        requires next { length self.now.files.items + 1 < length self.now.needs.places.places }
+        requires first { get_or self.now.needs.places.places 0 1 ≡ 0 }
+        ensures next { result ≡ next_place self.now.needs self.now.files.items - 1 }
+        ensures inside { result + 1 < self.now.needs.places.limit }
+        ensures above { 0 < next_place self.now.needs self.now.files.items }
+        ensures apart { AreApart self.now.needs.places.limit self.now.needs.places.places }
+    {
+        // No place is there twice, as this call says: so only the first one is the program's.
+        let _count = self.needs.places.count();
+        self.needs.places.at(self.files.len() + 1) - 1
+    }
+
+    /// Reads the next file, whole, admits it, and looks at what it needs. A refusal leaves the walk
+    /// as it was.
     pub(crate) fn step<D: Disk>(
         &mut self,
         alloc: Global,
         store: &mut Store<D>,
+        source: Source<'_>,
     ) -> Result<(), StoreRefusal>
         requires next { length self.old.files.items + 1 < length self.old.needs.places.places }
-        requires places { ArePlaces store.old.entries self.old.needs.places }
-        ensures ok { (program : List ℕ) → (start : Opened D)
-            → IsWalked D.facts program start store.old self.old.needs self.old.files.items
+        requires among { IsAmong (offered source store.old)
+            self.old.needs self.old.files.items }
+        ensures walked { (program : List ℕ) → (taken : Opened D)
+            → Offers D.facts source.entry taken store.old
+            → IsWalked D.facts program taken self.old.needs self.old.files.items
             → OnOk result
-            (IsWalked D.facts program start store.new self.new.needs self.new.files.items) }
-        ensures further { OnOk result
-            (length self.new.files.items ≡ length self.old.files.items + 1) }
+            (IsWalked D.facts program taken self.new.needs self.new.files.items) }
+
+        // One file more is read: which one, and how many sectors it takes.
+        ensures further { OnOk result ((file : Library)
+            × (self.new.files.items ≡ self.old.files.items ++ file ∷ [])
+            × ((s : State) → HasFiles D.facts source.entry store.old s → file
+            ≡ slice_index_or s.libraries
+            (next_place self.old.needs self.old.files.items - 1) no_library)
+            × ((entries : List PlacedEntry) → HasEntries source.entry store.old entries
+            → AreCallsExactly (data_sectors file.bytes)
+            (D.facts store.old.disk) (D.facts store.new.disk))) }
+        ensures calls { (entries : List PlacedEntry) → HasEntries source.entry store.old entries
+            → (d : PlacedEntry) → AreCallsAtMost (file_sectors (slice_index_or entries
+            (next_place self.old.needs self.old.files.items - 1) d))
+            (D.facts store.old.disk) (D.facts store.new.disk) }
+        ensures among { OnOk result (IsAmong (offered source.entry store.old)
+            self.new.needs self.new.files.items) }
+        ensures same { OnErr result ((self.new.needs ≡ self.old.needs)
+            × (self.new.files.items ≡ self.old.files.items)) }
         ensures read { IsRead D.facts store.old store.new }
-        ensures intact { (s : State) → IsAt D.facts store.old s
+        ensures intact { (s : State) → (taken : Opened D)
+            → Offers D.facts source.entry taken store.old → IsAt D.facts taken s
             → IfErr result (λ e. e ≡ StoreRefusal.Damaged → ⊥) }
         ensures refusals { IfErr result (IsReadRefusal D.facts store.old store.new) }
     {
-        // No place is there twice, as this call says: so only the first one is the program's.
-        let _count = self.needs.places.count();
-        let position = self.needs.places.at(self.files.len() + 1) - 1;
-        let file = read_library(alloc, store, position)?;
+        let position = self.next_position();
+        let file = read_library(alloc, store, source, position)?;
+        self.files.reserve(1)?;
         self.needs
-            .add_needed(alloc, store, file.name(), &file.object())?;
-        keep(&mut self.files, file)?;
-        Ok(())
+            .add_needed(alloc, store, source, file.name(), &file.object())?;
+        match self.files.push(file) {
+            Ok(()) => Ok(()),
+            Err(_) => unreachable!(),
+        }
     }
 }

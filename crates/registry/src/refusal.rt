@@ -19,6 +19,10 @@ pub enum Refusal {
     RepeatedPreload,
     /// C6: there are over 16 names.
     TooManyPreloads,
+    /// C7: a binder lives in each slot.
+    NoSlot,
+    /// C8: no binder lives in the slot.
+    NoSuchBinder,
     /// B1 to B5: the program isn't bound, for this reason, which is never want of memory.
     Bind(BindRefusal),
     /// S1: a call of the disk failed.

@@ -63,6 +63,8 @@ fn number_of(refusal: &Refusal) -> &'static str {
         Refusal::InPreloads => "C4",
         Refusal::RepeatedPreload => "C5",
         Refusal::TooManyPreloads => "C6",
+        Refusal::Bind(BindRefusal::Program(_)) => "B1",
+        Refusal::Bind(BindRefusal::BadBase) => "B2",
         Refusal::Bind(BindRefusal::Missing { .. }) => "B3",
         Refusal::Device => "S1",
         Refusal::Reopen => "S2",
@@ -84,7 +86,11 @@ pub(crate) fn number(reply: &Reply) -> &'static str {
 }
 
 /// The answer to a command.
-fn ask(alloc: Global, registry: &mut OnMemory, asked: Asked) -> Result<Reply, AllocError> {
+pub(crate) fn ask(
+    alloc: Global,
+    registry: &mut OnMemory,
+    asked: Asked,
+) -> Result<Reply, AllocError> {
     let mut bad = library(b'a');
     bad[16] = 2;
     Ok(match asked {

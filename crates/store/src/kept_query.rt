@@ -12,7 +12,7 @@ impl<D: Disk> Kept<D> {
     ghost use Rattle.roots.specs.declared.version.Version.{Version};
     ghost use Rattle.store.specs.declared.placed_entry.PlacedEntry.{PlacedEntry};
     ghost use Rattle.store.specs.Opened.{IsAtBy};
-    ghost use Rattle.store.specs.Stands.{HaveOwnNames, name_of, no_library, names_at};
+    ghost use Rattle.store.specs.Stands.{HaveOwnNames, TellLengths, name_of, no_library, names_at};
     ghost use Rattle.store.specs.NameOrder.{IsOrderOf, entry_names};
     ghost use Rattle.store.specs.Names.{LacksName, IsName, IsFileSize};
     ghost use Rattle.store.specs.Held.{IsHeldBy, holders_of};
@@ -30,6 +30,8 @@ impl<D: Disk> Kept<D> {
             → 0 < holders_of self.now.held sector }
         ensures state { (version : Version) → (s : State) → IsAtBy version D.facts self.now s
             → result ≡ length s.libraries }
+        ensures lengths { (version : Version) → (s : State) → IsAtBy version D.facts self.now s
+            → TellLengths self.now.entries s }
     {
         self.entries.len()
     }

@@ -1,8 +1,11 @@
-use Rattle.std.proofs.Common.{◌<◌, ℕ, subst}
+use Rattle.std.proofs.Common.{◌<◌, ℕ, sym, subst}
 use Rattle.store.specs.declared.placed_entry.PlacedEntry.{PlacedEntry}
 use Rattle.store.specs.Held.{IsHeldBy, holders_of}
 use Rattle.store.specs.Holders.{AreFlagged}
 use Rattle.store.proofs.GivenUp.{flags}
+use Rattle.store.specs.Opened.{IsAtBy}
+use Rattle.store.specs.Stands.{TellLengths}
+use Rattle.store.proofs.Queries.{length_is}
 use Rattle.store.proofs.Holdings.{by_some}
 use Rattle.store.proofs.kept.Kept.count.Goals as goal
 
@@ -13,3 +16,9 @@ pub returns-clause-holders : goal.returns-clause-holders
 returns-clause-holders g c =
     subst (λ store. (sector : ℕ) (placed : PlacedEntry) → IsHeldBy store.held sector placed → 0 < holders_of store.held sector) c.self.view_is
     (λ sector placed by. by_some c.self.invariant.0.rows by)
+
+pub returns-clause-lengths : goal.returns-clause-lengths
+returns-clause-lengths g c version s at =
+    let here = subst (λ store. IsAtBy version g.D.Disk.facts store s) (sym c.self.view_is) at in
+    subst (λ store. TellLengths store.entries s) c.self.view_is
+    (length_is g.D.Disk.facts version _ s (g.met.D.Disk.holds_now _) here (g.met.D.Disk.whole_sectors _) c.self.invariant.0.entries_fit)
