@@ -63,6 +63,8 @@ fn number_of(refusal: &Refusal) -> &'static str {
         Refusal::InPreloads => "C4",
         Refusal::RepeatedPreload => "C5",
         Refusal::TooManyPreloads => "C6",
+        Refusal::NoSlot => "C7",
+        Refusal::NoSuchBinder => "C8",
         Refusal::Bind(BindRefusal::Program(_)) => "B1",
         Refusal::Bind(BindRefusal::BadBase) => "B2",
         Refusal::Bind(BindRefusal::Missing { .. }) => "B3",

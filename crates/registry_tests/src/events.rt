@@ -39,6 +39,8 @@ pub(crate) enum Told {
     Word(u64),
     /// The last answer of a binder that gives no image, by its number.
     Last(&'static str),
+    /// The slot of a binder that was begun.
+    Slot(usize),
 }
 
 /// An event and its answer.
@@ -56,8 +58,8 @@ fn word_of(image: &Image) -> Option<u64> {
     Some(u64::from_le_bytes(word))
 }
 
-// A reply, which is an image or has a number.
-fn answer_of(reply: &Reply) -> Told {
+/// A reply, which is an image or has a number.
+pub(crate) fn answer_of(reply: &Reply) -> Told {
     match reply {
         Reply::Bound(image) => match word_of(image) {
             Some(word) => Word(word),

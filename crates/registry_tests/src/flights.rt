@@ -11,18 +11,18 @@ use std::alloc::Global;
 use std::process::Abort;
 use std::test::Fail;
 
-const OK: Told = Number("ok");
+pub(crate) const OK: Told = Number("ok");
 
-const FULL: Told = Number("S7");
+pub(crate) const FULL: Told = Number("S7");
 
-const GOING: Told = Number("going");
+pub(crate) const GOING: Told = Number("going");
 
 const BEGUN: Told = Number("begun");
 
 const ENDED: Told = Number("ended");
 
-// A new registry of eight sectors. With a library of one sector two of them are free.
-fn small(alloc: Global) -> Result<OnMemory, Fail> {
+/// A new registry of eight sectors. With a library of one sector two of them are free.
+pub(crate) fn small(alloc: Global) -> Result<OnMemory, Fail> {
     formatted(alloc, whole(Memory::new(alloc, 8)?))
 }
 
@@ -160,9 +160,9 @@ fn eight_binders_have_eight_versions_and_end_in_any_order(rt: HostRuntime) -> Re
     Ok(())
 }
 
-// A disk of eight sectors with a. Its opening takes six calls: a sync, two roots, the catalogue,
-// the entry, and the file.
-fn with_a(rt: &impl Abort, alloc: Global) -> Result<Memory, Fail> {
+/// A disk of eight sectors with a. Its opening takes six calls: a sync, two roots, the catalogue,
+/// the entry, and the file.
+pub(crate) fn with_a(rt: &impl Abort, alloc: Global) -> Result<Memory, Fail> {
     disk_left(rt, alloc, small(alloc)?, &[(Install, OK)])
 }
 

@@ -1,0 +1,43 @@
+-- How often binders in slots hold each version.
+use Rattle.std.proofs.Common.{◌≡◌, ℕ, ◌+◌, ◌<◌, ◌≤◌, ◌==◌, List, length, get_or, set, Option, Some, None, if◌then◌else◌, Bool, true, refl, ap, arith}
+use Rattle.std.specs.Prelude.{is_none, replicate}
+use Rattle.std.proofs.lemmas.Bool.Decides.{Decides-eqb}
+use Rattle.std.proofs.lemmas.List.Folds.{sum_by-replicate}
+use Rattle.std.proofs.lemmas.List.Quantifiers.{position-Some}
+use Rattle.std.proofs.lemmas.List.Sums.{get_or-le-sum_by, sum_by-set}
+use Rattle.snapshots.specs.Snapshot.{times}
+use Rattle.disk_registry.specs.inside.Binding.{Binding}
+use Rattle.binders.specs.Slotted.{held_by, held_in, lowest_free}
+
+-- a slot with another binder, or none
+pub held_set : (slots : List (Option Binding)) (slot : ℕ) (o : Option Binding) (sector : ℕ) → slot < length slots
+    → held_by (set slots slot o) sector + held_in sector (get_or slots slot None) ≡ held_by slots sector + held_in sector o
+held_set slots slot o sector lt = sum_by-set (held_in sector) slots slot o None lt
+
+-- the binder in a slot holds no more than all do
+pub held_within : (slots : List (Option Binding)) (slot : ℕ) (sector : ℕ) → slot < length slots → held_in sector (get_or slots slot None) ≤ held_by slots sector
+held_within slots slot sector lt = get_or-le-sum_by (held_in sector) slots slot None lt
+
+-- without a binder nothing is held
+pub held_none : (count sector : ℕ) → held_by (replicate count None) sector ≡ 0
+held_none count sector = omega (arith, sum_by-replicate (held_in sector) count None)
+
+same : (n : ℕ) → (n == n) ≡ true
+same n = (Decides-eqb n n).1 refl
+
+-- whoever has a handle holds its version
+pub times_there : (handles : List ℕ) (i : ℕ) → i < length handles → 0 < times (get_or handles i 0) handles
+times_there handles i lt =
+    let sector : ℕ = get_or handles i 0 in
+    let one : ◌≡◌ {A = ℕ} (if sector == sector then 1 else 0) 1 = ap {B = ℕ} (λ (b : Bool). if b then 1 else 0) (same sector) in
+    omega (arith, one, get_or-le-sum_by (λ h. if h == sector then 1 else 0) handles i 0 lt)
+
+-- nobody lives in the lowest free slot
+pub free_slot : (slots : List (Option Binding)) (slot : ℕ) → lowest_free slots ≡ Some slot → (slot < length slots) × (get_or slots slot None ≡ None)
+free_slot slots slot is =
+    let found = position-Some is_none slots slot None is in
+    (found.0, none (get_or slots slot None) found.1)
+  where
+    none : (o : Option Binding) → is_none o ≡ true → o ≡ None
+    none None e = refl
+    none (Some b) e = absurd cc

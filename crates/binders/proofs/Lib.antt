@@ -1,0 +1,4 @@
+pub mod Happening
+pub mod Holding
+pub mod OnFlights
+pub mod Stepping

@@ -1,0 +1,46 @@
+-- A registry with binders in slots, and the flights that these are on (own).
+use Rattle.std.specs.Prelude.{◌≡◌, ◌≤◌, ◌<◌, ℕ, List, length, position, is_none, slice_index_or, sum_by, Option, Some, None}
+use Rattle.sector_disk.specs.Disk.{DiskFacts}
+use Rattle.snapshots.specs.Snapshot.{times}
+use Rattle.store.specs.Held.{holders_of}
+use Rattle.store.specs.Opened.{Opened}
+use Rattle.disk_registry.specs.Flight.{Flight}
+use Rattle.disk_registry.specs.Flying.{Flies, handles_of}
+use Rattle.disk_registry.specs.inside.Binding.{Binding}
+
+-- a registry, and its slots: in each a binder, or none
+pub record Slotted (D : Type 0) : Type 0 where
+  pub registry : Opened D
+  pub slots : List (Option Binding)
+
+-- the lowest slot in which no binder lives, or none where one lives in each
+abbrev pub lowest_free : List (Option Binding) → Option ℕ
+lowest_free slots = position is_none slots
+
+-- how often the binder in a slot holds the version with this entry sector
+abbrev pub held_in : ℕ → Option Binding → ℕ
+held_in sector None = 0
+held_in sector (Some binder) = times sector (handles_of binder)
+
+-- how often those in all slots do
+abbrev pub held_by : List (Option Binding) → ℕ → ℕ
+held_by slots sector = sum_by (λ slot. held_in sector slot) slots
+
+-- In the registry each version is held at least as often as the binders hold it.
+abbrev pub IsHeld : {D : Type 0} → Opened D → List (Option Binding) → Type 0
+IsHeld registry slots = (sector : ℕ) → held_by slots sector ≤ holders_of registry.held sector
+
+-- Nobody else holds anything.
+abbrev pub HoldAlone : {D : Type 0} → Slotted D → Type 0
+HoldAlone binders = (sector : ℕ) → holders_of binders.registry.held sector ≡ held_by binders.slots sector
+
+-- the binder of a slot is on this flight; or there is neither
+abbrev pub IsOn : {D : Type 0} → (D → DiskFacts) → Opened D → Option Binding → Option Flight → Type 0
+IsOn facts registry None None = Unit {0}
+IsOn facts registry (Some binder) (Some flight) = Flies facts registry binder flight
+IsOn facts registry slot flight = ⊥
+
+-- The binders are on these flights, slot by slot.
+pub record AreOn {D : Type 0} (facts : D → DiskFacts) (binders : Slotted D) (flights : List (Option Flight)) : Type 0 where
+  pub count : length flights ≡ length binders.slots
+  pub each : (i : ℕ) → i < length flights → IsOn facts binders.registry (slice_index_or binders.slots i None) (slice_index_or flights i None)

@@ -1,0 +1,137 @@
+// A registry with binders.
+use crate::slots::Slots;
+use disk_registry::{Registry, Step};
+use registry::{Command, Refusal, Reply};
+use sector_disk::Disk;
+use std::alloc::Global;
+use std::marker::Model;
+
+/// A registry with up to 8 binders, each of which binds a program step by step for the registry as
+/// it was when it was begun. No binder is kept when the disk is opened again.
+pub struct Binders<D: Disk> {
+    pub(crate) alloc: Global,
+    registry: Registry<D>,
+    slots: Slots,
+}
+
+impl<D: Disk> Model for Binders<D> {
+    ghost use Rattle.binders.specs.Slotted.{IsHeld, Slotted};
+
+    ghost Value = { Slotted D };
+
+    ghost view = { λ b. record { registry = b.registry; slots = b.slots } };
+
+    ghost invariant = { λ b. IsHeld b.registry b.slots };
+}
+
+impl<D: Disk> Binders<D> {
+    ghost use Rattle.std.specs.Prelude.{◌≡◌, [], None, replicate};
+    ghost use Rattle.sector_disk.specs.Disk.{AreCallsExactly};
+    ghost use Rattle.registry.specs.Request.{request_of};
+    ghost use Rattle.states.specs.State.{State};
+    ghost use Rattle.disk_registry.specs.Answered.{Answered};
+    ghost use Rattle.disk_registry.specs.Applied.{Applies};
+    ghost use Rattle.disk_registry.specs.Calls.{IfAccepted, calls_of};
+    ghost use Rattle.disk_registry.specs.Opened.{IsAt};
+    ghost use Rattle.binders.specs.Slotted.{AreOn, HoldAlone};
+    ghost use Rattle.binders.specs.Stepped.{AdvancesIn, BeginsIn, CancelsIn, FlyOn};
+
+    /// A registry without a binder. The allocator is for the replies to events.
+    pub fn new(alloc: Global, registry: Registry<D>) -> Binders<D>
+        ensures none { result ≡ record { registry = registry; slots = replicate 8 None } }
+        ensures alone { registry.held ≡ [] → HoldAlone result }
+        ensures on { AreOn D.facts result (replicate 8 None) }
+    {
+        Binders {
+            alloc,
+            registry,
+            slots: Slots::new(),
+        }
+    }
+
+    /// The registry. Binders that live are gone, and what they hold stays held until the disk is
+    /// opened again.
+    pub fn into_registry(self) -> Registry<D>
+        ensures { result ≡ self.registry }
+    {
+        let Binders {
+            alloc: _,
+            registry,
+            slots: _,
+        } = self;
+        registry
+    }
+
+    /// Applies a command, as `Registry::apply` does. The binders stay on their flights.
+    pub fn apply(&mut self, command: &Command<'_>) -> Reply
+        ensures applied { (s : State) → IsAt D.facts self.old.registry s
+            → Applies D.facts self.old.registry self.new.registry s (request_of command.now)
+            result }
+        ensures all_calls { (s : State) → IsAt D.facts self.old.registry s → IfAccepted result
+            (AreCallsExactly (calls_of s (request_of command.now))
+            (D.facts self.old.registry.disk) (D.facts self.new.registry.disk)) }
+        ensures on_any_disk { Answered D.facts self.old.registry self.new.registry
+            (request_of command.now) result }
+        ensures fly_on { FlyOn D.facts self.old self.new }
+        ensures slots { self.new.slots ≡ self.old.slots }
+        ensures alone { HoldAlone self.old → HoldAlone self.new }
+    {
+        self.registry.apply(command)
+    }
+
+    /// Begins to bind a program, and gives the lowest slot that is free: S2, C7, then S11. It
+    /// copies the program, and makes no call of the disk.
+    pub fn begin(&mut self, program: &[u8], base: u64) -> Result<usize, Refusal>
+        ensures { BeginsIn D.facts self.old self.new program.now base result }
+    {
+        if self.registry.has_failed() {
+            return Err(Refusal::Reopen);
+        }
+        let Some(slot) = self.slots.lowest_free() else {
+            return Err(Refusal::NoSlot);
+        };
+        let binder = self.registry.begin(program, base)?;
+        self.slots.put(slot, binder);
+        Ok(slot)
+    }
+
+    /// Makes the next step of the binder in a slot: C8, then S2. The first step tests the program
+    /// by itself, each following one reads and admits one library, and the last binds; then the
+    /// slot is free. After S1, S2 and S11 the binder is where it was.
+    pub fn advance(&mut self, slot: usize) -> Result<Step, Refusal>
+        ensures { AdvancesIn D.facts self.old self.new slot result }
+    {
+        let Some(taken) = self.slots.take(slot) else {
+            return Err(Refusal::NoSuchBinder);
+        };
+        let mut binder = taken;
+        match self.registry.advance(&mut binder) {
+            Ok(Step::Final(answer)) => {
+                self.registry.end(binder);
+                Ok(Step::Final(answer))
+            }
+            Ok(Step::Going) => {
+                self.slots.put(slot, binder);
+                Ok(Step::Going)
+            }
+            Err(refusal) => {
+                self.slots.put(slot, binder);
+                Err(refusal)
+            }
+        }
+    }
+
+    /// Ends the binder in a slot, which is free then: Done, also after S2, or C8. It takes no
+    /// memory, and makes no call of the disk.
+    pub fn cancel(&mut self, slot: usize) -> Reply
+        ensures { CancelsIn D.facts self.old self.new slot result }
+    {
+        match self.slots.take(slot) {
+            Some(binder) => {
+                self.registry.end(binder);
+                Reply::Done
+            }
+            None => Reply::Refused(Refusal::NoSuchBinder),
+        }
+    }
+}

@@ -1,0 +1,31 @@
+// What happens to a registry with binders.
+use registry::{Command, Reply};
+
+/// A command, or something that is done with a binder.
+#[derive(Clone, Copy, Debug)]
+pub enum Event<'a> {
+    /// A command is applied.
+    Apply(Command<'a>),
+    /// A binder is begun.
+    Begin {
+        /// The bytes of the program's file.
+        program: &'a [u8],
+        /// The address at which it starts.
+        base: u64,
+    },
+    /// The binder in this slot makes its next step.
+    Advance(usize),
+    /// The binder in this slot is ended.
+    Cancel(usize),
+}
+
+/// What an event is answered.
+#[derive(Drop)]
+pub enum EventReply {
+    /// The reply to a command, the last answer of a binder, Done of a cancelled one, or a refusal.
+    Replied(Reply),
+    /// The slot of the binder that was begun.
+    Slot(usize),
+    /// The binder has more to do.
+    Going,
+}

@@ -1,0 +1,47 @@
+// Events happen, one after the other.
+use crate::binders::Binders;
+use crate::event::{Event, EventReply};
+use disk_registry::Step;
+use registry::Reply;
+use sector_disk::Disk;
+use std::alloc::AllocError;
+
+impl<D: Disk> Binders<D> {
+    ghost use Rattle.std.specs.Prelude.{◌≡◌, map, IfOk, OnErr};
+    ghost use Rattle.binders.specs.Events.{Happen, Happens, happening_of};
+
+    /// Lets an event happen.
+    fn happen(&mut self, event: &Event<'_>) -> EventReply
+        ensures { Happens D.facts self.old self.new (happening_of event.now) result }
+    {
+        match event {
+            Event::Apply(command) => EventReply::Replied(self.apply(command)),
+            Event::Begin { program, base } => match self.begin(program, *base) {
+                Ok(slot) => EventReply::Slot(slot),
+                Err(refusal) => EventReply::Replied(Reply::Refused(refusal)),
+            },
+            Event::Advance(slot) => match self.advance(*slot) {
+                Ok(Step::Going) => EventReply::Going,
+                Ok(Step::Final(answer)) => EventReply::Replied(answer),
+                Err(refusal) => EventReply::Replied(Reply::Refused(refusal)),
+            },
+            Event::Cancel(slot) => EventReply::Replied(self.cancel(*slot)),
+        }
+    }
+
+    /// Lets events happen one after the other, and gives one reply for each. Where memory for the
+    /// replies is refused, nothing happens.
+    pub fn run_events(&mut self, events: &[Event<'_>]) -> Result<Vec<EventReply>, AllocError>
+        // Each event happens to what the one before left.
+        ensures ok { IfOk result (λ replies. Happen D.facts self.old self.new
+            (map happening_of events.now) replies.items) }
+        ensures err { OnErr result (self.new ≡ self.old) }
+    {
+        let mut replies = Vec::with_capacity(self.alloc, events.len())?;
+        for event in events {
+            let reply = self.happen(event);
+            replies.push(reply).unwrap();
+        }
+        Ok(replies)
+    }
+}

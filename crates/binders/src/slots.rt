@@ -1,0 +1,63 @@
+// The slots of binders.
+ghost use Rattle.std.specs.Prelude.{◌≡◌, ◌<◌, IfSome, None, Some, replicate, slice_index_or, slice_set};
+ghost use Rattle.binders.specs.Slotted.{lowest_free};
+
+use disk_registry::Binder;
+use std::marker::Model;
+
+/// 8 slots, each with a binder or free. Contracts see the list of them.
+#[derive(Drop)]
+pub(crate) struct Slots {
+    binders: [Option<Binder>; 8],
+}
+
+impl Model for Slots {
+    ghost use Rattle.std.specs.Prelude.{◌≡◌, List, Option, length};
+    ghost use Rattle.disk_registry.specs.inside.Binding.{Binding};
+
+    ghost Value = { List (Option Binding) };
+
+    ghost view = { λ s. s.binders };
+
+    ghost invariant = { λ s. length s.binders ≡ 8 };
+}
+
+impl Slots {
+    /// All free.
+    pub(crate) fn new() -> Slots
+        ensures { result ≡ replicate 8 None }
+    {
+        Slots {
+            binders: [None, None, None, None, None, None, None, None],
+        }
+    }
+
+    /// The lowest slot that is free.
+    pub(crate) fn lowest_free(&self) -> Option<usize>
+        ensures lowest { result ≡ lowest_free self.now }
+        ensures within { IfSome result (λ slot. slot < 8) }
+    {
+        self.binders.iter().position(|slot| slot.is_none())
+    }
+
+    /// Puts a binder into a slot.
+    pub(crate) fn put(&mut self, slot: usize, binder: Binder)
+        requires { slot < 8 }
+        ensures { self.new ≡ slice_set self.old slot (Some binder) }
+    {
+        self.binders[slot] = Some(binder);
+    }
+
+    /// Takes the binder out of a slot, if one lives there.
+    pub(crate) fn take(&mut self, slot: usize) -> Option<Binder>
+        ensures taken { result ≡ slice_index_or self.old slot None }
+        ensures within { IfSome result (λ _. slot < 8) }
+        ensures free { self.new ≡ slice_set self.old slot None }
+    {
+        if slot < self.binders.len() {
+            self.binders[slot].take()
+        } else {
+            None
+        }
+    }
+}
