@@ -10,8 +10,8 @@ impl<D: Disk> Binders<D> {
     ghost use Rattle.std.specs.Prelude.{◌≡◌, map, IfOk, OnErr};
     ghost use Rattle.binders.specs.Events.{Happen, Happens, happening_of};
 
-    /// Lets an event happen.
-    fn happen(&mut self, event: &Event<'_>) -> EventReply
+    /// Lets an event happen, and gives its one reply.
+    pub fn happen(&mut self, event: &Event<'_>) -> EventReply
         ensures { Happens D.facts self.old self.new (happening_of event.now) result }
     {
         match event {
