@@ -30,6 +30,7 @@ CLAUSES = [
     ('disk_registry/upgrade', 'upgrade', 'any_moment left_alone unwritten now now_refused ok stands stands_old answer refused'),
     ('disk_registry/apply', 'apply', 'applied'),
     ('disk_registry/apply', 'run', 'ok'),
+    ('binders/run', 'run_events', 'ok'),
     ('commands/disk_script', 'run_script_on_disk', 'ok err'),
     ('disk_registry/rounds', 'run_rounds', 'ok'),
 ]
@@ -56,8 +57,8 @@ READING = [
         'sector_disk/Disk: DiskFacts Mixture IsRead IsWrite IsSync LeavesOnly']),
     ('8. Crash safety', 'What a stop leaves at each moment of one command, of many, of a script and of rounds (own).', [
         'disk_registry/Opened: IsAt', 'disk_registry/Applied: MayLeave Applied',
-        'disk_registry/Acknowledged: acknowledged AreAccepted',
-        'disk_registry/Ran: HasBegun HoldsAcknowledged LeavesAccepted FindsAccepted Ran',
+        'disk_registry/Acknowledged: Exchange acknowledged AreAccepted',
+        'disk_registry/Ran: Idles HasBegun HoldsAcknowledged LeavesAccepted FindsAccepted Ran',
         'commands/DiskScript: LinesRan', 'disk_registry/Rounds: AlwaysStands RoundLeads']),
     ('9. Disks of version 1', 'What opening says of such a disk, and what an upgrade makes of it (own).', [
         'store/Opening: RefusesOpen', 'store/Upgraded: upgraded', 'disk_registry/Upgraded: IsUpgradeOf',

@@ -1,15 +1,84 @@
--- Events happen one after the other.
-use Rattle.std.proofs.Common.{List, [], ◌∷◌, ◌++◌, refl, subst}
-use Rattle.sector_disk.specs.Disk.{DiskFacts}
-use Rattle.binders.specs.Events.{Happen, Happening, Happens}
+-- Events happen one after the other, and what a stop leaves of them.
+use Rattle.std.proofs.Common.{◌≡◌, List, [], ◌∷◌, ◌++◌, map, append-nil, append_assoc, Some, None, IsTrue, ⊎_elim, refl, sym, subst, ap}
+use Rattle.sector_disk.specs.Disk.{DiskFacts, Mixture, LeavesOnly}
+use Rattle.sector_disk.proofs.Moments.{at_rest}
+use Rattle.store.specs.Opened.{Opened}
+use Rattle.states.specs.State.{State}
+use Rattle.registry.specs.Runs.{Steps, Run, last_of}
+use Rattle.registry.specs.declared.reply.Reply.{Reply}
+use Rattle.registry.specs.declared.reply.Reply.TheVariants.{Done, Listing, Bound, Refused}
+use Rattle.disk_registry.specs.Acknowledged.{Exchange}
+use Rattle.disk_registry.specs.Opened.{IsAt}
+use Rattle.disk_registry.specs.Ran.{RunsThrough}
+use Rattle.disk_registry.proofs.RanSoFar.{RunsVia}
+use Rattle.disk_registry.proofs.Running.{runs_none, runs_turn, runs_idle, runs_through}
+use Rattle.binders.specs.Events.{Happening, Happens, apply, begin, advance, cancel}
+use Rattle.binders.specs.EventsRan.{EventsRan, exchange_of, exchanges}
 use Rattle.binders.specs.Slotted.{Slotted}
+use Rattle.binders.specs.Stepped.{StaysAt, BeginsIn, AdvancesIn, CancelsIn}
 use Rattle.binders.specs.declared.event.EventReply.{EventReply}
+use Rattle.binders.specs.declared.event.EventReply.TheVariants.{Replied, Slot, Going}
 
 module _ {D : Type 0} (facts : D → DiskFacts) where
-  -- one event more
-  pub happened_more : (old mid new : Slotted D) (hs : List Happening) (rs : List EventReply) (h : Happening) (r : EventReply) → Happen facts old mid hs rs → Happens facts mid new h r
-      → Happen facts old new (hs ++ h ∷ []) (rs ++ r ∷ [])
-  happened_more old mid new [] [] h r so_far happens = (new, subst (λ k. Happens facts k new h r) so_far happens, refl)
-  happened_more old mid new (x ∷ hs) (y ∷ rs) h r (k, first, rest) happens = (k, first, happened_more k mid new hs rs h r rest happens)
-  happened_more old mid new [] (y ∷ rs) h r so_far happens = absurd so_far
-  happened_more old mid new (x ∷ hs) [] h r so_far happens = absurd so_far
+  module _ (old mid new : Slotted D) (s : State) (xs : List Exchange) (registries : List (Opened D)) (so_far : RunsVia facts old.registry registries mid.registry s xs) where
+    abbrev GoesOn : Exchange → Type 0
+    GoesOn x = RunsVia facts old.registry (registries ++ new.registry ∷ []) new.registry s (xs ++ x ∷ [])
+
+    still_failed : StaysAt facts mid new → IsTrue mid.registry.failed → IsTrue new.registry.failed
+    still_failed stays failed = subst IsTrue (sym stays.kept.2) failed
+
+    -- no call of the disk was made
+    goes_unread : StaysAt facts mid new → new.registry.disk ≡ mid.registry.disk → GoesOn None
+    goes_unread stays same = runs_idle facts old.registry mid.registry new.registry s xs registries so_far stays.same
+        (λ honest. subst (λ (d : D). LeavesOnly (facts mid.registry.disk) (facts d) (Mixture (facts mid.registry.disk))) (sym same) (at_rest (facts mid.registry.disk) (Mixture (facts mid.registry.disk)) (λ m mixture. mixture)))
+        (λ failed. (still_failed stays failed, same))
+
+    goes_advanced : (slot : _) (result : _) → AdvancesIn facts mid new slot result → GoesOn None
+    goes_advanced slot result advances = runs_idle facts old.registry mid.registry new.registry s xs registries so_far advances.stays.same advances.any_moment
+        (λ failed. (still_failed advances.stays failed, ap (λ (r : Opened D). r.disk) (advances.failed failed)))
+
+    -- an event more
+    goes_on : (h : Happening) (r : EventReply) → Happens facts mid new h r → GoesOn (exchange_of h r)
+    goes_on (apply request) (Replied answer) happens = runs_turn facts old.registry mid.registry new.registry s xs registries so_far request answer happens.applied happens.all_calls happens.on_any_disk
+    goes_on (begin program base) (Slot slot) happens = goes_unread happens.stays happens.disk
+    goes_on (begin program base) (Replied (Refused refusal)) happens = goes_unread happens.stays happens.disk
+    goes_on (advance slot) Going happens = goes_advanced slot _ happens
+    goes_on (advance slot) (Replied answer) happens = ⊎_elim (λ final. goes_advanced slot _ final) (λ refused. goes_advanced slot _ refused.2) happens
+    goes_on (cancel slot) (Replied answer) happens = goes_unread happens.stays happens.disk
+    goes_on (apply request) (Slot slot) happens = absurd happens
+    goes_on (apply request) Going happens = absurd happens
+    goes_on (begin program base) Going happens = absurd happens
+    goes_on (begin program base) (Replied Done) happens = absurd happens
+    goes_on (begin program base) (Replied (Listing listing)) happens = absurd happens
+    goes_on (begin program base) (Replied (Bound image)) happens = absurd happens
+    goes_on (advance slot) (Slot other) happens = absurd happens
+    goes_on (cancel slot) (Slot other) happens = absurd happens
+    goes_on (cancel slot) Going happens = absurd happens
+
+  -- events that happened behind others
+  runs_events : (old mid : Slotted D) (s : State) (xs : List Exchange) (registries : List (Opened D)) → RunsVia facts old.registry registries mid.registry s xs
+      → (hs : List Happening) (rs : List EventReply) (passed : List (Slotted D)) → Steps (Happens facts) mid hs rs passed
+      → RunsVia facts old.registry (registries ++ map (λ (b : Slotted D). b.registry) passed) (last_of mid passed).registry s (xs ++ exchanges hs rs)
+  runs_events old mid s xs registries so_far [] [] [] h =
+      subst (λ (l : List (Opened D)). RunsVia facts old.registry l mid.registry s (xs ++ [])) (sym (append-nil registries))
+      (subst (λ (l : List Exchange). RunsVia facts old.registry registries mid.registry s l) (sym (append-nil xs)) so_far)
+  runs_events old mid s xs registries so_far (x ∷ hs) (r ∷ rs) (b ∷ passed) h =
+      let next = goes_on old mid b s xs registries so_far x r h.0 in
+      let all = runs_events old b s (xs ++ exchange_of x r ∷ []) (registries ++ b.registry ∷ []) next hs rs passed h.1 in
+      subst (λ (l : List (Opened D)). RunsVia facts old.registry l (last_of b passed).registry s (xs ++ exchange_of x r ∷ exchanges hs rs)) (append_assoc registries (b.registry ∷ []) (map (λ (k : Slotted D). k.registry) passed))
+      (subst (λ (l : List Exchange). RunsVia facts old.registry ((registries ++ b.registry ∷ []) ++ map (λ (k : Slotted D). k.registry) passed) (last_of b passed).registry s l) (append_assoc xs (exchange_of x r ∷ []) (exchanges hs rs)) all)
+  runs_events old mid s xs registries so_far [] [] (b ∷ passed) h = absurd h
+  runs_events old mid s xs registries so_far [] (r ∷ rs) passed h = absurd h
+  runs_events old mid s xs registries so_far (x ∷ hs) [] passed h = absurd h
+  runs_events old mid s xs registries so_far (x ∷ hs) (r ∷ rs) [] h = absurd h
+
+  -- events that happened one after the other ran
+  pub events_ran : (old new : Slotted D) (hs : List Happening) (rs : List EventReply) → Run (Happens facts) old hs rs new → EventsRan facts old new hs rs
+  events_ran old new hs rs run = record {
+    passed = run.0;
+    steps = run.1;
+    last = run.2;
+    runs = λ s at. subst (λ (k : Slotted D). RunsThrough facts old.registry (map (λ (b : Slotted D). b.registry) run.0) k.registry s (exchanges hs rs)) (sym run.2)
+        (runs_through facts old.registry (last_of old run.0).registry s (exchanges hs rs) (map (λ (b : Slotted D). b.registry) run.0)
+        (runs_events old old s [] [] (runs_none facts old.registry s at) hs rs run.0 run.1));
+  }

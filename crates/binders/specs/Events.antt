@@ -56,9 +56,3 @@ Happens facts old new (advance slot) Going = AdvancesIn facts old new slot (Ok s
 Happens facts old new (advance slot) (Replied answer) = StepReplies facts old new slot answer
 Happens facts old new (cancel slot) (Replied answer) = CancelsIn facts old new slot answer
 Happens facts old new happening reply = ⊥
-
--- events were answered so, one after the other, one reply each
-abbrev pub Happen : {D : Type 0} → (D → DiskFacts) → Slotted D → Slotted D → List Happening → List EventReply → Type 0
-Happen facts old new [] [] = new ≡ old
-Happen facts old new (happening ∷ happenings) (reply ∷ replies) = (mid : Slotted _) × Happens facts old mid happening reply × Happen facts mid new happenings replies
-Happen facts old new happenings replies = ⊥

@@ -8,7 +8,8 @@ use std::alloc::AllocError;
 
 impl<D: Disk> Binders<D> {
     ghost use Rattle.std.specs.Prelude.{◌≡◌, map, IfOk, OnErr};
-    ghost use Rattle.binders.specs.Events.{Happen, Happens, happening_of};
+    ghost use Rattle.binders.specs.Events.{Happens, happening_of};
+    ghost use Rattle.binders.specs.EventsRan.{EventsRan};
 
     /// Lets an event happen, and gives its one reply.
     pub fn happen(&mut self, event: &Event<'_>) -> EventReply
@@ -32,8 +33,9 @@ impl<D: Disk> Binders<D> {
     /// Lets events happen one after the other, and gives one reply for each. Where memory for the
     /// replies is refused, nothing happens.
     pub fn run_events(&mut self, events: &[Event<'_>]) -> Result<Vec<EventReply>, AllocError>
-        // Each event happens to what the one before left.
-        ensures ok { IfOk result (λ replies. Happen D.facts self.old self.new
+        // Each event happens to what the one before left. What a stop leaves at any moment is the
+        // state after accepted commands that hold every one acknowledged by then.
+        ensures ok { IfOk result (λ replies. EventsRan D.facts self.old self.new
             (map happening_of events.now) replies.items) }
         ensures err { OnErr result (self.new ≡ self.old) }
     {

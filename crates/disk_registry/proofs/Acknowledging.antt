@@ -1,21 +1,22 @@
 -- The state after the acknowledged commands, and lists that grow by one.
-use Rattle.std.proofs.Common.{◌≡◌, ◌⊎◌, inl, inr, ⊎_elim, ◌<◌, ◌≤◌, ℕ, Bool, suc, zero, true, false, cond, List, [], ◌∷◌, ◌++◌, length, take, Some, IsFalse, refl, sym, ap, subst, ◌∙◌, arith}
+use Rattle.std.proofs.Common.{◌≡◌, ◌⊎◌, inl, inr, ⊎_elim, ◌<◌, ◌≤◌, ℕ, Bool, suc, zero, true, false, cond, List, [], ◌∷◌, ◌++◌, length, take, Some, None, IsFalse, refl, sym, ap, subst, ◌∙◌, arith}
 use Rattle.std.specs.Prelude.{slice_get}
 use Rattle.std.proofs.lemmas.Bool.{false≢true}
 use Rattle.std.proofs.lemmas.List.{take-append-le, take_all, length-append}
+use Rattle.std.proofs.lemmas.List.Sums.{fold-append}
 use Rattle.std.proofs.lemmas.Option.{none-some, same_Some}
 use Rattle.sector_disk.specs.Disk.{DiskFacts}
 use Rattle.registry.specs.Request.{Request, install, replace, remove, set_preloads, bind, list}
 use Rattle.registry.specs.Phase.{Phase}
-use Rattle.registry.specs.Runs.{Steps, last_of, after}
+use Rattle.registry.specs.Runs.{last_of, after}
 use Rattle.registry.specs.Step.{Step, accepted, is_acknowledged, LeavesFailed}
 use Rattle.registry.specs.declared.refusal.Refusal.TheVariants as refusal
 use Rattle.registry.specs.declared.reply.Reply.{Reply}
 use Rattle.registry.specs.declared.reply.Reply.TheVariants.{Done, Refused}
 use Rattle.registry.specs.declared.reply.Reply.TheVariants as reply
 use Rattle.registry.proofs.Runs.{last_more}
-use Rattle.disk_registry.specs.Acknowledged.{acknowledged, state_after, FailedAt}
-use Rattle.disk_registry.specs.Ran.{Point, disk_at, Goes}
+use Rattle.disk_registry.specs.Acknowledged.{Exchange, acknowledged, state_after, FailedAt}
+use Rattle.disk_registry.specs.Ran.{Point, disk_at, Goes, Moves, LeadsThrough}
 use Rattle.disk_registry.specs.Phase.{phase_of}
 
 -- an item of a list is one of a longer list,
@@ -43,11 +44,11 @@ get_take (x ∷ xs) zero = refl
 get_take (x ∷ xs) (suc k) = get_take xs k
 
 -- a command that was answered S1 isn't among the acknowledged ones
-pub cut_unacknowledged : (qs : List Request) (rs : List Reply) (k : ℕ) (q : Request) → FailedAt qs rs k q → acknowledged (take (suc k) qs) (take (suc k) rs) ≡ acknowledged (take k qs) (take k rs)
-cut_unacknowledged [] rs k q cut = absurd (none-some q cut.asked)
-cut_unacknowledged (x ∷ qs) [] k q cut = absurd (none-some (Refused refusal.Device) cut.answered)
-cut_unacknowledged (x ∷ qs) (y ∷ rs) zero q cut = subst (λ r. cond (is_acknowledged r) (x ∷ []) [] ≡ []) (sym (same_Some y (Refused refusal.Device) cut.answered)) refl
-cut_unacknowledged (x ∷ qs) (y ∷ rs) (suc k) q cut = ap (λ l. cond (is_acknowledged y) (x ∷ l) l) (cut_unacknowledged qs rs k q (record { asked = cut.asked; answered = cut.answered }))
+pub cut_unacknowledged : (xs : List Exchange) (k : ℕ) (q : Request) → FailedAt xs k q → acknowledged (take (suc k) xs) ≡ acknowledged (take k xs)
+cut_unacknowledged [] k q cut = absurd (none-some (Some (q, Refused refusal.Device)) cut)
+cut_unacknowledged (x ∷ xs) zero q cut = subst (λ y. acknowledged (y ∷ []) ≡ []) (sym (same_Some x (Some (q, Refused refusal.Device)) cut)) refl
+cut_unacknowledged (Some e ∷ xs) (suc k) q cut = ap (λ l. cond (is_acknowledged e.1) (e.0 ∷ l) l) (cut_unacknowledged xs k q cut)
+cut_unacknowledged (None ∷ xs) (suc k) q cut = cut_unacknowledged xs k q cut
 
 -- what was on the way stays,
 pub after_before : {S : Type 0} (s : S) (ts : List S) (u : S) (k : ℕ) → k ≤ length ts → after s (ts ++ u ∷ []) k ≡ after s ts k
@@ -60,15 +61,6 @@ after_last s ts u k lt = ap (last_of s) (take_all k (ts ++ u ∷ []) (omega (ari
 -- so does the last on the way
 pub after_all_steps : {S : Type 0} (s : S) (ts : List S) (k : ℕ) → length ts ≤ k → after s ts k ≡ last_of s ts
 after_all_steps s ts k le = ap (last_of s) (take_all k ts le)
-
--- one answer and one state for each command
-pub steps_length : {S Q R : Type 0} (Step : S → Q → R → S → Type 0) (s : S) (qs : List Q) (rs : List R) (ts : List S) → Steps Step s qs rs ts → (length qs ≡ length rs) × (length ts ≡ length rs)
-steps_length Step s [] [] [] h = (refl, refl)
-steps_length Step s (q ∷ qs) (r ∷ rs) (t ∷ ts) h = let more = steps_length Step t qs rs ts h.1 in (ap suc more.0, ap suc more.1)
-steps_length Step s [] [] (t ∷ ts) h = absurd h
-steps_length Step s [] (y ∷ rs) ts h = absurd h
-steps_length Step s (x ∷ qs) [] ts h = absurd h
-steps_length Step s (x ∷ qs) (y ∷ rs) [] h = absurd h
 
 -- a call failed: the state stays where the registry can go on, or where the state is taken to be the one before
 device_state : (p : Phase) (q : Request) (p' : Phase) → LeavesFailed p q p' → IsFalse p'.failed ⊎ (p'.state ≡ p.state) → p'.state ≡ p.state
@@ -106,37 +98,66 @@ module _ {D : Type 0} (facts : D → DiskFacts) where
       (λ nothing. subst (λ y. p'.state ≡ cond (is_acknowledged y) (accepted p.state q) p.state) (sym (goes.answered.reopen.1 nothing.0)) (ap (λ (x : Point D). x.state) nothing.1))
       goes.applied
 
-  -- the state after the first k commands is the one after the acknowledged ones among them
-  pub states_after : (k : ℕ) (p : Point D) (qs : List Request) (rs : List Reply) (ts : List (Point D)) → Steps (Goes facts) p qs rs ts → (after p ts k).state ≡ state_after p.state (acknowledged (take k qs) (take k rs))
-  states_after zero p qs rs ts h = refl
-  states_after (suc k) p [] [] [] h = refl
-  states_after (suc k) p (q ∷ qs) (r ∷ rs) (t ∷ ts) h = by (is_acknowledged r) (goes_state p q r t h.0) (states_after k t qs rs ts h.1)
+  moves_state : (p : Point D) (x : Exchange) (p' : Point D) → Moves facts p x p' → p'.state ≡ state_after p.state (acknowledged (x ∷ []))
+  moves_state p (Some e) p' goes = by (is_acknowledged e.1) (goes_state p e.0 e.1 p' goes)
     where
-      rest : List Request
-      rest = acknowledged (take k qs) (take k rs)
+      by : (b : Bool) → p'.state ≡ cond b (accepted p.state e.0) p.state → p'.state ≡ state_after p.state (cond b (e.0 ∷ []) [])
+      by true same = same
+      by false same = same
+  moves_state p None p' idles = idles.same
 
-      by : (b : Bool) → t.state ≡ cond b (accepted p.state q) p.state → (after t ts k).state ≡ state_after t.state rest → (after t ts k).state ≡ state_after p.state (cond b (q ∷ rest) rest)
-      by true e more = more ∙ ap (λ s. state_after s rest) e
-      by false e more = more ∙ ap (λ s. state_after s rest) e
-  states_after (suc k) p [] [] (t ∷ ts) h = absurd h
-  states_after (suc k) p [] (y ∷ rs) ts h = absurd h
-  states_after (suc k) p (x ∷ qs) [] ts h = absurd h
-  states_after (suc k) p (x ∷ qs) (y ∷ rs) [] h = absurd h
+  acknowledged_more : (x : Exchange) (xs : List Exchange) → acknowledged (x ∷ xs) ≡ acknowledged (x ∷ []) ++ acknowledged xs
+  acknowledged_more (Some e) xs = by (is_acknowledged e.1)
+    where
+      by : (b : Bool) → cond b (e.0 ∷ acknowledged xs) (acknowledged xs) ≡ cond b (e.0 ∷ []) [] ++ acknowledged xs
+      by true = refl
+      by false = refl
+  acknowledged_more None xs = refl
+
+  -- the state after the first k is the one after the acknowledged commands among them
+  pub states_after : (k : ℕ) (p : Point D) (xs : List Exchange) (ts : List (Point D)) → LeadsThrough facts p xs ts → (after p ts k).state ≡ state_after p.state (acknowledged (take k xs))
+  states_after zero p xs ts h = refl
+  states_after (suc k) p [] [] h = refl
+  states_after (suc k) p (x ∷ xs) (t ∷ ts) h =
+      let first : List Request = acknowledged (x ∷ []) in
+      states_after k t xs ts h.1
+      ∙ ap (λ s. state_after s (acknowledged (take k xs))) (moves_state p x t h.0)
+      ∙ sym (fold-append accepted p.state first (acknowledged (take k xs)))
+      ∙ ap (state_after p.state) (sym (acknowledged_more x (take k xs)))
+  states_after (suc k) p [] (t ∷ ts) h = absurd h
+  states_after (suc k) p (x ∷ xs) [] h = absurd h
 
   -- time doesn't go back
-  time_last : (p : Point D) (qs : List Request) (rs : List Reply) (ts : List (Point D)) → Steps (Goes facts) p qs rs ts → (disk_at facts p).time ≤ (disk_at facts (last_of p ts)).time
-  time_last p [] [] [] h = omega arith
-  time_last p (q ∷ qs) (r ∷ rs) (t ∷ ts) h = omega (arith, h.0.answered.calls.later, time_last t qs rs ts h.1)
-  time_last p [] [] (t ∷ ts) h = absurd h
-  time_last p [] (y ∷ rs) ts h = absurd h
-  time_last p (x ∷ qs) [] ts h = absurd h
-  time_last p (x ∷ qs) (y ∷ rs) [] h = absurd h
+  moves_time : (p : Point D) (x : Exchange) (p' : Point D) → Moves facts p x p' → (disk_at facts p).time ≤ (disk_at facts p').time
+  moves_time p (Some e) p' goes = goes.answered.calls.later
+  moves_time p None p' idles = ⊎_elim
+      (λ stays. stays.any_moment.past.later)
+      (λ failed. subst (λ (d : D). (disk_at facts p).time ≤ (facts d).time) (sym failed.2) (omega arith))
+      idles.stays
 
-  pub time_after : (i : ℕ) (p : Point D) (qs : List Request) (rs : List Reply) (ts : List (Point D)) → Steps (Goes facts) p qs rs ts → (disk_at facts (after p ts i)).time ≤ (disk_at facts (last_of p ts)).time
-  time_after zero p qs rs ts h = time_last p qs rs ts h
-  time_after (suc i) p [] [] [] h = omega arith
-  time_after (suc i) p (q ∷ qs) (r ∷ rs) (t ∷ ts) h = time_after i t qs rs ts h.1
-  time_after (suc i) p [] [] (t ∷ ts) h = absurd h
-  time_after (suc i) p [] (y ∷ rs) ts h = absurd h
-  time_after (suc i) p (x ∷ qs) [] ts h = absurd h
-  time_after (suc i) p (x ∷ qs) (y ∷ rs) [] h = absurd h
+  time_last : (p : Point D) (xs : List Exchange) (ts : List (Point D)) → LeadsThrough facts p xs ts → (disk_at facts p).time ≤ (disk_at facts (last_of p ts)).time
+  time_last p [] [] h = omega arith
+  time_last p (x ∷ xs) (t ∷ ts) h = omega (arith, moves_time p x t h.0, time_last t xs ts h.1)
+  time_last p [] (t ∷ ts) h = absurd h
+  time_last p (x ∷ xs) [] h = absurd h
+
+  pub time_after : (i : ℕ) (p : Point D) (xs : List Exchange) (ts : List (Point D)) → LeadsThrough facts p xs ts → (disk_at facts (after p ts i)).time ≤ (disk_at facts (last_of p ts)).time
+  time_after zero p xs ts h = time_last p xs ts h
+  time_after (suc i) p [] [] h = omega arith
+  time_after (suc i) p (x ∷ xs) (t ∷ ts) h = time_after i t xs ts h.1
+  time_after (suc i) p [] (t ∷ ts) h = absurd h
+  time_after (suc i) p (x ∷ xs) [] h = absurd h
+
+  -- one point for each
+  pub leads_length : (p : Point D) (xs : List Exchange) (ts : List (Point D)) → LeadsThrough facts p xs ts → length ts ≡ length xs
+  leads_length p [] [] h = refl
+  leads_length p (x ∷ xs) (t ∷ ts) h = ap suc (leads_length t xs ts h.1)
+  leads_length p [] (t ∷ ts) h = absurd h
+  leads_length p (x ∷ xs) [] h = absurd h
+
+  -- one more
+  pub leads_more : (p u : Point D) (x : Exchange) (xs : List Exchange) (ts : List (Point D)) → LeadsThrough facts p xs ts → Moves facts (last_of p ts) x u → LeadsThrough facts p (xs ++ x ∷ []) (ts ++ u ∷ [])
+  leads_more p u x [] [] h moves = (moves, tt)
+  leads_more p u x (y ∷ xs) (t ∷ ts) h moves = (h.0, leads_more t u x xs ts h.1 moves)
+  leads_more p u x [] (t ∷ ts) h moves = absurd h
+  leads_more p u x (y ∷ xs) [] h moves = absurd h

@@ -49,7 +49,7 @@ module _ (s : State) (round : Round) (told : RoundReplies × Fuse Memory) (memor
       → (s' : State) × RoundLeads s round told.0 s' × AlwaysStands result s'
   round_ran old new replies at unheld runs is =
       let left : Mixture (fused_memory new.disk) (memory_facts result).now = subst (λ (t : RoundReplies × Fuse Memory). Mixture (fused_memory t.1) (memory_facts result).now) is was_left in
-      let found = runs.2.found (memory_facts result).now left in (
+      let found = runs.2.3.found (memory_facts result).now left in (
         state_after s found.0,
         subst (λ (t : RoundReplies × Fuse Memory). RoundLeads s round t.0 (state_after s found.0)) (sym is) (old, new, at, unheld, runs, found.0, found.1, refl),
         stopped_stands memory result (state_after s found.0) stopped found.2,

@@ -1,38 +1,44 @@
 -- What the contract of a run says of some runs.
-use Rattle.std.proofs.Common.{◌≡◌, ◌⊎◌, inl, inr, ⊎_elim, ℕ, zero, suc, List, [], ◌∷◌, Some, refl, subst}
+use Rattle.std.proofs.Common.{◌≡◌, ◌⊎◌, inl, inr, ⊎_elim, ℕ, zero, suc, List, [], ◌∷◌, Some, refl, ap, subst}
 use Rattle.std.proofs.lemmas.Option.{none-some, same_Some}
 use Rattle.sector_disk.specs.Disk.{Sector, DiskFacts, Mixture}
 use Rattle.store.specs.Opened.{Opened}
 use Rattle.states.specs.State.{State}
 use Rattle.registry.specs.Request.{Request, install, remove, bind}
-use Rattle.registry.specs.Runs.{Steps}
 use Rattle.registry.specs.Step.{Step, accepted, refusal_at}
 use Rattle.registry.specs.declared.refusal.Refusal.TheVariants.{Device, Reopen, Fragmented}
 use Rattle.registry.specs.declared.reply.Reply.{Reply}
 use Rattle.registry.specs.declared.reply.Reply.TheVariants.{Done, Refused}
-use Rattle.disk_registry.specs.Acknowledged.{state_after, FailedAt}
+use Rattle.disk_registry.specs.Acknowledged.{Exchange, state_after, FailedAt}
 use Rattle.disk_registry.specs.Phase.{phase_of}
 use Rattle.disk_registry.specs.Stands.{Stands}
-use Rattle.disk_registry.specs.Ran.{Point, Goes, FindsAccepted}
+use Rattle.disk_registry.specs.Ran.{Point, LeadsThrough, FindsAccepted}
+
+-- the command and the reply of an exchange
+exchange_is : (q q' : Request) (r r' : Reply) → Some (Some (q, r)) ≡ Some (Some (q', r')) → (q, r) ≡ (q', r')
+exchange_is q q' r r' is = same_Some (q, r) (q', r') (same_Some (Some (q, r)) (Some (q', r')) is)
+
+command_is : (q q' : Request) (r r' : Reply) → Some (Some (q, r)) ≡ Some (Some (q', r')) → q ≡ q'
+command_is q q' r r' is = ap (λ e. e.0) (exchange_is q q' r r' is)
+
+reply_is : (q q' : Request) (r r' : Reply) → Some (Some (q, r)) ≡ Some (Some (q', r')) → r ≡ r'
+reply_is q q' r r' is = ap (λ e. e.1) (exchange_is q q' r r' is)
 
 module _ (s : State) (program file name : List ℕ) (base : ℕ) where
-  abbrev asked : List Request
-  asked = bind program base ∷ install file ∷ remove name ∷ []
-
-  abbrev told : List Reply
-  told = Refused Device ∷ Done ∷ Refused Device ∷ []
+  abbrev asked : List Exchange
+  asked = Some (bind program base, Refused Device) ∷ Some (install file, Done) ∷ Some (remove name, Refused Device) ∷ []
 
   abbrev installed : State
   installed = accepted s (install file)
 
-  cut_off : (k : ℕ) (q : Request) → FailedAt asked told k q → (accepted installed q ≡ installed) ⊎ (accepted installed q ≡ accepted installed (remove name))
-  cut_off zero q cut = inl (subst (λ x. accepted installed x ≡ installed) (same_Some (bind program base) q cut.asked) refl)
-  cut_off (suc zero) q cut = absurd (let no : Done ≡ Refused Device = same_Some Done (Refused Device) cut.answered in cc)
-  cut_off (suc (suc zero)) q cut = inr (subst (λ x. accepted installed x ≡ accepted installed (remove name)) (same_Some (remove name) q cut.asked) refl)
-  cut_off (suc (suc (suc k))) q cut = absurd (none-some q cut.asked)
+  cut_off : (k : ℕ) (q : Request) → FailedAt asked k q → (accepted installed q ≡ installed) ⊎ (accepted installed q ≡ accepted installed (remove name))
+  cut_off zero q cut = inl (subst (λ x. accepted installed x ≡ installed) (command_is (bind program base) q (Refused Device) (Refused Device) cut) refl)
+  cut_off (suc zero) q cut = absurd (let no : Done ≡ Refused Device = reply_is (install file) q Done (Refused Device) cut in cc)
+  cut_off (suc (suc zero)) q cut = inr (subst (λ x. accepted installed x ≡ accepted installed (remove name)) (command_is (remove name) q (Refused Device) (Refused Device) cut) refl)
+  cut_off (suc (suc (suc k))) q cut = absurd (none-some (Some (q, Refused Device)) cut)
 
   -- A bind lacked a read, an install was acknowledged, and a removal was cut off: the state before the install isn't found.
-  pub keeps_install : {D : Type 0} (facts : D → DiskFacts) (new : Opened D) → FindsAccepted facts new s asked told → (m : List Sector) → Mixture (facts new.disk) m
+  pub keeps_install : {D : Type 0} (facts : D → DiskFacts) (new : Opened D) → FindsAccepted facts new s asked → (m : List Sector) → Mixture (facts new.disk) m
       → Stands m installed ⊎ Stands m (accepted installed (remove name))
   keeps_install facts new finds m mixture =
       let found = finds m mixture in
@@ -44,7 +50,7 @@ module _ (s : State) (program file name : List ℕ) (base : ℕ) where
 
 -- S8 behind other commands is answered by the longest free runs of the registry that those left.
 pub second_fragmented : {D : Type 0} (facts : D → DiskFacts) (start p u : Point D) (q : Request) (file : List ℕ) (r : Reply)
-    → Steps (Goes facts) start (q ∷ install file ∷ []) (r ∷ Refused Fragmented ∷ []) (p ∷ u ∷ []) → refusal_at (phase_of facts p.registry p.state) (install file) ≡ Some Fragmented
+    → LeadsThrough facts start (Some (q, r) ∷ Some (install file, Refused Fragmented) ∷ []) (p ∷ u ∷ []) → refusal_at (phase_of facts p.registry p.state) (install file) ≡ Some Fragmented
 second_fragmented facts start p u q file r steps = ⊎_elim
     (λ applied. let step : Step (phase_of facts p.registry p.state) (install file) (Refused Fragmented) (phase_of facts u.registry u.state) = applied.applied.step in step.1)
     (λ nothing. absurd (let no : Refused Fragmented ≡ Refused Reopen = steps.1.0.answered.reopen.1 nothing.0 in cc))

@@ -1,18 +1,21 @@
 use Rattle.std.proofs.Common.{◌≡◌, ◌++◌, [], ◌∷◌, ◌+◌, List, map, take, sym, ap, subst, refl, ◌∙◌, arith, true, is_ok, rules, get_or}
 use Rattle.std.proofs.lemmas.List.{take_more, take_all, map-append}
 use Rattle.registry.specs.declared.command.Command.TheVariants as command
-use Rattle.binders.specs.Events.{Happen, Happening, happening_of}
+use Rattle.registry.specs.Runs.{Run}
+use Rattle.registry.proofs.Runs.{run_more}
+use Rattle.binders.specs.Events.{Happening, Happens, happening_of}
+use Rattle.binders.specs.EventsRan.{EventsRan}
 use Rattle.binders.specs.declared.event.Event.{Event}
 use Rattle.binders.specs.declared.event.Event.TheVariants as event
 use Rattle.binders.specs.declared.event.EventReply.{EventReply}
-use Rattle.binders.proofs.Happening.{happened_more}
+use Rattle.binders.proofs.Happening.{events_ran}
 use Rattle.binders.proofs.binders.Binders.run_events.Goals as goal
 
 pub loop-event-init : goal.loop-event-init
 loop-event-init g c = record {
   count = search rules;
   room = search rules;
-  happened = subst (λ rs. Happen g.D.Disk.facts c.args.self.now c.args.self.now [] rs) (sym c.in_ok-replies.ensures.items) refl;
+  happened = subst (λ (l : List EventReply). Run (Happens g.D.Disk.facts) c.args.self.now [] l c.args.self.now) (sym c.in_ok-replies.ensures.items) ([], tt, refl);
 }
 
 pub loop-event-preserved : goal.loop-event-preserved
@@ -29,13 +32,16 @@ loop-event-preserved g c =
       count = search rules;
       room = search rules;
       happened =
-          subst (λ (l : List EventReply). Happen g.D.Disk.facts c.args.self.now c.happen-reply.new.self (map happening_of (take (i + 1) xs)) l) (sym items)
-          (subst (λ (l : List Happening). Happen g.D.Disk.facts c.args.self.now c.happen-reply.new.self l (c.loop-event.replies.items ++ c.happen-reply.result ∷ [])) (sym more)
-          (happened_more g.D.Disk.facts c.args.self.now c.loop-event.self c.happen-reply.new.self (map happening_of (take i xs)) c.loop-event.replies.items asked c.happen-reply.result c.loop-event.invariant.happened
+          subst (λ (l : List EventReply). Run (Happens g.D.Disk.facts) c.args.self.now (map happening_of (take (i + 1) xs)) l c.happen-reply.new.self) (sym items)
+          (subst (λ (l : List Happening). Run (Happens g.D.Disk.facts) c.args.self.now l (c.loop-event.replies.items ++ c.happen-reply.result ∷ []) c.happen-reply.new.self) (sym more)
+          (run_more (Happens g.D.Disk.facts) c.args.self.now c.loop-event.self c.happen-reply.new.self asked c.happen-reply.result (map happening_of (take i xs)) c.loop-event.replies.items c.loop-event.invariant.happened
           c.happen-reply.ensures));
     }
 
 pub returns-clause-ok : goal.returns-clause-ok
 returns-clause-ok g c =
-    subst (λ l. Happen g.D.Disk.facts c.args.self.now c.loop-event.self (map happening_of l) c.loop-event.replies.items)
-    (take_all c.loop-event.event-index c.args.events.now (omega (arith, c.loop-event-test.false))) c.loop-event.invariant.happened
+    let xs = c.args.events.now in
+    let i = c.loop-event.event-index in
+    subst (λ (l : List Event). EventsRan g.D.Disk.facts c.args.self.now c.loop-event.self (map happening_of l) c.loop-event.replies.items)
+    (take_all i xs (omega (arith, c.loop-event-test.false)))
+    (events_ran g.D.Disk.facts c.args.self.now c.loop-event.self (map happening_of (take i xs)) c.loop-event.replies.items c.loop-event.invariant.happened)

@@ -1,21 +1,25 @@
-use Rattle.std.proofs.Common.{◌≡◌, ◌++◌, [], ◌∷◌, ◌+◌, List, map, take, sym, ap, subst, refl, ◌∙◌, arith, true, is_ok, rules, get_or}
-use Rattle.std.proofs.lemmas.List.{take_more, take_all, map-append}
+use Rattle.std.proofs.Common.{◌≡◌, ◌++◌, [], ◌∷◌, ◌+◌, ◌<◌, ℕ, List, length, map, take, sym, ap, subst, refl, ◌∙◌, arith, true, is_ok, rules, get_or}
+use Rattle.std.proofs.lemmas.List.{take_more, take_all, map-append, length-map, length-take-le}
 use Rattle.registry.specs.Request.{Request, request_of}
 use Rattle.registry.specs.declared.command.Command.{Command}
 use Rattle.registry.specs.declared.command.Command.TheVariants as command
 use Rattle.registry.specs.declared.reply.Reply.{Reply}
+use Rattle.disk_registry.specs.Acknowledged.{commanded}
 use Rattle.disk_registry.specs.Answered.{AreAnswered}
-use Rattle.disk_registry.specs.Ran.{RunsOver}
+use Rattle.disk_registry.specs.Ran.{RunsThrough}
 use Rattle.disk_registry.proofs.RanSoFar.{RunsSoFar}
 use Rattle.disk_registry.proofs.Answering.{answered_more}
-use Rattle.disk_registry.proofs.Running.{runs_none, runs_turn, runs_over}
+use Rattle.disk_registry.proofs.Running.{commanded_more, runs_none, runs_turn, runs_through}
 use Rattle.disk_registry.proofs.kept.Registry.run.Goals as goal
+
+asked_length : (xs : List Command) (i : ℕ) (rs : List Reply) → i < length xs → length rs ≡ i → length (map request_of (take i xs)) ≡ length rs
+asked_length xs i rs lt count = length-map (take i xs) request_of ∙ length-take-le i xs (omega (arith, lt)) ∙ sym count
 
 pub loop-command-init : goal.loop-command-init
 loop-command-init g c = record {
   count = search rules;
   room = search rules;
-  runs = λ s at. subst (λ rs. RunsSoFar g.D.Disk.facts c.args.self.now c.args.self.now s [] rs) (sym c.in_ok-replies.ensures.items) (runs_none g.D.Disk.facts c.args.self.now s at);
+  runs = λ s at. subst (λ rs. RunsSoFar g.D.Disk.facts c.args.self.now c.args.self.now s (commanded [] rs)) (sym c.in_ok-replies.ensures.items) ([], runs_none g.D.Disk.facts c.args.self.now s at);
   answered = subst (λ rs. AreAnswered g.D.Disk.facts c.args.self.now c.args.self.now [] rs) (sym c.in_ok-replies.ensures.items) refl;
 }
 
@@ -29,6 +33,7 @@ loop-command-preserved g c =
     let asked = request_of (get_or xs i none) in
     let more : map request_of (take (i + 1) xs) ≡ map request_of (take i xs) ++ asked ∷ [] =
     ap (map request_of) (take_more xs i none c.loop-command-test.true) ∙ map-append request_of (take i xs) (get_or xs i none ∷ []) in
+    let same : length (map request_of (take i xs)) ≡ length c.loop-command.replies.items = asked_length xs i c.loop-command.replies.items c.loop-command-test.true c.loop-command.invariant.count in
     let facts = g.D.Disk.facts in
     let old = c.args.self.now in
     let new = c.apply-reply.new.self in
@@ -36,10 +41,13 @@ loop-command-preserved g c =
       count = search rules;
       room = search rules;
       runs = λ s at.
-          subst (λ (l : List Reply). RunsSoFar facts old new s (map request_of (take (i + 1) xs)) l) (sym items)
-          (subst (λ (l : List Request). RunsSoFar facts old new s l (c.loop-command.replies.items ++ c.apply-reply.result ∷ [])) (sym more)
-          (runs_turn facts old c.loop-command.self new s (map request_of (take i xs)) c.loop-command.replies.items asked c.apply-reply.result (c.loop-command.invariant.runs s at)
-          c.apply-reply.ensures.applied c.apply-reply.ensures.all_calls c.apply-reply.ensures.on_any_disk));
+          subst (λ (l : List Reply). RunsSoFar facts old new s (commanded (map request_of (take (i + 1) xs)) l)) (sym items)
+          (subst (λ (l : List Request). RunsSoFar facts old new s (commanded l (c.loop-command.replies.items ++ c.apply-reply.result ∷ []))) (sym more)
+          (subst (RunsSoFar facts old new s) (sym (commanded_more (map request_of (take i xs)) c.loop-command.replies.items asked c.apply-reply.result (omega (arith, same))))
+          (let so_far = c.loop-command.invariant.runs s at in
+          (so_far.0 ++ new ∷ [],
+          runs_turn facts old c.loop-command.self new s (commanded (map request_of (take i xs)) c.loop-command.replies.items) so_far.0 so_far.1 asked c.apply-reply.result
+              c.apply-reply.ensures.applied c.apply-reply.ensures.all_calls c.apply-reply.ensures.on_any_disk))));
       answered =
           subst (λ (l : List Reply). AreAnswered facts old new (map request_of (take (i + 1) xs)) l) (sym items)
           (subst (λ (l : List Request). AreAnswered facts old new l (c.loop-command.replies.items ++ c.apply-reply.result ∷ [])) (sym more)
@@ -49,9 +57,15 @@ loop-command-preserved g c =
 
 pub returns-clause-ok : goal.returns-clause-ok
 returns-clause-ok g c s at =
-    subst (λ l. RunsOver g.D.Disk.facts c.args.self.now c.loop-command.self s (map request_of l) c.loop-command.replies.items)
-    (take_all c.loop-command.command-index c.args.commands.now (omega (arith, c.loop-command-test.false)))
-    (runs_over g.D.Disk.facts c.args.self.now c.loop-command.self s (map request_of (take c.loop-command.command-index c.args.commands.now)) c.loop-command.replies.items (c.loop-command.invariant.runs s at))
+    let xs = c.args.commands.now in
+    let i = c.loop-command.command-index in
+    let all = take_all i xs (omega (arith, c.loop-command-test.false)) in
+    let so_far = c.loop-command.invariant.runs s at in
+    let runs = runs_through g.D.Disk.facts c.args.self.now c.loop-command.self s (commanded (map request_of (take i xs)) c.loop-command.replies.items) so_far.0 so_far.1 in (
+      so_far.0,
+      omega (arith, length-map xs request_of, c.loop-command.invariant.count, c.loop-command-test.false),
+      subst (λ l. RunsThrough g.D.Disk.facts c.args.self.now so_far.0 c.loop-command.self s (commanded (map request_of l) c.loop-command.replies.items)) all runs,
+    )
 
 pub returns-clause-on_any_disk : goal.returns-clause-on_any_disk
 returns-clause-on_any_disk g c =

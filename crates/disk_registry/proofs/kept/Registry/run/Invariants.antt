@@ -2,6 +2,7 @@ use Rattle.std.proofs.Common.{◌≡◌, ◌≤◌, map, take, length, vec_len, 
 use Rattle.registry.specs.Request.{request_of}
 use Rattle.states.specs.State.{State}
 use Rattle.disk_registry.specs.Opened.{IsAt}
+use Rattle.disk_registry.specs.Acknowledged.{commanded}
 use Rattle.disk_registry.specs.Answered.{AreAnswered}
 use Rattle.disk_registry.proofs.RanSoFar.{RunsSoFar}
 use Rattle.disk_registry.proofs.kept.Registry.run.Given as goal
@@ -10,6 +11,6 @@ abbrev pub invariant-loop-command : goal.invariant-loop-command
 invariant-loop-command g l = record {
   count : vec_len l.replies ≡ l.command-index;
   room : length l.commands ≤ vec_capacity l.replies;
-  runs : (s : State) → IsAt g.D.Disk.facts l.fn.self s → RunsSoFar g.D.Disk.facts l.fn.self l.self s (map request_of (take l.command-index l.commands)) l.replies.items;
+  runs : (s : State) → IsAt g.D.Disk.facts l.fn.self s → RunsSoFar g.D.Disk.facts l.fn.self l.self s (commanded (map request_of (take l.command-index l.commands)) l.replies.items);
   answered : AreAnswered g.D.Disk.facts l.fn.self l.self (map request_of (take l.command-index l.commands)) l.replies.items;
 }

@@ -1,0 +1,32 @@
+-- What a list of events does to a registry with binders, and what a stop leaves of it at any moment (own).
+use Rattle.std.specs.Prelude.{◌≡◌, List, [], ◌∷◌, map, Some, None}
+use Rattle.sector_disk.specs.Disk.{DiskFacts}
+use Rattle.states.specs.State.{State}
+use Rattle.registry.specs.Runs.{Steps, last_of}
+use Rattle.disk_registry.specs.Acknowledged.{Exchange}
+use Rattle.disk_registry.specs.Opened.{IsAt}
+use Rattle.disk_registry.specs.Ran.{RunsThrough}
+use Rattle.binders.specs.Events.{Happening, Happens, apply}
+use Rattle.binders.specs.Slotted.{Slotted}
+use Rattle.binders.specs.declared.event.EventReply.{EventReply}
+use Rattle.binders.specs.declared.event.EventReply.TheVariants.{Replied}
+
+-- what an event and its reply are to the state: a command with its reply, and everything else asks for no change
+abbrev pub exchange_of : Happening → EventReply → Exchange
+exchange_of (apply request) (Replied answer) = Some (request, answer)
+exchange_of happening reply = None
+
+abbrev pub exchanges : List Happening → List EventReply → List Exchange
+exchanges (happening ∷ happenings) (reply ∷ replies) = exchange_of happening reply ∷ exchanges happenings replies
+exchanges happenings replies = []
+
+-- Events were answered so, one after the other, one reply each.
+pub record EventsRan {D : Type 0} (facts : D → DiskFacts) (old new : Slotted D) (happenings : List Happening) (replies : List EventReply) : Type 0 where
+  -- the registry with its binders after each event
+  pub passed : List (Slotted D)
+  -- each event happened to what the one before it left
+  pub steps : Steps (Happens facts) old happenings replies passed
+  pub last : new ≡ last_of old passed
+  -- From each state at which the registry may be, a stop at any moment leaves the state after accepted commands that hold
+  -- every one acknowledged by then, whatever binders live.
+  pub runs : (s : State) → IsAt facts old.registry s → RunsThrough facts old.registry (map (λ (b : Slotted D). b.registry) passed) new.registry s (exchanges happenings replies)
