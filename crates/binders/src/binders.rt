@@ -50,8 +50,8 @@ impl<D: Disk> Binders<D> {
         }
     }
 
-    /// Whether a write or a sync failed. Then binders can only be cancelled, and all else answers
-    /// S2, until the disk is opened again.
+    /// Whether a write or a sync failed. Then commands, `begin` and the steps of binders answer S2,
+    /// until the disk is opened again.
     pub fn has_failed(&self) -> bool
         ensures value { result ≡ self.now.registry.failed }
 

@@ -3,7 +3,7 @@ use Rattle.std.proofs.Common.{◌≡◌, ℕ, zero, suc, ◌+◌, ◌-◌, ◌<�
 use Rattle.std.specs.Prelude.{All}
 use Rattle.std.specs.List.{IsDistinct}
 use Rattle.std.proofs.lemmas.Bool.{cases_lt}
-use Rattle.std.proofs.lemmas.List.{length-map, get_or-map}
+use Rattle.std.proofs.lemmas.List.{drop_all, drop_more, length-map, get_or-map}
 use Rattle.std.proofs.lemmas.List.Elements.{All-get_or}
 use Rattle.std.proofs.lemmas.List.Sums.{sum_by-cons}
 use Rattle.sector_disk.specs.Disk.{DiskFacts, HoldsNow}
@@ -33,9 +33,14 @@ of_object o = data_sectors o.file
 
 -- the one at a place behind the first, if there is one
 sectors_one : (order : List Named) (k : ℕ) (d : Named) (n : ℕ) → (k < length order → of_object (get_or order k d) ≤ n) → sum_by of_object (take 1 (drop k order)) ≤ n
-sectors_one [] k d n each = omega arith
-sectors_one (o ∷ os) zero d n each = omega (arith, sum_by-cons of_object o [], each (omega arith))
-sectors_one (o ∷ os) (suc k) d n each = sectors_one os k d n (λ lt. each (omega (arith, lt)))
+sectors_one order k d n each = ⊎_elim
+    (λ lt.
+    let one : take 1 (drop k order) ≡ get_or order k d ∷ [] = ap (take 1) (drop_more order k d lt) in
+    omega (arith, ap (sum_by of_object) one, sum_by-cons of_object (get_or order k d) [], each lt))
+    (λ le.
+    let none : drop k order ≡ [] = drop_all k order le in
+    omega (arith, ap (λ (l : List Named). sum_by of_object (take 1 l)) none))
+    (cases_lt k (length order))
 
 -- the first place, where places begin so
 first_place : (places more : List ℕ) (k : ℕ) → take (suc k) places ≡ 0 ∷ more → get_or places 0 1 ≡ 0
@@ -84,6 +89,7 @@ module _ {D : Type 0} (facts : D → DiskFacts) (taken : Opened D) (holds : IsTr
     at_place : (k : ℕ) → suc k < length (load_order program libraries numbers) → of_object (get_or (load_order program libraries numbers) (suc k) (object_at (available program libraries) 0)) ≤ n
     at_place k lt =
         let object = object_at (available program libraries) in
+        let next : k + 1 ≡ suc k = omega arith in
         let inner : k + 1 < length places = omega (arith, lt, long) in
         let p : ℕ = get_or places (k + 1) 0 in
         let above : 0 < p = place-above places k (first_place places (map (λ q. q + 1) numbers) (length numbers) begins) apart.distinct inner in
@@ -91,7 +97,7 @@ module _ {D : Type 0} (facts : D → DiskFacts) (taken : Opened D) (holds : IsTr
         let file : Library = get_or s.libraries (p - 1) no_library in
         let is : object_of file ≡ object p = library-at facts program taken holds s at p file above below refl in
         let there : get_or (load_order program libraries numbers) (suc k) (object 0) ≡ object p =
-        ap (λ (l : List Named). get_or l (suc k) (object 0)) order_is ∙ get_or-map object places (k + 1) 0 (object 0) inner in
+        ap (λ (i : ℕ). get_or (load_order program libraries numbers) i (object 0)) (sym next) ∙ ap (λ (l : List Named). get_or l (k + 1) (object 0)) order_is ∙ get_or-map object places (k + 1) 0 (object 0) inner in
         let small : data_sectors file.bytes ≤ n = All-get_or (λ (l : Library). data_sectors l.bytes ≤ n) s.libraries (p - 1) no_library (omega (arith, above, below, count, length-map s.libraries object_of)) each in
         subst (λ (o : Named). of_object o ≤ n) (is ∙ sym there) small
       where

@@ -212,12 +212,13 @@ impl<D: Disk> Registry<D> {
 
     /// Makes the next step of a binder. The first tests the program by itself, each following one
     /// reads and admits one library, in load order, and the last binds. After S1 and S11 the step
-    /// can be made again; after S2 the disk has to be opened again, and the binder is of no use.
+    /// can be made again; after S2 the disk has to be opened again, and the binder can only be
+    /// ended.
     pub fn advance(&mut self, binder: &mut Binder) -> Result<Step, Refusal>
         ensures { Advances D.facts self.old self.new binder.old binder.new result }
     {
-        // No preload is there twice, and each is a library, as this call says: so many steps and
-        // sectors it may take.
+        // No preload is there twice, and each is a library, as this call says: so no library is
+        // read twice.
         let _preloads = binder.snapshot.preloads();
         if self.store.has_failed() {
             return Err(Refusal::Reopen);

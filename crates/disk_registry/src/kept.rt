@@ -29,7 +29,7 @@ impl<D: Disk> Registry<D> {
     pub fn has_failed(&self) -> bool
         ensures value { result ≡ self.now.failed }
 
-        // On any disk, after any call: what is held has one row and some holder for each version.
+        // On any disk, after any call: what is held is a version each, with some holder.
         ensures versions { AreVersions self.now }
     {
         let _count = self.store.count();
