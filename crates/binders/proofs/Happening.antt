@@ -13,7 +13,7 @@ use Rattle.disk_registry.specs.Ran.{RunsThrough}
 use Rattle.disk_registry.proofs.RanSoFar.{RunsVia}
 use Rattle.disk_registry.proofs.Running.{runs_none, runs_turn, runs_idle, runs_through}
 use Rattle.binders.specs.Events.{Happening, Happens, apply, begin, advance, cancel}
-use Rattle.binders.specs.EventsRan.{EventsRan, exchange_of, exchanges}
+use Rattle.binders.specs.EventsRan.{EventStep, EventsRan, exchange_of, exchanges}
 use Rattle.binders.specs.Slotted.{Slotted}
 use Rattle.binders.specs.Stepped.{StaysAt, BeginsIn, AdvancesIn, CancelsIn}
 use Rattle.binders.specs.declared.event.EventReply.{EventReply}
@@ -57,7 +57,7 @@ module _ {D : Type 0} (facts : D → DiskFacts) where
 
   -- events that happened behind others
   runs_events : (old mid : Slotted D) (s : State) (xs : List Exchange) (registries : List (Opened D)) → RunsVia facts old.registry registries mid.registry s xs
-      → (hs : List Happening) (rs : List EventReply) (passed : List (Slotted D)) → Steps (Happens facts) mid hs rs passed
+      → (hs : List Happening) (rs : List EventReply) (passed : List (Slotted D)) → Steps (EventStep facts) mid hs rs passed
       → RunsVia facts old.registry (registries ++ map (λ (b : Slotted D). b.registry) passed) (last_of mid passed).registry s (xs ++ exchanges hs rs)
   runs_events old mid s xs registries so_far [] [] [] h =
       subst (λ (l : List (Opened D)). RunsVia facts old.registry l mid.registry s (xs ++ [])) (sym (append-nil registries))
@@ -73,7 +73,7 @@ module _ {D : Type 0} (facts : D → DiskFacts) where
   runs_events old mid s xs registries so_far (x ∷ hs) (r ∷ rs) [] h = absurd h
 
   -- events that happened one after the other ran
-  pub events_ran : (old new : Slotted D) (hs : List Happening) (rs : List EventReply) → Run (Happens facts) old hs rs new → EventsRan facts old new hs rs
+  pub events_ran : (old new : Slotted D) (hs : List Happening) (rs : List EventReply) → Run (EventStep facts) old hs rs new → EventsRan facts old new hs rs
   events_ran old new hs rs run = record {
     passed = run.0;
     steps = run.1;

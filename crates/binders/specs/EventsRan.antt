@@ -20,12 +20,16 @@ abbrev pub exchanges : List Happening → List EventReply → List Exchange
 exchanges (happening ∷ happenings) (reply ∷ replies) = exchange_of happening reply ∷ exchanges happenings replies
 exchanges happenings replies = []
 
+-- an event as a step: what a registry with binders answers to it, and what it does
+abbrev pub EventStep : {D : Type 0} → (D → DiskFacts) → Slotted D → Happening → EventReply → Slotted D → Type 0
+EventStep facts old happening reply new = Happens facts old new happening reply
+
 -- Events were answered so, one after the other, one reply each.
 pub record EventsRan {D : Type 0} (facts : D → DiskFacts) (old new : Slotted D) (happenings : List Happening) (replies : List EventReply) : Type 0 where
   -- the registry with its binders after each event
   pub passed : List (Slotted D)
   -- each event happened to what the one before it left
-  pub steps : Steps (Happens facts) old happenings replies passed
+  pub steps : Steps (EventStep facts) old happenings replies passed
   pub last : new ≡ last_of old passed
   -- From each state at which the registry may be, a stop at any moment leaves the state after accepted commands that hold
   -- every one acknowledged by then, whatever binders live.

@@ -14,15 +14,12 @@ use Rattle.disk_registry.specs.Phase.{phase_of}
 use Rattle.disk_registry.specs.Stands.{Stands}
 use Rattle.disk_registry.specs.Ran.{Point, LeadsThrough, FindsAccepted}
 
--- the command and the reply of an exchange
-exchange_is : (q q' : Request) (r r' : Reply) → Some (Some (q, r)) ≡ Some (Some (q', r')) → (q, r) ≡ (q', r')
-exchange_is q q' r r' is = same_Some (q, r) (q', r') (same_Some (Some (q, r)) (Some (q', r')) is)
+-- two exchanges that are one have one command and one reply
+command_is : (x y : Request × Reply) → Some (Some x) ≡ Some (Some y) → x.0 ≡ y.0
+command_is x y is = ap (λ e. e.0) (same_Some x y (same_Some (Some x) (Some y) is))
 
-command_is : (q q' : Request) (r r' : Reply) → Some (Some (q, r)) ≡ Some (Some (q', r')) → q ≡ q'
-command_is q q' r r' is = ap (λ e. e.0) (exchange_is q q' r r' is)
-
-reply_is : (q q' : Request) (r r' : Reply) → Some (Some (q, r)) ≡ Some (Some (q', r')) → r ≡ r'
-reply_is q q' r r' is = ap (λ e. e.1) (exchange_is q q' r r' is)
+reply_is : (x y : Request × Reply) → Some (Some x) ≡ Some (Some y) → x.1 ≡ y.1
+reply_is x y is = ap (λ e. e.1) (same_Some x y (same_Some (Some x) (Some y) is))
 
 module _ (s : State) (program file name : List ℕ) (base : ℕ) where
   abbrev asked : List Exchange
@@ -32,9 +29,9 @@ module _ (s : State) (program file name : List ℕ) (base : ℕ) where
   installed = accepted s (install file)
 
   cut_off : (k : ℕ) (q : Request) → FailedAt asked k q → (accepted installed q ≡ installed) ⊎ (accepted installed q ≡ accepted installed (remove name))
-  cut_off zero q cut = inl (subst (λ x. accepted installed x ≡ installed) (command_is (bind program base) q (Refused Device) (Refused Device) cut) refl)
-  cut_off (suc zero) q cut = absurd (let no : Done ≡ Refused Device = reply_is (install file) q Done (Refused Device) cut in cc)
-  cut_off (suc (suc zero)) q cut = inr (subst (λ x. accepted installed x ≡ accepted installed (remove name)) (command_is (remove name) q (Refused Device) (Refused Device) cut) refl)
+  cut_off zero q cut = inl (subst (λ x. accepted installed x ≡ installed) (command_is (bind program base, Refused Device) (q, Refused Device) cut) refl)
+  cut_off (suc zero) q cut = absurd (let no : Done ≡ Refused Device = reply_is (install file, Done) (q, Refused Device) cut in cc)
+  cut_off (suc (suc zero)) q cut = inr (subst (λ x. accepted installed x ≡ accepted installed (remove name)) (command_is (remove name, Refused Device) (q, Refused Device) cut) refl)
   cut_off (suc (suc (suc k))) q cut = absurd (none-some (Some (q, Refused Device)) cut)
 
   -- A bind lacked a read, an install was acknowledged, and a removal was cut off: the state before the install isn't found.

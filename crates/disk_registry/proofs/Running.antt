@@ -195,7 +195,7 @@ module _ {D : Type 0} (facts : D → DiskFacts) where
           u : Point D
           u = point new s'
 
-          abbrev x : Exchange
+          x : Exchange
           x = Some (q, r)
 
           applied : Applied facts mid new s s' q r
@@ -242,7 +242,7 @@ module _ {D : Type 0} (facts : D → DiskFacts) where
           u : Point D
           u = point mid s
 
-          abbrev x : Exchange
+          x : Exchange
           x = Some (q, Refused Reopen)
 
           steps : LeadsThrough facts start (xs ++ x ∷ []) (ts ++ u ∷ [])

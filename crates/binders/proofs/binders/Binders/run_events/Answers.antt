@@ -3,8 +3,8 @@ use Rattle.std.proofs.lemmas.List.{take_more, take_all, map-append}
 use Rattle.registry.specs.declared.command.Command.TheVariants as command
 use Rattle.registry.specs.Runs.{Run}
 use Rattle.registry.proofs.Runs.{run_more}
-use Rattle.binders.specs.Events.{Happening, Happens, happening_of}
-use Rattle.binders.specs.EventsRan.{EventsRan}
+use Rattle.binders.specs.Events.{Happening, happening_of}
+use Rattle.binders.specs.EventsRan.{EventStep, EventsRan}
 use Rattle.binders.specs.declared.event.Event.{Event}
 use Rattle.binders.specs.declared.event.Event.TheVariants as event
 use Rattle.binders.specs.declared.event.EventReply.{EventReply}
@@ -15,7 +15,7 @@ pub loop-event-init : goal.loop-event-init
 loop-event-init g c = record {
   count = search rules;
   room = search rules;
-  happened = subst (λ (l : List EventReply). Run (Happens g.D.Disk.facts) c.args.self.now [] l c.args.self.now) (sym c.in_ok-replies.ensures.items) ([], tt, refl);
+  happened = subst (λ (l : List EventReply). Run (EventStep g.D.Disk.facts) c.args.self.now [] l c.args.self.now) (sym c.in_ok-replies.ensures.items) ([], tt, refl);
 }
 
 pub loop-event-preserved : goal.loop-event-preserved
@@ -32,9 +32,9 @@ loop-event-preserved g c =
       count = search rules;
       room = search rules;
       happened =
-          subst (λ (l : List EventReply). Run (Happens g.D.Disk.facts) c.args.self.now (map happening_of (take (i + 1) xs)) l c.happen-reply.new.self) (sym items)
-          (subst (λ (l : List Happening). Run (Happens g.D.Disk.facts) c.args.self.now l (c.loop-event.replies.items ++ c.happen-reply.result ∷ []) c.happen-reply.new.self) (sym more)
-          (run_more (Happens g.D.Disk.facts) c.args.self.now c.loop-event.self c.happen-reply.new.self asked c.happen-reply.result (map happening_of (take i xs)) c.loop-event.replies.items c.loop-event.invariant.happened
+          subst (λ (l : List EventReply). Run (EventStep g.D.Disk.facts) c.args.self.now (map happening_of (take (i + 1) xs)) l c.happen-reply.new.self) (sym items)
+          (subst (λ (l : List Happening). Run (EventStep g.D.Disk.facts) c.args.self.now l (c.loop-event.replies.items ++ c.happen-reply.result ∷ []) c.happen-reply.new.self) (sym more)
+          (run_more (EventStep g.D.Disk.facts) c.args.self.now c.loop-event.self c.happen-reply.new.self asked c.happen-reply.result (map happening_of (take i xs)) c.loop-event.replies.items c.loop-event.invariant.happened
           c.happen-reply.ensures));
     }
 
