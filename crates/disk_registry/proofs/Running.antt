@@ -248,8 +248,9 @@ module _ {D : Type 0} (facts : D → DiskFacts) where
           steps : LeadsThrough facts start (xs ++ x ∷ []) (ts ++ u ∷ [])
           steps = steps_on x u (record { answered = answered; applied = inr (failed, refl) })
 
-    no_command : {P : Type 0} (q : Request) → None ≡ Some (q, Done) → P
-    no_command q is = absurd (none-some (q, Done) is)
+    -- what asks for no change isn't an acknowledged command
+    no_command : {P : Type 0} (e : Request × Reply) → None ≡ Some e → P
+    no_command e is = absurd (none-some e is)
 
     -- something that asks for no change, where the registry stays at its state
     pub ran_idle : (new : Opened D) → IdlesAt facts (point mid s) (point new s) → RanSoFar facts start (xs ++ None ∷ []) (ts ++ point new s ∷ []) (point new s)
@@ -272,9 +273,9 @@ module _ {D : Type 0} (facts : D → DiskFacts) where
         any_moment : (moment : ℕ) (m : List Sector) → (disk_at facts start).time ≤ moment → moment ≤ (facts new.disk).time → MixtureAt (facts new.disk) moment m
             → LeavesPrefix facts start (xs ++ None ∷ []) (ts ++ u ∷ []) moment m
         any_moment moment m since until mixture = ⊎_elim
-            (λ later. leaves_mid None u moment m (omega (arith, later)) (λ q is. no_command q is)
+            (λ later. leaves_mid None u moment m (omega (arith, later)) (λ q is. no_command (q, Done) is)
             (mixture_stands facts mid s idles.before m (idles.any_moment.each m (moment, omega (arith, later), until, mixture))))
-            (λ le. leaves_before None u moment m (λ q is. no_command q is) (so_far.any_moment moment m since le (past_mixture idles.any_moment.past moment le m mixture)))
+            (λ le. leaves_before None u moment m (λ q is. no_command (q, Done) is) (so_far.any_moment moment m since le (past_mixture idles.any_moment.past moment le m mixture)))
             (cases_lt (facts mid.disk).time moment)
 
     -- the same after a write or a sync failed
@@ -284,7 +285,7 @@ module _ {D : Type 0} (facts : D → DiskFacts) where
       last = sym (last_more start u ts);
       states = λ k. states_after facts k start (xs ++ None ∷ []) (ts ++ u ∷ []) steps;
       past = subst (λ (d : D). KeepsPast (disk_at facts start) (facts d)) (sym same) so_far.past;
-      any_moment = λ moment m since until mixture. leaves_before None u moment m (λ q is. no_command q is)
+      any_moment = λ moment m since until mixture. leaves_before None u moment m (λ q is. no_command (q, Done) is)
           (so_far.any_moment moment m since (subst (λ (d : D). moment ≤ (facts d).time) same until) (subst (λ (d : D). MixtureAt (facts d) moment m) same mixture));
       kept = inr failed;
       found = λ m mixture. ⊎_elim inl (λ flight. inr (failed, flight.1, flight.2, cut_before None u flight.1 flight.2 flight.3, flight.4))

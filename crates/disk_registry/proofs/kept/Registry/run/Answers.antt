@@ -1,5 +1,5 @@
 use Rattle.std.proofs.Common.{◌≡◌, ◌++◌, [], ◌∷◌, ◌+◌, ◌<◌, ℕ, List, length, map, take, sym, ap, subst, refl, ◌∙◌, arith, true, is_ok, rules, get_or}
-use Rattle.std.proofs.lemmas.List.{take_more, take_all, map-append, length-map, length-take-le}
+use Rattle.std.proofs.lemmas.List.{take_more, take_all, map-append, length-append, length-map, length-take-le}
 use Rattle.registry.specs.Request.{Request, request_of}
 use Rattle.registry.specs.declared.command.Command.{Command}
 use Rattle.registry.specs.declared.command.Command.TheVariants as command
@@ -18,6 +18,8 @@ asked_length xs i rs lt count = length-map (take i xs) request_of ∙ length-tak
 pub loop-command-init : goal.loop-command-init
 loop-command-init g c = record {
   count = search rules;
+  told = ap length c.in_ok-replies.ensures.items;
+  within = omega arith;
   room = search rules;
   runs = λ s at. subst (λ rs. RunsSoFar g.D.Disk.facts c.args.self.now c.args.self.now s (commanded [] rs)) (sym c.in_ok-replies.ensures.items) ([], runs_none g.D.Disk.facts c.args.self.now s at);
   answered = subst (λ rs. AreAnswered g.D.Disk.facts c.args.self.now c.args.self.now [] rs) (sym c.in_ok-replies.ensures.items) refl;
@@ -33,12 +35,14 @@ loop-command-preserved g c =
     let asked = request_of (get_or xs i none) in
     let more : map request_of (take (i + 1) xs) ≡ map request_of (take i xs) ++ asked ∷ [] =
     ap (map request_of) (take_more xs i none c.loop-command-test.true) ∙ map-append request_of (take i xs) (get_or xs i none ∷ []) in
-    let same : length (map request_of (take i xs)) ≡ length c.loop-command.replies.items = asked_length xs i c.loop-command.replies.items c.loop-command-test.true c.loop-command.invariant.count in
+    let same : length (map request_of (take i xs)) ≡ length c.loop-command.replies.items = asked_length xs i c.loop-command.replies.items c.loop-command-test.true c.loop-command.invariant.told in
     let facts = g.D.Disk.facts in
     let old = c.args.self.now in
     let new = c.apply-reply.new.self in
     record {
       count = search rules;
+      told = ap length items ∙ length-append c.loop-command.replies.items (c.apply-reply.result ∷ []) ∙ ap (λ n. n + 1) c.loop-command.invariant.told;
+      within = omega (arith, c.loop-command-test.true);
       room = search rules;
       runs = λ s at.
           subst (λ (l : List Reply). RunsSoFar facts old new s (commanded (map request_of (take (i + 1) xs)) l)) (sym items)
@@ -63,7 +67,7 @@ returns-clause-ok g c s at =
     let so_far = c.loop-command.invariant.runs s at in
     let runs = runs_through g.D.Disk.facts c.args.self.now c.loop-command.self s (commanded (map request_of (take i xs)) c.loop-command.replies.items) so_far.0 so_far.1 in (
       so_far.0,
-      omega (arith, length-map xs request_of, c.loop-command.invariant.count, c.loop-command-test.false),
+      omega (arith, length-map xs request_of, c.loop-command.invariant.told, c.loop-command.invariant.within, c.loop-command-test.false),
       subst (λ l. RunsThrough g.D.Disk.facts c.args.self.now so_far.0 c.loop-command.self s (commanded (map request_of l) c.loop-command.replies.items)) all runs,
     )
 

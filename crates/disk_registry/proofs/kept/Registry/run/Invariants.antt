@@ -10,6 +10,8 @@ use Rattle.disk_registry.proofs.kept.Registry.run.Given as goal
 abbrev pub invariant-loop-command : goal.invariant-loop-command
 invariant-loop-command g l = record {
   count : vec_len l.replies ≡ l.command-index;
+  told : length l.replies.items ≡ l.command-index;
+  within : l.command-index ≤ length l.commands;
   room : length l.commands ≤ vec_capacity l.replies;
   runs : (s : State) → IsAt g.D.Disk.facts l.fn.self s → RunsSoFar g.D.Disk.facts l.fn.self l.self s (commanded (map request_of (take l.command-index l.commands)) l.replies.items);
   answered : AreAnswered g.D.Disk.facts l.fn.self l.self (map request_of (take l.command-index l.commands)) l.replies.items;
