@@ -7,8 +7,8 @@ ghost use Rattle.commands.specs.Status.{lines_status};
 
 use crate::fault::ScriptFault;
 use crate::show::Shown;
-use image::BindRefusal;
 use binders::EventReply;
+use image::BindRefusal;
 use registry::{Refusal, Reply};
 use store::StoreRefusal;
 

@@ -94,16 +94,16 @@ fn each_form_of_line_asks_its_command(rt: HostRuntime) -> Result<(), Fail> {
         "F\nrepl",
         "ace 00\nremove !~\n",
         "preload\npreload a b\nbind 0x",
-        "1 00\nlist\n",
-        "list \n\nlist",
+        "1 00\nlist\nbegin 0x2 00\nadvance 0\n",
+        "cancel 9\nlist \n\nlist",
     ];
     let summary = run_texts(alloc, &texts, None, &mut asked, &mut output)?;
-    assert_eq!(rt; summary.lines, 10);
+    assert_eq!(rt; summary.lines, 13);
     assert_eq!(rt; summary.refused, 3);
-    assert_eq!(rt; asked.letters.as_slice(), b"irdppbl".as_slice());
+    assert_eq!(rt; asked.letters.as_slice(), b"irdppblgac".as_slice());
     assert_eq!(rt;
         output.as_slice(),
-        b"ok\nok\nok\nok\nok\nok\nok\n\
+        b"ok\nok\nok\nok\nok\nok\nok\nok\nok\nok\n\
         refused L1 BadLine\nrefused L1 BadLine\nrefused L2 CutLine\n"
             .as_slice()
     );
