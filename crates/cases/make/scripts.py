@@ -11,13 +11,15 @@ import re
 
 import rules
 from binder import Binder
+from flight import Flight
 from make import BASE, DATA, write_list
-from samples import DEFINED, FUNC, GLOBAL, R_64, WEAK, Object, Symbol, build
+from samples import ABSOLUTE, DEFINED, FUNC, GLOBAL, R_64, WEAK, Object, Symbol, build
 
-MOST_LIBRARIES, MOST_PRELOADS, SECTOR, IN_CATALOGUE = 2048, 16, 512, 64
+MOST_LIBRARIES, MOST_PRELOADS, SLOTS, SECTOR, IN_CATALOGUE = 2048, 16, 8, 512, 64
 HEX = re.compile(rb'(?:[0-9a-fA-F]{2})+')
 NAME = re.compile(rb'[\x21-\x7e]+')
 BASE_WORD = re.compile(rb'0x[0-9a-fA-F]{1,16}')
+SLOT = re.compile(rb'[0-9]')
 
 
 def are_distinct(values):
@@ -34,18 +36,24 @@ def catalogues_for(libraries):
 
 
 class Model:
-    """A registry of a number of sectors: its libraries in the order of installation, and the names of its preloads."""
+    """A registry of a number of sectors: its libraries in the order of installation, each a pair of its own for each time that
+    it was put; the names of its preloads; and in each slot a binder, or none."""
 
     def __init__(self, sectors):
-        self.sectors, self.libraries, self.preloads = sectors, [], []
+        self.sectors, self.libraries, self.preloads, self.slots = sectors, [], [], [None] * SLOTS
 
     def names(self):
         return [name for name, _ in self.libraries]
 
+    def versions(self):
+        """What stands in the registry or in a binder's, each version of a library once."""
+        held = self.libraries + [version for flight in self.slots if flight for version in flight.libraries]
+        return {id(version): version for version in held}.values()
+
     def is_full(self, file, libraries):
         """Whether a file has no room in a list that then has so many libraries: beside all files with their entries, each
         catalogue counts twice, since a change writes all of them anew."""
-        files = [data for _, data in self.libraries] + [file]
+        files = [data for _, data in self.versions()] + [file]
         return sum(sectors_of(len(data)) + 1 for data in files) + 2 * catalogues_for(libraries) > self.sectors - 2
 
     def install(self, file):
@@ -98,6 +106,27 @@ class Model:
     def bind(self, base, program):
         return Binder().text(program, base, self.libraries, self.preloads)
 
+    def begin(self, base, program):
+        if None not in self.slots:
+            return 'refused C7 NoSlot\n'
+        slot = self.slots.index(None)
+        self.slots[slot] = Flight(program, base, self.libraries, self.preloads)
+        return f'slot {slot}\n'
+
+    def advance(self, slot):
+        if slot >= SLOTS or self.slots[slot] is None:
+            return 'refused C8 NoSuchBinder\n'
+        told, is_last = self.slots[slot].step()
+        if is_last:
+            self.slots[slot] = None
+        return told
+
+    def cancel(self, slot):
+        if slot >= SLOTS or self.slots[slot] is None:
+            return 'refused C8 NoSuchBinder\n'
+        self.slots[slot] = None
+        return 'ok\n'
+
     def answer(self, line):
         command, *words = line.split(b' ')
         if command in (b'install', b'replace') and len(words) == 1 and HEX.fullmatch(words[0]):
@@ -109,8 +138,11 @@ class Model:
             return self.preload(words)
         if command == b'list' and not words:
             return self.list()
-        if command == b'bind' and len(words) == 2 and BASE_WORD.fullmatch(words[0]) and HEX.fullmatch(words[1]):
-            return self.bind(int(words[0][2:], 16), bytes.fromhex(words[1].decode()))
+        if command in (b'bind', b'begin') and len(words) == 2 and BASE_WORD.fullmatch(words[0]) and HEX.fullmatch(words[1]):
+            base, program = int(words[0][2:], 16), bytes.fromhex(words[1].decode())
+            return self.bind(base, program) if command == b'bind' else self.begin(base, program)
+        if command in (b'advance', b'cancel') and len(words) == 1 and SLOT.fullmatch(words[0]):
+            return self.advance(int(words[0])) if command == b'advance' else self.cancel(int(words[0]))
         return 'refused L1 BadLine\n'
 
 
@@ -149,6 +181,10 @@ def replace(file):
 
 def bind(file, base=BASE):
     return b'bind 0x%x %s' % (base, spelt(file))
+
+
+def begin(file, base=BASE):
+    return b'begin 0x%x %s' % (base, spelt(file))
 
 
 def of_folder(name):
@@ -473,6 +509,90 @@ def bind_lines():
     ]
 
 
+# The library a with another f, which has a value of its own, and the program that needs a alone and writes f's value into its
+# last eight bytes, at 0x1b8.
+ABSOLUTE_F = library(b'a', symbols=[Symbol(b'f', WEAK, FUNC, ABSOLUTE, 0x1234)])
+ASKING_A = library(None, needed=[b'a'], symbols=[Symbol(b'f')], relocations=[(R_64, 0, 1, 0)])
+
+
+def image_of_a(f):
+    """The image of ASKING_A over a with this value of f, but for most lines of bytes."""
+    return ['object 0x0000000000010000 /program', 'segment 0x0000000000010000 448 rw-', '0' * 16 + f.to_bytes(8, 'little').hex(),
+            'object 0x0000000000011000 a', 'segment 0x0000000000011000 376 rw-', 'end']
+
+
+def binders():
+    """A disk of 8 sectors has room for two versions of a, whose catalogue counts twice."""
+    assert len(ASKING_A) == 448 and len(WEAK_F) == len(ABSOLUTE_F) == 376
+    other, own, last = replace(ABSOLUTE_F), image_of_a(0x11170), image_of_a(0x1234)
+    start = [install(WEAK_F), begin(ASKING_A), other]
+    steps, no_binder = [b'advance 0'] * 3, 'refused C8 NoSuchBinder'
+    eight = [f'slot {slot}' for slot in range(8)]
+    return [
+        ('A binder has the library as it was when it was begun, and its image is of that; until then the library\'s sectors\n'
+         'aren\'t free, and from then on they are.', [
+            seen('script-binder', 8, start + [other] + steps + [other, bind(ASKING_A), b'advance 0'],
+                 ['ok', 'slot 0', 'ok', 'refused S7 Full', 'going', 'going'] + own + ['ok'] + last + [no_binder])]),
+        ('The same of a library that is removed while a binder has it: a removal always has room.', [
+            seen('script-binder-removed', 8, start + [b'remove a', other] + steps + [other, bind(ASKING_A)],
+                 ['ok', 'slot 0', 'ok', 'ok', 'refused C3 NotInstalled', 'going', 'going'] + own
+                 + ['refused C3 NotInstalled', 'refused B3 Missing /program a'])]),
+        ('A binder that is cancelled leaves its sectors, before its first step and after it.', [
+            seen('script-binder-cancelled', 8, start + [other, b'cancel 0', other, bind(ASKING_A), b'cancel 0'],
+                 ['ok', 'slot 0', 'ok', 'refused S7 Full', 'ok', 'ok'] + last + [no_binder]),
+            stored('script-binder-stepped', 8, start + [b'advance 0', b'advance 0', other, b'cancel 0', other, b'advance 0'],
+                   ['ok', 'slot 0', 'ok', 'going', 'going', 'refused S7 Full', 'ok', 'ok', no_binder])]),
+        ('Eight binders live at once; the next has the lowest slot that is free, after a cancel and after a last answer. Slots 8\n'
+         'and 9 are never taken.', [
+            stored('script-slots', 8, [begin(ASKING_A)] * 9 + [b'cancel 3', begin(ASKING_A)] + [b'advance 8', b'cancel 8', b'advance 9', b'cancel 9'],
+                   eight + ['refused C7 NoSlot', 'ok', 'slot 3'] + [no_binder] * 4),
+            stored('script-slots-freed', 8, [begin(b'\0')] * 3 + [b'advance 1', b'advance 1', b'cancel 1', b'cancel 0', begin(b'\0'), begin(b'\0'),
+                                             begin(b'\0'), b'advance 2', b'advance 2', b'cancel 7', b'advance 7'],
+                   eight[:3] + ['refused B1 E1 TooShort', no_binder, no_binder, 'ok', 'slot 0', 'slot 1', 'slot 3', 'refused B1 E1 TooShort',
+                                no_binder, no_binder, no_binder])]),
+        ('A program and its base are tested at the first step, a library that is missing at the last, and a symbol that nobody\n'
+         'defines there too. What is refused at last frees its slot.', [
+            stored('script-binder-refused', 64, [
+                begin(ASKING[:63]), begin(ASKING_A, BASE + 1), begin(ASKING_A), begin(library(None, symbols=[Symbol(b'f')],
+                relocations=[(R_64, 0, 1, 0)])), b'advance 0', b'advance 1', b'advance 2', b'advance 2', b'advance 3', b'advance 3',
+                b'advance 0', b'advance 1', b'advance 2', b'advance 3'],
+                eight[:4] + ['refused B1 E1 TooShort', 'refused B2 BadBase', 'going', 'refused B3 Missing /program a', 'going',
+                             'refused B5 Undefined /program f'] + [no_binder] * 4)]),
+        ('Binders of several states side by side: of the first a, of the second, and of none.', [
+            seen('script-binders', 64, [
+                install(WEAK_F), begin(ASKING_A), other, begin(ASKING_A), b'remove a', begin(ASKING_A), b'advance 2', b'advance 1', b'advance 0',
+                b'advance 1', b'advance 0', b'list', b'advance 1', b'advance 2', b'advance 0'],
+                ['ok', 'slot 0', 'ok', 'slot 1', 'ok', 'slot 2'] + ['going'] * 5 + ['end'] + last + ['refused B3 Missing /program a'] + own)]),
+    ]
+
+
+def binder_lines():
+    no_binder = 'refused C8 NoSuchBinder'
+    return [
+        ('A slot is one digit.', [short(line + b'%d\n' % slot, no_binder) for line in (b'advance ', b'cancel ') for slot in range(10)]),
+        ('No slot, one of two digits, with a sign, a letter, another digit than 0 to 9, one of hexadecimal.', bad(*(
+            command + word for command in (b'advance', b'cancel')
+            for word in (b'', b' ', b' 00', b' 01', b' 10', b' 99', b' +1', b' -1', b' a', b' f', b' x', b' 0x0', b' 1.', b' \xb2', b' /', b' :',
+                         b' \xef\xbc\x91', b' 1\0')))),
+        ('A slot too many, spaces, tabs, a carriage return, other words.', bad(*(
+            line for command in (b'advance', b'cancel')
+            for line in (command + b' 0 0', command + b' 0 ', command + b'  0', b' ' + command + b' 0', command + b'\t0', command + b'0',
+                         command + b' 0\r', command + b's 0', command.upper() + b' 0', command[:-1] + b' 0', b'0 ' + command)))),
+        ('A base of 1 to 16 digits of either case; nothing of the program is tested yet.', [short(line + b'\n', 'slot 0') for line in (
+            b'begin 0x0 00', b'begin 0x10001 00', b'begin 0xaBcDeF 00', b'begin 0xffffffffffffffff 00', b'begin 0xFFFFFFFFFFFFFFFF fF')]),
+        ('No base, one without digits, of 17 digits, without 0x, with another sign in it.', bad(
+            b'begin', b'begin ', b'begin 00', b'begin 0x 00', b'begin 0x00000000000000000 00', b'begin 0x10000000000000000 00', b'begin 0X0 00',
+            b'begin 0 00', b'begin 65536 00', b'begin 0xg 00', b'begin 0x+1 00', b'begin -0x1 00', b'begin 0x1_0 00')),
+        ('No program, half a byte, what is no digit, the words the other way round, one too many.', bad(
+            b'begin 0x0', b'begin 0x0 ', b'begin 0x0 0', b'begin 0x0 000', b'begin 0x0 0g', b'begin 0x0 0x00', b'begin 0x0 00 00',
+            b'begin 0x0 0 0', b'begin 00 0x0', b'begin 0x0 /program')),
+        ('Two spaces, a space in front or behind, tabs, a carriage return, other words.', bad(
+            b'begin  0x0 00', b'begin 0x0  00', b' begin 0x0 00', b'begin 0x0 00 ', b'begin 0x0 00\r', b'begin\t0x0 00', b'begin 0x0\t00',
+            b'begin0x0 00', b'Begin 0x0 00', b'BEGIN 0x0 00', b'begins 0x0 00', b'begi 0x0 00', b'begin 0 0x0 00', b'begin 0x0 00\0')),
+        ('A line that is cut isn\'t run.', [short(line, 'refused L2 CutLine') for line in (b'begin 0x0 00', b'advance 0', b'cancel 0')]),
+    ]
+
+
 def sessions():
     """The worked example: a library with its program, a preload that takes its place, and what is left without it."""
     return [('A whole script: libraries, a program, a preload, a better library, lines that are refused, the last one cut.', [
@@ -500,4 +620,4 @@ def wrong():
 
 if __name__ == '__main__':
     write_list('scripts.txt', rows() + bad_lines() + many_libraries() + sectors() + refusals() + binds() + symbolic_binds()
-               + refused_binds() + bind_lines() + sessions() + wrong())
+               + refused_binds() + bind_lines() + binders() + binder_lines() + sessions() + wrong())

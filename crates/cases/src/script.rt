@@ -4,6 +4,7 @@ use crate::answer::is_wanted;
 use crate::file::changed_file;
 use crate::number::parse_number;
 use anyhow::{Context, Result, bail};
+use binders::Binders;
 use commands::{ScriptFault, Summary, run_script};
 use disk_registry::Registry;
 use sector_disk::Memory;
@@ -20,9 +21,9 @@ fn ran(
     let mut script = script;
     match Registry::format(alloc, disk) {
         Ok(registry) => {
-            let mut registry = registry;
-            let ended = run_script(alloc, &mut script, output, &mut registry);
-            let _ = registry.into_disk();
+            let mut binders = Binders::new(alloc, registry);
+            let ended = run_script(alloc, &mut script, output, &mut binders);
+            let _ = binders.into_registry().into_disk();
             Ok(ended)
         }
         Err(_) => bail!("no registry"),

@@ -6,8 +6,8 @@ use Rattle.std.specs.Io.Iter.{u64_saturate}
 use Rattle.std.specs.Io.KnownBytes.{Appends, Consumes}
 use Rattle.std.proofs.KnownBytes.{Consumes-trans, Appends-trans, Consumes-nil, Appends-nil}
 use Rattle.std.proofs.lemmas.List.Elements.{All-push, All-nil}
-use Rattle.registry.specs.Request.{Request}
-use Rattle.registry.specs.declared.reply.Reply.{Reply}
+use Rattle.binders.specs.Events.{Happening}
+use Rattle.binders.specs.declared.event.EventReply.{EventReply}
 use Rattle.registry.proofs.Runs.{run_more}
 use Rattle.commands.specs.Answer.{LineStep, answer_text, output, is_refused}
 use Rattle.commands.specs.Script.{IsLine, ended, Counts, Streams, Ends, Breaks, Stops}
@@ -23,7 +23,7 @@ use Rattle.commands.proofs.Lines.{flat_more, counts_more, rest_known, front_know
 abbrev pub streams : Place → Place → Streams
 streams p q = record { unread = p.unread; before = p.written; after = q.written }
 
-module _ {S : Type 0} (step : S → Request → Reply → S → Type 0) where
+module _ {S : Type 0} (step : S → Happening → EventReply → S → Type 0) where
   -- nothing was read yet
   pub answered_none : (p : Place) (s : S) (m : Summary) → m.lines ≡ 0 → m.refused ≡ 0 → Answered step p p s s m [] []
   answered_none p s m lines refused = record {

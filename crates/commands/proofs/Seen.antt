@@ -1,8 +1,8 @@
 -- A script over something that is seen in part.
 use Rattle.std.proofs.Common.{◌≡◌, ℕ, List, [], ◌∷◌, map, ap, refl, subst, inl, inr, ◌∙◌}
-use Rattle.registry.specs.Request.{Request}
 use Rattle.registry.specs.Runs.{last_of, Steps, Run}
-use Rattle.registry.specs.declared.reply.Reply.{Reply}
+use Rattle.binders.specs.Events.{Happening}
+use Rattle.binders.specs.declared.event.EventReply.{EventReply}
 use Rattle.commands.specs.Answer.{LineStep}
 use Rattle.commands.specs.Outcome.{Worsens}
 use Rattle.commands.specs.Status.{greatest, lines_status, fault_status}
@@ -17,7 +17,7 @@ use Rattle.commands.specs.declared.summary.Summary.{Summary}
 use Rattle.commands.specs.declared.watched.Watched.{Watched}
 use Rattle.commands.specs.inside.Watched.{WatchedStep}
 
-module _ {S T : Type 0} (f : S → T) (step : S → Request → Reply → S → Type 0) (seen : T → Request → Reply → T → Type 0) (keeps : (s s' : S) (q : Request) (r : Reply) → step s q r s' → seen (f s) q r (f s')) where
+module _ {S T : Type 0} (f : S → T) (step : S → Happening → EventReply → S → Type 0) (seen : T → Happening → EventReply → T → Type 0) (keeps : (s s' : S) (q : Happening) (r : EventReply) → step s q r s' → seen (f s) q r (f s')) where
   line_seen : (s s' : S) (line : List ℕ) (answer : Answer) → LineStep step s line answer s' → LineStep seen (f s) line answer (f s')
   line_seen s s' line (Replied reply) h = (h.0, h.1, keeps s s' h.0 reply h.2)
   line_seen s s' line BadLine h = (h.0, ap f h.1)
@@ -69,16 +69,16 @@ module _ {S T : Type 0} (f : S → T) (step : S → Request → Reply → S → 
         },
       )
 
-module _ {G : Type 0} (step : G → Request → Reply → G → Type 0) (io : Streams) (w w' : Watched G) where
-  -- of a registry whose replies are watched its own steps and the greatest status are seen
+module _ {G : Type 0} (step : G → Happening → EventReply → G → Type 0) (io : Streams) (w w' : Watched G) where
+  -- of what is watched its own steps and the greatest status are seen
   abbrev seen_of : Watched G → G × Status
-  seen_of v = (v.registry, v.worst)
+  seen_of v = (v.binders, v.worst)
 
-  -- a script that was run to its end, or ended early, from a registry none of whose replies was watched
-  pub runs_through : (summary : Summary) (status : Status) → w.worst ≡ Done → Finishes (WatchedStep step) io w w' summary → status ≡ greatest w'.worst (lines_status summary.refused) → IsRun step w.registry w'.registry io status
+  -- a script that was run to its end, or ended early, where no reply was watched before
+  pub runs_through : (summary : Summary) (status : Status) → w.worst ≡ Done → Finishes (WatchedStep step) io w w' summary → status ≡ greatest w'.worst (lines_status summary.refused) → IsRun step w.binders w'.binders io status
   runs_through summary status e h is =
-      inl (w'.worst, summary, subst (λ s. Finishes (Worsens step) io (w.registry, s) (seen_of w') summary) e (finishes_seen seen_of (WatchedStep step) (Worsens step) (λ s s' q r k. k) io w w' summary h), is)
+      inl (w'.worst, summary, subst (λ s. Finishes (Worsens step) io (w.binders, s) (seen_of w') summary) e (finishes_seen seen_of (WatchedStep step) (Worsens step) (λ s s' q r k. k) io w w' summary h), is)
 
-  pub ends_early : (fault : ScriptFault) (status : Status) → w.worst ≡ Done → Stops (WatchedStep step) io w w' fault → status ≡ greatest w'.worst (fault_status fault) → IsRun step w.registry w'.registry io status
+  pub ends_early : (fault : ScriptFault) (status : Status) → w.worst ≡ Done → Stops (WatchedStep step) io w w' fault → status ≡ greatest w'.worst (fault_status fault) → IsRun step w.binders w'.binders io status
   ends_early fault status e h is =
-      inr (w'.worst, fault, subst (λ s. Stops (Worsens step) io (w.registry, s) (seen_of w') fault) e (stops_seen seen_of (WatchedStep step) (Worsens step) (λ s s' q r k. k) io w w' fault h), is)
+      inr (w'.worst, fault, subst (λ s. Stops (Worsens step) io (w.binders, s) (seen_of w') fault) e (stops_seen seen_of (WatchedStep step) (Worsens step) (λ s s' q r k. k) io w w' fault h), is)

@@ -5,9 +5,9 @@ use Rattle.std.specs.List.{flat_map}
 use Rattle.std.specs.Io.KnownBytes.{Appends, Consumes, append_known}
 use Rattle.std.proofs.KnownBytes.{Appends-nil, Appends-trans, Consumes-nil}
 use Rattle.std.proofs.lemmas.List.Elements.{All-push, All-nil}
-use Rattle.registry.specs.Request.{Request}
 use Rattle.registry.specs.Runs.{Steps, Run}
-use Rattle.registry.specs.declared.reply.Reply.{Reply}
+use Rattle.binders.specs.Events.{Happening}
+use Rattle.binders.specs.declared.event.EventReply.{EventReply}
 use Rattle.commands.specs.Answer.{LineStep, output}
 use Rattle.commands.specs.Line.{AsksNoChange}
 use Rattle.commands.specs.Script.{IsLine, ended, Streams, Ends, Breaks, Held, StopsWriting}
@@ -76,7 +76,7 @@ told_quiet before held whole answers line answer t quiet = record {
   quiet = All-push AsksNoChange t.untold line t.quiet quiet;
 }
 
-module _ {S : Type 0} (step : S → Request → Reply → S → Type 0) (before held : Option (List ℕ)) (s t : S) (whole : List (List ℕ)) (answers : List Answer) (run : Run (LineStep step) s whole answers t) (written : Appends before held (output answers)) where
+module _ {S : Type 0} (step : S → Happening → EventReply → S → Type 0) (before held : Option (List ℕ)) (s t : S) (whole : List (List ℕ)) (answers : List Answer) (run : Run (LineStep step) s whole answers t) (written : Appends before held (output answers)) where
   -- all was sent
   pub told_all : Told before held whole answers
   told_all = record {
@@ -119,7 +119,7 @@ held_told before held whole answers t = record {
   little = inr t.quiet;
 }
 
-module _ {S W : Type 0} (contents : W → Option (List ℕ)) (step : S → Request → Reply → S → Type 0) (p q : Place) (s t : S) (m : Summary) (w : W) (whole : List (List ℕ)) (answers : List Answer)
+module _ {S W : Type 0} (contents : W → Option (List ℕ)) (step : S → Happening → EventReply → S → Type 0) (p q : Place) (s t : S) (m : Summary) (w : W) (whole : List (List ℕ)) (answers : List Answer)
     (so_far : Answered step p q s t m whole answers) (told : Told p.written (contents w) whole answers) where
   -- how a script broke off, and what its writer held
   abbrev pub BreaksOff : Place → S → ScriptFault → Type 0
@@ -150,7 +150,7 @@ module _ {S W : Type 0} (contents : W → Option (List ℕ)) (step : S → Reque
       done.1)
       h
 
-module _ {S W : Type 0} (contents : W → Option (List ℕ)) (step : S → Request → Reply → S → Type 0) (p : Place) (s u : S) where
+module _ {S W : Type 0} (contents : W → Option (List ℕ)) (step : S → Happening → EventReply → S → Type 0) (p : Place) (s u : S) where
   -- after a line either nothing waits, or it asks for no change
   pub tells_on : (unread : Option (List ℕ)) (n : Summary) (held now : W) (waiting : List ℕ) (whole : List (List ℕ)) (answers : List Answer) (line : List ℕ) (answer : Answer)
       → Told p.written (contents held) whole answers → Answered step p (record { unread = unread; written = append_known (contents now) waiting }) s u n (whole ++ line ∷ []) (answers ++ answer ∷ [])
@@ -169,7 +169,7 @@ module _ {S W : Type 0} (contents : W → Option (List ℕ)) (step : S → Reque
       (λ quiet. (held, whole ++ line ∷ [], answers ++ answer ∷ [], more, told_quiet p.written (contents held) whole answers line answer told quiet))
       either
 
-module _ {S : Type 0} (step : S → Request → Reply → S → Type 0) (io : Streams) (s s' : S) where
+module _ {S : Type 0} (step : S → Happening → EventReply → S → Type 0) (io : Streams) (s s' : S) where
   -- the same streams, whose writer holds this after
   abbrev pub holding : Option (List ℕ) → Streams
   holding after = record { unread = io.unread; before = io.before; after = after }
@@ -219,7 +219,7 @@ module _ {S : Type 0} (step : S → Request → Reply → S → Type 0) (io : St
         all_read None bytes h = tt
         all_read (Some text) bytes h = ([], h ∙ sym (append-nil bytes))
 
-module _ {S W : Type 0} (contents : W → Option (List ℕ)) (step : S → Request → Reply → S → Type 0) (io : Streams) (s s' : S) where
+module _ {S W : Type 0} (contents : W → Option (List ℕ)) (step : S → Happening → EventReply → S → Type 0) (io : Streams) (s s' : S) where
   -- what lines end with, some of whose answers may wait
   abbrev pub LinesEnd : Summary → Type 0
   LinesEnd summary = (held : W) × (whole : List (List ℕ)) × (cut : List ℕ) × (answers : List Answer) × Ends step io s s' summary whole cut answers × Told io.before (contents held) whole answers

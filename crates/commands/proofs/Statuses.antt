@@ -1,18 +1,20 @@
 -- The greatest of statuses.
 use Rattle.std.proofs.Common.{◌≡◌, ◌≢◌, ℕ, Bool, true, false, cond, nat_lt, ap, refl, subst, inl, inr, ◌∙◌}
-use Rattle.registry.specs.Request.{Request}
-use Rattle.registry.specs.declared.reply.Reply.{Reply}
-use Rattle.store.specs.Opened.{Opened}
+use Rattle.std.specs.Prelude.{replicate, None}
+use Rattle.binders.specs.Events.{Happening}
+use Rattle.binders.specs.Slotted.{HoldAlone, Slotted}
+use Rattle.binders.specs.declared.event.EventReply.{EventReply}
+use Rattle.binders.specs.declared.event.EventReply.TheVariants as event
 use Rattle.file_disk.specs.FileDisk.{file_facts}
 use Rattle.file_disk.specs.declared.disk.FileDisk.{FileDisk}
 use Rattle.commands.specs.Disk.{IsOpenRefusal}
-use Rattle.commands.specs.DiskStep.{DiskStep}
+use Rattle.commands.specs.EventStep.{EventStep}
 use Rattle.commands.specs.Opened.{IsOpened}
 use Rattle.commands.specs.Outcome.{EndsEarly, Runs, RunsInPart, RunsThrough}
 use Rattle.commands.specs.Script.{Streams}
 use Rattle.commands.specs.declared.disk.NoRegistry.{NoRegistry}
 use Rattle.commands.specs.declared.disk.NoRegistry.TheVariants as no
-use Rattle.commands.specs.Status.{status_number, greatest, reply_status, fault_status, lines_status}
+use Rattle.commands.specs.Status.{status_number, greatest, event_status, fault_status, lines_status}
 use Rattle.commands.specs.declared.fault.ScriptFault.{ScriptFault}
 use Rattle.commands.specs.declared.fault.ScriptFault.TheVariants as fault
 use Rattle.commands.specs.declared.status.Status.{Status}
@@ -28,8 +30,13 @@ either false s t hs ht = hs
 greatest_answers : (s t : Status) → s ≢ BadWords → t ≢ BadWords → greatest s t ≢ BadWords
 greatest_answers s t hs ht = either (nat_lt (status_number s) (status_number t)) s t hs ht
 
-pub watched_answers : (s : Status) (r : Reply) → s ≢ BadWords → greatest s (reply_status r) ≢ BadWords
-watched_answers s r h = greatest_answers s (reply_status r) h (reply_answers r)
+event_answers : (r : EventReply) → event_status r ≢ BadWords
+event_answers (event.Replied reply) = reply_answers reply
+event_answers (event.Slot slot) h = cc
+event_answers event.Going h = cc
+
+pub watched_answers : (s : Status) (r : EventReply) → s ≢ BadWords → greatest s (event_status r) ≢ BadWords
+watched_answers s r h = greatest_answers s (event_status r) h (event_answers r)
 
 refused_answers : (b : Bool) → cond b Done Refused ≢ BadWords
 refused_answers true h = cc
@@ -80,7 +87,7 @@ in_time : false ≡ true → ⊥
 in_time h = cc
 
 -- what a script over a registry ends with is what one over a disk does
-module _ {S : Type 0} (step : S → Request → Reply → S → Type 0) (s s' : S) (F : Type 0) (io : Streams) (through : (t : Status) → RunsThrough step s s' io t → Runs F io t) (in_part : (t : Status) → EndsEarly step s s' io t → RunsInPart F io t) where
+module _ {S : Type 0} (step : S → Happening → EventReply → S → Type 0) (s s' : S) (F : Type 0) (io : Streams) (through : (t : Status) → RunsThrough step s s' io t → Runs F io t) (in_part : (t : Status) → EndsEarly step s s' io t → RunsInPart F io t) where
   ends_over : (status : Status) → status ≢ BadWords → IsRun step s s' io status → ScriptEnds F io status
   ends_over Done words (inl h) = through Done h
   ends_over Done words (inr h) = absurd (in_time (late_end h.0 Done h.1 h.3))
@@ -91,15 +98,17 @@ module _ {S : Type 0} (step : S → Request → Reply → S → Type 0) (s s' : 
   ends_over NoMemory words (inl h) = inl (through NoMemory h)
   ends_over NoMemory words (inr h) = inr (inl (in_part NoMemory h))
 
--- so of a registry that was opened
-pub run_ends : (F : Type 0) (disk : FileDisk F) (old new : Opened (FileDisk F)) (io : Streams) (status : Status) → IsOpened disk old → status ≢ BadWords
-    → IsRun (DiskStep file_facts) old new io status → ScriptEnds F io status
-run_ends F disk old new io status opened words h =
-    ends_over (DiskStep file_facts) old new F io
+-- so of a registry that was opened, without binders
+pub run_ends : (F : Type 0) (disk : FileDisk F) (old new : Slotted (FileDisk F)) (io : Streams) (status : Status) → IsOpened disk old.registry → old.slots ≡ replicate 8 None → HoldAlone old
+    → status ≢ BadWords → IsRun (EventStep file_facts) old new io status → ScriptEnds F io status
+run_ends F disk old new io status opened empty alone words h =
+    ends_over (EventStep file_facts) old new F io
     (λ t k. record {
       disk = disk;
       old = old;
       opened = opened;
+      empty = empty;
+      alone = alone;
       new = new;
       run = k;
     })
@@ -107,6 +116,8 @@ run_ends F disk old new io status opened words h =
       disk = disk;
       old = old;
       opened = opened;
+      empty = empty;
+      alone = alone;
       new = new;
       run = k;
     })

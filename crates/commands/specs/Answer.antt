@@ -1,29 +1,30 @@
 -- The answers to the lines of a script, and their texts (own).
 use Rattle.std.specs.Prelude.{◌≡◌, ℕ, List, codes, Some, None, Bool, true, false}
 use Rattle.std.specs.List.{flat_map}
-use Rattle.registry.specs.Request.{Request}
-use Rattle.registry.specs.declared.reply.Reply.{Reply}
 use Rattle.registry.specs.declared.reply.Reply.TheVariants.{Refused}
+use Rattle.binders.specs.Events.{Happening}
+use Rattle.binders.specs.declared.event.EventReply.{EventReply}
+use Rattle.binders.specs.declared.event.EventReply.TheVariants as event_reply
+use Rattle.commands.specs.EventReply.{event_text}
 use Rattle.commands.specs.Line.{meaning}
-use Rattle.commands.specs.Reply.{reply_text}
 use Rattle.commands.specs.declared.answer.Answer.{Answer}
 use Rattle.commands.specs.declared.answer.Answer.TheVariants.{Replied, BadLine, CutLine}
 
 -- a line is answered by the step that it asks for; one that asks nothing is bad and changes nothing
-abbrev pub LineStep : {S : Type 0} → (S → Request → Reply → S → Type 0) → S → List ℕ → Answer → S → Type 0
-LineStep step s line (Replied reply) s' = (request : Request) × (meaning line ≡ Some request) × step s request reply s'
+abbrev pub LineStep : {S : Type 0} → (S → Happening → EventReply → S → Type 0) → S → List ℕ → Answer → S → Type 0
+LineStep step s line (Replied reply) s' = (happening : Happening) × (meaning line ≡ Some happening) × step s happening reply s'
 LineStep step s line BadLine s' = (meaning line ≡ None) × (s' ≡ s)
 LineStep step s line CutLine s' = ⊥
 
 -- the text of an answer
 abbrev pub answer_text : Answer → List ℕ
-answer_text (Replied reply) = reply_text reply
+answer_text (Replied reply) = event_text reply
 answer_text BadLine = codes "refused L1 BadLine\n"
 answer_text CutLine = codes "refused L2 CutLine\n"
 
 -- an answer counts as refused
 abbrev pub is_refused : Answer → Bool
-is_refused (Replied (Refused refusal)) = true
+is_refused (Replied (event_reply.Replied (Refused refusal))) = true
 is_refused (Replied reply) = false
 is_refused answer = true
 

@@ -1,15 +1,11 @@
--- What a script does to a registry on a disk (own).
+-- What a script does to a registry on a disk, with its binders (own).
 use Rattle.std.specs.Prelude.{ℕ, List, Option, Some, None}
 use Rattle.std.specs.List.{filter_map}
 use Rattle.sector_disk.specs.Disk.{DiskFacts}
-use Rattle.store.specs.Opened.{Opened}
-use Rattle.registry.specs.Request.{Request}
-use Rattle.states.specs.State.{State}
-use Rattle.registry.specs.declared.reply.Reply.{Reply}
-use Rattle.disk_registry.specs.Answered.{AreAnswered}
-use Rattle.disk_registry.specs.Opened.{IsAt}
-use Rattle.disk_registry.specs.Ran.{RunsOver}
-use Rattle.commands.specs.DiskStep.{DiskStep}
+use Rattle.binders.specs.Events.{Happen, Happening}
+use Rattle.binders.specs.Slotted.{Slotted}
+use Rattle.binders.specs.declared.event.EventReply.{EventReply}
+use Rattle.commands.specs.EventStep.{EventStep}
 use Rattle.commands.specs.Line.{meaning}
 use Rattle.commands.specs.Script.{Streams, Ends, Breaks}
 use Rattle.commands.specs.declared.answer.Answer.{Answer}
@@ -17,32 +13,30 @@ use Rattle.commands.specs.declared.answer.Answer.TheVariants.{Replied}
 use Rattle.commands.specs.declared.fault.ScriptFault.{ScriptFault}
 use Rattle.commands.specs.declared.summary.Summary.{Summary}
 
--- the commands of lines, in their order: a line of no form has none
-abbrev pub asked : List (List ℕ) → List Request
+-- what lines ask, in their order: a line of no form asks nothing
+abbrev pub asked : List (List ℕ) → List Happening
 asked lines = filter_map meaning lines
 
--- what was replied to a command: a line of no form gets no reply
-abbrev pub reply_of : Answer → Option Reply
+-- what was replied to a line: one of no form gets no reply
+abbrev pub reply_of : Answer → Option EventReply
 reply_of (Replied reply) = Some reply
 reply_of answer = None
 
--- what was replied to the commands of lines, in their order
-abbrev pub replied : List Answer → List Reply
+-- what was replied to lines, in their order
+abbrev pub replied : List Answer → List EventReply
 replied answers = filter_map reply_of answers
 
--- The commands of these lines were done over a disk.
-pub record LinesRan {D : Type 0} (facts : D → DiskFacts) (old new : Opened D) (lines : List (List ℕ)) (answers : List Answer) : Type 0 where
-  -- from each state at which the registry may be they are a run of commands
-  pub runs : (s : State) → IsAt facts old s → RunsOver facts old new s (asked lines) (replied answers)
-  -- on any disk one reply for each command, as it is answered there
-  pub on_any_disk : AreAnswered facts old new (asked lines) (replied answers)
+-- What these lines ask happened over a disk.
+pub record LinesRan {D : Type 0} (facts : D → DiskFacts) (old new : Slotted D) (lines : List (List ℕ)) (answers : List Answer) : Type 0 where
+  -- one after the other, with one reply each, as it is on any disk and from each state
+  pub happen : Happen facts old new (asked lines) (replied answers)
 
--- a script over a registry on a disk was read to its end, and the commands of its lines were done
-abbrev pub FinishesOnDisk : {D : Type 0} → (D → DiskFacts) → Streams → Opened D → Opened D → Summary → Type 0
+-- a script over a registry on a disk was read to its end, and what its lines ask happened
+abbrev pub FinishesOnDisk : {D : Type 0} → (D → DiskFacts) → Streams → Slotted D → Slotted D → Summary → Type 0
 FinishesOnDisk facts io old new summary = (whole : List (List ℕ)) × (cut : List ℕ) × (answers : List Answer)
-    × Ends (DiskStep facts) io old new summary whole cut answers × LinesRan facts old new whole answers
+    × Ends (EventStep facts) io old new summary whole cut answers × LinesRan facts old new whole answers
 
--- it ended early, and the commands of the lines that were read and answered by then were done
-abbrev pub StopsOnDisk : {D : Type 0} → (D → DiskFacts) → Streams → Opened D → Opened D → ScriptFault → Type 0
+-- it ended early, and what the lines ask happened that were read and answered by then
+abbrev pub StopsOnDisk : {D : Type 0} → (D → DiskFacts) → Streams → Slotted D → Slotted D → ScriptFault → Type 0
 StopsOnDisk facts io old new fault = (whole : List (List ℕ)) × (part : List ℕ) × (answers : List Answer)
-    × Breaks (DiskStep facts) io old new fault whole part answers × LinesRan facts old new whole answers
+    × Breaks (EventStep facts) io old new fault whole part answers × LinesRan facts old new whole answers

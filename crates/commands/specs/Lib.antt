@@ -3,6 +3,8 @@ pub mod Base
 pub mod Disk
 pub mod DiskScript
 pub mod DiskStep
+pub mod EventReply
+pub mod EventStep
 pub mod File
 pub mod Line
 pub mod Opened

@@ -1,10 +1,12 @@
 -- What a line of a script asks (own).
-use Rattle.std.specs.Prelude.{◌≡◌, ℕ, ◌+◌, ◌==◌, Bool, true, false, ◌&&◌, not, nat_le, if◌then◌else◌, List, [], ◌∷◌, length, take, take_while, drop, codes, bytes_eq, Option, Some, None}
+use Rattle.std.specs.Prelude.{◌≡◌, ℕ, ◌+◌, ◌-◌, ◌==◌, Bool, true, false, ◌&&◌, not, nat_le, if◌then◌else◌, List, [], ◌∷◌, length, take, take_while, drop, codes, bytes_eq, Option, Some, None}
+use Rattle.std.specs.Char.{is_ascii_digit}
 use Rattle.std.specs.List.{list_all, slice_split}
 use Rattle.std.specs.Option.{option_map}
 use Rattle.std.specs.Result.{result_ok}
 use Rattle.hex.specs.Hex.{decode_of}
-use Rattle.registry.specs.Request.{Request, install, replace, remove, set_preloads, bind, list}
+use Rattle.registry.specs.Request.{install, replace, remove, set_preloads, bind, list}
+use Rattle.binders.specs.Events.{Happening, apply, begin, advance, cancel}
 use Rattle.commands.specs.Base.{base_of}
 
 -- HEX: one or more pairs of hexadecimal digits of either case, and the bytes that they spell
@@ -34,41 +36,54 @@ names_behind (b ∷ rest) =
 abbrev pub word_in_front : List ℕ → List ℕ
 word_in_front bytes = take_while (λ b. not (b == 32)) bytes
 
--- what `bind` asks with this base and these bytes of a program, where both are read
-abbrev pub bound_at : Option ℕ → Option (List ℕ) → Option Request
-bound_at (Some base) (Some program) = Some (bind program base)
-bound_at base program = None
+-- the bytes of a program with its base, where both are read
+abbrev pub placed_at : Option ℕ → Option (List ℕ) → Option (List ℕ × ℕ)
+placed_at (Some base) (Some program) = Some (program, base)
+placed_at base program = None
 
--- BASE and HEX with a space between
-abbrev pub bind_behind : List ℕ → Option Request
-bind_behind rest =
+-- BASE and HEX with a space between: the bytes of a program, and its base
+abbrev pub program_behind : List ℕ → Option (List ℕ × ℕ)
+program_behind rest =
     let word = word_in_front rest in
-    bound_at (base_of word) (hex_bytes (drop (length word + 1) rest))
+    placed_at (base_of word) (hex_bytes (drop (length word + 1) rest))
+
+-- SLOT: exactly one decimal digit, and the slot that it is
+abbrev pub slot_of : List ℕ → Option ℕ
+slot_of (digit ∷ []) = if is_ascii_digit digit then Some (digit - 48) else None
+slot_of word = None
 
 -- a line begins so
 abbrev pub has_front : List ℕ → List ℕ → Bool
 has_front front line = bytes_eq (take (length front) line) front
 
--- what a line without its newline asks: none of these forms asks nothing
-abbrev pub meaning : List ℕ → Option Request
-meaning line =
-    if has_front (codes "install ") line then option_map install (hex_bytes (drop 8 line))
-    else if has_front (codes "replace ") line then option_map replace (hex_bytes (drop 8 line))
-    else if has_front (codes "remove ") line then option_map remove (named (drop 7 line))
-    else if has_front (codes "preload") line then option_map set_preloads (names_behind (drop 7 line))
-    else if has_front (codes "bind ") line then bind_behind (drop 5 line)
-    else if bytes_eq line (codes "list") then Some list
+-- what a line asks of a binder
+abbrev pub binder_meaning : List ℕ → Option Happening
+binder_meaning line =
+    if has_front (codes "begin ") line then option_map (λ p. begin p.0 p.1) (program_behind (drop 6 line))
+    else if has_front (codes "advance ") line then option_map advance (slot_of (drop 8 line))
+    else if has_front (codes "cancel ") line then option_map cancel (slot_of (drop 7 line))
     else None
 
--- a request asks for a change
-abbrev pub is_change : Request → Bool
-is_change list = false
-is_change (bind program base) = false
-is_change request = true
+-- what a line without its newline asks: none of these forms asks nothing
+abbrev pub meaning : List ℕ → Option Happening
+meaning line =
+    if has_front (codes "install ") line then option_map (λ bytes. apply (install bytes)) (hex_bytes (drop 8 line))
+    else if has_front (codes "replace ") line then option_map (λ bytes. apply (replace bytes)) (hex_bytes (drop 8 line))
+    else if has_front (codes "remove ") line then option_map (λ name. apply (remove name)) (named (drop 7 line))
+    else if has_front (codes "preload") line then option_map (λ names. apply (set_preloads names)) (names_behind (drop 7 line))
+    else if has_front (codes "bind ") line then option_map (λ p. apply (bind p.0 p.1)) (program_behind (drop 5 line))
+    else if bytes_eq line (codes "list") then Some (apply list)
+    else binder_meaning line
+
+-- what may happen is a change, of the registry or of a binder
+abbrev pub is_change : Happening → Bool
+is_change (apply list) = false
+is_change (apply (bind program base)) = false
+is_change happening = true
 
 -- what is asked is no change: a listing, a bind, or nothing
-abbrev pub is_no_change : Option Request → Bool
-is_no_change (Some request) = not (is_change request)
+abbrev pub is_no_change : Option Happening → Bool
+is_no_change (Some happening) = not (is_change happening)
 is_no_change None = true
 
 -- a line that asks for no change

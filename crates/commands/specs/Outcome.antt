@@ -1,9 +1,12 @@
 -- What the program's statuses say of what the words asked (own).
-use Rattle.std.specs.Prelude.{◌≡◌, ◌⊎◌, ◌<◌, ℕ, List, length, Option, Some, None, Bool, true, false, is_none, codes}
+use Rattle.std.specs.Prelude.{◌≡◌, ◌⊎◌, ◌<◌, ℕ, List, length, replicate, Option, Some, None, Bool, true, false, is_none, codes}
 use Rattle.std.specs.Io.KnownBytes.{Appends}
 use Rattle.registry.specs.Request.{Request}
 use Rattle.registry.specs.Request as request
 use Rattle.registry.specs.declared.reply.Reply.{Reply}
+use Rattle.binders.specs.Events.{Happening}
+use Rattle.binders.specs.Slotted.{HoldAlone, Slotted}
+use Rattle.binders.specs.declared.event.EventReply.{EventReply}
 use Rattle.store.specs.Opened.{Opened}
 use Rattle.store.specs.declared.refusal.StoreRefusal.{StoreRefusal}
 use Rattle.file_disk.specs.FileDisk.{file_facts}
@@ -11,13 +14,14 @@ use Rattle.file_disk.specs.declared.disk.FileDisk.{FileDisk}
 use Rattle.commands.specs.Base.{base_of}
 use Rattle.commands.specs.Disk.{disk_refusal_text, IsOpenRefusal, IsFormatRefusal, IsUpgradeRefusal}
 use Rattle.commands.specs.DiskStep.{DiskStep}
+use Rattle.commands.specs.EventStep.{EventStep}
 use Rattle.commands.specs.File.{read_limit}
 use Rattle.commands.specs.Opened.{IsOpened, IsMade, IsUpgraded}
 use Rattle.commands.specs.Printed.{PrintsImage, PrintsRefusal}
 use Rattle.commands.specs.Refusal.{memory_text}
 use Rattle.commands.specs.Reply.{reply_text}
 use Rattle.commands.specs.Script.{Streams, Finishes, Stops}
-use Rattle.commands.specs.Status.{greatest, reply_status, disk_status, fault_status, lines_status}
+use Rattle.commands.specs.Status.{greatest, reply_status, event_status, disk_status, fault_status, lines_status}
 use Rattle.commands.specs.Words.{CommandLine, image, format, upgrade, install, replace, remove, preload, list, bind, script}
 use Rattle.commands.specs.declared.fault.ScriptFault.{ScriptFault}
 use Rattle.commands.specs.declared.status.Status.{Status}
@@ -77,11 +81,11 @@ pub record Upgrades (F : Type 0) (before after : Option (List ℕ)) : Type 0 whe
 abbrev pub TurnsAway : (StoreRefusal → Type 0) → Status → Option (List ℕ) → Option (List ℕ) → Type 0
 TurnsAway MayRefuse status before after = (refusal : StoreRefusal) × MayRefuse refusal × (disk_status refusal ≡ status) × Appends before after (disk_refusal_text refusal)
 
--- a step of a registry, and the greatest status of a script's replies before it and after it
-abbrev pub Worsens : {S : Type 0} → (S → Request → Reply → S → Type 0) → S × Status → Request → Reply → S × Status → Type 0
-Worsens step old asked reply new = step old.0 asked reply new.0 × (new.1 ≡ greatest old.1 (reply_status reply))
+-- a step of a registry with binders, and the greatest status of a script's replies before it and after it
+abbrev pub Worsens : {S : Type 0} → (S → Happening → EventReply → S → Type 0) → S × Status → Happening → EventReply → S × Status → Type 0
+Worsens step old happening reply new = step old.0 happening reply new.0 × (new.1 ≡ greatest old.1 (event_status reply))
 
-module _ {S : Type 0} (step : S → Request → Reply → S → Type 0) (s s' : S) (io : Streams) (status : Status) where
+module _ {S : Type 0} (step : S → Happening → EventReply → S → Type 0) (s s' : S) (io : Streams) (status : Status) where
   -- a script ran to its end: its status is the greatest of the replies', 1 at least if one refuses
   abbrev pub RunsThrough : Type 0
   RunsThrough = (worst : Status) × (summary : Summary) × Finishes (Worsens step) io (s, Done) (s', worst) summary × (status ≡ greatest worst (lines_status summary.refused))
@@ -90,21 +94,25 @@ module _ {S : Type 0} (step : S → Request → Reply → S → Type 0) (s s' : 
   abbrev pub EndsEarly : Type 0
   EndsEarly = (worst : Status) × (fault : ScriptFault) × Stops (Worsens step) io (s, Done) (s', worst) fault × (status ≡ greatest worst (fault_status fault))
 
--- A registry was opened on a disk over a file, and a script was run over it to its end.
+-- A registry was opened on a disk over a file, without binders and with nothing held, and a script was run over it to its end.
 pub record Runs (F : Type 0) (io : Streams) (status : Status) : Type 0 where
   pub disk : FileDisk F
-  pub old : Opened (FileDisk F)
-  pub opened : IsOpened disk old
-  pub new : Opened (FileDisk F)
-  pub run : RunsThrough (DiskStep file_facts) old new io status
+  pub old : Slotted (FileDisk F)
+  pub opened : IsOpened disk old.registry
+  pub empty : old.slots ≡ replicate 8 None
+  pub alone : HoldAlone old
+  pub new : Slotted (FileDisk F)
+  pub run : RunsThrough (EventStep file_facts) old new io status
 
 -- the same of a script that ended early
 pub record RunsInPart (F : Type 0) (io : Streams) (status : Status) : Type 0 where
   pub disk : FileDisk F
-  pub old : Opened (FileDisk F)
-  pub opened : IsOpened disk old
-  pub new : Opened (FileDisk F)
-  pub run : EndsEarly (DiskStep file_facts) old new io status
+  pub old : Slotted (FileDisk F)
+  pub opened : IsOpened disk old.registry
+  pub empty : old.slots ≡ replicate 8 None
+  pub alone : HoldAlone old
+  pub new : Slotted (FileDisk F)
+  pub run : EndsEarly (EventStep file_facts) old new io status
 
 -- 0: what the words ask was done
 abbrev pub IsDone : (F : Type 0) → Option CommandLine → Streams → Type 0

@@ -4,9 +4,9 @@ use Rattle.std.specs.List.{flat_map}
 use Rattle.std.specs.Io.{StopsAt}
 use Rattle.std.specs.Io.Iter.{u64_saturate}
 use Rattle.std.specs.Io.KnownBytes.{Appends}
-use Rattle.registry.specs.Request.{Request}
 use Rattle.registry.specs.Runs.{Run}
-use Rattle.registry.specs.declared.reply.Reply.{Reply}
+use Rattle.binders.specs.Events.{Happening}
+use Rattle.binders.specs.declared.event.EventReply.{EventReply}
 use Rattle.commands.specs.Answer.{LineStep, output, is_refused}
 use Rattle.commands.specs.Line.{AsksNoChange}
 use Rattle.commands.specs.declared.answer.Answer.{Answer}
@@ -51,8 +51,8 @@ pub record Held (before held : Option (List ℕ)) (whole : List (List ℕ)) (ans
   pub written : Appends before held (output sent)
   pub little : (length missing ≤ 1) ⊎ All AsksNoChange untold
 
-module _ {S : Type 0} (step : S → Request → Reply → S → Type 0) where
-  -- All was read, and each line answered by a step from the registry that the one before it left.
+module _ {S : Type 0} (step : S → Happening → EventReply → S → Type 0) where
+  -- All was read, and each line answered by a step from what the one before it left.
   pub record Ends (io : Streams) (s s' : S) (summary : Summary) (whole : List (List ℕ)) (cut : List ℕ) (answers : List Answer) : Type 0 where
     -- lines, each with its newline, and what comes after the last one
     pub read : IfSome io.unread (λ text. text ≡ flat_map ended whole ++ cut)

@@ -5,6 +5,8 @@ use Rattle.registry.specs.declared.refusal.Refusal.{Refusal}
 use Rattle.registry.specs.declared.refusal.Refusal.TheVariants as refusal
 use Rattle.registry.specs.declared.reply.Reply.{Reply}
 use Rattle.registry.specs.declared.reply.Reply.TheVariants as reply
+use Rattle.binders.specs.declared.event.EventReply.{EventReply}
+use Rattle.binders.specs.declared.event.EventReply.TheVariants as event
 use Rattle.store.specs.declared.refusal.StoreRefusal.{StoreRefusal}
 use Rattle.store.specs.declared.refusal.StoreRefusal.TheVariants as store
 use Rattle.commands.specs.declared.fault.ScriptFault.{ScriptFault}
@@ -46,6 +48,11 @@ refusal_status other = Refused
 abbrev pub reply_status : Reply → Status
 reply_status (reply.Refused refusal) = refusal_status refusal
 reply_status other = Done
+
+-- what an event ends with that is answered so
+abbrev pub event_status : EventReply → Status
+event_status (event.Replied reply) = reply_status reply
+event_status other = Done
 
 -- what a disk that isn't made or upgraded to a registry, or isn't opened as one, ends with
 abbrev pub disk_status : StoreRefusal → Status

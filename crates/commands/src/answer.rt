@@ -5,47 +5,54 @@ ghost use Rattle.std.specs.Option.{option_map};
 ghost use Rattle.text_output.specs.Sends.{Sends};
 ghost use Rattle.commands.specs.Answer.{LineStep, answer_text, is_refused};
 ghost use Rattle.commands.specs.Line.{is_no_change, meaning};
-ghost use Rattle.commands.specs.inside.Asked.{request_asked};
+ghost use Rattle.commands.specs.inside.Asked.{happening_asked};
 
-use crate::applies::Applies;
 use crate::asked::Asked;
+use crate::event_reply::put_event_reply;
 use crate::fault::ScriptFault;
 use crate::refusal::Line;
-use crate::reply::put_reply;
+use crate::takes_events::TakesEvents;
+use binders::{Event, EventReply};
 use registry::{Command, Reply};
 use std::io::Write;
 
 /// The answer to a line.
 #[derive(Drop)]
 pub(crate) enum Answer {
-    /// The reply to the command that the line asks.
-    Replied(Reply),
+    /// What the event is answered that the line asks.
+    Replied(EventReply),
     /// L1: the line asks nothing.
     BadLine,
     /// L2: the last line has no newline, so it isn't run.
     CutLine,
 }
 
-/// Applies what a line asks.
-fn apply<G: Applies>(registry: &mut G, asked: &Asked<'_>) -> Reply
-    ensures { G.step registry.old (request_asked asked.now) result registry.new }
+/// Lets happen what a line asks.
+fn happen<G: TakesEvents>(binders: &mut G, asked: &Asked<'_>) -> EventReply
+    ensures { G.step binders.old (happening_asked asked.now) result binders.new }
 {
     match asked {
-        Asked::Install(bytes) => registry.apply(&Command::Install(bytes)),
-        Asked::Replace(bytes) => registry.apply(&Command::Replace(bytes)),
-        Asked::Remove(name) => registry.apply(&Command::Remove(name)),
-        Asked::SetPreloads(names) => registry.apply(&Command::SetPreloads(names)),
-        Asked::Bind { program, base } => registry.apply(&Command::Bind {
+        Asked::Install(bytes) => binders.happen(&Event::Apply(Command::Install(bytes))),
+        Asked::Replace(bytes) => binders.happen(&Event::Apply(Command::Replace(bytes))),
+        Asked::Remove(name) => binders.happen(&Event::Apply(Command::Remove(name))),
+        Asked::SetPreloads(names) => binders.happen(&Event::Apply(Command::SetPreloads(names))),
+        Asked::Bind { program, base } => binders.happen(&Event::Apply(Command::Bind {
+            program,
+            base: *base,
+        })),
+        Asked::List => binders.happen(&Event::Apply(Command::List)),
+        Asked::Begin { program, base } => binders.happen(&Event::Begin {
             program,
             base: *base,
         }),
-        Asked::List => registry.apply(&Command::List),
+        Asked::Advance(slot) => binders.happen(&Event::Advance(*slot)),
+        Asked::Cancel(slot) => binders.happen(&Event::Cancel(*slot)),
     }
 }
 
-/// Whether what a line asks is a change.
+/// Whether what a line asks is a change: of the registry, or of a binder.
 pub(crate) fn asks_change(asked: &Option<Asked<'_>>) -> bool
-    ensures { not result ≡ is_no_change (option_map request_asked asked.now) }
+    ensures { not result ≡ is_no_change (option_map happening_asked asked.now) }
 {
     match asked {
         Some(Asked::List | Asked::Bind { .. }) | None => false,
@@ -54,12 +61,12 @@ pub(crate) fn asks_change(asked: &Option<Asked<'_>>) -> bool
 }
 
 /// Answers what a line asks.
-pub(crate) fn answer_asked<G: Applies>(registry: &mut G, asked: &Option<Asked<'_>>) -> Answer
-    ensures { (line : List ℕ) → option_map request_asked asked.now ≡ meaning line
-        → LineStep G.step registry.old line result registry.new }
+pub(crate) fn answer_asked<G: TakesEvents>(binders: &mut G, asked: &Option<Asked<'_>>) -> Answer
+    ensures { (line : List ℕ) → option_map happening_asked asked.now ≡ meaning line
+        → LineStep G.step binders.old line result binders.new }
 {
     match asked {
-        Some(asked) => Answer::Replied(apply(registry, asked)),
+        Some(asked) => Answer::Replied(happen(binders, asked)),
         None => Answer::BadLine,
     }
 }
@@ -69,7 +76,7 @@ pub(crate) fn is_refused(answer: &Answer) -> bool
     ensures { result ≡ is_refused answer.now }
 {
     match answer {
-        Answer::Replied(Reply::Refused(_)) => true,
+        Answer::Replied(EventReply::Replied(Reply::Refused(_))) => true,
         Answer::Replied(_) => false,
         Answer::BadLine | Answer::CutLine => true,
     }
@@ -87,7 +94,7 @@ pub(crate) fn put_answer<W: Write>(
     ensures err { IfErr result (λ fault. fault ≡ ScriptFault.Write) }
 {
     match answer {
-        Answer::Replied(reply) => put_reply(waiting, out, reply)?,
+        Answer::Replied(reply) => put_event_reply(waiting, out, reply)?,
         Answer::BadLine => waiting.put(out, b"refused L1 BadLine\n")?,
         Answer::CutLine => waiting.put(out, b"refused L2 CutLine\n")?,
     }

@@ -2,13 +2,13 @@
 
 ghost use Rattle.std.specs.Prelude.{◌≡◌, IfOk, IfErr};
 ghost use Rattle.commands.specs.DiskScript.{FinishesOnDisk, StopsOnDisk};
-ghost use Rattle.commands.specs.DiskStep.{DiskStep};
+ghost use Rattle.commands.specs.EventStep.{EventStep};
 ghost use Rattle.commands.specs.Script.{StopsWriting};
 
 use crate::fault::ScriptFault;
 use crate::script::run_script;
 use crate::summary::Summary;
-use disk_registry::Registry;
+use binders::Binders;
 use sector_disk::Disk;
 use std::alloc::Global;
 use std::io::{Read, Write};
@@ -21,7 +21,7 @@ pub fn run_script_on_disk<R: Read, W: Write, D: Disk>(
     alloc: Global,
     reader: &mut R,
     writer: &mut W,
-    registry: &mut Registry<D>,
+    binders: &mut Binders<D>,
 ) -> Result<Summary, ScriptFault>
     // All was read, and the commands of the lines are a run.
     ensures ok { IfOk result (FinishesOnDisk D.facts (record {
@@ -29,7 +29,7 @@ pub fn run_script_on_disk<R: Read, W: Write, D: Disk>(
       before = W.contents writer.old;
       after = W.contents writer.new;
     })
-        registry.old registry.new) }
+        binders.old binders.new) }
 
     // It ended early: the commands of the lines that were answered are a run, and no other was
     // applied.
@@ -38,16 +38,16 @@ pub fn run_script_on_disk<R: Read, W: Write, D: Disk>(
       before = W.contents writer.old;
       after = W.contents writer.new;
     })
-        registry.old registry.new) }
+        binders.old binders.new) }
 
     // After a failed write: what the writer held before it.
     ensures sent { IfErr result (λ fault. fault ≡ ScriptFault.Write
-        → (held : W) × StopsWriting (DiskStep D.facts) (record {
+        → (held : W) × StopsWriting (EventStep D.facts) (record {
           unread = R.remaining reader.old;
           before = W.contents writer.old;
           after = W.contents writer.new;
         })
-        registry.old registry.new (W.contents held)) }
+        binders.old binders.new (W.contents held)) }
 {
-    run_script(alloc, reader, writer, registry)
+    run_script(alloc, reader, writer, binders)
 }

@@ -9,13 +9,13 @@
 mod access;
 mod action;
 mod answer;
-mod applies;
 mod arguments;
 mod asked;
 mod base;
 mod command;
 mod disk;
 mod disk_script;
+mod event_reply;
 mod fault;
 mod file;
 mod hexadecimal;
@@ -31,6 +31,7 @@ mod show;
 mod status;
 mod streams;
 mod summary;
+mod takes_events;
 #[cfg(test)]
 mod tests;
 mod unread;
@@ -38,7 +39,6 @@ mod watched;
 mod word;
 
 pub use action::{Action, read_words};
-pub use applies::Applies;
 pub use arguments::{read_arguments, run_arguments};
 pub use command::run_words;
 pub use disk_script::run_script_on_disk;
@@ -48,3 +48,4 @@ pub use script::run_script;
 pub use show::{Shown, run_image};
 pub use streams::StandardStreams;
 pub use summary::Summary;
+pub use takes_events::TakesEvents;

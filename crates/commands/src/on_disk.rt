@@ -4,13 +4,13 @@ ghost use Rattle.std.specs.Prelude.{◌≡◌, false, map, string_bytes, IfOk};
 ghost use Rattle.registry.specs.Request.{request_of};
 ghost use Rattle.registry.specs.declared.reply.Reply.{Reply};
 ghost use Rattle.commands.specs.Base.{base_of};
+ghost use Rattle.commands.specs.DiskStep.{DiskStep};
 ghost use Rattle.commands.specs.Outcome.{Asks};
 ghost use Rattle.commands.specs.Words as words;
 ghost use Rattle.commands.specs.inside.Ends.{BindEnds, IsFormatted, IsWritten, Replied};
 ghost use Rattle.commands.specs.inside.Ends.{UpgradeEnds, is_told};
 
 use crate::access::access_of;
-use crate::applies::Applies;
 use crate::base::parse_base;
 use crate::disk::{make_registry, open_registry, turn_away, upgrade_registry};
 use crate::file::read_file;
@@ -18,25 +18,34 @@ use crate::message::bad_base;
 use crate::reply::write_reply;
 use crate::status::{Status, reply_status};
 use crate::unread::{no_memory, not_read};
+use disk_registry::Registry;
 use registry::{Command, Reply};
+use sector_disk::Disk;
 use std::alloc::{AllocError, Global};
 use std::io::Write;
 use std::rt::Files;
 
-/// Applies a command, and writes the reply.
-pub(crate) fn answer<G: Applies, O: Write>(
-    registry: &mut G,
+/// Writes a reply.
+pub(crate) fn tell<O: Write>(reply: &Reply, output: &mut O) -> Status
+    ensures { IsWritten reply.now (O.contents output.old) (O.contents output.new) result }
+{
+    match write_reply(output, reply) {
+        Ok(()) => reply_status(reply),
+        Err(_) => Status::Failed,
+    }
+}
+
+/// Applies a command to a registry, and writes the reply.
+fn answer<D: Disk, O: Write>(
+    registry: &mut Registry<D>,
     command: &Command<'_>,
     output: &mut O,
 ) -> Status
-    ensures { (reply : Reply) × G.step registry.old (request_of command.now) reply registry.new
-        × IsWritten reply (O.contents output.old) (O.contents output.new) result }
+    ensures { (reply : Reply) × DiskStep D.facts registry.old (request_of command.now) reply
+        registry.new × IsWritten reply (O.contents output.old) (O.contents output.new) result }
 {
     let reply = registry.apply(command);
-    match write_reply(output, &reply) {
-        Ok(()) => reply_status(&reply),
-        Err(_) => Status::Failed,
-    }
+    tell(&reply, output)
 }
 
 /// Applies a command to the registry on a disk, and writes the reply.

@@ -9,17 +9,17 @@ ghost use Rattle.text_output.specs.Sends.{Sends};
 ghost use Rattle.commands.specs.Answer.{LineStep, answer_text, is_refused};
 ghost use Rattle.commands.specs.Line.{AsksNoChange, is_no_change, meaning};
 ghost use Rattle.commands.specs.Script.{Breaks, Ends, Finishes, Held, Stops, StopsWriting};
-ghost use Rattle.commands.specs.inside.Asked.{request_asked};
+ghost use Rattle.commands.specs.inside.Asked.{happening_asked};
 ghost use Rattle.commands.specs.inside.Progress.{GotLine, HasLine, Misses, Stepped, Told, Unread};
 ghost use Rattle.commands.specs.declared.answer.Answer.{Answer};
 
 use crate::answer::{Answer, answer_asked, asks_change, is_refused, put_answer};
-use crate::applies::Applies;
 use crate::asked::{Asked, parse_line};
 use crate::fault::ScriptFault;
 use crate::reading::{Got, read_line};
 use crate::refusal::Line;
 use crate::summary::Summary;
+use crate::takes_events::TakesEvents;
 use std::alloc::Global;
 use std::io::{BufReader, Read, Write};
 
@@ -27,45 +27,45 @@ use std::io::{BufReader, Read, Write};
 const PAGE: usize = 0x10000;
 
 /// Answers a line that asks for no change: the answer waits.
-fn answer_later<W: Write, G: Applies>(
+fn answer_later<W: Write, G: TakesEvents>(
     asked: &Option<Asked<'_>>,
     waiting: &mut Line,
     writer: &mut W,
-    registry: &mut G,
+    binders: &mut G,
 ) -> Result<bool, ScriptFault>
     ensures ok { IfOk result (λ refused. (line : List ℕ)
-        → option_map request_asked asked.now ≡ meaning line → (answer : Answer)
-        × LineStep G.step registry.old line answer registry.new
+        → option_map happening_asked asked.now ≡ meaning line → (answer : Answer)
+        × LineStep G.step binders.old line answer binders.new
         × Sends (W.contents writer.old) waiting.old (W.contents writer.new) waiting.new
         (answer_text answer)
         × (refused ≡ is_refused answer)) }
     ensures err { IfErr result (λ fault. (fault ≡ ScriptFault.Write) × ((line : List ℕ)
-        → option_map request_asked asked.now ≡ meaning line
-        → Stepped G.step registry.old line registry.new)) }
+        → option_map happening_asked asked.now ≡ meaning line
+        → Stepped G.step binders.old line binders.new)) }
 {
-    let answer = answer_asked(registry, asked);
+    let answer = answer_asked(binders, asked);
     put_answer(waiting, writer, &answer)?;
     Ok(is_refused(&answer))
 }
 
 /// Answers a line that asks for a change, and sends the answer. Nothing waits by then.
-fn answer_at_once<W: Write, G: Applies>(
+fn answer_at_once<W: Write, G: TakesEvents>(
     asked: &Option<Asked<'_>>,
     waiting: &mut Line,
     writer: &mut W,
-    registry: &mut G,
+    binders: &mut G,
 ) -> Result<bool, ScriptFault>
     requires { waiting.old.waiting ≡ [] }
     ensures ok { IfOk result (λ refused. (waiting.new.waiting ≡ []) × ((line : List ℕ)
-        → option_map request_asked asked.now ≡ meaning line → (answer : Answer)
-        × LineStep G.step registry.old line answer registry.new
+        → option_map happening_asked asked.now ≡ meaning line → (answer : Answer)
+        × LineStep G.step binders.old line answer binders.new
         × Appends (W.contents writer.old) (W.contents writer.new) (answer_text answer)
         × (refused ≡ is_refused answer))) }
     ensures err { IfErr result (λ fault. (fault ≡ ScriptFault.Write) × ((line : List ℕ)
-        → option_map request_asked asked.now ≡ meaning line
-        → Stepped G.step registry.old line registry.new)) }
+        → option_map happening_asked asked.now ≡ meaning line
+        → Stepped G.step binders.old line binders.new)) }
 {
-    let answer = answer_asked(registry, asked);
+    let answer = answer_asked(binders, asked);
     put_answer(waiting, writer, &answer)?;
     waiting.send(writer)?;
     Ok(is_refused(&answer))
@@ -73,20 +73,20 @@ fn answer_at_once<W: Write, G: Applies>(
 
 /// Answers a whole line, and says whether it was refused. Whatever waits is sent before a change is
 /// made, and so is the answer to it.
-fn answer_whole<W: Write, G: Applies>(
+fn answer_whole<W: Write, G: TakesEvents>(
     alloc: Global,
     line: &[u8],
     waiting: &mut Line,
     writer: &mut W,
-    registry: &mut G,
+    binders: &mut G,
 ) -> Result<bool, ScriptFault>
     ensures ok { IfOk result (λ refused. (answer : Answer)
-        × LineStep G.step registry.old line.now answer registry.new
+        × LineStep G.step binders.old line.now answer binders.new
         × Sends (W.contents writer.old) waiting.old (W.contents writer.new) waiting.new
         (answer_text answer)
         × (refused ≡ is_refused answer)) }
     ensures sent { IfOk result (λ _. (waiting.new.waiting ≡ []) ⊎ AsksNoChange line.now) }
-    ensures err { IfErr result (Misses G.step W.contents registry.old registry.new
+    ensures err { IfErr result (Misses G.step W.contents binders.old binders.new
         (append_known (W.contents writer.old) waiting.old.waiting)
         (append_known (W.contents writer.new) waiting.new.waiting) line.now) }
 {
@@ -95,10 +95,10 @@ fn answer_whole<W: Write, G: Applies>(
         Err(_) => return Err(ScriptFault::OutOfMemory),
     };
     if !asks_change(&asked) {
-        return answer_later(&asked, waiting, writer, registry);
+        return answer_later(&asked, waiting, writer, binders);
     }
     waiting.send(writer)?;
-    answer_at_once(&asked, waiting, writer, registry)
+    answer_at_once(&asked, waiting, writer, binders)
 }
 
 /// Reads the next line. The reader is asked where no newline is left of what was read before; then
@@ -148,12 +148,12 @@ fn next_line<R: Read, W: Write>(
 }
 
 /// Answers the lines of a script; some of the answers may wait at the end.
-fn run_lines<R: Read, W: Write, G: Applies>(
+fn run_lines<R: Read, W: Write, G: TakesEvents>(
     alloc: Global,
     pages: &mut BufReader<&mut R>,
     waiting: &mut Line,
     writer: &mut W,
-    registry: &mut G,
+    binders: &mut G,
 ) -> Result<Summary, ScriptFault>
     requires { waiting.old.waiting ≡ [] }
     ensures ok { IfOk result (λ summary. (held : W)
@@ -163,7 +163,7 @@ fn run_lines<R: Read, W: Write, G: Applies>(
           before = W.contents writer.old;
           after = append_known (W.contents writer.new) waiting.new.waiting;
         })
-        registry.old registry.new summary whole cut answers
+        binders.old binders.new summary whole cut answers
         × Told (W.contents writer.old) (W.contents held) whole answers) }
     ensures err { IfErr result (λ fault. (held : W)
         × (whole : List (List ℕ)) × (part : List ℕ) × (answers : List Answer)
@@ -172,7 +172,7 @@ fn run_lines<R: Read, W: Write, G: Applies>(
           before = W.contents writer.old;
           after = append_known (W.contents writer.new) waiting.new.waiting;
         })
-        registry.old registry.new fault whole part answers
+        binders.old binders.new fault whole part answers
         × Held (W.contents writer.old) (W.contents held) whole answers) }
 {
     let mut line = Vec::new(alloc);
@@ -183,7 +183,7 @@ fn run_lines<R: Read, W: Write, G: Applies>(
     for _ in 0..u64::MAX {
         match next_line(pages, &mut line, waiting, writer)? {
             Got::Whole => {
-                let refused = answer_whole(alloc, &line, waiting, writer, registry)?;
+                let refused = answer_whole(alloc, &line, waiting, writer, binders)?;
                 summary.count(refused);
             }
             Got::Cut => {
@@ -210,24 +210,24 @@ fn run_lines<R: Read, W: Write, G: Applies>(
 /// reader is asked again, and at the end. So after a fault of the writer the line in work was
 /// applied, and how much of its answer the writer took is open; or the lines whose answers are open
 /// change nothing.
-pub fn run_script<R: Read, W: Write, G: Applies>(
+pub fn run_script<R: Read, W: Write, G: TakesEvents>(
     alloc: Global,
     reader: &mut R,
     writer: &mut W,
-    registry: &mut G,
+    binders: &mut G,
 ) -> Result<Summary, ScriptFault>
     ensures ok { IfOk result (Finishes G.step (record {
       unread = R.remaining reader.old;
       before = W.contents writer.old;
       after = W.contents writer.new;
     })
-        registry.old registry.new) }
+        binders.old binders.new) }
     ensures err { IfErr result (Stops G.step (record {
       unread = R.remaining reader.old;
       before = W.contents writer.old;
       after = W.contents writer.new;
     })
-        registry.old registry.new) }
+        binders.old binders.new) }
 
     // After a failed write: what the writer held before it.
     ensures sent { IfErr result (λ fault. fault ≡ ScriptFault.Write
@@ -236,13 +236,13 @@ pub fn run_script<R: Read, W: Write, G: Applies>(
           before = W.contents writer.old;
           after = W.contents writer.new;
         })
-        registry.old registry.new (W.contents held)) }
+        binders.old binders.new (W.contents held)) }
 {
     let Ok(mut pages) = BufReader::with_capacity(alloc, PAGE, reader) else {
         return Err(ScriptFault::OutOfMemory);
     };
     let mut waiting = Line::new();
-    let ended = run_lines(alloc, &mut pages, &mut waiting, writer, registry);
+    let ended = run_lines(alloc, &mut pages, &mut waiting, writer, binders);
     waiting.send(writer)?;
     ended
 }

@@ -5,26 +5,27 @@ ghost use Rattle.commands.specs.inside.Ends.{IsRun, ScriptEnds, is_told};
 ghost use Rattle.commands.specs.declared.status.Status.TheVariants.{BadWords, Done};
 
 use crate::access::Access;
-use crate::applies::Applies;
 use crate::disk::{open_registry, turn_away};
 use crate::script::run_script;
 use crate::status::{Status, fault_status, lines_status};
+use crate::takes_events::TakesEvents;
 use crate::watched::Watched;
+use binders::Binders;
 use std::alloc::Global;
 use std::io::{Read, Write};
 use std::rt::Files;
 
-/// Runs a script over a registry none of whose replies was watched yet, and gives the greatest
-/// status of all that happened.
+/// Runs a script over a registry with binders none of whose replies was watched yet, and gives the
+/// greatest status of all that happened.
 #[tactic(auto, using(crate::proofs::Statuses::after_lines, crate::proofs::Statuses::after_fault))]
-pub(crate) fn run_watched<I: Read, O: Write, G: Applies>(
+pub(crate) fn run_watched<I: Read, O: Write, G: TakesEvents>(
     alloc: Global,
     input: &mut I,
     output: &mut O,
     watched: &mut Watched<G>,
 ) -> Status
     requires { watched.old.worst ≡ Done }
-    ensures run { IsRun G.step watched.old.registry watched.new.registry (record {
+    ensures run { IsRun G.step watched.old.binders watched.new.binders (record {
       unread = I.remaining input.old;
       before = O.contents output.old;
       after = O.contents output.new;
@@ -57,12 +58,12 @@ pub(crate) fn script<R: Files, I: Read, O: Write, E: Write>(
     match open_registry(rt, alloc, disk, Access::Writing) {
         Ok(registry) => {
             let mut watched = Watched {
-                registry,
+                binders: Binders::new(alloc, registry),
                 worst: Status::Done,
             };
             let status = run_watched(alloc, input, output, &mut watched);
-            let Watched { registry, worst: _ } = watched;
-            drop(registry.into_disk());
+            let Watched { binders, worst: _ } = watched;
+            drop(binders.into_registry().into_disk());
             status
         }
         Err(why) => turn_away(why, disk, output, errors),

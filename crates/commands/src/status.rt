@@ -2,10 +2,12 @@
 
 ghost use Rattle.std.specs.Prelude.{◌≡◌};
 ghost use Rattle.commands.specs.Status.{status_number, greatest, status_of, refusal_status};
-ghost use Rattle.commands.specs.Status.{reply_status, disk_status, fault_status, lines_status};
+ghost use Rattle.commands.specs.Status.{reply_status, event_status, disk_status, fault_status};
+ghost use Rattle.commands.specs.Status.{lines_status};
 
 use crate::fault::ScriptFault;
 use crate::show::Shown;
+use binders::EventReply;
 use image::BindRefusal;
 use registry::{Refusal, Reply};
 use store::StoreRefusal;
@@ -75,6 +77,16 @@ pub(crate) fn reply_status(reply: &Reply) -> Status
     match reply {
         Reply::Refused(refusal) => refusal_status(refusal),
         _ => Status::Done,
+    }
+}
+
+/// What an event ends with that is answered so.
+pub(crate) fn event_status(reply: &EventReply) -> Status
+    ensures { result ≡ event_status reply.now }
+{
+    match reply {
+        EventReply::Replied(reply) => reply_status(reply),
+        EventReply::Slot(_) | EventReply::Going => Status::Done,
     }
 }
 

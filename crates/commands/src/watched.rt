@@ -1,14 +1,14 @@
-// A registry, and how bad its replies are.
+// A registry with binders, and how bad its replies are.
 
 ghost use Rattle.std.specs.Prelude.{◌≢◌};
 ghost use Rattle.commands.specs.declared.status.Status.TheVariants.{BadWords};
 
 use crate::status::Status;
 
-/// A registry, and the greatest of the statuses of its replies.
+/// A registry with binders, and the greatest of the statuses of its replies.
 #[derive(Drop)]
 pub(crate) struct Watched<G> {
-    pub(crate) registry: G,
+    pub(crate) binders: G,
     pub(crate) worst: Status,
     // No reply is about words.
     ghost answers: { worst ≢ BadWords },

@@ -5,7 +5,7 @@ ghost use Rattle.std.specs.List.{list_all, slice_split};
 ghost use Rattle.std.specs.Option.{option_map};
 ghost use Rattle.commands.specs.Base.{base_of};
 ghost use Rattle.commands.specs.Line.{is_visible, is_name, named, names_behind};
-ghost use Rattle.commands.specs.Line.{word_in_front};
+ghost use Rattle.commands.specs.Line.{slot_of, word_in_front};
 
 use crate::base::parse_base;
 use std::alloc::{AllocError, Global};
@@ -85,5 +85,15 @@ pub(crate) fn base_in(word: &[u8]) -> Option<u64>
     match str::from_utf8(word) {
         Ok(text) => parse_base(text),
         Err(_) => None,
+    }
+}
+
+/// The slot that a SLOT is: one decimal digit.
+pub(crate) fn slot_in(word: &[u8]) -> Option<usize>
+    ensures { result ≡ slot_of word.now }
+{
+    match word {
+        [digit] if digit.is_ascii_digit() => Some(usize::from(*digit - b'0')),
+        _ => None,
     }
 }

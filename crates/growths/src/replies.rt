@@ -3,14 +3,17 @@
 use std::alloc::{AllocError, Global};
 
 // How a reply of one line begins, and its word.
-const LINES: [(&[u8], &str); 10] = [
+const LINES: [(&[u8], &str); 13] = [
     (b"ok\n", "ok"),
+    (b"slot ", "slot"),
+    (b"going\n", "going"),
     (b"refused S11 ", "S11"),
     (b"refused S1 ", "S1"),
     (b"refused S2 ", "S2"),
     (b"refused C2 ", "C2"),
     (b"refused C3 ", "C3"),
     (b"refused C4 ", "C4"),
+    (b"refused C8 ", "C8"),
     (b"refused B3 ", "B3"),
     (b"refused L1 ", "L1"),
     (b"refused L2 ", "L2"),

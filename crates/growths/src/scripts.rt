@@ -5,6 +5,7 @@ use crate::replies::{is_not_done, replies, reply_word};
 use crate::run::{Words, opened};
 use crate::seen::{before, seen};
 use crate::steps::STEPS;
+use binders::Binders;
 use commands::{ScriptFault, run_script_on_disk};
 use sector_disk::Memory;
 use std::alloc::{AllocError, Global};
@@ -24,14 +25,18 @@ pub(crate) fn put_line(
 
 // The script, for the registry after all commands.
 fn script_lines(alloc: Global) -> Result<Vec<u8>, AllocError> {
-    let mut lines = Vec::with_capacity(alloc, 8192)?;
+    let mut lines = Vec::with_capacity(alloc, 16384)?;
     put_line(alloc, &mut lines, b"list", b"")?;
     put_line(alloc, &mut lines, b"install ", &library(b'c', 0))?;
     put_line(alloc, &mut lines, b"replace ", &library(b'a', 2))?;
     put_line(alloc, &mut lines, b"preload a c", b"")?;
     put_line(alloc, &mut lines, b"bind 0x10000 ", &program(b'a'))?;
     put_line(alloc, &mut lines, b"bind 0x10000 ", &program(b'd'))?;
+    put_line(alloc, &mut lines, b"begin 0x10000 ", &program(b'a'))?;
+    put_line(alloc, &mut lines, b"begin 0x10000 ", &program(b'd'))?;
     put_line(alloc, &mut lines, b"preload b", b"")?;
+    put_line(alloc, &mut lines, b"advance 0", b"")?;
+    put_line(alloc, &mut lines, b"cancel 1", b"")?;
     put_line(alloc, &mut lines, b"install ", &library(b'c', 1))?;
     put_line(alloc, &mut lines, b"remove c", b"")?;
     put_line(alloc, &mut lines, b"lists", b"")?;
@@ -41,8 +46,9 @@ fn script_lines(alloc: Global) -> Result<Vec<u8>, AllocError> {
 }
 
 // What its lines are answered.
-const ANSWERS: [&str; 12] = [
-    "list", "ok", "ok", "ok", "image", "B3", "ok", "C2", "ok", "L1", "C3", "L2",
+const ANSWERS: [&str; 16] = [
+    "list", "ok", "ok", "ok", "image", "B3", "slot", "slot", "ok", "going", "ok", "C2", "ok", "L1",
+    "C3", "L2",
 ];
 
 // What a script wrote, whether it ended early, and the disk.
@@ -56,13 +62,13 @@ struct Ran {
 // Runs a script over a disk, to a writer that has room.
 fn run(alloc: Global, disk: Memory, lines: &[u8]) -> Result<Ran, AllocError> {
     let mut text = Vec::with_capacity(alloc, 32768)?;
-    let mut registry = opened(alloc, disk)?;
+    let mut binders = Binders::new(alloc, opened(alloc, disk)?);
     let mut reader = lines;
-    let ran = run_script_on_disk(alloc, &mut reader, &mut text, &mut registry);
+    let ran = run_script_on_disk(alloc, &mut reader, &mut text, &mut binders);
     Ok(Ran {
         text,
         fault: ran.err(),
-        disk: registry.into_disk().into_inner(),
+        disk: binders.into_registry().into_disk().into_inner(),
     })
 }
 

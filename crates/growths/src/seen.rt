@@ -7,6 +7,7 @@ use crate::format::zeros;
 use crate::run::opened;
 use crate::scripts::put_line;
 use crate::steps::STEPS;
+use binders::Binders;
 use commands::run_script_on_disk;
 use disk_registry::Registry;
 use sector_disk::Memory;
@@ -29,10 +30,10 @@ pub(crate) fn seen(alloc: Global, disk: Memory) -> Result<Vec<u8>, AllocError> {
     put_line(alloc, &mut lines, b"list", b"")?;
     put_line(alloc, &mut lines, b"bind 0x10000 ", &program(b'a'))?;
     put_line(alloc, &mut lines, b"bind 0x10000 ", &library(b'p', 0))?;
-    let mut registry = opened(alloc, disk)?;
+    let mut binders = Binders::new(alloc, opened(alloc, disk)?);
     let mut text = Vec::new(alloc);
-    let ran = run_script_on_disk(alloc, &mut lines.as_slice(), &mut text, &mut registry);
-    let _ = registry.into_disk();
+    let ran = run_script_on_disk(alloc, &mut lines.as_slice(), &mut text, &mut binders);
+    let _ = binders.into_registry().into_disk();
     match ran {
         Ok(_) => Ok(text),
         Err(_) => Err(AllocError),

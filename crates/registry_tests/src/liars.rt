@@ -4,6 +4,7 @@ use crate::files::{SIZE, file};
 use crate::harms::{OLD_ROWS, ROWS, Wanted};
 use crate::scripts::{LINES, answers, script};
 use crate::sectors::{Sectors, harmed, old_library, one_library};
+use binders::Binders;
 use commands::{ScriptFault, Summary, run_script_on_disk};
 use disk_registry::Registry;
 use registry::Command;
@@ -44,10 +45,10 @@ fn run(
 ) -> Result<Result<Summary, ScriptFault>, StoreRefusal> {
     match made {
         Ok(registry) => {
-            let mut registry = registry;
+            let mut binders = Binders::new(alloc, registry);
             let mut reader = script;
-            let ended = run_script_on_disk(alloc, &mut reader, output, &mut registry);
-            let _ = registry.into_disk();
+            let ended = run_script_on_disk(alloc, &mut reader, output, &mut binders);
+            let _ = binders.into_registry().into_disk();
             Ok(ended)
         }
         Err((refusal, _)) => Err(refusal),

@@ -8,6 +8,8 @@ use Rattle.commands.specs.declared.show.Shown.TheVariants as shown
 use Rattle.commands.specs.declared.status.Status.{Status}
 use Rattle.commands.specs.declared.status.Status.TheVariants.{Done, Refused, BadWords, Failed, NoMemory}
 use Rattle.registry.specs.Request.{Request}
+use Rattle.binders.specs.Events.{Happening}
+use Rattle.binders.specs.declared.event.EventReply.{EventReply}
 use Rattle.store.specs.declared.refusal.StoreRefusal.{StoreRefusal}
 use Rattle.commands.specs.declared.disk.NoRegistry.{NoRegistry}
 use Rattle.commands.specs.declared.disk.NoRegistry.TheVariants as no
@@ -102,8 +104,8 @@ abbrev pub UpgradeEnds : (F : Type 0) → Option (List ℕ) → Option (List ℕ
 UpgradeEnds F before after Done = Upgrades F before after
 UpgradeEnds F before after status = IsTurnedAway IsUpgradeRefusal before after status
 
--- what a script over a registry ends with
-abbrev pub IsRun : {S : Type 0} → (S → Request → Reply → S → Type 0) → S → S → Streams → Status → Type 0
+-- what a script over a registry with binders ends with
+abbrev pub IsRun : {S : Type 0} → (S → Happening → EventReply → S → Type 0) → S → S → Streams → Status → Type 0
 IsRun step s s' io status = RunsThrough step s s' io status ⊎ EndsEarly step s s' io status
 
 -- what a script over a disk ends with

@@ -3,9 +3,9 @@ use Rattle.std.specs.Prelude.{◌≡◌, ◌==◌, true, ◌⊎◌, ◌++◌, �
 use Rattle.std.specs.List.{flat_map, list_any}
 use Rattle.std.specs.Io.{StopsAt}
 use Rattle.std.specs.Io.KnownBytes.{Appends, Consumes}
-use Rattle.registry.specs.Request.{Request}
 use Rattle.registry.specs.Runs.{Run}
-use Rattle.registry.specs.declared.reply.Reply.{Reply}
+use Rattle.binders.specs.Events.{Happening}
+use Rattle.binders.specs.declared.event.EventReply.{EventReply}
 use Rattle.commands.specs.Answer.{LineStep, output}
 use Rattle.commands.specs.Line.{AsksNoChange}
 use Rattle.commands.specs.Script.{IsLine, ended, Counts}
@@ -40,7 +40,7 @@ pub record Place : Type 0 where
   pub unread : Option (List ℕ)
   pub written : Option (List ℕ)
 
-module _ {S : Type 0} (step : S → Request → Reply → S → Type 0) where
+module _ {S : Type 0} (step : S → Happening → EventReply → S → Type 0) where
   -- Whole lines were read, answered one after the other, and their answers written.
   pub record Answered (p q : Place) (s t : S) (summary : Summary) (whole : List (List ℕ)) (answers : List Answer) : Type 0 where
     pub read : Consumes p.unread q.unread (flat_map ended whole)

@@ -1,10 +1,10 @@
--- The steps of a registry whose replies are watched.
+-- The steps of a registry with binders whose replies are watched.
 use Rattle.std.specs.Prelude.{◌≡◌}
-use Rattle.registry.specs.Request.{Request}
-use Rattle.registry.specs.declared.reply.Reply.{Reply}
-use Rattle.commands.specs.Status.{greatest, reply_status}
+use Rattle.binders.specs.Events.{Happening}
+use Rattle.binders.specs.declared.event.EventReply.{EventReply}
+use Rattle.commands.specs.Status.{greatest, event_status}
 use Rattle.commands.specs.declared.watched.Watched.{Watched}
 
--- a step of the registry, and the greatest status by then
-abbrev pub WatchedStep : {G : Type 0} → (G → Request → Reply → G → Type 0) → Watched G → Request → Reply → Watched G → Type 0
-WatchedStep step old request reply new = step old.registry request reply new.registry × (new.worst ≡ greatest old.worst (reply_status reply))
+-- a step of what is watched, and the greatest status by then
+abbrev pub WatchedStep : {G : Type 0} → (G → Happening → EventReply → G → Type 0) → Watched G → Happening → EventReply → Watched G → Type 0
+WatchedStep step old happening reply new = step old.binders happening reply new.binders × (new.worst ≡ greatest old.worst (event_status reply))

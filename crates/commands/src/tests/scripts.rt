@@ -4,7 +4,8 @@ ghost use Rattle.std.specs.Prelude.{⊤};
 
 use crate::tests::samples::of_segments;
 use crate::tests::streams::{Full, Stops};
-use crate::{Applies, ScriptFault, Summary, run_script};
+use crate::{ScriptFault, Summary, TakesEvents, run_script};
+use binders::{Binders, Event, EventReply};
 use disk_registry::Registry;
 use registry::{Command, Reply};
 use sector_disk::Memory;
@@ -14,27 +15,30 @@ use std::io::{ErrorKind, Read};
 use std::process::Abort;
 use std::test::Fail;
 
-/// Done to every command, and what was asked.
+/// Done to every event, and what was asked.
 #[derive(Drop)]
 struct Asked {
-    /// A letter for each command.
+    /// A letter for each event.
     letters: Vec<u8>,
 }
 
-impl Applies for Asked {
+impl TakesEvents for Asked {
     ghost step = { λ _ _ _ _. ⊤ };
 
-    fn apply(&mut self, command: &Command<'_>) -> Reply {
-        let letter = match command {
-            Command::Install(_) => b'i',
-            Command::Replace(_) => b'r',
-            Command::Remove(_) => b'd',
-            Command::SetPreloads(_) => b'p',
-            Command::Bind { .. } => b'b',
-            Command::List => b'l',
+    fn happen(&mut self, event: &Event<'_>) -> EventReply {
+        let letter = match event {
+            Event::Apply(Command::Install(_)) => b'i',
+            Event::Apply(Command::Replace(_)) => b'r',
+            Event::Apply(Command::Remove(_)) => b'd',
+            Event::Apply(Command::SetPreloads(_)) => b'p',
+            Event::Apply(Command::Bind { .. }) => b'b',
+            Event::Apply(Command::List) => b'l',
+            Event::Begin { .. } => b'g',
+            Event::Advance(_) => b'a',
+            Event::Cancel(_) => b'c',
         };
         let _ = self.letters.push(letter);
-        Reply::Done
+        EventReply::Replied(Reply::Done)
     }
 }
 
@@ -90,16 +94,16 @@ fn each_form_of_line_asks_its_command(rt: HostRuntime) -> Result<(), Fail> {
         "F\nrepl",
         "ace 00\nremove !~\n",
         "preload\npreload a b\nbind 0x",
-        "1 00\nlist\n",
-        "list \n\nlist",
+        "1 00\nlist\nbegin 0x2 00\nadvance 0\n",
+        "cancel 9\nlist \n\nlist",
     ];
     let summary = run_texts(alloc, &texts, None, &mut asked, &mut output)?;
-    assert_eq!(rt; summary.lines, 10);
+    assert_eq!(rt; summary.lines, 13);
     assert_eq!(rt; summary.refused, 3);
-    assert_eq!(rt; asked.letters.as_slice(), b"irdppbl".as_slice());
+    assert_eq!(rt; asked.letters.as_slice(), b"irdppblgac".as_slice());
     assert_eq!(rt;
         output.as_slice(),
-        b"ok\nok\nok\nok\nok\nok\nok\n\
+        b"ok\nok\nok\nok\nok\nok\nok\nok\nok\nok\n\
         refused L1 BadLine\nrefused L1 BadLine\nrefused L2 CutLine\n"
             .as_slice()
     );
@@ -179,10 +183,10 @@ fn a_writer_fails_at_each_write(rt: HostRuntime) -> Result<(), Fail> {
     Ok(())
 }
 
-/// A new registry on a disk of 8 sectors.
-fn registry(alloc: Global) -> Result<Registry<Memory>, Fail> {
+/// A new registry on a disk of 8 sectors, without binders.
+fn registry(alloc: Global) -> Result<Binders<Memory>, Fail> {
     match Registry::format(alloc, Memory::new(alloc, 8)?) {
-        Ok(registry) => Ok(registry),
+        Ok(registry) => Ok(Binders::new(alloc, registry)),
         Err(_) => Err("refused".into()),
     }
 }
@@ -192,7 +196,7 @@ fn registry(alloc: Global) -> Result<Registry<Memory>, Fail> {
 fn stops_after(
     rt: &impl Abort,
     alloc: Global,
-    registry: &mut Registry<Memory>,
+    registry: &mut Binders<Memory>,
     script: &str,
     text: &[u8],
     (writes, most): (usize, usize),
@@ -212,7 +216,7 @@ fn stops_after(
 fn stops_within(
     rt: &impl Abort,
     alloc: Global,
-    registry: &mut Registry<Memory>,
+    registry: &mut Binders<Memory>,
     script: &str,
 ) -> Result<(), Fail> {
     let mut text = Vec::new(alloc);
@@ -238,7 +242,7 @@ fn a_writer_fails_within_an_image(rt: HostRuntime) -> Result<(), Fail> {
     let script = format!(in alloc; "list\nbind 0x0 {program}\nlist\n")?;
     let mut registry = registry(alloc)?;
     let stopped = stops_within(&rt, alloc, &mut registry, &script);
-    let _ = registry.into_disk();
+    let _ = registry.into_registry().into_disk();
     stopped
 }
 
@@ -249,7 +253,7 @@ fn a_registry_runs_a_script(rt: HostRuntime) -> Result<(), Fail> {
     let mut output = Vec::new(alloc);
     let mut registry = registry(alloc)?;
     let ended = run_script(alloc, &mut text.as_bytes(), &mut output, &mut registry);
-    let _ = registry.into_disk();
+    let _ = registry.into_registry().into_disk();
     let summary = ended?;
     assert_eq!(rt; summary.lines, 6);
     assert_eq!(rt; summary.refused, 4);
@@ -257,6 +261,28 @@ fn a_registry_runs_a_script(rt: HostRuntime) -> Result<(), Fail> {
         output.as_slice(),
         b"end\nrefused C3 NotInstalled\nrefused C5 RepeatedPreload\nrefused C3 NotInstalled\nok\n\
         refused C1 E1 TooShort\n"
+            .as_slice()
+    );
+    Ok(())
+}
+
+#[test]
+fn a_registry_has_binders(rt: HostRuntime) -> Result<(), Fail> {
+    let alloc = rt.alloc();
+    let program = hex::encode(alloc, of_segments(alloc, 1)?.as_slice())?;
+    let text = format!(in alloc;
+        "begin 0x0 {program}\nbegin 0x0 00\nadvance 1\nadvance 1\nadvance 0\ncancel 0\nadvance 8\n"
+    )?;
+    let mut output = Vec::new(alloc);
+    let mut registry = registry(alloc)?;
+    let ended = run_script(alloc, &mut text.as_bytes(), &mut output, &mut registry);
+    let _ = registry.into_registry().into_disk();
+    let summary = ended?;
+    assert_eq!(rt; (summary.lines, summary.refused), (7, 3));
+    assert_eq!(rt;
+        output.as_slice(),
+        b"slot 0\nslot 1\nrefused B1 E1 TooShort\nrefused C8 NoSuchBinder\ngoing\nok\n\
+        refused C8 NoSuchBinder\n"
             .as_slice()
     );
     Ok(())

@@ -2,7 +2,8 @@
 
 ghost use Rattle.std.specs.Prelude.{⊤};
 
-use crate::{Applies, Summary, run_script};
+use crate::{Summary, TakesEvents, run_script};
+use binders::{Event, EventReply};
 use registry::{Command, Reply};
 use std::cell::Cell;
 use std::io;
@@ -59,7 +60,7 @@ impl Write for Answers<'_> {
     }
 }
 
-/// Done to every command; it notes a change that was made while an answer was missing.
+/// Done to every event; it notes a change that was made while an answer was missing.
 #[derive(Drop)]
 struct Watching<'a> {
     asked: usize,
@@ -67,16 +68,16 @@ struct Watching<'a> {
     answered: &'a Cell<usize>,
 }
 
-impl Applies for Watching<'_> {
+impl TakesEvents for Watching<'_> {
     ghost step = { λ _ _ _ _. ⊤ };
 
-    fn apply(&mut self, command: &Command<'_>) -> Reply {
-        let is_quiet = matches!(command, Command::List | Command::Bind { .. });
+    fn happen(&mut self, event: &Event<'_>) -> EventReply {
+        let is_quiet = matches!(event, Event::Apply(Command::List | Command::Bind { .. }));
         if !is_quiet && self.answered.get() != self.asked {
             self.is_early = true;
         }
         self.asked = self.asked.saturating_add(1);
-        Reply::Done
+        EventReply::Replied(Reply::Done)
     }
 }
 

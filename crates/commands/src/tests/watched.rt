@@ -2,40 +2,49 @@
 
 ghost use Rattle.std.specs.Prelude.{⊤};
 
-use crate::Applies;
-use crate::on_disk::answer;
+use crate::TakesEvents;
+use crate::on_disk::tell;
 use crate::script_on_disk::run_watched;
 use crate::status::Status;
 use crate::tests::streams::{Full, Turn, Turns};
 use crate::watched::Watched;
+use binders::{Event, EventReply};
 use image::BindRefusal;
 use registry::{Command, Refusal, Reply};
 use std::io::ErrorKind;
 use std::test::Fail;
 
-/// Answers by the name that a removal has, or by the number of preloads.
+/// Answers by the name that a removal has.
 #[derive(Drop)]
 struct Answers;
 
-impl Applies for Answers {
+impl TakesEvents for Answers {
     ghost step = { λ _ _ _ _. ⊤ };
 
-    fn apply(&mut self, command: &Command<'_>) -> Reply {
-        match command {
-            Command::Remove(b"device") => Reply::Refused(Refusal::Device),
-            Command::Remove(b"reopen") => Reply::Refused(Refusal::Reopen),
-            Command::Remove(b"memory") => Reply::Refused(Refusal::OutOfMemory),
-            Command::Remove(b"bind") => Reply::Refused(Refusal::Bind(BindRefusal::OutOfMemory)),
-            Command::Remove(b"full") => Reply::Refused(Refusal::Full),
+    fn happen(&mut self, event: &Event<'_>) -> EventReply {
+        EventReply::Replied(match event {
+            Event::Apply(Command::Remove(name)) => reply_to(name),
             _ => Reply::Done,
-        }
+        })
+    }
+}
+
+/// The reply to a removal of this name.
+fn reply_to(name: &[u8]) -> Reply {
+    match name {
+        b"device" => Reply::Refused(Refusal::Device),
+        b"reopen" => Reply::Refused(Refusal::Reopen),
+        b"memory" => Reply::Refused(Refusal::OutOfMemory),
+        b"bind" => Reply::Refused(Refusal::Bind(BindRefusal::OutOfMemory)),
+        b"full" => Reply::Refused(Refusal::Full),
+        _ => Reply::Done,
     }
 }
 
 /// The status of a script over these answers.
 fn status_of(rt: &HostRuntime, text: &str) -> Status {
     let mut watched = Watched {
-        registry: Answers,
+        binders: Answers,
         worst: Status::Done,
     };
     let mut output = Vec::new(rt.alloc());
@@ -71,7 +80,7 @@ fn streams_that_fail_are_status_3_or_4(rt: HostRuntime) {
         (ErrorKind::OutOfMemory, Status::NoMemory),
     ] {
         let mut watched = Watched {
-            registry: Answers,
+            binders: Answers,
             worst: Status::Done,
         };
         let mut output = Vec::new(rt.alloc());
@@ -86,7 +95,7 @@ fn streams_that_fail_are_status_3_or_4(rt: HostRuntime) {
         ("remove memory\n", Status::NoMemory),
     ] {
         let mut watched = Watched {
-            registry: Answers,
+            binders: Answers,
             worst: Status::Done,
         };
         let mut output = Full::with_room(2);
@@ -107,7 +116,7 @@ fn a_reply_has_its_status(rt: HostRuntime) {
         (b"memory", 23, Status::Failed),
     ] {
         let mut output = Full::with_room(room);
-        let ended = answer(&mut Answers, &Command::Remove(name), &mut output);
+        let ended = tell(&reply_to(name), &mut output);
         assert_eq!(rt; ended, status);
     }
 }

@@ -12,14 +12,14 @@ pub returns-clause-ok : goal.returns-clause-ok
 returns-clause-ok g c =
     let facts = g.D.Disk.facts in
     let io : Streams = streams (g.R.Read.remaining c.args.reader.now) (g.W.Write.contents c.args.writer.now) (g.W.Write.contents c.run_script.new.writer) in
-    let old = c.args.registry.now in
-    let new = c.run_script.new.registry in
+    let old = c.args.binders.now in
+    let new = c.run_script.new.binders in
     IfOk-weaker c.run_script.result _ (FinishesOnDisk facts io old new) (λ summary. finishes_on_disk facts io old new summary) c.run_script.ensures.ok
 
 pub returns-clause-err : goal.returns-clause-err
 returns-clause-err g c =
     let facts = g.D.Disk.facts in
     let io : Streams = streams (g.R.Read.remaining c.args.reader.now) (g.W.Write.contents c.args.writer.now) (g.W.Write.contents c.run_script.new.writer) in
-    let old = c.args.registry.now in
-    let new = c.run_script.new.registry in
+    let old = c.args.binders.now in
+    let new = c.run_script.new.binders in
     IfErr-weaker c.run_script.result _ (StopsOnDisk facts io old new) (λ fault. stops_on_disk facts io old new fault) c.run_script.ensures.err

@@ -27,7 +27,7 @@ returns-clause-err g c =
     let mid = g.W.Write.contents c.send.new.out in
     IfErr-weaker c.answer_at_once.result _ _
     (λ fault h. subst
-    (Misses g.G.Applies.step g.W.Write.contents c.args.registry.now c.answer_at_once.new.registry (append_known held c.args.waiting.now.waiting)
+    (Misses g.G.TakesEvents.step g.W.Write.contents c.args.binders.now c.answer_at_once.new.binders (append_known held c.args.waiting.now.waiting)
     (append_known (g.W.Write.contents c.answer_at_once.new.writer) c.answer_at_once.new.waiting.waiting) line)
     (sym h.0) (inr (h.1 line c.in-Ok.ensures, inr (c.send.new.out, as_it_was held mid _ c.in_ok-send.ensures.ok))))
     c.answer_at_once.ensures.err

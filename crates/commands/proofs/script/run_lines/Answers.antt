@@ -27,8 +27,8 @@ loop-init g c =
       c.args.writer.now,
       [],
       [],
-      subst (λ k. Answered g.G.Applies.step here (place unread k) c.args.registry.now c.args.registry.now m [] []) (sym (ap (append_known held) c.requires ∙ nothing_waits held))
-          (answered_none g.G.Applies.step here c.args.registry.now m refl refl),
+      subst (λ k. Answered g.G.TakesEvents.step here (place unread k) c.args.binders.now c.args.binders.now m [] []) (sym (ap (append_known held) c.requires ∙ nothing_waits held))
+          (answered_none g.G.TakesEvents.step here c.args.binders.now m refl refl),
       told_none held,
     )
 
@@ -41,7 +41,7 @@ returns-in_err-next_line-clause-err g c =
     let held = append_known (g.W.Write.contents c.loop.writer) c.loop.waiting.waiting in
     let now = append_known (g.W.Write.contents c.next_line.new.writer) c.next_line.new.waiting.waiting in
     let failed = subst (Unread (rest c.loop.pages) (rest c.next_line.new.pages) held now line) (sym p.2) c.in_err-next_line.ensures.err in
-    rw p.1 (off_reading g.W.Write.contents g.G.Applies.step _ (place (rest c.loop.pages) held) _ _ _ so.0 so.1 so.2 so.3 so.4 (place (rest c.next_line.new.pages) now) line p.0 failed)
+    rw p.1 (off_reading g.W.Write.contents g.G.TakesEvents.step _ (place (rest c.loop.pages) held) _ _ _ so.0 so.1 so.2 so.3 so.4 (place (rest c.next_line.new.pages) now) line p.0 failed)
 
 pub returns-in_err-refused-in-Whole-clause-err : goal.returns-in_err-refused-in-Whole-clause-err
 returns-in_err-refused-in-Whole-clause-err g c =
@@ -52,13 +52,13 @@ returns-in_err-refused-in-Whole-clause-err g c =
     let held = append_known (g.W.Write.contents c.loop.writer) c.loop.waiting.waiting in
     let mid = append_known (g.W.Write.contents c.next_line.new.writer) c.next_line.new.waiting.waiting in
     let now = append_known (g.W.Write.contents c.answer_whole.new.writer) c.answer_whole.new.waiting.waiting in
-    let s = c.loop.registry in
-    let s' = c.answer_whole.new.registry in
+    let s = c.loop.binders in
+    let s' = c.answer_whole.new.binders in
     let got = subst (GotLine (rest c.loop.pages) (rest c.next_line.new.pages) line) c.in-Whole.is c.in_ok-next_line.ensures.ok in
-    let missed = subst (Misses g.G.Applies.step g.W.Write.contents s s' mid now line) (sym p.2)
-    (subst (λ l. Misses g.G.Applies.step g.W.Write.contents s s' mid now l c.in_err-refused-in-Whole.field-0.0) c.deref.ensures.value c.in_err-refused-in-Whole.ensures.err) in
+    let missed = subst (Misses g.G.TakesEvents.step g.W.Write.contents s s' mid now line) (sym p.2)
+    (subst (λ l. Misses g.G.TakesEvents.step g.W.Write.contents s s' mid now l c.in_err-refused-in-Whole.field-0.0) c.deref.ensures.value c.in_err-refused-in-Whole.ensures.err) in
     rw p.1
-    (off_line g.W.Write.contents g.G.Applies.step _ (place (rest c.loop.pages) held) _ _ _ so.0 so.1 so.2 so.3 so.4 (place (rest c.next_line.new.pages) mid) (place (rest c.next_line.new.pages) now) s' line p.0 got.0 got.1 c.in_ok-next_line.ensures.kept missed)
+    (off_line g.W.Write.contents g.G.TakesEvents.step _ (place (rest c.loop.pages) held) _ _ _ so.0 so.1 so.2 so.3 so.4 (place (rest c.next_line.new.pages) mid) (place (rest c.next_line.new.pages) now) s' line p.0 got.0 got.1 c.in_ok-next_line.ensures.kept missed)
 
 pub returns-in_err-put_answer-in-Cut-clause-err : goal.returns-in_err-put_answer-in-Cut-clause-err
 returns-in_err-put_answer-in-Cut-clause-err g c =
@@ -73,7 +73,7 @@ returns-in_err-put_answer-in-Cut-clause-err g c =
       so.1,
       line,
       so.2,
-      breaks_cut g.G.Applies.step _ _ _ _ _ so.1 so.2 so.3 (place (rest c.next_line.new.pages) now) p.0 line (p.2 ∙ c.in_err-put_answer-in-Cut.ensures.err) got.1 (stops_line line got.2),
+      breaks_cut g.G.TakesEvents.step _ _ _ _ _ so.1 so.2 so.3 (place (rest c.next_line.new.pages) now) p.0 line (p.2 ∙ c.in_err-put_answer-in-Cut.ensures.err) got.1 (stops_line line got.2),
       held_told (g.W.Write.contents c.args.writer.now) (g.W.Write.contents so.0) so.1 so.2 so.4,
     )
 
@@ -90,8 +90,8 @@ returns-in-End-clause-ok g c =
       so.1,
       [],
       so.2,
-      ends_sent g.G.Applies.step _ _ _ so.1 [] so.2 _ now (λ text h. subst (Appends before now) (append-nil text) (Appends-trans before held now text [] h c.in_ok-next_line.ensures.kept))
-          (ends_here g.G.Applies.step _ _ _ _ _ so.1 so.2 so.3 got.0),
+      ends_sent g.G.TakesEvents.step _ _ _ so.1 [] so.2 _ now (λ text h. subst (Appends before now) (append-nil text) (Appends-trans before held now text [] h c.in_ok-next_line.ensures.kept))
+          (ends_here g.G.TakesEvents.step _ _ _ _ _ so.1 so.2 so.3 got.0),
       so.4,
     )
 
@@ -108,7 +108,7 @@ returns-in-Cut-clause-ok g c =
       so.1,
       line,
       so.2,
-      ends_cut g.G.Applies.step _ _ _ _ _ so.1 so.2 so.3 now _ line got.0 got.2 got.3 (Appends-trans held mid now [] (answer_text CutLine) c.in_ok-next_line.ensures.kept c.in_ok-put_answer-in-Cut.ensures.ok) c.count-in-Cut.ensures.lines c.count-in-Cut.ensures.refused,
+      ends_cut g.G.TakesEvents.step _ _ _ _ _ so.1 so.2 so.3 now _ line got.0 got.2 got.3 (Appends-trans held mid now [] (answer_text CutLine) c.in_ok-next_line.ensures.kept c.in_ok-put_answer-in-Cut.ensures.ok) c.count-in-Cut.ensures.lines c.count-in-Cut.ensures.refused,
       so.4,
     )
 
@@ -123,13 +123,13 @@ loop-preserved g c =
     let now = append_known (g.W.Write.contents c.answer_whole.new.writer) waiting in
     let got = subst (GotLine (rest c.loop.pages) (rest c.next_line.new.pages) line) c.in-Whole.is c.in_ok-next_line.ensures.ok in
     let ok = c.in_ok-refused-in-Whole.ensures.ok in
-    let made = subst (λ l. LineStep g.G.Applies.step c.loop.registry l ok.0 c.answer_whole.new.registry) c.deref.ensures.value ok.1 in
+    let made = subst (λ l. LineStep g.G.TakesEvents.step c.loop.binders l ok.0 c.answer_whole.new.binders) c.deref.ensures.value ok.1 in
     let either = subst (λ l. (waiting ≡ []) ⊎ AsksNoChange l) c.deref.ensures.value c.in_ok-refused-in-Whole.ensures.sent in
-    tells_on g.W.Write.contents g.G.Applies.step _ _ _ (rest c.next_line.new.pages) _ so.0 c.answer_whole.new.writer waiting so.1 so.2 line ok.0 so.4
-    (answered_more g.G.Applies.step _ _ _ _ _ so.1 so.2 so.3 (place (rest c.next_line.new.pages) now) _ _ line ok.0 c.in_ok-refused-in-Whole.refused got.0 got.1 made (Appends-trans held mid now [] (answer_text ok.0) c.in_ok-next_line.ensures.kept ok.2) ok.3 c.count.ensures.lines c.count.ensures.refused)
+    tells_on g.W.Write.contents g.G.TakesEvents.step _ _ _ (rest c.next_line.new.pages) _ so.0 c.answer_whole.new.writer waiting so.1 so.2 line ok.0 so.4
+    (answered_more g.G.TakesEvents.step _ _ _ _ _ so.1 so.2 so.3 (place (rest c.next_line.new.pages) now) _ _ line ok.0 c.in_ok-refused-in-Whole.refused got.0 got.1 made (Appends-trans held mid now [] (answer_text ok.0) c.in_ok-next_line.ensures.kept ok.2) ok.3 c.count.ensures.lines c.count.ensures.refused)
     either
 
 pub returns-clause-err : goal.returns-clause-err
 returns-clause-err g c =
     let so = c.loop.invariant in
-    (so.0, so.1, [], so.2, breaks_here g.G.Applies.step _ _ _ _ _ so.1 so.2 so.3 Read, held_told (g.W.Write.contents c.args.writer.now) (g.W.Write.contents so.0) so.1 so.2 so.4)
+    (so.0, so.1, [], so.2, breaks_here g.G.TakesEvents.step _ _ _ _ _ so.1 so.2 so.3 Read, held_told (g.W.Write.contents c.args.writer.now) (g.W.Write.contents so.0) so.1 so.2 so.4)

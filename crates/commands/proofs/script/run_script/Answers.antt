@@ -14,18 +14,18 @@ streams unread before after = record { unread = unread; before = before; after =
 
 pub returns-in_default-clause-err : goal.returns-in_default-clause-err
 returns-in_default-clause-err g c =
-    breaks_none g.G.Applies.step
+    breaks_none g.G.TakesEvents.step
     (record { unread = g.R.Read.remaining c.args.reader.now; written = g.W.Write.contents c.args.writer.now })
-    c.args.registry.now OutOfMemory
+    c.args.binders.now OutOfMemory
 
 pub returns-in_err-send-clause-err : goal.returns-in_err-send-clause-err
 returns-in_err-send-clause-err g c =
     let p = err_from_is_err_and c.from_residual.result c.from_residual.ensures.1 in
-    let step = g.G.Applies.step in
+    let step = g.G.TakesEvents.step in
     let before = g.W.Write.contents c.args.writer.now in
     let now = g.W.Write.contents c.send.new.out in
-    let old = c.args.registry.now in
-    let new = c.run_lines-ended.new.registry in
+    let old = c.args.binders.now in
+    let new = c.run_lines-ended.new.binders in
     let unread = unread_pages (λ r. g.R.Read.remaining r.now) c.in-Ok.pages _ 65536 c.in-Ok.ensures.inner c.in-Ok.ensures.empty c.in-Ok.ensures.capacity refl in
     let io = streams (reader_remaining (λ r. g.R.Read.remaining r.now) c.in-Ok.pages) before (append_known (g.W.Write.contents c.run_lines-ended.new.writer) c.run_lines-ended.new.waiting.waiting) in
     let stopped = unsent g.W.Write.contents step io old new c.run_lines-ended.result now c.run_lines-ended.ensures.ok c.run_lines-ended.ensures.err in
@@ -35,11 +35,11 @@ returns-in_err-send-clause-err g c =
 pub returns-in_err-send-clause-sent : goal.returns-in_err-send-clause-sent
 returns-in_err-send-clause-sent g c =
     let p = err_from_is_err_and c.from_residual.result c.from_residual.ensures.1 in
-    let step = g.G.Applies.step in
+    let step = g.G.TakesEvents.step in
     let before = g.W.Write.contents c.args.writer.now in
     let now = g.W.Write.contents c.send.new.out in
-    let old = c.args.registry.now in
-    let new = c.run_lines-ended.new.registry in
+    let old = c.args.binders.now in
+    let new = c.run_lines-ended.new.binders in
     let unread = unread_pages (λ r. g.R.Read.remaining r.now) c.in-Ok.pages _ 65536 c.in-Ok.ensures.inner c.in-Ok.ensures.empty c.in-Ok.ensures.capacity refl in
     let io = streams (reader_remaining (λ r. g.R.Read.remaining r.now) c.in-Ok.pages) before (append_known (g.W.Write.contents c.run_lines-ended.new.writer) c.run_lines-ended.new.waiting.waiting) in
     let stopped = unsent g.W.Write.contents step io old new c.run_lines-ended.result now c.run_lines-ended.ensures.ok c.run_lines-ended.ensures.err in
@@ -47,12 +47,12 @@ returns-in_err-send-clause-sent g c =
 
 pub returns-clause-ok : goal.returns-clause-ok
 returns-clause-ok g c =
-    let step = g.G.Applies.step in
+    let step = g.G.TakesEvents.step in
     let before = g.W.Write.contents c.args.writer.now in
     let held = g.W.Write.contents c.run_lines-ended.new.writer in
     let now = g.W.Write.contents c.send.new.out in
-    let old = c.args.registry.now in
-    let new = c.run_lines-ended.new.registry in
+    let old = c.args.binders.now in
+    let new = c.run_lines-ended.new.binders in
     let unread = unread_pages (λ r. g.R.Read.remaining r.now) c.in-Ok.pages _ 65536 c.in-Ok.ensures.inner c.in-Ok.ensures.empty c.in-Ok.ensures.capacity refl in
     IfOk-weaker c.run_lines-ended.result _ _
     (λ summary h. subst (λ u. Finishes step (streams u before now) old new summary) unread
@@ -61,12 +61,12 @@ returns-clause-ok g c =
 
 pub returns-clause-err : goal.returns-clause-err
 returns-clause-err g c =
-    let step = g.G.Applies.step in
+    let step = g.G.TakesEvents.step in
     let before = g.W.Write.contents c.args.writer.now in
     let held = g.W.Write.contents c.run_lines-ended.new.writer in
     let now = g.W.Write.contents c.send.new.out in
-    let old = c.args.registry.now in
-    let new = c.run_lines-ended.new.registry in
+    let old = c.args.binders.now in
+    let new = c.run_lines-ended.new.binders in
     let unread = unread_pages (λ r. g.R.Read.remaining r.now) c.in-Ok.pages _ 65536 c.in-Ok.ensures.inner c.in-Ok.ensures.empty c.in-Ok.ensures.capacity refl in
     IfErr-weaker c.run_lines-ended.result _ _
     (λ fault h. subst (λ u. Stops step (streams u before now) old new fault) unread
@@ -75,11 +75,11 @@ returns-clause-err g c =
 
 pub returns-clause-sent : goal.returns-clause-sent
 returns-clause-sent g c =
-    let step = g.G.Applies.step in
+    let step = g.G.TakesEvents.step in
     let before = g.W.Write.contents c.args.writer.now in
     let now = g.W.Write.contents c.send.new.out in
-    let old = c.args.registry.now in
-    let new = c.run_lines-ended.new.registry in
+    let old = c.args.binders.now in
+    let new = c.run_lines-ended.new.binders in
     let unread = unread_pages (λ r. g.R.Read.remaining r.now) c.in-Ok.pages _ 65536 c.in-Ok.ensures.inner c.in-Ok.ensures.empty c.in-Ok.ensures.capacity refl in
     IfErr-weaker c.run_lines-ended.result _ _
     (λ fault h is. (

@@ -1,0 +1,43 @@
+// What a script's events go to.
+
+ghost use Rattle.binders.specs.Events.{Happening, happening_of};
+ghost use Rattle.binders.specs.declared.event.EventReply.{EventReply};
+
+use crate::status::event_status;
+use crate::watched::Watched;
+use binders::{Binders, Event, EventReply};
+use sector_disk::Disk;
+
+/// What takes events: a registry on a disk with its binders, and whatever else answers as its own
+/// steps say.
+pub trait TakesEvents {
+    /// What may be answered to what happens, from one value to the next.
+    ghost step: { Self → Happening → EventReply → Self → Type 0 };
+
+    /// Lets an event happen, and gives its one reply.
+    fn happen(&mut self, event: &Event<'_>) -> EventReply
+        ensures step { step self.old (happening_of event.now) result self.new };
+}
+
+impl<D: Disk> TakesEvents for Binders<D> {
+    ghost use Rattle.commands.specs.EventStep.{EventStep};
+
+    ghost step = { EventStep D.facts };
+
+    fn happen(&mut self, event: &Event<'_>) -> EventReply {
+        Binders::happen(self, event)
+    }
+}
+
+impl<G: TakesEvents> TakesEvents for Watched<G> {
+    ghost use Rattle.commands.specs.inside.Watched.{WatchedStep};
+
+    ghost step = { WatchedStep G.step };
+
+    #[tactic(auto, using(crate::proofs::Statuses::watched_answers))]
+    fn happen(&mut self, event: &Event<'_>) -> EventReply {
+        let reply = self.binders.happen(event);
+        self.worst = self.worst.greatest(event_status(&reply));
+        reply
+    }
+}
