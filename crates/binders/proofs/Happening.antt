@@ -35,7 +35,7 @@ module _ {D : Type 0} (facts : D → DiskFacts) where
 
     goes_advanced : (slot : _) (result : _) → AdvancesIn facts mid new slot result → GoesOn None
     goes_advanced slot result advances = runs_idle facts old.registry mid.registry new.registry s xs registries so_far advances.stays.same advances.any_moment
-        (λ failed. (still_failed advances.stays failed, ap (λ (r : Opened D). r.disk) (advances.failed failed)))
+        (λ failed. (still_failed advances.stays failed, ap (λ (b : Slotted D). b.registry.disk) (advances.failed failed)))
 
     -- an event more
     goes_on : (h : Happening) (r : EventReply) → Happens facts mid new h r → GoesOn (exchange_of h r)

@@ -1,13 +1,15 @@
--- What the lines of a script ask happens over a registry on a disk.
+-- A script over a registry on a disk is a run of the events of its lines.
 use Rattle.std.proofs.Common.{◌≡◌, ℕ, List, [], ◌∷◌, Option, Some, None, refl, sym, subst}
 use Rattle.std.specs.List.{filter_map}
 use Rattle.sector_disk.specs.Disk.{DiskFacts}
 use Rattle.registry.specs.Runs.{Steps, Run, last_of}
-use Rattle.binders.specs.Events.{Happen, Happening}
+use Rattle.binders.specs.Events.{Happening}
+use Rattle.binders.specs.EventsRan.{EventStep}
 use Rattle.binders.specs.Slotted.{Slotted}
+use Rattle.binders.specs.declared.event.EventReply.{EventReply}
+use Rattle.binders.proofs.Happening.{events_ran}
 use Rattle.commands.specs.Answer.{LineStep}
 use Rattle.commands.specs.DiskScript.{asked, replied, LinesRan, FinishesOnDisk, StopsOnDisk}
-use Rattle.commands.specs.EventStep.{EventStep}
 use Rattle.commands.specs.Line.{meaning}
 use Rattle.commands.specs.Script.{Streams, Finishes, Stops}
 use Rattle.commands.specs.declared.answer.Answer.{Answer}
@@ -25,25 +27,26 @@ asks_none f x xs e = rw e refl
 module _ {D : Type 0} (facts : D → DiskFacts) where
   -- what lines ask happened, one after the other
   happened : (mid : Slotted D) (lines : List (List ℕ)) (answers : List Answer) (states : List (Slotted D))
-      → Steps (LineStep (EventStep facts)) mid lines answers states → Happen facts mid (last_of mid states) (asked lines) (replied answers)
-  happened mid [] [] [] h = refl
+      → Steps (LineStep (EventStep facts)) mid lines answers states → Run (EventStep facts) mid (asked lines) (replied answers) (last_of mid states)
+  happened mid [] [] [] h = ([], tt, refl)
   happened mid (line ∷ lines) (Replied reply ∷ answers) (t ∷ ts) h =
-      subst (λ (l : List Happening). Happen facts mid (last_of t ts) l (reply ∷ replied answers)) (sym (asks meaning line lines h.0.0 h.0.1))
-      (t, h.0.2, happened t lines answers ts h.1)
+      let rest = happened t lines answers ts h.1 in
+      subst (λ (l : List Happening). Run (EventStep facts) mid l (reply ∷ replied answers) (last_of t ts)) (sym (asks meaning line lines h.0.0 h.0.1))
+      (t ∷ rest.0, (h.0.2, rest.1), rest.2)
   happened mid (line ∷ lines) (BadLine ∷ answers) (t ∷ ts) h =
-      subst (λ (l : List Happening). Happen facts mid (last_of t ts) l (replied answers)) (sym (asks_none meaning line lines h.0.0))
-      (subst (λ (k : Slotted D). Happen facts k (last_of t ts) (asked lines) (replied answers)) h.0.1 (happened t lines answers ts h.1))
+      subst (λ (l : List Happening). Run (EventStep facts) mid l (replied answers) (last_of t ts)) (sym (asks_none meaning line lines h.0.0))
+      (subst (λ (k : Slotted D). Run (EventStep facts) k (asked lines) (replied answers) (last_of t ts)) h.0.1 (happened t lines answers ts h.1))
   happened mid (line ∷ lines) (CutLine ∷ answers) (t ∷ ts) h = absurd h.0
   happened mid [] [] (t ∷ ts) h = absurd h
   happened mid [] (y ∷ answers) ts h = absurd h
   happened mid (line ∷ lines) [] ts h = absurd h
   happened mid (line ∷ lines) (y ∷ answers) [] h = absurd h
 
-  -- so of the lines that were answered
+  -- so what the lines ask is a run
   pub lines_ran : (old new : Slotted D) (lines : List (List ℕ)) (answers : List Answer) → Run (LineStep (EventStep facts)) old lines answers new → LinesRan facts old new lines answers
   lines_ran old new lines answers run =
-      let all = happened old lines answers run.0 run.1 in
-      record { happen = subst (λ (k : Slotted D). Happen facts old k (asked lines) (replied answers)) (sym run.2) all }
+      events_ran facts old new (asked lines) (replied answers)
+      (subst (λ (k : Slotted D). Run (EventStep facts) old (asked lines) (replied answers) k) (sym run.2) (happened old lines answers run.0 run.1))
 
   module _ (io : Streams) (old new : Slotted D) where
     -- so of a script that was read to its end

@@ -8,7 +8,7 @@ use Rattle.binders.specs.declared.event.EventReply.TheVariants as event
 use Rattle.file_disk.specs.FileDisk.{file_facts}
 use Rattle.file_disk.specs.declared.disk.FileDisk.{FileDisk}
 use Rattle.commands.specs.Disk.{IsOpenRefusal}
-use Rattle.commands.specs.EventStep.{EventStep}
+use Rattle.binders.specs.EventsRan.{EventStep}
 use Rattle.commands.specs.Opened.{IsOpened}
 use Rattle.commands.specs.Outcome.{EndsEarly, Runs, RunsInPart, RunsThrough}
 use Rattle.commands.specs.Script.{Streams}

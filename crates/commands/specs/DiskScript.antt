@@ -2,10 +2,10 @@
 use Rattle.std.specs.Prelude.{ℕ, List, Option, Some, None}
 use Rattle.std.specs.List.{filter_map}
 use Rattle.sector_disk.specs.Disk.{DiskFacts}
-use Rattle.binders.specs.Events.{Happen, Happening}
+use Rattle.binders.specs.Events.{Happening}
 use Rattle.binders.specs.Slotted.{Slotted}
 use Rattle.binders.specs.declared.event.EventReply.{EventReply}
-use Rattle.commands.specs.EventStep.{EventStep}
+use Rattle.binders.specs.EventsRan.{EventStep, EventsRan}
 use Rattle.commands.specs.Line.{meaning}
 use Rattle.commands.specs.Script.{Streams, Ends, Breaks}
 use Rattle.commands.specs.declared.answer.Answer.{Answer}
@@ -26,10 +26,9 @@ reply_of answer = None
 abbrev pub replied : List Answer → List EventReply
 replied answers = filter_map reply_of answers
 
--- What these lines ask happened over a disk.
-pub record LinesRan {D : Type 0} (facts : D → DiskFacts) (old new : Slotted D) (lines : List (List ℕ)) (answers : List Answer) : Type 0 where
-  -- one after the other, with one reply each, as it is on any disk and from each state
-  pub happen : Happen facts old new (asked lines) (replied answers)
+-- What these lines ask happened over a disk, one after the other, one reply each; and what a stop leaves of it at any moment.
+abbrev pub LinesRan : {D : Type 0} → (D → DiskFacts) → Slotted D → Slotted D → List (List ℕ) → List Answer → Type 0
+LinesRan facts old new lines answers = EventsRan facts old new (asked lines) (replied answers)
 
 -- a script over a registry on a disk was read to its end, and what its lines ask happened
 abbrev pub FinishesOnDisk : {D : Type 0} → (D → DiskFacts) → Streams → Slotted D → Slotted D → Summary → Type 0

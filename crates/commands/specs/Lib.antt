@@ -4,7 +4,6 @@ pub mod Disk
 pub mod DiskScript
 pub mod DiskStep
 pub mod EventReply
-pub mod EventStep
 pub mod File
 pub mod Line
 pub mod Opened

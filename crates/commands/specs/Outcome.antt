@@ -14,7 +14,7 @@ use Rattle.file_disk.specs.declared.disk.FileDisk.{FileDisk}
 use Rattle.commands.specs.Base.{base_of}
 use Rattle.commands.specs.Disk.{disk_refusal_text, IsOpenRefusal, IsFormatRefusal, IsUpgradeRefusal}
 use Rattle.commands.specs.DiskStep.{DiskStep}
-use Rattle.commands.specs.EventStep.{EventStep}
+use Rattle.binders.specs.EventsRan.{EventStep}
 use Rattle.commands.specs.File.{read_limit}
 use Rattle.commands.specs.Opened.{IsOpened, IsMade, IsUpgraded}
 use Rattle.commands.specs.Printed.{PrintsImage, PrintsRefusal}

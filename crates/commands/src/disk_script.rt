@@ -2,7 +2,7 @@
 
 ghost use Rattle.std.specs.Prelude.{◌≡◌, IfOk, IfErr};
 ghost use Rattle.commands.specs.DiskScript.{FinishesOnDisk, StopsOnDisk};
-ghost use Rattle.commands.specs.EventStep.{EventStep};
+ghost use Rattle.binders.specs.EventsRan.{EventStep};
 ghost use Rattle.commands.specs.Script.{StopsWriting};
 
 use crate::fault::ScriptFault;

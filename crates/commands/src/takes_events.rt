@@ -20,7 +20,7 @@ pub trait TakesEvents {
 }
 
 impl<D: Disk> TakesEvents for Binders<D> {
-    ghost use Rattle.commands.specs.EventStep.{EventStep};
+    ghost use Rattle.binders.specs.EventsRan.{EventStep};
 
     ghost step = { EventStep D.facts };
 
