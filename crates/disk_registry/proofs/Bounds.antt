@@ -20,7 +20,7 @@ use Rattle.states.specs.State.{Library, State}
 use Rattle.store.specs.Opened.{Opened}
 use Rattle.store.specs.Stands.{HaveOwnNames, no_library}
 use Rattle.disk_registry.specs.Binding.{data_sectors}
-use Rattle.disk_registry.specs.Flight.{Flight, IsBounded, flight_order, goings_by, sectors_at}
+use Rattle.disk_registry.specs.Flight.{Flight, IsBounded, goings_by, sectors_at}
 use Rattle.disk_registry.specs.Flying.{Flies}
 use Rattle.disk_registry.specs.Opened.{IsAt}
 use Rattle.disk_registry.specs.inside.Binding.{Binding}

@@ -8,7 +8,8 @@ ghost use Rattle.store.specs.Opened.{Opened};
 ghost use Rattle.disk_registry.specs.Flying.{IsLastStep};
 ghost use Rattle.disk_registry.specs.inside.Source.{Offers, offered};
 ghost use Rattle.disk_registry.specs.inside.Stepping.{refused_step, unread_step};
-ghost use Rattle.disk_registry.specs.inside.Walked.{IsAmong, IsWalked, walked_objects, walked_refusal};
+ghost use Rattle.disk_registry.specs.inside.Walked.{IsAmong, IsWalked};
+ghost use Rattle.disk_registry.specs.inside.Walked.{walked_objects, walked_refusal};
 
 use crate::bind::refusal_of_read;
 use crate::bound::bind_walked;

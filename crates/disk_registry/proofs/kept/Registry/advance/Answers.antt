@@ -2,7 +2,7 @@ use Rattle.std.proofs.Common.{◌<◌, List, ℕ, IsTrue, IsFalse, Err, length, 
 use Rattle.std.specs.Prelude.{All}
 use Rattle.std.specs.List.{IsDistinct}
 use Rattle.registry.specs.declared.refusal.Refusal.TheVariants.{Reopen}
-use Rattle.disk_registry.specs.Flight.{Flight, IsBounded}
+use Rattle.disk_registry.specs.Flight.{Flight}
 use Rattle.disk_registry.specs.Flying.{Advances, Flies}
 use Rattle.disk_registry.specs.inside.Binding.{Binding, found_of}
 use Rattle.disk_registry.proofs.Bounds.{bounded}
