@@ -1,21 +1,19 @@
 -- Events happen one after the other, and what a stop leaves of them.
-use Rattle.std.proofs.Common.{◌≡◌, List, [], ◌∷◌, ◌++◌, map, append-nil, append_assoc, Some, None, IsTrue, ⊎_elim, refl, sym, subst, ap}
+use Rattle.std.proofs.Common.{◌≡◌, List, [], ◌∷◌, ◌++◌, map, append-nil, append_assoc, None, IsTrue, ⊎_elim, sym, subst, ap}
 use Rattle.sector_disk.specs.Disk.{DiskFacts, Mixture, LeavesOnly}
 use Rattle.sector_disk.proofs.Moments.{at_rest}
 use Rattle.store.specs.Opened.{Opened}
 use Rattle.states.specs.State.{State}
 use Rattle.registry.specs.Runs.{Steps, Run, last_of}
-use Rattle.registry.specs.declared.reply.Reply.{Reply}
 use Rattle.registry.specs.declared.reply.Reply.TheVariants.{Done, Listing, Bound, Refused}
 use Rattle.disk_registry.specs.Acknowledged.{Exchange}
-use Rattle.disk_registry.specs.Opened.{IsAt}
 use Rattle.disk_registry.specs.Ran.{RunsThrough}
 use Rattle.disk_registry.proofs.RanSoFar.{RunsVia}
 use Rattle.disk_registry.proofs.Running.{runs_none, runs_turn, runs_idle, runs_through}
 use Rattle.binders.specs.Events.{Happening, Happens, apply, begin, advance, cancel}
 use Rattle.binders.specs.EventsRan.{EventStep, EventsRan, exchange_of, exchanges}
 use Rattle.binders.specs.Slotted.{Slotted}
-use Rattle.binders.specs.Stepped.{StaysAt, BeginsIn, AdvancesIn, CancelsIn}
+use Rattle.binders.specs.Stepped.{StaysAt, AdvancesIn}
 use Rattle.binders.specs.declared.event.EventReply.{EventReply}
 use Rattle.binders.specs.declared.event.EventReply.TheVariants.{Replied, Slot, Going}
 

@@ -332,10 +332,13 @@ module _ {D : Type 0} (facts : D → DiskFacts) where
         let reopen : r ≡ Refused Reopen = answered.reopen.1 failed in
         let same : new ≡ mid = answered.failed failed in
         let nothing : Answered facts mid mid q (Refused Reopen) = subst (λ (y : Reply). Answered facts mid mid q y) reopen (subst (λ (k : Opened D). Answered facts mid k q r) same answered) in
-        let ran : RanSoFar facts (point old s) (xs ++ Some (q, Refused Reopen) ∷ []) (ts ++ point mid t ∷ []) (point mid t) = ran_reopened (point old s) mid t xs ts so_far.3 q nothing failed in
-        (t, ts ++ point new t ∷ [], via t ts so_far.2,
-        subst (λ (k : Opened D). RanSoFar facts (point old s) (xs ++ Some (q, r) ∷ []) (ts ++ point k t ∷ []) (point k t)) (sym same)
-        (subst (λ (y : Reply). RanSoFar facts (point old s) (xs ++ Some (q, y) ∷ []) (ts ++ point mid t ∷ []) (point mid t)) (sym reopen) ran)))
+        let ran : RanSoFar facts (point old s) (xs ++ Some (q, Refused Reopen) ∷ []) (ts ++ point mid t ∷ []) (point mid t) = ran_reopened (point old s) mid t xs ts so_far.3 q nothing failed in (
+          t,
+          ts ++ point new t ∷ [],
+          via t ts so_far.2,
+          subst (λ (k : Opened D). RanSoFar facts (point old s) (xs ++ Some (q, r) ∷ []) (ts ++ point k t ∷ []) (point k t)) (sym same)
+              (subst (λ (y : Reply). RanSoFar facts (point old s) (xs ++ Some (q, y) ∷ []) (ts ++ point mid t ∷ []) (point mid t)) (sym reopen) ran),
+        ))
         so_far.3.kept
 
     -- something more that asks for no change

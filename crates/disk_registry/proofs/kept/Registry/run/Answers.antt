@@ -48,10 +48,11 @@ loop-command-preserved g c =
           subst (λ (l : List Reply). RunsSoFar facts old new s (commanded (map request_of (take (i + 1) xs)) l)) (sym items)
           (subst (λ (l : List Request). RunsSoFar facts old new s (commanded l (c.loop-command.replies.items ++ c.apply-reply.result ∷ []))) (sym more)
           (subst (RunsSoFar facts old new s) (sym (commanded_more (map request_of (take i xs)) c.loop-command.replies.items asked c.apply-reply.result (omega (arith, same))))
-          (let so_far = c.loop-command.invariant.runs s at in
-          (so_far.0 ++ new ∷ [],
-          runs_turn facts old c.loop-command.self new s (commanded (map request_of (take i xs)) c.loop-command.replies.items) so_far.0 so_far.1 asked c.apply-reply.result
-              c.apply-reply.ensures.applied c.apply-reply.ensures.all_calls c.apply-reply.ensures.on_any_disk))));
+          (let so_far = c.loop-command.invariant.runs s at in (
+            so_far.0 ++ new ∷ [],
+            runs_turn facts old c.loop-command.self new s (commanded (map request_of (take i xs)) c.loop-command.replies.items) so_far.0 so_far.1 asked c.apply-reply.result
+                c.apply-reply.ensures.applied c.apply-reply.ensures.all_calls c.apply-reply.ensures.on_any_disk,
+          ))));
       answered =
           subst (λ (l : List Reply). AreAnswered facts old new (map request_of (take (i + 1) xs)) l) (sym items)
           (subst (λ (l : List Request). AreAnswered facts old new l (c.loop-command.replies.items ++ c.apply-reply.result ∷ [])) (sym more)
