@@ -1,11 +1,15 @@
 -- How often binders in slots hold each version.
-use Rattle.std.proofs.Common.{◌≡◌, ℕ, ◌+◌, ◌<◌, ◌≤◌, ◌==◌, List, length, get_or, set, Option, Some, None, if◌then◌else◌, Bool, true, refl, ap, arith}
-use Rattle.std.specs.Prelude.{is_none, replicate}
+use Rattle.std.proofs.Common.{◌≡◌, ℕ, ◌+◌, ◌<◌, ◌≤◌, ◌==◌, List, [], ◌∷◌, length, get_or, set, Option, Some, None, if◌then◌else◌, Bool, true, refl, ap, arith}
+use Rattle.std.specs.Prelude.{All, is_none, replicate}
 use Rattle.std.proofs.lemmas.Bool.Decides.{Decides-eqb}
 use Rattle.std.proofs.lemmas.List.Folds.{sum_by-replicate}
 use Rattle.std.proofs.lemmas.List.Quantifiers.{position-Some}
-use Rattle.std.proofs.lemmas.List.Sums.{get_or-le-sum_by, sum_by-set}
+use Rattle.std.proofs.lemmas.List.Elements.{All-head, All-tail}
+use Rattle.std.proofs.lemmas.List.Sums.{get_or-le-sum_by, sum_by-cons, sum_by-set}
 use Rattle.snapshots.specs.Snapshot.{times}
+use Rattle.store.specs.Held.{IsHeldBy, holders_of}
+use Rattle.store.specs.declared.holding.Holding.{Holding}
+use Rattle.store.specs.declared.placed_entry.PlacedEntry.{PlacedEntry}
 use Rattle.disk_registry.specs.inside.Binding.{Binding}
 use Rattle.binders.specs.Slotted.{held_by, held_in, lowest_free}
 
@@ -21,6 +25,20 @@ held_within slots slot sector lt = get_or-le-sum_by (held_in sector) slots slot 
 -- without a binder nothing is held
 pub held_none : (count sector : ℕ) → held_by (replicate count None) sector ≡ 0
 held_none count sector = omega (arith, sum_by-replicate (held_in sector) count None)
+
+pub held_nobody : (slots : List (Option Binding)) → All (λ slot. slot ≡ None) slots → (sector : ℕ) → held_by slots sector ≡ 0
+held_nobody [] none sector = refl
+held_nobody (slot ∷ slots) none sector =
+    let first : held_in sector slot ≡ 0 = ap (held_in sector) (All-head (λ o. o ≡ None) slot slots none) in
+    let later : held_by slots sector ≡ 0 = held_nobody slots (All-tail (λ o. o ≡ None) slot slots none) sector in
+    omega (arith, sum_by-cons (held_in sector) slot slots, first, later)
+
+-- Where each row has some holder, and nobody holds anything, there is no row.
+pub held_empty : (held : List Holding) → ((sector : ℕ) (placed : PlacedEntry) → IsHeldBy held sector placed → 0 < holders_of held sector) → ((sector : ℕ) → holders_of held sector ≡ 0) → held ≡ []
+held_empty [] some none = refl
+held_empty (row ∷ rows) some none =
+    let by : IsHeldBy (row ∷ rows) row.placed.at row.placed = record { place = 0; inside = omega arith; is = λ d. refl; its = refl } in
+    absurd (omega (arith, some row.placed.at row.placed by, none row.placed.at))
 
 same : (n : ℕ) → (n == n) ≡ true
 same n = (Decides-eqb n n).1 refl

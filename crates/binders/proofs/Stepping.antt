@@ -3,7 +3,7 @@ use Rattle.std.proofs.Common.{◌≡◌, ℕ, ◌+◌, ◌<◌, ◌≤◌, List,
 use Rattle.std.specs.Prelude.{◌⊎◌, IfErr}
 use Rattle.std.proofs.lemmas.Bool.{false≢true}
 use Rattle.std.proofs.lemmas.List.{set-get_or}
-use Rattle.sector_disk.specs.Disk.{DiskFacts, Mixture, LeavesOnly, AreCalls}
+use Rattle.sector_disk.specs.Disk.{DiskFacts, Mixture, IsUnchanged, LeavesOnly, AreCalls}
 use Rattle.sector_disk.proofs.Moments.{at_rest, no_calls}
 use Rattle.snapshots.specs.Snapshot.{times}
 use Rattle.store.specs.Held.{holders_of}
@@ -12,7 +12,7 @@ use Rattle.registry.specs.declared.refusal.Refusal.{Refusal}
 use Rattle.registry.specs.declared.refusal.Refusal.TheVariants.{Reopen, NoSlot, NoSuchBinder, OutOfMemory}
 use Rattle.registry.specs.declared.reply.Reply.{Reply}
 use Rattle.registry.specs.declared.reply.Reply.TheVariants.{Done, Refused}
-use Rattle.disk_registry.specs.Flight.{Flight, begun}
+use Rattle.disk_registry.specs.Flight.{Flight, IsBounded, begun}
 use Rattle.disk_registry.specs.Flying.{Advances, Begins, Ends, Flies, IsStep, IsStepRefusal, handles_of}
 use Rattle.disk_registry.specs.declared.binder.Step.{Step}
 use Rattle.disk_registry.specs.declared.binder.Step.TheVariants.{Going, Final}
@@ -132,7 +132,9 @@ module _ {D : Type 0} (facts : D → DiskFacts) (old : Opened D) (slots : List (
   pub absent_in : get_or slots slot None ≡ None → AdvancesIn facts before before slot (Err NoSuchBinder)
   absent_in none = record {
     step = λ flights flight on is. absurd (nobody flights flight on is);
+    bounds = λ flights flight on is. absurd (nobody flights flight on is);
     any_moment = λ honest. at_rest (facts old.disk) (Mixture (facts old.disk)) (λ m mixture. mixture);
+    unchanged = λ honest. record { now = refl; stop = λ k content. (λ may. may, λ may. may) };
     stays = stays_at facts before;
     no_binder = (λ is. none, λ is. refl);
     absent = λ is. refl;
@@ -195,18 +197,31 @@ module _ {D : Type 0} (facts : D → DiskFacts) (old : Opened D) (slots : List (
       moved : (flights : List (Option Flight)) → AreOn facts before flights → AreOn facts (with_slots new slots) flights
       moved flights on = are_on_moved facts old new slots flights advances.others on
 
+      -- the flight that it is on is bounded
+      bounded_in : (flights : List (Option Flight)) (flight : Flight) → AreOn facts before flights → get_or flights slot None ≡ Some flight → IsBounded flight
+      bounded_in flights flight on its = advances.bounds flight (binder_on facts old slots flights on slot flight its b there)
+
+      -- after a failed write or sync nothing changes
+      failed_in_place : IsTrue old.failed → after ≡ before
+      failed_in_place failed =
+          let same = advances.failed failed in
+          let put : set slots slot (Some c) ≡ slots = ap (λ k. set slots slot (Some k)) same.1 ∙ ap (λ o. set slots slot o) (sym there) ∙ set-get_or slots slot None in
+          λ i. with_slots (same.0 i) (put i)
+
       -- Going
       pub going_in : result ≡ Ok Going → AdvancesIn facts before after slot (Ok Going)
       going_in is = record {
         step = λ flights flight on its.
             let step = subst (λ r. IsStep facts old new flight c r) is (advances.step flight (binder_on facts old slots flights on slot flight its b there)) in
             (step.0, are_on_set facts new slots flights (moved flights on) slot (Some c) (Some _) step.1, step.2);
+        bounds = bounded_in;
         any_moment = advances.any_moment;
+        unchanged = advances.unchanged;
         stays = stepped_stays;
         no_binder = (λ e. absurd cc, λ none. absurd (not_absent none));
         absent = λ none. absurd (not_absent none);
         present = λ some. (c, refl);
-        failed = advances.failed;
+        failed = failed_in_place;
         reopen = λ some. (λ e. absurd cc, λ failed. absurd (going_reopen (sym is ∙ advances.reopen.1 failed)));
         refusals = tt;
         answers = tt;
@@ -223,13 +238,15 @@ module _ {D : Type 0} (facts : D → DiskFacts) (old : Opened D) (slots : List (
           record {
             step = λ flights flight on its.
                 let step = subst (λ r. IsStep facts old new flight c r) is (advances.step flight (binder_on facts old slots flights on slot flight its b there)) in
-                (kept_on flights flight on its step.0, step.1);
+                (kept_on flights flight on its step.0, step.1, step.2);
+            bounds = bounded_in;
             any_moment = advances.any_moment;
+            unchanged = advances.unchanged;
             stays = stepped_stays;
             no_binder = (λ refused. absurd (not_refused e may (err_is NoSuchBinder refused)), λ none. absurd (not_absent none));
             absent = λ none. absurd (not_absent none);
             present = λ some. (c, refl);
-            failed = advances.failed;
+            failed = failed_in_place;
             reopen = λ some. (λ refused. advances.reopen.0 (is ∙ ap (λ r. Err r) (err_is Reopen refused)), λ failed. sym is ∙ advances.reopen.1 failed);
             refusals = inr may;
             answers = tt;
@@ -296,6 +313,8 @@ module _ {D : Type 0} (facts : D → DiskFacts) (old : Opened D) (slots : List (
         step = λ flights flight on its.
             let step = advances.step flight (binder_on facts old slots flights on slot flight its b there) in
             (step.0, step.1, left_on mid new c advances.handles ends mid_held flights (are_on_moved facts old mid slots flights advances.others on), disk_is ∙ ap (λ (k : Opened D). k.disk) step.2);
+        bounds = λ flights flight on its. advances.bounds flight (binder_on facts old slots flights on slot flight its b there);
+        unchanged = λ honest. subst (λ disk. IsUnchanged (facts old.disk) (facts disk)) (sym disk_is) (advances.unchanged honest);
         any_moment = λ honest. subst (λ disk. LeavesOnly (facts old.disk) (facts disk) (Mixture (facts old.disk))) (sym disk_is) (advances.any_moment honest);
         stays = record {
           same = λ s at. ends.same s (advances.same s at);

@@ -1,14 +1,14 @@
 -- What beginning, advancing and ending a binder in a slot does (own).
 use Rattle.std.specs.Prelude.{◌≡◌, ◌≢◌, ◌↔◌, ◌⊎◌, ◌<◌, ◌+◌, ℕ, List, slice_index_or, slice_set, Option, Some, None, Result, Ok, Err, IfOk, IfErr, OnErr, IsTrue, IsFalse}
-use Rattle.sector_disk.specs.Disk.{DiskFacts, Mixture, LeavesOnly, AreCalls, AreCallsAtMost, AreCallsExactly}
+use Rattle.sector_disk.specs.Disk.{DiskFacts, Mixture, IsUnchanged, LeavesOnly, AreCalls, AreCallsAtMost, AreCallsExactly}
 use Rattle.states.specs.State.{State}
 use Rattle.store.specs.Held.{holders_of}
 use Rattle.registry.specs.declared.refusal.Refusal.{Refusal}
 use Rattle.registry.specs.declared.refusal.Refusal.TheVariants.{Reopen, NoSlot, NoSuchBinder, OutOfMemory}
 use Rattle.registry.specs.declared.reply.Reply.{Reply}
 use Rattle.registry.specs.declared.reply.Reply.TheVariants.{Done, Refused}
-use Rattle.disk_registry.specs.Flight.{Flight, begun, further, goings, step_sectors, IsBindOf}
-use Rattle.disk_registry.specs.Flying.{IsLastStep, IsStepRefusal}
+use Rattle.disk_registry.specs.Flight.{Flight, begun, further, goings, step_sectors, IsBindOf, IsBounded}
+use Rattle.disk_registry.specs.Flying.{IsLastStep, IsStepRefusal, MayBeRefused}
 use Rattle.disk_registry.specs.Opened.{IsAt}
 use Rattle.disk_registry.specs.declared.binder.Step.{Step}
 use Rattle.disk_registry.specs.declared.binder.Step.TheVariants.{Going, Final}
@@ -57,6 +57,7 @@ SteppedIn facts old new slot flights flight (Ok Going) = (flight.going < goings 
 SteppedIn facts old new slot flights flight (Ok (Final answer)) = (flight.going ≡ goings flight) × IsBindOf flight.state flight.program flight.base answer
     × AreOn facts new (slice_set flights slot None) × (new.registry.disk ≡ old.registry.disk)
 SteppedIn facts old new slot flights flight (Err refusal) = AreOn facts new flights × AreCallsAtMost (step_sectors flight) (facts old.registry.disk) (facts new.registry.disk)
+    × MayBeRefused flight.program refusal
 
 -- the slots after a step: the binder of this one is where it was, or a step further; or it is gone
 abbrev pub SlotsAfter : List (Option Binding) → ℕ → List (Option Binding) → Result Step Refusal → Type 0
@@ -66,13 +67,16 @@ SlotsAfter old slot new result = IsPut old slot new
 -- A step was made of the binder in a slot: C8 exactly where none lives there, before all else.
 pub record AdvancesIn {D : Type 0} (facts : D → DiskFacts) (old new : Slotted D) (slot : ℕ) (result : Result Step Refusal) : Type 0 where
   pub step : (flights : List (Option Flight)) (flight : Flight) → AreOn facts old flights → slice_index_or flights slot None ≡ Some flight → SteppedIn facts old new slot flights flight result
+  pub bounds : (flights : List (Option Flight)) (flight : Flight) → AreOn facts old flights → slice_index_or flights slot None ≡ Some flight → IsBounded flight
+  -- no call of it leaves what could not be left before, and after it a stop may leave just what it could leave before
   pub any_moment : IsTrue (facts old.registry.disk).honest → LeavesOnly (facts old.registry.disk) (facts new.registry.disk) (Mixture (facts old.registry.disk))
+  pub unchanged : IsTrue (facts old.registry.disk).honest → IsUnchanged (facts old.registry.disk) (facts new.registry.disk)
   pub stays : StaysAt facts old new
   -- on any disk
   pub no_binder : (result ≡ Err NoSuchBinder) ↔ (slice_index_or old.slots slot None ≡ None)
   pub absent : slice_index_or old.slots slot None ≡ None → new ≡ old
   pub present : slice_index_or old.slots slot None ≢ None → SlotsAfter old.slots slot new.slots result
-  pub failed : IsTrue old.registry.failed → new.registry ≡ old.registry
+  pub failed : IsTrue old.registry.failed → new ≡ old
   pub reopen : slice_index_or old.slots slot None ≢ None → ((result ≡ Err Reopen) ↔ IsTrue old.registry.failed)
   pub refusals : IfErr result (λ e. (e ≡ NoSuchBinder) ⊎ IsStepRefusal facts old.registry new.registry e)
   pub answers : IfOk result IsLastStep

@@ -25,7 +25,7 @@ impl<D: Disk> Model for Binders<D> {
 }
 
 impl<D: Disk> Binders<D> {
-    ghost use Rattle.std.specs.Prelude.{◌≡◌, [], None, replicate};
+    ghost use Rattle.std.specs.Prelude.{◌≡◌, [], All, None, replicate};
     ghost use Rattle.sector_disk.specs.Disk.{AreCallsExactly};
     ghost use Rattle.registry.specs.Request.{request_of};
     ghost use Rattle.states.specs.State.{State};
@@ -33,6 +33,7 @@ impl<D: Disk> Binders<D> {
     ghost use Rattle.disk_registry.specs.Applied.{Applies};
     ghost use Rattle.disk_registry.specs.Calls.{IfAccepted, calls_of};
     ghost use Rattle.disk_registry.specs.Opened.{IsAt};
+    ghost use Rattle.disk_registry.specs.Versions.{AreVersions};
     ghost use Rattle.binders.specs.Slotted.{AreOn, HoldAlone};
     ghost use Rattle.binders.specs.Stepped.{AdvancesIn, BeginsIn, CancelsIn, FlyOn};
 
@@ -47,6 +48,20 @@ impl<D: Disk> Binders<D> {
             registry,
             slots: Slots::new(),
         }
+    }
+
+    /// Whether a write or a sync failed. Then commands, `begin` and the steps of binders answer S2,
+    /// until the disk is opened again.
+    pub fn has_failed(&self) -> bool
+        ensures value { result ≡ self.now.registry.failed }
+
+        // On any disk, after any event: what is held has one row and some holder for each version,
+        // and without a binder nothing is, where nobody else holds anything.
+        ensures versions { AreVersions self.now.registry }
+        ensures empty { HoldAlone self.now → All (λ slot. slot ≡ None) self.now.slots
+            → self.now.registry.held ≡ [] }
+    {
+        self.registry.has_failed()
     }
 
     /// The registry. Binders that live are gone, and what they hold stays held until the disk is

@@ -3,7 +3,7 @@ use Rattle.std.proofs.Common.{◌≡◌, ◌<◌, ◌≤◌, ℕ, ◌+◌, List,
 use Rattle.std.proofs.lemmas.List.{get_or_default}
 use Rattle.std.proofs.lemmas.List.Sums.{sum_by_more}
 use Rattle.std.proofs.lemmas.Bool.{cases_lt}
-use Rattle.sector_disk.specs.Disk.{DiskFacts, Mixture, LeavesOnly, AreCallsExactly}
+use Rattle.sector_disk.specs.Disk.{DiskFacts, Mixture, IsUnchanged, LeavesOnly, AreCallsExactly}
 use Rattle.sector_disk.proofs.Moments.{goes_on, weaken, left_now, at_rest, no_calls, more_calls, exactly_none, exactly_sum}
 use Rattle.store.specs.declared.placed_entry.PlacedEntry.{PlacedEntry}
 use Rattle.states.specs.State.{Library, State}
@@ -39,7 +39,7 @@ module _ {version : Version} {D : Type 0} {facts : D → DiskFacts} where
   read_none start = record {
     leaves = λ honest. at_rest (facts start.disk) (Mixture (facts start.disk)) (λ m mixture. mixture);
     same = λ s at. at;
-    now = λ honest. refl;
+    unchanged = λ honest. record { now = refl; stop = λ k c. (λ may. may, λ may. may) };
     root = refl;
     entries = refl;
     held = refl;
@@ -55,13 +55,19 @@ module _ {version : Version} {D : Type 0} {facts : D → DiskFacts} where
         goes_on (Mixture (facts start.disk)) so_far
         (weaken (Mixture (facts mid.disk)) (Mixture (facts start.disk)) (left_now (Mixture (facts start.disk)) so_far) (second.leaves (subst IsTrue (sym first.calls.honest) is)));
     same = λ s at. second.same s (first.same s at);
-    now = λ is. second.now (subst IsTrue (sym first.calls.honest) is) ∙ first.now is;
+    unchanged = λ is. still (first.unchanged is) (second.unchanged (subst IsTrue (sym first.calls.honest) is));
     root = second.root ∙ first.root;
     entries = second.entries ∙ first.entries;
     held = second.held ∙ first.held;
     failed = second.failed ∙ first.failed;
     calls = more_calls first.calls second.calls;
   }
+    where
+      still : {before between after : DiskFacts} → IsUnchanged before between → IsUnchanged between after → IsUnchanged before after
+      still one two = record {
+        now = two.now ∙ one.now;
+        stop = λ k c. (λ may. (one.stop k c).0 ((two.stop k c).0 may), λ may. (two.stop k c).1 ((one.stop k c).1 may));
+      }
 
   -- what refuses more refuses the whole
   pub refused_more : {start mid : Opened D} (new : Opened D) (e : StoreRefusal) → IsReadBy version facts start mid → IsReadRefusal facts mid new e → IsReadRefusal facts start new e

@@ -17,7 +17,7 @@ use Rattle.scope.proofs.Queueing.{IsReached, order-whole}
 use Rattle.scope.proofs.Reaching.{at-begins, reached-at}
 use Rattle.image.specs.Byte.{byte_of}
 use Rattle.image.specs.Image.{MemoryImage, image_byte, image_of}
-use Rattle.image.specs.Refusal.{IsAnswer, IsProgramAnswer, IsFirstOrWantsMemory, program_refusal}
+use Rattle.image.specs.Refusal.{IsAnswer, IsProgramAnswer, IsFirstOrWantsMemory, WantsMemory, program_refusal}
 use Rattle.image.proofs.Answering.{program-answer}
 use Rattle.image.specs.declared.refusal.BindRefusal.{BindRefusal}
 use Rattle.image.specs.declared.refusal.BindRefusal.TheVariants as binding
@@ -31,6 +31,7 @@ use Rattle.store.specs.Holders.{AreFlagged, KeepsHeld}
 use Rattle.store.specs.Stands.{HaveOwnNames, TellLengths, no_library}
 use Rattle.store.specs.declared.refusal.StoreRefusal.{StoreRefusal}
 use Rattle.store.specs.declared.refusal.StoreRefusal.TheVariants as reading
+use Rattle.registry.proofs.Bindings.{memory}
 use Rattle.registry.specs.Binding.{object_of, objects, preload_numbers, binding_refusal, bound_objects}
 use Rattle.registry.specs.declared.refusal.Refusal.{Refusal}
 use Rattle.registry.specs.declared.refusal.Refusal.TheVariants.{Bind, OutOfMemory, Reopen}
@@ -39,7 +40,7 @@ use Rattle.std.specs.Int.{div_ceil}
 use Rattle.store.proofs.UsedAlone.{no_entry}
 use Rattle.disk_registry.specs.Binding.{data_sectors}
 use Rattle.disk_registry.specs.Stands.{file_sectors}
-use Rattle.disk_registry.specs.Flight.{Flight, goings, goings_by, sectors_at, step_sectors}
+use Rattle.disk_registry.specs.Flight.{Flight, IsBounded, goings, goings_by, sectors_at, step_sectors}
 use Rattle.disk_registry.specs.Flying.{Advances, Begins, Ends, Flies, IsLastStep, IsStep, IsStepRefusal}
 use Rattle.disk_registry.specs.declared.binder.Step.{Step}
 use Rattle.disk_registry.specs.declared.binder.Step.TheVariants.{Going, Final}
@@ -180,18 +181,13 @@ module _ {D : Type 0} (facts : D → DiskFacts) (now : Opened D) (before : Bindi
   answered : (e : BindRefusal) → IsProgramAnswer before.program before.base e → IsAnswer before.program before.base (objects flight.state) (preload_numbers flight.state) e
   answered e is = program-answer before.program before.base (objects flight.state) (preload_numbers flight.state) e is
 
-  pub refused_at_first : (e : BindRefusal) → IsFirstOrWantsMemory (program_refusal before.program before.base) e → IsStep facts now now flight before (refused_step e)
-  refused_at_first binding.OutOfMemory is = (flies, quiet facts now (step_sectors flight))
-  refused_at_first (binding.Program r) (inl is) = stopped (binding.Program r) is (answered (binding.Program r) is)
-  refused_at_first binding.BadBase (inl is) = stopped binding.BadBase is (answered binding.BadBase is)
-  refused_at_first (binding.Missing needer name) (inl is) = stopped (binding.Missing needer name) is (answered (binding.Missing needer name) is)
-  refused_at_first binding.NoRoom (inl is) = stopped binding.NoRoom is (answered binding.NoRoom is)
-  refused_at_first (binding.Undefined object symbol) (inl is) = stopped (binding.Undefined object symbol) is (answered (binding.Undefined object symbol) is)
-  refused_at_first (binding.Program r) (inr wants) = absurd cc
-  refused_at_first binding.BadBase (inr wants) = absurd cc
-  refused_at_first (binding.Missing needer name) (inr wants) = absurd cc
-  refused_at_first binding.NoRoom (inr wants) = absurd cc
-  refused_at_first (binding.Undefined object symbol) (inr wants) = absurd cc
+  pub refused_at_first : (e : BindRefusal) → IsProgramAnswer before.program before.base e → IsStep facts now now flight before (refused_step e)
+  refused_at_first binding.OutOfMemory is = (flies, quiet facts now (step_sectors flight), subst WantsMemory flies.program is)
+  refused_at_first (binding.Program r) is = stopped (binding.Program r) is (answered (binding.Program r) is)
+  refused_at_first binding.BadBase is = stopped binding.BadBase is (answered binding.BadBase is)
+  refused_at_first (binding.Missing needer name) is = stopped (binding.Missing needer name) is (answered (binding.Missing needer name) is)
+  refused_at_first binding.NoRoom is = stopped binding.NoRoom is (answered binding.NoRoom is)
+  refused_at_first (binding.Undefined object symbol) is = stopped (binding.Undefined object symbol) is (answered (binding.Undefined object symbol) is)
 
 module _ {D : Type 0} (facts : D → DiskFacts) (old : Opened D) (before : Binding) (flight : Flight) (flies : Flies facts old before flight)
     (holds : IsTrue (facts flies.taken.disk).honest → HoldsNow (facts flies.taken.disk)) (needs : Needs) (files : List Library) (found : before.found ≡ Some (record { needs = needs; files = files })) where
@@ -200,6 +196,10 @@ module _ {D : Type 0} (facts : D → DiskFacts) (old : Opened D) (before : Bindi
 
   come : (program_refusal before.program before.base ≡ None) × IsWalked facts before.program flies.taken needs files × (flight.going ≡ length files + 1)
   come = subst (λ (o : Option Found). HasCome facts flies.taken before.program before.base o flight.going) found flies.come
+
+  -- its program takes memory to be admitted
+  its_memory : WantsMemory flight.program
+  its_memory = subst WantsMemory flies.program (memory before.program before.base come.0)
 
   all_goings : goings (own_flight before flight.state flight.going) ≡ length order
   all_goings = goings_are facts old before flight.state come.0 flight.going
@@ -270,15 +270,15 @@ module _ {D : Type 0} (facts : D → DiskFacts) (old : Opened D) (before : Bindi
           subst (λ (k : ℕ). AreCallsExactly k (facts old.disk) (facts new.disk)) (sym (sectors file is)) calls,
         )
 
-    -- or reading is refused, and it can be made again.
+    -- or reading is refused, and the binder is where it was.
     module _ (calls : AreCallsAtMost (file_sectors (get_or flies.taken.entries (place - 1) no_entry)) (facts old.disk) (facts new.disk)) where
       again : Flies facts new before flight × AreCallsAtMost (step_sectors flight) (facts old.disk) (facts new.disk)
       again = (flies_read facts flies new read, subst (λ n. AreCallsAtMost n (facts old.disk) (facts new.disk)) sectors_told calls)
 
       pub unread_on : (e : StoreRefusal) → IsReadRefusal facts old new e → (e ≡ reading.Damaged → ⊥) → IsStep facts old new flight before (unread_step e)
-      unread_on reading.Device is intact = again
-      unread_on reading.Reopen is intact = again
-      unread_on reading.OutOfMemory is intact = again
+      unread_on reading.Device is intact = (again.0, again.1, tt)
+      unread_on reading.Reopen is intact = (again.0, again.1, tt)
+      unread_on reading.OutOfMemory is intact = (again.0, again.1, its_memory)
       unread_on reading.Damaged is intact = absurd (intact refl)
       unread_on reading.NotFormatted is intact = absurd is
       unread_on reading.AlreadyFormatted is intact = absurd is
@@ -318,7 +318,7 @@ module _ {D : Type 0} (facts : D → DiskFacts) (old : Opened D) (before : Bindi
         (at_end, ap (option_map Bind) (refusal ∙ is), refl)
 
     pub refused_at_last : (e : BindRefusal) → IsFirstOrWantsMemory (walked_refusal before.program before.base needs.missing files) e → IsStep facts old old flight before (refused_step e)
-    refused_at_last binding.OutOfMemory is = (flies, quiet facts old (step_sectors flight))
+    refused_at_last binding.OutOfMemory is = (flies, quiet facts old (step_sectors flight), its_memory)
     refused_at_last (binding.Program r) (inl is) = last_refused (binding.Program r) is
     refused_at_last binding.BadBase (inl is) = last_refused binding.BadBase is
     refused_at_last (binding.Missing needer name) (inl is) = last_refused (binding.Missing needer name) is
@@ -423,11 +423,13 @@ module _ {D : Type 0} (facts : D → DiskFacts) (old new : Opened D) (program : 
 
   -- A step was made, which only reads.
   pub has_advanced : (before after : Binding) (result : Result Step Refusal) → IsFalse old.failed → IsRead facts old new → Stays before after
-      → ((flight : Flight) → Flies facts old before flight → IsStep facts old new flight after result) → IfErr result (IsStepRefusal facts old new) → IfOk result IsLastStep
+      → ((flight : Flight) → Flies facts old before flight → IsStep facts old new flight after result) → ((flight : Flight) → Flies facts old before flight → IsBounded flight) → IfErr result (IsStepRefusal facts old new) → IfOk result IsLastStep
       → Advances facts old new before after result
-  has_advanced before after result usable read stays step refusals answers = record {
+  has_advanced before after result usable read stays step bounds refusals answers = record {
     step = step;
+    bounds = bounds;
     any_moment = read.leaves;
+    unchanged = read.unchanged;
     same = λ s at. record { stored = read.same s at.stored; libraries = at.libraries };
     others = λ binder flight flies. flies_read facts flies new read;
     held = keeps_held_read facts old new read;
@@ -441,19 +443,22 @@ module _ {D : Type 0} (facts : D → DiskFacts) (old new : Opened D) (program : 
   }
 
 -- None was made.
-pub hasnt_advanced : {D : Type 0} (facts : D → DiskFacts) (store : Opened D) (binder : Binding) → IsTrue store.failed → Advances facts store store binder binder (Err Reopen)
-hasnt_advanced facts store binder failed =
+pub hasnt_advanced : {D : Type 0} (facts : D → DiskFacts) (store : Opened D) (binder : Binding) → IsTrue store.failed → ((flight : Flight) → Flies facts store binder flight → IsBounded flight)
+    → Advances facts store store binder binder (Err Reopen)
+hasnt_advanced facts store binder failed bounds =
     let read : IsRead facts store store = read_none store in
     record {
-      step = λ flight flies. (flies, quiet facts store (step_sectors flight));
+      step = λ flight flies. (flies, quiet facts store (step_sectors flight), tt);
+      bounds = bounds;
       any_moment = read.leaves;
+      unchanged = read.unchanged;
       same = λ s at. at;
       others = λ other flight flies. flies;
       held = keeps_held_same facts store;
       kept = (refl, refl, refl, refl);
       handles = refl;
       reopen = (λ is. failed, λ is. refl);
-      failed = λ is. refl;
+      failed = λ is. (refl, refl);
       refusals = failed;
       answers = tt;
       calls = read.calls;

@@ -22,4 +22,5 @@ pub mod NamedPlaces
 pub mod FilesRead
 pub mod Flights
 pub mod Bindings
+pub mod Bounds
 pub mod Upgrades

@@ -1,5 +1,5 @@
 -- Binders in flight: what each step of a binder is to be answered (own).
-use Rattle.std.specs.Prelude.{◌≡◌, ◌+◌, ℕ, zero, suc, List, take, drop, length, sum_by, Option, Some, None}
+use Rattle.std.specs.Prelude.{◌≡◌, ◌+◌, ◌≤◌, ℕ, zero, suc, List, take, drop, length, sum_by, All, Option, Some, None}
 use Rattle.std.specs.Option.{option_map}
 use Rattle.scope.specs.LoadOrder.{load_order}
 use Rattle.scope.specs.Objects.{Named}
@@ -49,6 +49,12 @@ sectors_at (suc k) order = sum_by (λ o. data_sectors o.file) (take 1 (drop (suc
 -- how many sectors the next step reads: those of the library at this place of the load order, if there is one
 abbrev pub step_sectors : Flight → ℕ
 step_sectors f = sectors_at f.going (flight_order f)
+
+-- At most one step more is answered Going than the state has libraries, and no step reads more sectors than one of these
+-- has: where none has more than n, no step reads more.
+pub record IsBounded (f : Flight) : Type 0 where
+  pub steps : goings f ≤ length f.state.libraries + 1
+  pub sectors : (n : ℕ) → All (λ library. data_sectors library.bytes ≤ n) f.state.libraries → step_sectors f ≤ n
 
 -- the answer of a bind at this state: an image, byte by byte, or the first refusal
 abbrev pub IsBindOf : State → List ℕ → ℕ → Reply → Type 0

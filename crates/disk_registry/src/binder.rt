@@ -2,11 +2,14 @@
 ghost use Rattle.std.specs.Prelude.{◌≡◌, [], ℕ, None, IfOk, IfErr, OnOk};
 ghost use Rattle.image.specs.Byte.{byte_of};
 ghost use Rattle.image.specs.Image.{image_byte, image_of};
-ghost use Rattle.image.specs.Refusal.{IsFirstOrWantsMemory, IsProgramAnswer, program_refusal};
+ghost use Rattle.image.specs.Refusal.{IsFirstOrWantsMemory, IsProgramAnswer};
+ghost use Rattle.image.specs.Refusal.{program_refusal};
 ghost use Rattle.store.specs.Opened.{Opened};
+ghost use Rattle.disk_registry.specs.Flying.{IsLastStep};
 ghost use Rattle.disk_registry.specs.inside.Source.{Offers, offered};
 ghost use Rattle.disk_registry.specs.inside.Stepping.{refused_step, unread_step};
-ghost use Rattle.disk_registry.specs.inside.Walked.{IsAmong, IsWalked, walked_objects, walked_refusal};
+ghost use Rattle.disk_registry.specs.inside.Walked.{IsAmong, IsWalked};
+ghost use Rattle.disk_registry.specs.inside.Walked.{walked_objects, walked_refusal};
 
 use crate::bind::refusal_of_read;
 use crate::bound::bind_walked;
@@ -76,7 +79,7 @@ fn look<D: Disk>(
     ensures among { IfOk result (λ walk. IsAmong (offered source.entry store.now)
         walk.needs walk.files.items) }
     ensures none { IfOk result (λ walk. walk.files.items ≡ []) }
-    ensures refused { IfErr result (λ e. IsFirstOrWantsMemory (program_refusal program.now base) e) }
+    ensures refused { IfErr result (IsProgramAnswer program.now base) }
 {
     let program = admit_program(alloc, program, base)?;
     let walk = Walk::start(alloc, store, source, &program)?;
@@ -102,7 +105,8 @@ fn answer(alloc: Global, program: &[u8], base: u64, walk: &Walk) -> Result<Image
 /// A step of which binding was refused: want of memory lets it be made again, and everything else
 /// is the answer.
 fn refused(refusal: BindRefusal) -> Result<Step, Refusal>
-    ensures { result ≡ refused_step refusal }
+    ensures value { result ≡ refused_step refusal }
+    ensures last { IfOk result IsLastStep }
 {
     match refusal {
         BindRefusal::OutOfMemory => Err(Refusal::OutOfMemory),
@@ -110,10 +114,11 @@ fn refused(refusal: BindRefusal) -> Result<Step, Refusal>
     }
 }
 
-/// A step of which reading was refused: after a failed call and for want of memory it can be made
-/// again, and a damaged file is the answer.
+/// A step of which reading was refused: a damaged file is the answer. After a failed call and for
+/// want of memory it can be made again, and after S2 the disk has to be opened again.
 fn unread(refusal: StoreRefusal) -> Result<Step, Refusal>
-    ensures { result ≡ unread_step refusal }
+    ensures value { result ≡ unread_step refusal }
+    ensures last { IfOk result IsLastStep }
 {
     match refusal {
         StoreRefusal::Device => Err(Refusal::Device),
@@ -207,11 +212,15 @@ impl<D: Disk> Registry<D> {
     }
 
     /// Makes the next step of a binder. The first tests the program by itself, each following one
-    /// reads and admits one library, in load order, and the last binds. After S1, S2 or S11 the
-    /// step can be made again.
+    /// reads and admits one library, in load order, and the last binds. After S1 and S11 the step
+    /// can be made again; after S2 the disk has to be opened again, and the binder can only be
+    /// ended.
     pub fn advance(&mut self, binder: &mut Binder) -> Result<Step, Refusal>
         ensures { Advances D.facts self.old self.new binder.old binder.new result }
     {
+        // No preload is there twice, and each is a library, as this call says: so no library is
+        // read twice.
+        let _preloads = binder.snapshot.preloads();
         if self.store.has_failed() {
             return Err(Refusal::Reopen);
         }

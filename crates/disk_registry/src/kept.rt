@@ -22,11 +22,17 @@ impl<D: Disk> Model for Registry<D> {
 }
 
 impl<D: Disk> Registry<D> {
+    ghost use Rattle.disk_registry.specs.Versions.{AreVersions};
+
     /// Whether a write or a sync failed. Then every command answers S2, until the disk is opened
     /// again.
     pub fn has_failed(&self) -> bool
-        ensures { result ≡ self.now.failed }
+        ensures value { result ≡ self.now.failed }
+
+        // On any disk, after any call: what is held is a version each, with some holder.
+        ensures versions { AreVersions self.now }
     {
+        let _count = self.store.count();
         self.store.has_failed()
     }
 

@@ -38,8 +38,8 @@ fn read_at<D: Disk>(
 ) -> Result<Vec<u8>, StoreRefusal>
     requires { position < offered source store.old }
     ensures read { IsRead D.facts store.old store.new }
-    ensures ok { (s : State) → HasFiles D.facts source.entry store.old s
-        → IfOk result (λ bytes. bytes.items ≡ (slice_index_or s.libraries position no_library).bytes) }
+    ensures ok { (s : State) → HasFiles D.facts source.entry store.old s → IfOk result (λ bytes.
+        bytes.items ≡ (slice_index_or s.libraries position no_library).bytes) }
     ensures whole { (s : State) → HasFiles D.facts source.entry store.old s
         → IfErr result (λ e. e ≢ StoreRefusal.Damaged) }
     ensures refusals { IfErr result (IsReadRefusal D.facts store.old store.new) }

@@ -184,7 +184,7 @@ module _ {D : Type 0} (facts : D → DiskFacts) (store : Opened D) {layout : Lis
   read_refused held e reopen unknown which = record {
     any_moment = λ honest. (no_reads (facts store.disk)).leaves;
     ok = λ honest library is. tt;
-    now = λ honest. refl;
+    unchanged = λ honest. (no_reads (facts store.disk)).same;
     others = keeps_reads store.held (λ honest m mixture. mixture);
     same = λ s at. at;
     kept = (refl, refl, refl, refl);
@@ -227,7 +227,7 @@ module _ {D : Type 0} (facts : D → DiskFacts) (store : Opened D) {layout : Lis
     read_done (Ok bytes) all_calls read size refused = record {
       any_moment = λ honest. (reads honest).leaves;
       ok = λ honest library is. read honest ∙ ap (λ (p : PlacedEntry). (library_of (facts store.disk).now p).bytes) (by_one kept.rows.own by is.by) ∙ ap (λ (l : Library). l.bytes) (is.stands (facts store.disk).now (holds honest));
-      now = λ honest. (reads honest).same.now;
+      unchanged = λ honest. (reads honest).same;
       others = keeps_reads store.held (λ honest. still_mixture (reads honest));
       same = still_at;
       kept = (refl, refl, refl, refl);
@@ -245,7 +245,7 @@ module _ {D : Type 0} (facts : D → DiskFacts) (store : Opened D) {layout : Lis
     read_done (Err e) all_calls read size refused = record {
       any_moment = λ honest. (reads honest).leaves;
       ok = λ honest library is. tt;
-      now = λ honest. (reads honest).same.now;
+      unchanged = λ honest. (reads honest).same;
       others = keeps_reads store.held (λ honest. still_mixture (reads honest));
       same = still_at;
       kept = (refl, refl, refl, refl);

@@ -1,6 +1,6 @@
 -- The rows of held versions: what each change of them keeps.
 use Rattle.std.proofs.Common.{◌≡◌, ◌≢◌, ⊎_elim, ℕ, zero, suc, ◌+◌, ◌-◌, ◌<◌, ◌≤◌, ◌==◌, nat_eq, Bool, true, false, if◌then◌else◌, sum_by, List, [], ◌∷◌, ◌++◌, length, get_or, set, refl, sym, ap, subst, ◌∙◌, arith}
-use Rattle.std.specs.Prelude.{AllPairs, Contains}
+use Rattle.std.specs.Prelude.{Contains}
 use Rattle.std.specs.List.{flat_map}
 use Rattle.std.proofs.Math.ListN.{get_or-map}
 use Rattle.std.proofs.Math.Seq.{map-set_same}
@@ -14,19 +14,15 @@ use Rattle.std.proofs.lemmas.List.Sums.{get_or-le-sum_by, sum_by-append, sum_by-
 use Rattle.roots.specs.Entry.{EntryHasSpelling}
 use Rattle.store.specs.declared.placed_entry.PlacedEntry.{PlacedEntry}
 use Rattle.store.specs.declared.holding.Holding.{Holding}
-use Rattle.store.specs.Held.{own_sectors, lone_sectors, holders_of, IsHeldBy}
+use Rattle.store.specs.Held.{HaveOwnRows, own_sectors, lone_sectors, holders_of, IsHeldBy}
 use Rattle.store.specs.Stands.{sectors_of}
 use Rattle.store.specs.inside.Holdings.{IsUnheld, IsAtPlace, IsHeldOnce, IsHeldMore, IsLeft, IsHeldLess, IsLetGo, IsHolding, AreHoldings, with_holders, unlisted, first_holding}
 use Rattle.store.proofs.Counts.{occurs, occurs-flat_map}
 use Rattle.store.proofs.HeldRows.{no_holding}
 use Rattle.store.proofs.SwapRemoves.{All-swap_remove, AllPairs-swap_remove, length-swap_remove, sum_by-swap_removed, swap_remove_cases}
 
--- no two rows have one sector
-abbrev pub HaveOwnSectors : List Holding → Type 0
-HaveOwnSectors held = AllPairs (λ a b. a.placed.at ≢ b.placed.at) held
-
--- so two places with one sector are one place
-pub same_place : (held : List Holding) (i j : ℕ) (d : Holding) → HaveOwnSectors held → i < length held → j < length held → (get_or held i d).placed.at ≡ (get_or held j d).placed.at → i ≡ j
+-- two places with one sector are one place
+pub same_place : (held : List Holding) (i j : ℕ) (d : Holding) → HaveOwnRows held → i < length held → j < length held → (get_or held i d).placed.at ≡ (get_or held j d).placed.at → i ≡ j
 same_place held i j d own first second same = ⊎_elim
     (λ less. absurd (own i j d less second same))
     (λ from. ⊎_elim
@@ -40,7 +36,7 @@ pub field_set : {A : Type 0} (f : Holding → A) (held : List Holding) (place : 
 field_set f held place row same k d =
     sym (get_or-map f (set held place row) k d) ∙ ap (λ l. get_or l k (f d)) (map-set_same f held place row d (same d)) ∙ get_or-map f held k d
 
-own_set : (held : List Holding) (place : ℕ) (row : Holding) → ((d : Holding) → row.placed.at ≡ (get_or held place d).placed.at) → HaveOwnSectors held → HaveOwnSectors (set held place row)
+own_set : (held : List Holding) (place : ℕ) (row : Holding) → ((d : Holding) → row.placed.at ≡ (get_or held place d).placed.at) → HaveOwnRows held → HaveOwnRows (set held place row)
 own_set held place row same own i j d less fits = λ equal.
     let sector = λ (h : Holding). h.placed.at in
     own i j d less (omega (arith, fits, length-set held place row)) (sym (field_set sector held place row same i d) ∙ equal ∙ field_set sector held place row same j d)
@@ -266,7 +262,7 @@ by_first {old = old} {placed = placed} once =
     })
 
 -- and it has one row.
-pub by_one : {held : List Holding} {sector : ℕ} {p q : PlacedEntry} → HaveOwnSectors held → IsHeldBy held sector p → IsHeldBy held sector q → p ≡ q
+pub by_one : {held : List Holding} {sector : ℕ} {p q : PlacedEntry} → HaveOwnRows held → IsHeldBy held sector p → IsHeldBy held sector q → p ≡ q
 by_one {held = held} own first second =
     let sector = λ (placed : PlacedEntry). placed.at in
     let same = ap sector (first.is no_holding) ∙ first.its ∙ sym (ap sector (second.is no_holding) ∙ second.its) in
@@ -338,7 +334,7 @@ by_gone_other {old = old} {new = new} {sector = sector} {at = at} {p = p} {holdi
     (cases_Bool (nat_eq by.place last)))
 
 -- Where a row goes there is none of its sector,
-pub gone_unheld : {old new : List Holding} {at : ℕ} {holding : Holding} → HaveOwnSectors old → IsLetGo old new at holding → IsUnheld new at
+pub gone_unheld : {old new : List Holding} {at : ℕ} {holding : Holding} → HaveOwnRows old → IsLetGo old new at holding → IsUnheld new at
 gone_unheld {old = old} {at = at} {holding = holding} own gone =
     let sector = λ (h : Holding). h.placed.at in
     let last = length old - 1 in
@@ -351,7 +347,7 @@ gone_unheld {old = old} {at = at} {holding = holding} own gone =
     (λ other same. other (only k (omega (arith, before)) same)))
 
 -- so a version that somebody holds still has its row.
-pub by_gone : {old new : List Holding} {sector at : ℕ} {p : PlacedEntry} {holding : Holding} → HaveOwnSectors old → IsLetGo old new at holding → 0 < holders_of new sector → IsHeldBy old sector p → IsHeldBy new sector p
+pub by_gone : {old new : List Holding} {sector at : ℕ} {p : PlacedEntry} {holding : Holding} → HaveOwnRows old → IsLetGo old new at holding → 0 < holders_of new sector → IsHeldBy old sector p → IsHeldBy new sector p
 by_gone {new = new} {sector = sector} {at = at} own gone some by =
     by_gone_other gone (λ same. absurd (omega (arith, some, ap (holders_of new) same, holders_unheld new at (gone_unheld own gone)))) by
 

@@ -1,10 +1,14 @@
 -- Versions of byte strings that somebody holds, and the sectors that they keep beside the state.
-use Rattle.std.specs.Prelude.{◌≡◌, ℕ, ◌<◌, ◌==◌, List, [], ◌++◌, length, slice_index_or, sum_by, if◌then◌else◌}
+use Rattle.std.specs.Prelude.{◌≡◌, ◌≢◌, ℕ, ◌<◌, ◌==◌, List, [], ◌++◌, length, slice_index_or, sum_by, AllPairs, if◌then◌else◌}
 use Rattle.std.specs.List.{flat_map}
 use Rattle.roots.specs.declared.root.Root.{Root}
 use Rattle.store.specs.declared.placed_entry.PlacedEntry.{PlacedEntry}
 use Rattle.store.specs.declared.holding.Holding.{Holding}
 use Rattle.store.specs.Stands.{sectors_of, used}
+
+-- Each held version has one row: no two rows are of one entry sector.
+abbrev pub HaveOwnRows : List Holding → Type 0
+HaveOwnRows held = AllPairs (λ a b. a.placed.at ≢ b.placed.at) held
 
 -- the sectors that a held version keeps beside the state: all of its own where the state lists it no longer
 abbrev pub own_sectors : Holding → List ℕ

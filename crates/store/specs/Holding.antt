@@ -2,7 +2,7 @@
 use Rattle.std.specs.Prelude.{◌≡◌, ◌≢◌, ◌↔◌, ◌⊎◌, ℕ, ◌+◌, ◌-◌, ◌<◌, ◌==◌, length, slice_index_or, IsTrue, IsFalse, Result, Err, IfOk, IfErr, OnOk, OnErr, if◌then◌else◌}
 use Rattle.std.specs.Global.{Vec}
 use Rattle.std.specs.Int.{div_ceil}
-use Rattle.sector_disk.specs.Disk.{DiskFacts, sector_bytes, Mixture, LeavesOnly, AreCalls, AreCallsExactly, AreCallsAtMost}
+use Rattle.sector_disk.specs.Disk.{DiskFacts, sector_bytes, Mixture, IsUnchanged, LeavesOnly, AreCalls, AreCallsExactly, AreCallsAtMost}
 use Rattle.states.specs.State.{Library, State}
 use Rattle.store.specs.declared.placed_entry.PlacedEntry.{PlacedEntry}
 use Rattle.store.specs.declared.refusal.StoreRefusal.{StoreRefusal}
@@ -33,7 +33,8 @@ pub record ReadsHeld {D : Type 0} (facts : D → DiskFacts) (old new : Opened D)
   -- a stop at any moment leaves what it could leave before
   pub any_moment : IsTrue (facts old.disk).honest → LeavesOnly (facts old.disk) (facts new.disk) (Mixture (facts old.disk))
   pub ok : IsTrue (facts old.disk).honest → (library : Library) → HeldIs facts old held library → IfOk result (λ bytes. bytes.items ≡ library.bytes)
-  pub now : IsTrue (facts old.disk).honest → (facts new.disk).now ≡ (facts old.disk).now
+  -- reads give the same, and a stop may leave the same
+  pub unchanged : IsTrue (facts old.disk).honest → IsUnchanged (facts old.disk) (facts new.disk)
   pub others : KeepsHeld facts old new
   pub same : (s : State) → IsAt facts old s → IsAt facts new s
   -- on any disk: a read that fails doesn't make the store fail

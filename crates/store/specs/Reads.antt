@@ -2,7 +2,7 @@
 use Rattle.std.specs.Prelude.{◌≡◌, ◌≢◌, ◌↔◌, ◌⊎◌, ◌<◌, ℕ, length, slice_index_or, IsTrue, Result, Err, IfOk, IfErr, OnOk}
 use Rattle.std.specs.Global.{Vec}
 use Rattle.std.specs.Int.{div_ceil}
-use Rattle.sector_disk.specs.Disk.{DiskFacts, sector_bytes, Mixture, LeavesOnly, AreCallsExactly, AreCallsAtMost}
+use Rattle.sector_disk.specs.Disk.{DiskFacts, sector_bytes, Mixture, IsUnchanged, LeavesOnly, AreCallsExactly, AreCallsAtMost}
 use Rattle.roots.specs.declared.version.Version.{Version}
 use Rattle.store.specs.declared.placed_entry.PlacedEntry.{PlacedEntry}
 use Rattle.store.specs.declared.refusal.StoreRefusal.{StoreRefusal}
@@ -17,7 +17,8 @@ pub record ReadsBlob (version : Version) {D : Type 0} (facts : D → DiskFacts) 
   -- a stop at any moment leaves what it could leave before
   pub any_moment : IsTrue (facts old.disk).honest → LeavesOnly (facts old.disk) (facts new.disk) (Mixture (facts old.disk))
   pub ok : (s : State) → IsAtBy version facts old s → IfOk result (λ bytes. bytes.items ≡ (slice_index_or s.libraries position no_library).bytes)
-  pub now : IsTrue (facts old.disk).honest → (facts new.disk).now ≡ (facts old.disk).now
+  -- reads give the same, and a stop may leave the same
+  pub unchanged : IsTrue (facts old.disk).honest → IsUnchanged (facts old.disk) (facts new.disk)
   pub same : (s : State) → IsAtBy version facts old s → IsAtBy version facts new s
   -- on any disk: a read that fails doesn't make the store fail
   pub kept : (new.root ≡ old.root) × (new.entries ≡ old.entries) × (new.failed ≡ old.failed)

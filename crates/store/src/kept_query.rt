@@ -15,7 +15,7 @@ impl<D: Disk> Kept<D> {
     ghost use Rattle.store.specs.Stands.{HaveOwnNames, TellLengths, name_of, no_library, names_at};
     ghost use Rattle.store.specs.NameOrder.{IsOrderOf, entry_names};
     ghost use Rattle.store.specs.Names.{LacksName, IsName, IsFileSize};
-    ghost use Rattle.store.specs.Held.{IsHeldBy, holders_of};
+    ghost use Rattle.store.specs.Held.{HaveOwnRows, IsHeldBy, holders_of};
     ghost use Rattle.store.specs.Holders.{AreFlagged};
     ghost use Rattle.states.specs.State.{State};
 
@@ -26,6 +26,7 @@ impl<D: Disk> Kept<D> {
         ensures own_names { HaveOwnNames self.now.entries }
         ensures counted { result ≡ self.now.root.library_count }
         ensures flags { AreFlagged self.now }
+        ensures rows { HaveOwnRows self.now.held }
         ensures holders { (sector : ℕ) (placed : PlacedEntry) → IsHeldBy self.now.held sector placed
             → 0 < holders_of self.now.held sector }
         ensures state { (version : Version) → (s : State) → IsAtBy version D.facts self.now s

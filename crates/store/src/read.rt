@@ -50,7 +50,7 @@ impl<D: Disk> Kept<D> {
     ghost use Rattle.std.specs.Prelude.{◌≡◌, ◌≢◌, ◌<◌, ◌⊎◌, ◌↔◌, Err, IsTrue, IfOk, IfErr, OnOk};
     ghost use Rattle.std.specs.Prelude.{length, slice_index_or};
     ghost use Rattle.std.specs.Int.{div_ceil};
-    ghost use Rattle.sector_disk.specs.Disk.{sector_bytes, Mixture, LeavesOnly};
+    ghost use Rattle.sector_disk.specs.Disk.{sector_bytes, Mixture, IsUnchanged, LeavesOnly};
     ghost use Rattle.sector_disk.specs.Disk.{AreCallsExactly, AreCallsAtMost};
     ghost use Rattle.roots.specs.declared.version.Version.{Version};
     ghost use Rattle.store.specs.declared.placed_entry.PlacedEntry.{PlacedEntry};
@@ -74,8 +74,8 @@ impl<D: Disk> Kept<D> {
             bytes.items ≡ (slice_index_or s.libraries position no_library).bytes) }
         ensures same { (version : Version) → (s : State) → IsAtBy version D.facts self.old s
             → IsAtBy version D.facts self.new s }
-        ensures now { IsTrue (D.facts self.old.disk).honest
-            → (D.facts self.new.disk).now ≡ (D.facts self.old.disk).now }
+        ensures unchanged { IsTrue (D.facts self.old.disk).honest
+            → IsUnchanged (D.facts self.old.disk) (D.facts self.new.disk) }
         ensures kept { (self.new.root ≡ self.old.root) × (self.new.entries ≡ self.old.entries)
             × (self.new.failed ≡ self.old.failed) }
         ensures table { self.new.held ≡ self.old.held }

@@ -1,6 +1,6 @@
 -- What reading the files of a store does to it.
 use Rattle.std.specs.Prelude.{◌≡◌, ◌<◌, IsTrue}
-use Rattle.sector_disk.specs.Disk.{DiskFacts, Mixture, LeavesOnly, AreCalls}
+use Rattle.sector_disk.specs.Disk.{DiskFacts, Mixture, IsUnchanged, LeavesOnly, AreCalls}
 use Rattle.roots.specs.declared.version.Version.{Version}
 use Rattle.roots.specs.declared.version.Version.TheVariants.{Two}
 use Rattle.states.specs.State.{State}
@@ -14,7 +14,7 @@ use Rattle.registry.specs.declared.refusal.Refusal.TheVariants as registry
 pub record IsReadBy (version : Version) {D : Type 0} (facts : D → DiskFacts) (old new : Opened D) : Type 0 where
   pub leaves : IsTrue (facts old.disk).honest → LeavesOnly (facts old.disk) (facts new.disk) (Mixture (facts old.disk))
   pub same : (s : State) → IsAtBy version facts old s → IsAtBy version facts new s
-  pub now : IsTrue (facts old.disk).honest → (facts new.disk).now ≡ (facts old.disk).now
+  pub unchanged : IsTrue (facts old.disk).honest → IsUnchanged (facts old.disk) (facts new.disk)
   pub root : new.root ≡ old.root
   pub entries : new.entries ≡ old.entries
   pub held : new.held ≡ old.held

@@ -1,8 +1,9 @@
 -- What the calls of the table of held versions make of it, and what a store keeps of it.
-use Rattle.std.specs.Prelude.{◌≡◌, ◌≢◌, ℕ, ◌+◌, ◌<◌, false, true, List, [], ◌∷◌, ◌++◌, length, set, swap_remove, slice_index_or, All, AllPairs, Contains}
+use Rattle.std.specs.Prelude.{◌≡◌, ◌≢◌, ℕ, ◌+◌, ◌<◌, false, true, List, [], ◌∷◌, ◌++◌, length, set, swap_remove, slice_index_or, All, Contains}
 use Rattle.roots.specs.Entry.{EntryHasSpelling}
 use Rattle.store.specs.declared.placed_entry.PlacedEntry.{PlacedEntry}
 use Rattle.store.specs.declared.holding.Holding.{Holding}
+use Rattle.store.specs.Held.{HaveOwnRows}
 
 -- no version with this entry sector is held
 abbrev pub IsUnheld : List Holding → ℕ → Type 0
@@ -68,4 +69,4 @@ pub record IsHolding (entries : List PlacedEntry) (holding : Holding) : Type 0 w
 -- What a store keeps of held versions, one row each.
 pub record AreHoldings (entries : List PlacedEntry) (held : List Holding) : Type 0 where
   pub each : All (IsHolding entries) held
-  pub own : AllPairs (λ a b. a.placed.at ≢ b.placed.at) held
+  pub own : HaveOwnRows held

@@ -11,7 +11,7 @@ pub returns-in_err-bytes-clause-read : goal.returns-in_err-bytes-clause-read
 returns-in_err-bytes-clause-read g c = record {
   leaves = c.read_blob.ensures.any_moment;
   same = c.read_blob.ensures.same;
-  now = c.read_blob.ensures.now;
+  unchanged = c.read_blob.ensures.unchanged;
   root = c.read_blob.ensures.kept.0;
   entries = c.read_blob.ensures.kept.1;
   held = c.read_blob.ensures.table;
@@ -23,7 +23,7 @@ pub returns-clause-read : goal.returns-clause-read
 returns-clause-read g c = record {
   leaves = c.read_blob.ensures.any_moment;
   same = c.read_blob.ensures.same;
-  now = c.read_blob.ensures.now;
+  unchanged = c.read_blob.ensures.unchanged;
   root = c.read_blob.ensures.kept.0;
   entries = c.read_blob.ensures.kept.1;
   held = c.read_blob.ensures.table;
@@ -35,7 +35,7 @@ pub returns-in_err-admit_file-clause-read : goal.returns-in_err-admit_file-claus
 returns-in_err-admit_file-clause-read g c = record {
   leaves = c.read_blob.ensures.any_moment;
   same = c.read_blob.ensures.same;
-  now = c.read_blob.ensures.now;
+  unchanged = c.read_blob.ensures.unchanged;
   root = c.read_blob.ensures.kept.0;
   entries = c.read_blob.ensures.kept.1;
   held = c.read_blob.ensures.table;

@@ -25,8 +25,8 @@ returns-in-Err-clause-device g c is =
     (device_rose g.D.Disk.facts c.args.store c.admit_files.new.store c.in-Err.refusal c.in-Err.ensures.refusals is)
 
 pub returns-in-Ok-clause-now : goal.returns-in-Ok-clause-now
-returns-in-Ok-clause-now g c honest = c.admit_files.ensures.read.now honest
+returns-in-Ok-clause-now g c honest = (c.admit_files.ensures.read.unchanged honest).now
 
 pub returns-in-Err-clause-now : goal.returns-in-Err-clause-now
 returns-in-Err-clause-now g c honest =
-    subst (λ disk. (g.D.Disk.facts disk).now ≡ (g.D.Disk.facts c.args.store.disk).now) (sym c.into_disk.ensures) (c.admit_files.ensures.read.now honest)
+    subst (λ disk. (g.D.Disk.facts disk).now ≡ (g.D.Disk.facts c.args.store.disk).now) (sym c.into_disk.ensures) ((c.admit_files.ensures.read.unchanged honest).now)

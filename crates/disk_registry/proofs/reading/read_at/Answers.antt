@@ -13,7 +13,7 @@ pub returns-in-Current-clause-read : goal.returns-in-Current-clause-read
 returns-in-Current-clause-read g c = record {
   leaves = c.read_blob.ensures.any_moment;
   same = c.read_blob.ensures.same;
-  now = c.read_blob.ensures.now;
+  unchanged = c.read_blob.ensures.unchanged;
   root = c.read_blob.ensures.kept.0;
   entries = c.read_blob.ensures.kept.1;
   held = c.read_blob.ensures.table;
@@ -34,7 +34,7 @@ pub returns-in-Held-clause-read : goal.returns-in-Held-clause-read
 returns-in-Held-clause-read g c = record {
   leaves = c.read.ensures.any_moment;
   same = c.read.ensures.same;
-  now = c.read.ensures.now;
+  unchanged = c.read.ensures.unchanged;
   root = c.read.ensures.kept.0;
   entries = c.read.ensures.kept.1;
   held = c.read.ensures.kept.2;

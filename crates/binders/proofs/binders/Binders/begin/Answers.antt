@@ -9,7 +9,7 @@ use Rattle.binders.proofs.binders.Binders.begin.Goals as goal
 
 pub returns-in_err-binder : goal.returns-in_err-binder
 returns-in_err-binder g c =
-    let usable : IsFalse c.self.inside.registry.failed = sym c.has_failed.ensures ∙ c.if-has_failed.false in
+    let usable : IsFalse c.self.inside.registry.failed = sym c.has_failed.ensures.value ∙ c.if-has_failed.false in
     let lowest : lowest_free c.self.inside.slots ≡ Some c.in-Some.slot = sym c.lowest_free.ensures.lowest ∙ c.in-Some.is in
     let p = err_from_is_err_and c.from_residual.result c.from_residual.ensures.1 in
     subst (λ (k : Slotted g.row.D.Denot). BeginsIn g.D.Disk.facts k (with_slots c.begin.new.self c.self.inside.slots) c.args.program.now c.args.base c.from_residual.result) c.self.view_is

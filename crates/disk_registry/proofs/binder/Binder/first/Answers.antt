@@ -1,5 +1,5 @@
 use Rattle.std.proofs.Common.{ℕ, List, refl, sym, ap, subst, ◌∙◌}
-use Rattle.image.specs.Refusal.{IsFirstOrWantsMemory, program_refusal}
+use Rattle.image.specs.Refusal.{IsProgramAnswer, program_refusal}
 use Rattle.disk_registry.specs.Flying.{Flies, IsStep}
 use Rattle.disk_registry.specs.inside.Binding.{Binding, found_of}
 use Rattle.disk_registry.specs.inside.Walked.{IsWalked}
@@ -20,5 +20,5 @@ returns-in-Err-clause-step g c flight flies =
     let before : Binding = record { program = c.self.inside.program.items; base = c.self.inside.base; snapshot = c.self.inside.snapshot; found = found_of c.self.inside.walk } in
     let here : Flies g.D.Disk.facts c.args.store.now before flight = subst (λ (b : Binding). Flies g.D.Disk.facts c.args.store.now b flight) (sym c.self.view_is) flies in
     subst (λ (b : Binding). IsStep g.D.Disk.facts c.args.store.now c.args.store.now flight b c.refused.result) c.self.view_is
-    (rw c.refused.ensures (refused_at_first g.D.Disk.facts c.args.store.now before flight here (ap (λ (b : Binding). b.found) c.self.view_is ∙ c.requires) c.in-Err.refusal
-    (subst (λ (p : List ℕ). IsFirstOrWantsMemory (program_refusal p c.self.inside.base) c.in-Err.refusal) c.deref.ensures.value c.in-Err.ensures.refused)))
+    (rw c.refused.ensures.value (refused_at_first g.D.Disk.facts c.args.store.now before flight here (ap (λ (b : Binding). b.found) c.self.view_is ∙ c.requires) c.in-Err.refusal
+    (subst (λ (p : List ℕ). IsProgramAnswer p c.self.inside.base c.in-Err.refusal) c.deref.ensures.value c.in-Err.ensures.refused)))

@@ -1,6 +1,6 @@
 use Rattle.std.proofs.Common.{◌<◌, ℕ, sym, subst}
 use Rattle.store.specs.declared.placed_entry.PlacedEntry.{PlacedEntry}
-use Rattle.store.specs.Held.{IsHeldBy, holders_of}
+use Rattle.store.specs.Held.{HaveOwnRows, IsHeldBy, holders_of}
 use Rattle.store.specs.Holders.{AreFlagged}
 use Rattle.store.proofs.GivenUp.{flags}
 use Rattle.store.specs.Opened.{IsAtBy}
@@ -11,6 +11,9 @@ use Rattle.store.proofs.kept.Kept.count.Goals as goal
 
 pub returns-clause-flags : goal.returns-clause-flags
 returns-clause-flags g c = subst (λ store. AreFlagged store) c.self.view_is (flags c.self.invariant.0)
+
+pub returns-clause-rows : goal.returns-clause-rows
+returns-clause-rows g c = subst (λ store. HaveOwnRows store.held) c.self.view_is c.self.invariant.0.rows.own
 
 pub returns-clause-holders : goal.returns-clause-holders
 returns-clause-holders g c =
