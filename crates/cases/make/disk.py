@@ -8,7 +8,7 @@ from functools import lru_cache
 
 import rules
 from scripts import (
-    IN_CATALOGUE, MOST_LIBRARIES, MOST_PRELOADS, SECTOR, Model, are_distinct, catalogues_for, sectors_of, soname)
+    IN_CATALOGUE, MOST_LIBRARIES, MOST_PRELOADS, SECTOR, SLOTS, Model, are_distinct, catalogues_for, sectors_of, soname)
 from sectors import (
     FEWEST, MAGIC, MOST, MOST_EXTENTS, Entry, Root, padded, read_catalogue, read_entry, read_root, spelt_catalogue, spelt_entry,
     spelt_root)
@@ -22,10 +22,11 @@ class Refused(Exception):
 
 
 class OnDisk(Model):
-    """A registry on a disk that is bytes: its current root, the sectors of its entries, and the entries."""
+    """A registry on a disk that is bytes: its current root, the sectors of its entries, and the entries; and its binders, each
+    with the sectors of the entries that it may read, and these entries."""
 
     def __init__(self, data):
-        self.data = bytearray(data)
+        self.data, self.slots = bytearray(data), [None] * SLOTS
 
     def count(self):
         return len(self.data) // SECTOR
@@ -87,7 +88,8 @@ class OnDisk(Model):
     def unspent(self, libraries):
         """The free sectors that a registry of so many libraries with these entries counts: all that are neither a root's nor an
         entry's nor a file's, without two for each catalogue."""
-        return self.count() - 2 - sum(sectors_of(e.length) + 1 for e in self.entries) - 2 * catalogues_for(libraries)
+        entries = self.entries + list(self.only_held().values())
+        return self.count() - 2 - sum(sectors_of(e.length) + 1 for e in entries) - 2 * catalogues_for(libraries)
 
     def is_short(self):
         """Whether its catalogues couldn't be written anew."""
@@ -162,10 +164,25 @@ class OnDisk(Model):
     def preloads(self):
         return [self.entries[p].name for p in self.root.preloads]
 
+    # Binders
+
+    def begin(self, base, program):
+        told = super().begin(base, program)
+        if told.startswith('slot '):
+            self.slots[int(told[5:])].versions = list(zip(self.places, self.entries))
+        return told
+
+    def only_held(self):
+        """What binders have and the registry hasn't: entries by their sectors."""
+        held = {place: entry for flight in self.slots if flight for place, entry in flight.versions}
+        return {place: entry for place, entry in held.items() if place not in self.places}
+
     # Which sectors a change takes
 
     def free(self):
-        used = set(self.used(self.entries))
+        held = self.only_held()
+        used = set(self.used(self.entries)) | set(held) | {
+            k for e in held.values() for start, n in e.extents for k in range(start, start + n)}
         return [k for k in range(2, self.count()) if k not in used]
 
     def free_runs(self):

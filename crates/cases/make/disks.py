@@ -16,7 +16,7 @@ from make import DATA, write_list
 from on_disk import (
     A, B_520, CASES, NAMED_Q, bytes_of, changed, each_command, each_opening, find_files, keep, library, listed, on, put, spelt)
 from samples import DEFINED, FUNC, GLOBAL, Object, Symbol, build
-from scripts import SECTOR
+from scripts import ABSOLUTE_F, SECTOR
 from sectors import Entry, Root, padded, spelt_catalogue, spelt_entry, spelt_root
 from wrong_disks import tell
 
@@ -31,11 +31,13 @@ def prepare():
     keep('longer.so', padded(a, 1537))
     keep('strong.so', library(b'b', symbols=[Symbol(b'f', GLOBAL, FUNC, DEFINED)]))
     keep('hundredth.so', build(Object(needed=[b'a']))[0])
+    keep('absolute.so', ABSOLUTE_F)
     keep('formatted.disk', changed(None, 'format disk 8'))
     keep('one.disk', changed(bytes_of('formatted.disk'), f'install disk {A}'))
     keep('replaced.disk', changed(bytes_of('one.disk'), f'replace disk {A}'))
     keep('full.disk', changed(bytes_of('formatted.disk'), 'install disk long.so'))
     keep('pair.disk', changed(None, 'format disk 16', 'install disk first.so', 'install disk strong.so'))
+    keep('left.disk', changed(bytes_of('formatted.disk'), 'install disk first.so', 'replace disk absolute.so'))
     keep('three.disk', changed(None, 'format disk 16', f'install disk {A}', f'install disk {NAMED_Q}', f'install disk {B_520}',
                                'preload disk b a'))
     keep('gap.disk', changed(bytes_of('three.disk'), 'remove disk q'))
@@ -379,6 +381,15 @@ def scripts():
             run(sixty_four, name, status) for name, status in (
                 ('bind-alone', 0), ('bind-levels', 0), ('bind-state', 1), ('bind-segments', 1), ('bind-protected', 0), ('bind-files', 1),
                 ('bind-refused', 1), ('bind-names', 1), ('session', 1))]),
+        ('Binders: what they have keeps its sectors until they end.', [
+            run('formatted.disk', name, 1) for name in ('binder', 'binder-removed', 'binder-cancelled', 'binder-stepped', 'slots')]
+            + [run(sixty_four, name, 1) for name in ('binders', 'binder-refused', 'slots-freed')]),
+        ('Nothing is left on the disk of a binder that lives at the end of a script: the next commands have the sectors that it had.', [
+            on('formatted.disk', 'script disk', '0 file script-binder-left.output', 'left.disk', 'script-binder-left.script',
+               'script-binder-left.output'),
+            on('left.disk', 'script disk', '1 refused C8 NoSuchBinder', 'same', 'bytes=' + b'advance 0\n'.hex()),
+            on('left.disk', 'replace disk absolute.so', '0 ok', has='0x400=@absolute.so'),
+            on('left.disk', 'remove disk a', '0 ok')]),
         ('Binds over symbolic libraries.', [
             run(sixty_four, name, status) for name, status in (
                 ('bind-symbolic', 0), ('bind-flags', 0), ('symbolic-first', 1), ('symbolic-refused', 1))]),

@@ -542,6 +542,8 @@ def binders():
                  ['ok', 'slot 0', 'ok', 'refused S7 Full', 'ok', 'ok'] + last + [no_binder]),
             stored('script-binder-stepped', 8, start + [b'advance 0', b'advance 0', other, b'cancel 0', other, b'advance 0'],
                    ['ok', 'slot 0', 'ok', 'going', 'going', 'refused S7 Full', 'ok', 'ok', no_binder])]),
+        ('A binder that lives at the end of its script.', [
+            stored('script-binder-left', 8, start + [b'advance 0'], ['ok', 'slot 0', 'ok', 'going'])]),
         ('Eight binders live at once; the next has the lowest slot that is free, after a cancel and after a last answer. Slots 8\n'
          'and 9 are never taken.', [
             stored('script-slots', 8, [begin(ASKING_A)] * 9 + [b'cancel 3', begin(ASKING_A)] + [b'advance 8', b'cancel 8', b'advance 9', b'cancel 9'],
