@@ -348,6 +348,9 @@ def damaged():
                 '02000000030000000400000000')]),
         ('Each command on a disk that is damaged.', each_opening('one.disk 0x0=00', s5)),
         ('Each on a disk that was not formatted.', each_opening('bytes= pad=4096', '1 refused S3 NotFormatted')),
+        ('The magic of either version, and no root behind it.', [
+            on(f'bytes={magic} pad=4096', words, '1 refused S5 Damaged', 'same')
+            for magic in ('524c494252454731', '524c494252454732') for words in ('list disk', 'upgrade disk')]),
         ('Each on a file that is no disk: half a sector, one byte, seven sectors, none.',
          [case for before in ('one.disk cut=3840', 'one.disk pad=4097', 'one.disk cut=3584', 'empty')
           for case in each_opening(before, '1 refused S6 BadGeometry')]),

@@ -5,7 +5,6 @@ mod disks;
 mod files;
 mod large;
 mod lines;
-mod old_disks;
 mod runs;
 mod samples;
 mod scripts;

@@ -38,45 +38,29 @@ fn put_header(
 /// The length of the tables: a hash table of one bucket, symbol 0, and eight bytes of strings.
 const TABLES: u64 = 16 + 24 + 8;
 
-/// An entry of a dynamic section: its tag, and its value.
-type Entry = (u64, u64);
-
-/// The entries that a name takes, of one letter: none, a SONAME or a needed name.
-const NO_NAME: &[Entry] = &[];
-
-const SONAME: &[Entry] = &[(14, 1)];
-
-const NEEDED: &[Entry] = &[(1, 1)];
-
-/// Appends the tables with a name of one letter in the strings, and a dynamic section that says at
-/// which address they stand.
-fn put_tables(file: &mut Vec<u8>, address: u32, names: &[Entry], letter: u8) -> Result<(), Fail> {
+/// Appends the tables, and a dynamic section that says at which address they stand.
+fn put_tables(file: &mut Vec<u8>, address: u32) -> Result<(), Fail> {
     let address = u64::from(address);
     for word in [1u32, 1, 0, 0] {
         file.extend_from_slice(&word.to_le_bytes())?;
     }
-    file.extend_from_slice(&[0; 25])?;
-    file.extend_from_slice(&[letter, 0, 0, 0, 0, 0, 0])?;
-    put_entries(file, names)?;
-    // HASH, SYMTAB, STRTAB, STRSZ and SYMENT, and the end.
-    put_entries(
-        file,
-        &[
-            (4, address),
-            (6, address + 16),
-            (5, address + 40),
-            (10, 3),
-            (11, 24),
-            (0, 0),
-        ],
-    )
-}
-
-/// Appends entries of a dynamic section.
-fn put_entries(file: &mut Vec<u8>, entries: &[Entry]) -> Result<(), Fail> {
-    for entry in entries {
-        file.extend_from_slice(&entry.0.to_le_bytes())?;
-        file.extend_from_slice(&entry.1.to_le_bytes())?;
+    file.extend_from_slice(&[0; 32])?;
+    // HASH, SYMTAB, STRTAB, STRSZ and SYMENT, and the end: a tag and a value each.
+    for field in [
+        4u64,
+        address,
+        6,
+        address + 16,
+        5,
+        address + 40,
+        10,
+        3,
+        11,
+        24,
+        0,
+        0,
+    ] {
+        file.extend_from_slice(&field.to_le_bytes())?;
     }
     Ok(())
 }
@@ -92,25 +76,6 @@ pub(crate) fn of_segments(alloc: Global, count: u16) -> Result<Vec<u8>, Fail> {
     }
     put_header(&mut file, 1, tables, u64::from(address), (TABLES, TABLES))?;
     put_header(&mut file, 2, tables + TABLES, 0, (96, 96))?;
-    put_tables(&mut file, address, NO_NAME, 0)?;
+    put_tables(&mut file, address)?;
     Ok(file)
-}
-
-/// An object of one segment, and an entry of its dynamic section that has a name of one letter.
-fn with_name(alloc: Global, names: &[Entry], letter: u8) -> Result<Vec<u8>, Fail> {
-    let mut file = header(alloc, 2)?;
-    put_header(&mut file, 1, 0, 0, (336, 336))?;
-    put_header(&mut file, 2, 224, 0, (112, 112))?;
-    put_tables(&mut file, 176, names, letter)?;
-    Ok(file)
-}
-
-/// A library of 336 bytes, with a name of one letter.
-pub(crate) fn library(alloc: Global, letter: u8) -> Result<Vec<u8>, Fail> {
-    with_name(alloc, SONAME, letter)
-}
-
-/// A program of 336 bytes that needs a library with a name of one letter.
-pub(crate) fn needing(alloc: Global, letter: u8) -> Result<Vec<u8>, Fail> {
-    with_name(alloc, NEEDED, letter)
 }
