@@ -65,6 +65,18 @@ READING = [
         'store/Step: refusal_of_upgrade IsUpgradeAnswer']),
 ]
 PLAIN = {
+    'disk_registry/Acknowledged: Exchange': 'what was asked and answered: a command with its reply, or none, as of a step of a binder',
+    'disk_registry/Flight: goings_by': 'the length of a load order; 0 where a test refuses the program by itself',
+    'disk_registry/Flight: goings': 'how many steps are answered Going before the last one: one for the program, one for each library of the load order',
+    'disk_registry/Flight: sectors_at': 'the data sectors of the library at a place of the load order, if there is one',
+    'disk_registry/Flight: IsBounded': 'at most L + 1 steps are answered Going, of L libraries, and no step reads more sectors than one of these has',
+    'disk_registry/Flying: Flies': 'the binder is on this flight: it holds, in the registry as it is now, the libraries of the state that it was begun at',
+    'disk_registry/Flying: IsStep': 'what a step may be answered: Going, one step further; the answer, after exactly as many steps; or S1, S2, S11',
+    'disk_registry/Flying: IsLastStep': 'the same of a step',
+    'disk_registry/Versions: AreVersions': 'each held version has one row and some holder, and counts as listed exactly where the state lists it',
+    'binders/Events: happening_of': 'what an event asks',
+    'binders/EventsRan: exchanges': 'what events and their replies are to the state',
+    'binders/Stepped: SteppedIn': 'the flights after a step: one step further, over with the answer of the bind, or where it was',
     # What the comment leaves to its context, or what is longer than a row: in one plain sentence, here and in the table.
     'elf_file/Address: bytes_at': 'so many bytes at an address, where one PT_LOAD of the file has them',
     'elf_dynamic/Strings: soname': "the library's own name, DT_SONAME, where it has one",
@@ -150,7 +162,7 @@ CRATES = [
     ('text_output', 'Text on its way to a writer'), ('image', 'Images'), ('registry', 'The registry and its step table'),
     ('sector_disk', 'The disk model'), ('file_disk', 'A disk over a file'), ('extents', 'Free and claimed sectors'),
     ('states', 'States'), ('roots', 'Root, catalogue and entry sectors'), ('passes', 'Passes over a disk'), ('store', 'Named byte strings'),
-    ('disk_registry', 'The registry on a disk'), ('commands', 'The program')]
+    ('snapshots', 'Snapshots'), ('disk_registry', 'The registry on a disk'), ('binders', 'Binders in slots'), ('commands', 'The program')]
 STANDARD = re.compile(r'\(([^()]*(?:\([^()]*\)[^()]*)*)\)')
 VALUE = re.compile(r'^\S+ = (0x[0-9a-f]+|[0-9]+)$')
 FIELD = re.compile(r'^[pe]_[a-z]+')
