@@ -1,3 +1,4 @@
+use Rattle.std.proofs.Common.{refl}
 use Rattle.commands.proofs.Statuses.{run_ends}
 use Rattle.commands.proofs.script_on_disk.script.Goals as goal
 
