@@ -31,7 +31,7 @@ greatest_answers : (s t : Status) → s ≢ BadWords → t ≢ BadWords → grea
 greatest_answers s t hs ht = either (nat_lt (status_number s) (status_number t)) s t hs ht
 
 event_answers : (r : EventReply) → event_status r ≢ BadWords
-event_answers (event.Replied reply) = reply_answers reply
+event_answers (event.Replied reply) h = reply_answers reply h
 event_answers (event.Slot slot) h = cc
 event_answers event.Going h = cc
 
