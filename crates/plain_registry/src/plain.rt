@@ -83,6 +83,11 @@ impl PlainRegistry {
         }
     }
 
+    /// Gives it the room of a disk of so many sectors from now on.
+    pub fn set_sectors(&mut self, sectors: u32) {
+        self.sectors = sectors;
+    }
+
     // The place of the library of a name.
     fn place(&self, name: &[u8]) -> Option<usize> {
         self.files

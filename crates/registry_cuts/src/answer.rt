@@ -1,6 +1,8 @@
 // Answers of a registry as they can be compared.
 
 use anyhow::{Result, bail};
+use binders::EventReply;
+use names::Name;
 use registry::{Listing, Refusal, Reply};
 use std::alloc::Global;
 
@@ -33,19 +35,29 @@ fn opening_calls(listing: &Listing) -> u64 {
     calls
 }
 
-/// How many sectors a bind reads of what is listed: those of the library that is needed, and those
-/// of the preloads. Libraries need none.
-pub(crate) fn reads_of(listing: &Listing, needed: u8) -> u64 {
-    let mut reads = 0u64;
+// Adds how many sectors the library of a name takes, if it is listed.
+fn add_sectors(sectors: &mut Vec<u64>, listing: &Listing, wanted: &[u8]) -> Result<()> {
     for (name, length) in &listing.libraries {
-        let name = name.as_bytes();
-        if name == [needed].as_slice()
-            || listing.preloads.iter().any(|one| one.as_bytes() == name)
-        {
-            reads = reads.saturating_add(sectors_of(*length));
+        if name.as_bytes() == wanted {
+            sectors.push(sectors_of(*length))?;
         }
     }
-    reads
+    Ok(())
+}
+
+/// How many sectors a bind reads of each library that it reads, in its order: the preloads, and
+/// then the library that is needed. Libraries need none.
+pub(crate) fn reads_of(alloc: Global, listing: &Listing, needed: u8) -> Result<Vec<u64>> {
+    let mut reads = Vec::new(alloc);
+    for name in &listing.preloads {
+        add_sectors(&mut reads, listing, name.as_bytes())?;
+    }
+    let needed = [needed];
+    let is_preload = |name: &Name| name.as_bytes() == needed.as_slice();
+    if !listing.preloads.iter().any(is_preload) {
+        add_sectors(&mut reads, listing, &needed)?;
+    }
+    Ok(reads)
 }
 
 // The libraries with their lengths, and the preloads.
@@ -86,6 +98,24 @@ impl Answer {
             refusal: refused,
             opening,
         })
+    }
+
+    // What has no text of a registry: a word.
+    fn word(alloc: Global, word: &[u8]) -> Result<Answer> {
+        Ok(Answer {
+            text: Vec::from_slice(alloc, word)?,
+            refusal: None,
+            opening: 0,
+        })
+    }
+
+    /// What the reply to an event says.
+    pub(crate) fn of_event(alloc: Global, reply: EventReply) -> Result<Answer> {
+        match reply {
+            EventReply::Replied(reply) => Answer::of(alloc, reply),
+            EventReply::Slot(slot) => Answer::word(alloc, &slot.to_le_bytes()),
+            EventReply::Going => Answer::word(alloc, b"going"),
+        }
     }
 
     /// What replies say.

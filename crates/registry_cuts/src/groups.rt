@@ -1,6 +1,7 @@
 // The groups, each with its line.
 
 use crate::change::Change;
+use crate::flights::{cut_flights, end_flights, keep_nothing};
 use crate::game::{EXCHANGED_ROUNDS, ROUNDS, play_rounds};
 use crate::lists::{EXCHANGED_LIST, LISTS};
 use crate::lives::{cut_lists, cut_lives};
@@ -68,6 +69,16 @@ fn round_group<R: Print + AllocGlobal>(rt: &R, all: &mut Tally) -> Result<()> {
     all.end(rt, &tally)
 }
 
+// The groups of binders.
+fn binder_groups<R: Print + AllocGlobal>(rt: &R, all: &mut Tally) -> Result<()> {
+    let mut tally = Tally::new("binders in flight");
+    cut_flights(rt, &mut tally)?;
+    all.end(rt, &tally)?;
+    let mut tally = Tally::new("versions that binders keep");
+    end_flights(rt, &mut tally)?;
+    all.end(rt, &tally)
+}
+
 // The groups of many commands.
 fn life_groups<R: Print + AllocGlobal>(rt: &R, all: &mut Tally) -> Result<()> {
     life_group(rt, all)?;
@@ -108,12 +119,20 @@ fn wrong_upgrades<R: Print + AllocGlobal>(rt: &R) -> Result<()> {
     tally.print(rt)
 }
 
+// Binders that are taken to keep nothing.
+fn wrong_binders<R: Print + AllocGlobal>(rt: &R) -> Result<()> {
+    let mut tally = Tally::quiet("binders that keep nothing, on purpose");
+    keep_nothing(rt, &mut tally)?;
+    tally.print(rt)
+}
+
 // All that is wrong on purpose.
 fn wrong_groups<R: Print + AllocGlobal>(rt: &R) -> Result<()> {
     wrong_group(rt)?;
     wrong_upgrades(rt)?;
     wrong_list(rt)?;
-    wrong_rounds(rt)
+    wrong_rounds(rt)?;
+    wrong_binders(rt)
 }
 
 /// Runs all groups.
@@ -126,6 +145,7 @@ pub(crate) fn run<R: Print + AllocGlobal>(rt: &R) -> Result<()> {
     cut_group(rt, &mut all, "refused and read", false, &OTHERS)?;
     upgrade_group(rt, &mut all)?;
     life_groups(rt, &mut all)?;
+    binder_groups(rt, &mut all)?;
     all.print(rt)?;
     wrong_groups(rt)
 }

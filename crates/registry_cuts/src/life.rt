@@ -33,6 +33,24 @@ pub(crate) struct Place {
     pub(crate) cut: Cut,
 }
 
+impl Place {
+    /// How what is at this place of the list is cut, if it makes a call of the disk.
+    pub(crate) fn cut_at(self, at: usize) -> Option<Cut> {
+        if at == self.step {
+            Some(self.cut)
+        } else if at > self.step && self.cut.forever {
+            let cut = Cut {
+                call: 1,
+                late: false,
+                ..self.cut
+            };
+            Some(cut)
+        } else {
+            None
+        }
+    }
+}
+
 // Whether a call of a command fails that isn't the first one to fail.
 fn fails_later(step: &Step, cut: Cut) -> bool {
     cut.forever && step.calls > 0
@@ -184,8 +202,8 @@ impl Life {
     }
 }
 
-// The calls of one command, before which so many others are made.
-fn add_places(
+/// The calls of one command, before which so many others are made.
+pub(crate) fn add_places(
     alloc: Global,
     places: &mut Vec<Place>,
     step: usize,

@@ -4,7 +4,9 @@
 
 mod answer;
 mod change;
+mod course;
 mod cut;
+mod flights;
 mod game;
 mod groups;
 mod life;
@@ -12,6 +14,7 @@ mod lists;
 mod lives;
 mod old;
 mod opening;
+mod plain_binders;
 mod probe;
 mod rounds;
 mod scenario;

@@ -6,12 +6,13 @@ use registry::Command;
 use std::alloc::Global;
 
 /// The files of what a registry is asked: a program that needs a library, one that needs none, and
-/// a library.
+/// a library; and those that are installed to see how many sectors are free.
 #[derive(Drop)]
 pub(crate) struct Probe {
     needing: Vec<u8>,
     alone: Vec<u8>,
     library: Vec<u8>,
+    fitting: Vec<Vec<u8>>,
 }
 
 // The command that binds a program.
@@ -29,7 +30,19 @@ impl Probe {
             needing: program(alloc, name)?,
             alone: library(alloc, b'p', 0, SIZE)?,
             library: library(alloc, b'q', 0, SIZE)?,
+            fitting: Vec::new(alloc),
         })
+    }
+
+    /// The same, and how many of so many sectors are free: libraries of one name that take one
+    /// sector less each time, of which the first is installed that fits.
+    pub(crate) fn of_room(alloc: Global, name: u8, sectors: u32) -> Result<Probe> {
+        let mut probe = Probe::of_name(alloc, name)?;
+        for count in (1..sectors as usize).rev() {
+            let file = library(alloc, b'z', 0, count.saturating_mul(512))?;
+            probe.fitting.push(file)?;
+        }
+        Ok(probe)
     }
 
     /// What shows a change: the library that it is about is bound, or else a.
@@ -42,9 +55,14 @@ impl Probe {
         Probe::of_name(alloc, name)
     }
 
-    /// A listing and two binds: all that is seen of a state.
-    pub(crate) fn looks(&self) -> [Command<'_>; 3] {
-        [Command::List, bind(&self.needing), bind(&self.alone)]
+    /// A listing and two binds: all that is seen of a state; and then what shows its free sectors.
+    pub(crate) fn looks(&self, alloc: Global) -> Result<Vec<Command<'_>>> {
+        let looks = [Command::List, bind(&self.needing), bind(&self.alone)];
+        let mut looks = Vec::from_slice(alloc, &looks)?;
+        for file in &self.fitting {
+            looks.push(Command::Install(file))?;
+        }
+        Ok(looks)
     }
 
     /// A change, a listing and a bind: what comes behind a change that failed.

@@ -19,12 +19,18 @@ pub(crate) enum Seen {
     Refused(StoreRefusal),
 }
 
-// Asks a registry.
+// What a registry answers.
+fn answers(alloc: Global, registry: &mut Registry<Powered>, probe: &Probe) -> Result<Vec<Answer>> {
+    let replies = registry.run(&probe.looks(alloc)?)?;
+    Answer::all(alloc, replies)
+}
+
+// Asks a registry, and is done with it.
 fn ask(alloc: Global, registry: Registry<Powered>, probe: &Probe) -> Result<Vec<Answer>> {
     let mut registry = registry;
-    let replies = registry.run(&probe.looks());
+    let replies = answers(alloc, &mut registry, probe);
     let _ = registry.into_disk();
-    Answer::all(alloc, replies?)
+    replies
 }
 
 /// Upgrades a disk, as it stands behind its fuse, and asks.
@@ -51,7 +57,7 @@ pub(crate) fn look(alloc: Global, disk: Memory, probe: &Probe) -> Result<Seen> {
 
 /// What is to be seen: what a plain registry answers, which has no disk.
 pub(crate) fn look_plain(alloc: Global, plain: &mut PlainRegistry, probe: &Probe) -> Result<Seen> {
-    let replies = plain.run(&probe.looks())?;
+    let replies = plain.run(&probe.looks(alloc)?)?;
     Ok(Seen::Stands(Answer::all(alloc, replies)?))
 }
 

@@ -23,12 +23,23 @@ fn count(plain: &mut PlainRegistry) -> usize {
     }
 }
 
-// How many sectors a bind reads; of other commands none are asked.
-fn reads(plain: &mut PlainRegistry, change: Change) -> u64 {
-    match (plain.apply(&Command::List), change) {
-        (Reply::Listing(listing), Change::Bind(needed)) => reads_of(&listing, needed),
-        _ => 0,
+/// How many sectors a bind of a program reads of each library that it reads, in its order.
+pub(crate) fn reads(alloc: Global, plain: &mut PlainRegistry, needed: u8) -> Result<Vec<u64>> {
+    match plain.apply(&Command::List) {
+        Reply::Listing(listing) => reads_of(alloc, &listing, needed),
+        _ => bail!("no listing"),
     }
+}
+
+// How many sectors a bind reads; of other commands none are asked.
+fn all_reads(alloc: Global, plain: &mut PlainRegistry, change: Change) -> Result<u64> {
+    let mut all = 0u64;
+    if let Change::Bind(needed) = change {
+        for sectors in &reads(alloc, plain, needed)? {
+            all = all.saturating_add(*sectors);
+        }
+    }
+    Ok(all)
 }
 
 /// A plain registry after these commands, with room for as much as a disk of so many sectors.
@@ -51,7 +62,7 @@ impl Step {
     /// Gives the command to a plain registry.
     pub(crate) fn of(alloc: Global, plain: &mut PlainRegistry, change: Change) -> Result<Step> {
         let ask = Ask::of(alloc, change)?;
-        let reads = reads(plain, change);
+        let reads = all_reads(alloc, plain, change)?;
         let reply = plain.apply(&ask.command());
         let calls = match &reply {
             Reply::Done => ask.calls(count(plain)),
