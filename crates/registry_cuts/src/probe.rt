@@ -35,10 +35,11 @@ impl Probe {
     }
 
     /// The same, and how many of so many sectors are free: libraries of one name that take one
-    /// sector less each time, of which the first is installed that fits.
+    /// sector less each time, of which the first is installed that fits. Roots and catalogues take
+    /// four sectors, so the first of all never fits.
     pub(crate) fn of_room(alloc: Global, name: u8, sectors: u32) -> Result<Probe> {
         let mut probe = Probe::of_name(alloc, name)?;
-        for count in (1..sectors as usize).rev() {
+        for count in (1..sectors.saturating_sub(3) as usize).rev() {
             let file = library(alloc, b'z', 0, count.saturating_mul(512))?;
             probe.fitting.push(file)?;
         }
