@@ -1,12 +1,12 @@
 #!/usr/bin/env python3
-"""Writes the tables of docs/DEFINITIONS.md anew, from the comment before each definition in `specs/`.
+"""Writes the tables of docs/DEFINITIONS.md and of the crates' READMEs anew, from the comment before each definition in `specs/`.
 
     python3 bench/definitions.py
 
-The first part is READING: the main definitions, in the order of a reading. The second has the other definitions that the
-CLAUSES of the README's tables cite, directly or through others; they are found by following the names in the clauses and in
-the definitions, down to the toolchain's own. The third has the definitions that only the contracts of single crates cite.
-What is written by hand stays: the text outside the `<!-- .. -->` marks. Nothing is written where a clause or a definition
+The page has READING: the main definitions, in the order of a reading. Each crate's README has its other definitions: first
+those that the CLAUSES of the README's tables cite, directly or through others, which are found by following the names in the
+clauses and in the definitions, down to the toolchain's own; then those that only contracts of single crates cite. What is
+written by hand stays: the text outside the `<!-- .. -->` marks. Nothing is written where a clause or a definition
 of READING or PLAIN isn't there any more, where no clause rests on a definition of READING, or where CRATES doesn't name
 each crate that has definitions once.
 
@@ -20,19 +20,23 @@ from pathlib import Path
 
 ROOT = Path(__file__).resolve().parent.parent
 PAGE = ROOT / 'docs' / 'DEFINITIONS.md'
-MARKS = ['numbers', 'reading', 'cited', 'rest']
+HEADINGS = ('### That clauses of the repository\'s README rest on', '### Of contracts of single crates')
 WIDEST = 160
 CLAUSES = [
     ('sector_disk/disk', 'read write sync', 'calls honest'),
     ('sector_disk/disk', 'sync', 'holds_now whole_sectors'),
-    ('disk_registry/format', 'format', 'any_moment'),
-    ('disk_registry/open', 'open', 'any_moment stands ok refused'),
-    ('disk_registry/upgrade', 'upgrade', 'any_moment left_alone unwritten now now_refused ok stands stands_old answer refused'),
-    ('disk_registry/apply', 'apply', 'applied'),
-    ('disk_registry/apply', 'run', 'ok'),
+    ('registry/format', 'format', 'any_moment'),
+    ('registry/open', 'open', 'any_moment stands ok refused'),
+    ('registry/upgrade', 'upgrade', 'any_moment left_alone unwritten now now_refused ok stands stands_old answer refused'),
+    ('registry/apply', 'apply', 'applied'),
+    ('registry/apply', 'run', 'ok'),
     ('binders/run', 'run_events', 'ok'),
     ('commands/disk_script', 'run_script_on_disk', 'ok err'),
-    ('disk_registry/rounds', 'run_rounds', 'ok'),
+    ('registry/rounds', 'run_rounds', 'ok'),
+    ('rlibreg_c/bind', 'rlibreg_bind', 'image answered'),
+    ('rlibreg_c/change', 'rlibreg_plan_install rlibreg_plan_replace rlibreg_plan_remove', 'plan answered'),
+    ('rlibreg_c/format', 'rlibreg_plan_format', 'plan answered'),
+    ('rlibreg_c/upgrade', 'rlibreg_plan_upgrade', 'plan answered'),
 ]
 READING = [
     ('1. Files', 'What the bytes of a file say, and when they are refused (gABI chapters 4 and 5).', [
@@ -47,33 +51,43 @@ READING = [
         'image/Placement: place', 'image/Relocating: value_of', 'image/Byte: byte_of', 'image/Image: image_of',
         'image/Refusal: bind_tests']),
     ('5. States and steps', 'What a registry holds, how a command may be answered, and what state this leaves (own).', [
-        'registry/Library: IsLibrary', 'states/State: State', 'states/Cost: cost catalogues_for taken_by free',
-        'registry/Tests: tests_of',
-        'registry/Step: accepted IsReply Breaks LacksRead Step']),
+        'requests/Library: IsLibrary', 'states/State: State', 'states/Cost: cost catalogues_for taken_by free',
+        'requests/Tests: tests_of',
+        'requests/Step: accepted IsReply LacksWrite LacksRead Step']),
     ('6. Sectors', 'Which lists of sectors hold a state (own; `docs/FORMATS.md` has the formats).', [
         'roots/Choice: IsCurrent', 'store/Stands: AreCatalogued AreListed HasRoom IsIntact state_of Stands StandsOld',
-        'disk_registry/Stands: Stands StandsOld']),
+        'registry/Stands: Stands StandsOld']),
     ('7. Disks and mixtures', 'What each call does to an honest disk, and what a stop may leave of it (own).', [
         'sector_disk/Disk: DiskFacts Mixture IsRead IsWrite IsSync LeavesOnly']),
     ('8. Crash safety', 'What a stop leaves at each moment of one command, of many, of a script and of rounds (own).', [
-        'disk_registry/Opened: IsAt', 'disk_registry/Applied: MayLeave Applied',
-        'disk_registry/Acknowledged: Exchange acknowledged AreAccepted',
-        'disk_registry/Ran: Idles HasBegun HoldsAcknowledged LeavesAccepted FindsAccepted Ran',
-        'commands/DiskScript: LinesRan', 'disk_registry/Rounds: AlwaysStands RoundLeads']),
+        'registry/Opened: IsAt', 'registry/Applied: MayLeaveWithin Applied',
+        'registry/Acknowledged: Exchange acknowledged AreAccepted',
+        'registry/Ran: Idles HasBegun HoldsAcknowledged LeavesAccepted FindsAccepted Ran',
+        'commands/DiskScript: LinesRan', 'registry/Rounds: AlwaysStands RoundLeads']),
     ('9. Disks of version 1', 'What opening says of such a disk, and what an upgrade makes of it (own).', [
-        'store/Opening: RefusesOpen', 'store/Upgraded: upgraded', 'disk_registry/Upgraded: IsUpgradeOf',
+        'store/Opening: RefusesOpen', 'store/Upgraded: upgraded', 'registry/Upgraded: IsUpgradeOf',
         'store/Step: refusal_of_upgrade IsUpgradeAnswer']),
 ]
 PLAIN = {
-    'disk_registry/Acknowledged: Exchange': 'what was asked and answered: a command with its reply, or none, as of a step of a binder',
-    'disk_registry/Flight: goings_by': 'the length of a load order; 0 where a test refuses the program by itself',
-    'disk_registry/Flight: goings': 'how many steps are answered Going before the last one: one for the program, one for each library of the load order',
-    'disk_registry/Flight: sectors_at': 'the data sectors of the library at a place of the load order, if there is one',
-    'disk_registry/Flight: IsBounded': 'at most L + 1 steps are answered Going, of L libraries, and no step reads more sectors than one of these has',
-    'disk_registry/Flying: Flies': 'the binder is on this flight: it holds, in the registry as it is now, the libraries of the state that it was begun at',
-    'disk_registry/Flying: IsStep': 'what a step may be answered: Going, one step further; the answer, after exactly as many steps; or S1, S2, S11',
-    'disk_registry/Flying: IsLastStep': 'the same of a step',
-    'disk_registry/Versions: AreVersions': 'each held version has one row and some holder, and counts as listed exactly where the state lists it',
+    'byte_disk/ByteDisk: IsPlanOf': 'what a plan is to its disk: at each of its steps it leaves what the disk said of a moment, and each moment has such a step',
+    'byte_disk/Plan: MayBeLeft': 'a stop after these steps may leave a sector with the content that it had when the last sync was done, or after some step since',
+    'byte_registry/Asked: IsAsked': 'the bytes hold this state alone; the reply is by the step table, and once it is Done the steps lead to the state of acceptance',
+    'byte_registry/Asked: IsFormatted': 'no root was ever written there, and the steps lead from the sectors as they were to such that stand for the empty state',
+    'byte_registry/Asked: IsUpgraded': 'the steps lead from a state by the rules of version 1 to the one after it; or leave one by those of version 2',
+    'byte_registry/Asked: IsUnupgraded': 'why none is upgraded: a test of an upgrade, want of memory, or what a look at the bytes refuses',
+    'byte_registry/Plans: LeadsFrom': 'each mixture after each prefix of the steps is as before or as after, and each after all of them as after',
+    'rlibreg_c/Answers: IsPreloadAnswered': 'a choice of the preloads, answered as a change; or the bytes are no names in a row; or memory was refused',
+    'rlibreg_c/Layout: IsImageOf': 'the buffers have the image that is defined over the registry that the bytes hold, with the defined byte at each address',
+    'commands/Reply: command_refusal_text': 'the line of a refusal; after C1 comes that of the file; that of a bind or of a disk is as without a command',
+    'registry/Acknowledged: Exchange': 'what was asked and answered: a command with its reply, or none, as of a step of a binder',
+    'registry/Flight: goings_by': 'the length of a load order; 0 where a test refuses the program by itself',
+    'registry/Flight: goings': 'how many steps are answered Going before the last one: one for the program, one for each library of the load order',
+    'registry/Flight: sectors_at': 'the data sectors of the library at a place of the load order, if there is one',
+    'registry/Flight: IsBounded': 'at most L + 1 steps are answered Going, of L libraries, and no step reads more sectors than one of these has',
+    'registry/Flying: Flies': 'the binder is on this flight: it holds, in the registry as it is now, the libraries of the state that it was begun at',
+    'registry/Flying: IsStep': 'what a step may be answered: Going, one step further; the answer, after exactly as many steps; or S1, S2, S11',
+    'registry/Flying: IsLastStep': 'the same of a step',
+    'registry/Versions: AreVersions': 'each held version has one row and some holder, and counts as listed exactly where the state lists it',
     'binders/Events: happening_of': 'what an event asks',
     'binders/EventsRan: exchanges': 'what events and their replies are to the state',
     'binders/Stepped: SteppedIn': 'the flights after a step: one step further, over with the answer of the bind, or where it was',
@@ -100,14 +114,14 @@ PLAIN = {
     'image/Byte: byte_of': 'the byte at an address: of the last relocation written there, else of the file, else 0 up to p_memsz',
     'image/Image: image_of': 'the image: each PT_LOAD of each placed object, with these bytes',
     'image/Refusal: bind_tests': 'the tests of a bind in their order: B1 file, B2 base, B3 missing library, B4 room, B5 undefined symbol',
-    'registry/Library: IsLibrary': 'no test refuses the file of a library, and its name is its SONAME',
+    'requests/Library: IsLibrary': 'no test refuses the file of a library, and its name is its SONAME',
     'states/State: State': 'a registry: its generation, its libraries with their names and bytes, and the names of its preloads',
-    'registry/Step: NeedsMemory': 'where a command takes memory: to admit a file that passes the tests before admission, and to list',
-    'registry/Tests: has_repeat': 'a name is there twice',
-    'registry/Step: IsReply': 'the answer to an accepted command: done, the listing, or the image with the defined byte at each address',
-    'registry/Step: Breaks': 'a write or a sync of a change failed: it took effect or not, and the disk has to be opened again',
-    'registry/Step: LacksRead': 'a read of a bind failed, and nothing changed; B1 and B2 come before all reads',
-    'registry/Step: Step': 'the step table: how a command may be answered in a state, and which state and condition this leaves',
+    'requests/Step: TakesMemory': 'where a command takes memory: to admit a file that passes the tests before admission, and to list',
+    'requests/Tests: has_repeat': 'a name is there twice',
+    'requests/Step: IsReply': 'the answer to an accepted command: done, the listing, or the image with the defined byte at each address',
+    'requests/Step: LacksWrite': 'a write or a sync of a change failed: it took effect or not, and the disk has to be opened again',
+    'requests/Step: LacksRead': 'a read of a bind failed, and nothing changed; B1 and B2 come before all reads',
+    'requests/Step: Step': 'the step table: how a command may be answered in a state, and which state and condition this leaves',
     'roots/Root: ListFits': 'places for the sectors that a root lists: in version 1 those of its entries, in version 2 those of its catalogues',
     'states/Geometry: IsGeometry': 'a disk of so many sectors can hold a state, as a premise',
     'roots/Catalogue: CatalogueHasSpelling': 'the limits of the fields: a catalogue has a spelling exactly where it keeps to them',
@@ -120,26 +134,26 @@ PLAIN = {
     'store/Stands: state_of': 'the state that is read by a root and its entries',
     'store/Stands: Stands': 'some root of version 2 and entries are intact in these sectors, and what is read by them is this state',
     'store/Stands: StandsOld': 'the same by the old rules: by a root of version 1',
-    'disk_registry/Stands: Stands': 'the same of libraries: reading the sectors gives this state, and each file is a library',
-    'disk_registry/Stands: StandsOld': 'the same by the old rules, and each file is a library',
+    'registry/Stands: Stands': 'the same of libraries: reading the sectors gives this state, and each file is a library',
+    'registry/Stands: StandsOld': 'the same by the old rules, and each file is a library',
     'sector_disk/Disk: DiskFacts': 'a disk: whether it is honest, its calls, what reads give, and what a stop at each moment may leave',
     'sector_disk/Disk: Mixture': 'what a stop now may leave: each sector, by itself, with one of its contents',
     'sector_disk/Disk: IsSync': 'a sync: reads give the same; where it succeeds, a stop leaves what reads give, and nothing else',
     'sector_disk/Disk: IsWrite': 'a write: where it succeeds reads give the new content; a stop may leave that or what it could leave before',
     'sector_disk/Disk: LeavesOnly': 'at every moment from one state of a disk to a later one, a stop leaves only sectors of this kind',
-    'disk_registry/Opened: IsAt': 'a registry at a state: an honest disk, no failed write or sync, and whatever a stop leaves holds the state',
-    'disk_registry/Applied: MayLeave': 'the state before the command, the one after, or that of a change that a failed call cut off',
-    'disk_registry/Applied: Applied': 'one command: a step of the step table, during which a stop leaves only what `MayLeave` says',
-    'disk_registry/Ran: HasBegun': 'the first k commands have all begun by this moment',
-    'disk_registry/Ran: HoldsAcknowledged': 'every command acknowledged by this moment is among the first k',
-    'disk_registry/Ran: LeavesAccepted': 'what a stop leaves at a moment holds the state after the accepted ones of such first k commands',
-    'disk_registry/Ran: FindsAccepted': 'what a stop leaves at the end holds the state after all accepted commands',
-    'disk_registry/Ran: Ran': 'a run: one such command after the other, with what a stop leaves at each moment and at the end',
+    'registry/Opened: IsAt': 'a registry at a state: an honest disk, no failed write or sync, and whatever a stop leaves holds the state',
+    'registry/Applied: MayLeaveWithin': 'the state before the command, the one after, or that of a change that a failed call cut off',
+    'registry/Applied: Applied': 'one command: a step of the step table, during which a stop leaves only what `MayLeaveWithin` says',
+    'registry/Ran: HasBegun': 'the first k commands have all begun by this moment',
+    'registry/Ran: HoldsAcknowledged': 'every command acknowledged by this moment is among the first k',
+    'registry/Ran: LeavesAccepted': 'what a stop leaves at a moment holds the state after the accepted ones of such first k commands',
+    'registry/Ran: FindsAccepted': 'what a stop leaves at the end holds the state after all accepted commands',
+    'registry/Ran: Ran': 'a run: one such command after the other, with what a stop leaves at each moment and at the end',
     'commands/DiskScript: LinesRan': 'the commands of the lines of a script are such a run',
-    'disk_registry/Rounds: AlwaysStands': 'whatever a stop leaves of the disk holds the state',
-    'disk_registry/Rounds: RoundLeads': 'a round that ran leads to the state after its accepted commands; any other keeps the state',
+    'registry/Rounds: AlwaysStands': 'whatever a stop leaves of the disk holds the state',
+    'registry/Rounds: RoundLeads': 'a round that ran leads to the state after its accepted commands; any other keeps the state',
     'elf_dynamic/Symbol: symbols': 'all symbols of a file, that of index 0 too',
-    'registry/Tests: tests_of': 'the tests of a change, in their order; a bind and a listing have none here',
+    'requests/Tests: tests_of': 'the tests of a change, in their order; a bind and a listing have none here',
     'sector_disk/Disk: IsRead': 'a read: nothing changes, and where it succeeds it gives what was written last',
     'store/Opened: IsAt': 'a store at a state: an honest disk, no failed write or sync, and every mixture holds it by these entries',
     'store/Stands: StandsBy': 'by this root and these entries the sectors hold the state',
@@ -148,8 +162,8 @@ PLAIN = {
     'store/Step: refusal_of_upgrade': 'why a state of version 1 is not upgraded: S10 at the last generation, S7 where its catalogues have no room',
     'store/Step: IsUpgradeAnswer': 'the answers to an upgrade: just that refusal, or none; S1 and S11 may come in place of each',
     'store/Upgraded: IsRelistedFrom': 'the entries by which sectors held a state by the old rules, listed by catalogues in the lowest free sectors',
-    'disk_registry/Upgraded: IsUpgradeOf': 'at the state that sectors held by the new rules, or at the one after that which they held by the old ones',
-    'disk_registry/Calls: calls_of': 'how many calls an accepted command makes: for the bytes of a file, the catalogues, the entry, the root, and two syncs',
+    'registry/Upgraded: IsUpgradeOf': 'at the state that sectors held by the new rules, or at the one after that which they held by the old ones',
+    'registry/Calls: calls_of': 'how many calls an accepted command makes: for the bytes of a file, the catalogues, the entry, the root, and two syncs',
     'scope/Queue: AreApart': 'the places are below the limit, and no place is among them twice',
     'roots/Fields: ListsSectors': 'so many sectors in so many places: behind the root sectors and before `end`, none of them twice',
     'extents/Extent: AreDistinct': 'no number is there twice',
@@ -159,10 +173,11 @@ PLAIN = {
 CRATES = [
     ('names', 'Names of their own'), ('elf_file', 'Files'), ('elf_dynamic', 'Symbols and relocations of files'),
     ('hash_check', 'Admission and the search of names'), ('scope', 'Load order and lookup'),
-    ('text_output', 'Text on its way to a writer'), ('image', 'Images'), ('registry', 'The registry and its step table'),
+    ('text_output', 'Text on its way to a writer'), ('image', 'Images'), ('requests', 'Requests and the step table'),
     ('sector_disk', 'The disk model'), ('file_disk', 'A disk over a file'), ('extents', 'Free and claimed sectors'),
     ('states', 'States'), ('roots', 'Root, catalogue and entry sectors'), ('passes', 'Passes over a disk'), ('store', 'Named byte strings'),
-    ('snapshots', 'Snapshots'), ('disk_registry', 'The registry on a disk'), ('binders', 'Binders in slots'), ('commands', 'The program')]
+    ('snapshots', 'Snapshots'), ('registry', 'The registry on a disk'), ('binders', 'Binders in slots'), ('byte_disk', 'A disk over given bytes'),
+    ('byte_registry', 'A registry on given bytes'), ('rlibreg_c', 'The calls for C'), ('commands', 'The program')]
 STANDARD = re.compile(r'\(([^()]*(?:\([^()]*\)[^()]*)*)\)')
 VALUE = re.compile(r'^\S+ = (0x[0-9a-f]+|[0-9]+)$')
 FIELD = re.compile(r'^[pe]_[a-z]+')
@@ -360,22 +375,49 @@ def rows_of(file, common, found):
     return [(f'**`{file.split("/")[1]}.antt`**', f'**{common}**'), *rows] if rows else []
 
 
-def crate_parts(files, wanted):
-    """The rows that are wanted, a table for each crate."""
-    lines = []
+def crate_rows(files, crate, wanted):
+    """The rows of a crate that are wanted."""
+    rows = []
+    for file, (common, found) in files.items():
+        if file.split('/')[0] == crate:
+            rows += rows_of(file, common, [one for one in found if wanted((file, one[0]))])
+    return rows
+
+
+def replaced(text, mark, lines):
+    """A page with these lines between its marks."""
+    begin, end = f'<!-- {mark} -->', f'<!-- end of {mark} -->'
+    before, rest = text.split(begin)
+    return f'{before}{begin}\n\n' + '\n'.join(lines) + f'\n{end}' + rest.split(end)[1]
+
+
+def write_crates(files, first, needed):
+    """The tables of each crate's README, and how many definitions each crate has beside the main ones."""
+    counts = []
     for crate, title in CRATES:
-        rows = []
-        for file, (common, found) in files.items():
-            if file.split('/')[0] == crate:
-                rows += rows_of(file, common, [one for one in found if wanted(file, one[0])])
-        if rows:
-            lines += [f'### {title} (`crates/{crate}/specs`)', '', *table(('Definition', 'Says'), *rows), '']
-    return lines
+        others = [one for one in every_of(files) if one[0].split('/')[0] == crate and one not in first]
+        if not others:
+            continue
+        groups = (lambda one: one in needed and one not in first), (lambda one: one not in needed)
+        lines = []
+        for heading, wanted in zip(HEADINGS, groups):
+            rows = crate_rows(files, crate, wanted)
+            lines += [heading, '', *table(('Definition', 'Says'), *rows), ''] if rows else []
+        page = ROOT / 'crates' / crate / 'README.md'
+        page.write_text(replaced(page.read_text(), 'definitions', lines))
+        cited_count = sum(one in needed for one in others)
+        counts.append((title, f'[`crates/{crate}`](../crates/{crate}/README.md#all-its-definitions)', str(cited_count), str(len(others) - cited_count)))
+    return counts
+
+
+def every_of(files):
+    """All definitions, as (crate/File, name)."""
+    return [(file, found[0]) for file, (_, all_found) in files.items() for found in all_found]
 
 
 def main():
     files = read_all()
-    every = {(file, found[0]) for file, (_, all_found) in files.items() for found in all_found}
+    every = set(every_of(files))
     needed = cited(files)
     first = listed_in(part for _, _, parts in READING for part in parts)
     for one in first + listed_in(PLAIN):
@@ -385,19 +427,14 @@ def main():
         if one not in needed:
             sys.exit(f'No clause of the README rests on {one[1]} of {one[0]}. Nothing was written.')
     format_count = sum(file.startswith(('elf_file/', 'elf_dynamic/')) for file, _ in needed)
-    parts = [
-        [f'There are {len(every)} definitions in all. The clauses of the README cite {len(needed)} of them, directly or through '
-         f'others, of which {format_count} are of the ELF format: its constants, its fields, and the tests of a file. The '
-         f'first part has the {len(first)} main ones, the second the other {len(needed) - len(first)}, the third the '
-         f'{len(every) - len(needed)} that only the contracts of single crates cite.', ''],
-        reading(files),
-        crate_parts(files, lambda file, name: (file, name) in needed and (file, name) not in first),
-        crate_parts(files, lambda file, name: (file, name) not in needed)]
-    text = PAGE.read_text()
-    for mark, lines in zip(MARKS, parts):
-        begin, end = f'<!-- {mark} -->', f'<!-- end of {mark} -->'
-        before, rest = text.split(begin)
-        text = f'{before}{begin}\n\n' + '\n'.join(lines) + f'\n{end}' + rest.split(end)[1]
+    numbers = (f'There are {len(every)} definitions in all. The clauses of the README cite {len(needed)} of them, directly or through '
+               f'others, of which {format_count} are of the ELF format: its constants, its fields, and the tests of a file. The '
+               f'{len(first)} main ones are below. The other {len(needed) - len(first)} and the {len(every) - len(needed)} that only '
+               'contracts of single crates cite are in the READMEs of the crates.')
+    text = replaced(PAGE.read_text(), 'numbers', [numbers, ''])
+    text = replaced(text, 'reading', reading(files))
+    counts = write_crates(files, first, needed)
+    text = replaced(text, 'crates', [*table(('What', 'Crate', 'Cited by the README\'s clauses', 'By contracts of single crates'), *counts), ''])
     PAGE.write_text(text)
 
 

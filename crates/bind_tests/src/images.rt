@@ -1,10 +1,10 @@
 // What no clause and no case of the program `cases` says: calls that may want memory succeed at
 // their limits, and a writer's failure is told. Rows, bases, values, refusals and texts are cases.
 
-use crate::bytes::put;
 use bitflags::Flags;
 use hash_check::Admitted;
 use image::{Image, Permissions, bind_alone, good_base};
+use samples::put;
 use std::alloc::Global;
 use std::io::Write;
 use std::test::Fail;

@@ -5,29 +5,12 @@ ghost use Rattle.std.specs.Prelude.{◌<◌, length};
 ghost use Rattle.elf_dynamic.specs.Symbol.{symbols};
 ghost use Rattle.scope.specs.Objects.{file_at};
 
-use crate::bytes::put;
 use elf_dynamic::Symbol;
 use hash_check::Admitted;
+use samples::{needing_file, put};
 use scope::{Library, Order, Target, load_order, resolve};
 use std::alloc::{AllocError, Global};
 use std::test::Fail;
-
-/// The front of a file whose dynamic section stands behind it: the names a, b, c, d, e, p, f and z,
-/// and a symbol f that it exports.
-const FRONT: &[u8] =
-    b"\x7fELF\x02\x01\x01\0\0\0\0\0\0\0\0\0\x03\0>\0\x01\0\0\0\0\0\0\0\0\0\0\0@\0\0\0\0\0\0\0\
-      \0\0\0\0\0\0\0\0\0\0\0\0@\08\0\x02\0\0\0\0\0\0\0\x01\0\0\0\x06\0\0\0\0\0\0\0\0\0\0\0\0\0\
-      \0\0\0\0\0\0\0\0\0\0\0\0\0\0\0\0\0\0\0\0\0\0\0\0\0\0\0\0\0\0\0\x10\0\0\0\0\0\0\x02\0\0\0\
-      \x06\0\0\0\x10\x01\0\0\0\0\0\0\x10\x01\0\0\0\0\0\0\x10\x01\0\0\0\0\0\0\0\0\0\0\0\0\0\0\0\
-      \0\0\0\0\0\0\0\x08\0\0\0\0\0\0\0\x01\0\0\0\x02\0\0\0\x01\0\0\0\0\0\0\0\0\0\0\0\0\0\0\0\0\
-      \0\0\0\0\0\0\0\0\0\0\0\0\0\0\0\0\0\0\0\0\0\0\0\x0d\0\0\0\x12\0\x01\0\0\0\0\0\0\0\0\0\x08\
-      \0\0\0\0\0\0\0\0a\0b\0c\0d\0e\0p\0f\0z\0\0\0\0\0\0\0\0";
-
-/// What stands in the dynamic section behind the needed libraries.
-const TAIL: &[u8] =
-    b"\x04\0\0\0\0\0\0\0\xb0\0\0\0\0\0\0\0\x05\0\0\0\0\0\0\0\xf8\0\0\0\0\0\0\0\x06\0\0\0\0\0\0\
-      \0\xc8\0\0\0\0\0\0\0\x0a\0\0\0\0\0\0\0\x11\0\0\0\0\0\0\0\x0b\0\0\0\0\0\0\0\x18\0\0\0\0\0\
-      \0\0\0\0\0\0\0\0\0\0\0\0\0\0\0\0\0\0";
 
 /// An entry by which the object itself is looked in first for its own references.
 const SYMBOLIC: &[u8] = b"\x10\0\0\0\0\0\0\0\0\0\0\0\0\0\0\0";
@@ -39,32 +22,9 @@ const VISIBILITY_AT: usize = 229;
 
 const SECTION_AT: usize = 230;
 
-/// The names of the front, in their order.
-const LETTERS: &[u8] = b"abcdepfz";
-
 /// A file that needs libraries of one letter each.
 fn file(alloc: Global, needs: &[u8]) -> Result<Vec<u8>, AllocError> {
-    file_with(alloc, needs, b"")
-}
-
-/// The same with an entry more, or with none.
-fn file_with(alloc: Global, needs: &[u8], entry: &[u8]) -> Result<Vec<u8>, AllocError> {
-    let mut bytes = Vec::from_slice(alloc, FRONT)?;
-    for letter in needs {
-        let number = LETTERS.iter().take_while(|l| **l != *letter).count() as u64;
-        bytes.extend_from_slice(&1u64.to_le_bytes())?;
-        bytes.extend_from_slice(&number.wrapping_mul(2).wrapping_add(1).to_le_bytes())?;
-    }
-    bytes.extend_from_slice(entry)?;
-    bytes.extend_from_slice(TAIL)?;
-    let whole = (bytes.len() as u64).to_le_bytes();
-    let section = (bytes.len() as u64)
-        .saturating_sub(FRONT.len() as u64)
-        .to_le_bytes();
-    for (at, number) in [(96, whole), (104, whole), (152, section), (160, section)] {
-        put(&mut bytes, at, &number);
-    }
-    Ok(bytes)
+    needing_file(alloc, needs, b"", 0)
 }
 
 /// A file with an entry more whose f has the binding, the visibility and the section of a number
@@ -76,7 +36,7 @@ fn file_of_kind(
     entry: &[u8],
     number: u8,
 ) -> Result<Vec<u8>, AllocError> {
-    let mut bytes = file_with(alloc, needs, entry)?;
+    let mut bytes = needing_file(alloc, needs, entry, 0)?;
     put(&mut bytes, INFO_AT, &[number % 3 * 16 + 2]);
     put(&mut bytes, VISIBILITY_AT, &[number / 3 % 4]);
     put(&mut bytes, SECTION_AT, &[number / 12 % 2]);

@@ -4,12 +4,12 @@ use Rattle.sector_disk.specs.Disk.{DiskFacts, Mixture, LeavesOnly}
 use Rattle.sector_disk.proofs.Moments.{at_rest}
 use Rattle.store.specs.Opened.{Opened}
 use Rattle.states.specs.State.{State}
-use Rattle.registry.specs.Runs.{Steps, Run, last_of}
-use Rattle.registry.specs.declared.reply.Reply.TheVariants.{Done, Listing, Bound, Refused}
-use Rattle.disk_registry.specs.Acknowledged.{Exchange}
-use Rattle.disk_registry.specs.Ran.{RunsThrough}
-use Rattle.disk_registry.proofs.RanSoFar.{RunsVia}
-use Rattle.disk_registry.proofs.Running.{runs_none, runs_turn, runs_idle, runs_through}
+use Rattle.requests.specs.Runs.{Steps, Run, last_of}
+use Rattle.requests.specs.declared.reply.Reply.TheVariants.{Done, Listing, Bound, Refused}
+use Rattle.registry.specs.Acknowledged.{Exchange}
+use Rattle.registry.specs.Ran.{RunsThrough}
+use Rattle.registry.proofs.RanSoFar.{RunsVia}
+use Rattle.registry.proofs.Running.{runs_none, runs_turn, runs_idle, runs_through}
 use Rattle.binders.specs.Events.{Happening, Happens, apply, begin, advance, cancel}
 use Rattle.binders.specs.EventsRan.{EventStep, EventsRan, exchange_of, exchanges}
 use Rattle.binders.specs.Slotted.{Slotted}

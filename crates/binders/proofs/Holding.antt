@@ -10,7 +10,7 @@ use Rattle.snapshots.specs.Snapshot.{times}
 use Rattle.store.specs.Held.{IsHeldBy, holders_of}
 use Rattle.store.specs.declared.holding.Holding.{Holding}
 use Rattle.store.specs.declared.placed_entry.PlacedEntry.{PlacedEntry}
-use Rattle.disk_registry.specs.inside.Binding.{Binding}
+use Rattle.registry.specs.inside.Binding.{Binding}
 use Rattle.binders.specs.Slotted.{held_by, held_in, lowest_free}
 
 -- a slot with another binder, or none

@@ -1,3 +1,4 @@
+pub mod Counting
 pub mod Happening
 pub mod Holding
 pub mod OnFlights

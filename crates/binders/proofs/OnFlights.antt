@@ -5,9 +5,9 @@ use Rattle.std.proofs.Math.ListN.{get_or-eq_default}
 use Rattle.std.proofs.lemmas.List.{length-set, get_or-set_same, get_or-set_other}
 use Rattle.sector_disk.specs.Disk.{DiskFacts}
 use Rattle.store.specs.Opened.{Opened}
-use Rattle.disk_registry.specs.Flight.{Flight}
-use Rattle.disk_registry.specs.Flying.{Flies}
-use Rattle.disk_registry.specs.inside.Binding.{Binding}
+use Rattle.registry.specs.Flight.{Flight}
+use Rattle.registry.specs.Flying.{Flies}
+use Rattle.registry.specs.inside.Binding.{Binding}
 use Rattle.binders.specs.Slotted.{AreOn, IsOn, Slotted}
 
 -- a registry with these slots

@@ -8,15 +8,15 @@ use Rattle.sector_disk.proofs.Moments.{at_rest, no_calls}
 use Rattle.snapshots.specs.Snapshot.{times}
 use Rattle.store.specs.Held.{holders_of}
 use Rattle.store.specs.Opened.{Opened}
-use Rattle.registry.specs.declared.refusal.Refusal.{Refusal}
-use Rattle.registry.specs.declared.refusal.Refusal.TheVariants.{Reopen, NoSlot, NoSuchBinder, OutOfMemory}
-use Rattle.registry.specs.declared.reply.Reply.{Reply}
-use Rattle.registry.specs.declared.reply.Reply.TheVariants.{Done, Refused}
-use Rattle.disk_registry.specs.Flight.{Flight, IsBounded, begun}
-use Rattle.disk_registry.specs.Flying.{Advances, Begins, Ends, Flies, IsStep, IsStepRefusal, handles_of}
-use Rattle.disk_registry.specs.declared.binder.Step.{Step}
-use Rattle.disk_registry.specs.declared.binder.Step.TheVariants.{Going, Final}
-use Rattle.disk_registry.specs.inside.Binding.{Binding}
+use Rattle.requests.specs.declared.refusal.Refusal.{Refusal}
+use Rattle.requests.specs.declared.refusal.Refusal.TheVariants.{Reopen, NoSlot, NoSuchBinder, OutOfMemory}
+use Rattle.requests.specs.declared.reply.Reply.{Reply}
+use Rattle.requests.specs.declared.reply.Reply.TheVariants.{Done, Refused}
+use Rattle.registry.specs.Flight.{Flight, IsBounded, begun}
+use Rattle.registry.specs.Flying.{Advances, Begins, Ends, Flies, IsStep, IsStepRefusal, handles_of}
+use Rattle.registry.specs.declared.binder.Step.{Step}
+use Rattle.registry.specs.declared.binder.Step.TheVariants.{Going, Final}
+use Rattle.registry.specs.inside.Binding.{Binding}
 use Rattle.binders.specs.Slotted.{AreOn, HoldAlone, IsHeld, Slotted, held_by, held_in, lowest_free}
 use Rattle.binders.specs.Stepped.{AdvancesIn, BeginsIn, CancelsIn, StaysAt}
 use Rattle.binders.proofs.Holding.{free_slot, held_set, held_within, times_there}

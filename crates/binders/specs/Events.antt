@@ -2,15 +2,16 @@
 use Rattle.std.specs.Prelude.{◌≡◌, ◌⊎◌, ℕ, List, Ok, Err}
 use Rattle.sector_disk.specs.Disk.{DiskFacts, AreCallsExactly}
 use Rattle.states.specs.State.{State}
-use Rattle.registry.specs.Request.{Request, request_of}
-use Rattle.registry.specs.declared.refusal.Refusal.{Refusal}
-use Rattle.registry.specs.declared.reply.Reply.{Reply}
-use Rattle.registry.specs.declared.reply.Reply.TheVariants.{Refused}
-use Rattle.disk_registry.specs.Answered.{Answered}
-use Rattle.disk_registry.specs.Applied.{Applies}
-use Rattle.disk_registry.specs.Calls.{IfAccepted, calls_of}
-use Rattle.disk_registry.specs.Opened.{IsAt}
-use Rattle.disk_registry.specs.declared.binder.Step.TheVariants as step
+use Rattle.requests.specs.Request.{Request, request_of}
+use Rattle.requests.specs.declared.refusal.Refusal.{Refusal}
+use Rattle.requests.specs.declared.reply.Reply.{Reply}
+use Rattle.requests.specs.declared.reply.Reply.TheVariants.{Refused}
+use Rattle.registry.specs.Answered.{Answered}
+use Rattle.registry.specs.Applied.{Applies}
+use Rattle.registry.specs.Calls.{IfAccepted, calls_of}
+use Rattle.registry.specs.Opened.{IsAt}
+use Rattle.registry.specs.declared.binder.Step.TheVariants as step
+use Rattle.binders.specs.Counted.{CountsOnce}
 use Rattle.binders.specs.Slotted.{HoldAlone, Slotted}
 use Rattle.binders.specs.Stepped.{AdvancesIn, BeginsIn, CancelsIn, FlyOn}
 use Rattle.binders.specs.declared.event.Event.{Event}
@@ -41,6 +42,7 @@ pub record AppliesIn {D : Type 0} (facts : D → DiskFacts) (old new : Slotted D
   pub fly_on : FlyOn facts old new
   pub slots : new.slots ≡ old.slots
   pub alone : HoldAlone old → HoldAlone new
+  pub counted : HoldAlone old → CountsOnce old
 
 -- a step was answered last with this, or refused so
 abbrev pub StepReplies : {D : Type 0} → (D → DiskFacts) → Slotted D → Slotted D → ℕ → Reply → Type 0

@@ -2,10 +2,10 @@
 use Rattle.std.specs.Prelude.{◌≡◌, List, [], ◌∷◌, map, Some, None}
 use Rattle.sector_disk.specs.Disk.{DiskFacts}
 use Rattle.states.specs.State.{State}
-use Rattle.registry.specs.Runs.{Steps, last_of}
-use Rattle.disk_registry.specs.Acknowledged.{Exchange}
-use Rattle.disk_registry.specs.Opened.{IsAt}
-use Rattle.disk_registry.specs.Ran.{RunsThrough}
+use Rattle.requests.specs.Runs.{Steps, last_of}
+use Rattle.registry.specs.Acknowledged.{Exchange}
+use Rattle.registry.specs.Opened.{IsAt}
+use Rattle.registry.specs.Ran.{RunsThrough}
 use Rattle.binders.specs.Events.{Happening, Happens, apply}
 use Rattle.binders.specs.Slotted.{Slotted}
 use Rattle.binders.specs.declared.event.EventReply.{EventReply}

@@ -1,3 +1,4 @@
+pub mod Counted
 pub mod Events
 pub mod EventsRan
 pub mod Slotted

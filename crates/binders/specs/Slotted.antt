@@ -4,9 +4,9 @@ use Rattle.sector_disk.specs.Disk.{DiskFacts}
 use Rattle.snapshots.specs.Snapshot.{times}
 use Rattle.store.specs.Held.{holders_of}
 use Rattle.store.specs.Opened.{Opened}
-use Rattle.disk_registry.specs.Flight.{Flight}
-use Rattle.disk_registry.specs.Flying.{Flies, handles_of}
-use Rattle.disk_registry.specs.inside.Binding.{Binding}
+use Rattle.registry.specs.Flight.{Flight}
+use Rattle.registry.specs.Flying.{Flies, handles_of}
+use Rattle.registry.specs.inside.Binding.{Binding}
 
 -- a registry, and its slots: in each a binder, or none
 pub record Slotted (D : Type 0) : Type 0 where

@@ -3,16 +3,16 @@ use Rattle.std.specs.Prelude.{◌≡◌, ◌≢◌, ◌↔◌, ◌⊎◌, ◌<�
 use Rattle.sector_disk.specs.Disk.{DiskFacts, Mixture, IsUnchanged, LeavesOnly, AreCalls, AreCallsAtMost, AreCallsExactly}
 use Rattle.states.specs.State.{State}
 use Rattle.store.specs.Held.{holders_of}
-use Rattle.registry.specs.declared.refusal.Refusal.{Refusal}
-use Rattle.registry.specs.declared.refusal.Refusal.TheVariants.{Reopen, NoSlot, NoSuchBinder, OutOfMemory}
-use Rattle.registry.specs.declared.reply.Reply.{Reply}
-use Rattle.registry.specs.declared.reply.Reply.TheVariants.{Done, Refused}
-use Rattle.disk_registry.specs.Flight.{Flight, begun, further, goings, step_sectors, IsBindOf, IsBounded}
-use Rattle.disk_registry.specs.Flying.{IsLastStep, IsStepRefusal, MayBeRefused}
-use Rattle.disk_registry.specs.Opened.{IsAt}
-use Rattle.disk_registry.specs.declared.binder.Step.{Step}
-use Rattle.disk_registry.specs.declared.binder.Step.TheVariants.{Going, Final}
-use Rattle.disk_registry.specs.inside.Binding.{Binding}
+use Rattle.requests.specs.declared.refusal.Refusal.{Refusal}
+use Rattle.requests.specs.declared.refusal.Refusal.TheVariants.{Reopen, NoSlot, NoSuchBinder, OutOfMemory}
+use Rattle.requests.specs.declared.reply.Reply.{Reply}
+use Rattle.requests.specs.declared.reply.Reply.TheVariants.{Done, Refused}
+use Rattle.registry.specs.Flight.{Flight, begun, further, goings, step_sectors, IsBindOf, IsBounded}
+use Rattle.registry.specs.Flying.{IsLastStep, IsStepRefusal, MayBeRefused}
+use Rattle.registry.specs.Opened.{IsAt}
+use Rattle.registry.specs.declared.binder.Step.{Step}
+use Rattle.registry.specs.declared.binder.Step.TheVariants.{Going, Final}
+use Rattle.registry.specs.inside.Binding.{Binding}
 use Rattle.binders.specs.Slotted.{Slotted, AreOn, HoldAlone, held_by, lowest_free}
 
 -- The registry stays at its state. A version is held as many times more, or less, as the binders hold it.

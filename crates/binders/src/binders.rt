@@ -1,7 +1,7 @@
 // A registry with binders.
 use crate::slots::Slots;
-use disk_registry::{Registry, Step};
-use registry::{Command, Refusal, Reply};
+use registry::{Registry, Step};
+use requests::{Command, Refusal, Reply};
 use sector_disk::Disk;
 use std::alloc::Global;
 use std::marker::Model;
@@ -27,13 +27,14 @@ impl<D: Disk> Model for Binders<D> {
 impl<D: Disk> Binders<D> {
     ghost use Rattle.std.specs.Prelude.{◌≡◌, [], All, None, replicate};
     ghost use Rattle.sector_disk.specs.Disk.{AreCallsExactly};
-    ghost use Rattle.registry.specs.Request.{request_of};
+    ghost use Rattle.requests.specs.Request.{request_of};
     ghost use Rattle.states.specs.State.{State};
-    ghost use Rattle.disk_registry.specs.Answered.{Answered};
-    ghost use Rattle.disk_registry.specs.Applied.{Applies};
-    ghost use Rattle.disk_registry.specs.Calls.{IfAccepted, calls_of};
-    ghost use Rattle.disk_registry.specs.Opened.{IsAt};
-    ghost use Rattle.disk_registry.specs.Versions.{AreVersions};
+    ghost use Rattle.registry.specs.Answered.{Answered};
+    ghost use Rattle.registry.specs.Applied.{Applies};
+    ghost use Rattle.registry.specs.Calls.{IfAccepted, calls_of};
+    ghost use Rattle.registry.specs.Opened.{IsAt};
+    ghost use Rattle.registry.specs.Versions.{AreVersions};
+    ghost use Rattle.binders.specs.Counted.{CountsOnce};
     ghost use Rattle.binders.specs.Slotted.{AreOn, HoldAlone};
     ghost use Rattle.binders.specs.Stepped.{AdvancesIn, BeginsIn, CancelsIn, FlyOn};
 
@@ -90,7 +91,13 @@ impl<D: Disk> Binders<D> {
         ensures fly_on { FlyOn D.facts self.old self.new }
         ensures slots { self.new.slots ≡ self.old.slots }
         ensures alone { HoldAlone self.old → HoldAlone self.new }
+
+        // S7 counts the sectors of the state and, beside them, those of each version that only
+        // binders hold, once.
+        ensures counted { HoldAlone self.old → CountsOnce self.old }
     {
+        // What is held has one row a version, as this call says.
+        let _failed = self.registry.has_failed();
         self.registry.apply(command)
     }
 

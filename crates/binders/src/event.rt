@@ -1,5 +1,5 @@
 // What happens to a registry with binders.
-use registry::{Command, Reply};
+use requests::{Command, Reply};
 
 /// A command, or something that is done with a binder.
 #[derive(Clone, Copy, Debug)]

@@ -1,8 +1,8 @@
 // Events happen, one after the other.
 use crate::binders::Binders;
 use crate::event::{Event, EventReply};
-use disk_registry::Step;
-use registry::Reply;
+use registry::Step;
+use requests::Reply;
 use sector_disk::Disk;
 use std::alloc::AllocError;
 

@@ -2,7 +2,7 @@
 ghost use Rattle.std.specs.Prelude.{◌≡◌, ◌<◌, IfSome, None, Some, replicate, slice_index_or, slice_set};
 ghost use Rattle.binders.specs.Slotted.{lowest_free};
 
-use disk_registry::Binder;
+use registry::Binder;
 use std::marker::Model;
 
 /// 8 slots, each with a binder or free. Contracts see the list of them.
@@ -13,7 +13,7 @@ pub(crate) struct Slots {
 
 impl Model for Slots {
     ghost use Rattle.std.specs.Prelude.{◌≡◌, List, Option, length};
-    ghost use Rattle.disk_registry.specs.inside.Binding.{Binding};
+    ghost use Rattle.registry.specs.inside.Binding.{Binding};
 
     ghost Value = { List (Option Binding) };
 

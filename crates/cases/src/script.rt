@@ -6,7 +6,7 @@ use crate::number::parse_number;
 use anyhow::{Context, Result, bail};
 use binders::Binders;
 use commands::{ScriptFault, Summary, run_script};
-use disk_registry::Registry;
+use registry::Registry;
 use sector_disk::Memory;
 use std::alloc::Global;
 use std::rt::Files;

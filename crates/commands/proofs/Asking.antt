@@ -3,12 +3,12 @@ use Rattle.std.proofs.Common.{◌≡◌, ℕ, List, Option, Some, ap, refl, sym,
 use Rattle.std.specs.Prelude.{is_some, true, false, ◌⊎◌}
 use Rattle.std.specs.Io.KnownBytes.{Appends}
 use Rattle.image.specs.declared.refusal.BindRefusal.TheVariants as bind_refusal
-use Rattle.registry.specs.Request.{Request}
-use Rattle.registry.specs.Request as request
-use Rattle.registry.specs.declared.refusal.Refusal.{Refusal}
-use Rattle.registry.specs.declared.refusal.Refusal.TheVariants as refusal
-use Rattle.registry.specs.declared.reply.Reply.{Reply}
-use Rattle.registry.specs.declared.reply.Reply.TheVariants as reply
+use Rattle.requests.specs.Request.{Request}
+use Rattle.requests.specs.Request as request
+use Rattle.requests.specs.declared.refusal.Refusal.{Refusal}
+use Rattle.requests.specs.declared.refusal.Refusal.TheVariants as refusal
+use Rattle.requests.specs.declared.reply.Reply.{Reply}
+use Rattle.requests.specs.declared.reply.Reply.TheVariants as reply
 use Rattle.store.specs.Opened.{Opened}
 use Rattle.file_disk.specs.FileDisk.{file_facts}
 use Rattle.file_disk.specs.declared.disk.FileDisk.{FileDisk}
@@ -27,7 +27,7 @@ use Rattle.commands.specs.declared.disk.NoRegistry.{NoRegistry}
 use Rattle.commands.specs.declared.disk.NoRegistry.TheVariants as no
 use Rattle.commands.specs.declared.file.FileFault.{FileFault}
 use Rattle.commands.specs.declared.file.FileFault.TheVariants.{CannotRead, OutOfMemory}
-use Rattle.commands.specs.inside.Ends.{BindEnds, Ends, IsFormatted, IsNoRegistry, IsNotRead, IsTurnedAway, IsWritten, Replied, SaysNoMemory, UpgradeEnds}
+use Rattle.commands.specs.inside.Ends.{BindEnds, CommandEnds, IsFormatted, IsNoRegistry, IsNotRead, IsTurnedAway, IsWritten, Replied, SaysNoMemory, UpgradeEnds}
 use Rattle.commands.proofs.Ending.{reply_answers}
 
 -- a refusal that is want of memory has its line
@@ -187,30 +187,30 @@ module _ (F : Type 0) (io : Streams) where
   -- a command that asks so ends as the words say
   ends_as : (line : CommandLine) → are_bad (Some line) ≡ false → (Replies F (Asks line) Done io.before io.after → IsDone F (Some line) io)
       → (Replies F (Asks line) Refused io.before io.after ⊎ TurnsAway IsOpenRefusal Refused io.before io.after → IsRefused F (Some line) io)
-      → (Appends io.before io.after memory_text → LacksMemory F (Some line) io) → (status : Status) → Replied F (Asks line) io.before io.after status → Ends F (Some line) io status
+      → (Appends io.before io.after memory_text → LacksMemory F (Some line) io) → (status : Status) → Replied F (Asks line) io.before io.after status → CommandEnds F (Some line) io status
   ends_as line good done refused lacks Done h = (good, done h)
   ends_as line good done refused lacks Refused h = (good, refused h)
   ends_as line good done refused lacks BadWords h = absurd h
   ends_as line good done refused lacks Failed h = good
   ends_as line good done refused lacks NoMemory h = (good, lacks h)
 
-  pub install_ends : (disk file : List ℕ) (status : Status) → Replied F (Asks (install disk file)) io.before io.after status → Ends F (Some (install disk file)) io status
+  pub install_ends : (disk file : List ℕ) (status : Status) → Replied F (Asks (install disk file)) io.before io.after status → CommandEnds F (Some (install disk file)) io status
   install_ends disk file status h = ends_as (install disk file) refl (λ k. k) (λ k. k) (λ k. k) status h
 
-  pub replace_ends : (disk file : List ℕ) (status : Status) → Replied F (Asks (replace disk file)) io.before io.after status → Ends F (Some (replace disk file)) io status
+  pub replace_ends : (disk file : List ℕ) (status : Status) → Replied F (Asks (replace disk file)) io.before io.after status → CommandEnds F (Some (replace disk file)) io status
   replace_ends disk file status h = ends_as (replace disk file) refl (λ k. k) (λ k. k) (λ k. k) status h
 
-  pub remove_ends : (disk name : List ℕ) (status : Status) → Replied F (λ asked. asked ≡ request.remove name) io.before io.after status → Ends F (Some (remove disk name)) io status
+  pub remove_ends : (disk name : List ℕ) (status : Status) → Replied F (λ asked. asked ≡ request.remove name) io.before io.after status → CommandEnds F (Some (remove disk name)) io status
   remove_ends disk name status h = ends_as (remove disk name) refl (λ k. k) (λ k. k) (λ k. k) status h
 
-  pub preload_ends : (disk : List ℕ) (names : List (List ℕ)) (status : Status) → Replied F (Asks (preload disk names)) io.before io.after status → Ends F (Some (preload disk names)) io status
+  pub preload_ends : (disk : List ℕ) (names : List (List ℕ)) (status : Status) → Replied F (Asks (preload disk names)) io.before io.after status → CommandEnds F (Some (preload disk names)) io status
   preload_ends disk names status h = ends_as (preload disk names) refl (λ k. k) (λ k. k) (λ k. k) status h
 
-  pub list_ends : (disk : List ℕ) (status : Status) → Replied F (λ asked. asked ≡ request.list) io.before io.after status → Ends F (Some (list disk)) io status
+  pub list_ends : (disk : List ℕ) (status : Status) → Replied F (λ asked. asked ≡ request.list) io.before io.after status → CommandEnds F (Some (list disk)) io status
   list_ends disk status h = ends_as (list disk) refl (λ k. k) (λ k. k) (λ k. k) status h
 
 -- what a command ends with whose disk is the file behind a standard stream, when nothing was printed
 pub ends_away : (F : Type 0) (line : CommandLine) (io : Streams) (status : Status) → io.after ≡ io.before
-    → ((status ≡ BadWords) × (are_bad (Some line) ≡ true)) ⊎ ((status ≡ Failed) × (are_bad (Some line) ≡ false)) → Ends F (Some line) io status
+    → ((status ≡ BadWords) × (are_bad (Some line) ≡ true)) ⊎ ((status ≡ Failed) × (are_bad (Some line) ≡ false)) → CommandEnds F (Some line) io status
 ends_away F line io status same either =
-    ⊎_elim (λ bad. subst (Ends F (Some line) io) (sym bad.0) (bad.1, same)) (λ failed. subst (Ends F (Some line) io) (sym failed.0) failed.1) either
+    ⊎_elim (λ bad. subst (CommandEnds F (Some line) io) (sym bad.0) (bad.1, same)) (λ failed. subst (CommandEnds F (Some line) io) (sym failed.0) failed.1) either

@@ -2,10 +2,10 @@
 use Rattle.std.proofs.Common.{◌≡◌, ◌≢◌, ◌<◌, ℕ, List, length, Option, Some, Result, Ok, Err, ap}
 use Rattle.std.specs.Prelude.{IfOk, MatchResult, is_some}
 use Rattle.image.specs.declared.refusal.BindRefusal.TheVariants as bind_refusal
-use Rattle.registry.specs.declared.refusal.Refusal.{Refusal}
-use Rattle.registry.specs.declared.refusal.Refusal.TheVariants as refusal
-use Rattle.registry.specs.declared.reply.Reply.{Reply}
-use Rattle.registry.specs.declared.reply.Reply.TheVariants as reply
+use Rattle.requests.specs.declared.refusal.Refusal.{Refusal}
+use Rattle.requests.specs.declared.refusal.Refusal.TheVariants as refusal
+use Rattle.requests.specs.declared.reply.Reply.{Reply}
+use Rattle.requests.specs.declared.reply.Reply.TheVariants as reply
 use Rattle.commands.specs.declared.file.FileFault.{FileFault}
 use Rattle.commands.specs.declared.file.FileFault.TheVariants.{CannotRead, OutOfMemory}
 use Rattle.commands.specs.declared.status.Status.{Status}

@@ -2,14 +2,14 @@
 use Rattle.std.proofs.Common.{◌≡◌, ℕ, List, [], ◌∷◌, Option, Some, None, refl, sym, subst}
 use Rattle.std.specs.List.{filter_map}
 use Rattle.sector_disk.specs.Disk.{DiskFacts}
-use Rattle.registry.specs.Runs.{Steps, Run, last_of}
+use Rattle.requests.specs.Runs.{Steps, Run, last_of}
 use Rattle.binders.specs.Events.{Happening}
 use Rattle.binders.specs.EventsRan.{EventStep}
 use Rattle.binders.specs.Slotted.{Slotted}
 use Rattle.binders.specs.declared.event.EventReply.{EventReply}
 use Rattle.binders.proofs.Happening.{events_ran}
 use Rattle.commands.specs.Answer.{LineStep}
-use Rattle.commands.specs.DiskScript.{asked, replied, LinesRan, FinishesOnDisk, StopsOnDisk}
+use Rattle.commands.specs.DiskScript.{happenings, replied, LinesRan, FinishesOnDisk, StopsOnDisk}
 use Rattle.commands.specs.Line.{meaning}
 use Rattle.commands.specs.Script.{Streams, Finishes, Stops}
 use Rattle.commands.specs.declared.answer.Answer.{Answer}
@@ -27,7 +27,7 @@ asks_none f x xs e = rw e refl
 module _ {D : Type 0} (facts : D → DiskFacts) where
   -- what lines ask happened, one after the other
   happened : (mid : Slotted D) (lines : List (List ℕ)) (answers : List Answer) (states : List (Slotted D))
-      → Steps (LineStep (EventStep facts)) mid lines answers states → Run (EventStep facts) mid (asked lines) (replied answers) (last_of mid states)
+      → Steps (LineStep (EventStep facts)) mid lines answers states → Run (EventStep facts) mid (happenings lines) (replied answers) (last_of mid states)
   happened mid [] [] [] h = ([], tt, refl)
   happened mid (line ∷ lines) (Replied reply ∷ answers) (t ∷ ts) h =
       let rest = happened t lines answers ts h.1 in
@@ -35,7 +35,7 @@ module _ {D : Type 0} (facts : D → DiskFacts) where
       (t ∷ rest.0, (h.0.2, rest.1), rest.2)
   happened mid (line ∷ lines) (BadLine ∷ answers) (t ∷ ts) h =
       subst (λ (l : List Happening). Run (EventStep facts) mid l (replied answers) (last_of t ts)) (sym (asks_none meaning line lines h.0.0))
-      (subst (λ (k : Slotted D). Run (EventStep facts) k (asked lines) (replied answers) (last_of t ts)) h.0.1 (happened t lines answers ts h.1))
+      (subst (λ (k : Slotted D). Run (EventStep facts) k (happenings lines) (replied answers) (last_of t ts)) h.0.1 (happened t lines answers ts h.1))
   happened mid (line ∷ lines) (CutLine ∷ answers) (t ∷ ts) h = absurd h.0
   happened mid [] [] (t ∷ ts) h = absurd h
   happened mid [] (y ∷ answers) ts h = absurd h
@@ -45,8 +45,8 @@ module _ {D : Type 0} (facts : D → DiskFacts) where
   -- so what the lines ask is a run
   pub lines_ran : (old new : Slotted D) (lines : List (List ℕ)) (answers : List Answer) → Run (LineStep (EventStep facts)) old lines answers new → LinesRan facts old new lines answers
   lines_ran old new lines answers run =
-      events_ran facts old new (asked lines) (replied answers)
-      (subst (λ (k : Slotted D). Run (EventStep facts) old (asked lines) (replied answers) k) (sym run.2) (happened old lines answers run.0 run.1))
+      events_ran facts old new (happenings lines) (replied answers)
+      (subst (λ (k : Slotted D). Run (EventStep facts) old (happenings lines) (replied answers) k) (sym run.2) (happened old lines answers run.0 run.1))
 
   module _ (io : Streams) (old new : Slotted D) where
     -- so of a script that was read to its end

@@ -8,7 +8,7 @@ use Rattle.std.proofs.KnownBytes.{Consumes-trans, Appends-trans, Consumes-nil, A
 use Rattle.std.proofs.lemmas.List.Elements.{All-push, All-nil}
 use Rattle.binders.specs.Events.{Happening}
 use Rattle.binders.specs.declared.event.EventReply.{EventReply}
-use Rattle.registry.proofs.Runs.{run_more}
+use Rattle.requests.proofs.Runs.{run_more}
 use Rattle.commands.specs.Answer.{LineStep, answer_text, output, is_refused}
 use Rattle.commands.specs.Script.{IsLine, ended, Counts, Streams, Ends, Breaks, Stops}
 use Rattle.commands.specs.inside.Progress.{IsAll, Place, Answered}

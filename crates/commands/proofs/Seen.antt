@@ -1,6 +1,6 @@
 -- A script over something that is seen in part.
 use Rattle.std.proofs.Common.{◌≡◌, ℕ, List, [], ◌∷◌, map, ap, refl, subst, inl, inr, ◌∙◌}
-use Rattle.registry.specs.Runs.{last_of, Steps, Run}
+use Rattle.requests.specs.Runs.{last_of, Steps, Run}
 use Rattle.binders.specs.Events.{Happening}
 use Rattle.binders.specs.declared.event.EventReply.{EventReply}
 use Rattle.commands.specs.Answer.{LineStep}

@@ -5,12 +5,12 @@ use Rattle.std.specs.List.{flat_map}
 use Rattle.std.specs.Io.KnownBytes.{Appends, Consumes, append_known}
 use Rattle.std.proofs.KnownBytes.{Appends-nil, Appends-trans, Consumes-nil}
 use Rattle.std.proofs.lemmas.List.Elements.{All-push, All-nil}
-use Rattle.registry.specs.Runs.{Steps, Run}
+use Rattle.requests.specs.Runs.{Steps, Run}
 use Rattle.binders.specs.Events.{Happening}
 use Rattle.binders.specs.declared.event.EventReply.{EventReply}
 use Rattle.commands.specs.Answer.{LineStep, output}
 use Rattle.commands.specs.Line.{AsksNoChange}
-use Rattle.commands.specs.Script.{IsLine, ended, Streams, Ends, Breaks, Held, StopsWriting}
+use Rattle.commands.specs.Script.{IsLine, ended, Streams, Ends, Breaks, IsHeldBack, StopsWriting}
 use Rattle.commands.specs.inside.Progress.{Place, Answered, Misses, Told, Unread}
 use Rattle.commands.specs.declared.answer.Answer.{Answer}
 use Rattle.commands.specs.declared.fault.ScriptFault.{ScriptFault}
@@ -92,7 +92,7 @@ module _ {S : Type 0} (step : S → Happening → EventReply → S → Type 0) (
   }
 
   -- all but the last answer
-  pub held_last : (line : List ℕ) (answer : Answer) → Held before held (whole ++ line ∷ []) (answers ++ answer ∷ [])
+  pub held_last : (line : List ℕ) (answer : Answer) → IsHeldBack before held (whole ++ line ∷ []) (answers ++ answer ∷ [])
   held_last line answer = record {
     told = whole;
     untold = line ∷ [];
@@ -106,7 +106,7 @@ module _ {S : Type 0} (step : S → Happening → EventReply → S → Type 0) (
   }
 
 -- what waits is of lines that ask for no change
-pub held_told : (before held : Option (List ℕ)) (whole : List (List ℕ)) (answers : List Answer) → Told before held whole answers → Held before held whole answers
+pub held_told : (before held : Option (List ℕ)) (whole : List (List ℕ)) (answers : List Answer) → Told before held whole answers → IsHeldBack before held whole answers
 held_told before held whole answers t = record {
   told = t.told;
   untold = t.untold;
@@ -123,7 +123,7 @@ module _ {S W : Type 0} (contents : W → Option (List ℕ)) (step : S → Happe
     (so_far : Answered step p q s t m whole answers) (told : Told p.written (contents w) whole answers) where
   -- how a script broke off, and what its writer held
   abbrev pub BreaksOff : Place → S → ScriptFault → Type 0
-  BreaksOff r u fault = (held : W) × (lines : List (List ℕ)) × (part : List ℕ) × (given : List Answer) × Breaks step (streams p r) s u fault lines part given × Held p.written (contents held) lines given
+  BreaksOff r u fault = (held : W) × (lines : List (List ℕ)) × (part : List ℕ) × (given : List Answer) × Breaks step (streams p r) s u fault lines part given × IsHeldBack p.written (contents held) lines given
 
   -- a read failed
   pub off_reading : (r : Place) (line : List ℕ) (fault : ScriptFault) → Unread q.unread r.unread q.written r.written line fault → BreaksOff r t fault
@@ -225,7 +225,7 @@ module _ {S W : Type 0} (contents : W → Option (List ℕ)) (step : S → Happe
   LinesEnd summary = (held : W) × (whole : List (List ℕ)) × (cut : List ℕ) × (answers : List Answer) × Ends step io s s' summary whole cut answers × Told io.before (contents held) whole answers
 
   abbrev pub LinesBreak : ScriptFault → Type 0
-  LinesBreak fault = (held : W) × (whole : List (List ℕ)) × (part : List ℕ) × (answers : List Answer) × Breaks step io s s' fault whole part answers × Held io.before (contents held) whole answers
+  LinesBreak fault = (held : W) × (whole : List (List ℕ)) × (part : List ℕ) × (answers : List Answer) × Breaks step io s s' fault whole part answers × IsHeldBack io.before (contents held) whole answers
 
   -- the writer failed when what waited at the end was sent
   pub unsent : (r : Result Summary ScriptFault) (now : Option (List ℕ)) → IfOk r LinesEnd → IfErr r LinesBreak → (held : W) × StopsWriting step (holding step io s s' now) s s' (contents held)

@@ -10,7 +10,7 @@ use Rattle.file_disk.specs.declared.disk.FileDisk.{FileDisk}
 use Rattle.commands.specs.Disk.{IsOpenRefusal}
 use Rattle.binders.specs.EventsRan.{EventStep}
 use Rattle.commands.specs.Opened.{IsOpened}
-use Rattle.commands.specs.Outcome.{EndsEarly, Runs, RunsInPart, RunsThrough}
+use Rattle.commands.specs.Outcome.{EndsEarly, Runs, RunsInPart, RunsToTheEnd}
 use Rattle.commands.specs.Script.{Streams}
 use Rattle.commands.specs.declared.disk.NoRegistry.{NoRegistry}
 use Rattle.commands.specs.declared.disk.NoRegistry.TheVariants as no
@@ -87,7 +87,7 @@ in_time : false ≡ true → ⊥
 in_time h = cc
 
 -- what a script over a registry ends with is what one over a disk does
-module _ {S : Type 0} (step : S → Happening → EventReply → S → Type 0) (s s' : S) (F : Type 0) (io : Streams) (through : (t : Status) → RunsThrough step s s' io t → Runs F io t) (in_part : (t : Status) → EndsEarly step s s' io t → RunsInPart F io t) where
+module _ {S : Type 0} (step : S → Happening → EventReply → S → Type 0) (s s' : S) (F : Type 0) (io : Streams) (through : (t : Status) → RunsToTheEnd step s s' io t → Runs F io t) (in_part : (t : Status) → EndsEarly step s s' io t → RunsInPart F io t) where
   ends_over : (status : Status) → status ≢ BadWords → IsRun step s s' io status → ScriptEnds F io status
   ends_over Done words (inl h) = through Done h
   ends_over Done words (inr h) = absurd (in_time (late_end h.0 Done h.1 h.3))

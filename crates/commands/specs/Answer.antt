@@ -1,7 +1,7 @@
 -- The answers to the lines of a script, and their texts (own).
 use Rattle.std.specs.Prelude.{◌≡◌, ℕ, List, codes, Some, None, Bool, true, false}
 use Rattle.std.specs.List.{flat_map}
-use Rattle.registry.specs.declared.reply.Reply.TheVariants.{Refused}
+use Rattle.requests.specs.declared.reply.Reply.TheVariants.{Refused}
 use Rattle.binders.specs.Events.{Happening}
 use Rattle.binders.specs.declared.event.EventReply.{EventReply}
 use Rattle.binders.specs.declared.event.EventReply.TheVariants as event_reply

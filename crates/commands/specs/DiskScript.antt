@@ -14,21 +14,21 @@ use Rattle.commands.specs.declared.fault.ScriptFault.{ScriptFault}
 use Rattle.commands.specs.declared.summary.Summary.{Summary}
 
 -- what lines ask, in their order: a line of no form asks nothing
-abbrev pub asked : List (List ℕ) → List Happening
-asked lines = filter_map meaning lines
+abbrev pub happenings : List (List ℕ) → List Happening
+happenings lines = filter_map meaning lines
 
 -- what was replied to a line: one of no form gets no reply
-abbrev pub reply_of : Answer → Option EventReply
-reply_of (Replied reply) = Some reply
-reply_of answer = None
+abbrev pub event_reply_of : Answer → Option EventReply
+event_reply_of (Replied reply) = Some reply
+event_reply_of answer = None
 
 -- what was replied to lines, in their order
 abbrev pub replied : List Answer → List EventReply
-replied answers = filter_map reply_of answers
+replied answers = filter_map event_reply_of answers
 
 -- What these lines ask happened over a disk, one after the other, one reply each; and what a stop leaves of it at any moment.
 abbrev pub LinesRan : {D : Type 0} → (D → DiskFacts) → Slotted D → Slotted D → List (List ℕ) → List Answer → Type 0
-LinesRan facts old new lines answers = EventsRan facts old new (asked lines) (replied answers)
+LinesRan facts old new lines answers = EventsRan facts old new (happenings lines) (replied answers)
 
 -- a script over a registry on a disk was read to its end, and what its lines ask happened
 abbrev pub FinishesOnDisk : {D : Type 0} → (D → DiskFacts) → Streams → Slotted D → Slotted D → Summary → Type 0

@@ -1,13 +1,13 @@
 -- A step of a registry on a disk (own).
 use Rattle.sector_disk.specs.Disk.{DiskFacts, AreCallsExactly}
 use Rattle.store.specs.Opened.{Opened}
-use Rattle.registry.specs.Request.{Request}
+use Rattle.requests.specs.Request.{Request}
 use Rattle.states.specs.State.{State}
-use Rattle.registry.specs.declared.reply.Reply.{Reply}
-use Rattle.disk_registry.specs.Answered.{Answered}
-use Rattle.disk_registry.specs.Applied.{Applies}
-use Rattle.disk_registry.specs.Calls.{IfAccepted, calls_of}
-use Rattle.disk_registry.specs.Opened.{IsAt}
+use Rattle.requests.specs.declared.reply.Reply.{Reply}
+use Rattle.registry.specs.Answered.{Answered}
+use Rattle.registry.specs.Applied.{Applies}
+use Rattle.registry.specs.Calls.{IfAccepted, calls_of}
+use Rattle.registry.specs.Opened.{IsAt}
 
 -- What a registry on a disk answers to a command, and does.
 pub record DiskStep {D : Type 0} (facts : D → DiskFacts) (old : Opened D) (request : Request) (answer : Reply) (new : Opened D) : Type 0 where

@@ -5,7 +5,7 @@ use Rattle.std.specs.List.{list_all, slice_split}
 use Rattle.std.specs.Option.{option_map}
 use Rattle.std.specs.Result.{result_ok}
 use Rattle.hex.specs.Hex.{decode_of}
-use Rattle.registry.specs.Request.{install, replace, remove, set_preloads, bind, list}
+use Rattle.requests.specs.Request.{install, replace, remove, set_preloads, bind, list}
 use Rattle.binders.specs.Events.{Happening, apply, begin, advance, cancel}
 use Rattle.commands.specs.Base.{base_of}
 

@@ -6,7 +6,7 @@ use Rattle.store.specs.Stands.{catalogues_of}
 use Rattle.states.specs.Geometry.{IsGeometry}
 use Rattle.file_disk.specs.FileDisk.{file_facts, IsNew}
 use Rattle.file_disk.specs.declared.disk.FileDisk.{FileDisk}
-use Rattle.disk_registry.specs.Stands.{file_sectors}
+use Rattle.registry.specs.Stands.{file_sectors}
 
 -- it was opened: on a new disk of a good size, without failure, by exactly the calls of opening, and nothing is held
 pub record IsOpened {F : Type 0} (disk : FileDisk F) (registry : Opened (FileDisk F)) : Type 0 where

@@ -1,9 +1,9 @@
 -- What the program's statuses say of what the words asked (own).
 use Rattle.std.specs.Prelude.{◌≡◌, ◌⊎◌, ◌<◌, ℕ, List, length, replicate, Option, Some, None, Bool, true, false, is_none, codes}
 use Rattle.std.specs.Io.KnownBytes.{Appends}
-use Rattle.registry.specs.Request.{Request}
-use Rattle.registry.specs.Request as request
-use Rattle.registry.specs.declared.reply.Reply.{Reply}
+use Rattle.requests.specs.Request.{Request}
+use Rattle.requests.specs.Request as request
+use Rattle.requests.specs.declared.reply.Reply.{Reply}
 use Rattle.binders.specs.Events.{Happening}
 use Rattle.binders.specs.Slotted.{HoldAlone, Slotted}
 use Rattle.binders.specs.declared.event.EventReply.{EventReply}
@@ -87,8 +87,8 @@ Worsens step old happening reply new = step old.0 happening reply new.0 × (new.
 
 module _ {S : Type 0} (step : S → Happening → EventReply → S → Type 0) (s s' : S) (io : Streams) (status : Status) where
   -- a script ran to its end: its status is the greatest of the replies', 1 at least if one refuses
-  abbrev pub RunsThrough : Type 0
-  RunsThrough = (worst : Status) × (summary : Summary) × Finishes (Worsens step) io (s, Done) (s', worst) summary × (status ≡ greatest worst (lines_status summary.refused))
+  abbrev pub RunsToTheEnd : Type 0
+  RunsToTheEnd = (worst : Status) × (summary : Summary) × Finishes (Worsens step) io (s, Done) (s', worst) summary × (status ≡ greatest worst (lines_status summary.refused))
 
   -- a script ended early: the status is the greatest of its replies and of what ended it
   abbrev pub EndsEarly : Type 0
@@ -102,7 +102,7 @@ pub record Runs (F : Type 0) (io : Streams) (status : Status) : Type 0 where
   pub empty : old.slots ≡ replicate 8 None
   pub alone : HoldAlone old
   pub new : Slotted (FileDisk F)
-  pub run : RunsThrough (EventStep file_facts) old new io status
+  pub run : RunsToTheEnd (EventStep file_facts) old new io status
 
 -- the same of a script that ended early
 pub record RunsInPart (F : Type 0) (io : Streams) (status : Status) : Type 0 where

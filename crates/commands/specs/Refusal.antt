@@ -8,6 +8,8 @@ use Rattle.elf_file.specs.declared.refusal.ObjectRefusal.{ObjectRefusal}
 use Rattle.elf_file.specs.declared.refusal.ObjectRefusal.TheVariants.{TooShort, BadMagic, BadClass, BadData, BadVersion, BadOsAbi, BadType, BadMachine, BadHeaderSize, BadProgramHeaders, TlsSegment, BadSegment, TooLarge, SegmentOrder, BadDynamic, DuplicateTag, SymbolVersions, UnsupportedTag, NoHashTable, MissingTag, BadEntrySize, BadRange, BadString, CommonSymbol, TlsSymbol, IfuncSymbol, BadBinding, RelocationType, RelocationSymbol, RelocationPlace, BadSoname}
 use Rattle.hash_check.specs.declared.file_refusal.FileRefusal.{FileRefusal}
 use Rattle.hash_check.specs.declared.file_refusal.FileRefusal.TheVariants.{Object, DuplicateDefinition, BadHashTable}
+use Rattle.store.specs.declared.refusal.StoreRefusal.TheVariants as disk
+use Rattle.commands.specs.Disk.{disk_refusal_text}
 
 -- the number and the name of the refusal of an object
 abbrev pub object_refusal_name : ObjectRefusal → List ℕ
@@ -60,7 +62,7 @@ named_text head first second = head ++ name_text first ++ codes " " ++ name_text
 
 -- the line of want of memory
 abbrev pub memory_text : List ℕ
-memory_text = codes "refused S11 OutOfMemory\n"
+memory_text = disk_refusal_text disk.OutOfMemory
 
 -- the line of the answer to a bind that gives no image
 abbrev pub refusal_text : BindRefusal → List ℕ

@@ -3,19 +3,21 @@ use Rattle.std.specs.Prelude.{ℕ, List, ◌++◌, codes}
 use Rattle.std.specs.List.{flat_map}
 use Rattle.std.specs.Fmt.{decimal}
 use Rattle.text_output.specs.Name.{name_text}
-use Rattle.registry.specs.Table.{Listed}
-use Rattle.registry.specs.declared.refusal.Refusal.{Refusal}
-use Rattle.registry.specs.declared.refusal.Refusal.TheVariants.{Object, AlreadyInstalled, NotInstalled, InPreloads, RepeatedPreload, TooManyPreloads, NoSlot, NoSuchBinder, Device, Reopen, Damaged, BadGeometry, Full, Fragmented, TooMany, GenerationEnd, OutOfMemory, Bind}
-use Rattle.registry.specs.declared.reply.Reply.{Reply}
-use Rattle.registry.specs.declared.reply.Reply.TheVariants.{Done, Listing, Bound, Refused}
+use Rattle.requests.specs.Table.{Listed}
+use Rattle.requests.specs.declared.refusal.Refusal.{Refusal}
+use Rattle.requests.specs.declared.refusal.Refusal.TheVariants.{Object, AlreadyInstalled, NotInstalled, InPreloads, RepeatedPreload, TooManyPreloads, NoSlot, NoSuchBinder, Device, Reopen, Damaged, BadGeometry, Full, Fragmented, TooMany, GenerationEnd, OutOfMemory, Bind}
+use Rattle.requests.specs.declared.reply.Reply.{Reply}
+use Rattle.requests.specs.declared.reply.Reply.TheVariants.{Done, Listing, Bound, Refused}
 use Rattle.image.specs.Text.{image_text}
+use Rattle.store.specs.declared.refusal.StoreRefusal.TheVariants as disk
+use Rattle.commands.specs.Disk.{disk_refusal_text}
 use Rattle.commands.specs.Refusal.{file_refusal_text, refusal_text}
 
 -- the line of a refusal, by its number, its name and what follows them
 abbrev pub refused_line : List ℕ → List ℕ
 refused_line said = codes "refused " ++ said ++ codes "\n"
 
--- the line of a refusal; after C1 comes that of the file; that of a bind is as without a registry
+-- the line of a refusal; after C1 comes that of the file; that of a bind is as without a registry, that of a disk as of one that isn't opened
 abbrev pub command_refusal_text : Refusal → List ℕ
 command_refusal_text (Object refusal) = refused_line (codes "C1 " ++ file_refusal_text refusal)
 command_refusal_text AlreadyInstalled = refused_line (codes "C2 AlreadyInstalled")
@@ -26,15 +28,15 @@ command_refusal_text TooManyPreloads = refused_line (codes "C6 TooManyPreloads")
 command_refusal_text NoSlot = refused_line (codes "C7 NoSlot")
 command_refusal_text NoSuchBinder = refused_line (codes "C8 NoSuchBinder")
 command_refusal_text (Bind refusal) = refusal_text refusal
-command_refusal_text Device = refused_line (codes "S1 Device")
-command_refusal_text Reopen = refused_line (codes "S2 Reopen")
-command_refusal_text Damaged = refused_line (codes "S5 Damaged")
-command_refusal_text BadGeometry = refused_line (codes "S6 BadGeometry")
-command_refusal_text Full = refused_line (codes "S7 Full")
-command_refusal_text Fragmented = refused_line (codes "S8 Fragmented")
-command_refusal_text TooMany = refused_line (codes "S9 TooMany")
-command_refusal_text GenerationEnd = refused_line (codes "S10 GenerationEnd")
-command_refusal_text OutOfMemory = refused_line (codes "S11 OutOfMemory")
+command_refusal_text Device = disk_refusal_text disk.Device
+command_refusal_text Reopen = disk_refusal_text disk.Reopen
+command_refusal_text Damaged = disk_refusal_text disk.Damaged
+command_refusal_text BadGeometry = disk_refusal_text disk.BadGeometry
+command_refusal_text Full = disk_refusal_text disk.Full
+command_refusal_text Fragmented = disk_refusal_text disk.Fragmented
+command_refusal_text TooMany = disk_refusal_text disk.TooMany
+command_refusal_text GenerationEnd = disk_refusal_text disk.GenerationEnd
+command_refusal_text OutOfMemory = disk_refusal_text disk.OutOfMemory
 
 -- the line of a library: its name, and the length of its file
 abbrev pub library_text : List ℕ × ℕ → List ℕ

@@ -4,7 +4,7 @@ use Rattle.std.specs.List.{flat_map}
 use Rattle.std.specs.Io.{StopsAt}
 use Rattle.std.specs.Io.Iter.{u64_saturate}
 use Rattle.std.specs.Io.KnownBytes.{Appends}
-use Rattle.registry.specs.Runs.{Run}
+use Rattle.requests.specs.Runs.{Run}
 use Rattle.binders.specs.Events.{Happening}
 use Rattle.binders.specs.declared.event.EventReply.{EventReply}
 use Rattle.commands.specs.Answer.{LineStep, output, is_refused}
@@ -40,7 +40,7 @@ pub record Streams : Type 0 where
   pub after : Option (List ℕ)
 
 -- A writer held exactly the answers to the first lines; one answer alone is missing, or the lines whose answers are missing ask for no change.
-pub record Held (before held : Option (List ℕ)) (whole : List (List ℕ)) (answers : List Answer) : Type 0 where
+pub record IsHeldBack (before held : Option (List ℕ)) (whole : List (List ℕ)) (answers : List Answer) : Type 0 where
   pub told : List (List ℕ)
   pub untold : List (List ℕ)
   pub sent : List Answer
@@ -81,4 +81,4 @@ module _ {S : Type 0} (step : S → Happening → EventReply → S → Type 0) w
 
   -- the writer failed, and held the answers before; the rest is open
   abbrev pub StopsWriting : Streams → S → S → Option (List ℕ) → Type 0
-  StopsWriting io s s' held = (whole : List (List ℕ)) × (part : List ℕ) × (answers : List Answer) × Breaks io s s' Write whole part answers × Held io.before held whole answers
+  StopsWriting io s s' held = (whole : List (List ℕ)) × (part : List ℕ) × (answers : List Answer) × Breaks io s s' Write whole part answers × IsHeldBack io.before held whole answers

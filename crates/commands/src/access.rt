@@ -1,10 +1,10 @@
 // How a command opens its disk.
 
 ghost use Rattle.std.specs.Prelude.{◌≡◌};
-ghost use Rattle.registry.specs.Request.{request_of};
+ghost use Rattle.requests.specs.Request.{request_of};
 ghost use Rattle.commands.specs.inside.Access.{access_of};
 
-use registry::Command;
+use requests::Command;
 
 /// What a disk is opened for.
 #[derive(Clone, Copy, Debug, PartialEq, Eq)]

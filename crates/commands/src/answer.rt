@@ -13,7 +13,7 @@ use crate::fault::ScriptFault;
 use crate::refusal::Line;
 use crate::takes_events::TakesEvents;
 use binders::{Event, EventReply};
-use registry::{Command, Reply};
+use requests::{Command, Reply};
 use std::io::Write;
 
 /// The answer to a line.

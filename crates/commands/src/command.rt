@@ -7,7 +7,7 @@ ghost use Rattle.commands.specs.File.{read_limit};
 ghost use Rattle.commands.specs.Outcome.{are_bad, reads_input, IsDone, IsRefused, LacksMemory};
 ghost use Rattle.commands.specs.Words.{command_line, line_of};
 ghost use Rattle.commands.specs.declared.status.Status.TheVariants.{BadWords, Failed};
-ghost use Rattle.commands.specs.inside.Ends.{Ends, ImageEnds, IsNotRead, IsShown, is_told};
+ghost use Rattle.commands.specs.inside.Ends.{CommandEnds, ImageEnds, IsNotRead, IsShown, is_told};
 
 use crate::action::{Action, read_words};
 use crate::base::parse_base;
@@ -19,7 +19,7 @@ use crate::show::run_image;
 use crate::status::{Status, status_of};
 use crate::streams::{Behind, behind_streams};
 use crate::unread::not_read;
-use registry::Command;
+use requests::Command;
 use std::alloc::Global;
 use std::io::{Read, Write};
 use std::rt::Files;
@@ -76,7 +76,7 @@ fn run_action<R: Files, I: Read, O: Write, E: Write>(
     output: &mut O,
     errors: &mut E,
 ) -> Status
-    ensures ends { Ends R.File (Some (line_of action.now)) (record {
+    ensures ends { CommandEnds R.File (Some (line_of action.now)) (record {
       unread = I.remaining input.old;
       before = O.contents output.old;
       after = O.contents output.new;
@@ -139,7 +139,7 @@ fn run_apart<R: Files, I: Read, O: Write, E: Write>(
     output: &mut O,
     errors: &mut E,
 ) -> Status
-    ensures ends { Ends R.File (Some (line_of action.now)) (record {
+    ensures ends { CommandEnds R.File (Some (line_of action.now)) (record {
       unread = I.remaining input.old;
       before = O.contents output.old;
       after = O.contents output.new;
@@ -165,7 +165,7 @@ fn run_command<R: Files, I: Read, O: Write, E: Write>(
     output: &mut O,
     errors: &mut E,
 ) -> Status
-    ensures ends { Ends R.File (command_line (map (λ word. string_bytes word) words.now)) (record {
+    ensures ends { CommandEnds R.File (command_line (map (λ word. string_bytes word) words.now)) (record {
       unread = I.remaining input.old;
       before = O.contents output.old;
       after = O.contents output.new;

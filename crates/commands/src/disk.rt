@@ -1,23 +1,19 @@
 // The disk of a command: opened, made or upgraded over a file, or why not.
 
-ghost use Rattle.std.specs.Prelude.{◌≡◌, ◌++◌, codes, true, false, OnOk, OnErr, IfOk, IfErr};
-ghost use Rattle.std.specs.Io.KnownBytes.{Appends};
-ghost use Rattle.text_output.specs.Sends.{Sends};
+ghost use Rattle.std.specs.Prelude.{◌≡◌, false, OnOk, IfOk, IfErr};
 ghost use Rattle.store.specs.Opened.{Opened};
 ghost use Rattle.file_disk.specs.FileDisk.{IsNew};
 ghost use Rattle.file_disk.specs.declared.disk.FileDisk.{FileDisk};
-ghost use Rattle.commands.specs.Disk.{disk_refusal_name, disk_refusal_text};
 ghost use Rattle.commands.specs.Disk.{IsOpenRefusal, IsFormatRefusal, IsUpgradeRefusal};
 ghost use Rattle.commands.specs.Opened.{IsOpened, IsMade, IsUpgraded};
 ghost use Rattle.commands.specs.inside.Ends.{IsNoRegistry, IsTurnedAway, is_told};
 
 use crate::access::Access;
-use crate::fault::ScriptFault;
+use crate::disk_refusal::write_disk_refusal;
 use crate::message::cannot_read;
-use crate::refusal::Line;
 use crate::status::{Status, disk_status};
-use disk_registry::Registry;
 use file_disk::{FileDisk, OpenFault};
+use registry::Registry;
 use std::alloc::Global;
 use std::io::Write;
 use std::rt::Files;
@@ -128,40 +124,6 @@ pub(crate) fn upgrade_registry<R: Files>(
         }
         Err((refusal, _)) => Err(NoRegistry::Refused(refusal)),
     }
-}
-
-/// The number of a refusal and its name.
-fn disk_refusal_name(refusal: StoreRefusal) -> &'static [u8]
-    ensures { result.now ≡ disk_refusal_name refusal }
-{
-    match refusal {
-        StoreRefusal::Device => b"S1 Device",
-        StoreRefusal::Reopen => b"S2 Reopen",
-        StoreRefusal::NotFormatted => b"S3 NotFormatted",
-        StoreRefusal::AlreadyFormatted => b"S4 AlreadyFormatted",
-        StoreRefusal::Damaged => b"S5 Damaged",
-        StoreRefusal::BadGeometry => b"S6 BadGeometry",
-        StoreRefusal::Full => b"S7 Full",
-        StoreRefusal::Fragmented => b"S8 Fragmented",
-        StoreRefusal::TooMany => b"S9 TooMany",
-        StoreRefusal::GenerationEnd => b"S10 GenerationEnd",
-        StoreRefusal::OutOfMemory => b"S11 OutOfMemory",
-        StoreRefusal::OldFormat => b"S12 OldFormat",
-    }
-}
-
-/// Writes the line of a refusal, with one write.
-fn write_disk_refusal<O: Write>(out: &mut O, refusal: StoreRefusal) -> Result<(), ScriptFault>
-    ensures ok { OnOk result
-        (Appends (O.contents out.old) (O.contents out.new) (disk_refusal_text refusal)) }
-    ensures err { IfErr result (λ fault. fault ≡ ScriptFault.Write) }
-{
-    let mut line = Line::new();
-    line.put(out, b"refused ")?;
-    line.put(out, disk_refusal_name(refusal))?;
-    line.put(out, b"\n")?;
-    line.send(out)?;
-    Ok(())
 }
 
 /// Says why there is no registry.

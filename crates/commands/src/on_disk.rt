@@ -1,8 +1,8 @@
 // The commands of a registry on a disk.
 
 ghost use Rattle.std.specs.Prelude.{◌≡◌, false, map, string_bytes, IfOk};
-ghost use Rattle.registry.specs.Request.{request_of};
-ghost use Rattle.registry.specs.declared.reply.Reply.{Reply};
+ghost use Rattle.requests.specs.Request.{request_of};
+ghost use Rattle.requests.specs.declared.reply.Reply.{Reply};
 ghost use Rattle.commands.specs.Base.{base_of};
 ghost use Rattle.commands.specs.DiskStep.{DiskStep};
 ghost use Rattle.commands.specs.Outcome.{Asks};
@@ -18,8 +18,8 @@ use crate::message::bad_base;
 use crate::reply::write_reply;
 use crate::status::{Status, reply_status};
 use crate::unread::{no_memory, not_read};
-use disk_registry::Registry;
-use registry::{Command, Reply};
+use registry::Registry;
+use requests::{Command, Reply};
 use sector_disk::Disk;
 use std::alloc::{AllocError, Global};
 use std::io::Write;

@@ -7,18 +7,17 @@ ghost use Rattle.commands.specs.Refusal.{object_refusal_name, refusal_text, memo
 ghost use Rattle.commands.specs.Refusal.{named_text};
 ghost use Rattle.text_output.specs.Sends.{Sends};
 
+use crate::disk_refusal::put_disk_refusal;
 use crate::fault::ScriptFault;
 use elf_dynamic::ObjectRefusal;
 use hash_check::FileRefusal;
 use image::BindRefusal;
 use std::io::Write;
+use store::StoreRefusal;
 use text_output::{LINE, OutputBuffer, WriteFault};
 
 /// A line on its way to a writer.
 pub(crate) type Line = OutputBuffer<LINE>;
-
-/// The line of want of memory.
-const MEMORY_LINE: &[u8] = b"refused S11 OutOfMemory\n";
 
 /// The number and the name of the refusal of a file.
 fn object_refusal_name(refusal: ObjectRefusal) -> &'static [u8]
@@ -185,7 +184,7 @@ pub(crate) fn put_refusal<W: Write>(
             object.as_bytes(),
             symbol.as_bytes(),
         ),
-        BindRefusal::OutOfMemory => line.put(out, MEMORY_LINE),
+        BindRefusal::OutOfMemory => put_disk_refusal(line, out, StoreRefusal::OutOfMemory),
     }
 }
 

@@ -10,11 +10,13 @@ ghost use Rattle.commands.specs.Reply.{command_refusal_text, library_text, prelo
 ghost use Rattle.commands.specs.Reply.{listing_text, refused_line, reply_text};
 ghost use Rattle.commands.specs.inside.Short.{short_text};
 
+use crate::disk_refusal::put_disk_refusal;
 use crate::fault::ScriptFault;
 use crate::refusal::{Line, put_file_line, put_refusal};
 use names::Name;
-use registry::{Listing, Refusal, Reply};
+use requests::{Listing, Refusal, Reply};
 use std::io::Write;
+use store::StoreRefusal;
 use text_output::WriteFault;
 
 /// The line of a refusal of which this is all that is said.
@@ -48,15 +50,15 @@ fn put_command_refusal<W: Write>(
         Refusal::NoSlot => put_plain_refusal(line, out, b"C7 NoSlot"),
         Refusal::NoSuchBinder => put_plain_refusal(line, out, b"C8 NoSuchBinder"),
         Refusal::Bind(refusal) => put_refusal(line, out, refusal),
-        Refusal::Device => put_plain_refusal(line, out, b"S1 Device"),
-        Refusal::Reopen => put_plain_refusal(line, out, b"S2 Reopen"),
-        Refusal::Damaged => put_plain_refusal(line, out, b"S5 Damaged"),
-        Refusal::BadGeometry => put_plain_refusal(line, out, b"S6 BadGeometry"),
-        Refusal::Full => put_plain_refusal(line, out, b"S7 Full"),
-        Refusal::Fragmented => put_plain_refusal(line, out, b"S8 Fragmented"),
-        Refusal::TooMany => put_plain_refusal(line, out, b"S9 TooMany"),
-        Refusal::GenerationEnd => put_plain_refusal(line, out, b"S10 GenerationEnd"),
-        Refusal::OutOfMemory => put_plain_refusal(line, out, b"S11 OutOfMemory"),
+        Refusal::Device => put_disk_refusal(line, out, StoreRefusal::Device),
+        Refusal::Reopen => put_disk_refusal(line, out, StoreRefusal::Reopen),
+        Refusal::Damaged => put_disk_refusal(line, out, StoreRefusal::Damaged),
+        Refusal::BadGeometry => put_disk_refusal(line, out, StoreRefusal::BadGeometry),
+        Refusal::Full => put_disk_refusal(line, out, StoreRefusal::Full),
+        Refusal::Fragmented => put_disk_refusal(line, out, StoreRefusal::Fragmented),
+        Refusal::TooMany => put_disk_refusal(line, out, StoreRefusal::TooMany),
+        Refusal::GenerationEnd => put_disk_refusal(line, out, StoreRefusal::GenerationEnd),
+        Refusal::OutOfMemory => put_disk_refusal(line, out, StoreRefusal::OutOfMemory),
     }
 }
 
@@ -167,7 +169,7 @@ pub(crate) fn put_reply<W: Write>(
 
 /// Writes the text of a reply: with one write, but for an image, and for a listing that is longer
 /// than a line's buffer. It takes no memory.
-pub(crate) fn write_reply<W: Write>(out: &mut W, reply: &Reply) -> Result<(), ScriptFault>
+pub fn write_reply<W: Write>(out: &mut W, reply: &Reply) -> Result<(), ScriptFault>
     ensures ok { OnOk result
         (Appends (W.contents out.old) (W.contents out.new) (reply_text reply.now)) }
     ensures err { IfErr result (λ fault. fault ≡ ScriptFault.Write) }

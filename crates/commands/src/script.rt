@@ -8,7 +8,7 @@ ghost use Rattle.std.specs.Option.{option_map};
 ghost use Rattle.text_output.specs.Sends.{Sends};
 ghost use Rattle.commands.specs.Answer.{LineStep, answer_text, is_refused};
 ghost use Rattle.commands.specs.Line.{AsksNoChange, is_no_change, meaning};
-ghost use Rattle.commands.specs.Script.{Breaks, Ends, Finishes, Held, Stops, StopsWriting};
+ghost use Rattle.commands.specs.Script.{Breaks, Ends, Finishes, IsHeldBack, Stops, StopsWriting};
 ghost use Rattle.commands.specs.inside.Asked.{happening_asked};
 ghost use Rattle.commands.specs.inside.Progress.{GotLine, HasLine, Misses, Stepped, Told, Unread};
 ghost use Rattle.commands.specs.declared.answer.Answer.{Answer};
@@ -173,7 +173,7 @@ fn run_lines<R: Read, W: Write, G: TakesEvents>(
           after = append_known (W.contents writer.new) waiting.new.waiting;
         })
         binders.old binders.new fault whole part answers
-        × Held (W.contents writer.old) (W.contents held) whole answers) }
+        × IsHeldBack (W.contents writer.old) (W.contents held) whole answers) }
 {
     let mut line = Vec::new(alloc);
     let mut summary = Summary {

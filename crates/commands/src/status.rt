@@ -9,7 +9,7 @@ use crate::fault::ScriptFault;
 use crate::show::Shown;
 use binders::EventReply;
 use image::BindRefusal;
-use registry::{Refusal, Reply};
+use requests::{Refusal, Reply};
 use store::StoreRefusal;
 
 /// The exit status of the program.

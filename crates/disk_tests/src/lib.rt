@@ -4,6 +4,8 @@
 #[cfg(test)]
 mod files;
 #[cfg(test)]
+mod given;
+#[cfg(test)]
 mod layouts;
 #[cfg(test)]
 mod random;

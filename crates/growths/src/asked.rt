@@ -1,11 +1,14 @@
 // Commands as data, each with its answer in a word.
 
-use crate::files::{BASE, SIZE, library, program};
 use crate::listed::listed;
-use disk_registry::Registry;
 use image::{BindRefusal, Image};
-use registry::{Command, Refusal, Reply};
+use registry::Registry;
+use requests::{Command, Refusal, Reply};
+use samples::{SIZE, library, program};
 use sector_disk::{Fuse, Memory};
+
+/// The base of every program.
+pub(crate) const BASE: u64 = 0x10000;
 
 /// A registry on a disk whose calls are counted.
 pub(crate) type OnMemory = Registry<Fuse<Memory>>;

@@ -2,7 +2,7 @@
 
 use crate::counted::{calls, calls_word, counted};
 use crate::run::{Went, Words};
-use disk_registry::Registry;
+use registry::Registry;
 use sector_disk::{Fuse, Memory};
 use std::alloc::{AllocError, Global};
 use store::StoreRefusal;

@@ -1,6 +1,6 @@
 // What a listing says, in a word.
 
-use registry::Listing;
+use requests::Listing;
 
 // Names of libraries, names of preloads, and the word for a listing of them.
 type Line = (&'static [u8], &'static [u8], &'static str);

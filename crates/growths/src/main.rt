@@ -7,7 +7,6 @@
 
 mod asked;
 mod counted;
-mod files;
 mod format;
 mod listed;
 mod old;

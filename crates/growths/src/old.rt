@@ -1,7 +1,7 @@
 // A disk of version 1, written by hand.
 
-use crate::files::library;
 use crate::format::zeros;
+use samples::library;
 use sector_disk::{Disk, Memory, SECTOR_BYTES};
 use std::alloc::{AllocError, Global};
 

@@ -1,11 +1,11 @@
 // Rounds of commands, with a stop after each.
 
-use crate::asked::{Asked, ask, word};
-use crate::files::{BASE, library, program};
+use crate::asked::{Asked, BASE, ask, word};
 use crate::format::refusal_word;
 use crate::run::{Words, opened};
-use disk_registry::{Round, RoundReplies, run_rounds};
-use registry::Command;
+use registry::{Round, RoundReplies, run_rounds};
+use requests::Command;
+use samples::{library, program};
 use sector_disk::Memory;
 use std::alloc::{AllocError, Global};
 

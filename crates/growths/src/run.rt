@@ -9,7 +9,7 @@ use crate::seen::{before, is_as_before};
 use crate::steps::{STEPS, Step};
 use crate::texts::text;
 use crate::upgrades::upgrade;
-use disk_registry::Registry;
+use registry::Registry;
 use sector_disk::{Fuse, Memory};
 use std::alloc::{AllocError, Global};
 use store::StoreRefusal;

@@ -1,12 +1,12 @@
 // A script with every form of line.
 
-use crate::files::{library, program};
 use crate::replies::{is_not_done, replies, reply_word};
 use crate::run::{Words, opened};
 use crate::seen::{before, seen};
 use crate::steps::STEPS;
 use binders::Binders;
 use commands::{ScriptFault, run_script_on_disk};
+use samples::{library, program};
 use sector_disk::Memory;
 use std::alloc::{AllocError, Global};
 

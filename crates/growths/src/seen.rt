@@ -2,14 +2,14 @@
 
 use crate::asked::ask;
 use crate::counted::counted;
-use crate::files::{library, program};
 use crate::format::zeros;
 use crate::run::opened;
 use crate::scripts::put_line;
 use crate::steps::STEPS;
 use binders::Binders;
 use commands::run_script_on_disk;
-use disk_registry::Registry;
+use registry::Registry;
+use samples::{library, program};
 use sector_disk::Memory;
 use std::alloc::{AllocError, Global};
 

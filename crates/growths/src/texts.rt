@@ -2,7 +2,7 @@
 
 use crate::asked::{Asked, give};
 use crate::run::{Words, opened};
-use registry::Reply;
+use requests::Reply;
 use sector_disk::Memory;
 use std::alloc::{AllocError, Global};
 

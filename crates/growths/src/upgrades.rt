@@ -6,7 +6,7 @@ use crate::old::old_disk;
 use crate::run::Words;
 use crate::seen::{before, seen};
 use crate::steps::STEPS;
-use disk_registry::Registry;
+use registry::Registry;
 use sector_disk::{Disk, Fuse, Memory, SECTOR_BYTES};
 use std::alloc::{AllocError, Global};
 use store::StoreRefusal;

@@ -5,7 +5,7 @@ use crate::numbers::are_preloads;
 use hash_check::{Admitted, FileRefusal, ReadRefusal};
 use image::{Image, bind_program};
 use names::Name;
-use registry::{Command, Listing, Refusal, Reply};
+use requests::{Command, Listing, Refusal, Reply};
 use scope::Library;
 use std::alloc::{AllocError, Global};
 

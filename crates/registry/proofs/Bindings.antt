@@ -1,10 +1,108 @@
--- What a program that is taken by itself has taken.
-use Rattle.std.proofs.Common.{◌≡◌, ℕ, List, None}
-use Rattle.hash_check.specs.FileRefusal.{ReadNeedsMemory}
-use Rattle.hash_check.proofs.Reading.{taken_with_memory}
-use Rattle.image.specs.Refusal.{program_refusal}
-use Rattle.image.proofs.Answering.{program-taken}
+-- What a bind answers by what its walk has found.
+use Rattle.std.proofs.Common.{◌≡◌, ℕ, ◌+◌, List, [], ◌∷◌, map, drop, sum_by, Option, None, inl, refl, sym, ap, subst, ◌∙◌}
+use Rattle.std.specs.Option.{option_map}
+use Rattle.std.proofs.lemmas.List.Sums.{sum_by-cons}
+use Rattle.elf_file.specs.FirstOf.{first_of}
+use Rattle.sector_disk.specs.Disk.{DiskFacts, Mixture}
+use Rattle.sector_disk.proofs.Moments.{weaken}
+use Rattle.scope.specs.LoadOrder.{Need, available, load_order, missing}
+use Rattle.scope.specs.Objects.{Named}
+use Rattle.image.specs.Byte.{byte_of}
+use Rattle.image.specs.Image.{MemoryImage, image_byte}
+use Rattle.image.specs.Placement.{place}
+use Rattle.image.specs.Refusal.{IsAnswer, IsFirstOrWantsMemory, placed_refusal, missing_by, program_refusal}
+use Rattle.image.specs.declared.refusal.BindRefusal.{BindRefusal}
+use Rattle.image.specs.declared.refusal.BindRefusal.TheVariants as binding
+use Rattle.image.proofs.Answering.{program-taken, program-based, behind, later-answer}
+use Rattle.store.specs.Opened.{Opened}
+use Rattle.store.specs.declared.refusal.StoreRefusal.{StoreRefusal}
+use Rattle.store.specs.declared.refusal.StoreRefusal.TheVariants as reading
+use Rattle.requests.specs.Binding.{object_of, objects, preload_numbers, binding_refusal, bound_objects, bound_image, of_bind}
+use Rattle.states.specs.State.{Library, State}
+use Rattle.requests.specs.Request.{bind}
+use Rattle.requests.specs.Step.{Step, Leads}
+use Rattle.requests.specs.declared.refusal.Refusal.TheVariants.{Bind}
+use Rattle.requests.specs.declared.reply.Reply.{Reply}
+use Rattle.requests.specs.declared.reply.Reply.TheVariants.{Refused, Bound}
+use Rattle.requests.proofs.Bindings.{memory}
+use Rattle.registry.specs.Applied.{Applied, MayLeaveWithin}
+use Rattle.registry.specs.Binding.{data_sectors, bind_sectors}
+use Rattle.registry.specs.Opened.{IsAt}
+use Rattle.registry.specs.Phase.{phase_of}
+use Rattle.registry.specs.inside.Reading.{IsRead, IsReadRefusal, refusal_of_read}
+use Rattle.registry.specs.inside.Walked.{walked_objects, walked_refusal}
 
--- a program that is taken by itself was admitted, and that takes memory
-pub memory : (file : List ℕ) (base : ℕ) → program_refusal file base ≡ None → ReadNeedsMemory file
-memory file base h = taken_with_memory file (program-taken file base h)
+module _ (s : State) (program : List ℕ) (base : ℕ) (files : List Library) (lacks : Option Need) (taken : program_refusal program base ≡ None)
+    (is : load_order program (objects s) (preload_numbers s) ≡ available program (map object_of files)) (lacking : missing program (objects s) (preload_numbers s) ≡ lacks) where
+  later_same : first_of (option_map missing_by (missing program (objects s) (preload_numbers s)) ∷ placed_refusal (bound_objects s program base) ∷ []) ≡ walked_refusal program base lacks files
+  later_same =
+      ap (λ m. first_of (option_map missing_by m ∷ placed_refusal (bound_objects s program base) ∷ [])) lacking
+      ∙ ap (λ o. first_of (option_map missing_by lacks ∷ placed_refusal (place base o) ∷ [])) is
+
+  -- what a walk has found decides what a bind is answered,
+  pub refusal_same : binding_refusal s program base ≡ walked_refusal program base lacks files
+  refusal_same = behind program base (objects s) (preload_numbers s) (program-taken program base taken) (program-based program base taken) ∙ later_same
+
+  pub answer_same : (e : BindRefusal) → IsFirstOrWantsMemory (walked_refusal program base lacks files) e → IsAnswer program base (objects s) (preload_numbers s) e
+  answer_same e h =
+      later-answer program base (objects s) (preload_numbers s) e (program-taken program base taken) (program-based program base taken)
+      (subst (λ r. IsFirstOrWantsMemory r e) (sym later_same) h)
+
+  -- what is bound,
+  pub objects_same : walked_objects program base files ≡ bound_objects s program base
+  objects_same = ap (place base) (sym is)
+
+  -- and how many sectors were read
+  pub sectors_read : sum_by (λ f. data_sectors f.bytes) files ≡ bind_sectors s program
+  sectors_read = by files ∙ ap (λ (os : List Named). sum_by (λ (o : Named). data_sectors o.file) (drop 1 os)) (sym is)
+    where
+      by : (ls : List Library) → sum_by (λ f. data_sectors f.bytes) ls ≡ sum_by (λ o. data_sectors o.file) (map object_of ls)
+      by [] = refl
+      by (l ∷ ls) = sum_by-cons (λ (f : Library). data_sectors f.bytes) l ls ∙ ap (λ n. data_sectors l.bytes + n) (by ls)
+          ∙ sym (sum_by-cons (λ (o : Named). data_sectors o.file) (object_of l) (map object_of ls))
+
+module _ {D : Type 0} (facts : D → DiskFacts) (old new : Opened D) (s : State) (read : IsRead facts old new) (at : IsAt facts old s) (program : List ℕ) (base : ℕ) where
+  pub leads : Leads (phase_of facts old s) s (phase_of facts new s)
+  leads = record { sectors = read.calls.sectors; failed = read.failed; state = refl }
+
+  -- a refusal of a bind is a step
+  pub refused : (e : BindRefusal) → IsAnswer program base (objects s) (preload_numbers s) e
+      → Step (phase_of facts old s) (bind program base) (Refused (of_bind e)) (phase_of facts new s)
+  refused (binding.Program r) h = (at.stored.usable, ap (option_map Bind) h, leads)
+  refused binding.BadBase h = (at.stored.usable, ap (option_map Bind) h, leads)
+  refused (binding.Missing needer name) h = (at.stored.usable, ap (option_map Bind) h, leads)
+  refused binding.NoRoom h = (at.stored.usable, ap (option_map Bind) h, leads)
+  refused (binding.Undefined object symbol) h = (at.stored.usable, ap (option_map Bind) h, leads)
+  refused binding.OutOfMemory h = (at.stored.usable, h, leads)
+
+  -- so is an image
+  pub bound : (image : MemoryImage) → binding_refusal s program base ≡ None → image ≡ bound_image s program base
+      → ((a : ℕ) → image_byte image a ≡ byte_of (bound_objects s program base) a)
+      → Step (phase_of facts old s) (bind program base) (Bound image) (phase_of facts new s)
+  bound image accepted is bytes = (at.stored.usable, ap (option_map Bind) accepted, (is, bytes), leads)
+
+  -- and a reading that is refused
+  pub unread : program_refusal program base ≡ None → (e : StoreRefusal) → IsReadRefusal facts old new e → (e ≡ reading.Damaged → ⊥)
+      → Step (phase_of facts old s) (bind program base) (Refused (refusal_of_read e)) (phase_of facts new s)
+  unread taken reading.Device is intact = (at.stored.usable, record { risen = is; untested = taken; same = leads })
+  unread taken reading.Reopen is intact = (is, leads)
+  unread taken reading.OutOfMemory is intact = (at.stored.usable, memory program base taken, leads)
+  unread taken reading.Damaged is intact = absurd (intact refl)
+  unread taken reading.NotFormatted is intact = absurd is
+  unread taken reading.AlreadyFormatted is intact = absurd is
+  unread taken reading.BadGeometry is intact = absurd is
+  unread taken reading.Full is intact = absurd is
+  unread taken reading.Fragmented is intact = absurd is
+  unread taken reading.TooMany is intact = absurd is
+  unread taken reading.GenerationEnd is intact = absurd is
+  unread taken reading.OldFormat is intact = absurd is
+
+  -- what a step that only reads does to a registry
+  pub applied : (answer : Reply) → Step (phase_of facts old s) (bind program base) answer (phase_of facts new s) → Applied facts old new s s (bind program base) answer
+  applied answer step = record {
+    step = step;
+    any_moment = weaken (Mixture (facts old.disk)) (MayLeaveWithin (phase_of facts old s) (bind program base) answer s)
+        (λ m mixture. inl (record { stored = (old.root, old.entries, at.stored.stands m mixture); libraries = at.libraries }))
+        (read.leaves at.stored.honest);
+    kept = inl (record { stored = read.same s at.stored; libraries = at.libraries });
+  }

@@ -1,42 +1,29 @@
--- Binding a program with what a registry holds (own).
-use Rattle.std.specs.Prelude.{ℕ, List, map, position, Option}
-use Rattle.std.specs.List.{filter_map}
-use Rattle.std.specs.Str.{bytes_eq}
-use Rattle.scope.specs.Objects.{Named}
-use Rattle.image.specs.Placement.{Placed, objects_of}
-use Rattle.image.specs.Image.{MemoryImage, image_of}
-use Rattle.image.specs.Refusal.{bind_refusal}
-use Rattle.image.specs.declared.refusal.BindRefusal.{BindRefusal}
-use Rattle.image.specs.declared.refusal.BindRefusal.TheVariants as bind
-use Rattle.states.specs.State.{Library, State, names_of}
-use Rattle.registry.specs.declared.refusal.Refusal.{Refusal}
-use Rattle.registry.specs.declared.refusal.Refusal.TheVariants.{Bind, OutOfMemory}
+-- What a bind reads of a disk (own).
+use Rattle.std.specs.Prelude.{ℕ, List, length, drop, sum_by, Result, Ok, Err}
+use Rattle.std.specs.Int.{div_ceil}
+use Rattle.sector_disk.specs.Disk.{sector_bytes}
+use Rattle.scope.specs.LoadOrder.{load_order}
+use Rattle.requests.specs.Binding.{objects, preload_numbers}
+use Rattle.states.specs.State.{State}
+use Rattle.requests.specs.declared.refusal.Refusal.{Refusal}
+use Rattle.requests.specs.declared.reply.Reply.{Reply}
+use Rattle.requests.specs.declared.reply.Reply.TheVariants.{Bound, Refused}
+use Rattle.image.specs.Image.{MemoryImage}
 
--- a library as an object
-abbrev pub object_of : Library → Named
-object_of l = record { name = l.name; file = l.bytes }
+-- how many sectors the bytes of a file take
+abbrev pub data_sectors : List ℕ → ℕ
+data_sectors bytes = div_ceil (length bytes) sector_bytes
 
--- the libraries as objects, in the order in which they were installed
-abbrev pub objects : State → List Named
-objects s = map object_of s.libraries
+-- how many sectors the libraries in the load order of a program take, which begins with the program
+abbrev pub bind_sectors : State → List ℕ → ℕ
+bind_sectors s program = sum_by (λ o. data_sectors o.file) (drop 1 (load_order program (objects s) (preload_numbers s)))
 
--- the numbers of the preloads among the libraries, in the order of the preloads
-abbrev pub preload_numbers : State → List ℕ
-preload_numbers s = filter_map (λ name. position (bytes_eq name) (names_of s.libraries)) s.preloads
+-- the reply that a bind's result makes
+abbrev pub bound_answer : Result MemoryImage Refusal → Reply
+bound_answer (Ok image) = Bound image
+bound_answer (Err refusal) = Refused refusal
 
--- what is bound for a program at a base, in load order and in its place
-abbrev pub bound_objects : State → List ℕ → ℕ → List Placed
-bound_objects s program base = objects_of program base (objects s) (preload_numbers s)
-
--- B1 to B5: the refusal of a bind by the first test that applies
-abbrev pub binding_refusal : State → List ℕ → ℕ → Option BindRefusal
-binding_refusal s program base = bind_refusal program base (objects s) (preload_numbers s)
-
--- the image that a bind gives where no test applies
-abbrev pub bound_image : State → List ℕ → ℕ → MemoryImage
-bound_image s program base = image_of (bound_objects s program base)
-
--- the refusal of a command where a bind isn't done: want of memory is S11, whatever took it
-abbrev pub of_bind : BindRefusal → Refusal
-of_bind bind.OutOfMemory = OutOfMemory
-of_bind refusal = Bind refusal
+-- this holds where the reply is an image
+abbrev pub IfBound : Reply → Type 0 → Type 0
+IfBound (Bound image) P = P
+IfBound other P = Unit {0}

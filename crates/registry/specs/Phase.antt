@@ -1,28 +1,19 @@
--- Where a registry stands between two commands (own).
-use Rattle.std.specs.Prelude.{ℕ, Bool, ◌-◌}
-use Rattle.states.specs.State.{State, names_of}
-use Rattle.states.specs.Cost.{free}
-use Rattle.registry.specs.Table.{Table}
+-- A registry on a disk between two commands, in the words of the step table (own).
+use Rattle.std.specs.Prelude.{length}
+use Rattle.sector_disk.specs.Disk.{DiskFacts}
+use Rattle.store.specs.Held.{lone_sectors}
+use Rattle.store.specs.Opened.{Opened}
+use Rattle.store.specs.Step.{longest_free}
+use Rattle.states.specs.State.{State}
+use Rattle.requests.specs.Phase.{Phase}
 
--- what contracts see of a registry: its state, and what is known of its disk
-pub record Phase : Type 0 where
-  pub sectors : ℕ
-  -- how many sectors are in use beside the state: those of versions that only binders hold
-  pub lone : ℕ
-  -- how many sectors that aren't in use lie in as many of the longest runs as a file may have extents
-  pub longest : ℕ
-  -- how many calls of its disk have failed
-  pub failures : ℕ
-  -- a write or a sync has failed: what the disk holds is known again once it is opened
-  pub failed : Bool
-  pub state : State
-
--- what the tests of a command read of it
-abbrev pub table_of : Phase → Table
-table_of p = record {
-  generation = p.state.generation;
-  names = names_of p.state.libraries;
-  preloads = p.state.preloads;
-  free = free (p.sectors - p.lone) p.state;
-  longest = p.longest;
+-- the phase of a registry at a state, in the words of the step table
+abbrev pub phase_of : {D : Type 0} → (D → DiskFacts) → Opened D → State → Phase
+phase_of facts registry s = record {
+  sectors = (facts registry.disk).sectors;
+  lone = length (lone_sectors registry.held);
+  longest = longest_free registry;
+  failures = (facts registry.disk).failures;
+  failed = registry.failed;
+  state = s;
 }

@@ -1,20 +1,35 @@
-//! Commands to a registry of shared libraries, what they are answered, and the step table: what a
-//! command may be answered in a state, and the state that this leaves (specs/Step.antt).
+//! A registry of shared libraries on a disk, which survives power cuts.
 //!
-//! `library_name` reads a file as a library. The registry that takes the commands is
-//! `disk_registry`.
+//! A disk is made a registry by `Registry::format`, and opened again by `Registry::open`: a stop at
+//! any moment leaves sectors that stand for the state from before or for the one after.
+//! `Registry::upgrade` makes a disk of version 1 one of version 2. No byte of a file is kept in
+//! memory after a call has ended.
+//! What sectors stand for is defined in specs/Stands.antt.
 #![tactic(auto)]
 
-mod command;
-mod listing;
+mod admit;
+mod admit_current;
+mod admit_old;
+mod apply;
+mod bind;
+mod binder;
+mod bound;
+mod change;
+mod format;
+mod library_file;
+mod list;
+mod needed;
+mod needs;
+mod open;
+mod put;
+mod reading;
 mod refusal;
-mod reply;
-mod soname;
-mod words;
+mod registry;
+mod rounds;
+mod source;
+mod upgrade;
+mod walk;
 
-pub use command::Command;
-pub use listing::Listing;
-pub use refusal::Refusal;
-pub use reply::Reply;
-pub use soname::library_name;
-pub use words::{are_too_many, has_repeat};
+pub use binder::{Binder, Step};
+pub use registry::Registry;
+pub use rounds::{Round, RoundReplies, run_rounds};

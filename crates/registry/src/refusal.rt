@@ -1,72 +1,28 @@
-// Why a command was refused.
+// The refusals of the store in the words of a registry.
+ghost use Rattle.std.specs.Prelude.{◌≡◌};
+ghost use Rattle.store.specs.Step.{IsRefusalOfPutNew};
+ghost use Rattle.registry.specs.Refusals.{refusal_of};
 
-use hash_check::FileRefusal;
-use image::BindRefusal;
-use std::alloc::AllocError;
+use requests::Refusal;
+use store::StoreRefusal;
 
-/// Why a command was refused, or a registry wasn't made.
-#[derive(Debug, Drop, PartialEq, Eq)]
-pub enum Refusal {
-    /// C1: the file is no library.
-    Object(FileRefusal),
-    /// C2: a library of this name is installed.
-    AlreadyInstalled,
-    /// C3: no library of this name is installed.
-    NotInstalled,
-    /// C4: the library is a preload.
-    InPreloads,
-    /// C5: a name stands twice.
-    RepeatedPreload,
-    /// C6: there are over 16 names.
-    TooManyPreloads,
-    /// C7: a binder lives in each slot.
-    NoSlot,
-    /// C8: no binder lives in the slot.
-    NoSuchBinder,
-    /// B1 to B5: the program isn't bound, for this reason, which is never want of memory.
-    Bind(BindRefusal),
-    /// S1: a call of the disk failed.
-    Device,
-    /// S2: a write or a sync failed before.
-    Reopen,
-    /// S5: what was read is no library of its name, which an honest disk never gives.
-    Damaged,
-    /// S6: there are fewer than 8 or more than 4,194,304 sectors.
-    BadGeometry,
-    /// S7: the file, and twice the catalogues that a longer list has more, cost more sectors than
-    /// are free.
-    Full,
-    /// S8: the longest runs of free sectors are too short for the file.
-    Fragmented,
-    /// S9: 2,048 libraries are installed.
-    TooMany,
-    /// S10: the generation is the greatest.
-    GenerationEnd,
-    /// S11: memory was refused.
-    OutOfMemory,
-}
-
-impl From<AllocError> for Refusal {
-    ghost use Rattle.std.specs.Prelude.{◌≡◌};
-    ghost use Rattle.registry.specs.declared.refusal.Refusal.TheVariants.{OutOfMemory};
-
-    ghost from_gives = { λ _ refusal. refusal ≡ OutOfMemory };
-
-    fn from(_: AllocError) -> Refusal {
-        Refusal::OutOfMemory
-    }
-}
-
-impl From<BindRefusal> for Refusal {
-    ghost use Rattle.std.specs.Prelude.{◌≡◌};
-    ghost use Rattle.registry.specs.Binding.{of_bind};
-
-    ghost from_gives = { λ e refusal. refusal ≡ of_bind e };
-
-    fn from(refusal: BindRefusal) -> Refusal {
-        match refusal {
-            BindRefusal::OutOfMemory => Refusal::OutOfMemory,
-            refusal => Refusal::Bind(refusal),
-        }
+/// What a change or a reading of the store refuses, in the registry's word for it.
+pub(crate) fn refusal_of(refusal: StoreRefusal) -> Refusal
+    requires { IsRefusalOfPutNew refusal }
+    ensures { result ≡ refusal_of refusal }
+{
+    match refusal {
+        StoreRefusal::Device => Refusal::Device,
+        StoreRefusal::Reopen => Refusal::Reopen,
+        StoreRefusal::Full => Refusal::Full,
+        StoreRefusal::Fragmented => Refusal::Fragmented,
+        StoreRefusal::TooMany => Refusal::TooMany,
+        StoreRefusal::GenerationEnd => Refusal::GenerationEnd,
+        StoreRefusal::OutOfMemory => Refusal::OutOfMemory,
+        StoreRefusal::NotFormatted
+        | StoreRefusal::AlreadyFormatted
+        | StoreRefusal::Damaged
+        | StoreRefusal::BadGeometry
+        | StoreRefusal::OldFormat => unreachable!(),
     }
 }

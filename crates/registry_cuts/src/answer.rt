@@ -3,7 +3,7 @@
 use anyhow::{Result, bail};
 use binders::EventReply;
 use names::Name;
-use registry::{Listing, Refusal, Reply};
+use requests::{Listing, Refusal, Reply};
 use std::alloc::Global;
 
 /// What a command was answered: what is listed or bound, and the refusal.

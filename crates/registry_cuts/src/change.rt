@@ -2,55 +2,9 @@
 
 use crate::answer::catalogues_of;
 use anyhow::Result;
-use registry::Command;
+use requests::Command;
+use samples::{padded, program};
 use std::alloc::Global;
-
-/// How many bytes the library has.
-pub(crate) const SIZE: usize = 344;
-
-// Where its name is; a byte that is loaded and says nothing; and the tag of its first entry in the
-// dynamic section, which is its SONAME.
-const NAME: usize = 217;
-
-const VERSION: usize = 220;
-
-const TAG: usize = 224;
-
-// The tag of a library that is needed.
-const NEEDED: u8 = 1;
-
-// A library without symbols, named a, which is loaded whole.
-const LIBRARY: &[u8; SIZE] =
-    b"\x7fELF\x02\x01\x01\0\0\0\0\0\0\0\0\0\x03\0>\0\x01\0\0\0\0\0\0\0\0\0\0\0@\0\0\0\0\0\0\
-    \0\0\0\0\0\0\0\0\0\0\0\0\0@\08\0\x02\0\0\0\0\0\0\0\x01\0\0\0\x06\0\0\0\0\0\0\0\0\0\0\
-    \0\0\0\0\0\0\0\0\0\0\0\0\0\0\0\0\0X\x01\0\0\0\0\0\0X\x01\0\0\0\0\0\0\0\x10\0\0\0\0\0\
-    \0\x02\0\0\0\x06\0\0\0\xe0\0\0\0\0\0\0\0\xe0\0\0\0\0\0\0\0\xe0\0\0\0\0\0\0\0p\0\0\0\0\
-    \0\0\0p\0\0\0\0\0\0\0\x08\0\0\0\0\0\0\0\x01\0\0\0\x01\0\0\0\0\0\0\0\0\0\0\0\0\0\0\0\0\
-    \0\0\0\0\0\0\0\0\0\0\0\0\0\0\0\0\0\0\0\0a\0\0\0\0\0\0\x0e\0\0\0\0\0\0\0\x01\0\0\0\0\0\
-    \0\0\x04\0\0\0\0\0\0\0\xb0\0\0\0\0\0\0\0\x05\0\0\0\0\0\0\0\xd8\0\0\0\0\0\0\0\x06\0\0\
-    \0\0\0\0\0\xc0\0\0\0\0\0\0\0\x0a\0\0\0\0\0\0\0\x04\0\0\0\0\0\0\0\x0b\0\0\0\0\0\0\0\x18\
-    \0\0\0\0\0\0\0\0\0\0\0\0\0\0\0\0\0\0\0\0\0\0\0\0\0\0\0\0\0\0\0";
-
-/// The library of a name and a version, with zeros behind it up to so many bytes. Without a name
-/// it is none.
-pub(crate) fn library(alloc: Global, name: u8, version: u8, size: usize) -> Result<Vec<u8>> {
-    let mut file = *LIBRARY;
-    file[NAME] = name;
-    file[VERSION] = version;
-    let mut bytes = Vec::from_slice(alloc, &file)?;
-    for _ in SIZE..size {
-        bytes.push(0)?;
-    }
-    Ok(bytes)
-}
-
-/// A program that needs the library of a name.
-pub(crate) fn program(alloc: Global, needed: u8) -> Result<Vec<u8>> {
-    let mut file = *LIBRARY;
-    file[NAME] = needed;
-    file[TAG] = NEEDED;
-    Ok(Vec::from_slice(alloc, &file)?)
-}
 
 /// A command. Names have one byte.
 #[derive(Clone, Copy, Debug)]
@@ -78,9 +32,9 @@ impl Ask {
     pub(crate) fn of(alloc: Global, change: Change) -> Result<Ask> {
         let file = match change {
             Change::Install(name, version, size) | Change::Replace(name, version, size) => {
-                library(alloc, name, version, size)?
+                padded(alloc, name, version, size)?
             }
-            Change::Bind(needed) => program(alloc, needed)?,
+            Change::Bind(needed) => Vec::from_slice(alloc, &program(needed))?,
             _ => Vec::new(alloc),
         };
         Ok(Ask { change, file })

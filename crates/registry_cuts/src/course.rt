@@ -14,7 +14,7 @@ use crate::step::plain_after;
 use anyhow::Result;
 use binders::Binders;
 use cuts::{Cut, Mixtures, Powered, Tally};
-use registry::Command;
+use requests::Command;
 use sector_disk::Memory;
 use std::alloc::Global;
 

@@ -1,11 +1,12 @@
 // Binders in flight, while the registry changes: cut at each call of the disk.
 
-use crate::change::{Change, SIZE};
+use crate::change::Change;
 use crate::course::Course;
 use crate::plain_binders::{Event, PlainBinders};
 use crate::scenario::{A, B, C, disk_after};
 use anyhow::Result;
 use cuts::Tally;
+use samples::SIZE;
 use std::alloc::Global;
 
 // The sectors of a disk, what is done there before, the library that a program needs, and the

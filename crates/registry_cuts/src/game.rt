@@ -1,12 +1,13 @@
 // Rounds behind rounds: each is cut at each of its calls, with every pick.
 
-use crate::change::{Change, SIZE};
+use crate::change::Change;
 use crate::life::Life;
 use crate::rounds::{Moment, Turn, compare, moments_of};
 use crate::scenario::{A, B, C, disk_after};
 use crate::seen::look;
 use anyhow::{Context, Result};
 use cuts::{Mixtures, Tally, Wanted, Which};
+use samples::SIZE;
 use sector_disk::Memory;
 use std::alloc::Global;
 

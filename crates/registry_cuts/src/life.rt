@@ -10,9 +10,9 @@ use crate::seen::{Seen, look_plain};
 use crate::step::{Step, plain_after};
 use anyhow::{Context, Result};
 use cuts::{Cut, Powered, Wanted, by_table};
-use disk_registry::Registry;
 use plain_registry::PlainRegistry;
-use registry::{Command, Refusal};
+use registry::Registry;
+use requests::{Command, Refusal};
 use sector_disk::Memory;
 use std::alloc::Global;
 

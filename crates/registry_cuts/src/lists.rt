@@ -1,7 +1,8 @@
 // The lists of commands, of six at most, each with the sectors of its disk.
 
-use crate::change::{Change, SIZE};
+use crate::change::Change;
 use crate::scenario::{A, B, C};
+use samples::SIZE;
 
 /// The sectors of a new disk, and what is asked there.
 pub(crate) type List = (u32, &'static [Change]);

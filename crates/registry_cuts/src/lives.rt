@@ -1,12 +1,13 @@
 // Whole lives: a run of many commands that is cut at each of its calls of the disk.
 
-use crate::change::{Change, SIZE};
+use crate::change::Change;
 use crate::life::{Life, Place};
 use crate::lists::List;
 use crate::opening::{cut_openings, cut_stopped, open_left};
 use crate::scenario::B;
 use anyhow::Result;
 use cuts::{Tally, Wanted, Which};
+use samples::SIZE;
 use sector_disk::Memory;
 
 // The sizes of the disks of a long life, in sectors.

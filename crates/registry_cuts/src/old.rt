@@ -3,7 +3,7 @@
 use crate::change::{Ask, Change};
 use anyhow::{Result, bail};
 use extents::Extent;
-use registry::Command;
+use requests::Command;
 use roots::{Entry, Root, encode_entry, encode_root};
 use sector_disk::{Disk, Memory, SECTOR_BYTES};
 use std::alloc::Global;

@@ -4,7 +4,7 @@ use crate::probe::Probe;
 use crate::seen::{Seen, look, look_behind};
 use anyhow::Result;
 use cuts::{Cut, Mixtures, Powered, Tally, Wanted, Which};
-use disk_registry::Registry;
+use registry::Registry;
 use sector_disk::Memory;
 use store::StoreRefusal;
 

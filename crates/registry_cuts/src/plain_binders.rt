@@ -9,7 +9,7 @@ use anyhow::{Context, Result};
 use binders::EventReply;
 use cuts::{Cut, Wanted, Which, by_table};
 use plain_registry::PlainRegistry;
-use registry::{Refusal, Reply};
+use requests::{Refusal, Reply};
 use std::alloc::Global;
 
 /// What happens to a registry with binders.

@@ -1,8 +1,9 @@
 // What a registry is asked, to see what it holds.
 
-use crate::change::{BASE, Change, SIZE, library, program};
+use crate::change::{BASE, Change};
 use anyhow::Result;
-use registry::Command;
+use requests::Command;
+use samples::{SIZE, padded, program};
 use std::alloc::Global;
 
 /// The files of what a registry is asked: a program that needs a library, one that needs none, and
@@ -27,9 +28,9 @@ impl Probe {
     /// What shows whether the library of this name is there, and which.
     pub(crate) fn of_name(alloc: Global, name: u8) -> Result<Probe> {
         Ok(Probe {
-            needing: program(alloc, name)?,
-            alone: library(alloc, b'p', 0, SIZE)?,
-            library: library(alloc, b'q', 0, SIZE)?,
+            needing: Vec::from_slice(alloc, &program(name))?,
+            alone: padded(alloc, b'p', 0, SIZE)?,
+            library: padded(alloc, b'q', 0, SIZE)?,
             fitting: Vec::new(alloc),
         })
     }
@@ -40,7 +41,7 @@ impl Probe {
     pub(crate) fn of_room(alloc: Global, name: u8, sectors: u32) -> Result<Probe> {
         let mut probe = Probe::of_name(alloc, name)?;
         for count in (1..sectors.saturating_sub(3) as usize).rev() {
-            let file = library(alloc, b'z', 0, count.saturating_mul(512))?;
+            let file = padded(alloc, b'z', 0, count.saturating_mul(512))?;
             probe.fitting.push(file)?;
         }
         Ok(probe)

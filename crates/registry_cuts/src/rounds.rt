@@ -6,7 +6,7 @@ use crate::change::Change;
 use crate::life::{Life, Place};
 use anyhow::{Context, Result, bail};
 use cuts::{Cut, Mixtures, Tally, sector};
-use disk_registry::{Registry, Round, RoundReplies, run_rounds};
+use registry::{Registry, Round, RoundReplies, run_rounds};
 use sector_disk::{Disk, Memory};
 use std::alloc::Global;
 use store::StoreRefusal;

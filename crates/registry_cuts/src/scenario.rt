@@ -1,15 +1,16 @@
 // Every command, on every disk, cut at every call.
 
-use crate::change::{Ask, Change, SIZE};
+use crate::change::{Ask, Change};
 use crate::probe::Probe;
 use crate::seen::{Seen, look_plain};
 use crate::step::{Step, plain_after};
 use crate::trial::{Act, States, Trial};
 use anyhow::{Result, bail};
 use cuts::{Powered, Tally, whole};
-use disk_registry::Registry;
 use plain_registry::PlainRegistry;
-use registry::Reply;
+use registry::Registry;
+use requests::Reply;
+use samples::SIZE;
 use sector_disk::Memory;
 use std::alloc::Global;
 use store::StoreRefusal;

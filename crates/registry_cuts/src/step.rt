@@ -4,7 +4,7 @@ use crate::answer::{Answer, reads_of};
 use crate::change::{Ask, Change};
 use anyhow::{Result, bail};
 use plain_registry::PlainRegistry;
-use registry::{Command, Reply};
+use requests::{Command, Reply};
 use std::alloc::Global;
 
 /// A command, what it is to be answered, and how many calls of the disk it makes.

@@ -7,7 +7,7 @@ use crate::seen::{Seen, look_behind};
 use crate::step::Step;
 use anyhow::Result;
 use cuts::{Cut, FORMAT_CALLS, Tally, Wanted, by_table};
-use registry::Refusal;
+use requests::Refusal;
 use sector_disk::Memory;
 use std::alloc::Global;
 

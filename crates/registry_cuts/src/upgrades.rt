@@ -1,6 +1,6 @@
 // Upgrades of disks of version 1, cut at each call, and of what such a cut leaves once more.
 
-use crate::change::{Change, SIZE};
+use crate::change::Change;
 use crate::old::{Old, old_disk};
 use crate::probe::Probe;
 use crate::rounds::are_same;
@@ -10,6 +10,7 @@ use crate::step::plain_after;
 use crate::trial::{Act, States, Trial};
 use anyhow::Result;
 use cuts::{Cut, Mixtures, Tally, whole};
+use samples::SIZE;
 use sector_disk::{Disk, Memory};
 use std::alloc::Global;
 use store::StoreRefusal;

@@ -2,7 +2,7 @@
 use crate::calls::{OnMemory, formatted, opened, whole};
 use crate::files::file;
 use plain_registry::PlainRegistry;
-use registry::{Command, Refusal, Reply};
+use requests::{Command, Refusal, Reply};
 use sector_disk::{Fuse, Memory};
 use std::alloc::Global;
 use std::process::Abort;

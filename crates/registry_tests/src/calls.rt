@@ -1,10 +1,10 @@
 // Commands of a registry on a disk as data, each with the number of its answer.
 use crate::files::{library, padded};
-use disk_registry::Registry;
 use elf_file::ObjectRefusal;
 use hash_check::FileRefusal;
 use image::BindRefusal;
-use registry::{Command, Listing, Refusal, Reply};
+use registry::Registry;
+use requests::{Command, Listing, Refusal, Reply};
 use sector_disk::{Fuse, Memory};
 use std::alloc::{AllocError, Global};
 use std::process::Abort;

@@ -1,75 +1,18 @@
 // The files of libraries and of programs.
+pub(crate) use samples::{SIZE, put};
 use std::alloc::{AllocError, Global};
 
-/// How many bytes the library has.
-pub(crate) const SIZE: usize = 344;
-
-/// Where the two bytes of its name are.
-const NAME: usize = 217;
-
-/// A library without symbols, named a.
-const LIBRARY: &[u8; SIZE] =
-    b"\x7fELF\x02\x01\x01\0\0\0\0\0\0\0\0\0\x03\0>\0\x01\0\0\0\0\0\0\0\0\0\0\0@\0\0\0\0\0\0\
-    \0\0\0\0\0\0\0\0\0\0\0\0\0@\08\0\x02\0\0\0\0\0\0\0\x01\0\0\0\x06\0\0\0\0\0\0\0\0\0\0\
-    \0\0\0\0\0\0\0\0\0\0\0\0\0\0\0\0\0X\x01\0\0\0\0\0\0X\x01\0\0\0\0\0\0\0\x10\0\0\0\0\0\
-    \0\x02\0\0\0\x06\0\0\0\xe0\0\0\0\0\0\0\0\xe0\0\0\0\0\0\0\0\xe0\0\0\0\0\0\0\0p\0\0\0\0\
-    \0\0\0p\0\0\0\0\0\0\0\x08\0\0\0\0\0\0\0\x01\0\0\0\x01\0\0\0\0\0\0\0\0\0\0\0\0\0\0\0\0\
-    \0\0\0\0\0\0\0\0\0\0\0\0\0\0\0\0\0\0\0\0a\0\0\0\0\0\0\x0e\0\0\0\0\0\0\0\x01\0\0\0\0\0\
-    \0\0\x04\0\0\0\0\0\0\0\xb0\0\0\0\0\0\0\0\x05\0\0\0\0\0\0\0\xd8\0\0\0\0\0\0\0\x06\0\0\
-    \0\0\0\0\0\xc0\0\0\0\0\0\0\0\x0a\0\0\0\0\0\0\0\x04\0\0\0\0\0\0\0\x0b\0\0\0\0\0\0\0\x18\
-    \0\0\0\0\0\0\0\0\0\0\0\0\0\0\0\0\0\0\0\0\0\0\0\0\0\0\0\0\0\0\0";
+/// The tag of a library's own name.
+const SONAME: u64 = 14;
 
 /// The library under a name of one byte.
 pub(crate) fn library(name: u8) -> [u8; SIZE] {
-    let mut file = *LIBRARY;
-    file[NAME] = name;
-    file
+    samples::library(name, 0)
 }
 
 /// The library under a name of one byte, with zeros behind it up to this size.
 pub(crate) fn padded(alloc: Global, name: u8, size: usize) -> Result<Vec<u8>, AllocError> {
-    let mut file = vec![in alloc; 0; size]?;
-    for (to, from) in file.iter_mut().zip(library(name).iter()) {
-        *to = *from;
-    }
-    Ok(file)
-}
-
-/// The front of a file whose dynamic section stands behind it: the names a, b, c, d, e, p, f and z,
-/// and a symbol f that it exports.
-const FRONT: &[u8] =
-    b"\x7fELF\x02\x01\x01\0\0\0\0\0\0\0\0\0\x03\0>\0\x01\0\0\0\0\0\0\0\0\0\0\0@\0\0\0\0\0\0\0\
-      \0\0\0\0\0\0\0\0\0\0\0\0@\08\0\x02\0\0\0\0\0\0\0\x01\0\0\0\x06\0\0\0\0\0\0\0\0\0\0\0\0\0\
-      \0\0\0\0\0\0\0\0\0\0\0\0\0\0\0\0\0\0\0\0\0\0\0\0\0\0\0\0\0\0\0\x10\0\0\0\0\0\0\x02\0\0\0\
-      \x06\0\0\0\x10\x01\0\0\0\0\0\0\x10\x01\0\0\0\0\0\0\x10\x01\0\0\0\0\0\0\0\0\0\0\0\0\0\0\0\
-      \0\0\0\0\0\0\0\x08\0\0\0\0\0\0\0\x01\0\0\0\x02\0\0\0\x01\0\0\0\0\0\0\0\0\0\0\0\0\0\0\0\0\
-      \0\0\0\0\0\0\0\0\0\0\0\0\0\0\0\0\0\0\0\0\0\0\0\x0d\0\0\0\x12\0\x01\0\0\0\0\0\0\0\0\0\x08\
-      \0\0\0\0\0\0\0\0a\0b\0c\0d\0e\0p\0f\0z\0\0\0\0\0\0\0\0";
-
-/// What stands in the dynamic section behind the needed libraries and the name.
-const TAIL: &[u8] =
-    b"\x04\0\0\0\0\0\0\0\xb0\0\0\0\0\0\0\0\x05\0\0\0\0\0\0\0\xf8\0\0\0\0\0\0\0\x06\0\0\0\0\0\0\
-      \0\xc8\0\0\0\0\0\0\0\x0a\0\0\0\0\0\0\0\x11\0\0\0\0\0\0\0\x0b\0\0\0\0\0\0\0\x18\0\0\0\0\0\
-      \0\0\0\0\0\0\0\0\0\0\0\0\0\0\0\0\0\0";
-
-/// The names of the front, in their order.
-const LETTERS: &[u8] = b"abcdepfz";
-
-/// Writes bytes over those of a file or a sector.
-pub(crate) fn put(file: &mut [u8], at: usize, bytes: &[u8]) {
-    for (i, byte) in bytes.iter().enumerate() {
-        if let Some(place) = file.get_mut(at.saturating_add(i)) {
-            *place = *byte;
-        }
-    }
-}
-
-/// An entry of the dynamic section with the name of one letter.
-fn add_entry(bytes: &mut Vec<u8>, tag: u64, letter: u8) -> Result<(), AllocError> {
-    let number = LETTERS.iter().take_while(|l| **l != letter).count() as u64;
-    bytes.extend_from_slice(&tag.to_le_bytes())?;
-    bytes.extend_from_slice(&number.wrapping_mul(2).wrapping_add(1).to_le_bytes())?;
-    Ok(())
+    samples::padded(alloc, name, 0, size)
 }
 
 /// A file that needs libraries of one letter each, with a name of one letter if it is a library,
@@ -80,25 +23,10 @@ pub(crate) fn file(
     needs: &[u8],
     size: usize,
 ) -> Result<Vec<u8>, AllocError> {
-    let mut bytes = Vec::from_slice(alloc, FRONT)?;
-    for letter in needs {
-        add_entry(&mut bytes, 1, *letter)?;
+    match name {
+        Some(letter) => samples::needing_file(alloc, needs, &samples::named(SONAME, letter), size),
+        None => samples::needing_file(alloc, needs, b"", size),
     }
-    if let Some(letter) = name {
-        add_entry(&mut bytes, 14, letter)?;
-    }
-    bytes.extend_from_slice(TAIL)?;
-    let whole = (bytes.len() as u64).to_le_bytes();
-    let section = (bytes.len() as u64)
-        .saturating_sub(FRONT.len() as u64)
-        .to_le_bytes();
-    for (at, number) in [(96, whole), (104, whole), (152, section), (160, section)] {
-        put(&mut bytes, at, &number);
-    }
-    for _ in bytes.len()..size {
-        bytes.push(0)?;
-    }
-    Ok(bytes)
 }
 
 /// How many bytes the library with a symbol has, and the program that asks for it.

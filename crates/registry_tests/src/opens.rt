@@ -1,7 +1,7 @@
 // What an opening finds on a disk, and what it refuses.
 use crate::calls::whole;
 use crate::files::{SIZE, library};
-use disk_registry::Registry;
+use registry::Registry;
 use sector_disk::{Fuse, Memory};
 use std::alloc::Global;
 use std::process::Abort;

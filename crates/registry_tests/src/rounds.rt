@@ -1,8 +1,8 @@
 // Whole lives of a disk: rounds of commands, with a stop after each.
 use crate::calls::{formatted, is_listed, number, whole};
 use crate::files::library;
-use disk_registry::{Round, RoundReplies, run_rounds};
-use registry::{Command, Reply};
+use registry::{Round, RoundReplies, run_rounds};
+use requests::{Command, Reply};
 use sector_disk::Memory;
 use std::alloc::Global;
 use std::process::Abort;

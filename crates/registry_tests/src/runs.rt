@@ -1,7 +1,7 @@
 // Commands over a disk: their answers one after the other, and a call that fails among them.
 use crate::calls::{Held, formatted, holds, number, opened, whole};
 use crate::files::{SIZE, library};
-use registry::{Command, Reply};
+use requests::{Command, Reply};
 use sector_disk::{Fuse, Memory};
 use std::alloc::Global;
 use std::test::Fail;

@@ -5,7 +5,7 @@ use crate::files::{SIZE, library, put};
 use crate::opens::open;
 use crate::sectors::Harm::Byte;
 use crate::sectors::{Sectors, disk_of, harmed, old_library, old_sectors, sectors_of};
-use disk_registry::Registry;
+use registry::Registry;
 use sector_disk::{Disk, Fuse, Memory, SECTOR_BYTES};
 use std::alloc::Global;
 use std::process::Abort;

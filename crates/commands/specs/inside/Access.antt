@@ -1,6 +1,6 @@
 -- Which disk a command of the program has, and what a command of a registry opens it for.
 use Rattle.std.specs.Prelude.{ℕ, List, Option, Some, None}
-use Rattle.registry.specs.Request.{Request, bind, list}
+use Rattle.requests.specs.Request.{Request, bind, list}
 use Rattle.commands.specs.Words.{CommandLine}
 use Rattle.commands.specs.Words as words
 use Rattle.commands.specs.declared.access.Access.{Access}

@@ -1,6 +1,6 @@
 -- What the code reads in a line, as what may happen.
 use Rattle.std.specs.Prelude.{map}
-use Rattle.registry.specs.Request.{install, replace, remove, set_preloads, bind, list}
+use Rattle.requests.specs.Request.{install, replace, remove, set_preloads, bind, list}
 use Rattle.binders.specs.Events.{Happening, apply, begin, advance, cancel}
 use Rattle.commands.specs.declared.asked.Asked.{Asked}
 use Rattle.commands.specs.declared.asked.Asked.TheVariants as asked

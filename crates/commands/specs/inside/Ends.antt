@@ -1,20 +1,20 @@
 -- What the parts of a run end with.
 use Rattle.std.specs.Prelude.{ℕ, List, Option, Some, None, ◌≡◌, ◌⊎◌, Bool, true, false, is_some}
 use Rattle.std.specs.Io.KnownBytes.{Appends}
-use Rattle.registry.specs.declared.reply.Reply.{Reply}
+use Rattle.requests.specs.declared.reply.Reply.{Reply}
 use Rattle.commands.specs.declared.file.FileFault.{FileFault}
 use Rattle.commands.specs.declared.file.FileFault.TheVariants.{CannotRead, OutOfMemory}
 use Rattle.commands.specs.declared.show.Shown.TheVariants as shown
 use Rattle.commands.specs.declared.status.Status.{Status}
 use Rattle.commands.specs.declared.status.Status.TheVariants.{Done, Refused, BadWords, Failed, NoMemory}
-use Rattle.registry.specs.Request.{Request}
+use Rattle.requests.specs.Request.{Request}
 use Rattle.binders.specs.Events.{Happening}
 use Rattle.binders.specs.declared.event.EventReply.{EventReply}
 use Rattle.store.specs.declared.refusal.StoreRefusal.{StoreRefusal}
 use Rattle.commands.specs.declared.disk.NoRegistry.{NoRegistry}
 use Rattle.commands.specs.declared.disk.NoRegistry.TheVariants as no
 use Rattle.commands.specs.Disk.{IsOpenRefusal, IsFormatRefusal, IsUpgradeRefusal}
-use Rattle.commands.specs.Outcome.{are_bad, IsDone, IsRefused, LacksMemory, Replies, Makes, Upgrades, TurnsAway, RunsThrough, EndsEarly, Runs, RunsInPart}
+use Rattle.commands.specs.Outcome.{are_bad, IsDone, IsRefused, LacksMemory, Replies, Makes, Upgrades, TurnsAway, RunsToTheEnd, EndsEarly, Runs, RunsInPart}
 use Rattle.commands.specs.Printed.{PrintsImage, PrintsRefusal}
 use Rattle.commands.specs.Refusal.{memory_text}
 use Rattle.commands.specs.Reply.{reply_text}
@@ -24,12 +24,12 @@ use Rattle.commands.specs.Status.{reply_status}
 use Rattle.commands.specs.Words.{CommandLine}
 
 -- what words end with, by what they ask, and by what the streams gave and hold
-abbrev pub Ends : (F : Type 0) → Option CommandLine → Streams → Status → Type 0
-Ends F line io Done = (are_bad line ≡ false) × IsDone F line io
-Ends F line io Refused = (are_bad line ≡ false) × IsRefused F line io
-Ends F line io BadWords = (are_bad line ≡ true) × (io.after ≡ io.before)
-Ends F line io Failed = are_bad line ≡ false
-Ends F line io NoMemory = (are_bad line ≡ false) × LacksMemory F line io
+abbrev pub CommandEnds : (F : Type 0) → Option CommandLine → Streams → Status → Type 0
+CommandEnds F line io Done = (are_bad line ≡ false) × IsDone F line io
+CommandEnds F line io Refused = (are_bad line ≡ false) × IsRefused F line io
+CommandEnds F line io BadWords = (are_bad line ≡ true) × (io.after ≡ io.before)
+CommandEnds F line io Failed = are_bad line ≡ false
+CommandEnds F line io NoMemory = (are_bad line ≡ false) × LacksMemory F line io
 
 -- what showing an image ends with, by the base that was asked for
 abbrev pub ImageEnds : Option ℕ → Option (List ℕ) → Option (List ℕ) → Status → Type 0
@@ -106,7 +106,7 @@ UpgradeEnds F before after status = IsTurnedAway IsUpgradeRefusal before after s
 
 -- what a script over a registry with binders ends with
 abbrev pub IsRun : {S : Type 0} → (S → Happening → EventReply → S → Type 0) → S → S → Streams → Status → Type 0
-IsRun step s s' io status = RunsThrough step s s' io status ⊎ EndsEarly step s s' io status
+IsRun step s s' io status = RunsToTheEnd step s s' io status ⊎ EndsEarly step s s' io status
 
 -- what a script over a disk ends with
 abbrev pub ScriptEnds : (F : Type 0) → Streams → Status → Type 0

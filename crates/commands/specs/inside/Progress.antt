@@ -3,7 +3,7 @@ use Rattle.std.specs.Prelude.{◌≡◌, ◌==◌, true, ◌⊎◌, ◌++◌, �
 use Rattle.std.specs.List.{flat_map, list_any}
 use Rattle.std.specs.Io.{StopsAt}
 use Rattle.std.specs.Io.KnownBytes.{Appends, Consumes}
-use Rattle.registry.specs.Runs.{Run}
+use Rattle.requests.specs.Runs.{Run}
 use Rattle.binders.specs.Events.{Happening}
 use Rattle.binders.specs.declared.event.EventReply.{EventReply}
 use Rattle.commands.specs.Answer.{LineStep, output}

@@ -1,7 +1,7 @@
 -- The texts of replies that go through a line's buffer.
 use Rattle.std.specs.Prelude.{ℕ, List, []}
-use Rattle.registry.specs.declared.reply.Reply.{Reply}
-use Rattle.registry.specs.declared.reply.Reply.TheVariants.{Bound}
+use Rattle.requests.specs.declared.reply.Reply.{Reply}
+use Rattle.requests.specs.declared.reply.Reply.TheVariants.{Bound}
 use Rattle.commands.specs.Reply.{reply_text}
 
 abbrev pub short_text : Reply → List ℕ

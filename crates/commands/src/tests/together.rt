@@ -4,7 +4,7 @@ ghost use Rattle.std.specs.Prelude.{⊤};
 
 use crate::{Summary, TakesEvents, run_script};
 use binders::{Event, EventReply};
-use registry::{Command, Reply};
+use requests::{Command, Reply};
 use std::cell::Cell;
 use std::io;
 use std::io::{ErrorKind, Read, Write};

@@ -10,7 +10,7 @@ use crate::tests::streams::{Full, Turn, Turns};
 use crate::watched::Watched;
 use binders::{Event, EventReply};
 use image::BindRefusal;
-use registry::{Command, Refusal, Reply};
+use requests::{Command, Refusal, Reply};
 use std::io::ErrorKind;
 use std::test::Fail;
 

@@ -1,5 +1,5 @@
 use Rattle.std.proofs.Common.{ap, sym}
-use Rattle.registry.specs.Request as request
+use Rattle.requests.specs.Request as request
 use Rattle.commands.proofs.Asking.{replied_as, bind_ends}
 use Rattle.commands.proofs.on_disk.bind.Goals as goal
 

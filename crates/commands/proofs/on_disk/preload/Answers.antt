@@ -1,5 +1,5 @@
 use Rattle.std.proofs.Common.{map, ap, ◌∙◌}
-use Rattle.registry.specs.Request.{set_preloads}
+use Rattle.requests.specs.Request.{set_preloads}
 use Rattle.commands.proofs.Asking.{replied_as}
 use Rattle.commands.proofs.on_disk.preload.Goals as goal
 

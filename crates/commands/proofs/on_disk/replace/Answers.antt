@@ -1,5 +1,5 @@
 use Rattle.std.proofs.Common.{ap}
-use Rattle.registry.specs.Request as request
+use Rattle.requests.specs.Request as request
 use Rattle.commands.proofs.Asking.{replied_as}
 use Rattle.commands.proofs.on_disk.replace.Goals as goal
 

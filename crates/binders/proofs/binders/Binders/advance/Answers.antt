@@ -1,9 +1,9 @@
 use Rattle.std.proofs.Common.{◌≡◌, List, Option, None, Some, Err, Ok, get_or, set, sym, ap, subst, ◌∙◌}
 use Rattle.std.proofs.lemmas.List.{set-get_or}
-use Rattle.registry.specs.declared.refusal.Refusal.TheVariants.{NoSuchBinder}
-use Rattle.disk_registry.specs.Flying.{Advances}
-use Rattle.disk_registry.specs.declared.binder.Step.TheVariants.{Going, Final}
-use Rattle.disk_registry.specs.inside.Binding.{Binding}
+use Rattle.requests.specs.declared.refusal.Refusal.TheVariants.{NoSuchBinder}
+use Rattle.registry.specs.Flying.{Advances}
+use Rattle.registry.specs.declared.binder.Step.TheVariants.{Going, Final}
+use Rattle.registry.specs.inside.Binding.{Binding}
 use Rattle.binders.specs.Slotted.{IsHeld, Slotted}
 use Rattle.binders.specs.Stepped.{AdvancesIn}
 use Rattle.binders.proofs.OnFlights.{set_twice, with_slots}

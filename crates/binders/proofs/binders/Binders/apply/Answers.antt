@@ -1,11 +1,13 @@
 use Rattle.std.proofs.Common.{IsTrue, sym, subst, ◌∙◌}
 use Rattle.states.specs.State.{State}
-use Rattle.registry.specs.Request.{request_of}
-use Rattle.disk_registry.specs.Applied.{Applies}
-use Rattle.disk_registry.specs.Opened.{IsAt}
-use Rattle.disk_registry.proofs.Flights.{flies_kept}
+use Rattle.requests.specs.Request.{request_of}
+use Rattle.registry.specs.Applied.{Applies}
+use Rattle.registry.specs.Opened.{IsAt}
+use Rattle.registry.proofs.Flights.{flies_kept}
+use Rattle.binders.specs.Counted.{CountsOnce}
 use Rattle.binders.specs.Slotted.{HoldAlone, Slotted}
 use Rattle.binders.specs.Stepped.{FlyOn}
+use Rattle.binders.proofs.Counting.{counts_once}
 use Rattle.binders.proofs.OnFlights.{are_on_moved, with_slots}
 use Rattle.binders.proofs.binders.Binders.apply.Goals as goal
 
@@ -24,3 +26,8 @@ pub returns-clause-alone : goal.returns-clause-alone
 returns-clause-alone g c =
     subst (λ (k : Slotted g.row.D.Denot). HoldAlone k → HoldAlone (with_slots c.apply.new.self c.self.inside.slots)) c.self.view_is
     (λ alone sector. c.apply.ensures.on_any_disk.held.holders sector ∙ alone sector)
+
+pub returns-clause-counted : goal.returns-clause-counted
+returns-clause-counted g c =
+    subst (λ (k : Slotted g.row.D.Denot). HoldAlone k → CountsOnce k) c.self.view_is
+    (counts_once (with_slots c.self.inside.registry c.self.inside.slots) c.has_failed-failed.ensures.versions)

@@ -1,6 +1,6 @@
 use Rattle.std.proofs.Common.{◌≡◌, Ok, Some, IsFalse, sym, subst, ◌∙◌}
 use Rattle.std.proofs.lemmas.Result.{err_from_is_err_and}
-use Rattle.disk_registry.specs.Flying.{Begins}
+use Rattle.registry.specs.Flying.{Begins}
 use Rattle.binders.specs.Slotted.{IsHeld, Slotted, lowest_free}
 use Rattle.binders.specs.Stepped.{BeginsIn}
 use Rattle.binders.proofs.OnFlights.{with_slots}

@@ -1,7 +1,7 @@
 use Rattle.std.proofs.Common.{◌≡◌, None, Some, get_or, set, sym, ap, subst, ◌∙◌}
 use Rattle.std.proofs.lemmas.List.{set-get_or}
-use Rattle.registry.specs.declared.refusal.Refusal.TheVariants.{NoSuchBinder}
-use Rattle.registry.specs.declared.reply.Reply.TheVariants.{Done, Refused}
+use Rattle.requests.specs.declared.refusal.Refusal.TheVariants.{NoSuchBinder}
+use Rattle.requests.specs.declared.reply.Reply.TheVariants.{Done, Refused}
 use Rattle.binders.specs.Slotted.{Slotted}
 use Rattle.binders.specs.Stepped.{CancelsIn}
 use Rattle.binders.proofs.OnFlights.{with_slots}

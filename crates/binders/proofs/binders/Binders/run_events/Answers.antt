@@ -1,8 +1,8 @@
 use Rattle.std.proofs.Common.{◌≡◌, ◌++◌, [], ◌∷◌, ◌+◌, List, map, take, sym, ap, subst, refl, ◌∙◌, arith, true, is_ok, rules, get_or}
 use Rattle.std.proofs.lemmas.List.{take_more, take_all, map-append}
-use Rattle.registry.specs.declared.command.Command.TheVariants as command
-use Rattle.registry.specs.Runs.{Run}
-use Rattle.registry.proofs.Runs.{run_more}
+use Rattle.requests.specs.declared.command.Command.TheVariants as command
+use Rattle.requests.specs.Runs.{Run}
+use Rattle.requests.proofs.Runs.{run_more}
 use Rattle.binders.specs.Events.{Happening, happening_of}
 use Rattle.binders.specs.EventsRan.{EventStep, EventsRan}
 use Rattle.binders.specs.declared.event.Event.{Event}

@@ -1,5 +1,5 @@
 use Rattle.std.proofs.Common.{◌≡◌, ◌≤◌, map, take, length, vec_len, vec_capacity}
-use Rattle.registry.specs.Runs.{Run}
+use Rattle.requests.specs.Runs.{Run}
 use Rattle.binders.specs.Events.{happening_of}
 use Rattle.binders.specs.EventsRan.{EventStep}
 use Rattle.binders.proofs.binders.Binders.run_events.Given as goal

@@ -1,0 +1,340 @@
+/* rlibreg.h: a registry of shared libraries that survives power cuts, and a binder of programs.
+ *
+ * A registry is one file, the disk: sectors of 512 bytes that hold ELF-64 shared objects for
+ * x86-64, each under its SONAME, and the names of the preloads. To bind a program is to find the
+ * libraries that it needs, to place all of them in memory and to apply their relocations.
+ * docs/COMMANDS.md has the rules of both, every refusal by its number, and the limits; docs/C.md
+ * has two whole examples, and says what of this library is proved.
+ *
+ * There are two layers.
+ *
+ * 1. Calls over bytes (rlibreg_bind, rlibreg_list, rlibreg_plan_*). Each is proved to return and to
+ *    do nothing undefined, and all but two to give what is defined (docs/C.md). They do no input or
+ *    output: who calls has the bytes of the disk in memory, and gets an image, a listing, or a
+ *    plan, which is the list of the writes and syncs that make a change.
+ * 2. Calls over a file (struct rlibreg and the calls behind it), in C over the first layer, which
+ *    open, lock and map the file, and carry plans out. They are tested.
+ *
+ * Use the second layer, unless the disk is no file, or you do the input and output yourself.
+ *
+ * CAVEATS
+ *
+ * - A disk has one writer at a time, and nobody reads it meanwhile. The calls over a file see to
+ *   that among themselves, by flock(2) on the file itself. The program `rlibreg` takes no lock:
+ *   start it as `flock DISK rlibreg install DISK FILE` beside them.
+ * - Who puts another file in the disk's place (mv) holds the lock of the file that stood there. A
+ *   call that waited for that lock then opens the new file, but flock(1) doesn't: where files are
+ *   put in one another's place and the program is used too, everybody, programs over this library
+ *   among them, holds the lock of another file around all of it (`flock DISK.lock ..`).
+ * - A lock of flock(2) is advice: it stops nobody who doesn't ask. Over NFS it may do nothing. A
+ *   child of fork has it too, as long as it keeps the file open.
+ * - The file is mapped, so one that is made shorter while it is open ends the process by SIGBUS.
+ * - Each call opens the registry anew, which reads and tests each installed library once: some 2 ms
+ *   for 8 MiB in 64 libraries, 4 ms in 500. So many changes, one by one, cost the square of their
+ *   number; the program's `script` opens a disk once (docs/COMMANDS.md).
+ * - A bound image is memory, and not a process: nothing of the library runs what is in it, and no
+ *   initializer (DT_INIT, DT_INIT_ARRAY) is called, by rlibreg-run neither.
+ * - Calls may be made at once in several threads, on different struct rlibreg. One struct is used
+ *   by one thread at a time. No call is made from a signal handler, nor, in a process of several
+ *   threads, from a child between fork and exec. A thread that makes calls has 512 KiB of stack.
+ * - malloc, realloc and free are the program's, of one allocator. malloc and realloc align a block
+ *   to each power of two up to 16 that divides its size. Each block is given back before the call
+ *   ends, but for those of which the second layer says who frees them.
+ */
+#ifndef RLIBREG_H
+#define RLIBREG_H
+
+#include <stddef.h>
+#include <stdint.h>
+
+#ifdef __cplusplus
+extern "C" {
+#endif
+
+/* What the archive goes by, and the header has to keep. */
+#if defined __cplusplus && __cplusplus < 201103L
+#define RLIBREG_SAME(what) typedef char rlibreg_same[(what) ? 1 : -1]
+#elif defined __cplusplus
+#define RLIBREG_SAME(what) static_assert(what, #what)
+#else
+#define RLIBREG_SAME(what) _Static_assert(what, #what)
+#endif
+
+/* ---- Statuses
+ *
+ * Each call gives one. 0: it did what it is for. 1 to 9: the library's own. Above: the refusal of
+ * that number in docs/COMMANDS.md, with 100 for B (of a bind), 200 for C (of a command) and 300 for
+ * S (of the disk): 103 is B3. rlibreg_status_name gives the name. */
+enum {
+    RLIBREG_DONE = 0,
+    RLIBREG_NO_ROOM = 1,      /* a buffer is too small: the answer has what is needed */
+    RLIBREG_BAD_ARGUMENT = 2, /* an argument isn't as the call says */
+    RLIBREG_SYSTEM = 3,       /* a file can't be opened, locked, made or mapped: errno says why */
+    RLIBREG_HELD = 4,         /* another process, or this one, holds the file */
+    RLIBREG_READ_ONLY = 5,    /* a change, but the file wasn't opened for writing */
+
+    RLIBREG_BAD_PROGRAM = 101, /* B1: the program's file is refused, by the test file_refusal */
+    RLIBREG_BAD_BASE = 102,    /* B2: the base is no multiple of the program's unit */
+    RLIBREG_MISSING = 103,     /* B3: a needed library isn't installed; the text names both */
+    RLIBREG_NO_PLACE = 104,    /* B4: an object's memory would end above 2^47 - 4,096 */
+    RLIBREG_UNDEFINED = 105,   /* B5: a symbol is defined nowhere; the text names it */
+
+    RLIBREG_BAD_FILE = 201,          /* C1: the file is no library, by the test file_refusal */
+    RLIBREG_ALREADY_INSTALLED = 202, /* C2 */
+    RLIBREG_NOT_INSTALLED = 203,     /* C3 */
+    RLIBREG_IN_PRELOADS = 204,       /* C4: it isn't removed as long as it is a preload */
+    RLIBREG_REPEATED_PRELOAD = 205,  /* C5 */
+    RLIBREG_TOO_MANY_PRELOADS = 206, /* C6: more than 16 */
+
+    RLIBREG_DEVICE = 301,            /* S1: a write or a sync failed: open the file again */
+    RLIBREG_REOPEN = 302,            /* S2: one failed before */
+    RLIBREG_NOT_FORMATTED = 303,     /* S3: there is no registry on the disk */
+    RLIBREG_ALREADY_FORMATTED = 304, /* S4: there is one */
+    RLIBREG_DAMAGED = 305,           /* S5: no writes that were cut off leave these bytes */
+    RLIBREG_BAD_GEOMETRY = 306,      /* S6: not 8 to 4,194,304 whole sectors, or not so many */
+    RLIBREG_FULL = 307,              /* S7 */
+    RLIBREG_FRAGMENTED = 308,        /* S8 */
+    RLIBREG_TOO_MANY = 309,          /* S9: more than 2,048 libraries */
+    RLIBREG_GENERATION_END = 310,    /* S10 */
+    RLIBREG_OUT_OF_MEMORY = 311,     /* S11 */
+    RLIBREG_OLD_FORMAT = 312         /* S12: a disk of version 1, which is to be upgraded */
+};
+
+/* The name of a status, as "B3 Missing"; "unknown" of a number that is none. Never freed. */
+const char *rlibreg_status_name(uint32_t status);
+
+/* ---- What calls give */
+
+/* What a call was answered. What a call doesn't speak of is 0. It is written in every case. */
+typedef struct rlibreg_answer {
+    uint32_t status;       /* the status, as the call gives it */
+    uint32_t file_refusal; /* where the status is B1 or C1: n of the first test En that refuses */
+    uint64_t count;        /* how many segments, libraries or steps there are */
+    uint64_t preloads;     /* how many preloads there are */
+    uint64_t bytes;        /* how many bytes there are: of segments, of names, of the plan */
+    uint64_t text;         /* how many bytes the whole text has */
+    uint64_t generation;   /* of a listing: how many changes the registry has taken */
+} rlibreg_answer;
+
+enum { RLIBREG_EXECUTE = 1, RLIBREG_WRITE = 2, RLIBREG_READ = 4 };
+
+/* A segment of an image. */
+typedef struct rlibreg_segment {
+    uint64_t address;     /* of its first byte */
+    uint64_t length;      /* how many bytes it has; of 0 nothing is to be mapped */
+    uint64_t from;        /* where they begin in the buffer of bytes */
+    uint64_t permissions; /* a sum of RLIBREG_EXECUTE, RLIBREG_WRITE and RLIBREG_READ */
+} rlibreg_segment;
+
+/* A library or a preload of a listing. */
+typedef struct rlibreg_entry {
+    uint64_t name;        /* where its name begins in the buffer of names */
+    uint32_t name_length; /* how many bytes the name has, without the byte 0 behind it */
+    uint32_t file_length; /* how many bytes a library's file has; 0 of a preload */
+} rlibreg_entry;
+
+RLIBREG_SAME(sizeof(rlibreg_answer) == 48);
+RLIBREG_SAME(offsetof(rlibreg_answer, file_refusal) == 4);
+RLIBREG_SAME(offsetof(rlibreg_answer, count) == 8);
+RLIBREG_SAME(offsetof(rlibreg_answer, generation) == 40);
+RLIBREG_SAME(sizeof(rlibreg_segment) == 32);
+RLIBREG_SAME(offsetof(rlibreg_segment, permissions) == 24);
+RLIBREG_SAME(sizeof(rlibreg_entry) == 16);
+RLIBREG_SAME(offsetof(rlibreg_entry, file_length) == 12);
+RLIBREG_SAME(sizeof(size_t) == 8 && sizeof(void *) == 8);
+
+/* ---- Layer 1: bytes
+ *
+ * OWED by who calls, and checked by nothing: a pointer has as many bytes (or segments, or entries)
+ * behind it as the length or the room that follows it says; what is only read isn't changed by
+ * anybody before the call returns; what is written overlaps nothing else that the call is given. A
+ * pointer may be null where its length is 0. Nothing else is owed: whatever the bytes are, each
+ * call returns, with a status.
+ *
+ * OWNED by who calls: all of it. A call keeps no pointer, and gives none.
+ *
+ * DISK and DISK_LENGTH are the bytes of the disk's sectors, as reads of the disk give them after a
+ * sync. A length that isn't that of whole sectors is answered S6.
+ *
+ * TEXT gets the line or the reply that the program `rlibreg` prints of the same: "ok\n", a listing,
+ * or a refusal with its number and its names, as "refused B3 Missing libtwo.so libone.so\n". It
+ * isn't ended by a byte 0. The answer's `text` has the length of the whole; where `text_room` is
+ * less, the buffer has the beginning. It is empty of an image, whose bytes are in their own buffer,
+ * and with the statuses 1 to 9, of which the program knows nothing. A text that was cut changes no
+ * status.
+ *
+ * MEMORY that is refused is answered S11, or S1 where it was that of a step of the plan or of the
+ * sync with which each call begins: no other call of the disk can fail. Nothing was done then.
+ *
+ * Where another buffer is too small the status is RLIBREG_NO_ROOM, what the call's buffers hold is
+ * open, and the answer has what is needed: ask again with that much. */
+
+/* Binds the program whose file is PROGRAM at the address BASE, with the preloads and the libraries
+ * of the registry. With the status 0 SEGMENTS has the answer's `count` segments, from low addresses
+ * to high ones, and BYTES the bytes of all of them in a row, `bytes` in number. Segments don't
+ * overlap; two of one object may share a page, two of different objects never do. Nothing of the
+ * registry is changed.
+ *
+ * Refusals: B1 to B5; S3, S5, S6, S11, S12. */
+uint32_t rlibreg_bind(const uint8_t *disk, size_t disk_length, const uint8_t *program,
+                      size_t program_length, uint64_t base, rlibreg_segment *segments,
+                      size_t segments_room, uint8_t *bytes, size_t bytes_room, char *text,
+                      size_t text_room, rlibreg_answer *answer);
+
+/* Lists the registry. With the status 0 ENTRIES has the answer's `count` libraries in the order of
+ * their installation, and behind them `preloads` preloads in theirs; NAMES has all their names in a
+ * row, each with a byte 0 behind it, `bytes` bytes in all; and `generation` counts the changes that
+ * were made since the registry was formatted. 2,064 entries and 497,424 bytes are always enough.
+ *
+ * Refusals: S3, S5, S6, S11, S12. */
+uint32_t rlibreg_list(const uint8_t *disk, size_t disk_length, rlibreg_entry *entries,
+                      size_t entries_room, char *names, size_t names_room, char *text,
+                      size_t text_room, rlibreg_answer *answer);
+
+/* PLANS. With the status 0 PLAN has the answer's `count` steps, `bytes` bytes in all. A step is
+ *
+ *     the number of a sector, in four bytes, little endian, and the 512 bytes to write there; or
+ *     RLIBREG_SYNC in four bytes: a sync, which brings all that was written before to the medium.
+ *
+ * Carry them out in their order, and begin none after a sync before that sync has succeeded.
+ * Between two syncs neighbouring sectors may go in one write. Where a write or a sync fails, stop:
+ * what the disk holds is known again once it is read anew, after a sync. A power cut at any moment
+ * leaves the registry from before or the one after, and nothing else; after the last step, which is
+ * a sync, the one after. The disk is the one that was given: nobody wrote to it in between.
+ *
+ * A plan takes 516 bytes for each sector and 4 for each sync: an installation or a replacement
+ * those of the file's bytes, and at most 40 steps beside; every other plan at most 40 steps.
+ *
+ * With another status there is nothing to carry out. */
+#define RLIBREG_SYNC 0xffffffffu
+
+/* An empty registry. The disk is one where none was ever made: S4 where a root sector looks like
+ * one. Refusals: S4, S6, S11. */
+uint32_t rlibreg_plan_format(const uint8_t *disk, size_t disk_length, uint8_t *plan,
+                             size_t plan_room, char *text, size_t text_room,
+                             rlibreg_answer *answer);
+
+/* A registry of version 1 becomes one of version 2, with the same libraries and preloads. On a disk
+ * of version 2 the plan writes nothing. Refusals: S3, S5, S6, S7, S10, S11. */
+uint32_t rlibreg_plan_upgrade(const uint8_t *disk, size_t disk_length, uint8_t *plan,
+                              size_t plan_room, char *text, size_t text_room,
+                              rlibreg_answer *answer);
+
+/* The library whose file is FILE is installed under its SONAME, behind the others.
+ * Refusals: C1, C2, S9, S10, S7, S8; S3, S5, S6, S11, S12. */
+uint32_t rlibreg_plan_install(const uint8_t *disk, size_t disk_length, const uint8_t *file,
+                              size_t file_length, uint8_t *plan, size_t plan_room, char *text,
+                              size_t text_room, rlibreg_answer *answer);
+
+/* FILE takes the place of the library of its SONAME. The old file's sectors are free after the
+ * change alone, so there has to be room for both. Refusals: C1, C3, S10, S7, S8; S3, S5, S6, S11,
+ * S12. */
+uint32_t rlibreg_plan_replace(const uint8_t *disk, size_t disk_length, const uint8_t *file,
+                              size_t file_length, uint8_t *plan, size_t plan_room, char *text,
+                              size_t text_room, rlibreg_answer *answer);
+
+/* The library of this name, which has no byte 0 behind it, is removed. Whether programs need it
+ * isn't looked at. Refusals: C3, C4, S10; S3, S5, S6, S11, S12. */
+uint32_t rlibreg_plan_remove(const uint8_t *disk, size_t disk_length, const char *name,
+                             size_t name_length, uint8_t *plan, size_t plan_room, char *text,
+                             size_t text_room, rlibreg_answer *answer);
+
+/* The preloads are these names, in their order, each with a byte 0 behind it; of length 0 there are
+ * none. RLIBREG_BAD_ARGUMENT where the last byte isn't 0.
+ * Refusals: C6, C5, C3, S10; S3, S5, S6, S11, S12. */
+uint32_t rlibreg_plan_preload(const uint8_t *disk, size_t disk_length, const char *names,
+                              size_t names_length, uint8_t *plan, size_t plan_room, char *text,
+                              size_t text_room, rlibreg_answer *answer);
+
+/* ---- Layer 2: files
+ *
+ * A struct rlibreg is made by rlibreg_create, has its file from rlibreg_open or rlibreg_format on,
+ * and is freed by rlibreg_close. It belongs to who made it. It holds the lock of its file, and a
+ * map of it, until it is closed: keep it open for as long as the calls take, and no longer.
+ *
+ * After a change has failed with S1 the struct answers S2 to everything. Close it, and open the
+ * file again: it then holds the registry from before the change or the one after. To ask for the
+ * same change again is safe. */
+
+typedef struct rlibreg rlibreg;
+
+/* A struct without a file, or null where there is no memory. Without a file, every call but
+ * rlibreg_open and rlibreg_format is answered S6, and a change RLIBREG_READ_ONLY. */
+rlibreg *rlibreg_create(void);
+
+/* Gives the file back with its lock, and frees the struct. Null is let be. What the struct gave as
+ * rlibreg_text is gone; images and listings stay. */
+void rlibreg_close(rlibreg *registry);
+
+/* What the last call of this struct was answered: the line or the reply of the program, ended by a
+ * byte 0, and the answer. Both stay until the next call. */
+const char *rlibreg_text(const rlibreg *registry);
+const rlibreg_answer *rlibreg_last(const rlibreg *registry);
+
+/* How a file is opened: for reading alone, with a lock that others share who read, and without
+ * waiting for it; or with a sum of these. */
+enum {
+    RLIBREG_CHANGES = 1, /* for changes too: the lock is held alone */
+    RLIBREG_WAIT = 2     /* where the file is held, wait */
+};
+
+/* Opens the file of a registry and locks it, and syncs it: what is read of it then is on the
+ * medium. It has to be a regular file. It isn't looked at what the file holds: the calls behind do
+ * that.
+ *
+ * RLIBREG_HELD where another struct holds the file, of this process or another, and RLIBREG_WAIT
+ * isn't given. RLIBREG_SYSTEM where a call of the system fails: errno says why, EINTR where a
+ * signal came while it waited, EINVAL where the path is no regular file. RLIBREG_BAD_ARGUMENT where
+ * the struct has a file already. */
+uint32_t rlibreg_open(rlibreg *registry, const char *path, unsigned flags);
+
+/* Makes an empty registry of so many sectors of 512 bytes, and leaves it open for changes. Where
+ * there is no file it is made, with zeros; one that is there has to have that length, or the
+ * refusal is S6, and no registry, or it is S4. The file and its folder are synced. FLAGS may have
+ * RLIBREG_WAIT.
+ *
+ * RLIBREG_BAD_ARGUMENT where SECTORS isn't 8 to 4,194,304: then nothing is made. Else as
+ * rlibreg_open and rlibreg_plan_format. After a refusal the file is left as it is, and not open. A
+ * file that is made is sparse: the space for it may be found missing later, which is then an S1. */
+uint32_t rlibreg_format(rlibreg *registry, const char *path, uint32_t sectors, unsigned flags);
+
+/* Changes: each is planned, carried out and synced when the call returns 0. Refusals: those of the
+ * plan, which leave all as it was; S1 where a write or a sync failed: errno says why, and a change
+ * was made or not; S2 after that. RLIBREG_READ_ONLY without RLIBREG_CHANGES.
+ *
+ * FILE, NAME and NAMES stay the caller's. NAMES may be null where COUNT is 0. */
+uint32_t rlibreg_upgrade(rlibreg *registry);
+uint32_t rlibreg_install(rlibreg *registry, const void *file, size_t length);
+uint32_t rlibreg_replace(rlibreg *registry, const void *file, size_t length);
+uint32_t rlibreg_remove(rlibreg *registry, const char *name);
+uint32_t rlibreg_preload(rlibreg *registry, const char *const *names, size_t count);
+
+/* A listing, as rlibreg_list gives it. It belongs to who asked, is written in every case, and is
+ * freed by rlibreg_listing_free, which may be called twice. */
+typedef struct rlibreg_listing {
+    uint64_t generation;
+    size_t libraries; /* how many: entries 0 to libraries - 1 */
+    size_t preloads;  /* how many: the entries behind these */
+    rlibreg_entry *entries;
+    char *names; /* the name of an entry is names + entry.name, with a byte 0 behind it */
+} rlibreg_listing;
+
+uint32_t rlibreg_listing_of(rlibreg *registry, rlibreg_listing *listing);
+void rlibreg_listing_free(rlibreg_listing *listing);
+
+/* An image, as rlibreg_bind gives it. It belongs to who asked, is written in every case, and is
+ * freed by rlibreg_image_free, which may be called twice. */
+typedef struct rlibreg_image {
+    size_t count;
+    rlibreg_segment *segments;
+    uint8_t *bytes;
+} rlibreg_image;
+
+uint32_t rlibreg_image_of(rlibreg *registry, const void *program, size_t length, uint64_t base,
+                          rlibreg_image *image);
+void rlibreg_image_free(rlibreg_image *image);
+
+#ifdef __cplusplus
+}
+#endif
+#endif

@@ -1,0 +1,449 @@
+/* The registry over a file: C over the calls on bytes. rlibreg.h is the manual. */
+#define _GNU_SOURCE
+#include "rlibreg.h"
+
+#include <errno.h>
+#include <fcntl.h>
+#include <stdlib.h>
+#include <string.h>
+#include <sys/file.h>
+#include <sys/mman.h>
+#include <sys/stat.h>
+#include <unistd.h>
+
+enum { SECTOR = 512, STEP_NUMBER = 4, SMALL_PLAN = 40, FIRST_TEXT = 4096 };
+
+struct rlibreg {
+    int fd;              /* of the file, or -1 */
+    int may_change;      /* whether it was opened for changes */
+    int has_failed;      /* whether a write or a sync failed */
+    const uint8_t *disk; /* the map of the file, or null */
+    size_t length;       /* of the file */
+    char *text;          /* of the last answer, ended by a byte 0 */
+    size_t text_room;
+    rlibreg_answer answer;
+};
+
+/* ---- Answers */
+
+/* Answers without the first layer, with this text. */
+static uint32_t say(rlibreg *it, uint32_t status, const char *text) {
+    it->answer = (rlibreg_answer){ .status = status, .text = strlen(text) };
+    strcpy(it->text, text);
+    return status;
+}
+
+static uint32_t say_system(rlibreg *it) {
+    return say(it, RLIBREG_SYSTEM, "");
+}
+
+static uint32_t say_memory(rlibreg *it) {
+    return say(it, RLIBREG_OUT_OF_MEMORY, "refused S11 OutOfMemory\n");
+}
+
+/* What a call over bytes was answered. Its disk fails where it finds no memory for a step, and for
+ * no other reason: that is S11 to who has a file. */
+static uint32_t over_bytes(rlibreg *it, uint32_t status) {
+    return status == RLIBREG_DEVICE ? say_memory(it) : status;
+}
+
+/* Ends the text of the last call by a byte 0. Where it was cut the buffer is made larger, and the
+ * call is to be made again; without memory for that the text stays cut. */
+static int text_was_cut(rlibreg *it) {
+    size_t whole = it->answer.text;
+    if (whole < it->text_room) {
+        it->text[whole] = 0;
+        return 0;
+    }
+    char *larger = realloc(it->text, whole + 1);
+    if (!larger) {
+        it->text[it->text_room - 1] = 0;
+        return 0;
+    }
+    it->text = larger;
+    it->text_room = whole + 1;
+    return 1;
+}
+
+rlibreg *rlibreg_create(void) {
+    rlibreg *it = calloc(1, sizeof *it);
+    char *text = malloc(FIRST_TEXT);
+    if (!it || !text) {
+        free(it);
+        free(text);
+        return NULL;
+    }
+    it->fd = -1;
+    it->text = text;
+    it->text_room = FIRST_TEXT;
+    it->text[0] = 0;
+    return it;
+}
+
+static void let_go(rlibreg *it) {
+    if (it->disk) munmap((void *)it->disk, it->length);
+    if (it->fd >= 0) close(it->fd);
+    it->fd = -1;
+    it->disk = NULL;
+    it->length = 0;
+    it->may_change = it->has_failed = 0;
+}
+
+void rlibreg_close(rlibreg *it) {
+    if (!it) return;
+    let_go(it);
+    free(it->text);
+    free(it);
+}
+
+const char *rlibreg_text(const rlibreg *it) {
+    return it->text;
+}
+
+const rlibreg_answer *rlibreg_last(const rlibreg *it) {
+    return &it->answer;
+}
+
+/* ---- The file */
+
+static int open_flags(unsigned flags) {
+    int access = flags & RLIBREG_CHANGES ? O_RDWR : O_RDONLY;
+    return access | O_CLOEXEC | O_NOCTTY | O_NONBLOCK; /* opening a pipe doesn't wait */
+}
+
+static int lock_kind(unsigned flags) {
+    int kind = flags & RLIBREG_CHANGES ? LOCK_EX : LOCK_SH;
+    return flags & RLIBREG_WAIT ? kind : kind | LOCK_NB;
+}
+
+/* Whether the path still names the file that was locked: it may have been replaced meanwhile. */
+static int is_still_there(const char *path, const struct stat *locked) {
+    struct stat now;
+    return !stat(path, &now) && now.st_dev == locked->st_dev && now.st_ino == locked->st_ino;
+}
+
+/* Opens the file and locks it. Gives 0, or a status. */
+static uint32_t open_locked(rlibreg *it, const char *path, unsigned flags) {
+    struct stat found;
+    for (;;) {
+        it->fd = open(path, open_flags(flags));
+        if (it->fd < 0 || fstat(it->fd, &found)) return RLIBREG_SYSTEM;
+        if (!S_ISREG(found.st_mode)) {
+            errno = EINVAL;
+            return RLIBREG_SYSTEM;
+        }
+        if (flock(it->fd, lock_kind(flags)))
+            return errno == EWOULDBLOCK ? RLIBREG_HELD : RLIBREG_SYSTEM;
+        if (is_still_there(path, &found)) return RLIBREG_DONE;
+        close(it->fd);
+    }
+}
+
+/* Maps the file, as long as it is now that it is locked, and syncs it. */
+static uint32_t map_file(rlibreg *it) {
+    struct stat found;
+    if (fstat(it->fd, &found) || fsync(it->fd)) return RLIBREG_SYSTEM;
+    if (!found.st_size) return RLIBREG_DONE; /* a disk without bytes: each call is answered S6 */
+    void *map = mmap(NULL, (size_t)found.st_size, PROT_READ, MAP_SHARED, it->fd, 0);
+    if (map == MAP_FAILED) return RLIBREG_SYSTEM;
+    it->disk = map;
+    it->length = (size_t)found.st_size;
+    return RLIBREG_DONE;
+}
+
+uint32_t rlibreg_open(rlibreg *it, const char *path, unsigned flags) {
+    if (it->fd >= 0) return say(it, RLIBREG_BAD_ARGUMENT, "");
+    uint32_t status = open_locked(it, path, flags);
+    if (!status) status = map_file(it);
+    if (status) {
+        int why = errno;
+        let_go(it);
+        errno = why;
+        return say(it, status, "");
+    }
+    it->may_change = !!(flags & RLIBREG_CHANGES);
+    return say(it, RLIBREG_DONE, "");
+}
+
+/* ---- Carrying out a plan */
+
+static uint32_t number_at(const uint8_t *plan) {
+    return plan[0] | (uint32_t)plan[1] << 8 | (uint32_t)plan[2] << 16 | (uint32_t)plan[3] << 24;
+}
+
+static int write_all(int fd, const uint8_t *from, size_t length, off_t at) {
+    while (length) {
+        ssize_t wrote = pwrite(fd, from, length, at);
+        if (wrote < 0 && errno == EINTR) continue;
+        if (wrote < 0) return -1;
+        if (!wrote) {
+            errno = EIO;
+            return -1;
+        }
+        from += wrote;
+        length -= (size_t)wrote;
+        at += wrote;
+    }
+    return 0;
+}
+
+/* Writes the sector of the step at the front of a plan, and with the same write those of the steps
+ * behind it that write the sectors next to it: their bytes are moved together for that. Gives how
+ * many bytes of the plan these steps are, or 0 where the write fails. */
+static size_t write_run(int fd, uint8_t *plan, size_t length) {
+    uint32_t first = number_at(plan), next = first + 1;
+    size_t at = STEP_NUMBER + SECTOR, bytes = SECTOR;
+    for (; at < length && number_at(plan + at) == next && next != RLIBREG_SYNC; next++) {
+        memmove(plan + STEP_NUMBER + bytes, plan + at + STEP_NUMBER, SECTOR);
+        at += STEP_NUMBER + SECTOR;
+        bytes += SECTOR;
+    }
+    return write_all(fd, plan + STEP_NUMBER, bytes, (off_t)first * SECTOR) ? 0 : at;
+}
+
+/* Makes the writes and syncs of a plan, in their order, up to the first that fails. The plan isn't
+ * to be used again. */
+static int carry_out(int fd, uint8_t *plan, size_t length) {
+    for (size_t at = 0; at < length;) {
+        size_t done = STEP_NUMBER;
+        if (number_at(plan + at) == RLIBREG_SYNC) {
+            if (fsync(fd)) return -1;
+        } else {
+            done = write_run(fd, plan + at, length - at);
+            if (!done) return -1;
+        }
+        at += done;
+    }
+    return 0;
+}
+
+/* ---- Changes */
+
+/* A call that plans what is asked, into a buffer. */
+typedef uint32_t plan_call(rlibreg *it, const void *asked, size_t length, uint8_t *plan,
+                           size_t room);
+
+static uint32_t plan_format(rlibreg *it, const void *asked, size_t length, uint8_t *plan,
+                            size_t room) {
+    (void)asked, (void)length;
+    return rlibreg_plan_format(it->disk, it->length, plan, room, it->text, it->text_room,
+                               &it->answer);
+}
+
+static uint32_t plan_upgrade(rlibreg *it, const void *asked, size_t length, uint8_t *plan,
+                             size_t room) {
+    (void)asked, (void)length;
+    return rlibreg_plan_upgrade(it->disk, it->length, plan, room, it->text, it->text_room,
+                                &it->answer);
+}
+
+static uint32_t plan_install(rlibreg *it, const void *asked, size_t length, uint8_t *plan,
+                             size_t room) {
+    return rlibreg_plan_install(it->disk, it->length, asked, length, plan, room, it->text,
+                                it->text_room, &it->answer);
+}
+
+static uint32_t plan_replace(rlibreg *it, const void *asked, size_t length, uint8_t *plan,
+                             size_t room) {
+    return rlibreg_plan_replace(it->disk, it->length, asked, length, plan, room, it->text,
+                                it->text_room, &it->answer);
+}
+
+static uint32_t plan_remove(rlibreg *it, const void *asked, size_t length, uint8_t *plan,
+                            size_t room) {
+    return rlibreg_plan_remove(it->disk, it->length, asked, length, plan, room, it->text,
+                               it->text_room, &it->answer);
+}
+
+static uint32_t plan_preload(rlibreg *it, const void *asked, size_t length, uint8_t *plan,
+                             size_t room) {
+    return rlibreg_plan_preload(it->disk, it->length, asked, length, plan, room, it->text,
+                                it->text_room, &it->answer);
+}
+
+/* Has a change planned, with as much room as it needs. The plan is the caller's to free; null where
+ * the status isn't 0. */
+static uint32_t make_plan(rlibreg *it, plan_call *call, const void *asked, size_t length,
+                          uint8_t **plan) {
+    size_t room = (length / SECTOR + 1 + SMALL_PLAN) * (STEP_NUMBER + SECTOR);
+    for (;;) {
+        *plan = malloc(room);
+        if (!*plan) return say_memory(it);
+        uint32_t status = over_bytes(it, call(it, asked, length, *plan, room));
+        int again = text_was_cut(it) || status == RLIBREG_NO_ROOM;
+        if (!status && !again) return status;
+        free(*plan);
+        *plan = NULL;
+        if (!again) return status;
+        if (status == RLIBREG_NO_ROOM) room = it->answer.bytes;
+    }
+}
+
+/* Plans a change and carries it out. */
+static uint32_t change(rlibreg *it, plan_call *call, const void *asked, size_t length) {
+    uint8_t *plan;
+    if (!it->may_change) return say(it, RLIBREG_READ_ONLY, "");
+    if (it->has_failed) return say(it, RLIBREG_REOPEN, "refused S2 Reopen\n");
+    uint32_t status = make_plan(it, call, asked, length, &plan);
+    if (status) return status;
+    it->has_failed = carry_out(it->fd, plan, it->answer.bytes) != 0;
+    int why = errno;
+    free(plan);
+    errno = why;
+    return it->has_failed ? say(it, RLIBREG_DEVICE, "refused S1 Device\n") : RLIBREG_DONE;
+}
+
+uint32_t rlibreg_upgrade(rlibreg *it) {
+    return change(it, plan_upgrade, NULL, 0);
+}
+
+uint32_t rlibreg_install(rlibreg *it, const void *file, size_t length) {
+    return change(it, plan_install, file, length);
+}
+
+uint32_t rlibreg_replace(rlibreg *it, const void *file, size_t length) {
+    return change(it, plan_replace, file, length);
+}
+
+uint32_t rlibreg_remove(rlibreg *it, const char *name) {
+    return change(it, plan_remove, name, strlen(name));
+}
+
+uint32_t rlibreg_preload(rlibreg *it, const char *const *names, size_t count) {
+    size_t length = 0, at = 0;
+    for (size_t i = 0; i < count; i++) length += strlen(names[i]) + 1;
+    char *all = malloc(length + 1);
+    if (!all) return say_memory(it);
+    for (size_t i = 0; i < count; i++) {
+        strcpy(all + at, names[i]);
+        at += strlen(names[i]) + 1;
+    }
+    uint32_t status = change(it, plan_preload, all, length);
+    int why = errno;
+    free(all);
+    errno = why;
+    return status;
+}
+
+/* ---- Making a registry */
+
+/* Makes a file of zeros where there is none, all of it or none. */
+static int make_file(const char *path, off_t length) {
+    int fd = open(path, O_RDWR | O_CREAT | O_EXCL | O_CLOEXEC, 0666);
+    if (fd < 0) return errno == EEXIST ? 0 : -1;
+    int failed = ftruncate(fd, length) || fsync(fd);
+    int why = errno;
+    if (failed) unlink(path);
+    close(fd);
+    errno = why;
+    return failed ? -1 : 0;
+}
+
+/* Syncs the folder in which a path's file is. */
+static int sync_folder(const char *path) {
+    const char *slash = strrchr(path, '/');
+    size_t length = slash ? (size_t)(slash - path) : 0;
+    char *folder = length ? strndup(path, length) : strdup(slash ? "/" : ".");
+    int fd = folder ? open(folder, O_RDONLY | O_DIRECTORY | O_CLOEXEC) : -1;
+    int failed = fd < 0 || fsync(fd);
+    int why = errno;
+    if (fd >= 0) close(fd);
+    free(folder);
+    errno = why;
+    return failed ? -1 : 0;
+}
+
+uint32_t rlibreg_format(rlibreg *it, const char *path, uint32_t sectors, unsigned flags) {
+    if (it->fd >= 0 || sectors < 8 || sectors > 4194304) return say(it, RLIBREG_BAD_ARGUMENT, "");
+    size_t length = (size_t)sectors * SECTOR;
+    if (make_file(path, (off_t)length) || sync_folder(path)) return say_system(it);
+    uint32_t status = rlibreg_open(it, path, RLIBREG_CHANGES | (flags & RLIBREG_WAIT));
+    if (status) return status;
+    status = it->length == length ? change(it, plan_format, NULL, 0)
+                                  : say(it, RLIBREG_BAD_GEOMETRY, "refused S6 BadGeometry\n");
+    int why = errno;
+    if (status) let_go(it);
+    errno = why;
+    return status;
+}
+
+/* ---- Looking */
+
+/* A listing with so much room for entries and names. */
+static uint32_t list(rlibreg *it, rlibreg_listing *out, size_t entries, size_t names) {
+    out->entries = malloc(entries * sizeof *out->entries);
+    out->names = malloc(names);
+    if (!out->entries || !out->names) return say_memory(it);
+    return rlibreg_list(it->disk, it->length, out->entries, entries, out->names, names, it->text,
+                        it->text_room, &it->answer);
+}
+
+uint32_t rlibreg_listing_of(rlibreg *it, rlibreg_listing *out) {
+    size_t entries = 64, names = 4096;
+    *out = (rlibreg_listing){ 0 };
+    if (it->has_failed) return say(it, RLIBREG_REOPEN, "refused S2 Reopen\n");
+    for (;;) {
+        uint32_t status = over_bytes(it, list(it, out, entries, names));
+        int again = text_was_cut(it) || status == RLIBREG_NO_ROOM;
+        if (!status && !again) break;
+        rlibreg_listing_free(out);
+        if (!again) return status;
+        if (status != RLIBREG_NO_ROOM) continue;
+        entries = it->answer.count + it->answer.preloads;
+        names = it->answer.bytes;
+    }
+    out->generation = it->answer.generation;
+    out->libraries = it->answer.count;
+    out->preloads = it->answer.preloads;
+    return RLIBREG_DONE;
+}
+
+void rlibreg_listing_free(rlibreg_listing *it) {
+    free(it->entries);
+    free(it->names);
+    *it = (rlibreg_listing){ 0 };
+}
+
+/* What is bound, and where. */
+struct bound {
+    const void *program;
+    size_t length;
+    uint64_t base;
+};
+
+/* An image with so much room for segments and bytes. */
+static uint32_t bind_into(rlibreg *it, const struct bound *what, rlibreg_image *out,
+                          size_t segments, size_t bytes) {
+    out->segments = malloc(segments * sizeof *out->segments);
+    out->bytes = malloc(bytes);
+    if (!out->segments || !out->bytes) return say_memory(it);
+    return rlibreg_bind(it->disk, it->length, what->program, what->length, what->base,
+                        out->segments, segments, out->bytes, bytes, it->text, it->text_room,
+                        &it->answer);
+}
+
+uint32_t rlibreg_image_of(rlibreg *it, const void *program, size_t length, uint64_t base,
+                          rlibreg_image *out) {
+    struct bound what = { program, length, base };
+    size_t segments = 64, bytes = 1 << 20;
+    *out = (rlibreg_image){ 0 };
+    if (it->has_failed) return say(it, RLIBREG_REOPEN, "refused S2 Reopen\n");
+    for (;;) {
+        uint32_t status = over_bytes(it, bind_into(it, &what, out, segments, bytes));
+        int again = text_was_cut(it) || status == RLIBREG_NO_ROOM;
+        if (!status && !again) break;
+        rlibreg_image_free(out);
+        if (!again) return status;
+        if (status != RLIBREG_NO_ROOM) continue;
+        segments = it->answer.count;
+        bytes = it->answer.bytes;
+    }
+    out->count = it->answer.count;
+    return RLIBREG_DONE;
+}
+
+void rlibreg_image_free(rlibreg_image *it) {
+    free(it->segments);
+    free(it->bytes);
+    *it = (rlibreg_image){ 0 };
+}

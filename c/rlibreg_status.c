@@ -1,0 +1,42 @@
+/* The names of statuses. */
+#include "rlibreg.h"
+
+const char *rlibreg_status_name(uint32_t status) {
+    static const struct {
+        uint32_t status;
+        const char *name;
+    } all[] = {
+        { RLIBREG_DONE, "done" },
+        { RLIBREG_NO_ROOM, "a buffer is too small" },
+        { RLIBREG_BAD_ARGUMENT, "bad argument" },
+        { RLIBREG_SYSTEM, "a call of the system failed" },
+        { RLIBREG_HELD, "the file is held" },
+        { RLIBREG_READ_ONLY, "opened for reading alone" },
+        { RLIBREG_BAD_PROGRAM, "B1" },
+        { RLIBREG_BAD_BASE, "B2 BadBase" },
+        { RLIBREG_MISSING, "B3 Missing" },
+        { RLIBREG_NO_PLACE, "B4 NoRoom" },
+        { RLIBREG_UNDEFINED, "B5 Undefined" },
+        { RLIBREG_BAD_FILE, "C1" },
+        { RLIBREG_ALREADY_INSTALLED, "C2 AlreadyInstalled" },
+        { RLIBREG_NOT_INSTALLED, "C3 NotInstalled" },
+        { RLIBREG_IN_PRELOADS, "C4 InPreloads" },
+        { RLIBREG_REPEATED_PRELOAD, "C5 RepeatedPreload" },
+        { RLIBREG_TOO_MANY_PRELOADS, "C6 TooManyPreloads" },
+        { RLIBREG_DEVICE, "S1 Device" },
+        { RLIBREG_REOPEN, "S2 Reopen" },
+        { RLIBREG_NOT_FORMATTED, "S3 NotFormatted" },
+        { RLIBREG_ALREADY_FORMATTED, "S4 AlreadyFormatted" },
+        { RLIBREG_DAMAGED, "S5 Damaged" },
+        { RLIBREG_BAD_GEOMETRY, "S6 BadGeometry" },
+        { RLIBREG_FULL, "S7 Full" },
+        { RLIBREG_FRAGMENTED, "S8 Fragmented" },
+        { RLIBREG_TOO_MANY, "S9 TooMany" },
+        { RLIBREG_GENERATION_END, "S10 GenerationEnd" },
+        { RLIBREG_OUT_OF_MEMORY, "S11 OutOfMemory" },
+        { RLIBREG_OLD_FORMAT, "S12 OldFormat" },
+    };
+    for (size_t i = 0; i < sizeof all / sizeof *all; i++)
+        if (all[i].status == status) return all[i].name;
+    return "unknown";
+}

@@ -1,0 +1,305 @@
+/* calls LIBRARY OTHER PROGRAM NAME makes the calls over bytes with buffers of every size, with
+ * bytes that are damaged, and with none. LIBRARY, of the SONAME NAME, is what PROGRAM needs; OTHER
+ * has the same SONAME. */
+#include "../rlibreg.h"
+
+#include <stdio.h>
+#include <stdlib.h>
+#include <string.h>
+
+enum { SECTOR = 512, SECTORS = 40, ROOM = 1 << 20, GUARD = 64, GUARDED = 0xa5 };
+
+#define WANT(what)                                                                                 \
+    do {                                                                                           \
+        if (!(what)) {                                                                             \
+            fprintf(stderr, "calls: line %d: not so: %s\n", __LINE__, #what);                      \
+            exit(1);                                                                               \
+        }                                                                                          \
+    } while (0)
+
+struct file {
+    uint8_t *bytes;
+    size_t length;
+};
+
+static struct file read_file(const char *path) {
+    struct file it;
+    FILE *file = fopen(path, "rb");
+    WANT(file && !fseek(file, 0, SEEK_END));
+    it.length = (size_t)ftell(file);
+    rewind(file);
+    it.bytes = malloc(it.length + 1);
+    WANT(it.bytes && fread(it.bytes, 1, it.length, file) == it.length);
+    fclose(file);
+    return it;
+}
+
+/* ---- Buffers with a guard behind them */
+
+static void *guarded(size_t length) {
+    uint8_t *it = malloc(length + GUARD);
+    WANT(it);
+    memset(it, GUARDED, length + GUARD);
+    return it;
+}
+
+static void check_guard(void *buffer, size_t length) {
+    for (size_t i = 0; i < GUARD; i++) WANT(((uint8_t *)buffer)[length + i] == GUARDED);
+    free(buffer);
+}
+
+/* ---- A disk that calls are made over */
+
+static uint8_t disk[SECTORS * SECTOR];
+
+static void carry_out(const uint8_t *plan, uint64_t length) {
+    for (uint64_t at = 0; at < length; at += 4) {
+        uint32_t n = plan[at] | (uint32_t)plan[at + 1] << 8 | (uint32_t)plan[at + 2] << 16 |
+                     (uint32_t)plan[at + 3] << 24;
+        if (n == RLIBREG_SYNC) continue;
+        WANT(n < SECTORS);
+        memcpy(disk + (size_t)n * SECTOR, plan + at + 4, SECTOR);
+        at += SECTOR;
+    }
+}
+
+struct call {
+    char what; /* f, u, i, r, d, p: plans; l, b */
+    const void *asked;
+    size_t length;
+};
+
+static uint32_t plan(struct call it, uint8_t *out, size_t room, char *text, size_t text_room,
+                     rlibreg_answer *answer) {
+    switch (it.what) {
+    case 'f':
+        return rlibreg_plan_format(disk, sizeof disk, out, room, text, text_room, answer);
+    case 'u':
+        return rlibreg_plan_upgrade(disk, sizeof disk, out, room, text, text_room, answer);
+    case 'i':
+        return rlibreg_plan_install(disk, sizeof disk, it.asked, it.length, out, room, text,
+                                    text_room, answer);
+    case 'r':
+        return rlibreg_plan_replace(disk, sizeof disk, it.asked, it.length, out, room, text,
+                                    text_room, answer);
+    case 'd':
+        return rlibreg_plan_remove(disk, sizeof disk, it.asked, it.length, out, room, text,
+                                   text_room, answer);
+    }
+    return rlibreg_plan_preload(disk, sizeof disk, it.asked, it.length, out, room, text, text_room,
+                                answer);
+}
+
+/* Plans with every room, and then carries the plan out. */
+static void try_plan(struct call it) {
+    static uint8_t whole[ROOM], before[sizeof disk];
+    char ok[8];
+    rlibreg_answer answer, other;
+    memcpy(before, disk, sizeof disk);
+    WANT(plan(it, whole, ROOM, ok, sizeof ok, &answer) == RLIBREG_DONE);
+    WANT(answer.status == 0 && answer.text == 3 && !memcmp(ok, "ok\n", 3));
+    WANT(answer.count > 0 && answer.bytes > 0 && answer.generation == 0);
+    for (size_t room = 0; room <= answer.bytes; room++) {
+        uint8_t *out = guarded(room);
+        char *text = guarded(2);
+        uint32_t status = plan(it, out, room, text, 2, &other);
+        WANT(status == (room < answer.bytes ? RLIBREG_NO_ROOM : RLIBREG_DONE));
+        WANT(other.status == status && other.bytes == answer.bytes && other.count == answer.count);
+        if (!status) WANT(!memcmp(out, whole, room) && other.text == 3 && !memcmp(text, "ok", 2));
+        if (status) WANT(other.text == 0 && text[0] == (char)GUARDED);
+        check_guard(out, room);
+        check_guard(text, 2);
+    }
+    WANT(!memcmp(before, disk, sizeof disk)); /* a call writes nothing on the disk */
+    carry_out(whole, answer.bytes);
+}
+
+/* A refusal, with every room for its text. */
+static void try_refusal(struct call it, uint32_t wanted, const char *line) {
+    static uint8_t out[ROOM];
+    for (size_t room = 0; room <= strlen(line) + 1; room++) {
+        rlibreg_answer answer;
+        char *text = guarded(room);
+        uint32_t status = plan(it, out, ROOM, text, room, &answer);
+        size_t said = room < strlen(line) ? room : strlen(line);
+        WANT(status == wanted && answer.status == wanted && answer.text == strlen(line));
+        WANT(!memcmp(text, line, said) && answer.bytes == 0 && answer.count == 0);
+        WANT(answer.file_refusal == (wanted == RLIBREG_BAD_FILE ? 1 : 0));
+        check_guard(text, room);
+    }
+}
+
+/* ---- Looking, with every room */
+
+static void try_listing(uint64_t libraries, uint64_t preloads, uint64_t generation,
+                        const char *names, size_t names_length, const char *said) {
+    rlibreg_answer answer;
+    for (size_t entries = 0; entries <= libraries + preloads; entries++) {
+        for (size_t room = 0; room <= names_length; room++) {
+            int fits = entries == libraries + preloads && room == names_length;
+            rlibreg_entry *list = guarded(entries * sizeof *list);
+            char *out = guarded(room), *text = guarded(strlen(said));
+            uint32_t status = rlibreg_list(disk, sizeof disk, list, entries, out, room, text,
+                                           strlen(said), &answer);
+            WANT(status == (fits ? RLIBREG_DONE : RLIBREG_NO_ROOM) && answer.status == status);
+            WANT(answer.count == libraries && answer.preloads == preloads);
+            WANT(answer.bytes == names_length && answer.generation == generation);
+            WANT(answer.text == (fits ? strlen(said) : 0));
+            if (fits) WANT(!memcmp(out, names, room) && !memcmp(text, said, strlen(said)));
+            for (size_t i = 0; fits && i < entries; i++) {
+                WANT(list[i].name_length == strlen(out + list[i].name));
+                WANT((list[i].file_length != 0) == (i < libraries));
+            }
+            check_guard(list, entries * sizeof *list);
+            check_guard(out, room);
+            check_guard(text, strlen(said));
+        }
+    }
+}
+
+static void try_image(struct file program) {
+    static rlibreg_segment segments[64];
+    static uint8_t bytes[ROOM];
+    rlibreg_answer answer, other;
+    WANT(!rlibreg_bind(disk, sizeof disk, program.bytes, program.length, 0x10000, segments, 64,
+                       bytes, ROOM, NULL, 0, &answer));
+    WANT(answer.count > 1 && answer.text == 0);
+    uint64_t at = 0;
+    for (size_t i = 0; i < answer.count; i++) {
+        WANT(segments[i].from == at && segments[i].permissions < 8);
+        if (i) WANT(segments[i - 1].address + segments[i - 1].length <= segments[i].address);
+        at += segments[i].length;
+    }
+    WANT(at == answer.bytes);
+    for (size_t count = 0; count <= answer.count; count++) {
+        for (size_t room = 0; room <= answer.bytes; room++) {
+            int fits = count == answer.count && room == answer.bytes;
+            rlibreg_segment *list = guarded(count * sizeof *list);
+            uint8_t *out = guarded(room);
+            uint32_t status = rlibreg_bind(disk, sizeof disk, program.bytes, program.length,
+                                           0x10000, list, count, out, room, NULL, 0, &other);
+            WANT(status == (fits ? RLIBREG_DONE : RLIBREG_NO_ROOM) && other.status == status);
+            WANT(other.count == answer.count && other.bytes == answer.bytes);
+            if (fits)
+                WANT(!memcmp(out, bytes, room) && !memcmp(list, segments, count * sizeof *list));
+            check_guard(list, count * sizeof *list);
+            check_guard(out, room);
+            if (room + 2 < answer.bytes && count < answer.count) room += answer.bytes / 8;
+        }
+    }
+}
+
+static void try_bind_refusal(struct file program, uint64_t base, uint32_t wanted,
+                             const char *line) {
+    char text[256];
+    rlibreg_answer answer;
+    uint32_t status = rlibreg_bind(disk, sizeof disk, program.bytes, program.length, base, NULL, 0,
+                                   NULL, 0, text, sizeof text, &answer);
+    WANT(status == wanted && answer.text == strlen(line) && !memcmp(text, line, strlen(line)));
+}
+
+/* ---- Bytes that are damaged */
+
+static int is_status(uint32_t status) {
+    return status <= RLIBREG_BAD_ARGUMENT || strcmp(rlibreg_status_name(status), "unknown");
+}
+
+static void try_damaged(struct file program, struct file library) {
+    static rlibreg_entry entries[64];
+    static rlibreg_segment segments[64];
+    static uint8_t kept[sizeof disk], bytes[ROOM];
+    static char names[ROOM], text[ROOM];
+    rlibreg_answer answer;
+    unsigned random = 1, refused = 0;
+    memcpy(kept, disk, sizeof disk);
+    for (int round = 0; round < 3000; round++) {
+        for (int i = 0; i < 1 + round % 4; i++) {
+            random = random * 1103515245 + 12345;
+            disk[(random >> 8) % sizeof disk] ^= (uint8_t)(1u << (random >> 4) % 8);
+        }
+        uint32_t listed =
+            rlibreg_list(disk, sizeof disk, entries, 64, names, ROOM, text, ROOM, &answer);
+        WANT(is_status(listed) && listed == answer.status && listed != RLIBREG_BAD_ARGUMENT);
+        refused += listed == RLIBREG_DAMAGED;
+        uint32_t bound = rlibreg_bind(disk, sizeof disk, program.bytes, program.length, 0x10000,
+                                      segments, 64, bytes, ROOM, text, ROOM, &answer);
+        WANT(is_status(bound) && bound != RLIBREG_BAD_ARGUMENT);
+        struct call replace = { 'r', library.bytes, library.length };
+        WANT(is_status(plan(replace, bytes, ROOM, text, ROOM, &answer)));
+        struct call upgrade = { 'u', NULL, 0 };
+        WANT(is_status(plan(upgrade, bytes, ROOM, text, ROOM, &answer)));
+        if (round % 4 == 3) memcpy(disk, kept, sizeof disk);
+    }
+    WANT(refused > 100); /* the damage is noticed */
+    memcpy(disk, kept, sizeof disk);
+}
+
+/* ---- No bytes, and none that are sectors */
+
+static void try_lengths(void) {
+    char text[64];
+    rlibreg_answer answer;
+    const char *line = "refused S6 BadGeometry\n";
+    for (size_t length = 0; length < 8 * SECTOR; length += 61) {
+        uint32_t status = rlibreg_list(length ? disk : NULL, length, NULL, 0, NULL, 0, text,
+                                       sizeof text, &answer);
+        WANT(status == RLIBREG_BAD_GEOMETRY && answer.text == strlen(line));
+        WANT(!memcmp(text, line, strlen(line)));
+        WANT(rlibreg_plan_format(disk, length, NULL, 0, text, sizeof text, &answer) == status);
+        WANT(rlibreg_plan_upgrade(disk, length, NULL, 0, NULL, 0, &answer) == status);
+        WANT(rlibreg_bind(disk, length, NULL, 0, 0, NULL, 0, NULL, 0, NULL, 0, &answer) == status);
+    }
+}
+
+int main(int argc, char **argv) {
+    WANT(argc == 5);
+    struct file library = read_file(argv[1]), other = read_file(argv[2]),
+                program = read_file(argv[3]);
+    const char *name = argv[4];
+    char names[600], said[600], missing[600];
+    size_t one = strlen(name) + 1;
+    struct call format = { 'f', NULL, 0 }, upgrade = { 'u', NULL, 0 },
+                install = { 'i', library.bytes, library.length },
+                replace = { 'r', other.bytes, other.length }, remove = { 'd', name, one - 1 },
+                preload = { 'p', name, one }, none = { 'p', NULL, 0 }, cut = { 'p', name, one - 1 },
+                short_file = { 'i', library.bytes, 63 };
+    snprintf(missing, sizeof missing, "refused B3 Missing /program %s\n", name);
+    memcpy(names, name, one);
+    memcpy(names + one, name, one);
+
+    try_lengths();
+    try_refusal(install, RLIBREG_NOT_FORMATTED, "refused S3 NotFormatted\n");
+    try_plan(format);
+    try_refusal(format, RLIBREG_ALREADY_FORMATTED, "refused S4 AlreadyFormatted\n");
+    try_listing(0, 0, 0, "", 0, "end\n");
+    try_bind_refusal(program, 0x10000, RLIBREG_MISSING, missing);
+    try_bind_refusal(program, 0x10001, RLIBREG_BAD_BASE, "refused B2 BadBase\n");
+    try_bind_refusal((struct file){ NULL, 0 }, 0, RLIBREG_BAD_PROGRAM, "refused B1 E1 TooShort\n");
+
+    try_refusal(short_file, RLIBREG_BAD_FILE, "refused C1 E1 TooShort\n");
+    try_refusal(replace, RLIBREG_NOT_INSTALLED, "refused C3 NotInstalled\n");
+    try_plan(install);
+    try_refusal(install, RLIBREG_ALREADY_INSTALLED, "refused C2 AlreadyInstalled\n");
+    snprintf(said, sizeof said, "library %s %zu\nend\n", name, library.length);
+    try_listing(1, 0, 1, names, one, said);
+    try_image(program);
+    try_bind_refusal(program, 0x7ffffffff000, RLIBREG_NO_PLACE, "refused B4 NoRoom\n");
+    try_plan(replace);
+    try_plan(preload);
+    snprintf(said, sizeof said, "library %s %zu\npreload %s\nend\n", name, other.length, name);
+    try_listing(1, 1, 3, names, 2 * one, said);
+    try_refusal(remove, RLIBREG_IN_PRELOADS, "refused C4 InPreloads\n");
+    try_refusal(cut, RLIBREG_BAD_ARGUMENT, "");
+    try_damaged(program, library);
+    try_plan(none);
+    try_plan(upgrade);
+    try_plan(remove);
+    try_listing(0, 0, 5, "", 0, "end\n");
+    try_refusal(remove, RLIBREG_NOT_INSTALLED, "refused C3 NotInstalled\n");
+    WANT(!strcmp(rlibreg_status_name(0), "done") && !strcmp(rlibreg_status_name(7), "unknown"));
+    free(library.bytes);
+    free(other.bytes);
+    free(program.bytes);
+    puts("calls: buffers of every size, damaged bytes, and refusals: as wanted");
+    return 0;
+}

@@ -1,0 +1,38 @@
+# Each change on small disks, cut at each step (cuts.c).
+
+# cut_change CHANGE [WORD]..: of the disk `disk`, which then gets the change.
+cut_change() {
+    ./cuts "$rlibreg" left disk "$data/program-1.so" "$@"
+    ./tool "$1" disk "${@:2}" > /dev/null
+}
+
+# Free sectors that hold anything, so that no old content is that of a new one.
+yes rlibreg 2> /dev/null | head -c $((24 * 512)) > disk || true
+./cuts "$rlibreg" left disk "$data/program-1.so" format
+./tool format disk 24 > /dev/null
+cut_change install "$data/strong.so"    # b, of one sector, which the program needs
+cut_change install "$data/long.so"      # a, of three sectors
+cut_change preload a b
+cut_change replace "$data/protected.so" # b
+cut_change replace "$data/longer.so"    # a, of four sectors
+cut_change preload b
+cut_change remove a
+cut_change preload
+cut_change remove b
+
+for old in one pair three; do
+    cp "$data/old-$old.disk" disk
+    chmod u+w disk
+    cut_change upgrade
+done
+
+# From 64 libraries on there are two catalogues.
+yes rlibreg 2> /dev/null | head -c $((160 * 512)) > disk || true
+./tool format disk 160 > /dev/null
+for number in {1..64}; do
+    LC_ALL=C sed "s/x000/$(printf x%03d "$number")/" "$data/numbered.so" > numbered.so
+    ./tool install disk numbered.so > /dev/null
+done
+cut_change install "$data/strong.so"
+cut_change replace "$data/protected.so"
+cut_change remove x001

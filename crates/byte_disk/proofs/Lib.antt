@@ -1,0 +1,5 @@
+mod Found
+mod Kept
+mod Latest
+pub mod Plans
+mod Whole

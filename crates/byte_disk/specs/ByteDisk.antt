@@ -1,0 +1,60 @@
+-- What is said of a disk of given bytes (own).
+use Rattle.std.specs.Prelude.{◌↔◌, ◌≤◌, ◌<◌, All, ◌+◌, ◌-◌, ℕ, List, [], ◌∷◌, length, take, true, nat_lt, if◌then◌else◌}
+use Rattle.sector_disk.specs.CallCount.{calls_made, calls_failed}
+use Rattle.sector_disk.specs.Disk.{Sector, DiskFacts, MixtureAt}
+use Rattle.sector_disk.specs.declared.call_count.CallCount.{CallCount}
+use Rattle.byte_disk.specs.declared.disk.ByteDisk.{ByteDisk}
+use Rattle.byte_disk.specs.declared.planned.PlannedStep.{PlannedStep}
+use Rattle.byte_disk.specs.declared.step.Step.{Step}
+use Rattle.byte_disk.specs.Plan.{carried_out, MayBeLeft, IsMixtureAfter, writes_in}
+use Rattle.byte_disk.specs.inside.Latest.{plan_in}
+
+-- the steps of its plan
+abbrev pub plan_of : ByteDisk → List Step
+plan_of disk = plan_in disk.planned.items
+
+-- the sectors that it was given
+abbrev pub given_to : ByteDisk → List Sector
+given_to disk = disk.start.now
+
+-- how many calls were made by the time that these steps were
+abbrev pub calls_for : List PlannedStep → ℕ
+calls_for [] = 0
+calls_for (p ∷ planned) = calls_made p.idle + 1 + calls_for planned
+
+-- how many of them failed: a call that makes a step succeeds
+abbrev pub failures_for : List PlannedStep → ℕ
+failures_for [] = 0
+failures_for (p ∷ planned) = calls_failed p.idle + failures_for planned
+
+-- how many of these steps are made at a moment, by so many calls
+abbrev pub steps_at : List PlannedStep → ℕ → ℕ
+steps_at [] u = 0
+steps_at (p ∷ planned) u = if nat_lt (calls_made p.idle) u then steps_at planned (u - (calls_made p.idle + 1)) + 1 else 0
+
+-- a disk that was given these sectors, with these steps, and these calls since
+abbrev pub facts_of : List Sector → List PlannedStep → CallCount → DiskFacts
+facts_of start planned idle = record {
+  honest = true;
+  sectors = length start;
+  time = calls_for planned + calls_made idle;
+  failures = failures_for planned + calls_failed idle;
+  now = carried_out start (plan_in planned);
+  may_leave = λ u k c. MayBeLeft start (take (steps_at planned u) (plan_in planned)) k c;
+}
+
+-- what is said of a disk of given bytes
+abbrev pub byte_facts : ByteDisk → DiskFacts
+byte_facts disk = facts_of disk.start.now disk.planned.items disk.idle
+
+-- a stop at this moment leaves exactly the mixtures after the first n steps of the plan
+abbrev pub LeavesAsAfter : ByteDisk → ℕ → ℕ → Type 0
+LeavesAsAfter disk u n = (m : List Sector) → MixtureAt (byte_facts disk) u m ↔ IsMixtureAfter (given_to disk) (take n (plan_of disk)) m
+
+-- What a plan is to its disk: carried out in its order, it leaves at each of its steps what the disk said of a moment, and
+-- no moment was without such a step.
+pub record IsPlanOf (disk : ByteDisk) : Type 0 where
+  pub prefixes : (n : ℕ) → n ≤ length (plan_of disk) → (u : ℕ) × (u ≤ (byte_facts disk).time) × LeavesAsAfter disk u n
+  pub moments : (u : ℕ) → u ≤ (byte_facts disk).time → (n : ℕ) × (n ≤ length (plan_of disk)) × LeavesAsAfter disk u n
+  -- no write leaves the disk
+  pub inside : All (λ write. write.0 < length (given_to disk)) (writes_in (plan_of disk))

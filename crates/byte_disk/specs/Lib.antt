@@ -1,0 +1,4 @@
+pub mod ByteDisk
+pub mod Bytes
+pub mod Plan
+pub mod inside

@@ -1,0 +1,197 @@
+// A disk of bytes that were given, and the plan that would bring them to where it is now.
+
+ghost use Rattle.std.specs.Prelude.{◌≡◌, ◌<◌, ◌^◌, ℕ, length, All, map, nat_eq};
+ghost use Rattle.std.specs.Prelude.{◌++◌, ◌∷◌, [], Some, OnOk, OnErr, vec_len, vec_capacity};
+ghost use Rattle.indexmap.specs.IndexMap.{get, Updates, IsUnchanged};
+ghost use Rattle.sector_disk.specs.CallCount.{calls_made, calls_failed};
+ghost use Rattle.sector_disk.specs.Disk.{IsWhole, sector};
+ghost use Rattle.byte_disk.specs.Plan.{carried_out, writes_in, IsWriteOn};
+ghost use Rattle.byte_disk.specs.inside.Latest.{content_by, plan_in};
+
+use crate::planned::PlannedStep;
+use crate::step::Step;
+use indexmap::IndexMap;
+use sector_disk::{CallCount, Disk, DiskFault, SECTOR_BYTES};
+use std::alloc::{AllocError, Global};
+use std::mem::replace;
+
+/// An honest disk whose sectors were given. It keeps its writes and syncs as steps, in their order:
+/// a plan. Its memory is that of the steps, so that reads alone take none. A read, a write and a
+/// sync take constant time.
+#[derive(Drop)]
+pub struct ByteDisk<'a> {
+    start: &'a [[u8; SECTOR_BYTES]],
+    planned: Vec<PlannedStep>,
+    // For each sector that was written, the place of the step that wrote it last.
+    latest: IndexMap<u32, usize>,
+    // The calls since the last step, which made none.
+    idle: CallCount,
+    ghost few: { length start.now < 2 ^ 32 },
+    ghost whole: { All IsWhole start.now },
+    ghost writes: { All (IsWriteOn (length start.now)) (writes_in (plan_in planned.items)) },
+    ghost is_latest: { (k : ℕ) → k < length start.now
+        → content_by start.now (plan_in planned.items) k (get nat_eq latest k)
+        ≡ sector (carried_out start.now (plan_in planned.items)) k },
+}
+
+impl<'a> ByteDisk<'a> {
+    ghost use Rattle.std.specs.Prelude.{◌↔◌, IsSome, IfSome};
+    ghost use Rattle.sector_disk.specs.Disk.{StartsWith};
+    ghost use Rattle.byte_disk.specs.Bytes.{IsDiskLength, sectors_in};
+    ghost use Rattle.byte_disk.specs.ByteDisk.{byte_facts, plan_of, given_to, IsPlanOf};
+
+    /// A disk of these bytes, where they are whole sectors, and fewer than 2^32. It takes no
+    /// memory.
+    pub fn over(alloc: Global, bytes: &'a [u8]) -> Option<ByteDisk<'a>>
+        ensures some { IsSome result ↔ IsDiskLength (length bytes.now) }
+        ensures starts { IfSome result (λ disk.
+            StartsWith (byte_facts disk) (sectors_in bytes.now)) }
+        ensures given { IfSome result (λ disk. given_to disk ≡ sectors_in bytes.now) }
+        ensures unplanned { IfSome result (λ disk. plan_of disk ≡ []) }
+    {
+        let (start, rest) = bytes.as_chunks::<SECTOR_BYTES>();
+        if rest.len() > 0 || start.len() > u32::MAX as usize {
+            return None;
+        }
+        Some(ByteDisk {
+            start,
+            planned: Vec::new(alloc),
+            latest: IndexMap::new(alloc),
+            idle: CallCount::new(),
+        })
+    }
+
+    /// The steps of the plan, in their order.
+    pub fn plan(&self) -> &[PlannedStep]
+        ensures steps { map (λ planned. planned.step) result.now ≡ plan_of self.now }
+        ensures plan { IsPlanOf self.now }
+
+        // Carried out, they make of the given sectors what reads give.
+        ensures now { (byte_facts self.now).now
+            ≡ carried_out (given_to self.now) (plan_of self.now) }
+    {
+        &self.planned
+    }
+
+    /// What was written to a sector last, or else what was given for it.
+    fn latest(&self, at: u32) -> &[u8; SECTOR_BYTES]
+        requires { at < (byte_facts self.now).sectors }
+        ensures { result.now ≡ sector (byte_facts self.now).now at }
+    {
+        match self.latest.get(&at) {
+            Some(place) => match &self.planned[*place].step {
+                Step::Write { at: _, content } => content,
+                Step::Sync => unreachable!(),
+            },
+            None => &self.start[at as usize],
+        }
+    }
+}
+
+/// Takes the memory for a step more, and for the place of a sector's latest content: that of the
+/// next step.
+fn make_room(
+    planned: &mut Vec<PlannedStep>,
+    latest: &mut IndexMap<u32, usize>,
+    at: u32,
+) -> Result<(), AllocError>
+    ensures same { planned.new.items ≡ planned.old.items }
+    ensures room { OnOk result (vec_len planned.new < vec_capacity planned.new) }
+    ensures ok { OnOk result (Updates nat_eq latest.old latest.new at
+        (Some (length planned.old.items))) }
+    ensures err { OnErr result (IsUnchanged latest.old latest.new) }
+{
+    planned.reserve(1)?;
+    latest.insert(at, planned.len())?;
+    Ok(())
+}
+
+/// Makes a step, for which there is memory: a call that succeeds.
+fn make_step(planned: &mut Vec<PlannedStep>, idle: &mut CallCount, step: Step)
+    requires room { vec_len planned.old < vec_capacity planned.old }
+    ensures made { planned.new.items
+        ≡ planned.old.items ++ (record { step = step; idle = idle.old }) ∷ [] }
+    ensures no_calls { calls_made idle.new ≡ 0 }
+    ensures no_failures { calls_failed idle.new ≡ 0 }
+{
+    let idle = replace(idle, CallCount::new());
+    planned.push(PlannedStep { step, idle }).unwrap();
+}
+
+impl<'a> Disk for ByteDisk<'a> {
+    ghost use Rattle.std.specs.Prelude.{IsTrue, IsOk};
+    ghost use Rattle.sector_disk.specs.Disk.{IsCall, IsRead, IsWrite, IsSync};
+    ghost use Rattle.sector_disk.specs.Disk.{IsUnchanged as LeavesAll};
+    ghost use Rattle.byte_disk.specs.ByteDisk.{byte_facts, plan_of};
+    ghost use Rattle.byte_disk.specs.inside.Laws.{byte_holds, byte_whole};
+
+    ghost facts = { byte_facts };
+
+    ghost holds_now = { λ disk honest. byte_holds disk };
+
+    ghost whole_sectors = { λ disk honest. byte_whole disk };
+
+    fn sectors(&self) -> u32 {
+        self.start.len() as u32
+    }
+
+    /// Never fails.
+    fn read(&mut self, at: u32, into: &mut [u8; SECTOR_BYTES]) -> Result<(), DiskFault>
+        requires { at < (byte_facts self.old).sectors }
+        ensures calls { IsCall (byte_facts self.old) (byte_facts self.new) result }
+        ensures honest { IsTrue (byte_facts self.old).honest
+            → IsRead (byte_facts self.old) (byte_facts self.new) at into.new result }
+        ensures ok { IsOk result }
+        ensures same { plan_of self.new ≡ plan_of self.old }
+    {
+        *into = *self.latest(at);
+        let reply = Ok(());
+        self.idle.end_call(&reply);
+        reply
+    }
+
+    /// Fails where it finds no memory, and then makes no step.
+    fn write(&mut self, at: u32, from: &[u8; SECTOR_BYTES]) -> Result<(), DiskFault>
+        requires { at < (byte_facts self.old).sectors }
+        ensures calls { IsCall (byte_facts self.old) (byte_facts self.new) result }
+        ensures honest { IsTrue (byte_facts self.old).honest
+            → IsWrite (byte_facts self.old) (byte_facts self.new) at from.now result }
+        ensures ok { OnOk result (plan_of self.new ≡ plan_of self.old ++ (Step.Write at from.now) ∷ []) }
+        ensures same { OnErr result (plan_of self.new ≡ plan_of self.old) }
+        ensures err { OnErr result (LeavesAll (byte_facts self.old) (byte_facts self.new)) }
+    {
+        match make_room(&mut self.planned, &mut self.latest, at) {
+            Ok(()) => {
+                let step = Step::Write { at, content: *from };
+                make_step(&mut self.planned, &mut self.idle, step);
+                Ok(())
+            }
+            Err(_) => {
+                let reply = Err(DiskFault::Failed);
+                self.idle.end_call(&reply);
+                reply
+            }
+        }
+    }
+
+    /// Fails where it finds no memory, and then makes no step.
+    fn sync(&mut self) -> Result<(), DiskFault>
+        ensures calls { IsCall (byte_facts self.old) (byte_facts self.new) result }
+        ensures honest { IsTrue (byte_facts self.old).honest
+            → IsSync (byte_facts self.old) (byte_facts self.new) result }
+        ensures ok { OnOk result (plan_of self.new ≡ plan_of self.old ++ Step.Sync ∷ []) }
+        ensures same { OnErr result (plan_of self.new ≡ plan_of self.old) }
+    {
+        match self.planned.reserve(1) {
+            Ok(()) => {
+                make_step(&mut self.planned, &mut self.idle, Step::Sync);
+                Ok(())
+            }
+            Err(_) => {
+                let reply = Err(DiskFault::Failed);
+                self.idle.end_call(&reply);
+                reply
+            }
+        }
+    }
+}

@@ -1,0 +1,125 @@
+-- From what a registry over given bytes is and does to what is said of the bytes and of the plan.
+use Rattle.std.proofs.Common.{◌≡◌, ◌⊎◌, inl, inr, ⊎_elim, ℕ, ◌<◌, ◌≤◌, List, [], length, take, All, IsTrue, IsFalse, true, false, refl, sym, ◌∙◌, ap, subst, arith}
+use Rattle.std.proofs.lemmas.Bool.{both_ways}
+use Rattle.sector_disk.specs.Disk.{Sector, DiskFacts, Mixture, MixtureAt, KeepsPast, LeavesOnly, StartsWith, IsSynced}
+use Rattle.sector_disk.proofs.Mixtures.{starts_synced}
+use Rattle.sector_disk.proofs.Moments.{goes_on, weaken}
+use Rattle.byte_disk.specs.declared.disk.ByteDisk.{ByteDisk}
+use Rattle.byte_disk.specs.declared.step.Step.{Step}
+use Rattle.byte_disk.specs.Bytes.{IsDiskLength, sectors_in}
+use Rattle.byte_disk.specs.ByteDisk.{byte_facts, given_to, plan_of}
+use Rattle.byte_disk.specs.Plan.{IsMixtureAfter, writes_in, SectorWrite}
+use Rattle.byte_disk.specs.inside.Laws.{byte_holds}
+use Rattle.byte_disk.proofs.Plans.{is_plan, same_given, plan_leaves, plan_ends}
+use Rattle.states.specs.State.{State}
+use Rattle.store.specs.Held.{lone_sectors}
+use Rattle.store.specs.Opened.{Opened}
+use Rattle.store.specs.Step.{longest_free}
+use Rattle.store.specs.declared.holding.Holding.{Holding}
+use Rattle.requests.specs.Phase.{Phase}
+use Rattle.requests.specs.Request.{Request}
+use Rattle.requests.specs.Step as registry
+use Rattle.requests.specs.Step.{accepted}
+use Rattle.requests.specs.declared.refusal.Refusal.TheVariants.{Device}
+use Rattle.requests.specs.declared.reply.Reply.{Reply}
+use Rattle.requests.specs.declared.reply.Reply.TheVariants.{Done, Refused}
+use Rattle.registry.specs.Applied.{Applied, Applies, MayLeaveWithin}
+use Rattle.registry.specs.Opened.{IsAt}
+use Rattle.registry.specs.Phase.{phase_of}
+use Rattle.registry.specs.Stands.{Stands}
+use Rattle.byte_registry.specs.Asked.{IsDiskOf, IsAsked}
+use Rattle.byte_registry.specs.Plans.{Holds, LeadsFrom, LeadsTo}
+use Rattle.byte_registry.specs.Replies.{phase_on, opened_on, IsReplyOn}
+
+-- What holds at every moment since a disk was made of bytes, and at the end, holds of its plan.
+pub leads_from : (bytes : List ℕ) (old new : ByteDisk) (Before After : List Sector → Type 0) → IsDiskOf bytes old → LeavesOnly (byte_facts old) (byte_facts new) (λ m. Before m ⊎ After m) → ((m : List Sector) → Mixture (byte_facts new) m → After m) → LeadsFrom (sectors_in bytes) Before After (plan_of new)
+leads_from bytes old new Before After is leaves found = record {
+  prefix = λ n le m mixture. plan_leaves old new (λ m. Before m ⊎ After m) is.starts.time leaves n le m (subst (λ start. IsMixtureAfter start (take n (plan_of new)) m) (sym is.given) mixture);
+  whole = λ m mixture. plan_ends old new After leaves.past found m (subst (λ start. IsMixtureAfter start (plan_of new) m) (sym is.given) mixture);
+  inside = subst (λ start. All (λ (write : SectorWrite). write.0 < length start) (writes_in (plan_of new))) (same_given old new leaves.past ∙ is.given) (is_plan new).inside;
+}
+
+-- what a disk of bytes may leave before any call is its sectors
+pub starts_with : (bytes : List ℕ) (disk : ByteDisk) → IsDiskOf bytes disk → (m : List Sector) → Mixture (byte_facts disk) m → m ≡ sectors_in bytes
+starts_with bytes disk is m mixture = (starts_synced (byte_holds disk) is.starts).each m mixture ∙ is.starts.now
+
+module _ (bytes : List ℕ) (old : ByteDisk) (is : IsDiskOf bytes old) (opened : Opened ByteDisk)
+    (quiet : LeavesOnly (byte_facts old) (byte_facts opened.disk) (Mixture (byte_facts old)))
+    (same_now : (byte_facts opened.disk).now ≡ (byte_facts old).now)
+    (found : (s : State) × Stands (byte_facts old).now s × IsAt byte_facts opened s × ((other : State) → Stands (byte_facts old).now other → other ≡ s))
+    (unheld : opened.held ≡ []) where
+  abbrev s : State
+  s = found.0
+
+  abbrev start : List Sector
+  start = sectors_in bytes
+
+  pub holds : Holds bytes s
+  holds = record { size = is.size; stands = subst (λ m. Stands m s) is.starts.now found.1 }
+
+  pub only : (other : State) → Holds bytes other → other ≡ s
+  only other held = found.3 other (subst (λ m. Stands m other) (sym is.starts.now) held.stands)
+
+  -- the phase of the opened registry, in terms of the sectors
+  same_sectors : (byte_facts opened.disk).sectors ≡ length start
+  same_sectors = quiet.past.sectors ∙ is.starts.sectors
+
+  abbrev phase_by : ℕ → List Holding → Phase
+  phase_by sectors held = record {
+    sectors = sectors;
+    lone = length (lone_sectors held);
+    longest = longest_free (let store : Opened (List Sector) = record { disk = start; root = opened.root; entries = opened.entries; held = held; failed = false } in store);
+    failures = (byte_facts opened.disk).failures;
+    failed = opened.failed;
+    state = s;
+  }
+
+  same_phase : phase_of byte_facts opened s ≡ phase_on start opened.root opened.entries (byte_facts opened.disk).failures s
+  same_phase =
+      ap (λ n. phase_by n opened.held) same_sectors
+      ∙ ap (λ held. phase_by (length start) held) unheld
+      ∙ ap (λ b. let p : Phase = record { sectors = length start; lone = 0; longest = longest_free (opened_on start opened.root opened.entries); failures = (byte_facts opened.disk).failures; failed = b; state = s } in p) found.2.stored.usable
+
+  module _ (request : Request) (reply : Reply) (new : Opened ByteDisk) (applies : Applies byte_facts opened new s request reply) where
+    abbrev s' : State
+    s' = applies.0
+
+    is_reply : IsReplyOn start s request reply
+    is_reply = record {
+      root = opened.root;
+      entries = opened.entries;
+      by = found.2.stored.stands start (subst (Mixture (byte_facts opened.disk)) (same_now ∙ is.starts.now) (byte_holds opened.disk));
+      failures = (byte_facts opened.disk).failures;
+      after = phase_of byte_facts new s';
+      step = subst (λ p. registry.Step p request reply (phase_of byte_facts new s')) same_phase applies.1.step;
+    }
+
+    module _ (is_done : reply ≡ Done) where
+      applied : Applied byte_facts opened new s s' request Done
+      applied = subst (λ r. Applied byte_facts opened new s s' request r) is_done applies.1
+
+      same_state : s' ≡ accepted s request
+      same_state = applied.step.3.state
+
+      may : (m : List Sector) → MayLeaveWithin (phase_of byte_facts opened s) request Done s' m → Stands m s ⊎ Stands m (accepted s request)
+      may m left = ⊎_elim (λ before. inl before) (λ later. ⊎_elim (λ after. inr (subst (Stands m) same_state after)) (λ flight. absurd (not_device flight.0)) later) left
+        where
+          not_device : Done ≡ Refused Device → ⊥
+          not_device e = cc
+
+      leaves : LeavesOnly (byte_facts old) (byte_facts new.disk) (λ m. Stands m s ⊎ Stands m (accepted s request))
+      leaves = goes_on (λ m. Stands m s ⊎ Stands m (accepted s request))
+          (weaken (Mixture (byte_facts old)) (λ m. Stands m s ⊎ Stands m (accepted s request)) (λ m mixture. inl (subst (λ m. Stands m s) (sym (starts_with bytes old is m mixture)) holds.stands)) quiet)
+          (weaken (MayLeaveWithin (phase_of byte_facts opened s) request Done s') (λ m. Stands m s ⊎ Stands m (accepted s request)) may applied.any_moment)
+
+      at_end : IsAt byte_facts new s'
+      at_end = ⊎_elim (λ at. at) (λ broken. absurd (both_ways new.failed (applied.step.3.failed ∙ applied.step.0) broken.0)) applied.kept
+
+      found_after : (m : List Sector) → Mixture (byte_facts new.disk) m → Stands m (accepted s request)
+      found_after m mixture = subst (Stands m) same_state (record { stored = (new.root, new.entries, at_end.stored.stands m mixture); libraries = at_end.libraries })
+
+      leads : LeadsTo start s (accepted s request) (plan_of new.disk)
+      leads = leads_from bytes old new.disk (λ m. Stands m s) (λ m. Stands m (accepted s request)) is leaves found_after
+
+    pub asked : (s : State) × IsAsked bytes s request reply (plan_of new.disk)
+    asked = (s, record { holds = holds; only = only; by_table = is_reply; leads = leads })

@@ -1,0 +1,38 @@
+-- How a registry that was just opened on given sectors may answer (own).
+use Rattle.std.specs.Prelude.{ℕ, List, length, [], false}
+use Rattle.sector_disk.specs.Disk.{Sector}
+use Rattle.roots.specs.declared.root.Root.{Root}
+use Rattle.roots.specs.declared.version.Version.TheVariants.{Two}
+use Rattle.states.specs.State.{State}
+use Rattle.store.specs.declared.placed_entry.PlacedEntry.{PlacedEntry}
+use Rattle.store.specs.Opened.{Opened}
+use Rattle.store.specs.Stands.{StandsBy}
+use Rattle.store.specs.Step.{longest_free}
+use Rattle.requests.specs.Phase.{Phase}
+use Rattle.requests.specs.Request.{Request}
+use Rattle.requests.specs.Step.{Step}
+use Rattle.requests.specs.declared.reply.Reply.{Reply}
+
+-- a registry that was just opened on these sectors, by this root and these entries: nobody holds anything
+abbrev pub opened_on : List Sector → Root → List PlacedEntry → Opened (List Sector)
+opened_on m root entries = record { disk = m; root = root; entries = entries; held = []; failed = false }
+
+-- where it stands, in the words of the step table, after so many failed calls
+abbrev pub phase_on : List Sector → Root → List PlacedEntry → ℕ → State → Phase
+phase_on m root entries failures s = record {
+  sectors = length m;
+  lone = 0;
+  longest = longest_free (opened_on m root entries);
+  failures = failures;
+  failed = false;
+  state = s;
+}
+
+-- By the step table a command may be answered so, where the sectors stand for the state.
+pub record IsReplyOn (m : List Sector) (s : State) (request : Request) (reply : Reply) : Type 0 where
+  pub root : Root
+  pub entries : List PlacedEntry
+  pub by : StandsBy Two m root entries s
+  pub failures : ℕ
+  pub after : Phase
+  pub step : Step (phase_on m root entries failures s) request reply after

@@ -1,0 +1,47 @@
+// A registry on given bytes, asked.
+ghost use Rattle.std.specs.Prelude.{IfOk, IfErr};
+ghost use Rattle.byte_disk.specs.ByteDisk.{plan_of};
+ghost use Rattle.states.specs.State.{State};
+ghost use Rattle.requests.specs.Request.{request_of};
+ghost use Rattle.byte_registry.specs.Asked.{IsDiskOf, IsBadLength, IsAsked, IsUnopened};
+
+use byte_disk::ByteDisk;
+use registry::Registry;
+use requests::{Command, Reply};
+use std::alloc::Global;
+use store::StoreRefusal;
+
+/// The disk of these bytes, where they are whole sectors.
+pub(crate) fn disk_of(alloc: Global, disk: &[u8]) -> Result<ByteDisk<'_>, StoreRefusal>
+    ensures ok { IfOk result (IsDiskOf disk.now) }
+    ensures err { IfErr result (IsBadLength disk.now) }
+{
+    match ByteDisk::over(alloc, disk) {
+        Some(disk) => Ok(disk),
+        None => Err(StoreRefusal::BadGeometry),
+    }
+}
+
+/// The reply of the registry on a disk to a command, and the disk then, or why there is none.
+pub fn ask<'a>(
+    alloc: Global,
+    disk: &'a [u8],
+    command: &Command<'_>,
+) -> Result<(Reply, ByteDisk<'a>), StoreRefusal>
+    ensures ok { IfOk result (λ asked. (s : State)
+        × IsAsked disk.now s (request_of command.now) asked.0 (plan_of asked.1)) }
+    ensures err { IfErr result (IsUnopened disk.now) }
+{
+    let disk = match disk_of(alloc, disk) {
+        Ok(disk) => disk,
+        Err(refusal) => return Err(refusal),
+    };
+    match Registry::open(alloc, disk) {
+        Ok(registry) => {
+            let mut registry = registry;
+            let reply = registry.apply(command);
+            Ok((reply, registry.into_disk()))
+        }
+        Err((refusal, _)) => Err(refusal),
+    }
+}

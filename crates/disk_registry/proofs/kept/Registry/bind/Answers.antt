@@ -1,7 +1,0 @@
-use Rattle.registry.specs.declared.reply.Reply.TheVariants.{Refused}
-use Rattle.disk_registry.proofs.Bindings.{applied}
-use Rattle.disk_registry.proofs.kept.Registry.bind.Goals as goal
-
-pub returns-in-Err-clause-applied : goal.returns-in-Err-clause-applied
-returns-in-Err-clause-applied g c s at =
-    applied g.D.Disk.facts c.args.self.now c.image.new.self s c.image.ensures.read at c.args.program.now c.args.base (Refused c.in-Err.refusal) (c.in-Err.ensures.step s at)

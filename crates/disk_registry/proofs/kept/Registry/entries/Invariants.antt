@@ -1,8 +1,0 @@
-use Rattle.std.proofs.Common.{◌≡◌, map, take}
-use Rattle.states.specs.State.{State}
-use Rattle.registry.specs.Table.{entry_of}
-use Rattle.disk_registry.specs.Opened.{IsAt}
-use Rattle.disk_registry.proofs.kept.Registry.entries.Given as goal
-
-abbrev pub invariant-loop-position : goal.invariant-loop-position
-invariant-loop-position g l = (s : State) → IsAt g.D.Disk.facts l.fn.self s → l.entries.items ≡ map entry_of (take l.position s.libraries)

@@ -1,5 +1,0 @@
-use Rattle.disk_registry.proofs.Openings.{either_empty}
-use Rattle.disk_registry.proofs.kept.Registry.format.Goals as goal
-
-pub returns-in-Ok-clause-any_moment : goal.returns-in-Ok-clause-any_moment
-returns-in-Ok-clause-any_moment g c honest = either_empty (c.in-Ok.ensures.any_moment honest)

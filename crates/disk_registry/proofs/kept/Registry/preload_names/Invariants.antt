@@ -1,8 +1,0 @@
-use Rattle.std.proofs.Common.{◌≡◌, take}
-use Rattle.store.specs.Stands.{names_at}
-use Rattle.states.specs.State.{State}
-use Rattle.disk_registry.specs.Opened.{IsAt}
-use Rattle.disk_registry.proofs.kept.Registry.preload_names.Given as goal
-
-abbrev pub invariant-loop-position : goal.invariant-loop-position
-invariant-loop-position g l = (s : State) → IsAt g.D.Disk.facts l.fn.self s → l.names.items ≡ names_at s.libraries (take l.position-index l.positions)

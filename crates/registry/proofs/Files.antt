@@ -1,0 +1,118 @@
+-- Files of a store that are admitted one after the other.
+use Rattle.std.proofs.Common.{◌≡◌, ◌<◌, ◌≤◌, ℕ, ◌+◌, List, length, get_or, take, sum_by, All, IsTrue, refl, sym, ap, subst, ◌∙◌, arith, ⊎_elim}
+use Rattle.std.proofs.lemmas.List.{get_or_default}
+use Rattle.std.proofs.lemmas.List.Sums.{sum_by_more}
+use Rattle.std.proofs.lemmas.Bool.{cases_lt}
+use Rattle.sector_disk.specs.Disk.{DiskFacts, Mixture, IsUnchanged, LeavesOnly, AreCallsExactly}
+use Rattle.sector_disk.proofs.Moments.{goes_on, weaken, left_now, at_rest, no_calls, more_calls, exactly_none, exactly_sum}
+use Rattle.store.specs.declared.placed_entry.PlacedEntry.{PlacedEntry}
+use Rattle.states.specs.State.{Library, State}
+use Rattle.store.specs.Stands.{no_library}
+use Rattle.roots.specs.declared.version.Version.{Version}
+use Rattle.store.specs.Opened.{Opened, IsAtBy}
+use Rattle.store.specs.declared.refusal.StoreRefusal.{StoreRefusal}
+use Rattle.store.specs.declared.refusal.StoreRefusal.TheVariants as refusal
+use Rattle.store.proofs.UsedAlone.{no_entry}
+use Rattle.requests.specs.Library.{IsLibrary}
+use Rattle.registry.specs.Stands.{file_sectors}
+use Rattle.registry.specs.inside.Reading.{IsReadBy, IsReadRefusal}
+
+-- The files before this position were read, each once, and are libraries.
+pub record AdmittedSoFar (version : Version) {D : Type 0} (facts : D → DiskFacts) (start now : Opened D) (position : ℕ) : Type 0 where
+  pub read : IsReadBy version facts start now
+  pub each : (s : State) → IsAtBy version facts start s → (k : ℕ) → k < position → IsLibrary (get_or s.libraries k no_library)
+  pub calls : AreCallsExactly (sum_by file_sectors (take position start.entries)) (facts start.disk) (facts now.disk)
+
+-- one that isn't a library
+pub one_refused : (s : State) (position : ℕ) → position < length s.libraries → (IsLibrary (get_or s.libraries position no_library) → ⊥) → All IsLibrary s.libraries → ⊥
+one_refused s position lt isnt all =
+    isnt (all position no_library lt)
+
+-- a library that has the name and the bytes of another
+pub same_library : (P : Library → Type 0) (name bytes : List ℕ) (l : Library) → name ≡ l.name → bytes ≡ l.bytes → P (record { name = name; bytes = bytes }) → P l
+same_library P name bytes l named is p =
+    let same : ◌≡◌ {A = Library} (record { name = name; bytes = bytes }) l = λ i. record { name = named i; bytes = is i } in
+    subst P same p
+
+module _ {version : Version} {D : Type 0} {facts : D → DiskFacts} where
+  pub read_none : (start : Opened D) → IsReadBy version facts start start
+  read_none start = record {
+    leaves = λ honest. at_rest (facts start.disk) (Mixture (facts start.disk)) (λ m mixture. mixture);
+    same = λ s at. at;
+    unchanged = λ honest. record { now = refl; stop = λ k c. (λ may. may, λ may. may) };
+    root = refl;
+    entries = refl;
+    held = refl;
+    failed = refl;
+    calls = no_calls (facts start.disk);
+  }
+
+  -- and then more
+  pub read_more : {start mid new : Opened D} → IsReadBy version facts start mid → IsReadBy version facts mid new → IsReadBy version facts start new
+  read_more {start = start} {mid = mid} first second = record {
+    leaves = λ is.
+        let so_far = first.leaves is in
+        goes_on (Mixture (facts start.disk)) so_far
+        (weaken (Mixture (facts mid.disk)) (Mixture (facts start.disk)) (left_now (Mixture (facts start.disk)) so_far) (second.leaves (subst IsTrue (sym first.calls.honest) is)));
+    same = λ s at. second.same s (first.same s at);
+    unchanged = λ is. still (first.unchanged is) (second.unchanged (subst IsTrue (sym first.calls.honest) is));
+    root = second.root ∙ first.root;
+    entries = second.entries ∙ first.entries;
+    held = second.held ∙ first.held;
+    failed = second.failed ∙ first.failed;
+    calls = more_calls first.calls second.calls;
+  }
+    where
+      still : {before between after : DiskFacts} → IsUnchanged before between → IsUnchanged between after → IsUnchanged before after
+      still one two = record {
+        now = two.now ∙ one.now;
+        stop = λ k c. (λ may. (one.stop k c).0 ((two.stop k c).0 may), λ may. (two.stop k c).1 ((one.stop k c).1 may));
+      }
+
+  -- what refuses more refuses the whole
+  pub refused_more : {start mid : Opened D} (new : Opened D) (e : StoreRefusal) → IsReadBy version facts start mid → IsReadRefusal facts mid new e → IsReadRefusal facts start new e
+  refused_more new refusal.Device first is = omega (arith, is, first.calls.failures)
+  refused_more new refusal.Reopen first is = subst IsTrue first.failed is
+  refused_more new refusal.Damaged first is = tt
+  refused_more new refusal.OutOfMemory first is = tt
+  refused_more new refusal.NotFormatted first is = is
+  refused_more new refusal.AlreadyFormatted first is = is
+  refused_more new refusal.BadGeometry first is = is
+  refused_more new refusal.Full first is = is
+  refused_more new refusal.Fragmented first is = is
+  refused_more new refusal.TooMany first is = is
+  refused_more new refusal.GenerationEnd first is = is
+  refused_more new refusal.OldFormat first is = is
+
+  pub none_admitted : (start : Opened D) → AdmittedSoFar version facts start start 0
+  none_admitted start = record {
+    read = read_none start;
+    each = λ s at k lt. absurd (omega (arith, lt));
+    calls = exactly_none (facts start.disk);
+  }
+
+  -- one file more
+  pub one_admitted : {start mid new : Opened D} {position : ℕ} → position < length start.entries → AdmittedSoFar version facts start mid position → IsReadBy version facts mid new
+      → ((s : State) → IsAtBy version facts mid s → IsLibrary (get_or s.libraries position no_library))
+      → ((d : PlacedEntry) → AreCallsExactly (file_sectors (get_or mid.entries position d)) (facts mid.disk) (facts new.disk))
+      → AdmittedSoFar version facts start new (position + 1)
+  one_admitted {start = start} {mid = mid} {position = position} lt so_far read library calls = record {
+    read = read_more so_far.read read;
+    each = λ s at k within. ⊎_elim
+        (λ below. so_far.each s at k below)
+        (λ le. let same : position ≡ k = omega (arith, le, within) in subst (λ i. IsLibrary (get_or s.libraries i no_library)) same (library s (so_far.read.same s at)))
+        (cases_lt k position);
+    calls = exactly_sum so_far.calls (calls no_entry)
+        (ap (λ entries. sum_by file_sectors (take position start.entries) + file_sectors (get_or entries position no_entry)) so_far.read.entries
+        ∙ sym (sum_by_more file_sectors start.entries position no_entry lt));
+  }
+
+  -- all of them
+  pub all_admitted : {start now : Opened D} {position : ℕ} → AdmittedSoFar version facts start now position → (s : State) → IsAtBy version facts start s → length s.libraries ≤ position → All IsLibrary s.libraries
+  all_admitted so_far s at le k d lt =
+      subst IsLibrary (get_or_default s.libraries k no_library d lt) (so_far.each s at k (omega (arith, lt, le)))
+
+  -- a reading behind calls that keep what a stop may leave
+  pub leaves_after : {start : DiskFacts} {old new : Opened D} → IsTrue start.honest → (facts old.disk).honest ≡ start.honest → LeavesOnly start (facts old.disk) (Mixture start) → IsReadBy version facts old new → LeavesOnly start (facts new.disk) (Mixture start)
+  leaves_after {start = start} {old = old} honest same so_far read =
+      goes_on (Mixture start) so_far (weaken (Mixture (facts old.disk)) (Mixture start) (left_now (Mixture start) so_far) (read.leaves (subst IsTrue (sym same) honest)))

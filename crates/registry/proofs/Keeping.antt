@@ -1,0 +1,41 @@
+-- What commands keep of held versions.
+use Rattle.std.proofs.Common.{List, [], ◌∷◌, IsTrue, refl, sym, subst, ◌∙◌}
+use Rattle.sector_disk.specs.Disk.{DiskFacts, Mixture, AreCalls}
+use Rattle.sector_disk.proofs.Moments.{left_now}
+use Rattle.store.specs.Holders.{KeepsHeld, KeepsHolders}
+use Rattle.store.specs.Opened.{Opened}
+use Rattle.store.proofs.Holders.{keeps_reads, keeps_same}
+use Rattle.requests.specs.Request.{Request}
+use Rattle.requests.specs.declared.reply.Reply.{Reply}
+use Rattle.registry.specs.Answered.{AreAnswered}
+use Rattle.registry.specs.inside.Reading.{IsRead}
+
+module _ {D : Type 0} (facts : D → DiskFacts) where
+  -- what does nothing keeps all that is held,
+  pub keeps_held_same : (s : Opened D) → KeepsHeld facts s s
+  keeps_held_same s = keeps_same facts {old = s} {view = s} refl
+
+  -- and so does what only reads,
+  pub keeps_held_read : (old new : Opened D) → IsRead facts old new → KeepsHeld facts old new
+  keeps_held_read old new read =
+      subst (KeepsHolders (facts old.disk) (facts new.disk) old.held) (sym read.held)
+      (keeps_reads old.held (λ honest. left_now (Mixture (facts old.disk)) (read.leaves honest)))
+
+  -- and then what keeps it again
+  pub keeps_held_more : (old mid new : Opened D) → AreCalls (facts old.disk) (facts mid.disk) → KeepsHeld facts old mid → KeepsHeld facts mid new → KeepsHeld facts old new
+  keeps_held_more old mid new calls first second = record {
+    holders = λ sector. second.holders sector ∙ first.holders sector;
+    bytes = λ honest sector library is. second.bytes (subst IsTrue (sym calls.honest) honest) sector library (first.bytes honest sector library is);
+    versions = λ sector placed. (
+      λ by. (second.versions sector placed).0 ((first.versions sector placed).0 by),
+      λ by. (first.versions sector placed).1 ((second.versions sector placed).1 by),
+    );
+    none = λ none. second.none (first.none none);
+  }
+
+  -- Commands that are answered one after the other keep it from the first to the last.
+  pub keeps_held_answered : (old new : Opened D) (qs : List Request) (rs : List Reply) → AreAnswered facts old new qs rs → KeepsHeld facts old new
+  keeps_held_answered old new [] [] same = keeps_same facts same
+  keeps_held_answered old new (q ∷ qs) (r ∷ rs) (mid, first, rest) = keeps_held_more old mid new first.calls first.held (keeps_held_answered mid new qs rs rest)
+  keeps_held_answered old new [] (r ∷ rs) so_far = absurd so_far
+  keeps_held_answered old new (q ∷ qs) [] so_far = absurd so_far

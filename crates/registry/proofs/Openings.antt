@@ -1,0 +1,139 @@
+-- What an opening finds, and where it stands for no state of a registry.
+use Rattle.std.proofs.Common.{◌≡◌, ◌≢◌, ◌<◌, ◌⊎◌, inl, inr, ⊎_elim, List, length, All, IsFalse, Result, Ok, Err, IfOk, refl, sym, subst, ◌∙◌}
+use Rattle.std.specs.Prelude.{IfErr, MatchResult}
+use Rattle.std.proofs.lemmas.List.Elements.{All-nil}
+use Rattle.std.proofs.lemmas.Bool.{false≢true}
+use Rattle.sector_disk.specs.Disk.{Sector, DiskFacts, Mixture, LeavesOnly}
+use Rattle.sector_disk.proofs.Moments.{goes_on, left_now, weaken}
+use Rattle.roots.specs.declared.version.Version.{Version}
+use Rattle.roots.specs.declared.version.Version.TheVariants.{One, Two}
+use Rattle.store.specs.Stands as sectors
+use Rattle.store.specs.Opened as opened
+use Rattle.store.specs.Opening.{HasRootMagic, HasCurrentRoot, RefusesOpen, RefusesLook}
+use Rattle.states.specs.Geometry.{IsGeometry}
+use Rattle.store.specs.declared.refusal.StoreRefusal.{StoreRefusal}
+use Rattle.store.specs.declared.refusal.StoreRefusal.TheVariants as refusal
+use Rattle.store.proofs.StandsLemmas as sectors_lemmas
+use Rattle.store.proofs.Openings.{current_magic, of_version}
+use Rattle.requests.specs.Library.{IsLibrary}
+use Rattle.states.specs.State.{State, empty_state}
+use Rattle.registry.specs.Stands.{Stands, StandsOld, StandsEither}
+use Rattle.registry.specs.inside.Reading.{IsReadRefusal}
+
+-- an empty store is an empty registry
+pub either_empty : {old new : DiskFacts} → LeavesOnly old new (λ m. Mixture old m ⊎ sectors.Stands m empty_state) → LeavesOnly old new (λ m. Mixture old m ⊎ Stands m empty_state)
+either_empty {old = old} leaves = weaken (λ m. Mixture old m ⊎ sectors.Stands m empty_state) (λ m. Mixture old m ⊎ Stands m empty_state)
+    (λ m. ⊎_elim (λ mixture. inl mixture) (λ stands. inr (record { stored = stands; libraries = All-nil IsLibrary }))) leaves
+
+-- what leaves nothing new, and then what leaves nothing new
+pub leaves_then : {old mid new : DiskFacts} → LeavesOnly old mid (Mixture old) → LeavesOnly mid new (Mixture mid) → LeavesOnly old new (Mixture old)
+leaves_then {old = old} {mid = mid} first second = goes_on (Mixture old) first (weaken (Mixture mid) (Mixture old) (left_now (Mixture old) first) second)
+
+-- two facts of a result make one
+pub ok_both : {A B : Type 0} (P Q R : A → Type 0) (result : Result A B) → ((a : A) → P a → Q a → R a) → IfOk result P → IfOk result Q → IfOk result R
+ok_both P Q R (Ok a) make p q = make a p q
+ok_both P Q R (Err e) make p q = tt
+
+pub err_both : {A B : Type 0} (P Q R : B → Type 0) (result : Result A B) → ((e : B) → P e → Q e → R e) → IfErr result P → IfErr result Q → IfErr result R
+err_both P Q R (Ok a) make p q = tt
+err_both P Q R (Err e) make p q = make e p q
+
+-- what is said of the disk that is handed back is said of it at each refusal
+pub of_refused : {D : Type 0} (P : D → Type 0) (result : Result (opened.Opened D) (StoreRefusal × D)) → P (opened.disk_after result) → IfErr result (λ e. e.0 ≢ refusal.Device → P e.1)
+of_refused P (Ok store) holds = tt
+of_refused P (Err e) holds = λ other. holds
+
+-- what is said of both results is said of the result
+pub either_result : {A B : Type 0} (P : A → Type 0) (Q : B → Type 0) (result : Result A B) → IfOk result P → IfErr result Q → MatchResult result P Q
+either_result P Q (Ok a) ok err = ok
+either_result P Q (Err e) ok err = err
+
+module _ {D : Type 0} (facts : D → DiskFacts) (old new : opened.Opened D) where
+  pub read_refuses : (e : StoreRefusal) → IsReadRefusal facts old new e → IsFalse old.failed → (e ≡ refusal.Device) ⊎ (e ≡ refusal.Damaged) ⊎ (e ≡ refusal.OutOfMemory)
+  read_refuses refusal.Device is usable = inl refl
+  read_refuses refusal.Damaged is usable = inr (inl refl)
+  read_refuses refusal.OutOfMemory is usable = inr (inr refl)
+  read_refuses refusal.Reopen is usable = absurd (false≢true (sym usable ∙ is))
+  read_refuses refusal.NotFormatted is usable = absurd is
+  read_refuses refusal.AlreadyFormatted is usable = absurd is
+  read_refuses refusal.BadGeometry is usable = absurd is
+  read_refuses refusal.Full is usable = absurd is
+  read_refuses refusal.Fragmented is usable = absurd is
+  read_refuses refusal.TooMany is usable = absurd is
+  read_refuses refusal.GenerationEnd is usable = absurd is
+  read_refuses refusal.OldFormat is usable = absurd is
+
+  -- and where the device failed it did so now
+  pub device_rose : (e : StoreRefusal) → IsReadRefusal facts old new e → e ≡ refusal.Device → (facts old.disk).failures < (facts new.disk).failures
+  device_rose e is same = subst (IsReadRefusal facts old new) same is
+
+-- a library for each file of a state leaves the device and memory to refuse
+pub libraries_refuse : (e : StoreRefusal) → (e ≡ refusal.Device) ⊎ (e ≡ refusal.Damaged) ⊎ (e ≡ refusal.OutOfMemory) → (e ≡ refusal.Damaged → ⊥) → (e ≡ refusal.Device) ⊎ (e ≡ refusal.OutOfMemory)
+libraries_refuse e which intact = ⊎_elim (λ is. inl is) (λ rest. ⊎_elim (λ is. absurd (intact is)) (λ is. inr is) rest) which
+
+-- Sectors with a file that is no library stand for no state of a registry, by either rules.
+module _ (m : List Sector) (version : Version) (t : State) (stands : sectors.StandsAs version m t) (none : All IsLibrary t.libraries → ⊥) where
+  pub no_state : (other : Version) (s : State) → sectors.StandsAs other m s → All IsLibrary s.libraries → ⊥
+  no_state other s is libraries = none (subst (λ x. All IsLibrary x.libraries) (sectors_lemmas.one_state m other version s t is stands) libraries)
+
+  pub no_current : (s : State) → Stands m s → ⊥
+  no_current s is = no_state Two s is.stored is.libraries
+
+  pub no_old : (s : State) → StandsOld m s → ⊥
+  no_old s is = no_state One s is.stored is.libraries
+
+  pub no_either : (s : State) → StandsEither m s → ⊥
+  no_either s = ⊎_elim (no_current s) (no_old s)
+
+module _ (m : List Sector) (version : Version) (t : State) (stands : sectors.StandsAs version m t) where
+  has_magic : HasRootMagic m
+  has_magic = current_magic m stands.0 stands.2.intact.current
+
+  has_root : HasCurrentRoot m
+  has_root = (stands.0, stands.2.intact.current, stands.2.intact.size)
+
+  -- what a look refuses after the store was seen
+  pub refuses_seen : (e : StoreRefusal) → (e ≡ refusal.Device) ⊎ (e ≡ refusal.Damaged) ⊎ (e ≡ refusal.OutOfMemory) → IsGeometry (length m) → (e ≡ refusal.Damaged → All IsLibrary t.libraries → ⊥) → RefusesLook StandsEither m e
+  refuses_seen e which geometry damaged = record {
+    may = ⊎_elim (λ is. rw is geometry) (λ rest. ⊎_elim (λ is. rw is geometry) (λ is. rw is geometry) rest) which;
+    unformatted = λ is. ⊎_elim (λ a. absurd (cc (a, is))) (λ rest. ⊎_elim (λ a. absurd (cc (a, is))) (λ a. absurd (cc (a, is))) rest) which;
+    formatted = λ is. has_magic;
+    damaged = λ is. no_either m version t stands (damaged is);
+    memory = λ is. has_root;
+  }
+
+-- what is refused after the store was opened
+pub refuses_files : (m : List Sector) (t : State) (e : StoreRefusal) → sectors.Stands m t → (e ≡ refusal.Device) ⊎ (e ≡ refusal.Damaged) ⊎ (e ≡ refusal.OutOfMemory) → IsGeometry (length m) → (e ≡ refusal.Damaged → All IsLibrary t.libraries → ⊥) → RefusesOpen Stands m e
+refuses_files m t e stands which geometry damaged =
+    let look : RefusesLook StandsEither m e = refuses_seen m Two t stands e which geometry damaged in
+    record {
+      may = ⊎_elim (λ is. rw is geometry) (λ rest. ⊎_elim (λ is. rw is geometry) (λ is. rw is geometry) rest) which;
+      unformatted = look.unformatted;
+      formatted = look.formatted;
+      damaged = λ is s here. look.damaged is s (inl here);
+      memory = look.memory;
+      old = λ is. ⊎_elim (λ a. absurd (cc (a, is))) (λ rest. ⊎_elim (λ a. absurd (cc (a, is))) (λ a. absurd (cc (a, is))) rest) which;
+      only_old = λ fits old. absurd (of_version m stands.0 stands.2.intact.current stands.2.of_version old);
+    }
+
+-- what opening the store refuses
+pub refuses_store : (m : List Sector) (e : StoreRefusal) → RefusesOpen sectors.Stands m e → RefusesOpen Stands m e
+refuses_store m e is = record {
+  may = is.may;
+  unformatted = is.unformatted;
+  formatted = is.formatted;
+  damaged = λ same s stands. is.damaged same s stands.stored;
+  memory = is.memory;
+  old = is.old;
+  only_old = is.only_old;
+}
+
+-- and what a look refuses
+pub refuses_look : (m : List Sector) (e : StoreRefusal) → RefusesLook sectors.StandsEither m e → RefusesLook StandsEither m e
+refuses_look m e is = record {
+  may = is.may;
+  unformatted = is.unformatted;
+  formatted = is.formatted;
+  damaged = λ same s either. is.damaged same s (⊎_elim (λ stands. inl stands.stored) (λ stands. inr stands.stored) either);
+  memory = is.memory;
+}

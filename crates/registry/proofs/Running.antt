@@ -1,0 +1,417 @@
+-- Runs of commands over a disk.
+use Rattle.std.proofs.Common.{◌≡◌, ◌⊎◌, inl, inr, ⊎_elim, ℕ, suc, ◌+◌, ◌<◌, ◌≤◌, List, [], ◌∷◌, ◌++◌, length, take, map, Some, None, IsTrue, refl, sym, ap, subst, ◌∙◌, arith}
+use Rattle.std.proofs.lemmas.Bool.{cases_lt}
+use Rattle.std.proofs.lemmas.List.{length-append, map-append, take_all}
+use Rattle.std.proofs.lemmas.List.Sums.{fold-append}
+use Rattle.std.proofs.lemmas.Option.{none-some, same_Some, slice_get_within}
+use Rattle.sector_disk.specs.Disk.{Sector, DiskFacts, MixtureAt, Mixture, KeepsPast, LeavesOnly, AreCallsExactly}
+use Rattle.sector_disk.proofs.Moments.{keeps_past, past_mixture, left_now}
+use Rattle.store.specs.Opened.{Opened}
+use Rattle.states.specs.State.{State}
+use Rattle.requests.specs.Request.{Request, install, replace, remove, set_preloads, bind, list}
+use Rattle.requests.specs.Phase.{Phase}
+use Rattle.requests.specs.Runs.{after}
+use Rattle.requests.specs.Step.{Step, accepted, LeavesFailed}
+use Rattle.requests.specs.declared.refusal.Refusal.TheVariants.{Device, Reopen}
+use Rattle.requests.specs.declared.reply.Reply.{Reply}
+use Rattle.requests.specs.declared.reply.Reply.TheVariants.{Done, Refused}
+use Rattle.requests.proofs.Runs.{last_more}
+use Rattle.registry.specs.Acknowledged.{Exchange, commanded, acknowledged, state_after, FailedAt, IsAcknowledgedAt}
+use Rattle.registry.specs.Stands.{Stands}
+use Rattle.registry.specs.Opened.{IsAt}
+use Rattle.registry.specs.Phase.{phase_of}
+use Rattle.registry.specs.Answered.{Answered}
+use Rattle.registry.specs.Applied.{Applied, Applies, MayLeaveWithin, InFlight}
+use Rattle.registry.specs.Calls.{IfAccepted, calls_of}
+use Rattle.registry.specs.Ran.{Point, point, disk_at, AppliesAt, IdlesAt, Moves, LeadsThrough, HoldsAcknowledged, HasBegun, LeavesAccepted, Ran, RunsThrough, FindsAccepted}
+use Rattle.registry.proofs.RanSoFar.{LeavesPrefix, RanSoFar, RunsVia}
+use Rattle.registry.proofs.Acknowledging.{get_before, get_last, get_more, after_before, after_last, after_all_steps, leads_length, leads_more, states_after, time_after, get_take, cut_unacknowledged}
+use Rattle.registry.proofs.States.{mixture_stands}
+
+-- what a failed call of a change had in flight broke the registry; a failed read had nothing in flight
+broke : (p : Phase) (q : Request) (p' : Phase) (m : List Sector) → LeavesFailed p q p' → Stands m (accepted p.state q) → IsTrue p'.failed ⊎ Stands m p.state
+broke p (bind program base) p' m leaves stands = inr stands
+broke p list p' m leaves stands = absurd leaves
+broke p (install bytes) p' m leaves stands = inl leaves.failed
+broke p (replace bytes) p' m leaves stands = inl leaves.failed
+broke p (remove name) p' m leaves stands = inl leaves.failed
+broke p (set_preloads names) p' m leaves stands = inl leaves.failed
+
+module _ {D : Type 0} (facts : D → DiskFacts) where
+  -- what was in flight broke the registry, or is the state before
+  flight_broke : (old new : Opened D) (s s' : State) (q : Request) (r : Reply) (m : List Sector) → Applied facts old new s s' q r → InFlight (phase_of facts old s) q r m → IsTrue new.failed ⊎ Stands m s
+  flight_broke old new s s' q r m applied flight =
+      broke (phase_of facts old s) q (phase_of facts new s') m (subst (λ y. Step (phase_of facts old s) q y (phase_of facts new s')) flight.0 applied.step).1 flight.2
+
+  -- what is found after a command: the state after it, or the change that broke the registry
+  found_after : (old new : Opened D) (s s' : State) (q : Request) (r : Reply) (m : List Sector) → Applied facts old new s s' q r → Mixture (facts new.disk) m
+      → Stands m s' ⊎ (IsTrue new.failed × (r ≡ Refused Device) × Stands m (accepted s q) × (s' ≡ s))
+  found_after old new s s' q r m applied mixture = ⊎_elim
+      (λ at. inl (mixture_stands facts new s' at m mixture))
+      (λ failed. ⊎_elim
+      (λ before. inl (subst (Stands m) (sym failed.1) before))
+      (λ others. ⊎_elim inl (λ flight. inr (failed.0, flight.0, flight.2, failed.1)) others)
+      (left_now (MayLeaveWithin (phase_of facts old s) q r s') applied.any_moment m mixture))
+      applied.kept
+
+  module _ (start : Point D) (mid : Opened D) (s : State) (xs : List Exchange) (ts : List (Point D)) (so_far : RanSoFar facts start xs ts (point mid s)) where
+    lengths : length ts ≡ length xs
+    lengths = leads_length facts start xs ts so_far.steps
+
+    module _ (x : Exchange) (u : Point D) where
+      abbrev xs' : List Exchange
+      xs' = xs ++ x ∷ []
+
+      abbrev ts' : List (Point D)
+      ts' = ts ++ u ∷ []
+
+      -- where the new one is an acknowledged command it ends later
+      abbrev EndsLater : ℕ → Type 0
+      EndsLater moment = (q : Request) → x ≡ Some (q, Done) → moment < (disk_at facts u).time
+
+      longer : length xs' ≡ length xs + 1
+      longer = length-append xs (x ∷ [])
+
+      before_is : (k : ℕ) → k ≤ length xs → after start ts' k ≡ after start ts k
+      before_is k le = after_before start ts u k (omega (arith, le, lengths))
+
+      mid_is : after start ts' (length xs) ≡ point mid s
+      mid_is = before_is (length xs) (omega arith) ∙ after_all_steps start ts (length xs) (omega (arith, lengths)) ∙ sym so_far.last
+
+      u_is : after start ts' (length xs + 1) ≡ u
+      u_is = after_last start ts u (length xs + 1) (omega (arith, lengths))
+
+      cut_before : (k : ℕ) (request : Request) → FailedAt xs k request → FailedAt xs' k request
+      cut_before k request cut = get_before xs x k (slice_get_within xs k (Some (request, Refused Device)) cut) ∙ cut
+
+      -- a prefix that held all that was acknowledged goes on to hold it, where the new command isn't acknowledged yet
+      holds_before : (k moment : ℕ) → EndsLater moment → HoldsAcknowledged facts start xs ts k moment → HoldsAcknowledged facts start xs' ts' k moment
+      holds_before k moment later holds i le is = ⊎_elim
+          (λ lt.
+          let done : IsAcknowledgedAt xs i = (is.0, sym (get_before xs x i lt) ∙ is.1) in
+          subst (λ (y : Point D). moment < (disk_at facts y).time) (sym (before_is (i + 1) (omega (arith, lt)))) (holds i le done))
+          (λ ge.
+          let done : x ≡ Some (is.0, Done) = get_more xs x (Some (is.0, Done)) i ge is.1 in
+          subst (λ (y : Point D). moment < (disk_at facts y).time) (sym (after_last start ts u (i + 1) (omega (arith, ge, lengths)))) (later is.0 done))
+          (cases_lt i (length xs))
+
+      -- all so far hold all that was acknowledged
+      holds_rest : (moment : ℕ) → EndsLater moment → HoldsAcknowledged facts start xs' ts' (length xs) moment
+      holds_rest moment later i le is =
+          subst (λ (y : Point D). moment < (disk_at facts y).time) (sym (after_last start ts u (i + 1) (omega (arith, le, lengths)))) (later is.0 (get_more xs x (Some (is.0, Done)) i le is.1))
+
+      -- what had begun before had begun
+      begun_before : (k moment : ℕ) → k ≤ length xs → HasBegun facts start xs ts k moment → HasBegun facts start xs' ts' k moment
+      begun_before k moment le begun i is = subst (λ (y : Point D). (disk_at facts y).time ≤ moment) (sym (before_is i (omega (arith, le, is)))) (begun i is)
+
+      -- all so far have begun
+      begun_rest : (moment : ℕ) → (facts mid.disk).time ≤ moment → HasBegun facts start xs' ts' (length xs) moment
+      begun_rest moment since i is =
+          let ended : (disk_at facts (after start ts i)).time ≤ (facts mid.disk).time = subst (λ (y : Point D). (disk_at facts (after start ts i)).time ≤ (disk_at facts y).time) (sym so_far.last) (time_after facts i start xs ts so_far.steps) in
+          let le : (disk_at facts (after start ts i)).time ≤ moment = omega (arith, ended, since) in
+          subst (λ (y : Point D). (disk_at facts y).time ≤ moment) (sym (before_is i (omega (arith, is)))) le
+
+      -- and so has the new one
+      begun_new : (moment : ℕ) → (facts mid.disk).time ≤ moment → HasBegun facts start xs' ts' (length xs + 1) moment
+      begun_new moment since i is =
+          let same : length xs ≡ i = omega (arith, is) in
+          subst (λ (n : ℕ). (disk_at facts (after start ts' n)).time ≤ moment) same (subst (λ (y : Point D). (disk_at facts y).time ≤ moment) (sym mid_is) since)
+
+      holds_all : (moment : ℕ) → HoldsAcknowledged facts start xs' ts' (length xs + 1) moment
+      holds_all moment i le is = absurd (let lt : i < length xs' = slice_get_within xs' i (Some (is.0, Done)) is.1 in omega (arith, lt, le, longer))
+
+      -- what was left before
+      leaves_before : (moment : ℕ) (m : List Sector) → EndsLater moment → LeavesPrefix facts start xs ts moment m → LeavesPrefix facts start xs' ts' moment m
+      leaves_before moment m later (k, le, holds, either) = (
+        k,
+        omega (arith, le, longer),
+        holds_before k moment later holds,
+        ⊎_elim
+            (λ stands. inl (begun_before k moment le stands.0, subst (λ (y : Point D). Stands m y.state) (sym (before_is k le)) stands.1))
+            (λ both.
+            let done = both.1 in
+            let lt : k < length xs = slice_get_within xs k (Some (done.0, Refused Device)) done.1 in
+            inr (
+              begun_before (k + 1) moment (omega (arith, lt)) both.0,
+              (
+                done.0,
+                cut_before k done.0 done.1,
+                subst (λ (y : Point D). IsTrue y.registry.failed) (sym (before_is (k + 1) (omega (arith, lt)))) done.2,
+                subst (λ (y : Point D). Stands m (accepted y.state done.0)) (sym (before_is k le)) done.3,
+              ),
+            ))
+            either,
+      )
+
+      -- the state before the new one
+      leaves_mid : (moment : ℕ) (m : List Sector) → (facts mid.disk).time ≤ moment → EndsLater moment → Stands m s → LeavesPrefix facts start xs' ts' moment m
+      leaves_mid moment m since later stands = (length xs, omega (arith, longer), holds_rest moment later, inl (begun_rest moment since, subst (λ (y : Point D). Stands m y.state) (sym mid_is) stands))
+
+      -- the state after it
+      leaves_new : (moment : ℕ) (m : List Sector) → (facts mid.disk).time ≤ moment → Stands m u.state → LeavesPrefix facts start xs' ts' moment m
+      leaves_new moment m since stands = (length xs + 1, omega (arith, longer), holds_all moment, inl (begun_new moment since, subst (λ (y : Point D). Stands m y.state) (sym u_is) stands))
+
+      steps_on : Moves facts (point mid s) x u → LeadsThrough facts start xs' ts'
+      steps_on moves = leads_more facts start u x xs ts so_far.steps (subst (λ (y : Point D). Moves facts y x u) so_far.last moves)
+
+    module _ (q : Request) where
+      module _ (r : Reply) (u : Point D) where
+        cut_last : r ≡ Refused Device → FailedAt (xs' (Some (q, r)) u) (length xs) q
+        cut_last is = get_last xs (Some (q, r)) ∙ ap (λ y. Some (Some (q, y))) is
+
+        -- what the new command had in flight
+        leaves_flight : (moment : ℕ) (m : List Sector) → (facts mid.disk).time ≤ moment → r ≡ Refused Device → IsTrue u.registry.failed → Stands m (accepted s q)
+            → LeavesPrefix facts start (xs ++ Some (q, r) ∷ []) (ts ++ u ∷ []) moment m
+        leaves_flight moment m since is failed stands = (
+          length xs,
+          omega (arith, longer (Some (q, r)) u),
+          holds_rest (Some (q, r)) u moment (λ p done. absurd (let no : Refused Device ≡ Done = sym is ∙ ap (λ e. e.1) (same_Some (q, r) (p, Done) done) in cc)),
+          inr (
+            begun_new (Some (q, r)) u moment since,
+            (
+              q,
+              cut_last is,
+              subst (λ (y : Point D). IsTrue y.registry.failed) (sym (u_is (Some (q, r)) u)) failed,
+              subst (λ (y : Point D). Stands m (accepted y.state q)) (sym (mid_is (Some (q, r)) u)) stands,
+            ),
+          ),
+        )
+
+      -- one command more
+      pub ran_more : (new : Opened D) (s' : State) (r : Reply) → Answered facts mid new q r → AppliesAt facts (point mid s) q r (point new s')
+          → RanSoFar facts start (xs ++ Some (q, r) ∷ []) (ts ++ point new s' ∷ []) (point new s')
+      ran_more new s' r answered applies = record {
+        steps = steps;
+        last = sym (last_more start u ts);
+        states = λ k. states_after facts k start (xs ++ x ∷ []) (ts ++ u ∷ []) steps;
+        past = keeps_past so_far.past applies.applied.any_moment.past;
+        any_moment = any_moment;
+        kept = ⊎_elim inl (λ failed. inr failed.0) applies.applied.kept;
+        found = λ m mixture. ⊎_elim inl
+            (λ flight. inr (flight.0, length xs, q, cut_last r u flight.1, subst (λ y. Stands m (accepted y q)) (sym flight.3) flight.2))
+            (found_after mid new s s' q r m applies.applied mixture);
+      }
+        where
+          u : Point D
+          u = point new s'
+
+          x : Exchange
+          x = Some (q, r)
+
+          applied : Applied facts mid new s s' q r
+          applied = applies.applied
+
+          steps : LeadsThrough facts start (xs ++ x ∷ []) (ts ++ u ∷ [])
+          steps = steps_on x u (record { answered = answered; applied = inl applies })
+
+          within : (moment : ℕ) (m : List Sector) → (facts mid.disk).time ≤ moment → moment < (facts new.disk).time → MayLeaveWithin (phase_of facts mid s) q r s' m → LeavesPrefix facts start (xs ++ x ∷ []) (ts ++ u ∷ []) moment m
+          within moment m since earlier may = ⊎_elim (leaves_mid x u moment m since (λ p done. earlier))
+              (λ others. ⊎_elim (leaves_new x u moment m since)
+              (λ flight. ⊎_elim
+              (λ failed. leaves_flight r u moment m since flight.0 failed flight.2)
+              (leaves_mid x u moment m since (λ p done. earlier))
+              (flight_broke mid new s s' q r m applied flight)) others)
+              may
+
+          any_moment : (moment : ℕ) (m : List Sector) → (disk_at facts start).time ≤ moment → moment ≤ (facts new.disk).time → MixtureAt (facts new.disk) moment m
+              → LeavesPrefix facts start (xs ++ x ∷ []) (ts ++ u ∷ []) moment m
+          any_moment moment m since until mixture = ⊎_elim
+              (λ earlier. ⊎_elim
+              (λ later. within moment m (omega (arith, later)) earlier (applied.any_moment.each m (moment, omega (arith, later), until, mixture)))
+              (λ le. leaves_before x u moment m (λ p done. earlier) (so_far.any_moment moment m since le (past_mixture applied.any_moment.past moment le m mixture)))
+              (cases_lt (facts mid.disk).time moment))
+              (λ ended.
+              let same : moment ≡ (facts new.disk).time = omega (arith, ended, until) in
+              let begun : (facts mid.disk).time ≤ moment = omega (arith, ended, applied.any_moment.past.later) in
+              ⊎_elim (leaves_new x u moment m begun) (λ flight. leaves_flight r u moment m begun flight.1 flight.0 flight.2)
+              (found_after mid new s s' q r m applied (subst (λ t. MixtureAt (facts new.disk) t m) same mixture)))
+              (cases_lt moment (facts new.disk).time)
+
+      -- a command after a write or a sync failed
+      pub ran_reopened : Answered facts mid mid q (Refused Reopen) → IsTrue mid.failed → RanSoFar facts start (xs ++ Some (q, Refused Reopen) ∷ []) (ts ++ point mid s ∷ []) (point mid s)
+      ran_reopened answered failed = record {
+        steps = steps;
+        last = sym (last_more start u ts);
+        states = λ k. states_after facts k start (xs ++ x ∷ []) (ts ++ u ∷ []) steps;
+        past = so_far.past;
+        any_moment = λ moment m since until mixture. leaves_before x u moment m (λ p done. absurd (let no : Refused Reopen ≡ Done = ap (λ e. e.1) (same_Some (q, Refused Reopen) (p, Done) done) in cc)) (so_far.any_moment moment m since until mixture);
+        kept = inr failed;
+        found = λ m mixture. ⊎_elim inl (λ flight. inr (flight.0, flight.1, flight.2, cut_before x u flight.1 flight.2 flight.3, flight.4)) (so_far.found m mixture);
+      }
+        where
+          u : Point D
+          u = point mid s
+
+          x : Exchange
+          x = Some (q, Refused Reopen)
+
+          steps : LeadsThrough facts start (xs ++ x ∷ []) (ts ++ u ∷ [])
+          steps = steps_on x u (record { answered = answered; applied = inr (failed, refl) })
+
+    -- what asks for no change isn't an acknowledged command
+    no_command : {P : Type 0} (e : Request × Reply) → None ≡ Some e → P
+    no_command e is = absurd (none-some e is)
+
+    -- something that asks for no change, where the registry stays at its state
+    pub ran_idle : (new : Opened D) → IdlesAt facts (point mid s) (point new s) → RanSoFar facts start (xs ++ None ∷ []) (ts ++ point new s ∷ []) (point new s)
+    ran_idle new idles = record {
+      steps = steps;
+      last = sym (last_more start u ts);
+      states = λ k. states_after facts k start (xs ++ None ∷ []) (ts ++ u ∷ []) steps;
+      past = keeps_past so_far.past idles.any_moment.past;
+      any_moment = any_moment;
+      kept = inl idles.after;
+      found = λ m mixture. inl (mixture_stands facts new s idles.after m mixture);
+    }
+      where
+        u : Point D
+        u = point new s
+
+        steps : LeadsThrough facts start (xs ++ None ∷ []) (ts ++ u ∷ [])
+        steps = steps_on None u (record { same = refl; stays = inl idles })
+
+        any_moment : (moment : ℕ) (m : List Sector) → (disk_at facts start).time ≤ moment → moment ≤ (facts new.disk).time → MixtureAt (facts new.disk) moment m
+            → LeavesPrefix facts start (xs ++ None ∷ []) (ts ++ u ∷ []) moment m
+        any_moment moment m since until mixture = ⊎_elim
+            (λ later. leaves_mid None u moment m (omega (arith, later)) (λ q is. no_command (q, Done) is)
+            (mixture_stands facts mid s idles.before m (idles.any_moment.each m (moment, omega (arith, later), until, mixture))))
+            (λ le. leaves_before None u moment m (λ q is. no_command (q, Done) is) (so_far.any_moment moment m since le (past_mixture idles.any_moment.past moment le m mixture)))
+            (cases_lt (facts mid.disk).time moment)
+
+    -- the same after a write or a sync failed
+    pub ran_idle_failed : (new : Opened D) → IsTrue mid.failed → IsTrue new.failed → new.disk ≡ mid.disk → RanSoFar facts start (xs ++ None ∷ []) (ts ++ point new s ∷ []) (point new s)
+    ran_idle_failed new was failed same = record {
+      steps = steps;
+      last = sym (last_more start u ts);
+      states = λ k. states_after facts k start (xs ++ None ∷ []) (ts ++ u ∷ []) steps;
+      past = subst (λ (d : D). KeepsPast (disk_at facts start) (facts d)) (sym same) so_far.past;
+      any_moment = λ moment m since until mixture. leaves_before None u moment m (λ q is. no_command (q, Done) is)
+          (so_far.any_moment moment m since (subst (λ (d : D). moment ≤ (facts d).time) same until) (subst (λ (d : D). MixtureAt (facts d) moment m) same mixture));
+      kept = inr failed;
+      found = λ m mixture. ⊎_elim inl (λ flight. inr (failed, flight.1, flight.2, cut_before None u flight.1 flight.2 flight.3, flight.4))
+          (so_far.found m (subst (λ (d : D). Mixture (facts d) m) same mixture));
+    }
+      where
+        u : Point D
+        u = point new s
+
+        steps : LeadsThrough facts start (xs ++ None ∷ []) (ts ++ u ∷ [])
+        steps = steps_on None u (record { same = refl; stays = inr (was, failed, same) })
+
+  -- nothing was asked yet
+  pub ran_none : (old : Opened D) (s : State) → IsAt facts old s → RanSoFar facts (point old s) [] [] (point old s)
+  ran_none old s at = record {
+    steps = tt;
+    last = refl;
+    states = λ k. states_after facts k (point old s) [] [] tt;
+    past = record { sectors = refl; later = omega arith; past = λ u k c le. (λ x. x, λ x. x) };
+    any_moment = λ moment m since until mixture.
+        let same : moment ≡ (facts old.disk).time = omega (arith, since, until) in
+        (0, omega arith, (λ i le is. absurd (let lt : i < 0 = slice_get_within [] i (Some (is.0, Done)) is.1 in omega (arith, lt))), inl ((λ i is. absurd (let no : i + 1 ≡ 0 = is in omega (arith, no))), mixture_stands facts old s at m (subst (λ t. MixtureAt (facts old.disk) t m) same mixture)));
+    kept = inl at;
+    found = λ m mixture. inl (mixture_stands facts old s at m mixture);
+  }
+
+  pub runs_none : (old : Opened D) (s : State) → IsAt facts old s → RunsVia facts old [] old s []
+  runs_none old s at = (s, [], refl, ran_none old s at)
+
+  module _ (old mid new : Opened D) (s : State) (xs : List Exchange) (registries : List (Opened D)) (so_far : RunsVia facts old registries mid s xs) where
+    -- the registries on the way, with the new one behind them
+    via : (t : State) (ts : List (Point D)) → map (λ (p : Point D). p.registry) ts ≡ registries → map (λ (p : Point D). p.registry) (ts ++ point new t ∷ []) ≡ registries ++ new ∷ []
+    via t ts same = map-append (λ (p : Point D). p.registry) ts (point new t ∷ []) ∙ ap (λ l. l ++ new ∷ []) same
+
+    -- one command more, whatever has failed
+    pub runs_turn : (q : Request) (r : Reply)
+        → ((t : State) → IsAt facts mid t → Applies facts mid new t q r)
+        → ((t : State) → IsAt facts mid t → IfAccepted r (AreCallsExactly (calls_of t q) (facts mid.disk) (facts new.disk))) → Answered facts mid new q r → RunsVia facts old (registries ++ new ∷ []) new s (xs ++ Some (q, r) ∷ [])
+    runs_turn q r applies calls answered =
+        let t = so_far.0 in
+        let ts = so_far.1 in ⊎_elim
+        (λ at. let applied = applies t at in (applied.0, ts ++ point new applied.0 ∷ [], via applied.0 ts so_far.2, ran_more (point old s) mid t xs ts so_far.3 q new applied.0 r answered (record { at = at; applied = applied.1; calls = calls t at })))
+        (λ failed.
+        let reopen : r ≡ Refused Reopen = answered.reopen.1 failed in
+        let same : new ≡ mid = answered.failed failed in
+        let nothing : Answered facts mid mid q (Refused Reopen) = subst (λ (y : Reply). Answered facts mid mid q y) reopen (subst (λ (k : Opened D). Answered facts mid k q r) same answered) in
+        let ran : RanSoFar facts (point old s) (xs ++ Some (q, Refused Reopen) ∷ []) (ts ++ point mid t ∷ []) (point mid t) = ran_reopened (point old s) mid t xs ts so_far.3 q nothing failed in (
+          t,
+          ts ++ point new t ∷ [],
+          via t ts so_far.2,
+          subst (λ (k : Opened D). RanSoFar facts (point old s) (xs ++ Some (q, r) ∷ []) (ts ++ point k t ∷ []) (point k t)) (sym same)
+              (subst (λ (y : Reply). RanSoFar facts (point old s) (xs ++ Some (q, y) ∷ []) (ts ++ point mid t ∷ []) (point mid t)) (sym reopen) ran),
+        ))
+        so_far.3.kept
+
+    -- something more that asks for no change
+    pub runs_idle : ((t : State) → IsAt facts mid t → IsAt facts new t)
+        → (IsTrue (facts mid.disk).honest → LeavesOnly (facts mid.disk) (facts new.disk) (Mixture (facts mid.disk)))
+        → (IsTrue mid.failed → IsTrue new.failed × (new.disk ≡ mid.disk)) → RunsVia facts old (registries ++ new ∷ []) new s (xs ++ None ∷ [])
+    runs_idle same any_moment failed =
+        let t = so_far.0 in
+        let ts = so_far.1 in ⊎_elim
+        (λ at. (t, ts ++ point new t ∷ [], via t ts so_far.2, ran_idle (point old s) mid t xs ts so_far.3 new (record { before = at; after = same t at; any_moment = any_moment at.stored.honest })))
+        (λ was. (t, ts ++ point new t ∷ [], via t ts so_far.2, ran_idle_failed (point old s) mid t xs ts so_far.3 new was (failed was).0 (failed was).1))
+        so_far.3.kept
+
+  module _ (start end : Point D) (xs : List Exchange) (ts : List (Point D)) (ran_so_far : RanSoFar facts start xs ts end) where
+    -- the last state is the one after the acknowledged commands
+    ends_acknowledged : end.state ≡ state_after start.state (acknowledged xs)
+    ends_acknowledged =
+        let same = leads_length facts start xs ts ran_so_far.steps in
+        ap (λ (y : Point D). y.state) (ran_so_far.last ∙ sym (after_all_steps start ts (length xs) (omega (arith, same))))
+        ∙ ran_so_far.states (length xs)
+        ∙ ap (λ l. state_after start.state (acknowledged l)) (take_all (length xs) xs (omega arith))
+
+    -- What is found at the end is the state after the accepted commands: the acknowledged ones, and perhaps the one that a failing write or sync cut off.
+    found_accepted : FindsAccepted facts end.registry start.state xs
+    found_accepted m mixture = ⊎_elim
+        (λ stands. (acknowledged xs, inl refl, subst (Stands m) ends_acknowledged stands))
+        (λ flight. (
+          acknowledged xs ++ flight.2 ∷ [],
+          inr (flight.1, flight.2, flight.3, refl),
+          subst (Stands m) (ap (λ y. accepted y flight.2) ends_acknowledged ∙ sym (fold-append accepted start.state (acknowledged xs) (flight.2 ∷ []))) flight.4,
+        ))
+        (ran_so_far.found m mixture)
+
+    -- What a stop leaves at a moment is the state after the accepted ones of the first k, which hold every command acknowledged by then.
+    left_accepted : (moment : ℕ) (m : List Sector) → LeavesPrefix facts start xs ts moment m → LeavesAccepted facts start xs ts moment m
+    left_accepted moment m (k, le, holds, either) = ⊎_elim
+        (λ stands. (k, le, stands.0, holds, acknowledged (take k xs), inl refl, subst (Stands m) (ran_so_far.states k) stands.1))
+        (λ both.
+        let done = both.1 in
+        let q = done.0 in
+        let cut = done.1 in
+        let lt : k < length xs = slice_get_within xs k (Some (q, Refused Device)) cut in
+        let same : acknowledged (take (suc k) xs) ≡ acknowledged (take k xs) = cut_unacknowledged xs k q cut in (
+          suc k,
+          omega (arith, lt),
+          (λ i is. both.0 i (omega (arith, is))),
+          (λ i le' is. holds i (omega (arith, le')) is),
+          acknowledged (take (suc k) xs) ++ q ∷ [],
+          inr (k, q, get_take xs k ∙ cut, refl),
+          subst (Stands m)
+              (ap (λ y. accepted y q) (ran_so_far.states k ∙ ap (state_after start.state) (sym same)) ∙ sym (fold-append accepted start.state (acknowledged (take (suc k) xs)) (q ∷ [])))
+              done.3,
+        ))
+        either
+
+    -- a run that is at its end
+    pub ran : Ran facts start xs ts end
+    ran = record {
+      steps = ran_so_far.steps;
+      last = ran_so_far.last;
+      states = ran_so_far.states;
+      kept = ran_so_far.kept;
+      past = ran_so_far.past;
+      any_moment = λ moment m since until mixture. left_accepted moment m (ran_so_far.any_moment moment m since until mixture);
+      found = found_accepted;
+    }
+
+  pub runs_through : (old new : Opened D) (s : State) (xs : List Exchange) (registries : List (Opened D)) → RunsVia facts old registries new s xs → RunsThrough facts old registries new s xs
+  runs_through old new s xs registries (t, ts, same, so_far) = (t, ts, same, ran (point old s) (point new t) xs ts so_far)
+
+-- one command more, with its reply
+pub commanded_more : (qs : List Request) (rs : List Reply) (q : Request) (r : Reply) → length qs ≡ length rs → commanded (qs ++ q ∷ []) (rs ++ r ∷ []) ≡ commanded qs rs ++ Some (q, r) ∷ []
+commanded_more [] [] q r same = refl
+commanded_more (x ∷ qs) (y ∷ rs) q r same = ap (λ l. Some (x, y) ∷ l) (commanded_more qs rs q r (omega (arith, same)))
+commanded_more [] (y ∷ rs) q r same = absurd (omega (arith, same))
+commanded_more (x ∷ qs) [] q r same = absurd (omega (arith, same))

@@ -1,0 +1,107 @@
+-- What a walk finds its files in, as files are read.
+use Rattle.std.proofs.Common.{◌≡◌, ℕ, ◌+◌, List, [], ◌∷◌, ◌++◌, length, sum_by, get_or, IsTrue, Result, Ok, Err, refl, sym, ap, subst, ◌∙◌, arith}
+use Rattle.std.specs.Prelude.{IfOk, OnOk}
+use Rattle.std.specs.Global.{Vec}
+use Rattle.std.proofs.lemmas.List.Sums.{sum_by-append, sum_by-cons}
+use Rattle.sector_disk.specs.Disk.{DiskFacts, HoldsNow, AreCallsExactly}
+use Rattle.sector_disk.proofs.Moments.{exactly_none, exactly_sum}
+use Rattle.roots.specs.Root.{listed_preloads}
+use Rattle.roots.specs.declared.root.Root.{Root}
+use Rattle.states.specs.State.{Library, State}
+use Rattle.store.specs.declared.holding.Holding.{Holding}
+use Rattle.store.specs.declared.placed_entry.PlacedEntry.{PlacedEntry}
+use Rattle.store.specs.Holders.{HeldIs}
+use Rattle.store.specs.Opened.{Opened}
+use Rattle.store.specs.Stands.{HaveOwnNames, name_of, no_library}
+use Rattle.snapshots.specs.Snapshot.{IsTakenOf, AreHeldAs}
+use Rattle.registry.specs.Binding.{data_sectors}
+use Rattle.registry.specs.declared.needs.Needs.{Needs}
+use Rattle.registry.specs.declared.source.Source.{Source}
+use Rattle.registry.specs.declared.source.Source.TheVariants.{Current, Held}
+use Rattle.registry.specs.inside.Reading.{IsRead}
+use Rattle.registry.specs.inside.Source.{HasEntries, HasFiles, Offers, offered, offered_preloads}
+use Rattle.registry.specs.inside.Walked.{IsWalked}
+use Rattle.registry.proofs.Files.{read_more, read_none}
+use Rattle.registry.proofs.Keeping.{keeps_held_read}
+
+-- it offers as many files as it has entries
+pub offered_count : {D : Type 0} (source : Source) (store : Opened D) (entries : List PlacedEntry) → HasEntries source store entries → offered source store ≡ length entries
+offered_count Current store entries has = ap length has
+offered_count (Held snapshot) store entries has = has.held.count
+
+module _ {D : Type 0} (facts : D → DiskFacts) where
+  -- a store as it is offers what it has
+  pub offers_current : (store : Opened D) → HaveOwnNames store.entries → Offers facts Current store store
+  offers_current store own = record { entries = refl; own = own; preloads = refl; files = λ s at. at }
+
+  module _ (old new : Opened D) (read : IsRead facts old new) where
+    -- Reading keeps its files,
+    pub files_read : (source : Source) (s : State) → HasFiles facts source old s → HasFiles facts source new s
+    files_read Current s has = read.same s has
+    files_read (Held snapshot) s has =
+        let held : AreHeldAs facts new snapshot.now.handles s.libraries = record {
+          count = has.1.count;
+          each = λ i lt. (keeps_held_read facts old new read).bytes has.0 (get_or snapshot.now.handles i 0) (get_or s.libraries i no_library) (has.1.each i lt);
+        } in
+        (subst IsTrue (sym read.calls.honest) has.0, held)
+
+    -- its entries,
+    pub entries_read : (source : Source) (entries : List PlacedEntry) → HasEntries source old entries → HasEntries source new entries
+    entries_read Current entries has = read.entries ∙ has
+    entries_read (Held snapshot) entries has = subst (λ (held : List Holding). IsTakenOf held snapshot.now entries) (sym read.held) has
+
+    -- its preloads,
+    pub preloads_read : (source : Source) → offered_preloads source new ≡ offered_preloads source old
+    preloads_read Current = ap (λ (r : Root). listed_preloads r) read.root
+    preloads_read (Held snapshot) = refl
+
+    -- how many there are,
+    pub count_read : (source : Source) → offered source new ≡ offered source old
+    count_read Current = ap length read.entries
+    count_read (Held snapshot) = refl
+
+    -- and so all that it offers
+    pub offers_read : (source : Source) (taken : Opened D) → Offers facts source taken old → Offers facts source taken new
+    offers_read source taken offers = record {
+      entries = entries_read source taken.entries offers.entries;
+      own = offers.own;
+      preloads = preloads_read source ∙ offers.preloads;
+      files = λ s at. files_read source s (offers.files s at);
+    }
+
+-- in every mixture a held version has the name of what it is
+pub held_named : {D : Type 0} (facts : D → DiskFacts) (store : Opened D) → (IsTrue (facts store.disk).honest → HoldsNow (facts store.disk)) → IsTrue (facts store.disk).honest
+    → (sector : ℕ) (library : Library) (is : HeldIs facts store sector library) → name_of is.placed.entry ≡ library.name
+held_named facts store holds honest sector library is = ap (λ (l : Library). l.name) (is.stands (facts store.disk).now (holds honest))
+
+-- How far a bind's walk through the files of a store has come.
+pub record HasCome {D : Type 0} (facts : D → DiskFacts) (program : List ℕ) (start now : Opened D) (needs : Needs) (files : List Library) : Type 0 where
+  pub walked : IsWalked facts program start needs files
+  pub own : HaveOwnNames start.entries
+  pub read : IsRead facts start now
+  pub calls : AreCallsExactly (sum_by (λ file. data_sectors file.bytes) files) (facts start.disk) (facts now.disk)
+
+module _ {D : Type 0} (facts : D → DiskFacts) {program : List ℕ} {start : Opened D} where
+  pub come_none : {needs : Needs} → HaveOwnNames start.entries → IsWalked facts program start needs [] → HasCome facts program start start needs []
+  come_none own walked = record { walked = walked; own = own; read = read_none start; calls = exactly_none (facts start.disk) }
+
+  pub come_offers : {now : Opened D} {needs : Needs} {files : List Library} → HasCome facts program start now needs files → Offers facts Current start now
+  come_offers {now = now} come = offers_read facts start now come.read Current start (offers_current facts start come.own)
+
+  pub come_more : {now new : Opened D} {needs more : Needs} {files : List Library} → HasCome facts program start now needs files → IsRead facts now new
+      → (file : Library) → IsWalked facts program start more (files ++ file ∷ []) → AreCallsExactly (data_sectors file.bytes) (facts now.disk) (facts new.disk)
+      → HasCome facts program start new more (files ++ file ∷ [])
+  come_more {files = files} come read file walked calls = record {
+    walked = walked;
+    own = come.own;
+    read = read_more come.read read;
+    calls = exactly_sum come.calls calls (sym (sum_by-append (λ (l : Library). data_sectors l.bytes) files (file ∷ []) ∙ one-sum));
+  }
+    where
+      one-sum : sum_by (λ l. data_sectors l.bytes) files + sum_by (λ l. data_sectors l.bytes) (file ∷ []) ≡ sum_by (λ l. data_sectors l.bytes) files + data_sectors file.bytes
+      one-sum = ap (λ k. sum_by (λ (l : Library). data_sectors l.bytes) files + k) (let e : sum_by (λ (l : Library). data_sectors l.bytes) (file ∷ []) ≡ data_sectors file.bytes = omega (arith, sum_by-cons (λ (l : Library). data_sectors l.bytes) file []) in e)
+
+-- what is said of a length that is known
+pub sized : {E : Type 0} (P : ℕ → Type 0) (n : ℕ) (result : Result (Vec ℕ) E) → IfOk result (λ bytes. length bytes.items ≡ n) → OnOk result (P n) → IfOk result (λ bytes. P (length bytes.items))
+sized P n (Ok bytes) size said = subst P (sym size) said
+sized P n (Err e) size said = tt

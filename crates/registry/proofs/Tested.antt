@@ -1,0 +1,72 @@
+-- The tests of a command by what each of them found.
+use Rattle.std.proofs.Common.{◌≡◌, ℕ, ◌==◌, Bool, true, false, cond, List, [], ◌∷◌, length, Option, Some, None, refl, ap, ◌∙◌}
+use Rattle.std.specs.Prelude.{not, nat_lt}
+use Rattle.std.specs.List.{list_any}
+use Rattle.std.specs.Option.{option_map}
+use Rattle.elf_file.specs.FirstOf.{◌when◌, first_of}
+use Rattle.store.specs.Step.{refusal_of_change}
+use Rattle.store.specs.declared.refusal.StoreRefusal.{StoreRefusal}
+use Rattle.store.specs.declared.refusal.StoreRefusal.TheVariants as e
+use Rattle.states.specs.Limits.{most_preloads, last_generation}
+use Rattle.states.specs.State.{State, has_name}
+use Rattle.requests.specs.Phase.{Phase, table_of}
+use Rattle.requests.specs.Request.{remove, set_preloads}
+use Rattle.requests.specs.Step.{refusal_at}
+use Rattle.requests.specs.Tests.{is_installed, is_last, has_repeat}
+use Rattle.requests.specs.declared.refusal.Refusal.{Refusal}
+use Rattle.requests.specs.declared.refusal.Refusal.TheVariants.{NotInstalled, InPreloads, RepeatedPreload, TooManyPreloads, GenerationEnd}
+use Rattle.registry.specs.Refusals.{refusal_of}
+
+-- the last of several tests
+last_test : {R : Type 0} (refusal : R) (test : Bool) → first_of ((refusal when test) ∷ []) ≡ (refusal when test)
+last_test refusal true = refl
+last_test refusal false = refl
+
+module _ (p : Phase) (name : List ℕ) where
+  abbrev remove_by : Bool → Bool → Option Refusal
+  remove_by installed preload = first_of ((NotInstalled when not installed) ∷ (InPreloads when preload) ∷ (GenerationEnd when is_last (table_of p)) ∷ [])
+
+  pub remove_absent : is_installed (table_of p) name ≡ false → refusal_at p (remove name) ≡ Some NotInstalled
+  remove_absent absent = ap (λ b. remove_by b (has_name p.state.preloads name)) absent
+
+  pub remove_preload : is_installed (table_of p) name ≡ true → has_name p.state.preloads name ≡ true → refusal_at p (remove name) ≡ Some InPreloads
+  remove_preload installed preload = (λ i. remove_by (installed i) (preload i))
+
+  pub remove_tested : is_installed (table_of p) name ≡ true → has_name p.state.preloads name ≡ false → refusal_at p (remove name) ≡ (GenerationEnd when is_last (table_of p))
+  remove_tested installed free = (λ i. remove_by (installed i) (free i)) ∙ last_test GenerationEnd (is_last (table_of p))
+
+module _ (p : Phase) (names : List (List ℕ)) where
+  abbrev preloads_by : Bool → Bool → Bool → Option Refusal
+  preloads_by many repeat lacking = first_of ((TooManyPreloads when many) ∷ (RepeatedPreload when repeat) ∷ (NotInstalled when lacking) ∷ (GenerationEnd when is_last (table_of p)) ∷ [])
+
+  abbrev lacks : Bool
+  lacks = list_any (λ name. not (is_installed (table_of p) name)) names
+
+  pub preloads_many : nat_lt most_preloads (length names) ≡ true → refusal_at p (set_preloads names) ≡ Some TooManyPreloads
+  preloads_many many = ap (λ b. preloads_by b (has_repeat names) lacks) many
+
+  pub preloads_repeat : nat_lt most_preloads (length names) ≡ false → has_repeat names ≡ true → refusal_at p (set_preloads names) ≡ Some RepeatedPreload
+  preloads_repeat few repeat = (λ i. preloads_by (few i) (repeat i) lacks)
+
+  pub preloads_lacking : nat_lt most_preloads (length names) ≡ false → has_repeat names ≡ false → list_any (λ name. not (is_installed (table_of p) name)) names ≡ true → refusal_at p (set_preloads names) ≡ Some NotInstalled
+  preloads_lacking few once lacking = (λ i. preloads_by (few i) (once i) (lacking i))
+
+  pub preloads_tested : nat_lt most_preloads (length names) ≡ false → has_repeat names ≡ false → list_any (λ name. not (is_installed (table_of p) name)) names ≡ false
+      → refusal_at p (set_preloads names) ≡ (GenerationEnd when is_last (table_of p))
+  preloads_tested few once there = (λ i. preloads_by (few i) (once i) (there i)) ∙ last_test GenerationEnd (is_last (table_of p))
+
+-- the test of the generation, in the store's words
+pub last_change : (p : Phase) → (GenerationEnd when is_last (table_of p)) ≡ option_map refusal_of (refusal_of_change p.state)
+last_change p = by (p.state.generation == last_generation)
+  where
+    by : (b : Bool) → (GenerationEnd when b) ≡ option_map refusal_of (cond b (Some e.GenerationEnd) None)
+    by true = refl
+    by false = refl
+
+-- it is no failure of a device
+pub change_deviceless : (s : State) → refusal_of_change s ≡ Some e.Device → ⊥
+change_deviceless s = by (s.generation == last_generation)
+  where
+    by : (b : Bool) → ◌≡◌ {A = Option StoreRefusal} (cond b (Some e.GenerationEnd) None) (Some e.Device) → ⊥
+    by true is = absurd cc
+    by false is = absurd cc

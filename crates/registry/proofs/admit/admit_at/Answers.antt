@@ -1,0 +1,55 @@
+use Rattle.std.proofs.Common.{sym, ◌∙◌}
+use Rattle.std.proofs.lemmas.Result.{err_from_is_err_and}
+use Rattle.store.proofs.UsedAlone.{no_entry}
+use Rattle.store.specs.Stands.{no_library}
+use Rattle.std.specs.Prelude.{slice_index_or}
+use Rattle.requests.specs.Library.{IsLibrary}
+use Rattle.registry.proofs.Files.{same_library}
+use Rattle.registry.proofs.admit.admit_at.Goals as goal
+
+pub returns-in_err-bytes-clause-read : goal.returns-in_err-bytes-clause-read
+returns-in_err-bytes-clause-read g c = record {
+  leaves = c.read_blob.ensures.any_moment;
+  same = c.read_blob.ensures.same;
+  unchanged = c.read_blob.ensures.unchanged;
+  root = c.read_blob.ensures.kept.0;
+  entries = c.read_blob.ensures.kept.1;
+  held = c.read_blob.ensures.table;
+  failed = c.read_blob.ensures.kept.2;
+  calls = (c.read_blob.ensures.calls no_entry).some;
+}
+
+pub returns-clause-read : goal.returns-clause-read
+returns-clause-read g c = record {
+  leaves = c.read_blob.ensures.any_moment;
+  same = c.read_blob.ensures.same;
+  unchanged = c.read_blob.ensures.unchanged;
+  root = c.read_blob.ensures.kept.0;
+  entries = c.read_blob.ensures.kept.1;
+  held = c.read_blob.ensures.table;
+  failed = c.read_blob.ensures.kept.2;
+  calls = (c.read_blob.ensures.calls no_entry).some;
+}
+
+pub returns-in_err-admit_file-clause-read : goal.returns-in_err-admit_file-clause-read
+returns-in_err-admit_file-clause-read g c = record {
+  leaves = c.read_blob.ensures.any_moment;
+  same = c.read_blob.ensures.same;
+  unchanged = c.read_blob.ensures.unchanged;
+  root = c.read_blob.ensures.kept.0;
+  entries = c.read_blob.ensures.kept.1;
+  held = c.read_blob.ensures.table;
+  failed = c.read_blob.ensures.kept.2;
+  calls = (c.read_blob.ensures.calls no_entry).some;
+}
+
+pub returns-in_err-admit_file-clause-damaged : goal.returns-in_err-admit_file-clause-damaged
+returns-in_err-admit_file-clause-damaged g c s at =
+    let p = err_from_is_err_and c.from_residual-in_err-admit_file.result c.from_residual-in_err-admit_file.ensures.1 in
+    rw p.1 (λ is. same_library (λ l. IsLibrary l → ⊥) c.name.result.now c.in_ok-bytes.bytes.items (slice_index_or s.libraries c.args.position no_library)
+    (c.name.ensures.state s (c.read_blob.ensures.same s at)) (c.in_ok-bytes.ensures.ok s at) (c.in_err-admit_file.ensures.damaged (sym p.2 ∙ is)))
+
+pub returns-clause-ok : goal.returns-clause-ok
+returns-clause-ok g c s at =
+    same_library IsLibrary c.name.result.now c.in_ok-bytes.bytes.items (slice_index_or s.libraries c.args.position no_library)
+    (c.name.ensures.state s (c.read_blob.ensures.same s at)) (c.in_ok-bytes.ensures.ok s at) c.in_ok-admit_file.ensures.ok

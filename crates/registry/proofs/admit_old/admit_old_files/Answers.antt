@@ -1,0 +1,23 @@
+use Rattle.std.proofs.Common.{◌<◌, ◌≤◌, length, sym, ◌∙◌, arith}
+use Rattle.std.proofs.lemmas.Result.{err_from_is_err_and}
+use Rattle.registry.proofs.Files.{read_more, one_admitted, one_refused, all_admitted}
+use Rattle.registry.proofs.admit_old.admit_old_files.Goals as goal
+
+pub returns-in_err-admit_old_at-clause-read : goal.returns-in_err-admit_old_at-clause-read
+returns-in_err-admit_old_at-clause-read g c = read_more c.loop-position.invariant.read c.admit_old_at.ensures.read
+
+pub returns-in_err-admit_old_at-clause-damaged : goal.returns-in_err-admit_old_at-clause-damaged
+returns-in_err-admit_old_at-clause-damaged g c s at =
+    let p = err_from_is_err_and c.from_residual.result c.from_residual.ensures.1 in
+    let lt : c.loop-position.position < length s.libraries = omega (arith, c.loop-position-test.true, c.count-position-end.ensures.state s at) in
+    rw p.1 (λ is all. one_refused s c.loop-position.position lt (c.in_err-admit_old_at.ensures.damaged s (c.loop-position.invariant.read.same s at) (sym p.2 ∙ is)) all)
+
+pub loop-position-preserved : goal.loop-position-preserved
+loop-position-preserved g c =
+    let lt : c.loop-position.position < length c.args.store.now.entries = omega (arith, c.loop-position-test.true, c.count-position-end.ensures.value) in
+    one_admitted lt c.loop-position.invariant c.admit_old_at.ensures.read (λ s at. c.in_ok-admit_old_at.ensures.ok s at) (λ d. c.in_ok-admit_old_at.ensures.all_calls d)
+
+pub returns-clause-ok : goal.returns-clause-ok
+returns-clause-ok g c s at =
+    let le : length s.libraries ≤ c.loop-position.position = omega (arith, c.loop-position-test.false, c.count-position-end.ensures.state s at) in
+    all_admitted c.loop-position.invariant s at le

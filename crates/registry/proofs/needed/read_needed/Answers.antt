@@ -1,0 +1,41 @@
+use Rattle.std.proofs.Common.{◌≡◌, ◌+◌, ◌∙◌, length, refl, sym, ap, subst, arith}
+use Rattle.std.proofs.lemmas.List.{length_push}
+use Rattle.std.proofs.lemmas.Result.{err_from_is_err_and}
+use Rattle.registry.specs.inside.Walked.{IsWalked}
+use Rattle.registry.proofs.Files.{read_more}
+use Rattle.registry.proofs.FilesRead.{all_read, missing_read}
+use Rattle.registry.proofs.Sources.{HasCome, come_more, come_offers}
+use Rattle.registry.proofs.needed.read_needed.Goals as goal
+
+pub loop-source-preserved : goal.loop-source-preserved
+loop-source-preserved g c =
+    let more = c.in_ok-step.ensures.further in
+    let come = c.loop-source.invariant in
+    let offers = come_offers g.D.Disk.facts come in
+    let walked = c.in_ok-step.ensures.walked c.args.program.now c.args.store.now offers come.walked in
+    subst (HasCome g.D.Disk.facts c.args.program.now c.args.store.now c.step.new.store c.step.new.self.needs) (sym more.1)
+    (come_more g.D.Disk.facts come c.step.ensures.read more.0
+    (subst (IsWalked g.D.Disk.facts c.args.program.now c.args.store.now c.step.new.self.needs) more.1 walked)
+    (more.3 c.args.store.now.entries offers.entries))
+
+pub loop-source-smaller : goal.loop-source-smaller
+loop-source-smaller g c =
+    let more = c.in_ok-step.ensures.further in
+    let longer : length c.step.new.self.files.items ≡ length c.loop-source.walk.files.items + 1 = ap length more.1 ∙ length_push c.loop-source.walk.files.items more.0 in
+    omega (arith, longer, c.loop-source-test.ensures.few, c.loop-source.invariant.walked.among.places.limit, c.loop-source.invariant.walked.among.within)
+
+pub returns-in_err-step-clause-read : goal.returns-in_err-step-clause-read
+returns-in_err-step-clause-read g c = read_more c.loop-source.invariant.read c.step.ensures.read
+
+pub returns-in_err-step-clause-intact : goal.returns-in_err-step-clause-intact
+returns-in_err-step-clause-intact g c s at =
+    let p = err_from_is_err_and c.from_residual-in_err-step.result c.from_residual-in_err-step.ensures.1 in
+    rw p.1 (λ is. c.in_err-step.ensures.intact s c.args.store.now (come_offers g.D.Disk.facts c.loop-source.invariant) at (sym p.2 ∙ is))
+
+pub returns-clause-ok : goal.returns-clause-ok
+returns-clause-ok g c s at =
+    all_read g.D.Disk.facts c.args.program.now c.args.store.now (g.met.D.Disk.holds_now c.args.store.now.disk) c.loop-source.invariant.walked (c.loop-source-test.ensures.no refl) s at
+
+pub returns-clause-missing : goal.returns-clause-missing
+returns-clause-missing g c s at =
+    missing_read g.D.Disk.facts c.args.program.now c.args.store.now (g.met.D.Disk.holds_now c.args.store.now.disk) c.loop-source.invariant.walked (c.loop-source-test.ensures.no refl) s at

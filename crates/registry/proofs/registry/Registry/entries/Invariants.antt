@@ -1,0 +1,8 @@
+use Rattle.std.proofs.Common.{◌≡◌, map, take}
+use Rattle.states.specs.State.{State}
+use Rattle.requests.specs.Table.{entry_of}
+use Rattle.registry.specs.Opened.{IsAt}
+use Rattle.registry.proofs.registry.Registry.entries.Given as goal
+
+abbrev pub invariant-loop-position : goal.invariant-loop-position
+invariant-loop-position g l = (s : State) → IsAt g.D.Disk.facts l.fn.self s → l.entries.items ≡ map entry_of (take l.position s.libraries)

@@ -1,7 +1,0 @@
-use Rattle.std.proofs.Common.{◌∙◌}
-use Rattle.std.specs.Prelude.{bytes_eq}
-use Rattle.registry.proofs.Names.{any_now}
-use Rattle.registry.proofs.words.has_name.Goals as goal
-
-pub returns : goal.returns
-returns c = c.is_among.ensures ∙ any_now (bytes_eq c.args.name.now) _ c.args.names.now

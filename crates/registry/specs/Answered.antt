@@ -1,0 +1,125 @@
+-- What an answer says on any disk, also on one that lies (own).
+use Rattle.std.specs.Prelude.{◌≡◌, ◌≢◌, ◌<◌, ◌↔◌, IsTrue, IsFalse, List, [], ◌∷◌, None}
+use Rattle.sector_disk.specs.Disk.{DiskFacts, AreCalls}
+use Rattle.store.specs.Holders.{KeepsHeld}
+use Rattle.store.specs.Opened.{Opened}
+use Rattle.image.specs.Refusal.{program_refusal}
+use Rattle.requests.specs.Request.{Request, install, replace, remove, set_preloads, bind, list}
+use Rattle.requests.specs.declared.refusal.Refusal.{Refusal}
+use Rattle.requests.specs.declared.refusal.Refusal.TheVariants.{Object, AlreadyInstalled, NotInstalled, InPreloads, RepeatedPreload, TooManyPreloads, Bind, Device, Reopen, Damaged, Full, Fragmented, TooMany, GenerationEnd, OutOfMemory}
+use Rattle.requests.specs.declared.reply.Reply.{Reply}
+use Rattle.requests.specs.declared.reply.Reply.TheVariants.{Done, Listing, Bound, Refused}
+
+-- what any change may be refused with
+abbrev pub IsChangeRefusal : Refusal → Type 0
+IsChangeRefusal Device = Unit
+IsChangeRefusal Reopen = Unit
+IsChangeRefusal NotInstalled = Unit
+IsChangeRefusal GenerationEnd = Unit
+IsChangeRefusal other = ⊥
+
+-- the refusals of a replacement: these, and those of a file
+abbrev pub IsReplaceRefusal : Refusal → Type 0
+IsReplaceRefusal (Object refusal) = Unit
+IsReplaceRefusal Full = Unit
+IsReplaceRefusal Fragmented = Unit
+IsReplaceRefusal OutOfMemory = Unit
+IsReplaceRefusal other = IsChangeRefusal other
+
+-- the refusals of an install
+abbrev pub IsInstallRefusal : Refusal → Type 0
+IsInstallRefusal NotInstalled = ⊥
+IsInstallRefusal AlreadyInstalled = Unit
+IsInstallRefusal TooMany = Unit
+IsInstallRefusal other = IsReplaceRefusal other
+
+-- the refusals of a removal
+abbrev pub IsRemoveRefusal : Refusal → Type 0
+IsRemoveRefusal InPreloads = Unit
+IsRemoveRefusal other = IsChangeRefusal other
+
+-- the refusals of setting the preloads
+abbrev pub IsPreloadsRefusal : Refusal → Type 0
+IsPreloadsRefusal TooManyPreloads = Unit
+IsPreloadsRefusal RepeatedPreload = Unit
+IsPreloadsRefusal other = IsChangeRefusal other
+
+-- the refusals of a bind
+abbrev pub IsBindRefusal : Refusal → Type 0
+IsBindRefusal (Bind refusal) = Unit
+IsBindRefusal Device = Unit
+IsBindRefusal Reopen = Unit
+IsBindRefusal Damaged = Unit
+IsBindRefusal OutOfMemory = Unit
+IsBindRefusal other = ⊥
+
+-- the refusals of a listing
+abbrev pub IsListRefusal : Refusal → Type 0
+IsListRefusal Reopen = Unit
+IsListRefusal OutOfMemory = Unit
+IsListRefusal other = ⊥
+
+-- the answers to a change: done, or one of these refusals
+abbrev pub IsChangeAnswer : (Refusal → Type 0) → Reply → Type 0
+IsChangeAnswer Refuses Done = Unit {0}
+IsChangeAnswer Refuses (Refused refusal) = Refuses refusal
+IsChangeAnswer Refuses other = ⊥
+
+-- the answers to a bind
+abbrev pub IsBindAnswer : Reply → Type 0
+IsBindAnswer (Bound image) = Unit {0}
+IsBindAnswer (Refused refusal) = IsBindRefusal refusal
+IsBindAnswer other = ⊥
+
+-- the answers to a listing
+abbrev pub IsListAnswer : Reply → Type 0
+IsListAnswer (Listing listing) = Unit {0}
+IsListAnswer (Refused refusal) = IsListRefusal refusal
+IsListAnswer other = ⊥
+
+-- how a command may be answered
+abbrev pub IsAnswerTo : Request → Reply → Type 0
+IsAnswerTo (install bytes) = IsChangeAnswer IsInstallRefusal
+IsAnswerTo (replace bytes) = IsChangeAnswer IsReplaceRefusal
+IsAnswerTo (remove name) = IsChangeAnswer IsRemoveRefusal
+IsAnswerTo (set_preloads names) = IsChangeAnswer IsPreloadsRefusal
+IsAnswerTo (bind program base) = IsBindAnswer
+IsAnswerTo list = IsListAnswer
+
+-- a change leaves: done, a usable registry; S1, one to be opened again; else all as it was
+abbrev pub ChangeLeaves : {D : Type 0} → Opened D → Opened D → Reply → Type 0
+ChangeLeaves old new Done = IsFalse new.failed
+ChangeLeaves old new (Refused refusal) = (refusal ≡ Device → IsTrue new.failed) × (refusal ≢ Device → new ≡ old)
+ChangeLeaves old new other = Unit {0}
+
+-- what is known of the state is kept
+abbrev pub KeepsState : {D : Type 0} → Opened D → Opened D → Type 0
+KeepsState old new = (new.root ≡ old.root) × (new.entries ≡ old.entries) × (new.held ≡ old.held) × (new.failed ≡ old.failed)
+
+-- a command leaves what a change leaves, or, as a bind and a listing, what was known of the state
+abbrev pub Leaves : {D : Type 0} → Opened D → Opened D → Request → Reply → Type 0
+Leaves old new (install bytes) answer = ChangeLeaves old new answer
+Leaves old new (replace bytes) answer = ChangeLeaves old new answer
+Leaves old new (remove name) answer = ChangeLeaves old new answer
+Leaves old new (set_preloads names) answer = ChangeLeaves old new answer
+Leaves old new (bind program base) answer = KeepsState old new × (program_refusal program base ≢ None → new ≡ old)
+Leaves old new list answer = new ≡ old
+
+-- A command was answered so, on any disk.
+pub record Answered {D : Type 0} (facts : D → DiskFacts) (old new : Opened D) (request : Request) (answer : Reply) : Type 0 where
+  -- after a failed write or sync the disk has to be opened again, and nothing is done
+  pub reopen : (answer ≡ Refused Reopen) ↔ IsTrue old.failed
+  pub failed : IsTrue old.failed → new ≡ old
+  -- S1 comes only where a call of the disk failed
+  pub device : answer ≡ Refused Device → (facts old.disk).failures < (facts new.disk).failures
+  pub answers : IsAnswerTo request answer
+  pub leaves : Leaves old new request answer
+  -- what somebody holds stays held by as many, and on an honest disk its bytes are what they were
+  pub held : KeepsHeld facts old new
+  pub calls : AreCalls (facts old.disk) (facts new.disk)
+
+-- commands were answered so, one after the other, one answer each
+abbrev pub AreAnswered : {D : Type 0} → (D → DiskFacts) → Opened D → Opened D → List Request → List Reply → Type 0
+AreAnswered facts old new [] [] = new ≡ old
+AreAnswered facts old new (request ∷ requests) (answer ∷ answers) = (mid : Opened _) × Answered facts old mid request answer × AreAnswered facts mid new requests answers
+AreAnswered facts old new requests answers = ⊥

@@ -1,0 +1,33 @@
+-- What a command does to a registry on a disk (own).
+use Rattle.std.specs.Prelude.{◌≡◌, ◌⊎◌, IsTrue, List, None}
+use Rattle.sector_disk.specs.Disk.{Sector, DiskFacts, LeavesOnly}
+use Rattle.store.specs.Opened.{Opened}
+use Rattle.states.specs.State.{State}
+use Rattle.requests.specs.Request.{Request}
+use Rattle.requests.specs.Phase.{Phase}
+use Rattle.requests.specs.Step.{Step, accepted, refusal_at}
+use Rattle.requests.specs.declared.refusal.Refusal.TheVariants.{Device}
+use Rattle.requests.specs.declared.reply.Reply.{Reply}
+use Rattle.requests.specs.declared.reply.Reply.TheVariants.{Refused}
+use Rattle.registry.specs.Stands.{Stands}
+use Rattle.registry.specs.Opened.{IsAt}
+use Rattle.registry.specs.Phase.{phase_of}
+
+-- A change that a failing device cut off may be found done: only one that no test refuses.
+abbrev pub InFlight : Phase → Request → Reply → List Sector → Type 0
+InFlight p request answer m = (answer ≡ Refused Device) × (refusal_at p request ≡ None) × Stands m (accepted p.state request)
+
+-- a stop within a command may leave the state before, the state after, or the change in flight
+abbrev pub MayLeaveWithin : Phase → Request → Reply → State → List Sector → Type 0
+MayLeaveWithin p request answer s' m = Stands m p.state ⊎ Stands m s' ⊎ InFlight p request answer m
+
+-- A command was answered so, and led from a state to another.
+pub record Applied {D : Type 0} (facts : D → DiskFacts) (old new : Opened D) (s s' : State) (request : Request) (answer : Reply) : Type 0 where
+  pub step : Step (phase_of facts old s) request answer (phase_of facts new s')
+  pub any_moment : LeavesOnly (facts old.disk) (facts new.disk) (MayLeaveWithin (phase_of facts old s) request answer s')
+  -- at the end it is at the state after; or a write or a sync failed, and that is the state before
+  pub kept : IsAt facts new s' ⊎ (IsTrue new.failed × (s' ≡ s))
+
+-- the same, with the state after it
+abbrev pub Applies : {D : Type 0} → (D → DiskFacts) → Opened D → Opened D → State → Request → Reply → Type 0
+Applies facts old new s request answer = (s' : State) × Applied facts old new s s' request answer

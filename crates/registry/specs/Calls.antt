@@ -1,0 +1,25 @@
+-- How many calls of the disk a command makes (own).
+use Rattle.std.specs.Prelude.{ℕ, ◌+◌, ◌-◌, length}
+use Rattle.std.specs.Int.{div_ceil}
+use Rattle.sector_disk.specs.Disk.{sector_bytes}
+use Rattle.states.specs.Cost.{catalogues_for}
+use Rattle.states.specs.State.{State}
+use Rattle.requests.specs.Request.{Request, install, replace, remove, set_preloads, bind, list}
+use Rattle.requests.specs.declared.reply.Reply.{Reply}
+use Rattle.requests.specs.declared.reply.Reply.TheVariants.{Refused}
+use Rattle.registry.specs.Binding.{bind_sectors}
+
+-- how many calls an accepted command makes: of a put one for each sector of the file and for each catalogue of the new
+-- list, and four (the entry, the root, two syncs); of a removal those for the catalogues, and three
+abbrev pub calls_of : State → Request → ℕ
+calls_of s (install bytes) = div_ceil (length bytes) sector_bytes + catalogues_for (length s.libraries + 1) + 4
+calls_of s (replace bytes) = div_ceil (length bytes) sector_bytes + catalogues_for (length s.libraries) + 4
+calls_of s (remove name) = catalogues_for (length s.libraries - 1) + 3
+calls_of s (set_preloads names) = 2
+calls_of s (bind program base) = bind_sectors s program
+calls_of s list = 0
+
+-- this holds where the command was accepted
+abbrev pub IfAccepted : Reply → Type 0 → Type 0
+IfAccepted (Refused refusal) P = Unit {0}
+IfAccepted answer P = P

@@ -1,0 +1,99 @@
+-- What is done to a registry on a disk, one thing after the other (own).
+use Rattle.std.specs.Prelude.{◌≡◌, ◌⊎◌, ◌+◌, ◌<◌, ◌≤◌, ℕ, IsTrue, List, [], ◌∷◌, length, take, map, Some, None}
+use Rattle.sector_disk.specs.Disk.{Sector, DiskFacts, MixtureAt, Mixture, LeavesOnly, KeepsPast, AreCallsExactly}
+use Rattle.store.specs.Opened.{Opened}
+use Rattle.states.specs.State.{State}
+use Rattle.requests.specs.Request.{Request}
+use Rattle.requests.specs.Runs.{last_of, after}
+use Rattle.requests.specs.declared.reply.Reply.{Reply}
+use Rattle.registry.specs.Stands.{Stands}
+use Rattle.registry.specs.Opened.{IsAt}
+use Rattle.registry.specs.Applied.{Applied}
+use Rattle.registry.specs.Answered.{Answered}
+use Rattle.registry.specs.Calls.{IfAccepted, calls_of}
+use Rattle.registry.specs.Acknowledged.{Exchange, commanded, acknowledged, state_after, AreAccepted, IsAcknowledgedAt}
+
+-- a registry between two commands, and its state; after a failed write or sync, the state before
+pub record Point (D : Type 0) : Type 0 where
+  pub registry : Opened D
+  pub state : State
+
+-- such a point
+abbrev pub point : {D : Type 0} → Opened D → State → Point D
+point registry s = record { registry = registry; state = s }
+
+-- what is said of its disk
+abbrev pub disk_at : {D : Type 0} → (D → DiskFacts) → Point D → DiskFacts
+disk_at facts p = facts p.registry.disk
+
+-- a command is applied to a registry at its state; an accepted one makes exactly its calls
+pub record AppliesAt {D : Type 0} (facts : D → DiskFacts) (p : Point D) (request : Request) (answer : Reply) (p' : Point D) : Type 0 where
+  pub at : IsAt facts p.registry p.state
+  pub applied : Applied facts p.registry p'.registry p.state p'.state request answer
+  pub calls : IfAccepted answer (AreCallsExactly (calls_of p.state request) (disk_at facts p) (disk_at facts p'))
+
+-- one command of a run: it is applied; or a write or a sync has failed before, and nothing is done
+pub record Goes {D : Type 0} (facts : D → DiskFacts) (p : Point D) (request : Request) (answer : Reply) (p' : Point D) : Type 0 where
+  pub answered : Answered facts p.registry p'.registry request answer
+  pub applied : AppliesAt facts p request answer p' ⊎ (IsTrue p.registry.failed × (p' ≡ p))
+
+-- the registry stays at its state, and whatever a stop may leave meanwhile it might have left before
+pub record IdlesAt {D : Type 0} (facts : D → DiskFacts) (p p' : Point D) : Type 0 where
+  pub before : IsAt facts p.registry p.state
+  pub after : IsAt facts p'.registry p'.state
+  pub any_moment : LeavesOnly (disk_at facts p) (disk_at facts p') (Mixture (disk_at facts p))
+
+-- no change was asked for: all stays; or a write or a sync has failed before, and no call of the disk is made
+pub record Idles {D : Type 0} (facts : D → DiskFacts) (p p' : Point D) : Type 0 where
+  pub same : p'.state ≡ p.state
+  pub stays : IdlesAt facts p p' ⊎ (IsTrue p.registry.failed × IsTrue p'.registry.failed × (p'.registry.disk ≡ p.registry.disk))
+
+-- what was asked and answered did this
+abbrev pub Moves : {D : Type 0} → (D → DiskFacts) → Point D → Exchange → Point D → Type 0
+Moves facts p (Some e) p' = Goes facts p e.0 e.1 p'
+Moves facts p None p' = Idles facts p p'
+
+-- One thing after the other was asked and answered, and led through these points, one after each.
+abbrev pub LeadsThrough : {D : Type 0} → (D → DiskFacts) → Point D → List Exchange → List (Point D) → Type 0
+LeadsThrough facts p [] [] = Unit {0}
+LeadsThrough facts p (x ∷ xs) (t ∷ ts) = Moves facts p x t × LeadsThrough facts t xs ts
+LeadsThrough facts p xs ts = ⊥
+
+-- after commands from a state, whatever a stop leaves stands for the state after the accepted ones
+abbrev pub FindsAccepted : {D : Type 0} → (D → DiskFacts) → Opened D → State → List Exchange → Type 0
+FindsAccepted facts new s exchanges = (m : List Sector) → Mixture (facts new.disk) m → (commands : List Request) × AreAccepted exchanges commands × Stands m (state_after s commands)
+
+module _ {D : Type 0} (facts : D → DiskFacts) (start : Point D) (exchanges : List Exchange) (points : List (Point D)) where
+  -- the last of the first k has begun by this moment
+  abbrev pub HasBegun : ℕ → ℕ → Type 0
+  HasBegun k moment = (i : ℕ) → i + 1 ≡ k → (disk_at facts (after start points i)).time ≤ moment
+
+  -- every command acknowledged by this moment is among the first k: a later one ends later
+  abbrev pub HoldsAcknowledged : ℕ → ℕ → Type 0
+  HoldsAcknowledged k moment = (i : ℕ) → k ≤ i → IsAcknowledgedAt exchanges i → moment < (disk_at facts (after start points (i + 1))).time
+
+  -- a stop at a moment leaves the state after accepted ones of the first k, k as above
+  abbrev pub LeavesAccepted : ℕ → List Sector → Type 0
+  LeavesAccepted moment m = (k : ℕ) × (k ≤ length exchanges) × HasBegun k moment × HoldsAcknowledged k moment
+      × (commands : List Request) × AreAccepted (take k exchanges) commands × Stands m (state_after start.state commands)
+
+  -- Commands were answered so, with other things between them, and led through these registries, one after each.
+  pub record Ran (end : Point D) : Type 0 where
+    pub steps : LeadsThrough facts start exchanges points
+    pub last : end ≡ last_of start points
+    -- the state after the first k is the one after the acknowledged commands among them
+    pub states : (k : ℕ) → (after start points k).state ≡ state_after start.state (acknowledged (take k exchanges))
+    -- at the end the registry is at the last state, unless a write or a sync failed
+    pub kept : IsAt facts end.registry end.state ⊎ IsTrue end.registry.failed
+    -- at each moment from start to end, failed calls among them, a stop leaves such a state
+    pub past : KeepsPast (disk_at facts start) (disk_at facts end)
+    pub any_moment : (moment : ℕ) (m : List Sector) → (disk_at facts start).time ≤ moment → moment ≤ (disk_at facts end).time → MixtureAt (disk_at facts end) moment m → LeavesAccepted moment m
+    pub found : FindsAccepted facts end.registry start.state exchanges
+
+-- the same, from one registry to another, through these registries, one after each
+abbrev pub RunsThrough : {D : Type 0} → (D → DiskFacts) → Opened D → List (Opened D) → Opened D → State → List Exchange → Type 0
+RunsThrough facts old registries new s exchanges = (s' : State) × (points : List (Point _)) × (map (λ (p : Point _). p.registry) points ≡ registries) × Ran facts (point old s) exchanges points (point new s')
+
+-- commands were answered so, one reply each
+abbrev pub RunsOver : {D : Type 0} → (D → DiskFacts) → Opened D → Opened D → State → List Request → List Reply → Type 0
+RunsOver facts old new s requests answers = (registries : List (Opened _)) × (length answers ≡ length requests) × RunsThrough facts old registries new s (commanded requests answers)

@@ -1,0 +1,26 @@
+-- What a list of sectors stands for as a registry (own).
+use Rattle.std.specs.Prelude.{◌⊎◌, ℕ, List, All}
+use Rattle.std.specs.Int.{div_ceil}
+use Rattle.sector_disk.specs.Disk.{Sector, sector_bytes}
+use Rattle.states.specs.State.{State}
+use Rattle.store.specs.declared.placed_entry.PlacedEntry.{PlacedEntry}
+use Rattle.store.specs.Stands as store
+use Rattle.requests.specs.Library.{IsLibrary}
+
+-- how many sectors the file of an entry takes
+abbrev pub file_sectors : PlacedEntry → ℕ
+file_sectors placed = div_ceil placed.entry.file_length sector_bytes
+
+-- the sectors stand for this state, and each of its files is a library under its SONAME
+pub record Stands (m : List Sector) (s : State) : Type 0 where
+  pub stored : store.Stands m s
+  pub libraries : All IsLibrary s.libraries
+
+-- The same by the old rules: the sectors are those of a disk of version 1.
+pub record StandsOld (m : List Sector) (s : State) : Type 0 where
+  pub stored : store.StandsOld m s
+  pub libraries : All IsLibrary s.libraries
+
+-- by the new rules or by the old ones
+abbrev pub StandsEither : List Sector → State → Type 0
+StandsEither m s = Stands m s ⊎ StandsOld m s

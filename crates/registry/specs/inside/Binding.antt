@@ -1,0 +1,47 @@
+-- How far a binder has come.
+use Rattle.std.specs.Prelude.{◌≡◌, ◌+◌, ℕ, List, length, Option, Some, None}
+use Rattle.sector_disk.specs.Disk.{DiskFacts}
+use Rattle.image.specs.Refusal.{program_refusal}
+use Rattle.snapshots.specs.Snapshot.{Taken}
+use Rattle.states.specs.State.{Library}
+use Rattle.store.specs.Opened.{Opened}
+use Rattle.registry.specs.declared.needs.Needs.{Needs}
+use Rattle.registry.specs.declared.walk.Walk.{Walk}
+use Rattle.registry.specs.inside.Walked.{IsAmong, IsWalked}
+
+-- what a walk has found: what is needed, and the files that were read
+pub record Found : Type 0 where
+  pub needs : Needs
+  pub files : List Library
+
+-- a binder: its program, where that is to be bound, the snapshot, and what its walk has found since the first step
+pub record Binding : Type 0 where
+  pub program : List ℕ
+  pub base : ℕ
+  pub snapshot : Taken
+  pub found : Option Found
+
+abbrev pub found_of : Option Walk → Option Found
+found_of None = None
+found_of (Some walk) = Some (record { needs = walk.needs; files = walk.files.items })
+
+-- Once it walks, no test refuses its program by itself, and the walk is one among the files of its snapshot.
+abbrev pub IsReadyFor : Binding → Option Found → Type 0
+IsReadyFor binder None = Unit
+IsReadyFor binder (Some found) = (program_refusal binder.program binder.base ≡ None)
+    × IsAmong (length binder.snapshot.handles) found.needs found.files
+
+abbrev pub IsReady : Binding → Type 0
+IsReady binder = IsReadyFor binder binder.found
+
+-- it binds the same, and holds the same
+pub record Stays (old new : Binding) : Type 0 where
+  pub program : new.program ≡ old.program
+  pub base : new.base ≡ old.base
+  pub snapshot : new.snapshot ≡ old.snapshot
+
+-- after so many steps: none, or one that looked at the program, and one for each file
+abbrev pub HasCome : {D : Type 0} → (D → DiskFacts) → Opened D → List ℕ → ℕ → Option Found → ℕ → Type 0
+HasCome facts taken program base None going = going ≡ 0
+HasCome facts taken program base (Some found) going = (program_refusal program base ≡ None)
+    × IsWalked facts program taken found.needs found.files × (going ≡ length found.files + 1)

@@ -1,0 +1,13 @@
+-- The byte strings of a store by the names that a command gives.
+use Rattle.std.specs.Prelude.{◌≡◌, ◌<◌, ℕ, List, length, map, slice_index_or, All}
+use Rattle.store.specs.declared.placed_entry.PlacedEntry.{PlacedEntry}
+use Rattle.store.specs.Stands.{name_of}
+
+-- the name of an entry
+abbrev pub placed_name : PlacedEntry → List ℕ
+placed_name placed = name_of placed.entry
+
+-- the entries at these positions have these names
+pub record AreNamed (entries : List PlacedEntry) (positions : List ℕ) (names : List (List ℕ)) : Type 0 where
+  pub inside : All (λ position. position < length entries) positions
+  pub each : (d : PlacedEntry) → map (λ position. name_of (slice_index_or entries position d).entry) positions ≡ names

@@ -1,0 +1,43 @@
+-- What a walk finds the files of a bind in.
+use Rattle.std.specs.Prelude.{◌≡◌, ◌≢◌, ◌<◌, ℕ, List, length, slice_index_or, All, IsTrue, Option, Some, None}
+use Rattle.sector_disk.specs.Disk.{DiskFacts}
+use Rattle.roots.specs.Root.{listed_preloads}
+use Rattle.states.specs.State.{State}
+use Rattle.store.specs.declared.placed_entry.PlacedEntry.{PlacedEntry}
+use Rattle.store.specs.Opened.{Opened, IsAt}
+use Rattle.store.specs.Stands.{HaveOwnNames, name_of}
+use Rattle.snapshots.specs.Snapshot.{IsTakenOf, AreHeldAs}
+use Rattle.registry.specs.declared.source.Source.{Source}
+use Rattle.registry.specs.declared.source.Source.TheVariants.{Current, Held}
+
+-- how many files it offers
+abbrev pub offered : {D : Type 0} → Source → Opened D → ℕ
+offered Current store = length store.entries
+offered (Held snapshot) store = length snapshot.now.handles
+
+-- the positions of its preloads
+abbrev pub offered_preloads : {D : Type 0} → Source → Opened D → List ℕ
+offered_preloads Current store = listed_preloads store.root
+offered_preloads (Held snapshot) store = snapshot.now.preloads
+
+-- its files have these entries
+abbrev pub HasEntries : {D : Type 0} → Source → Opened D → List PlacedEntry → Type 0
+HasEntries Current store entries = store.entries ≡ entries
+HasEntries (Held snapshot) store entries = IsTakenOf store.held snapshot.now entries
+
+-- In every mixture of the disk its files are those of this state.
+abbrev pub HasFiles : {D : Type 0} → (D → DiskFacts) → Source → Opened D → State → Type 0
+HasFiles facts Current store s = IsAt facts store s
+HasFiles facts (Held snapshot) store s = IsTrue (facts store.disk).honest × AreHeldAs facts store snapshot.now.handles s.libraries
+
+-- What it offers in a store as it is now is what the store had when it was at what the source tells of.
+pub record Offers {D : Type 0} (facts : D → DiskFacts) (source : Source) (taken now : Opened D) : Type 0 where
+  pub entries : HasEntries source now taken.entries
+  pub own : HaveOwnNames taken.entries
+  pub preloads : offered_preloads source now ≡ listed_preloads taken.root
+  pub files : (s : State) → IsAt facts taken s → HasFiles facts source now s
+
+-- the position of the entry of this name, or none where no entry has it
+abbrev pub IsFound : List PlacedEntry → List ℕ → Option ℕ → Type 0
+IsFound entries name (Some i) = (i < length entries) × ((d : PlacedEntry) → name_of (slice_index_or entries i d).entry ≡ name)
+IsFound entries name None = All (λ placed. name_of placed.entry ≢ name) entries

@@ -1,0 +1,68 @@
+-- What a bind has found on its walk through the files of its load order.
+use Rattle.std.specs.Prelude.{◌≡◌, ℕ, ◌+◌, ◌<◌, List, [], ◌∷◌, length, map, take, drop, get_or, Option, Some}
+use Rattle.std.specs.List.{filter_map, flat_map, find}
+use Rattle.std.specs.Option.{option_map, option_or}
+use Rattle.sector_disk.specs.Disk.{DiskFacts}
+use Rattle.elf_file.specs.FirstOf.{first_of}
+use Rattle.scope.specs.LoadOrder.{Need, available, place_of, needs_of, level_0, object_at, needed_by, is_missing}
+use Rattle.scope.specs.Queue.{Queue}
+use Rattle.scope.specs.inside.Growing.{grown}
+use Rattle.scope.specs.inside.Reached.{Reached}
+use Rattle.image.specs.Placement.{Placed, place}
+use Rattle.image.specs.Refusal.{placed_refusal, missing_by}
+use Rattle.image.specs.declared.refusal.BindRefusal.{BindRefusal}
+use Rattle.store.specs.Opened.{Opened}
+use Rattle.requests.specs.Binding.{object_of, objects, preload_numbers}
+use Rattle.states.specs.State.{Library, State}
+use Rattle.registry.specs.Opened.{IsAt}
+use Rattle.store.specs.NameOrder.{entry_names}
+use Rattle.registry.specs.declared.needs.Needs.{Needs}
+
+-- what is needed after an object that needs these too: the places of the names that files go by, and the first missing one
+abbrev pub more_needs : List (List ℕ) → Needs → List ℕ → List (List ℕ) → Needs
+more_needs names needs needer needed = record {
+  places = record { limit = needs.places.limit; places = grown needs.places.places (filter_map (place_of names) needed) };
+  missing = option_or needs.missing (find (is_missing names) (map (λ name. record { needer = needer; name = name }) needed));
+}
+
+-- What is needed grows: the queue stays the beginning of what it becomes, and a name that is noted stays noted.
+pub record Grows (old new : Needs) : Type 0 where
+  pub limit : new.places.limit ≡ old.places.limit
+  pub begins : take (length old.places.places) new.places.places ≡ old.places.places
+  pub missing : (need : Need) → old.missing ≡ Some need → new.missing ≡ Some need
+
+-- a queue of places: that of the program, which is the first, and of so many files
+pub record ArePlaces (count : ℕ) (queue : Queue) : Type 0 where
+  pub limit : queue.limit ≡ count + 1
+  pub first : get_or queue.places 0 1 ≡ 0
+
+-- a walk among so many files, of which it has read some of those in its queue
+pub record IsAmong (count : ℕ) (needs : Needs) (files : List Library) : Type 0 where
+  pub places : ArePlaces count needs.places
+  pub within : length files < length needs.places.places
+
+-- the place of the file that is read next
+abbrev pub next_place : Needs → List Library → ℕ
+next_place needs files = get_or needs.places.places (length files + 1) 0
+
+-- the places of those that were read: those in the queue behind the program's
+abbrev pub walked : List ℕ → ℕ → List ℕ
+walked places count = drop 1 (take (count + 1) places)
+
+-- The program was looked at, and then the files of the queue's places before this many, each once: the queue has what
+-- these need, and the first of these names that no file goes by is noted.
+pub record IsWalked {D : Type 0} (facts : D → DiskFacts) (program : List ℕ) (taken : Opened D) (needs : Needs) (files : List Library) : Type 0 where
+  pub among : IsAmong (length taken.entries) needs files
+  pub missing : needs.missing ≡ find (is_missing (entry_names taken.entries)) (flat_map needed_by (available program (map object_of files)))
+  pub each : (s : State) → IsAt facts taken s → map object_of files ≡ map (object_at (available program (objects s))) (walked needs.places.places (length files))
+  pub reached : (s : State) → IsAt facts taken s
+      → Reached (needs_of program (objects s)) (length (available program (objects s))) (level_0 (preload_numbers s)) needs.places.places (length files + 1)
+
+-- a program and the files that were read, in memory
+abbrev pub walked_objects : List ℕ → ℕ → List Library → List Placed
+walked_objects program base files = place base (available program (map object_of files))
+
+-- B3 where a name is missing, else B4 and B5
+abbrev pub walked_refusal : List ℕ → ℕ → Option Need → List Library → Option BindRefusal
+walked_refusal program base missing files =
+    first_of (option_map missing_by missing ∷ placed_refusal (walked_objects program base files) ∷ [])

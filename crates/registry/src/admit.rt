@@ -1,0 +1,94 @@
+// The files that a store holds, admitted one after the other.
+ghost use Rattle.std.specs.Prelude.{◌≡◌, ◌⊎◌, ◌<◌, sum_by, true, false, All, IfOk, IfErr, OnOk};
+ghost use Rattle.std.specs.Prelude.{length, slice_index_or};
+ghost use Rattle.sector_disk.specs.Disk.{AreCallsExactly};
+ghost use Rattle.store.specs.declared.placed_entry.PlacedEntry.{PlacedEntry};
+ghost use Rattle.store.specs.Opened.{IsAt};
+ghost use Rattle.store.specs.Stands.{no_library};
+ghost use Rattle.states.specs.State.{State};
+ghost use Rattle.requests.specs.Library.{IsLibrary};
+ghost use Rattle.registry.specs.Stands.{file_sectors};
+ghost use Rattle.registry.specs.inside.Reading.{IsRead, IsReadRefusal};
+
+use hash_check::{AdmittedFile, ReadRefusal};
+use sector_disk::Disk;
+use std::alloc::Global;
+use store::{Store, StoreRefusal};
+
+/// Whether an admitted file is a library of this name.
+fn is_library(file: &AdmittedFile, name: &[u8]) -> bool
+    ensures yes { result ≡ true → IsLibrary (record { name = name.now; bytes = file.now }) }
+    ensures no { result ≡ false → IsLibrary (record { name = name.now; bytes = file.now }) → ⊥ }
+{
+    match file.admitted().library_name() {
+        Ok(soname) => soname == name,
+        Err(_) => false,
+    }
+}
+
+/// Admits a file as a library of this name: S5 where it is none.
+pub(crate) fn admit_file(
+    alloc: Global,
+    name: &[u8],
+    bytes: Vec<u8>,
+) -> Result<AdmittedFile, StoreRefusal>
+    ensures ok { OnOk result (IsLibrary (record { name = name.now; bytes = bytes.items })) }
+    ensures same { IfOk result (λ file. file ≡ bytes.items) }
+    ensures damaged { IfErr result (λ e. e ≡ StoreRefusal.Damaged
+        → IsLibrary (record { name = name.now; bytes = bytes.items }) → ⊥) }
+    ensures refusals { IfErr result (λ e. (e ≡ StoreRefusal.Damaged)
+        ⊎ (e ≡ StoreRefusal.OutOfMemory)) }
+{
+    match AdmittedFile::read(alloc, bytes) {
+        Ok(file) => {
+            if is_library(&file, name) {
+                Ok(file)
+            } else {
+                Err(StoreRefusal::Damaged)
+            }
+        }
+        Err(ReadRefusal::File(_)) => Err(StoreRefusal::Damaged),
+        Err(ReadRefusal::OutOfMemory) => Err(StoreRefusal::OutOfMemory),
+    }
+}
+
+/// Reads the file at this position, sees that it is a library of its name, and lets it go.
+fn admit_at<D: Disk>(
+    alloc: Global,
+    store: &mut Store<D>,
+    position: usize,
+) -> Result<(), StoreRefusal>
+    requires { position < length store.old.entries }
+    ensures read { IsRead D.facts store.old store.new }
+    ensures ok { (s : State) → IsAt D.facts store.old s
+        → OnOk result (IsLibrary (slice_index_or s.libraries position no_library)) }
+    ensures damaged { (s : State) → IsAt D.facts store.old s
+        → IfErr result (λ e. e ≡ StoreRefusal.Damaged
+        → IsLibrary (slice_index_or s.libraries position no_library) → ⊥) }
+    ensures refusals { IfErr result (IsReadRefusal D.facts store.old store.new) }
+    ensures all_calls { (d : PlacedEntry) → OnOk result (AreCallsExactly
+        (file_sectors (slice_index_or store.old.entries position d))
+        (D.facts store.old.disk) (D.facts store.new.disk)) }
+{
+    let bytes = store.read_blob(alloc, position)?;
+    admit_file(alloc, store.name(position), bytes)?;
+    Ok(())
+}
+
+/// Reads each file once, sees that it is a library of its name, and lets it go before the next.
+pub(crate) fn admit_files<D: Disk>(alloc: Global, store: &mut Store<D>) -> Result<(), StoreRefusal>
+    ensures read { IsRead D.facts store.old store.new }
+    ensures ok { (s : State) → IsAt D.facts store.old s
+        → OnOk result (All IsLibrary s.libraries) }
+    ensures damaged { (s : State) → IsAt D.facts store.old s
+        → IfErr result (λ e. e ≡ StoreRefusal.Damaged
+        → All IsLibrary s.libraries → ⊥) }
+    ensures refusals { IfErr result (IsReadRefusal D.facts store.old store.new) }
+    ensures all_calls { OnOk result (AreCallsExactly (sum_by file_sectors store.old.entries)
+        (D.facts store.old.disk) (D.facts store.new.disk)) }
+{
+    for position in 0..store.count() {
+        admit_at(alloc, store, position)?;
+    }
+    Ok(())
+}

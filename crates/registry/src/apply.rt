@@ -1,0 +1,76 @@
+// Commands are applied to a registry on a disk.
+ghost use Rattle.std.specs.Prelude.{◌≡◌};
+ghost use Rattle.requests.specs.Step.{answer_of};
+
+use crate::registry::Registry;
+use requests::{Command, Refusal, Reply};
+use sector_disk::Disk;
+use std::alloc::AllocError;
+
+/// The reply that a change's result makes.
+fn reply(change: Result<(), Refusal>) -> Reply
+    ensures { result ≡ answer_of change }
+{
+    match change {
+        Ok(()) => Reply::Done,
+        Err(refusal) => Reply::Refused(refusal),
+    }
+}
+
+impl<D: Disk> Registry<D> {
+    ghost use Rattle.std.specs.Prelude.{◌≡◌, map, IfOk, OnErr};
+    ghost use Rattle.sector_disk.specs.Disk.{AreCallsExactly};
+    ghost use Rattle.requests.specs.Request.{request_of};
+    ghost use Rattle.states.specs.State.{State};
+    ghost use Rattle.registry.specs.Answered.{Answered, AreAnswered};
+    ghost use Rattle.registry.specs.Applied.{Applies};
+    ghost use Rattle.registry.specs.Calls.{IfAccepted, calls_of};
+    ghost use Rattle.registry.specs.Opened.{IsAt};
+    ghost use Rattle.registry.specs.Ran.{RunsOver};
+
+    /// Applies a command. On an honest disk the answer is a step of the step table, and a refusal
+    /// the first that applies there. Removing a library and setting the preloads take no memory; a
+    /// listing makes no call of the disk; a bind reads the files of the program's load order.
+    pub fn apply(&mut self, command: &Command<'_>) -> Reply
+        // A step of the table; a stop at any moment leaves the state from before it or the one
+        // after, also where a call failed.
+        ensures applied { (s : State) → IsAt D.facts self.old s
+            → Applies D.facts self.old self.new s (request_of command.now) result }
+        ensures all_calls { (s : State) → IsAt D.facts self.old s → IfAccepted result
+            (AreCallsExactly (calls_of s (request_of command.now))
+            (D.facts self.old.disk) (D.facts self.new.disk)) }
+
+        ensures on_any_disk { Answered D.facts self.old self.new (request_of command.now) result }
+    {
+        match command {
+            Command::Install(bytes) => reply(self.install(bytes)),
+            Command::Replace(bytes) => reply(self.replace(bytes)),
+            Command::Remove(name) => reply(self.remove(name)),
+            Command::SetPreloads(names) => reply(self.set_preloads(names)),
+            Command::Bind { program, base } => self.bind(program, *base),
+            Command::List => self.list(),
+        }
+    }
+
+    /// Applies commands one after the other, and gives one reply for each. Where memory for the
+    /// replies is refused, nothing is applied.
+    pub fn run(&mut self, commands: &[Command<'_>]) -> Result<Vec<Reply>, AllocError>
+        // Each command is applied to the registry that the one before left. What a stop leaves at
+        // any moment is the state after a prefix of the accepted commands that holds every one
+        // acknowledged by then; at the end it is the state after all accepted commands.
+        ensures ok { IfOk result (λ replies. (s : State) → IsAt D.facts self.old s → RunsOver
+            D.facts self.old self.new s (map request_of commands.now) replies.items) }
+        ensures err { OnErr result (self.new ≡ self.old) }
+
+        // One answer for each command.
+        ensures on_any_disk { IfOk result (λ replies. AreAnswered D.facts self.old self.new
+            (map request_of commands.now) replies.items) }
+    {
+        let mut replies = Vec::with_capacity(self.alloc, commands.len())?;
+        for command in commands {
+            let reply = self.apply(command);
+            replies.push(reply).unwrap();
+        }
+        Ok(replies)
+    }
+}

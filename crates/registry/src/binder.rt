@@ -1,0 +1,243 @@
+// Binders: a program is bound step by step, while the registry changes.
+ghost use Rattle.std.specs.Prelude.{◌≡◌, [], ℕ, None, IfOk, IfErr, OnOk};
+ghost use Rattle.image.specs.Byte.{byte_of};
+ghost use Rattle.image.specs.Image.{image_byte, image_of};
+ghost use Rattle.image.specs.Refusal.{IsFirstOrWantsMemory, IsProgramAnswer};
+ghost use Rattle.image.specs.Refusal.{program_refusal};
+ghost use Rattle.store.specs.Opened.{Opened};
+ghost use Rattle.registry.specs.Flying.{IsLastStep};
+ghost use Rattle.registry.specs.inside.Source.{Offers, offered};
+ghost use Rattle.registry.specs.inside.Stepping.{refused_step, unread_step};
+ghost use Rattle.registry.specs.inside.Walked.{IsAmong, IsWalked};
+ghost use Rattle.registry.specs.inside.Walked.{walked_objects, walked_refusal};
+
+use crate::bind::refusal_of_read;
+use crate::bound::bind_walked;
+use crate::registry::Registry;
+use crate::source::Source;
+use crate::walk::Walk;
+use hash_check::Admitted;
+use image::{BindRefusal, Image, admit_program};
+use requests::{Refusal, Reply};
+use sector_disk::Disk;
+use snapshots::Snapshot;
+use std::alloc::Global;
+use std::marker::Model;
+use store::{Store, StoreRefusal};
+
+/// What a step of a binder came to.
+#[derive(Drop)]
+pub enum Step {
+    /// There is more to do.
+    Going,
+    /// The answer of the bind: an image, B1 to B5, or S5. The binder is done.
+    Final(Reply),
+}
+
+/// A program that is bound in steps, with the libraries as they were when it was begun. It is good
+/// for its own registry alone, until it is given to `Registry::end`.
+#[derive(Drop)]
+pub struct Binder {
+    program: Vec<u8>,
+    base: u64,
+    snapshot: Snapshot,
+    // From the first step on.
+    walk: Option<Walk>,
+}
+
+impl Model for Binder {
+    ghost use Rattle.registry.specs.inside.Binding.{Binding, IsReady, found_of};
+
+    ghost Value = { Binding };
+
+    ghost view = { λ b. record {
+      program = b.program.items;
+      base = b.base;
+      snapshot = b.snapshot;
+      found = found_of b.walk;
+    } };
+
+    ghost invariant = { λ b. IsReady (record {
+      program = b.program.items;
+      base = b.base;
+      snapshot = b.snapshot;
+      found = found_of b.walk;
+    }) };
+}
+
+/// The first step: the program is tested by itself, and looked at.
+fn look<D: Disk>(
+    alloc: Global,
+    store: &Store<D>,
+    source: Source<'_>,
+    program: &[u8],
+    base: u64,
+) -> Result<Walk, BindRefusal>
+    ensures accepted { OnOk result (program_refusal program.now base ≡ None) }
+    ensures ok { (taken : Opened D) → Offers D.facts source.entry taken store.now
+        → IfOk result (λ walk. IsWalked D.facts program.now taken walk.needs walk.files.items) }
+    ensures among { IfOk result (λ walk. IsAmong (offered source.entry store.now)
+        walk.needs walk.files.items) }
+    ensures none { IfOk result (λ walk. walk.files.items ≡ []) }
+    ensures refused { IfErr result (IsProgramAnswer program.now base) }
+{
+    let program = admit_program(alloc, program, base)?;
+    let walk = Walk::start(alloc, store, source, &program)?;
+    Ok(walk)
+}
+
+/// The last step: the program is bound with what the walk has found.
+fn answer(alloc: Global, program: &[u8], base: u64, walk: &Walk) -> Result<Image, BindRefusal>
+    requires { program_refusal program.now base ≡ None }
+    ensures accepted { OnOk result
+        (walked_refusal program.now base walk.now.needs.missing walk.now.files.items ≡ None) }
+    ensures refused { IfErr result (IsFirstOrWantsMemory
+        (walked_refusal program.now base walk.now.needs.missing walk.now.files.items)) }
+    ensures ok { IfOk result (λ image. image
+        ≡ image_of (walked_objects program.now base walk.now.files.items)) }
+    ensures bytes { IfOk result (λ image. (a : ℕ) → image_byte image a
+        ≡ byte_of (walked_objects program.now base walk.now.files.items) a) }
+{
+    let program = admit_program(alloc, program, base)?;
+    bind_walked(alloc, &program, base, walk)
+}
+
+/// A step of which binding was refused: want of memory lets it be made again, and everything else
+/// is the answer.
+fn refused(refusal: BindRefusal) -> Result<Step, Refusal>
+    ensures value { result ≡ refused_step refusal }
+    ensures last { IfOk result IsLastStep }
+{
+    match refusal {
+        BindRefusal::OutOfMemory => Err(Refusal::OutOfMemory),
+        refusal => Ok(Step::Final(Reply::Refused(Refusal::Bind(refusal)))),
+    }
+}
+
+/// A step of which reading was refused: a damaged file is the answer. After a failed call and for
+/// want of memory it can be made again, and after S2 the disk has to be opened again.
+fn unread(refusal: StoreRefusal) -> Result<Step, Refusal>
+    ensures value { result ≡ unread_step refusal }
+    ensures last { IfOk result IsLastStep }
+{
+    match refusal {
+        StoreRefusal::Device => Err(Refusal::Device),
+        StoreRefusal::Reopen => Err(Refusal::Reopen),
+        StoreRefusal::OutOfMemory => Err(Refusal::OutOfMemory),
+        _ => Ok(Step::Final(Reply::Refused(Refusal::Damaged))),
+    }
+}
+
+impl Binder {
+    ghost use Rattle.std.specs.Prelude.{◌≡◌, ◌<◌, ◌+◌, None, IfOk, IfErr, length};
+    ghost use Rattle.registry.specs.Flight.{Flight};
+    ghost use Rattle.registry.specs.Flying.{Flies, IsLastStep, IsStep, IsStepRefusal};
+    ghost use Rattle.registry.specs.inside.Binding.{Stays};
+    ghost use Rattle.registry.specs.inside.Reading.{IsRead};
+
+    /// The first step.
+    fn first<D: Disk>(&mut self, alloc: Global, store: &Store<D>) -> Result<Step, Refusal>
+        requires { self.old.found ≡ None }
+        ensures step { (flight : Flight) → Flies D.facts store.now self.old flight
+            → IsStep D.facts store.now store.now flight self.new result }
+        ensures stays { Stays self.old self.new }
+        ensures refusals { IfErr result (λ e. e ≡ Refusal.OutOfMemory) }
+        ensures answers { IfOk result IsLastStep }
+    {
+        match look(
+            alloc,
+            store,
+            Source::Held(&self.snapshot),
+            &self.program,
+            self.base,
+        ) {
+            Ok(walk) => {
+                self.walk = Some(walk);
+                Ok(Step::Going)
+            }
+            Err(refusal) => refused(refusal),
+        }
+    }
+
+    /// A step after the first: the next file is read, or the program is bound.
+    fn step<D: Disk>(&mut self, alloc: Global, store: &mut Store<D>) -> Result<Step, Refusal>
+        ensures step { (flight : Flight) → Flies D.facts store.old self.old flight
+            → IsStep D.facts store.old store.new flight self.new result }
+        ensures read { IsRead D.facts store.old store.new }
+        ensures stays { Stays self.old self.new }
+        ensures refusals { IfErr result (IsStepRefusal D.facts store.old store.new) }
+        ensures answers { IfOk result IsLastStep }
+    {
+        let Some(walk) = &mut self.walk else {
+            return self.first(alloc, store);
+        };
+        if !walk.has_next() {
+            return match answer(alloc, &self.program, self.base, walk) {
+                Ok(image) => Ok(Step::Final(Reply::Bound(image))),
+                Err(refusal) => refused(refusal),
+            };
+        }
+        match walk.step(alloc, store, Source::Held(&self.snapshot)) {
+            Ok(()) => Ok(Step::Going),
+            Err(refusal) => unread(refusal),
+        }
+    }
+}
+
+impl<D: Disk> Registry<D> {
+    ghost use Rattle.registry.specs.Flying.{Advances, Begins, Ends};
+
+    /// Begins to bind a program, with the libraries and preloads as they are now, whatever changes
+    /// after it: S2, or S11. It copies the program, holds each library, and makes no call of the
+    /// disk.
+    pub fn begin(&mut self, program: &[u8], base: u64) -> Result<Binder, Refusal>
+        ensures { Begins D.facts self.old self.new program.now base result }
+    {
+        // No two libraries have one name, as this call says, and what is held counts as listed
+        // where it is.
+        let _count = self.store.count();
+        if self.store.has_failed() {
+            return Err(Refusal::Reopen);
+        }
+        let program = program.to_vec(self.alloc)?;
+        match Snapshot::take(self.alloc, &mut self.store) {
+            Ok(snapshot) => Ok(Binder {
+                program,
+                base,
+                snapshot,
+                walk: None,
+            }),
+            Err(refusal) => Err(refusal_of_read(refusal)),
+        }
+    }
+
+    /// Makes the next step of a binder. The first tests the program by itself, each following one
+    /// reads and admits one library, in load order, and the last binds. After S1 and S11 the step
+    /// can be made again; after S2 the disk has to be opened again, and the binder can only be
+    /// ended.
+    pub fn advance(&mut self, binder: &mut Binder) -> Result<Step, Refusal>
+        ensures { Advances D.facts self.old self.new binder.old binder.new result }
+    {
+        // No preload is there twice, and each is a library, as this call says: so no library is
+        // read twice.
+        let _preloads = binder.snapshot.preloads();
+        if self.store.has_failed() {
+            return Err(Refusal::Reopen);
+        }
+        binder.step(self.alloc, &mut self.store)
+    }
+
+    /// Ends a binder, done or not: what it held is let go. It takes no memory and makes no call of
+    /// the disk, also after S2.
+    pub fn end(&mut self, binder: Binder)
+        ensures { Ends D.facts self.old self.new binder }
+    {
+        let Binder {
+            program: _,
+            base: _,
+            snapshot,
+            walk: _,
+        } = binder;
+        snapshot.let_go(&mut self.store);
+    }
+}

@@ -1,0 +1,84 @@
+// Binding a program with the files of its load order.
+ghost use Rattle.std.specs.Prelude.{◌≡◌, ℕ, map, true, None, IfOk, IfErr, OnOk};
+ghost use Rattle.image.specs.Byte.{byte_of};
+ghost use Rattle.image.specs.Image.{image_byte, image_of};
+ghost use Rattle.image.specs.Placement.{is_good_base};
+ghost use Rattle.image.specs.Refusal.{missing_by, placed_refusal, IsFirstOrWantsMemory};
+ghost use Rattle.requests.specs.Binding.{object_of};
+ghost use Rattle.registry.specs.inside.Walked.{walked_objects, walked_refusal};
+
+use crate::library_file::LibraryFile;
+use crate::walk::Walk;
+use hash_check::Admitted;
+use image::{BindRefusal, Image, bind};
+use scope::{Library, NeededName, Order};
+use std::alloc::{AllocError, Global};
+
+/// The libraries that files are.
+fn libraries_of(alloc: Global, files: &[LibraryFile]) -> Result<Vec<Library<'_>>, AllocError>
+    ensures { IfOk result (λ v. v.items ≡ map object_of files.now) }
+{
+    let mut libraries = Vec::with_capacity(alloc, files.len())?;
+    for file in files {
+        libraries.push(file.library())?;
+    }
+    Ok(libraries)
+}
+
+/// Binds a program at a base that is good for it with the files of its load order: from B4 on.
+fn bind_files(
+    alloc: Global,
+    program: &Admitted<'_>,
+    base: u64,
+    files: &[LibraryFile],
+) -> Result<Image, BindRefusal>
+    requires { is_good_base program.now base ≡ true }
+    ensures accepted { OnOk result
+        (placed_refusal (walked_objects program.now base files.now) ≡ None) }
+    ensures refused { IfErr result (IsFirstOrWantsMemory
+        (placed_refusal (walked_objects program.now base files.now))) }
+    ensures ok { IfOk result (λ image. image
+        ≡ image_of (walked_objects program.now base files.now)) }
+    ensures bytes { IfOk result (λ image. (a : ℕ) → image_byte image a
+        ≡ byte_of (walked_objects program.now base files.now) a) }
+{
+    let libraries = libraries_of(alloc, files)?;
+    let order = Order::of(alloc, program, &libraries)?;
+    bind(alloc, &order, base)
+}
+
+/// B3: a needed name that no file goes by, with its needer. Both names are copied.
+fn missing(alloc: Global, need: &NeededName) -> Result<BindRefusal, AllocError>
+    ensures { IfOk result (λ refusal. refusal ≡ missing_by need.now) }
+{
+    let NeededName { needer, name } = NeededName::copy_of(
+        alloc,
+        need.needer.as_bytes(),
+        need.name.as_bytes(),
+    )?;
+    Ok(BindRefusal::Missing { needer, name })
+}
+
+/// Binds a program at a base that is good for it with what a walk has found: B3 where a name is
+/// missing, else from B4 on.
+pub(crate) fn bind_walked(
+    alloc: Global,
+    program: &Admitted<'_>,
+    base: u64,
+    walk: &Walk,
+) -> Result<Image, BindRefusal>
+    requires { is_good_base program.now base ≡ true }
+    ensures accepted { OnOk result
+        (walked_refusal program.now base walk.now.needs.missing walk.now.files.items ≡ None) }
+    ensures refused { IfErr result (IsFirstOrWantsMemory
+        (walked_refusal program.now base walk.now.needs.missing walk.now.files.items)) }
+    ensures ok { IfOk result (λ image. image
+        ≡ image_of (walked_objects program.now base walk.now.files.items)) }
+    ensures bytes { IfOk result (λ image. (a : ℕ) → image_byte image a
+        ≡ byte_of (walked_objects program.now base walk.now.files.items) a) }
+{
+    match &walk.needs.missing {
+        Some(need) => Err(missing(alloc, need)?),
+        None => bind_files(alloc, program, base, &walk.files),
+    }
+}

@@ -1,0 +1,76 @@
+// The file of a library that was read.
+ghost use Rattle.std.specs.Prelude.{◌≡◌, ◌⊎◌, IfOk, IfErr};
+ghost use Rattle.requests.specs.Binding.{object_of};
+ghost use Rattle.requests.specs.Library.{IsLibrary};
+
+use crate::admit::admit_file;
+use elf_dynamic::Object;
+use hash_check::AdmittedFile;
+use names::Name;
+use scope::Library;
+use std::alloc::Global;
+use std::marker::Model;
+use store::StoreRefusal;
+
+/// The file of a library that was read from a disk: no test refuses it, and its name is its SONAME.
+/// It was tested once. Contracts see the library.
+#[derive(Drop)]
+pub(crate) struct LibraryFile {
+    name: Name,
+    file: AdmittedFile,
+}
+
+impl Model for LibraryFile {
+    ghost use Rattle.requests.specs.Library.{IsLibrary};
+    ghost use Rattle.states.specs.State.{Library};
+
+    ghost Value = { Library };
+
+    ghost view = { λ f. record { name = f.name; bytes = f.file } };
+
+    ghost invariant = { λ f. IsLibrary (record { name = f.name; bytes = f.file }) };
+}
+
+impl LibraryFile {
+    /// A file that is a library of this name, or S5 where it is none.
+    pub(crate) fn new(
+        alloc: Global,
+        name: &[u8],
+        bytes: Vec<u8>,
+    ) -> Result<LibraryFile, StoreRefusal>
+        ensures ok { IfOk result (λ file. file
+            ≡ record { name = name.now; bytes = bytes.items }) }
+        ensures damaged { IfErr result (λ e. e ≡ StoreRefusal.Damaged
+            → IsLibrary (record { name = name.now; bytes = bytes.items }) → ⊥) }
+        ensures refusals { IfErr result (λ e. (e ≡ StoreRefusal.Damaged)
+            ⊎ (e ≡ StoreRefusal.OutOfMemory)) }
+    {
+        let file = admit_file(alloc, name, bytes)?;
+        let name = Name::copy_of(alloc, name)?;
+        Ok(LibraryFile { name, file })
+    }
+
+    /// Its name.
+    pub(crate) fn name(&self) -> &[u8]
+        ensures { result.now ≡ self.now.name }
+    {
+        self.name.as_bytes()
+    }
+
+    /// The object that it is. It costs what `ObjectFile::object` costs.
+    pub(crate) fn object(&self) -> Object<'_>
+        ensures { result ≡ self.now.bytes }
+    {
+        self.file.object()
+    }
+
+    /// The library that it is. It costs what `ObjectFile::object` costs.
+    pub(crate) fn library(&self) -> Library<'_>
+        ensures { result ≡ object_of self.now }
+    {
+        Library {
+            name: self.name.as_bytes(),
+            object: self.file.admitted(),
+        }
+    }
+}

@@ -1,0 +1,50 @@
+// The files that a bind needs, read one after the other.
+ghost use Rattle.std.specs.Prelude.{◌≡◌, map, sum_by, IfOk, IfErr};
+ghost use Rattle.sector_disk.specs.Disk.{AreCallsExactly};
+ghost use Rattle.scope.specs.LoadOrder.{available, load_order, missing};
+ghost use Rattle.requests.specs.Binding.{object_of, objects, preload_numbers};
+ghost use Rattle.states.specs.State.{State};
+ghost use Rattle.registry.specs.Opened.{IsAt};
+ghost use Rattle.registry.specs.Binding.{data_sectors};
+ghost use Rattle.registry.specs.inside.Reading.{IsRead, IsReadRefusal};
+
+use crate::source::Source;
+use crate::walk::Walk;
+use hash_check::Admitted;
+use sector_disk::Disk;
+use std::alloc::Global;
+use store::{Store, StoreRefusal};
+
+/// Reads the files that a program needs, in load order: the preloads, and then level by level what
+/// these and the program need, of the files that there are. Each is read once, whole, and admitted
+/// before the next; no other file is read.
+pub(crate) fn read_needed<D: Disk>(
+    alloc: Global,
+    store: &mut Store<D>,
+    program: &Admitted<'_>,
+) -> Result<Walk, StoreRefusal>
+    ensures read { IsRead D.facts store.old store.new }
+
+    // The program and the files are the load order, and the first name that no file goes by is
+    // known.
+    ensures ok { (s : State) → IsAt D.facts store.old s → IfOk result (λ walk.
+        load_order program.now (objects s) (preload_numbers s)
+        ≡ available program.now (map object_of walk.files.items)) }
+    ensures missing { (s : State) → IsAt D.facts store.old s → IfOk result (λ walk.
+        missing program.now (objects s) (preload_numbers s) ≡ walk.needs.missing) }
+    ensures intact { (s : State) → IsAt D.facts store.old s
+        → IfErr result (λ e. e ≡ StoreRefusal.Damaged → ⊥) }
+    ensures refusals { IfErr result (IsReadRefusal D.facts store.old store.new) }
+    ensures all_calls { IfOk result (λ walk. AreCallsExactly
+        (sum_by (λ file. data_sectors file.bytes) walk.files.items)
+        (D.facts store.old.disk) (D.facts store.new.disk)) }
+{
+    // No two files have one name, as this call says.
+    let _count = store.count();
+    let source = Source::Current;
+    let mut walk = Walk::start(alloc, store, source, program)?;
+    while walk.has_next() {
+        walk.step(alloc, store, source)?;
+    }
+    Ok(walk)
+}

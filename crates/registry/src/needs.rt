@@ -1,0 +1,117 @@
+// What is needed of the files that there are.
+ghost use Rattle.std.specs.Prelude.{◌≡◌, ◌≤◌, ◌+◌, ◌∷◌, [], List, map, take, length, Some, OnOk, OnErr};
+ghost use Rattle.std.specs.Option.{option_or};
+ghost use Rattle.elf_dynamic.specs.Strings.{needed};
+ghost use Rattle.store.specs.Stands.{HaveOwnNames};
+ghost use Rattle.store.specs.declared.placed_entry.PlacedEntry.{PlacedEntry};
+ghost use Rattle.store.specs.NameOrder.{entry_names};
+ghost use Rattle.registry.specs.inside.Source.{HasEntries, offered};
+ghost use Rattle.registry.specs.inside.Walked.{Grows, more_needs};
+
+use crate::source::{Source, place_of};
+use elf_dynamic::Object;
+use scope::{NeededName, Places};
+use sector_disk::Disk;
+use std::alloc::{AllocError, Global};
+use store::Store;
+
+/// What a walk has found to be needed of the files that there are.
+#[derive(Drop)]
+pub(crate) struct Needs {
+    /// The queue of places: the program is at place 0, and a file at the place after its position.
+    pub(crate) places: Places,
+    /// The first needed name that no file goes by.
+    pub(crate) missing: Option<NeededName>,
+}
+
+/// Notes a name that is missing, and who needs it, unless one was noted before.
+fn note(
+    alloc: Global,
+    missing: &mut Option<NeededName>,
+    needer: &[u8],
+    name: &[u8],
+) -> Result<(), AllocError>
+    ensures ok { OnOk result (missing.new
+        ≡ option_or missing.old (Some (record { needer = needer.now; name = name.now }))) }
+    ensures same { OnErr result (missing.new ≡ missing.old) }
+{
+    if missing.is_none() {
+        *missing = Some(NeededName::copy_of(alloc, needer, name)?);
+    }
+    Ok(())
+}
+
+impl Needs {
+    /// Adds the place of the file of this name, or notes that there is none.
+    fn add_named<D: Disk>(
+        &mut self,
+        alloc: Global,
+        store: &Store<D>,
+        source: Source<'_>,
+        needer: &[u8],
+        name: &[u8],
+    ) -> Result<(), AllocError>
+        requires { self.old.places.limit ≡ offered source store.now + 1 }
+        ensures ok { (entries : List PlacedEntry) → HasEntries source.entry store.now entries
+            → HaveOwnNames entries → OnOk result (self.new
+            ≡ more_needs (entry_names entries) self.old needer.now (name.now ∷ [])) }
+        ensures grows { Grows self.old self.new }
+        ensures same { OnErr result (self.new ≡ self.old) }
+    {
+        match place_of(store, source, name) {
+            Some(place) => self.places.add(place),
+            None => note(alloc, &mut self.missing, needer, name),
+        }
+    }
+
+    /// Adds the places of the files that an object needs, and notes the first name that no file
+    /// goes by, as far as memory is given.
+    fn add_each<D: Disk>(
+        &mut self,
+        alloc: Global,
+        store: &Store<D>,
+        source: Source<'_>,
+        needer: &[u8],
+        object: &Object<'_>,
+    ) -> Result<(), AllocError>
+        requires { self.old.places.limit ≡ offered source store.now + 1 }
+        ensures ok { (entries : List PlacedEntry) → HasEntries source.entry store.now entries
+            → HaveOwnNames entries → OnOk result (self.new
+            ≡ more_needs (entry_names entries) self.old needer.now (needed object.now)) }
+        ensures grows { Grows self.old self.new }
+    {
+        for name in object.needed_names() {
+            self.add_named(alloc, store, source, needer, name)?;
+        }
+        Ok(())
+    }
+
+    /// The same, or nothing where memory is refused. One pass over the object's dynamic section,
+    /// with one search among the names for each needed name.
+    pub(crate) fn add_needed<D: Disk>(
+        &mut self,
+        alloc: Global,
+        store: &Store<D>,
+        source: Source<'_>,
+        needer: &[u8],
+        object: &Object<'_>,
+    ) -> Result<(), AllocError>
+        requires { self.old.places.limit ≡ offered source store.now + 1 }
+        ensures ok { (entries : List PlacedEntry) → HasEntries source.entry store.now entries
+            → HaveOwnNames entries → OnOk result (self.new
+            ≡ more_needs (entry_names entries) self.old needer.now (needed object.now)) }
+        ensures grows { Grows self.old self.new }
+        ensures same { OnErr result (self.new ≡ self.old) }
+    {
+        let count = self.places.count();
+        let known = self.missing.is_some();
+        let added = self.add_each(alloc, store, source, needer, object);
+        if added.is_err() {
+            self.places.shorten(count);
+            if !known {
+                self.missing = None;
+            }
+        }
+        added
+    }
+}

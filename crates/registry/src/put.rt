@@ -1,0 +1,74 @@
+// Putting a library: behind the others, or in the place of the one of its name.
+use crate::refusal::refusal_of;
+use crate::registry::Registry;
+use requests::{Refusal, library_name};
+use sector_disk::Disk;
+
+impl<D: Disk> Registry<D> {
+    ghost use Rattle.std.specs.Prelude.{◌+◌, length};
+    ghost use Rattle.std.specs.Int.{div_ceil};
+    ghost use Rattle.sector_disk.specs.Disk.{sector_bytes};
+    ghost use Rattle.states.specs.Cost.{catalogues_for};
+    ghost use Rattle.store.specs.Changed.{Changed};
+    ghost use Rattle.store.specs.Holders.{KeepsHeld};
+    ghost use Rattle.requests.specs.Request.{install, replace};
+    ghost use Rattle.states.specs.State.{State};
+    ghost use Rattle.requests.specs.Step.{answer_of};
+    ghost use Rattle.registry.specs.Answered.{IsInstallRefusal, IsReplaceRefusal};
+    ghost use Rattle.registry.specs.Applied.{Applies};
+    ghost use Rattle.registry.specs.Opened.{IsAt};
+
+    /// Installs a library: its file goes into free sectors, behind the others. It makes a call of
+    /// the disk for each of its sectors, for its entry, for each catalogue of the new list, for the
+    /// root, and two to sync.
+    pub(crate) fn install(&mut self, bytes: &[u8]) -> Result<(), Refusal>
+        ensures applied { (s : State) → IsAt D.facts self.old s
+            → Applies D.facts self.old self.new s (install bytes.now) (answer_of result) }
+
+        // What somebody holds stays as it was.
+        ensures held { KeepsHeld D.facts self.old self.new }
+
+        ensures on_any_disk { Changed D.facts Refusal.Device Refusal.Reopen
+            self.old self.new (div_ceil (length bytes.now) sector_bytes
+            + catalogues_for (length self.old.entries + 1) + 4) IsInstallRefusal result }
+    {
+        if self.store.has_failed() {
+            return Err(Refusal::Reopen);
+        }
+        let name = library_name(self.alloc, bytes)?;
+        if self.store.position(name).is_some() {
+            return Err(Refusal::AlreadyInstalled);
+        }
+        match self.store.put_new(name, bytes) {
+            Ok(()) => Ok(()),
+            Err(refusal) => Err(refusal_of(refusal)),
+        }
+    }
+
+    /// Replaces a library's file, which keeps its place. The sectors of the old one are free once
+    /// it is done, and not before. It makes as many calls of the disk as `install`, with the
+    /// catalogues of as many libraries as before.
+    pub(crate) fn replace(&mut self, bytes: &[u8]) -> Result<(), Refusal>
+        ensures applied { (s : State) → IsAt D.facts self.old s
+            → Applies D.facts self.old self.new s (replace bytes.now) (answer_of result) }
+
+        // What somebody holds stays as it was.
+        ensures held { KeepsHeld D.facts self.old self.new }
+
+        ensures on_any_disk { Changed D.facts Refusal.Device Refusal.Reopen
+            self.old self.new (div_ceil (length bytes.now) sector_bytes
+            + catalogues_for (length self.old.entries) + 4) IsReplaceRefusal result }
+    {
+        if self.store.has_failed() {
+            return Err(Refusal::Reopen);
+        }
+        let name = library_name(self.alloc, bytes)?;
+        if self.store.position(name).is_none() {
+            return Err(Refusal::NotInstalled);
+        }
+        match self.store.put_over(name, bytes) {
+            Ok(()) => Ok(()),
+            Err(refusal) => Err(refusal_of(refusal)),
+        }
+    }
+}

@@ -1,0 +1,89 @@
+// Whole lives of a disk in memory: rounds of commands, with a stop after each.
+use crate::registry::Registry;
+use requests::{Command, Reply};
+use sector_disk::{Fuse, Memory};
+use std::alloc::{AllocError, Global};
+use store::StoreRefusal;
+
+/// A round: the disk is opened, takes commands, and is stopped. Call number `cut` of the round
+/// fails, and all later ones; with `late` that call reaches the disk before it fails.
+#[derive(Drop)]
+pub struct Round<'a> {
+    /// What is asked, in this order.
+    pub commands: Vec<Command<'a>>,
+    /// The number of the call that fails, counted from 1: with 0 none does.
+    pub cut: u64,
+    /// Whether that call reaches the disk.
+    pub late: bool,
+    /// The choice of each sector at the stop, these over and over.
+    pub picks: Vec<usize>,
+}
+
+/// What came of a round.
+#[derive(Drop)]
+pub enum RoundReplies {
+    /// One reply for each command.
+    Ran(Vec<Reply>),
+    /// The opening was refused, or the replies found no memory.
+    NotRun(StoreRefusal),
+}
+
+// The choice of a sector: these over and over, or the first where there is none.
+fn pick(picks: &[usize], at: u32) -> usize {
+    if picks.is_empty() {
+        return 0;
+    }
+    picks[at as usize % picks.len()]
+}
+
+ghost use Rattle.std.specs.Prelude.{◌≡◌, IfOk, IfErr};
+ghost use Rattle.requests.specs.Runs.{Run};
+ghost use Rattle.states.specs.State.{State};
+ghost use Rattle.registry.specs.Rounds.{AlwaysStands, RoundLeads};
+
+// Opens the disk, runs the commands, and stops the disk.
+fn run_round(alloc: Global, disk: Memory, round: &Round<'_>) -> (RoundReplies, Memory)
+    ensures { (s : State) → AlwaysStands disk s → (s' : State)
+        × RoundLeads s round.now result.0 s' × AlwaysStands result.1 s' }
+{
+    let fuse = Fuse::new(disk, round.cut, true, round.late);
+    let (replies, fuse) = match Registry::open(alloc, fuse) {
+        Ok(mut registry) => {
+            let replies = match registry.run(&round.commands) {
+                Ok(replies) => RoundReplies::Ran(replies),
+                Err(_) => RoundReplies::NotRun(StoreRefusal::OutOfMemory),
+            };
+            (replies, registry.into_disk())
+        }
+        Err((refusal, fuse)) => (RoundReplies::NotRun(refusal), fuse),
+    };
+    let picks = round.picks.as_slice();
+    let stopped = fuse.into_inner().stop(|at, _| pick(picks, at));
+    (replies, stopped)
+}
+
+/// Runs rounds one after the other, and gives the replies of each, and the disk after the last
+/// stop. Where memory for the list is refused, nothing is run.
+pub fn run_rounds(
+    alloc: Global,
+    disk: Memory,
+    rounds: Vec<Round<'_>>,
+) -> Result<(Vec<RoundReplies>, Memory), (AllocError, Memory)>
+    // From each state that the disk stands for, each round leads to the next state, and the disk
+    // stands for the last one.
+    ensures ok { (s : State) → AlwaysStands disk s → IfOk result (λ done. (s' : State)
+        × Run RoundLeads s rounds.entry.items done.0.items s' × AlwaysStands done.1 s') }
+    ensures err { IfErr result (λ refused. refused.1 ≡ disk) }
+{
+    let mut told = match Vec::with_capacity(alloc, rounds.len()) {
+        Ok(told) => told,
+        Err(refused) => return Err((refused, disk)),
+    };
+    let mut disk = disk;
+    for round in &rounds {
+        let (replies, stopped) = run_round(alloc, disk, round);
+        told.push(replies).unwrap();
+        disk = stopped;
+    }
+    Ok((told, disk))
+}

@@ -1,0 +1,137 @@
+// The walk of a bind through the files of its load order.
+ghost use Rattle.std.specs.Prelude.{◌≡◌, ◌<◌, ◌≤◌, ◌+◌, ◌-◌, ◌++◌, ◌∷◌, [], ℕ, List, length};
+ghost use Rattle.std.specs.Prelude.{get_or, slice_index_or, true, false, IfOk, IfErr, OnOk, OnErr};
+ghost use Rattle.sector_disk.specs.Disk.{AreCallsAtMost, AreCallsExactly};
+ghost use Rattle.scope.specs.Queue.{AreApart};
+ghost use Rattle.store.specs.Opened.{Opened};
+ghost use Rattle.store.specs.Stands.{no_library};
+ghost use Rattle.store.specs.declared.placed_entry.PlacedEntry.{PlacedEntry};
+ghost use Rattle.states.specs.State.{Library, State};
+ghost use Rattle.registry.specs.Binding.{data_sectors};
+ghost use Rattle.registry.specs.Opened.{IsAt};
+ghost use Rattle.registry.specs.Stands.{file_sectors};
+ghost use Rattle.registry.specs.inside.Reading.{IsRead, IsReadRefusal};
+ghost use Rattle.registry.specs.inside.Source.{HasEntries, HasFiles, Offers, offered};
+ghost use Rattle.registry.specs.inside.Walked.{ArePlaces, IsAmong, IsWalked, next_place};
+
+use crate::library_file::LibraryFile;
+use crate::needs::Needs;
+use crate::reading::read_library;
+use crate::source::{Source, count, preload_numbers};
+use hash_check::Admitted;
+use scope::{first_level, program_name};
+use sector_disk::Disk;
+use std::alloc::{AllocError, Global};
+use store::{Store, StoreRefusal};
+
+/// A walk by levels through the files that a program needs: what is needed, and the files that were
+/// read, in load order.
+#[derive(Drop)]
+pub(crate) struct Walk {
+    pub(crate) needs: Needs,
+    pub(crate) files: Vec<LibraryFile>,
+}
+
+impl Walk {
+    /// A walk at its start: the program was looked at, and no file was read.
+    pub(crate) fn start<D: Disk>(
+        alloc: Global,
+        store: &Store<D>,
+        source: Source<'_>,
+        program: &Admitted<'_>,
+    ) -> Result<Walk, AllocError>
+        ensures ok { (taken : Opened D) → Offers D.facts source.entry taken store.now
+            → IfOk result (λ walk. IsWalked D.facts program.now taken
+            walk.needs walk.files.items) }
+        ensures among { IfOk result (λ walk. IsAmong (offered source.entry store.now)
+            walk.needs walk.files.items) }
+        ensures none { IfOk result (λ walk. walk.files.items ≡ []) }
+    {
+        let preloads = preload_numbers(alloc, store, source)?;
+        let places = first_level(alloc, count(store, source), &preloads)?;
+        let mut needs = Needs {
+            places,
+            missing: None,
+        };
+        needs.add_needed(alloc, store, source, program_name(), program.object())?;
+        let files = Vec::new(alloc);
+        Ok(Walk { needs, files })
+    }
+
+    /// Whether a file is left to be read.
+    pub(crate) fn has_next(&self) -> bool
+        ensures yes { result ≡ true
+            → length self.now.files.items + 1 < length self.now.needs.places.places }
+        ensures no { result ≡ false
+            → length self.now.needs.places.places ≤ length self.now.files.items + 1 }
+        ensures few { length self.now.needs.places.places ≤ self.now.needs.places.limit }
+        ensures apart { AreApart self.now.needs.places.limit self.now.needs.places.places }
+    {
+        self.files.len() + 1 < self.needs.places.count()
+    }
+
+    /// The position of the file that is to be read next.
+    fn next_position(&self) -> usize
+        requires next { length self.now.files.items + 1 < length self.now.needs.places.places }
+        requires first { get_or self.now.needs.places.places 0 1 ≡ 0 }
+        ensures next { result ≡ next_place self.now.needs self.now.files.items - 1 }
+        ensures inside { result + 1 < self.now.needs.places.limit }
+        ensures above { 0 < next_place self.now.needs self.now.files.items }
+        ensures apart { AreApart self.now.needs.places.limit self.now.needs.places.places }
+    {
+        // No place is there twice, as this call says: so only the first one is the program's.
+        let _count = self.needs.places.count();
+        self.needs.places.at(self.files.len() + 1) - 1
+    }
+
+    /// Reads the next file, whole, admits it, and looks at what it needs. A refusal leaves the walk
+    /// as it was.
+    pub(crate) fn step<D: Disk>(
+        &mut self,
+        alloc: Global,
+        store: &mut Store<D>,
+        source: Source<'_>,
+    ) -> Result<(), StoreRefusal>
+        requires next { length self.old.files.items + 1 < length self.old.needs.places.places }
+        requires among { IsAmong (offered source store.old)
+            self.old.needs self.old.files.items }
+        ensures walked { (program : List ℕ) → (taken : Opened D)
+            → Offers D.facts source.entry taken store.old
+            → IsWalked D.facts program taken self.old.needs self.old.files.items
+            → OnOk result
+            (IsWalked D.facts program taken self.new.needs self.new.files.items) }
+
+        // One file more is read: which one, and how many sectors it takes.
+        ensures further { OnOk result ((file : Library)
+            × (self.new.files.items ≡ self.old.files.items ++ file ∷ [])
+            × ((s : State) → HasFiles D.facts source.entry store.old s → file
+            ≡ slice_index_or s.libraries
+            (next_place self.old.needs self.old.files.items - 1) no_library)
+            × ((entries : List PlacedEntry) → HasEntries source.entry store.old entries
+            → AreCallsExactly (data_sectors file.bytes)
+            (D.facts store.old.disk) (D.facts store.new.disk))) }
+        ensures calls { (entries : List PlacedEntry) → HasEntries source.entry store.old entries
+            → (d : PlacedEntry) → AreCallsAtMost (file_sectors (slice_index_or entries
+            (next_place self.old.needs self.old.files.items - 1) d))
+            (D.facts store.old.disk) (D.facts store.new.disk) }
+        ensures among { OnOk result (IsAmong (offered source.entry store.old)
+            self.new.needs self.new.files.items) }
+        ensures same { OnErr result ((self.new.needs ≡ self.old.needs)
+            × (self.new.files.items ≡ self.old.files.items)) }
+        ensures read { IsRead D.facts store.old store.new }
+        ensures intact { (s : State) → (taken : Opened D)
+            → Offers D.facts source.entry taken store.old → IsAt D.facts taken s
+            → IfErr result (λ e. e ≡ StoreRefusal.Damaged → ⊥) }
+        ensures refusals { IfErr result (IsReadRefusal D.facts store.old store.new) }
+    {
+        let position = self.next_position();
+        let file = read_library(alloc, store, source, position)?;
+        self.files.reserve(1)?;
+        self.needs
+            .add_needed(alloc, store, source, file.name(), &file.object())?;
+        match self.files.push(file) {
+            Ok(()) => Ok(()),
+            Err(_) => unreachable!(),
+        }
+    }
+}

@@ -1,0 +1,5 @@
+pub mod Bindings
+pub mod LibraryLists
+pub mod Names
+pub mod Runs
+pub mod Sonames

@@ -1,0 +1,10 @@
+pub mod Library
+pub mod Reading
+pub mod State
+pub mod Request
+pub mod Table
+pub mod Tests
+pub mod Binding
+pub mod Phase
+pub mod Step
+pub mod Runs

@@ -1,0 +1,25 @@
+-- What a command asks. A command borrows its bytes, and so is no plain value.
+use Rattle.std.specs.Prelude.{ℕ, List, map}
+use Rattle.requests.specs.declared.command.Command.{Command}
+use Rattle.requests.specs.declared.command.Command.TheVariants as command
+
+pub data Request : Type 0 where
+  -- the bytes of a file
+  install : List ℕ → Request
+  replace : List ℕ → Request
+  -- a name
+  remove : List ℕ → Request
+  -- names in their order
+  set_preloads : List (List ℕ) → Request
+  -- the bytes of a program's file, and its base
+  bind : List ℕ → ℕ → Request
+  list : Request
+
+-- what a command of the program asks
+abbrev pub request_of : Command → Request
+request_of (command.Install bytes) = install bytes.now
+request_of (command.Replace bytes) = replace bytes.now
+request_of (command.Remove name) = remove name.now
+request_of (command.SetPreloads names) = set_preloads (map (λ n. n.now) names.now)
+request_of (command.Bind program base) = bind program.now base
+request_of command.List = list

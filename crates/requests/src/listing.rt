@@ -1,0 +1,21 @@
+// What is listed.
+
+use names::Name;
+use std::marker::Model;
+
+/// What a registry holds. Contracts see the two lists.
+#[derive(Debug, Drop)]
+pub struct Listing {
+    /// Each library's name, and the length of its file in bytes, in the order of installation.
+    pub libraries: Vec<(Name, u32)>,
+    /// The names of the preloads, in their order.
+    pub preloads: Vec<Name>,
+}
+
+impl Model for Listing {
+    ghost use Rattle.requests.specs.Table.{Listed};
+
+    ghost Value = { Listed };
+
+    ghost view = { λ l. record { libraries = l.libraries.items; preloads = l.preloads.items } };
+}

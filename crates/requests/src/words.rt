@@ -1,0 +1,40 @@
+// Names that a command borrows.
+
+ghost use Rattle.std.specs.Prelude.{◌≡◌, map, length, bytes_eq, nat_lt};
+ghost use Rattle.std.specs.List.{list_any};
+ghost use Rattle.states.specs.Limits.{most_preloads};
+ghost use Rattle.states.specs.State.{has_name};
+ghost use Rattle.requests.specs.Tests.{has_repeat};
+
+use states::MOST_PRELOADS;
+
+/// Whether one of the names is this one.
+fn is_among(name: &[u8], names: &[&[u8]]) -> bool
+    ensures { result ≡ list_any (λ n. bytes_eq name.now n.now) names.now }
+{
+    names.iter().any(|n| name == *n)
+}
+
+/// Whether one of the names is this one.
+fn has_name(names: &[&[u8]], name: &[u8]) -> bool
+    ensures { result ≡ has_name (map (λ n. n.now) names.now) name.now }
+{
+    is_among(name, names)
+}
+
+/// Whether there are more names than there may be preloads.
+pub fn are_too_many(names: &[&[u8]]) -> bool
+    ensures { result ≡ nat_lt most_preloads (length (map (λ n. n.now) names.now)) }
+{
+    names.len() > MOST_PRELOADS
+}
+
+/// Whether a name stands twice.
+pub fn has_repeat(names: &[&[u8]]) -> bool
+    ensures { result ≡ has_repeat (map (λ n. n.now) names.now) }
+{
+    match names {
+        [] => false,
+        [name, others @ ..] => has_name(others, name) || has_repeat(others),
+    }
+}

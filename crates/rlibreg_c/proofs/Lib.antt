@@ -1,0 +1,4 @@
+mod Given
+mod Places
+mod Rows
+mod Steps

@@ -1,0 +1,152 @@
+-- What a call puts into its buffers and its answer (own).
+use Rattle.std.specs.Prelude.{◌≡◌, ◌⊎◌, ◌<◌, ◌^◌, ◌-◌, ℕ, List, length, take, min}
+use Rattle.byte_disk.specs.declared.step.Step.{Step}
+use Rattle.states.specs.State.{State}
+use Rattle.store.specs.declared.refusal.StoreRefusal.{StoreRefusal}
+use Rattle.requests.specs.Request.{Request, list, set_preloads}
+use Rattle.requests.specs.Table.{Listed}
+use Rattle.requests.specs.Step.{accepted}
+use Rattle.requests.specs.declared.refusal.Refusal.{Refusal}
+use Rattle.requests.specs.declared.reply.Reply.{Reply}
+use Rattle.requests.specs.declared.reply.Reply.TheVariants as reply
+use Rattle.commands.specs.Disk.{disk_refusal_text}
+use Rattle.commands.specs.Refusal.{memory_text}
+use Rattle.commands.specs.Reply.{reply_text}
+use Rattle.byte_disk.specs.Bytes.{sectors_in}
+use Rattle.rlibreg_c.specs.declared.answer.Answer.{Answer}
+use Rattle.byte_registry.specs.Asked.{IsAsked, IsUnopened, IsFormatted, IsUnformatted, IsUpgraded, IsUnupgraded}
+use Rattle.rlibreg_c.specs.declared.place.SegmentPlace.{SegmentPlace}
+use Rattle.rlibreg_c.specs.declared.entry.EntryPlace.{EntryPlace}
+use Rattle.rlibreg_c.specs.Layout.{IsImageGiven}
+use Rattle.rlibreg_c.specs.Listing.{Counts, AreListed, LackSpace, entries_of}
+use Rattle.rlibreg_c.specs.Names.{AreNames}
+use Rattle.rlibreg_c.specs.Numbers.{no_room, bad_argument, out_of_memory, store_number, reply_number, file_number_in}
+use Rattle.byte_registry.specs.Plans.{Holds, LeadsTo}
+use Rattle.rlibreg_c.specs.Spelling.{plan_bytes}
+
+-- The text says this: as much of it as has room, and its whole length.
+pub record Says (said text : List ℕ) (told_size : ℕ) : Type 0 where
+  pub size : told_size ≡ length said
+  pub begins : take (length said) text ≡ take (length text) said
+
+-- memory was refused
+pub record WantsMemory (text : List ℕ) (told_size told : ℕ) : Type 0 where
+  pub status : told ≡ out_of_memory
+  pub says : Says memory_text text told_size
+
+-- The reply is told: by its number, by that of the test that refuses a file, and by its text.
+pub record Tells (reply : Reply) (text : List ℕ) (told_size told_file told : ℕ) : Type 0 where
+  pub status : told ≡ reply_number reply
+  pub file : told_file ≡ file_number_in reply
+  pub says : Says (reply_text reply) text told_size
+
+-- It is told why there is no registry.
+pub record TurnsAway (refusal : StoreRefusal) (text : List ℕ) (told_size told : ℕ) : Type 0 where
+  pub status : told ≡ store_number refusal
+  pub says : Says (disk_refusal_text refusal) text told_size
+
+-- The buffer of the plan has these steps, which are so many bytes, and so many.
+pub record HasPlan (steps : List Step) (buffer : List ℕ) (told_bytes told_count : ℕ) : Type 0 where
+  pub bytes : told_bytes ≡ length (plan_bytes steps)
+  pub spelled : take told_bytes buffer ≡ plan_bytes steps
+  pub count : told_count ≡ length steps
+
+-- The buffer of the plan is too small for these steps, which are so many bytes.
+pub record LacksRoom (steps : List Step) (buffer : List ℕ) (told_bytes told : ℕ) : Type 0 where
+  pub status : told ≡ no_room
+  pub small : length buffer < length (plan_bytes steps)
+  pub needed : told_bytes ≡ min (length (plan_bytes steps)) (2 ^ 64 - 1)
+
+-- the reply is told, or memory for that was refused
+abbrev pub IsTold : Reply → List ℕ → Answer → ℕ → Type 0
+IsTold reply text answer status = Tells reply text answer.text answer.file_refusal status ⊎ WantsMemory text answer.text status
+
+-- it is told why there is no registry, or memory for that was refused
+abbrev pub IsTurnedAway : StoreRefusal → List ℕ → Answer → ℕ → Type 0
+IsTurnedAway refusal text answer status = TurnsAway refusal text answer.text status ⊎ WantsMemory text answer.text status
+
+-- the steps are given, and that it is done is told; or their buffer is too small
+abbrev pub IsPlanned : List Step → List ℕ → List ℕ → Answer → ℕ → Type 0
+IsPlanned steps plan text answer status = (HasPlan steps plan answer.bytes answer.count × IsTold reply.Done text answer status) ⊎ LacksRoom steps plan answer.bytes status
+
+-- The plan of a change of the registry that the bytes hold: it leads from their state, and they hold no other, to the one
+-- that acceptance gives.
+pub record IsPlanOf (bytes : List ℕ) (request : Request) (buffer : List ℕ) (answer : Answer) : Type 0 where
+  pub state : State
+  pub steps : List Step
+  pub holds : Holds bytes state
+  pub only : (other : State) → Holds bytes other → other ≡ state
+  pub leads : LeadsTo (sectors_in bytes) state (accepted state request) steps
+  pub plan : HasPlan steps buffer answer.bytes answer.count
+
+-- what a reply to a change is told by
+abbrev pub IsChangeTold : Reply → List Step → List ℕ → List ℕ → Answer → ℕ → Type 0
+IsChangeTold reply.Done steps plan text answer status = IsPlanned steps plan text answer status
+IsChangeTold other steps plan text answer status = IsTold other text answer status
+
+-- A change was asked of the registry that the bytes hold, and its reply is told; or there is none, and it is told why.
+abbrev pub IsChangeAnswered : List ℕ → Request → List ℕ → List ℕ → Answer → ℕ → Type 0
+IsChangeAnswered bytes request plan text answer status =
+    ((s : State) × (reply : Reply) × (steps : List Step) × IsAsked bytes s request reply steps × IsChangeTold reply steps plan text answer status)
+    ⊎ ((refusal : StoreRefusal) × IsUnopened bytes refusal × IsTurnedAway refusal text answer status)
+
+-- what a reply to a bind is told by
+abbrev pub IsBindTold : Reply → List SegmentPlace → List ℕ → List ℕ → Answer → ℕ → Type 0
+IsBindTold (reply.Bound image) segments bytes text answer status = IsImageGiven image segments bytes answer status
+IsBindTold other segments bytes text answer status = IsTold other text answer status
+
+-- A bind was asked of the registry that the bytes hold, and its reply is told; or there is none, and it is told why.
+abbrev pub IsBindAnswered : List ℕ → Request → List SegmentPlace → List ℕ → List ℕ → Answer → ℕ → Type 0
+IsBindAnswered disk request segments bytes text answer status =
+    ((s : State) × (reply : Reply) × (steps : List Step) × IsAsked disk s request reply steps × IsBindTold reply segments bytes text answer status)
+    ⊎ ((refusal : StoreRefusal) × IsUnopened disk refusal × IsTurnedAway refusal text answer status)
+
+-- The plan of an empty registry on a disk of these bytes.
+pub record IsFormatPlan (bytes buffer : List ℕ) (answer : Answer) : Type 0 where
+  pub steps : List Step
+  pub formatted : IsFormatted bytes steps
+  pub plan : HasPlan steps buffer answer.bytes answer.count
+
+-- a registry was made, and its plan is given; or none is made, and it is told why
+abbrev pub IsFormatAnswered : List ℕ → List ℕ → List ℕ → Answer → ℕ → Type 0
+IsFormatAnswered bytes plan text answer status =
+    ((steps : List Step) × IsFormatted bytes steps × IsPlanned steps plan text answer status)
+    ⊎ ((refusal : StoreRefusal) × IsUnformatted bytes refusal × IsTurnedAway refusal text answer status)
+
+-- The plan of an upgrade of the registry that these bytes hold.
+pub record IsUpgradePlan (bytes buffer : List ℕ) (answer : Answer) : Type 0 where
+  pub state : State
+  pub steps : List Step
+  pub upgraded : IsUpgraded bytes state steps
+  pub plan : HasPlan steps buffer answer.bytes answer.count
+
+-- a registry was upgraded, and its plan is given; or none is, and it is told why
+abbrev pub IsUpgradeAnswered : List ℕ → List ℕ → List ℕ → Answer → ℕ → Type 0
+IsUpgradeAnswered bytes plan text answer status =
+    ((s : State) × (steps : List Step) × IsUpgraded bytes s steps × IsPlanned steps plan text answer status)
+    ⊎ ((refusal : StoreRefusal) × IsUnupgraded bytes refusal × IsTurnedAway refusal text answer status)
+
+-- a listing is given, and told; or a buffer is too small
+abbrev pub IsListGiven : Listed → List EntryPlace → List ℕ → List ℕ → Answer → ℕ → Type 0
+IsListGiven l entries names text answer status = Counts l answer.count answer.preloads
+    × ((AreListed (entries_of l) entries names answer.bytes × IsTold (reply.Listing l) text answer status)
+    ⊎ ((status ≡ no_room) × LackSpace (entries_of l) entries names answer.bytes))
+
+-- what a reply to a listing is told by; of one, the generation is told too
+abbrev pub IsListTold : State → Reply → List EntryPlace → List ℕ → List ℕ → Answer → ℕ → Type 0
+IsListTold s (reply.Listing l) entries names text answer status = IsListGiven l entries names text answer status × (answer.generation ≡ s.generation)
+IsListTold s other entries names text answer status = IsTold other text answer status
+
+-- A listing was asked of the registry that the bytes hold, and its reply is told; or there is none, and it is told why.
+abbrev pub IsListAnswered : List ℕ → List EntryPlace → List ℕ → List ℕ → Answer → ℕ → Type 0
+IsListAnswered disk entries names text answer status =
+    ((s : State) × (reply : Reply) × (steps : List Step) × IsAsked disk s list reply steps × IsListTold s reply entries names text answer status)
+    ⊎ ((refusal : StoreRefusal) × IsUnopened disk refusal × IsTurnedAway refusal text answer status)
+
+-- A choice of the preloads was asked, by names in a row, and is answered as a change; or the bytes are no names in a row; or
+-- memory was refused.
+abbrev pub IsPreloadAnswered : List ℕ → List ℕ → List ℕ → List ℕ → Answer → ℕ → Type 0
+IsPreloadAnswered disk names plan text answer status =
+    ((list : List (List ℕ)) × AreNames list names × IsChangeAnswered disk (set_preloads list) plan text answer status)
+    ⊎ ((status ≡ bad_argument) × ((list : List (List ℕ)) → AreNames list names → ⊥))
+    ⊎ WantsMemory text answer.text status

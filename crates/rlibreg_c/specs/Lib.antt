@@ -1,0 +1,6 @@
+pub mod Answers
+pub mod Layout
+pub mod Listing
+pub mod Names
+pub mod Numbers
+pub mod Spelling

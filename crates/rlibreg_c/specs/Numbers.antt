@@ -1,0 +1,131 @@
+-- The numbers of statuses and of refusals (own).
+use Rattle.std.specs.Prelude.{ℕ}
+use Rattle.elf_file.specs.declared.refusal.ObjectRefusal.{ObjectRefusal}
+use Rattle.elf_file.specs.declared.refusal.ObjectRefusal.TheVariants as object
+use Rattle.hash_check.specs.declared.file_refusal.FileRefusal.{FileRefusal}
+use Rattle.hash_check.specs.declared.file_refusal.FileRefusal.TheVariants as file
+use Rattle.image.specs.declared.refusal.BindRefusal.{BindRefusal}
+use Rattle.image.specs.declared.refusal.BindRefusal.TheVariants as bind
+use Rattle.store.specs.declared.refusal.StoreRefusal.{StoreRefusal}
+use Rattle.store.specs.declared.refusal.StoreRefusal.TheVariants as store
+use Rattle.requests.specs.declared.refusal.Refusal.{Refusal}
+use Rattle.requests.specs.declared.refusal.Refusal.TheVariants as refusal
+use Rattle.requests.specs.declared.reply.Reply.{Reply}
+use Rattle.requests.specs.declared.reply.Reply.TheVariants as reply
+
+-- done
+abbrev pub done : ℕ
+done = 0
+
+-- a buffer is too small
+abbrev pub no_room : ℕ
+no_room = 1
+
+-- an argument isn't of its form
+abbrev pub bad_argument : ℕ
+bad_argument = 2
+
+-- S11
+abbrev pub out_of_memory : ℕ
+out_of_memory = 311
+
+-- of a refusal to open, to format or to upgrade: 300 and its own
+abbrev pub store_number : StoreRefusal → ℕ
+store_number store.Device = 301
+store_number store.Reopen = 302
+store_number store.NotFormatted = 303
+store_number store.AlreadyFormatted = 304
+store_number store.Damaged = 305
+store_number store.BadGeometry = 306
+store_number store.Full = 307
+store_number store.Fragmented = 308
+store_number store.TooMany = 309
+store_number store.GenerationEnd = 310
+store_number store.OutOfMemory = 311
+store_number store.OldFormat = 312
+
+-- of a refusal to bind: 100 and its own; want of memory is S11
+abbrev pub bind_number : BindRefusal → ℕ
+bind_number (bind.Program refusal) = 101
+bind_number bind.BadBase = 102
+bind_number (bind.Missing needer name) = 103
+bind_number bind.NoRoom = 104
+bind_number (bind.Undefined object symbol) = 105
+bind_number bind.OutOfMemory = 311
+
+-- of a refusal: of a command 200 and its own, of a bind or a disk as above
+abbrev pub refusal_number : Refusal → ℕ
+refusal_number (refusal.Object why) = 201
+refusal_number refusal.AlreadyInstalled = 202
+refusal_number refusal.NotInstalled = 203
+refusal_number refusal.InPreloads = 204
+refusal_number refusal.RepeatedPreload = 205
+refusal_number refusal.TooManyPreloads = 206
+refusal_number refusal.NoSlot = 207
+refusal_number refusal.NoSuchBinder = 208
+refusal_number (refusal.Bind why) = bind_number why
+refusal_number refusal.Device = 301
+refusal_number refusal.Reopen = 302
+refusal_number refusal.Damaged = 305
+refusal_number refusal.BadGeometry = 306
+refusal_number refusal.Full = 307
+refusal_number refusal.Fragmented = 308
+refusal_number refusal.TooMany = 309
+refusal_number refusal.GenerationEnd = 310
+refusal_number refusal.OutOfMemory = 311
+
+-- of a reply: 0, or that of the refusal
+abbrev pub reply_number : Reply → ℕ
+reply_number (reply.Refused why) = refusal_number why
+reply_number other = done
+
+-- the test that refuses an object: n of En
+abbrev pub object_number : ObjectRefusal → ℕ
+object_number object.TooShort = 1
+object_number object.BadMagic = 2
+object_number object.BadClass = 3
+object_number object.BadData = 4
+object_number object.BadVersion = 5
+object_number object.BadOsAbi = 6
+object_number object.BadType = 7
+object_number object.BadMachine = 8
+object_number object.BadHeaderSize = 9
+object_number object.BadProgramHeaders = 10
+object_number object.TlsSegment = 11
+object_number object.BadSegment = 12
+object_number object.TooLarge = 13
+object_number object.SegmentOrder = 14
+object_number object.BadDynamic = 15
+object_number object.DuplicateTag = 16
+object_number object.SymbolVersions = 17
+object_number object.UnsupportedTag = 18
+object_number object.NoHashTable = 19
+object_number object.MissingTag = 20
+object_number object.BadEntrySize = 21
+object_number object.BadRange = 22
+object_number object.BadString = 23
+object_number object.CommonSymbol = 24
+object_number object.TlsSymbol = 25
+object_number object.IfuncSymbol = 26
+object_number object.BadBinding = 27
+object_number (object.RelocationType kind) = 30
+object_number object.RelocationSymbol = 31
+object_number object.RelocationPlace = 32
+object_number object.BadSoname = 33
+
+-- the test that refuses a file: n of En
+abbrev pub file_number : FileRefusal → ℕ
+file_number (file.Object why) = object_number why
+file_number file.DuplicateDefinition = 28
+file_number file.BadHashTable = 29
+
+-- the test that refuses the file of which a refusal tells; 0 where it tells of none
+abbrev pub file_number_of : Refusal → ℕ
+file_number_of (refusal.Object why) = file_number why
+file_number_of (refusal.Bind (bind.Program why)) = file_number why
+file_number_of other = 0
+
+-- the same of a reply
+abbrev pub file_number_in : Reply → ℕ
+file_number_in (reply.Refused why) = file_number_of why
+file_number_in other = 0

@@ -1,0 +1,44 @@
+// What a call is answered, beside its buffers.
+ghost use Rattle.std.specs.Prelude.{◌≡◌};
+
+/// What a call is answered. What a call doesn't speak of is 0.
+#[repr(C)]
+#[derive(Clone, Copy)]
+pub struct Answer {
+    /// 0, or why not.
+    pub status: u32,
+    /// The number of the first test that refuses the file, where a file is refused: n of En.
+    pub file_refusal: u32,
+    /// How many segments, libraries or steps there are.
+    pub count: u64,
+    /// How many preloads there are.
+    pub preloads: u64,
+    /// How many bytes there are: of all segments, of all names or of the plan.
+    pub bytes: u64,
+    /// How many bytes the whole text has.
+    pub text: u64,
+    /// How many changes the registry has taken.
+    pub generation: u64,
+}
+
+impl Answer {
+    /// Of nothing.
+    pub(crate) fn clear(&mut self) {
+        self.status = 0;
+        self.file_refusal = 0;
+        self.count = 0;
+        self.preloads = 0;
+        self.bytes = 0;
+        self.text = 0;
+        self.generation = 0;
+    }
+
+    /// Ends a call: the status stands in the answer too.
+    pub(crate) fn end(&mut self, status: u32) -> u32
+        ensures result { result ≡ status }
+        ensures answer { self.new ≡ record self.old { status = status } }
+    {
+        self.status = status;
+        status
+    }
+}

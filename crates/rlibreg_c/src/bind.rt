@@ -1,0 +1,76 @@
+// A bind.
+ghost use Rattle.std.specs.Prelude.{◌≡◌};
+ghost use Rattle.requests.specs.Request.{request_of, bind};
+ghost use Rattle.rlibreg_c.specs.Answers.{IsBindAnswered, IsBindTold};
+ghost use Rattle.rlibreg_c.specs.Layout.{IsImageOf};
+
+use crate::answer::Answer;
+use crate::layout::put_image;
+use crate::place::SegmentPlace;
+use crate::text::{tell, turn_away};
+use byte_registry::ask;
+use requests::{Command, Reply};
+use std::alloc::Global;
+
+/// Gives the image that a reply is, or says the reply.
+fn tell_bind(
+    alloc: Global,
+    reply: &Reply,
+    segments: &mut [SegmentPlace],
+    bytes: &mut [u8],
+    text: &mut [u8],
+    answer: &mut Answer,
+) -> u32
+    ensures { IsBindTold reply.now segments.new bytes.new text.new answer.new result }
+{
+    match reply {
+        Reply::Bound(image) => put_image(image, segments, bytes, answer),
+        Reply::Done => tell(alloc, reply, text, answer),
+        Reply::Listing(_) => tell(alloc, reply, text, answer),
+        Reply::Refused(_) => tell(alloc, reply, text, answer),
+    }
+}
+
+/// Binds a program, and says how it ended.
+fn bind_on(
+    alloc: Global,
+    disk: &[u8],
+    command: &Command<'_>,
+    segments: &mut [SegmentPlace],
+    bytes: &mut [u8],
+    text: &mut [u8],
+    answer: &mut Answer,
+) -> u32
+    ensures { IsBindAnswered disk.now (request_of command.now) segments.new bytes.new text.new
+        answer.new result }
+{
+    match ask(alloc, disk, command) {
+        Ok((reply, _)) => tell_bind(alloc, &reply, segments, bytes, text, answer),
+        Err(refusal) => turn_away(alloc, refusal, text, answer),
+    }
+}
+
+/// The image of a program over the registry that the sectors of `disk` hold: its segments, and
+/// their bytes in a row. Where a buffer is too small the answer has what both need.
+#[unsafe(no_mangle)]
+pub extern "C" fn rlibreg_bind(
+    alloc: Global,
+    disk: &[u8],
+    program: &[u8],
+    base: u64,
+    segments: &mut [SegmentPlace],
+    bytes: &mut [u8],
+    text: &mut [u8],
+    answer: &mut Answer,
+) -> u32
+    ensures image { result ≡ 0
+        → IsImageOf disk.now program.now base segments.new bytes.new answer.new }
+    ensures answered { IsBindAnswered disk.now (bind program.now base) segments.new bytes.new
+        text.new answer.new result }
+    ensures status { answer.new.status ≡ result }
+{
+    answer.clear();
+    let command = Command::Bind { program, base };
+    let status = bind_on(alloc, disk, &command, segments, bytes, text, answer);
+    answer.end(status)
+}

@@ -1,0 +1,91 @@
+// The text of what a call is answered: the line or the reply that the program prints.
+ghost use Rattle.std.specs.Prelude.{◌≡◌, length};
+ghost use Rattle.commands.specs.Refusal.{memory_text};
+ghost use Rattle.rlibreg_c.specs.Answers.{Says, WantsMemory, IsTold, IsTurnedAway};
+ghost use Rattle.rlibreg_c.specs.Numbers.{reply_number, file_number_in};
+
+use crate::answer::Answer;
+use crate::status::{DONE, OUT_OF_MEMORY, file_refusal_number, refusal_status, store_status};
+use commands::{write_disk_refusal, write_reply};
+use requests::Reply;
+use std::alloc::Global;
+use store::StoreRefusal;
+
+/// The line of want of memory.
+const MEMORY_LINE: &[u8] = b"refused S11 OutOfMemory\n";
+
+/// Puts as much of a text into a buffer as has room there. The answer has the length of the whole.
+fn put_text(said: &[u8], text: &mut [u8], answer: &mut Answer)
+    ensures says { Says said.now text.new answer.new.text }
+    ensures same { answer.new ≡ record answer.old { text = length said.now } }
+{
+    let most = said.len().min(text.len());
+    text[..most].copy_from_slice(&said[..most]);
+    answer.text = said.len() as u64;
+}
+
+/// Says that memory was refused. It takes none.
+pub(crate) fn tell_memory(text: &mut [u8], answer: &mut Answer) -> u32
+    ensures told { WantsMemory text.new answer.new.text result }
+    ensures same { answer.new ≡ record answer.old { text = length memory_text } }
+{
+    put_text(MEMORY_LINE, text, answer);
+    OUT_OF_MEMORY
+}
+
+/// The status of a reply.
+fn reply_status(reply: &Reply) -> u32
+    ensures { result ≡ reply_number reply.now }
+{
+    match reply {
+        Reply::Refused(refusal) => refusal_status(refusal),
+        _ => DONE,
+    }
+}
+
+/// The number of the refusal of a file in a reply; 0 where there is none.
+fn reply_file_refusal(reply: &Reply) -> u32
+    ensures { result ≡ file_number_in reply.now }
+{
+    match reply {
+        Reply::Refused(refusal) => file_refusal_number(refusal),
+        _ => 0,
+    }
+}
+
+/// Says what a command was answered. Where memory for the text is refused, that is the answer.
+pub(crate) fn tell(alloc: Global, reply: &Reply, text: &mut [u8], answer: &mut Answer) -> u32
+    ensures told { IsTold reply.now text.new answer.new result }
+    ensures count { answer.new.count ≡ answer.old.count }
+    ensures bytes { answer.new.bytes ≡ answer.old.bytes }
+    ensures preloads { answer.new.preloads ≡ answer.old.preloads }
+{
+    let mut said = Vec::new(alloc);
+    match write_reply(&mut said, reply) {
+        Ok(()) => {
+            answer.file_refusal = reply_file_refusal(reply);
+            put_text(&said, text, answer);
+            reply_status(reply)
+        }
+        Err(_) => tell_memory(text, answer),
+    }
+}
+
+/// Says why there is no registry on a disk.
+pub(crate) fn turn_away(
+    alloc: Global,
+    refusal: StoreRefusal,
+    text: &mut [u8],
+    answer: &mut Answer,
+) -> u32
+    ensures { IsTurnedAway refusal text.new answer.new result }
+{
+    let mut said = Vec::new(alloc);
+    match write_disk_refusal(&mut said, refusal) {
+        Ok(()) => {
+            put_text(&said, text, answer);
+            store_status(refusal)
+        }
+        Err(_) => tell_memory(text, answer),
+    }
+}

@@ -1,0 +1,45 @@
+// Making a disk of version 1 one of version 2: a plan.
+ghost use Rattle.std.specs.Prelude.{◌≡◌};
+ghost use Rattle.rlibreg_c.specs.Answers.{IsUpgradeAnswered, IsUpgradePlan};
+
+use crate::answer::Answer;
+use crate::plan::put_done;
+use crate::text::turn_away;
+use byte_registry::upgrade;
+use std::alloc::Global;
+
+/// The plan, or why there is none.
+fn upgrade_on(
+    alloc: Global,
+    disk: &[u8],
+    plan: &mut [u8],
+    text: &mut [u8],
+    answer: &mut Answer,
+) -> u32
+    ensures { IsUpgradeAnswered disk.now plan.new text.new answer.new result }
+{
+    match upgrade(alloc, disk) {
+        Ok(disk) => put_done(alloc, &disk, plan, text, answer),
+        Err(refusal) => turn_away(alloc, refusal, text, answer),
+    }
+}
+
+/// The plan of making a registry of version 1 one of version 2; of one of version 2 nothing is
+/// written.
+#[unsafe(no_mangle)]
+pub extern "C" fn rlibreg_plan_upgrade(
+    alloc: Global,
+    disk: &[u8],
+    plan: &mut [u8],
+    text: &mut [u8],
+    answer: &mut Answer,
+) -> u32
+    // A stop leaves the registry of version 1, or the one of version 2, and at the end this.
+    ensures plan { result ≡ 0 → IsUpgradePlan disk.now plan.new answer.new }
+    ensures answered { IsUpgradeAnswered disk.now plan.new text.new answer.new result }
+    ensures status { answer.new.status ≡ result }
+{
+    answer.clear();
+    let status = upgrade_on(alloc, disk, plan, text, answer);
+    answer.end(status)
+}

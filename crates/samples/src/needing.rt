@@ -1,0 +1,64 @@
+// Files that need libraries.
+use crate::bytes::put;
+use std::alloc::{AllocError, Global};
+
+/// The front of a file whose dynamic section stands behind it: the names a, b, c, d, e, p, f and z,
+/// and a symbol f that it exports.
+const FRONT: &[u8] =
+    b"\x7fELF\x02\x01\x01\0\0\0\0\0\0\0\0\0\x03\0>\0\x01\0\0\0\0\0\0\0\0\0\0\0@\0\0\0\0\0\0\0\
+      \0\0\0\0\0\0\0\0\0\0\0\0@\08\0\x02\0\0\0\0\0\0\0\x01\0\0\0\x06\0\0\0\0\0\0\0\0\0\0\0\0\0\
+      \0\0\0\0\0\0\0\0\0\0\0\0\0\0\0\0\0\0\0\0\0\0\0\0\0\0\0\0\0\0\0\x10\0\0\0\0\0\0\x02\0\0\0\
+      \x06\0\0\0\x10\x01\0\0\0\0\0\0\x10\x01\0\0\0\0\0\0\x10\x01\0\0\0\0\0\0\0\0\0\0\0\0\0\0\0\
+      \0\0\0\0\0\0\0\x08\0\0\0\0\0\0\0\x01\0\0\0\x02\0\0\0\x01\0\0\0\0\0\0\0\0\0\0\0\0\0\0\0\0\
+      \0\0\0\0\0\0\0\0\0\0\0\0\0\0\0\0\0\0\0\0\0\0\0\x0d\0\0\0\x12\0\x01\0\0\0\0\0\0\0\0\0\x08\
+      \0\0\0\0\0\0\0\0a\0b\0c\0d\0e\0p\0f\0z\0\0\0\0\0\0\0\0";
+
+/// What stands in the dynamic section behind the other entries.
+const TAIL: &[u8] =
+    b"\x04\0\0\0\0\0\0\0\xb0\0\0\0\0\0\0\0\x05\0\0\0\0\0\0\0\xf8\0\0\0\0\0\0\0\x06\0\0\0\0\0\0\
+      \0\xc8\0\0\0\0\0\0\0\x0a\0\0\0\0\0\0\0\x11\0\0\0\0\0\0\0\x0b\0\0\0\0\0\0\0\x18\0\0\0\0\0\
+      \0\0\0\0\0\0\0\0\0\0\0\0\0\0\0\0\0\0";
+
+/// The names of the front, in their order.
+const LETTERS: &[u8] = b"abcdepfz";
+
+/// An entry of the dynamic section with a name of one letter: of tag 1 a needed library, of tag 14
+/// the library's own.
+pub fn named(tag: u64, letter: u8) -> [u8; 16] {
+    let number = LETTERS.iter().take_while(|l| **l != letter).count() as u64;
+    let mut entry = [0; 16];
+    put(&mut entry, 0, &tag.to_le_bytes());
+    put(
+        &mut entry,
+        8,
+        &number.wrapping_mul(2).wrapping_add(1).to_le_bytes(),
+    );
+    entry
+}
+
+/// A file that needs libraries of one letter each, with an entry more, or with none, behind them,
+/// padded to so many bytes.
+pub fn needing_file(
+    alloc: Global,
+    needs: &[u8],
+    entry: &[u8],
+    size: usize,
+) -> Result<Vec<u8>, AllocError> {
+    let mut bytes = Vec::from_slice(alloc, FRONT)?;
+    for letter in needs {
+        bytes.extend_from_slice(&named(1, *letter))?;
+    }
+    bytes.extend_from_slice(entry)?;
+    bytes.extend_from_slice(TAIL)?;
+    let whole = (bytes.len() as u64).to_le_bytes();
+    let section = (bytes.len() as u64)
+        .saturating_sub(FRONT.len() as u64)
+        .to_le_bytes();
+    for (at, number) in [(96, whole), (104, whole), (152, section), (160, section)] {
+        put(&mut bytes, at, &number);
+    }
+    for _ in bytes.len()..size {
+        bytes.push(0)?;
+    }
+    Ok(bytes)
+}

@@ -1,0 +1,53 @@
+// The smallest library, and a program that needs one.
+use std::alloc::{AllocError, Global};
+
+/// How many bytes each has.
+pub const SIZE: usize = 344;
+
+// Where its name is; a byte that is loaded and says nothing; and the tag of its first entry in the
+// dynamic section, which is its SONAME.
+const NAME: usize = 217;
+
+const VERSION: usize = 220;
+
+const TAG: usize = 224;
+
+// The tag of a library that is needed.
+const NEEDED: u8 = 1;
+
+// A library without symbols, named a, which is loaded whole.
+const LIBRARY: &[u8; SIZE] =
+    b"\x7fELF\x02\x01\x01\0\0\0\0\0\0\0\0\0\x03\0>\0\x01\0\0\0\0\0\0\0\0\0\0\0@\0\0\0\0\0\0\
+    \0\0\0\0\0\0\0\0\0\0\0\0\0@\08\0\x02\0\0\0\0\0\0\0\x01\0\0\0\x06\0\0\0\0\0\0\0\0\0\0\
+    \0\0\0\0\0\0\0\0\0\0\0\0\0\0\0\0\0X\x01\0\0\0\0\0\0X\x01\0\0\0\0\0\0\0\x10\0\0\0\0\0\
+    \0\x02\0\0\0\x06\0\0\0\xe0\0\0\0\0\0\0\0\xe0\0\0\0\0\0\0\0\xe0\0\0\0\0\0\0\0p\0\0\0\0\
+    \0\0\0p\0\0\0\0\0\0\0\x08\0\0\0\0\0\0\0\x01\0\0\0\x01\0\0\0\0\0\0\0\0\0\0\0\0\0\0\0\0\
+    \0\0\0\0\0\0\0\0\0\0\0\0\0\0\0\0\0\0\0\0a\0\0\0\0\0\0\x0e\0\0\0\0\0\0\0\x01\0\0\0\0\0\
+    \0\0\x04\0\0\0\0\0\0\0\xb0\0\0\0\0\0\0\0\x05\0\0\0\0\0\0\0\xd8\0\0\0\0\0\0\0\x06\0\0\
+    \0\0\0\0\0\xc0\0\0\0\0\0\0\0\x0a\0\0\0\0\0\0\0\x04\0\0\0\0\0\0\0\x0b\0\0\0\0\0\0\0\x18\
+    \0\0\0\0\0\0\0\0\0\0\0\0\0\0\0\0\0\0\0\0\0\0\0\0\0\0\0\0\0\0\0";
+
+/// The library of a name and a version. Without a name it is none.
+pub fn library(name: u8, version: u8) -> [u8; SIZE] {
+    let mut file = *LIBRARY;
+    file[NAME] = name;
+    file[VERSION] = version;
+    file
+}
+
+/// The same, with zeros behind it up to so many bytes.
+pub fn padded(alloc: Global, name: u8, version: u8, size: usize) -> Result<Vec<u8>, AllocError> {
+    let mut file = vec![in alloc; 0; size]?;
+    for (to, from) in file.iter_mut().zip(library(name, version).iter()) {
+        *to = *from;
+    }
+    Ok(file)
+}
+
+/// A program that needs the library of a name.
+pub fn program(needed: u8) -> [u8; SIZE] {
+    let mut file = *LIBRARY;
+    file[NAME] = needed;
+    file[TAG] = NEEDED;
+    file
+}
