@@ -156,7 +156,8 @@ impl<'a> Disk for ByteDisk<'a> {
         ensures calls { IsCall (byte_facts self.old) (byte_facts self.new) result }
         ensures honest { IsTrue (byte_facts self.old).honest
             → IsWrite (byte_facts self.old) (byte_facts self.new) at from.now result }
-        ensures ok { OnOk result (plan_of self.new ≡ plan_of self.old ++ (Step.Write at from.now) ∷ []) }
+        ensures ok { OnOk result
+            (plan_of self.new ≡ plan_of self.old ++ (Step.Write at from.now) ∷ []) }
         ensures same { OnErr result (plan_of self.new ≡ plan_of self.old) }
         ensures err { OnErr result (LeavesAll (byte_facts self.old) (byte_facts self.new)) }
     {

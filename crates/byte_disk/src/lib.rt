@@ -1,8 +1,9 @@
 //! A disk over bytes that were given, which keeps what is done to it as a plan.
 //!
-//! `ByteDisk` is a `Disk` whose sectors are the bytes of a disk's file. It changes none of them: its
-//! writes and syncs are kept in their order, as the steps that whoever has the file carries out. It
-//! is honest, and what a stop leaves while the plan is carried out is what it said a stop may leave.
+//! `ByteDisk` is a `Disk` whose sectors are the bytes of a disk's file. It changes none of them:
+//! its writes and syncs are kept in their order, as the steps that whoever has the file carries
+//! out. It is honest, and what a stop leaves while the plan is carried out is what it said a stop
+//! may leave.
 #![tactic(auto)]
 
 mod disk;

@@ -57,7 +57,3 @@ none_in_block file address size first some block none =
         | inr far ↦ outside-above address size (program_header file j) (block.2 j far lt is)
       ]
     ])
-
--- a program header of type PT_LOAD
-pub is_load_by : (h : ProgramHeader) → h.kind ≡ 1 → is_load h ≡ true
-is_load_by h e = grind (arith, nat_tests)

@@ -88,11 +88,13 @@ impl<'a> Headers<'a> {
         header_at(self.file, table + usize::from(PROGRAM_HEADER_SIZE) * i)
     }
 
-    /// Whether the program header number `i` is a PT_LOAD.
+    /// Whether the program header number `i` is a PT_LOAD: its type alone is read.
+    #[tactic(auto, unfolding(crate::specs::Segment::program_header))]
     pub(crate) fn is_load(&self, i: usize) -> bool
         requires { i < header_count self.now }
         ensures { result ≡ is_load (program_header self.now i) }
     {
-        self.nth(i).kind == PT_LOAD
+        let table = u64_at(self.file, 32) as usize;
+        u32_at(self.file, table + usize::from(PROGRAM_HEADER_SIZE) * i) == PT_LOAD
     }
 }

@@ -12,14 +12,15 @@ use crate::segment::ProgramHeader;
 use crate::segments::Segments;
 
 /// How many program headers a block spans.
-pub(crate) const BLOCK: usize = 64;
+pub(crate) const BLOCK: usize = 256;
 /// How many blocks a file can have, its program headers being counted by 16 bits.
-const BLOCKS: usize = 1024;
+const BLOCKS: usize = 256;
 
-/// The PT_LOADs in blocks. Each block begins with a PT_LOAD and has those of the 64 program headers
-/// from there on. Kept is the header number of each block's first PT_LOAD, and how many PT_LOADs
-/// stand before it. So one PT_LOAD, by its number or by an address, is found by one halving over
-/// the blocks and one pass over a block, also where other headers stand between.
+/// The PT_LOADs in blocks. Each block begins with a PT_LOAD and has those of the 256 program
+/// headers from there on. Kept is the header number of each block's first PT_LOAD, and how many
+/// PT_LOADs stand before it. So one PT_LOAD, by its number or by an address, is found by one
+/// halving over the blocks and one pass over a block, also where other headers stand between. It is
+/// small, since each view of a file has its own.
 #[derive(Clone, Copy)]
 pub(crate) struct LoadIndex {
     pub(crate) count: usize,

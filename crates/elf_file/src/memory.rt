@@ -4,7 +4,7 @@ ghost use Rattle.std.specs.Prelude.{◌≡◌, ◌<◌, true, false, MatchOption
 ghost use Rattle.elf_file.specs.Address.{is_in_memory_part, is_in_memory, IsLoadOf};
 
 use crate::load_index::BLOCK;
-use crate::segment::{PT_LOAD, ProgramHeader};
+use crate::segment::ProgramHeader;
 use crate::segments::Segments;
 
 /// Whether so many bytes at an address lie in the memory part of this PT_LOAD.
@@ -30,9 +30,11 @@ impl Segments<'_> {
         };
         let end = self.header_count().min(first + BLOCK);
         for j in first..end {
-            let h = self.header(j);
-            if h.kind == PT_LOAD && is_in_memory_part(address, size, h) {
-                return Some(h);
+            if self.headers().is_load(j) {
+                let h = self.header(j);
+                if is_in_memory_part(address, size, h) {
+                    return Some(h);
+                }
             }
         }
         None

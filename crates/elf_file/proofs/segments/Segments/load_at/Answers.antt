@@ -2,7 +2,7 @@ use Rattle.std.proofs.Common.{◌≡◌, ap, ◌∙◌, sym, arith, Some, true}
 use Rattle.elf_file.specs.Segment.{is_load, program_header}
 use Rattle.elf_file.specs.inside.Index.{loads_before}
 use Rattle.elf_file.proofs.LoadNumbers.{load_at}
-use Rattle.elf_file.proofs.InMemory.{none_above, none_in_block, is_load_by}
+use Rattle.elf_file.proofs.InMemory.{none_above, none_in_block}
 use Rattle.elf_file.proofs.segments.Segments.load_at.Goals as goal
 
 pub returns-in_default : goal.returns-in_default
@@ -12,7 +12,8 @@ pub returns-then-is_in_memory_part : goal.returns-then-is_in_memory_part
 returns-then-is_in_memory_part c =
     let file = c.args.self.now in
     let j = c.loop-j.j in
-    let is : is_load (program_header file j) ≡ true = is_load_by (program_header file j) (ap (λ h. h.kind) (sym c.header-h.ensures) ∙ c.if-h-eq-PT_LOAD.true) in (
+    let is : is_load (program_header file j) ≡ true =
+    ap (λ f. is_load (program_header f j)) (sym c.headers.ensures.same) ∙ sym c.is_load.ensures ∙ c.if-is_load.true in (
       (loads_before file j, load_at file j (omega arith) is ∙ ap (λ h. Some h) (sym c.header-h.ensures)),
       sym c.is_in_memory_part.ensures ∙ c.if-is_in_memory_part.true,
     )
