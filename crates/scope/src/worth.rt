@@ -1,7 +1,6 @@
 // Whether a table of names is worth its cost.
 
 ghost use Rattle.std.specs.Prelude.{◌<◌, ◌≤◌, length, IfSome};
-ghost use Rattle.elf_dynamic.specs.HashTable.{buckets};
 ghost use Rattle.scope.specs.inside.Entries.{IsTableOf};
 
 use crate::entry::Entry;
@@ -22,12 +21,11 @@ const SAMPLES_OF_A_SEARCH: u64 = 6 * SAMPLES as u64;
 /// How many samples of walks take as long as a name takes to be put into a table.
 const SAMPLES_OF_A_NAME: u64 = 3 * SAMPLES as u64;
 
-/// How many symbols the walk from a bucket looks at, up to the longest that counts.
-fn walk_length(object: &Object<'_>, bucket: u32) -> u64
-    requires { bucket < length (buckets object.now) }
+/// How many symbols a walk looks at from one of them on, up to the longest that counts.
+fn walk_length(object: &Object<'_>, from: u32) -> u64
     ensures { result ≤ 64 }
 {
-    let mut at = object.bucket(bucket);
+    let mut at = from;
     for steps in 0..LONGEST {
         if at == 0 || at >= object.symbol_count() {
             return u64::from(steps);
@@ -37,17 +35,42 @@ fn walk_length(object: &Object<'_>, bucket: u32) -> u64
     u64::from(LONGEST)
 }
 
-/// How many symbols some walks of an object look at, and one more for each, for the way to it.
-fn sampled_walks(object: &Object<'_>) -> u64 {
+/// How many symbols some walks of an object look at for names that it lacks: those from buckets
+/// that stand evenly apart.
+fn walks_of_buckets(object: &Object<'_>) -> u64
+    ensures { result ≤ 1024 }
+{
     let buckets = u64::from(object.bucket_count());
-    let mut looked = u64::from(SAMPLES);
+    let mut looked = 0;
     for sample in 0..SAMPLES {
         let bucket = u64::from(sample) * buckets / u64::from(SAMPLES);
         if bucket < buckets {
-            looked += walk_length(object, bucket as u32);
+            looked += walk_length(object, object.bucket(bucket as u32));
         }
     }
     looked
+}
+
+/// How many symbols as many walks look at for names that it has: a walk has as many on average
+/// before a symbol as from it on, so the ends of walks are looked at, from symbols that stand
+/// evenly apart.
+fn walks_of_symbols(object: &Object<'_>) -> u64
+    ensures { result ≤ 1024 }
+{
+    let symbols = u64::from(object.symbol_count());
+    let mut looked = 0;
+    for sample in 0..SAMPLES {
+        let symbol = u64::from(sample) * symbols / u64::from(SAMPLES);
+        looked += walk_length(object, symbol as u32);
+    }
+    looked
+}
+
+/// How many symbols some walks of an object look at, and one more for each, for the way to it. Of
+/// walks for names that it has and for names that it lacks the longer ones count: where all its
+/// names are in few buckets, most buckets are empty.
+fn sampled_walks(object: &Object<'_>) -> u64 {
+    u64::from(SAMPLES) + walks_of_buckets(object).max(walks_of_symbols(object))
 }
 
 /// How many symbols of an object are looked up, at most: as many as its relocations name, and no
