@@ -28,7 +28,8 @@ def row_of(crate):
 
 
 def main():
-    crates = [line.split(':')[0].split()[0] for line in (ROOT / 'crates.txt').read_text().splitlines() if ':' in line]
+    lines_of_crates = [line.split('#')[0] for line in (ROOT / 'crates.txt').read_text().splitlines()]
+    crates = [line.split(':')[0].split()[0] for line in lines_of_crates if ':' in line]
     page = PAGE.read_text()
     PAGE.write_text(re.sub(r'\| Crate \| Lines of src.*?\n\n', lambda _: HEAD + ''.join(map(row_of, crates)) + '\n', page, flags=re.S))
 
