@@ -112,6 +112,21 @@ pub bind_answered : (disk : List ℕ) (request : Request) (segments : List Segme
 bind_answered disk request segments bytes text answer n status (inl asked) = inl (asked.0, asked.1, asked.2, asked.3, bind_ends asked.1 segments bytes text answer n status asked.4)
 bind_answered disk request segments bytes text answer n status (inr refused) = inr refused
 
+list_ends : (s : State) (r : Reply) (entries : List EntryPlace) (names text : List ℕ) (answer : Answer) (n status : ℕ) → IsListTold s r entries names text answer status → IsListTold s r entries names text (with_status answer n) status
+list_ends s reply.Done entries names text answer n status said = said
+list_ends s (reply.Listing l) entries names text answer n status said = said
+list_ends s (reply.Bound image) entries names text answer n status said = said
+list_ends s (reply.Refused why) entries names text answer n status said = said
+
+-- a reply that is a listing is told with the generation
+pub list_told : (s : State) (r : Reply) (l : Listed) (entries : List EntryPlace) (names text : List ℕ) (answer : Answer) (generation status : ℕ) → r ≡ reply.Listing l → generation ≡ s.generation → IsListGiven l entries names text answer status → IsListTold s r entries names text (record answer { generation = generation }) status
+list_told s r l entries names text answer generation status is same given = subst (λ x. IsListTold s x entries names text (record answer { generation = generation }) status) (sym is) (given, same)
+
+-- a listing ends with its answer
+pub list_answered : (disk : List ℕ) (entries : List EntryPlace) (names text : List ℕ) (answer : Answer) (n status : ℕ) → IsListAnswered disk entries names text answer status → IsListAnswered disk entries names text (with_status answer n) status
+list_answered disk entries names text answer n status (inl asked) = inl (asked.0, asked.1, asked.2, asked.3, list_ends asked.0 asked.1 entries names text answer n status asked.4)
+list_answered disk entries names text answer n status (inr refused) = inr refused
+
 -- a reply that isn't Done is told alone
 pub told_other : (r : Reply) (steps : List Step) (plan text : List ℕ) (answer : Answer) (status : ℕ) → (r ≡ reply.Done → ⊥) → IsTold r text answer status → IsChangeTold r steps plan text answer status
 told_other reply.Done steps plan text answer status not said = absurd (not refl)

@@ -1,3 +1,4 @@
+mod Entries
 mod Given
 mod Places
 mod Rows

@@ -12,9 +12,13 @@ use Rattle.byte_registry.specs.Plans.{Holds}
 abbrev pub Entry : Type 0
 Entry = List ℕ × ℕ
 
+-- the preloads: each has no length of a file
+abbrev pub preload_entries : List (List ℕ) → List Entry
+preload_entries names = map (λ name. (name, 0)) names
+
 -- what is listed, in a row: the libraries, and behind them the preloads
 abbrev pub entries_of : Listed → List Entry
-entries_of l = l.libraries ++ map (λ name. (name, 0)) l.preloads
+entries_of l = l.libraries ++ preload_entries l.preloads
 
 -- their names in a row, each with a byte 0 behind it
 abbrev pub names_in_row : List Entry → List ℕ

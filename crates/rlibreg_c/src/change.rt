@@ -40,7 +40,8 @@ pub(crate) fn plan_change(
     text: &mut [u8],
     answer: &mut Answer,
 ) -> u32
-    ensures { IsChangeAnswered disk.now (request_of command.now) plan.new text.new answer.new result }
+    ensures { IsChangeAnswered disk.now (request_of command.now) plan.new text.new answer.new
+        result }
 {
     match ask(alloc, disk, command) {
         Ok((reply, disk)) => tell_change(alloc, &reply, &disk, plan, text, answer),
@@ -60,7 +61,8 @@ pub extern "C" fn rlibreg_plan_install(
 ) -> u32
     // The plan leads from the state that the bytes hold to the one that acceptance gives.
     ensures plan { result ≡ 0 → IsPlanOf disk.now (install file.now) plan.new answer.new }
-    ensures answered { IsChangeAnswered disk.now (install file.now) plan.new text.new answer.new result }
+    ensures answered { IsChangeAnswered disk.now (install file.now) plan.new text.new answer.new
+        result }
     ensures status { answer.new.status ≡ result }
 {
     answer.clear();
@@ -80,7 +82,8 @@ pub extern "C" fn rlibreg_plan_replace(
 ) -> u32
     // The plan leads from the state that the bytes hold to the one that acceptance gives.
     ensures plan { result ≡ 0 → IsPlanOf disk.now (replace file.now) plan.new answer.new }
-    ensures answered { IsChangeAnswered disk.now (replace file.now) plan.new text.new answer.new result }
+    ensures answered { IsChangeAnswered disk.now (replace file.now) plan.new text.new answer.new
+        result }
     ensures status { answer.new.status ≡ result }
 {
     answer.clear();
@@ -100,7 +103,8 @@ pub extern "C" fn rlibreg_plan_remove(
 ) -> u32
     // The plan leads from the state that the bytes hold to the one that acceptance gives.
     ensures plan { result ≡ 0 → IsPlanOf disk.now (remove name.now) plan.new answer.new }
-    ensures answered { IsChangeAnswered disk.now (remove name.now) plan.new text.new answer.new result }
+    ensures answered { IsChangeAnswered disk.now (remove name.now) plan.new text.new answer.new
+        result }
     ensures status { answer.new.status ≡ result }
 {
     answer.clear();
