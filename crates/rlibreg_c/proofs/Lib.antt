@@ -1,4 +1,5 @@
 mod Given
+mod Names
 mod Places
 mod Rows
 mod Steps
