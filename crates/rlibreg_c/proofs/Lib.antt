@@ -1,5 +1,6 @@
 mod Entries
 mod Given
+mod Names
 mod Places
 mod Rows
 mod Steps

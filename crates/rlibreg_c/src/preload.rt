@@ -1,5 +1,9 @@
 // A choice of the preloads: a plan.
-ghost use Rattle.std.specs.Prelude.{◌≡◌};
+ghost use Rattle.std.specs.Prelude.{◌≡◌, ◌==◌, ℕ, List, map, IfOk, MatchOption};
+ghost use Rattle.std.specs.List.{slice_split};
+ghost use Rattle.requests.specs.Request.{set_preloads};
+ghost use Rattle.rlibreg_c.specs.Answers.{IsPlanOf, IsPreloadAnswered};
+ghost use Rattle.rlibreg_c.specs.Names.{AreNames};
 
 use crate::answer::Answer;
 use crate::change::plan_change;
@@ -8,25 +12,30 @@ use crate::text::tell_memory;
 use requests::Command;
 use std::alloc::{AllocError, Global};
 
-/// The names that stand in bytes, each with a byte 0 behind it; none where the last has no 0.
-fn names_in(alloc: Global, bytes: &[u8]) -> Result<Option<Vec<&[u8]>>, AllocError> {
-    let mut names = Vec::new(alloc);
-    let mut rest = bytes;
-    for _ in 0..bytes.len() {
-        let Some(end) = rest.iter().position(|byte| *byte == 0) else {
-            break;
-        };
-        let (name, others) = rest.split_at(end);
-        names.push(name)?;
-        rest = &others[1..];
-    }
-    if rest.is_empty() {
-        Ok(Some(names))
-    } else {
-        Ok(None)
-    }
+/// The parts between bytes 0.
+fn parts_of(alloc: Global, row: &[u8]) -> Result<Vec<&[u8]>, AllocError>
+    ensures { IfOk result (λ parts. map (λ part. part.now) parts.items
+        ≡ slice_split (λ byte. byte == 0) row.now) }
+{
+    row.split(|byte| *byte == 0).collect(alloc)
 }
 
+/// The names that stand in bytes, each with a byte 0 behind it; none where the last has no 0.
+pub(crate) fn names_in(alloc: Global, bytes: &[u8]) -> Result<Option<Vec<&[u8]>>, AllocError>
+    ensures { IfOk result (λ read. MatchOption read
+        ((list : List (List ℕ)) → AreNames list bytes.now → ⊥)
+        (λ names. AreNames (map (λ name. name.now) names.items) bytes.now)) }
+{
+    let Some((last, row)) = bytes.split_last() else {
+        return Ok(Some(Vec::new(alloc)));
+    };
+    if *last != 0 {
+        return Ok(None);
+    }
+    Ok(Some(parts_of(alloc, row)?))
+}
+
+/// The plan of a choice of names in a row, or why it is refused.
 fn plan_preloads(
     alloc: Global,
     disk: &[u8],
@@ -34,7 +43,9 @@ fn plan_preloads(
     plan: &mut [u8],
     text: &mut [u8],
     answer: &mut Answer,
-) -> u32 {
+) -> u32
+    ensures { IsPreloadAnswered disk.now names.now plan.new text.new answer.new result }
+{
     match names_in(alloc, names) {
         Ok(Some(names)) => {
             let command = Command::SetPreloads(&names);
@@ -56,6 +67,10 @@ pub extern "C" fn rlibreg_plan_preload(
     text: &mut [u8],
     answer: &mut Answer,
 ) -> u32
+    // The plan leads from the state that the bytes hold to the one that acceptance gives.
+    ensures plan { result ≡ 0 → (list : List (List ℕ)) × AreNames list names.now
+        × IsPlanOf disk.now (set_preloads list) plan.new answer.new }
+    ensures answered { IsPreloadAnswered disk.now names.now plan.new text.new answer.new result }
     ensures status { answer.new.status ≡ result }
 {
     answer.clear();

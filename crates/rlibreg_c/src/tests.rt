@@ -1,6 +1,7 @@
-// Each call once, with ample memory.
+// Calls with ample memory.
 use crate::answer::Answer;
 use crate::format::rlibreg_plan_format;
+use crate::preload::names_in;
 use std::test::Fail;
 
 fn no_answer() -> Answer {
@@ -25,5 +26,22 @@ fn an_empty_registry(rt: HostRuntime) -> Result<(), Fail> {
     assert_eq!(rt; status, 0);
     assert_eq!(rt; answer.text, 3);
     assert_eq!(rt; answer.count, 3);
+    Ok(())
+}
+
+#[test]
+fn names_in_a_row(rt: HostRuntime) -> Result<(), Fail> {
+    let cases: [(&[u8], Option<&[&[u8]]>); 7] = [
+        (b"", Some(&[])),
+        (b"\0", Some(&[b""])),
+        (b"a\0", Some(&[b"a"])),
+        (b"ab\0c\0", Some(&[b"ab", b"c"])),
+        (b"a\0\0", Some(&[b"a", b""])),
+        (b"a", None),
+        (b"a\0b", None),
+    ];
+    for (bytes, names) in cases {
+        assert_eq!(rt; names_in(rt.alloc(), bytes)?.as_deref(), names, "{bytes:?}");
+    }
     Ok(())
 }
