@@ -8,10 +8,10 @@
  *
  * There are two layers.
  *
- * 1. Calls over bytes (rlibreg_bind, rlibreg_list, rlibreg_plan_*). Each is proved to return and to
- *    do nothing undefined, and all but two to give what is defined (docs/C.md). They do no input or
- *    output: who calls has the bytes of the disk in memory, and gets an image, a listing, or a
- *    plan, which is the list of the writes and syncs that make a change.
+ * 1. Calls over bytes (rlibreg_bind, rlibreg_list, rlibreg_plan_*). Each is proved to return, to do
+ *    nothing undefined, and to give what is defined (docs/C.md). They do no input or output: who
+ *    calls has the bytes of the disk in memory, and gets an image, a listing, or a plan, which is
+ *    the list of the writes and syncs that make a change.
  * 2. Calls over a file (struct rlibreg and the calls behind it), in C over the first layer, which
  *    open, lock and map the file, and carry plans out. They are tested.
  *
