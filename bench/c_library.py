@@ -49,7 +49,7 @@ def bytes_and_length(data):
 def measure(it, folder, number, length):
     names = [b'lib%04d' % i for i in range(number + 1)]
     made = [Made(name, exports=[name], data=length - 512).file for name in names]
-    program = Made(needed=names[:number], undefined=[names[0]], relocations=[(0, 1, 1, 0)], behind=64).file
+    program = Made(needed=names[:number], undefined=[names[0]], relocations=[(1, 0, 1, 0)], behind=64).file
     sectors = number * (len(made[0]) // 512 + 2) + number // 16 + 2 * len(made[0]) // 512 + 100
     path, registry = f'{folder}/disk{number}'.encode(), ctypes.c_void_p(it.rlibreg_create())
     assert it.rlibreg_format(registry, path, ctypes.c_uint32(sectors), 0) == 0, it.rlibreg_text(registry)

@@ -34,7 +34,7 @@ def made_files(folder):
         'b.so': Made(b'b', exports=[b'fb'], data=900),
         'b2.so': Made(b'b', exports=[b'other', b'fb'], data=2500),
         'alone': Made(),
-        'program': Made(needed=[b'a'], undefined=[b'fa'], relocations=[(0, 1, 1, 0)], behind=64),
+        'program': Made(needed=[b'a'], undefined=[b'fa'], relocations=[(1, 0, 1, 0)], behind=64),
     }
     for name, made in files.items():
         (folder / name).write_bytes(made.file)

@@ -42,7 +42,7 @@ def main():
     fill(bench, folder, MOST, {100: 'hundred', MOST - 1: 'last-but-one', MOST: 'most'})
     (folder / 'next').write_bytes(library(MOST - 1, SIZE, [name(MOST - 2)]).file)
     (folder / 'other').write_bytes(library(MOST // 2, SIZE - 512, [name(MOST // 2 - 1)]).file)
-    (folder / 'program').write_bytes(Made(needed=[name(MOST - 1)], undefined=[symbol(MOST - 1)], relocations=[(0, 1, 1, 0)], behind=8).file)
+    (folder / 'program').write_bytes(Made(needed=[name(MOST - 1)], undefined=[symbol(MOST - 1)], relocations=[(1, 0, 1, 0)], behind=8).file)
     bench.told('`list` of 100 libraries of 16 KiB: opening', ['list', 'disk'], 'hundred', 100 * SIZE)
     bench.told('`list` of 2,048 libraries of 16 KiB: opening', ['list', 'disk'], 'most', MOST * SIZE)
     bench.told('the 2,048th `install`, with its opening', ['install', 'disk', 'next'], 'last-but-one', MOST * SIZE)
