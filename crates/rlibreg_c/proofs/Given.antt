@@ -1,5 +1,5 @@
 -- From how a call was answered to what it gave, where its status is 0.
-use Rattle.std.proofs.Common.{◌≡◌, ◌⊎◌, inl, inr, ℕ, List, refl, sym, ◌∙◌, subst, arith}
+use Rattle.std.proofs.Common.{◌≡◌, inl, inr, ℕ, List, refl, sym, ◌∙◌, subst, arith}
 use Rattle.byte_disk.specs.declared.step.Step.{Step}
 use Rattle.image.specs.declared.refusal.BindRefusal.{BindRefusal}
 use Rattle.image.specs.declared.refusal.BindRefusal.TheVariants as bind
@@ -22,7 +22,7 @@ use Rattle.requests.specs.declared.refusal.Refusal.TheVariants as refusal
 use Rattle.requests.specs.declared.reply.Reply.{Reply}
 use Rattle.requests.specs.declared.reply.Reply.TheVariants as reply
 use Rattle.rlibreg_c.specs.declared.answer.Answer.{Answer}
-use Rattle.byte_registry.specs.Asked.{IsAsked, IsUnopened}
+use Rattle.byte_registry.specs.Asked.{IsAsked}
 use Rattle.rlibreg_c.specs.declared.entry.EntryPlace.{EntryPlace}
 use Rattle.rlibreg_c.specs.declared.place.SegmentPlace.{SegmentPlace}
 use Rattle.rlibreg_c.specs.Answers.{HasPlan, IsTold, IsTurnedAway, IsPlanned, IsPlanOf, IsChangeTold, IsChangeAnswered, IsFormatPlan, IsFormatAnswered, IsUpgradePlan, IsUpgradeAnswered, IsBindTold, IsBindAnswered, IsListTold, IsListGiven, IsListAnswered, IsPreloadAnswered}

@@ -1,9 +1,7 @@
 -- Where the segments of an image, and the names of a listing, are put, one more at a time.
-use Rattle.std.proofs.Common.{◌≡◌, ℕ, ◌+◌, List, [], ◌∷◌, ◌++◌, length, sym, ◌∙◌, ap, arith}
+use Rattle.std.proofs.Common.{◌≡◌, ℕ, ◌+◌, List, [], ◌∷◌, ◌++◌, length, ◌∙◌, ap, arith}
 use Rattle.std.proofs.lemmas.List.{length-append}
-use Rattle.std.specs.List.{flat_map}
 use Rattle.image.specs.Image.{ImageSegment}
-use Rattle.rlibreg_c.specs.declared.place.SegmentPlace.{SegmentPlace}
 use Rattle.rlibreg_c.specs.Layout as layout
 use Rattle.rlibreg_c.specs.Listing as listing
 

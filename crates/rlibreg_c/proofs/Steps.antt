@@ -1,5 +1,5 @@
 -- The bytes of the first steps of a plan.
-use Rattle.std.proofs.Common.{◌≡◌, ℕ, List, length, map, sym, ap}
+use Rattle.std.proofs.Common.{◌≡◌, ℕ, List, map}
 use Rattle.std.specs.List.{flat_map}
 use Rattle.byte_disk.specs.declared.planned.PlannedStep.{PlannedStep}
 use Rattle.rlibreg_c.specs.Spelling.{step_bytes, plan_bytes}

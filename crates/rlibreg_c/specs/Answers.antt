@@ -6,7 +6,6 @@ use Rattle.store.specs.declared.refusal.StoreRefusal.{StoreRefusal}
 use Rattle.requests.specs.Request.{Request, list, set_preloads}
 use Rattle.requests.specs.Table.{Listed}
 use Rattle.requests.specs.Step.{accepted}
-use Rattle.requests.specs.declared.refusal.Refusal.{Refusal}
 use Rattle.requests.specs.declared.reply.Reply.{Reply}
 use Rattle.requests.specs.declared.reply.Reply.TheVariants as reply
 use Rattle.commands.specs.Disk.{disk_refusal_text}

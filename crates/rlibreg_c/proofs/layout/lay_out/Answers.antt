@@ -1,7 +1,7 @@
 use Rattle.std.proofs.Common.{List, get_or, subst, ◌≡◌, ◌∙◌, ◌+◌, ◌++◌, ◌∷◌, [], inr, ap, sym, take, length, arith}
 use Rattle.std.proofs.lemmas.List.{take_more, take_more_set}
 use Rattle.image.specs.Image.{ImageSegment}
-use Rattle.rlibreg_c.specs.Layout.{segment_bytes, place_of, places_of}
+use Rattle.rlibreg_c.specs.Layout.{place_of, places_of}
 use Rattle.rlibreg_c.proofs.Places.{segment_more}
 use Rattle.rlibreg_c.proofs.Rows.{end_more, front_more, room_lacks, none_holds}
 use Rattle.rlibreg_c.proofs.layout.lay_out.Goals as goal

@@ -1,6 +1,4 @@
 use Rattle.std.proofs.Common.{◌≡◌, length, take}
-use Rattle.std.specs.List.{flat_map}
-use Rattle.image.specs.Image.{ImageSegment}
 use Rattle.rlibreg_c.specs.Layout.{segment_bytes, places_of}
 use Rattle.rlibreg_c.proofs.layout.lay_out.Given as goal
 
