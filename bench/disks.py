@@ -29,14 +29,15 @@ class Bench:
     def __init__(self, program, folder):
         self.program, self.folder = str(program.resolve()), folder
 
-    def run(self, words, given=b''):
+    def run(self, words, given=b'', status=0):
         before, start = resource.getrusage(resource.RUSAGE_CHILDREN), time.perf_counter()
-        ended = subprocess.run(words, cwd=self.folder, input=given, capture_output=True, check=True)
+        ended = subprocess.run(words, cwd=self.folder, input=given, capture_output=True)
+        assert ended.returncode == status, (words, ended)
         real, after = time.perf_counter() - start, resource.getrusage(resource.RUSAGE_CHILDREN)
         return real, after.ru_utime + after.ru_stime - before.ru_utime - before.ru_stime, ended.stdout
 
-    def done(self, *words, given=b''):
-        return self.run([self.program, *words], given)
+    def done(self, *words, given=b'', status=0):
+        return self.run([self.program, *words], given, status)
 
     def least(self, words, start=None, given=b''):
         """The least times of some runs, each from a copy of a disk as it was."""

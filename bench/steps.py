@@ -37,12 +37,12 @@ def digest(text):
     return answers.digest()
 
 
-def told(bench, what, file, libraries, times):
+def told(bench, what, file, libraries, times, status):
     """A row."""
     rows = {}
     for _ in range(RUNS):
         for given in scripts(file, libraries, times):
-            real, used, text = bench.done('script', 'disk', given=given)
+            real, used, text = bench.done('script', 'disk', given=given, status=status)
             rows.setdefault(given, []).append((used, real, digest(text)))
     at_once, by_steps = ([min(row[k] for row in taken) for k in (0, 1)] for taken in rows.values())
     assert len({row[2] for taken in rows.values() for row in taken}) == 1, what
@@ -65,9 +65,9 @@ def main():
     for what, sectors, count, size, times in [
             ('100 libraries of 1 MiB', 210_000, 100, MIB, 3), ('a chain of 2,048 libraries of 2 KiB', 20_000, 2048, 2048, 3)]:
         registry(bench, folder, sectors, count, size)
-        for said, wanted in [('its text', symbol(count - 1)), ('B5', symbol(count))]:
+        for said, wanted, status in [('its text', symbol(count - 1), 0), ('B5', symbol(count), 1)]:
             file = Made(needed=[name(count - 1)], undefined=[wanted], relocations=[(1, 0, 1, 0)], behind=8).file
-            told(bench, f'{what}, {said}', file, count, times)
+            told(bench, f'{what}, {said}', file, count, times, status)
     shutil.rmtree(folder)
 
 
