@@ -5,7 +5,7 @@ use Rattle.std.proofs.Math.ListN.{length-set}
 use Rattle.std.proofs.lemmas.Bool.{cases_lt}
 use Rattle.elf_file.specs.Header.{header_count}
 use Rattle.elf_file.specs.Segment.{program_header, is_load, loads, has_bad_order}
-use Rattle.elf_file.specs.inside.Index.{loads_before, is_spanned, with_block, InBlock, Indexes, AllAbove, IsBlockAt}
+use Rattle.elf_file.specs.inside.Index.{loads_before, is_spanned, with_block, InBlock, Indexes, AllAbove, IsBlockAt, BeginsBy}
 use Rattle.elf_file.specs.declared.load_index.LoadIndex.{LoadIndex}
 use Rattle.elf_file.specs.declared.load_index.TheConstants.{BLOCK, BLOCKS}
 use Rattle.elf_file.proofs.LoadNumbers.{loads_before_more, loads_before_most, loads_before_all, loads_apart, loads_rise}
@@ -196,6 +196,14 @@ index_block file i index has is free room =
             | inr ge ↦ record { block = n; stands = omega arith; from = omega (arith, here, ge); to = omega (arith, here, lt) }
           ];
     }
+
+-- what is true of a PT_LOAD of a block is true of a later one that begins at or below the address
+pub block_later : (file : List ℕ) (address low next : ℕ) → has_bad_order file ≡ false → IsBlockAt file address low → low ≤ next → BeginsBy file address next → IsBlockAt file address next
+block_later file address low next order block le begins = (
+  begins.0,
+  (λ j lt is. omega (arith, loads_apart file j next order lt begins.0 is begins.1, begins.2)),
+  (λ j ge lt is. block.2 j (omega (arith, le, ge)) lt is),
+)
 
 -- where there is a PT_LOAD there is a block
 pub some_block : (file : List ℕ) (index : LoadIndex) (i : ℕ) → Indexes file (header_count file) index → i < length (loads file) → 0 < index.blocks

@@ -1,26 +1,27 @@
 // An index of the PT_LOADs, without memory of its own.
 
-ghost use Rattle.std.specs.Prelude.{◌≡◌, ◌≤◌, ◌<◌, ◌+◌, ℕ, List, length, Some, slice_get};
-ghost use Rattle.std.specs.Prelude.{MatchOption};
+ghost use Rattle.std.specs.Prelude.{◌≡◌, ◌≤◌, ◌<◌, ◌+◌, ℕ, List, true, false, length, Some};
+ghost use Rattle.std.specs.Prelude.{MatchOption, slice_get};
 ghost use Rattle.elf_file.specs.Header.{header_count};
-ghost use Rattle.elf_file.specs.Segment.{loads};
+ghost use Rattle.elf_file.specs.Segment.{loads, has_bad_order};
 ghost use Rattle.elf_file.specs.inside.Index.{loads_before, is_spanned, with_block, Indexes};
-ghost use Rattle.elf_file.specs.inside.Index.{AllAbove, IsBlockAt};
+ghost use Rattle.elf_file.specs.inside.Index.{AllAbove, IsBlockAt, BeginsBy};
 
 use crate::headers::Headers;
 use crate::segment::ProgramHeader;
 use crate::segments::Segments;
 
 /// How many program headers a block spans.
-pub(crate) const BLOCK: usize = 256;
+pub(crate) const BLOCK: usize = 1024;
 /// How many blocks a file can have, its program headers being counted by 16 bits.
-const BLOCKS: usize = 256;
+const BLOCKS: usize = 64;
 
-/// The PT_LOADs in blocks. Each block begins with a PT_LOAD and has those of the 256 program
+/// The PT_LOADs in blocks. Each block begins with a PT_LOAD and has those of the 1,024 program
 /// headers from there on. Kept is the header number of each block's first PT_LOAD, and how many
-/// PT_LOADs stand before it. So one PT_LOAD, by its number or by an address, is found by one
-/// halving over the blocks and one pass over a block, also where other headers stand between. It is
-/// small, since each view of a file has its own.
+/// PT_LOADs stand before it. So a PT_LOAD is found by one halving over the blocks and, by its
+/// number, by one pass over a block, also where other headers stand between; by an address a
+/// halving over the block comes before that pass (`narrowed`). It is small, since each view of a
+/// file has its own.
 #[derive(Clone, Copy)]
 pub(crate) struct LoadIndex {
     pub(crate) count: usize,
@@ -161,5 +162,46 @@ impl Segments<'_> {
             return None;
         }
         Some(usize::from(index.first[low - 1]))
+    }
+
+    /// Whether there is a program header of this number, and it is a PT_LOAD that begins at or below
+    /// an address.
+    fn begins_by(&self, i: usize, address: u64) -> bool
+        ensures begins { result ≡ true → BeginsBy self.now address i }
+        ensures order { has_bad_order self.now ≡ false }
+    {
+        let headers = self.headers();
+        i < headers.count() && headers.is_load(i) && headers.nth(i).address <= address
+    }
+
+    /// The second of two program headers, where it is a PT_LOAD that begins at or below an address,
+    /// else the first.
+    fn later(&self, first: usize, second: usize, address: u64) -> usize
+        requires block { IsBlockAt self.now address first }
+        requires order { first ≤ second }
+        ensures { IsBlockAt self.now address result }
+    {
+        if self.begins_by(second, address) {
+            return second;
+        }
+        first
+    }
+
+    /// A PT_LOAD not before this one of which the same is true: each before it ends at or below the
+    /// address, and each that stands far enough behind it begins above. By halving over a block;
+    /// where all its headers are PT_LOADs, or every second one, it is the last that begins at or
+    /// below the address.
+    pub(crate) fn narrowed(&self, first: usize, address: u64) -> usize
+        requires { IsBlockAt self.now address first }
+        ensures { IsBlockAt self.now address result }
+    {
+        let _most = self.header_count();
+        let mut low = first;
+        let mut step = BLOCK / 2;
+        while step > 0 {
+            low = self.later(low, low + step, address);
+            step /= 2;
+        }
+        low
     }
 }

@@ -19,15 +19,16 @@ pub fn is_in_memory_part(address: u64, size: u64, h: ProgramHeader) -> bool
 impl Segments<'_> {
     /// The PT_LOAD that has so many bytes at an address in its memory part. Since PT_LOADs follow
     /// each other, only one of the last block that begins at or below the address can: a halving
-    /// over the blocks and a pass over one.
+    /// over the blocks, one over the headers of a block, and a pass over what that leaves.
     pub fn load_at(&self, address: u64, size: u64) -> Option<ProgramHeader>
         requires { 0 < size }
         ensures { MatchOption result (is_in_memory self.now address size ≡ false)
             (λ h. IsLoadOf self.now h × (is_in_memory_part address size h ≡ true)) }
     {
-        let Some(first) = self.block_at(address) else {
+        let Some(block) = self.block_at(address) else {
             return None;
         };
+        let first = self.narrowed(block, address);
         let end = self.header_count().min(first + BLOCK);
         for j in first..end {
             if self.headers().is_load(j) {

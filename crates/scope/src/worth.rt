@@ -1,6 +1,6 @@
 // Whether a table of names is worth its cost.
 
-ghost use Rattle.std.specs.Prelude.{◌<◌, ◌≤◌, length, IfSome};
+ghost use Rattle.std.specs.Prelude.{◌≤◌, IfSome};
 ghost use Rattle.scope.specs.inside.Entries.{IsTableOf};
 
 use crate::entry::Entry;

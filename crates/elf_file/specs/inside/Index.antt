@@ -60,6 +60,10 @@ AllBelow file address k = (j : ℕ) → j < k → is_load (program_header file j
 abbrev pub IsBlockAt : List ℕ → ℕ → ℕ → Type 0
 IsBlockAt file address k = (k < header_count file) × AllBelow file address k × AllAbove file address (k + BLOCK)
 
+-- a program header is a PT_LOAD that begins at or below an address
+abbrev pub BeginsBy : List ℕ → ℕ → ℕ → Type 0
+BeginsBy file address k = (k < header_count file) × (is_load (program_header file k) ≡ true) × ((program_header file k).address ≤ address)
+
 -- the index with one more block, of a PT_LOAD that isn't counted yet
 abbrev pub with_block : LoadIndex → ℕ → LoadIndex
 with_block index i =

@@ -20,5 +20,5 @@ returns-then-is_in_memory_part c =
 
 pub returns : goal.returns
 returns c =
-    none_in_block c.args.self.now c.args.address c.args.size c.in-Some.first c.requires c.in-Some.ensures
+    none_in_block c.args.self.now c.args.address c.args.size c.narrowed-first.result c.requires c.narrowed-first.ensures
     (λ j from lt is. c.loop-j.invariant j from (omega (arith, lt)) is)
