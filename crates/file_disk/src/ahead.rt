@@ -1,5 +1,5 @@
 // Sectors in a row that were read from the file, some of them ahead of being asked for.
-ghost use Rattle.std.specs.Prelude.{◌≡◌, ◌≤◌, ◌<◌, ◌*◌, vec_len};
+ghost use Rattle.std.specs.Prelude.{◌≡◌, ◌≤◌, ◌<◌, ◌*◌, vec_len, vec_capacity};
 
 use crate::transfer::read_at;
 use sector_disk::{DiskFault, SECTOR_BYTES};
@@ -21,11 +21,13 @@ pub(crate) struct Ahead {
     room: usize,
     // How many the last read asked for.
     asked: usize,
+    // The memory for them is reserved. As much of it is touched as a read has asked for.
     bytes: Vec<u8>,
     ghost some: { 0 < room },
     ghost most: { room ≤ 2048 },
-    ghost size: { vec_len bytes ≡ room * 512 },
-    ghost filled: { count ≤ room },
+    ghost size: { vec_len bytes ≤ room * 512 },
+    ghost reserved: { room * 512 ≤ vec_capacity bytes },
+    ghost filled: { count * 512 ≤ vec_len bytes },
     ghost asks: { asked ≤ room },
 }
 
@@ -36,7 +38,8 @@ impl Ahead {
     ghost use Rattle.file_disk.specs.Ahead.{ahead_at, sector_among, IsForgotten, IsKeptOf};
     ghost use Rattle.file_disk.specs.Transfer.{IsReadAt};
 
-    /// None are there. Takes the memory for all that may be, of a disk of so many sectors.
+    /// None are there. Takes the memory for all that may be, of a disk of so many sectors, and
+    /// touches none of it.
     pub(crate) fn new(alloc: Global, sectors: u32) -> Result<Ahead, AllocError>
         ensures { IfOk result (λ ahead. (k : ℕ) → ahead_at ahead k ≡ None) }
     {
@@ -46,7 +49,7 @@ impl Ahead {
             count: 0,
             room,
             asked: 0,
-            bytes: vec![in alloc; 0; room * SECTOR_BYTES]?,
+            bytes: Vec::with_capacity(alloc, room * SECTOR_BYTES)?,
         })
     }
 
@@ -92,6 +95,23 @@ impl Ahead {
         self.count = 0;
     }
 
+    // Has so many bytes be there for a read.
+    fn lengthen(&mut self, size: usize)
+        requires { size ≤ self.old.room * 512 }
+        ensures size { size ≤ vec_len self.new.bytes }
+        ensures room { self.new.room ≡ self.old.room }
+        ensures start { self.new.start ≡ self.old.start }
+        ensures count { self.new.count ≡ self.old.count }
+        ensures asked { self.new.asked ≡ self.old.asked }
+    {
+        if self.bytes.len() < size {
+            match self.bytes.resize(size, 0) {
+                Ok(()) => {}
+                Err(_) => unreachable!(),
+            }
+        }
+    }
+
     /// Reads a sector, and as many behind it as are worth it, but no more than `most` in all.
     pub(crate) fn fill<F: Read + Seek>(
         &mut self,
@@ -110,6 +130,7 @@ impl Ahead {
     {
         self.ask(at);
         let end = self.asked.min(most) * SECTOR_BYTES;
+        self.lengthen(end);
         let read = read_at(file, at, &mut self.bytes, end)?;
         self.start = at;
         self.count = read / SECTOR_BYTES;

@@ -59,7 +59,7 @@ impl<F: Drop> FileDisk<F> {
 }
 
 impl<F: Write + Seek + OpenFile> FileDisk<F> {
-    ghost use Rattle.std.specs.Prelude.{◌≡◌, ◌⊎◌, ℕ, None, true, OnOk, OnErr, is_err};
+    ghost use Rattle.std.specs.Prelude.{◌≡◌, ◌⊎◌, [], ℕ, None, true, OnOk, OnErr, is_err};
     ghost use Rattle.file_disk.specs.FileDisk.{file_facts, has_failed, file_of, kept, IsSame};
     ghost use Rattle.file_disk.specs.FileDisk.{WaitsNot, WaitsSame, IsGiven, IsGathered};
     ghost use Rattle.file_disk.specs.Gathered.{has_room};
@@ -107,7 +107,7 @@ impl<F: Write + Seek + OpenFile> FileDisk<F> {
         ensures sectors { self.new.sectors ≡ self.old.sectors }
         ensures ahead { self.new.ahead ≡ self.old.ahead }
         ensures waits { OnOk result (WaitsNot self.new) }
-        ensures count { OnOk result (self.new.gathered.count ≡ 0) }
+        ensures empty { OnOk result (self.new.gathered.contents.items ≡ []) }
         ensures given { OnOk result
             (IsGiven F.stream_position F.contents self.old (file_of self.new)) }
         ensures ok { OnOk result (has_failed self.new ≡ has_failed self.old) }

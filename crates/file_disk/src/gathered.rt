@@ -1,5 +1,5 @@
 // Neighbouring sectors that were written, and wait to be given to the file at once.
-ghost use Rattle.std.specs.Prelude.{◌≡◌, ◌≤◌, ◌<◌, vec_len};
+ghost use Rattle.std.specs.Prelude.{◌≡◌, ◌≤◌, ◌<◌, vec_len, vec_capacity};
 
 use sector_disk::SECTOR_BYTES;
 use std::alloc::{AllocError, Global};
@@ -11,26 +11,30 @@ const MOST: usize = 2048;
 #[derive(Drop)]
 pub(crate) struct Gathered {
     start: u32,
-    count: usize,
+    // How many may wait. The memory for them is reserved, and isn't touched before they do.
+    room: usize,
     contents: Vec<[u8; SECTOR_BYTES]>,
-    ghost some: { 0 < vec_len contents },
-    ghost filled: { count ≤ vec_len contents },
+    ghost some: { 0 < room },
+    ghost filled: { vec_len contents ≤ room },
+    ghost reserved: { room ≤ vec_capacity contents },
 }
 
 impl Gathered {
     ghost use Rattle.std.specs.Prelude.{◌≢◌, ℕ, None, Some, true, false, IfOk, option_copied};
+    ghost use Rattle.std.specs.Prelude.{[]};
     ghost use Rattle.std.specs.List.{flat_map};
     ghost use Rattle.file_disk.specs.Gathered.{gathered_sectors, gathered_at, has_room};
 
-    /// None wait. Takes the memory for all that may, on a disk of so many sectors.
+    /// None wait. Takes the memory for all that may, on a disk of so many sectors, and touches none
+    /// of it.
     pub(crate) fn new(alloc: Global, sectors: u32) -> Result<Gathered, AllocError>
         ensures { IfOk result (λ gathered. (k : ℕ) → gathered_at gathered k ≡ None) }
     {
         let room = (sectors as usize).clamp(1, MOST);
         Ok(Gathered {
             start: 0,
-            count: 0,
-            contents: vec![in alloc; [0; SECTOR_BYTES]; room]?,
+            room,
+            contents: Vec::with_capacity(alloc, room)?,
         })
     }
 
@@ -45,9 +49,9 @@ impl Gathered {
     pub(crate) fn is_empty(&self) -> bool
         ensures none { result ≡ true → (k : ℕ) → gathered_at self.now k ≡ None }
         ensures some { result ≡ false → gathered_at self.now self.now.start ≢ None }
-        ensures count { result ≡ true → self.now.count ≡ 0 }
+        ensures empty { result ≡ true → self.now.contents.items ≡ [] }
     {
-        self.count == 0
+        self.contents.is_empty()
     }
 
     /// The content of a sector that waits.
@@ -58,7 +62,7 @@ impl Gathered {
             return None;
         }
         let place = (at - self.start) as usize;
-        if place < self.count {
+        if place < self.contents.len() {
             Some(&self.contents[place])
         } else {
             None
@@ -70,14 +74,14 @@ impl Gathered {
     pub(crate) fn has_room(&self, at: u32) -> bool
         ensures { result ≡ has_room self.now at }
     {
-        if self.count == 0 {
+        if self.contents.is_empty() {
             return true;
         }
         if at < self.start {
             return false;
         }
         let place = (at - self.start) as usize;
-        place <= self.count && place < self.contents.len()
+        place <= self.contents.len() && place < self.room
     }
 
     /// The sector waits with this content.
@@ -86,28 +90,32 @@ impl Gathered {
         ensures here { gathered_at self.new at ≡ Some from.now }
         ensures others { (k : ℕ) → k ≢ at → gathered_at self.new k ≡ gathered_at self.old k }
     {
-        if self.count == 0 {
+        if self.contents.is_empty() {
             self.start = at;
         }
         let place = (at - self.start) as usize;
-        if place == self.count {
-            self.count += 1;
+        if place < self.contents.len() {
+            self.contents[place] = *from;
+            return;
         }
-        self.contents[place] = *from;
+        match self.contents.push(*from) {
+            Ok(()) => {}
+            Err(_) => unreachable!(),
+        }
     }
 
     /// The bytes of all of them, in a row.
     pub(crate) fn bytes(&self) -> &[u8]
         ensures { result.now ≡ flat_map (λ content. content) (gathered_sectors self.now) }
     {
-        self.contents[..self.count].as_flattened()
+        self.contents.as_flattened()
     }
 
     /// None wait any more.
     pub(crate) fn clear(&mut self)
         ensures none { (k : ℕ) → gathered_at self.new k ≡ None }
-        ensures count { self.new.count ≡ 0 }
+        ensures empty { self.new.contents.items ≡ [] }
     {
-        self.count = 0;
+        self.contents.clear();
     }
 }

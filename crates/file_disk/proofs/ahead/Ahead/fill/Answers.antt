@@ -8,5 +8,5 @@ pub returns-then-self-gt0-clause-read : goal.returns-then-self-gt0-clause-read
 returns-then-self-gt0-clause-read g c =
     let read : ℕ = c.in_ok-read.read in
     let came : List ℕ = c.read_at.new.bytes in
-    let same : (with_items c.ask.new.self.bytes came).items ≡ came = with_items_is c.ask.new.self.bytes came (search rules) in
+    let same : (with_items c.lengthen.new.self.bytes came).items ≡ came = with_items_is c.lengthen.new.self.bytes came (search rules) in
     (take read came, c.in_ok-read.ensures.read, λ k. subst (λ xs. Lies c.args.at (read / 512) (take read came) xs k) (sym same) (among c.args.at (read / 512) read came k (omega arith)))

@@ -1,4 +1,4 @@
-use Rattle.std.proofs.Common.{◌≡◌, ◌-◌, ◌&&◌, ◌<◌, ℕ, Bool, true, false, Option, Some, None, if◌then◌else◌, nat_le, nat_lt, refl, sym, ◌∙◌, arith}
+use Rattle.std.proofs.Common.{◌≡◌, ◌-◌, ◌&&◌, ◌<◌, ℕ, Bool, true, false, Option, Some, None, if◌then◌else◌, nat_le, nat_lt, refl, sym, ◌∙◌, arith, length, vec_len}
 use Rattle.std.specs.Cmp.Derive.{both_true}
 use Rattle.std.proofs.lemmas.Bool.{eqb-false, lt-ltb, le-leb}
 use Rattle.std.proofs.lemmas.Option.{none-some}
@@ -15,7 +15,7 @@ pub returns-clause-some : goal.returns-clause-some
 returns-clause-some g isnt = λ none.
     let gathered = g.args.self.now in
     let start : ℕ = gathered.start in
-    let some : 0 < gathered.count = omega (arith, eqb-false gathered.count 0 isnt) in
+    let some : 0 < length gathered.contents.items = omega (arith, eqb-false (vec_len gathered.contents) 0 (sym g.is_empty.ensures ∙ isnt), gathered.contents.ok.0) in
     let first : Sector = sector gathered.contents.items (start - start) in
-    let test : (nat_le start start && nat_lt (start - start) gathered.count) ≡ true = both_true (le-leb start start (omega arith)) (lt-ltb (start - start) gathered.count (omega (arith, some))) in
+    let test : (nat_le start start && nat_lt (start - start) (length gathered.contents.items)) ≡ true = both_true (le-leb start start (omega arith)) (lt-ltb (start - start) (length gathered.contents.items) (omega (arith, some))) in
     none-some first (sym none ∙ where_true _ first test)
