@@ -11,6 +11,7 @@ use Rattle.registry.specs.Stands.{Stands, StandsOld}
 abbrev pub IsNotOld : List Sector → Type 0
 IsNotOld m = (s : State) → StandsOld m s → ⊥
 
--- The registry is at the state that these sectors stood for, or, where they did so by the old rules, at the one after it.
+-- The registry is at the state that these sectors stood for, or, where they did so by the old
+-- rules, at the one after it.
 abbrev pub IsUpgradeOf : {D : Type 0} → (D → DiskFacts) → Opened D → List Sector → State → Type 0
 IsUpgradeOf facts registry m s = (Stands m s × IsAt facts registry s) ⊎ (StandsOld m s × IsAt facts registry (upgraded s))
