@@ -13,7 +13,7 @@ use Rattle.requests.specs.Request.{Request}
 use Rattle.requests.specs.Step.{Step}
 use Rattle.requests.specs.declared.reply.Reply.{Reply}
 
--- a registry that was just opened on these sectors, by this root and these entries: nobody holds anything
+-- a registry just opened on these sectors, by this root and these entries: nobody holds anything
 abbrev pub opened_on : List Sector → Root → List PlacedEntry → Opened (List Sector)
 opened_on m root entries = record { disk = m; root = root; entries = entries; held = []; failed = false }
 

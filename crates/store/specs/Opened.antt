@@ -12,7 +12,8 @@ use Rattle.store.specs.declared.holding.Holding.{Holding}
 use Rattle.store.specs.Stands.{StandsBy}
 use Rattle.store.specs.Held.{in_use, lone_sectors}
 
--- what a store keeps: its disk, the current root, its entries with their sectors, what is held, and whether a write or a sync failed
+-- what a store keeps: its disk, the current root, its entries with their sectors, what is held,
+-- and whether a write or a sync failed
 pub record Opened (D : Type 0) : Type 0 where
   pub disk : D
   pub root : Root
