@@ -28,6 +28,7 @@ pub data Happening : Type 0 where
   advance : ℕ → Happening
   cancel : ℕ → Happening
 
+-- what an event asks
 abbrev pub happening_of : Event → Happening
 happening_of (event.Apply command) = apply (request_of command)
 happening_of (event.Begin program base) = begin program.now base

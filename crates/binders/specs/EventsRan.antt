@@ -16,6 +16,7 @@ abbrev pub exchange_of : Happening → EventReply → Exchange
 exchange_of (apply request) (Replied answer) = Some (request, answer)
 exchange_of happening reply = None
 
+-- what events and their replies are to the state, one by one
 abbrev pub exchanges : List Happening → List EventReply → List Exchange
 exchanges (happening ∷ happenings) (reply ∷ replies) = exchange_of happening reply ∷ exchanges happenings replies
 exchanges happenings replies = []

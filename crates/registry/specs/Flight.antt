@@ -14,7 +14,7 @@ use Rattle.requests.specs.declared.reply.Reply.{Reply}
 use Rattle.requests.specs.declared.reply.Reply.TheVariants.{Bound, Refused}
 use Rattle.registry.specs.Binding.{data_sectors}
 
--- what a binder is to bind, the state that it was begun at, how many steps were answered Going
+-- what a binder binds, the state that it was begun at, and how many steps were answered Going
 pub record Flight : Type 0 where
   pub program : List ℕ
   pub base : ℕ
@@ -33,6 +33,7 @@ further f = record { program = f.program; base = f.base; state = f.state; going 
 abbrev pub flight_order : Flight → List Named
 flight_order f = load_order f.program (objects f.state) (preload_numbers f.state)
 
+-- the length of a load order; 0 where a test refuses the program by itself
 abbrev pub goings_by : Option BindRefusal → List Named → ℕ
 goings_by None order = length order
 goings_by (Some refusal) order = 0
@@ -42,6 +43,7 @@ goings_by (Some refusal) order = 0
 abbrev pub goings : Flight → ℕ
 goings f = goings_by (program_refusal f.program f.base) (flight_order f)
 
+-- the data sectors of the library at a place of the load order, if there is one
 abbrev pub sectors_at : ℕ → List Named → ℕ
 sectors_at zero order = 0
 sectors_at (suc k) order = sum_by (λ o. data_sectors o.file) (take 1 (drop (suc k) order))

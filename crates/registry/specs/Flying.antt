@@ -84,6 +84,7 @@ IsLast (Refused (Bind refusal)) = Unit
 IsLast (Refused Damaged) = Unit
 IsLast answer = ⊥
 
+-- the same of a step: Going, or such an answer
 abbrev pub IsLastStep : Step → Type 0
 IsLastStep Going = Unit {0}
 IsLastStep (Final answer) = IsLast answer

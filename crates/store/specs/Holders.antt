@@ -18,7 +18,7 @@ pub record IsHeldAs (disk : DiskFacts) (held : List Holding) (sector : ℕ) (lib
 abbrev pub HeldIs : {D : Type 0} → (D → DiskFacts) → Opened D → ℕ → Library → Type 0
 HeldIs facts store sector library = IsHeldAs (facts store.disk) store.held sector library
 
--- What is held stays held by as many, on any disk; on an honest one each byte string stays, too.
+-- What is held stays held by as many, on any disk; on an honest one its bytes stay what they were.
 pub record KeepsHolders (before after : DiskFacts) (old new : List Holding) : Type 0 where
   pub holders : (sector : ℕ) → holders_of new sector ≡ holders_of old sector
   pub bytes : IsTrue before.honest → (sector : ℕ) (library : Library) → IsHeldAs before old sector library → IsHeldAs after new sector library
