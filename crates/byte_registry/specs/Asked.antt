@@ -45,7 +45,7 @@ pub record IsAsked (bytes : List ℕ) (s : State) (request : Request) (reply : R
   pub leads : reply ≡ Done → LeadsTo (sectors_in bytes) s (accepted s request) steps
 
 -- Made on these bytes, an empty registry: no root was ever written there, and the steps lead from
--- the sectors as they were to sectors that stand for the empty state.
+-- the sectors as they were to sectors that hold the empty state.
 pub record IsFormatted (bytes : List ℕ) (steps : List Step) : Type 0 where
   pub size : IsDiskLength (length bytes)
   pub unformatted : HasRootMagic (sectors_in bytes) → ⊥

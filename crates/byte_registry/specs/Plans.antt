@@ -7,7 +7,7 @@ use Rattle.byte_disk.specs.Plan.{IsMixtureAfter, writes_in}
 use Rattle.states.specs.State.{State}
 use Rattle.registry.specs.Stands.{Stands}
 
--- The bytes are those of a disk that holds the state: whole sectors, which stand for it.
+-- The bytes are those of a disk: whole sectors, and these hold the state.
 pub record Holds (bytes : List ℕ) (s : State) : Type 0 where
   pub size : IsDiskLength (length bytes)
   pub stands : Stands (sectors_in bytes) s

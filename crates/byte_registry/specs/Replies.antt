@@ -28,7 +28,7 @@ phase_on m root entries failures s = record {
   state = s;
 }
 
--- By the step table a command may be answered so, where the sectors stand for the state.
+-- By the step table a command may be answered so, where the sectors hold the state.
 pub record IsReplyOn (m : List Sector) (s : State) (request : Request) (reply : Reply) : Type 0 where
   pub root : Root
   pub entries : List PlacedEntry

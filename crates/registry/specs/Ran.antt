@@ -59,7 +59,7 @@ LeadsThrough facts p [] [] = Unit {0}
 LeadsThrough facts p (x ∷ xs) (t ∷ ts) = Moves facts p x t × LeadsThrough facts t xs ts
 LeadsThrough facts p xs ts = ⊥
 
--- after commands from a state, whatever a stop leaves stands for the state after the accepted ones
+-- after commands from a state, whatever a stop leaves holds the state after the accepted ones
 abbrev pub FindsAccepted : {D : Type 0} → (D → DiskFacts) → Opened D → State → List Exchange → Type 0
 FindsAccepted facts new s exchanges = (m : List Sector) → Mixture (facts new.disk) m
     → (commands : List Request) × AreAccepted exchanges commands × Stands m (state_after s commands)

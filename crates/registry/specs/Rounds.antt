@@ -17,7 +17,7 @@ use Rattle.registry.specs.Opened.{IsAt}
 use Rattle.registry.specs.Ran.{RunsOver}
 use Rattle.registry.specs.Acknowledged.{commanded, AreAccepted, state_after}
 
--- whatever a stop leaves of the disk stands for the state
+-- whatever a stop leaves of the disk holds the state
 abbrev pub AlwaysStands : Memory → State → Type 0
 AlwaysStands disk s = (m : List Sector) → Mixture (memory_facts disk) m → Stands m s
 
