@@ -74,7 +74,7 @@ PLAIN = {
     'byte_disk/ByteDisk: IsPlanOf': 'what a plan is to its disk: at each of its steps it leaves what the disk said of a moment, and each moment has such a step',
     'byte_disk/Plan: MayBeLeft': 'a stop after these steps may leave a sector with the content that it had when the last sync was done, or after some step since',
     'byte_registry/Asked: IsAsked': 'the bytes hold this state alone; the reply is by the step table, and once it is Done the steps lead to the state of acceptance',
-    'byte_registry/Asked: IsFormatted': 'no root was ever written there, and the steps lead from the sectors as they were to such that stand for the empty state',
+    'byte_registry/Asked: IsFormatted': 'no root was ever written there, and the steps lead from the sectors as they were to such that hold the empty state',
     'byte_registry/Asked: IsUpgraded': 'the steps lead from a state by the rules of version 1 to the one after it; or leave one by those of version 2',
     'byte_registry/Asked: IsUnupgraded': 'why none is upgraded: a test of an upgrade, want of memory, or what a look at the bytes refuses',
     'byte_registry/Plans: LeadsFrom': 'each mixture after each prefix of the steps is as before or as after, and each after all of them as after',

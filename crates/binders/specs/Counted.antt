@@ -11,8 +11,8 @@ pub record IsLone {D : Type 0} (binders : Slotted D) (placed : PlacedEntry) : Ty
   pub version : IsHeldBy binders.registry.held placed.at placed
   pub unlisted : Contains binders.registry.entries placed → ⊥
 
--- Beside the sectors of the state, those of these versions aren't free, and no others: each is counted once, however many
--- binders hold it.
+-- Beside the sectors of the state, those of these versions aren't free, and no others: each counts
+-- once, however many binders hold it.
 pub record CountsOnce {D : Type 0} (binders : Slotted D) : Type 0 where
   pub versions : List PlacedEntry
   pub once : AllPairs (λ a b. a.at ≢ b.at) versions

@@ -28,16 +28,18 @@ pub data Happening : Type 0 where
   advance : ℕ → Happening
   cancel : ℕ → Happening
 
+-- what an event asks
 abbrev pub happening_of : Event → Happening
 happening_of (event.Apply command) = apply (request_of command)
 happening_of (event.Begin program base) = begin program.now base
 happening_of (event.Advance slot) = advance slot
 happening_of (event.Cancel slot) = cancel slot
 
--- A command is applied: what it does to a registry, whatever binders live; these stay on their flights.
+-- What applying a command does to a registry, whatever binders live; these stay on their flights.
 pub record AppliesIn {D : Type 0} (facts : D → DiskFacts) (old new : Slotted D) (request : Request) (answer : Reply) : Type 0 where
   pub applied : (s : State) → IsAt facts old.registry s → Applies facts old.registry new.registry s request answer
-  pub all_calls : (s : State) → IsAt facts old.registry s → IfAccepted answer (AreCallsExactly (calls_of s request) (facts old.registry.disk) (facts new.registry.disk))
+  pub all_calls : (s : State) → IsAt facts old.registry s
+      → IfAccepted answer (AreCallsExactly (calls_of s request) (facts old.registry.disk) (facts new.registry.disk))
   pub on_any_disk : Answered facts old.registry new.registry request answer
   pub fly_on : FlyOn facts old new
   pub slots : new.slots ≡ old.slots

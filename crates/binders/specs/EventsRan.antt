@@ -1,4 +1,4 @@
--- What a list of events does to a registry with binders, and what a stop leaves of it at any moment (own).
+-- What a list of events does to a registry with binders, and what a stop leaves meanwhile (own).
 use Rattle.std.specs.Prelude.{◌≡◌, List, [], ◌∷◌, map, Some, None}
 use Rattle.sector_disk.specs.Disk.{DiskFacts}
 use Rattle.states.specs.State.{State}
@@ -11,11 +11,12 @@ use Rattle.binders.specs.Slotted.{Slotted}
 use Rattle.binders.specs.declared.event.EventReply.{EventReply}
 use Rattle.binders.specs.declared.event.EventReply.TheVariants.{Replied}
 
--- what an event and its reply are to the state: a command with its reply, and everything else asks for no change
+-- what an event and its reply are to the state: a command with its reply, or no change asked for
 abbrev pub exchange_of : Happening → EventReply → Exchange
 exchange_of (apply request) (Replied answer) = Some (request, answer)
 exchange_of happening reply = None
 
+-- what events and their replies are to the state, one by one
 abbrev pub exchanges : List Happening → List EventReply → List Exchange
 exchanges (happening ∷ happenings) (reply ∷ replies) = exchange_of happening reply ∷ exchanges happenings replies
 exchanges happenings replies = []
@@ -31,6 +32,7 @@ pub record EventsRan {D : Type 0} (facts : D → DiskFacts) (old new : Slotted D
   -- each event happened to what the one before it left
   pub steps : Steps (EventStep facts) old happenings replies passed
   pub last : new ≡ last_of old passed
-  -- From each state at which the registry may be, a stop at any moment leaves the state after accepted commands that hold
-  -- every one acknowledged by then, whatever binders live.
-  pub runs : (s : State) → IsAt facts old.registry s → RunsThrough facts old.registry (map (λ (b : Slotted D). b.registry) passed) new.registry s (exchanges happenings replies)
+  -- From each state at which the registry may be, a stop at any moment leaves the state after
+  -- accepted commands that hold every one acknowledged by then, whatever binders live.
+  pub runs : (s : State) → IsAt facts old.registry s
+      → RunsThrough facts old.registry (map (λ (b : Slotted D). b.registry) passed) new.registry s (exchanges happenings replies)

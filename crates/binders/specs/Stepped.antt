@@ -1,5 +1,6 @@
 -- What beginning, advancing and ending a binder in a slot does (own).
-use Rattle.std.specs.Prelude.{◌≡◌, ◌≢◌, ◌↔◌, ◌⊎◌, ◌<◌, ◌+◌, ℕ, List, slice_index_or, slice_set, Option, Some, None, Result, Ok, Err, IfOk, IfErr, OnErr, IsTrue, IsFalse}
+use Rattle.std.specs.Prelude.{◌≡◌, ◌≢◌, ◌↔◌, ◌⊎◌, ◌<◌, ◌+◌, ℕ, List, slice_index_or}
+use Rattle.std.specs.Prelude.{slice_set, Option, Some, None, Result, Ok, Err, IfOk, IfErr, OnErr, IsTrue, IsFalse}
 use Rattle.sector_disk.specs.Disk.{DiskFacts, Mixture, IsUnchanged, LeavesOnly, AreCalls, AreCallsAtMost, AreCallsExactly}
 use Rattle.states.specs.State.{State}
 use Rattle.store.specs.Held.{holders_of}
@@ -15,11 +16,12 @@ use Rattle.registry.specs.declared.binder.Step.TheVariants.{Going, Final}
 use Rattle.registry.specs.inside.Binding.{Binding}
 use Rattle.binders.specs.Slotted.{Slotted, AreOn, HoldAlone, held_by, lowest_free}
 
--- The registry stays at its state. A version is held as many times more, or less, as the binders hold it.
+-- The registry stays at its state. Its holders of a version grow or shrink as the binders' do.
 pub record StaysAt {D : Type 0} (facts : D → DiskFacts) (old new : Slotted D) : Type 0 where
   pub same : (s : State) → IsAt facts old.registry s → IsAt facts new.registry s
   pub kept : (new.registry.root ≡ old.registry.root) × (new.registry.entries ≡ old.registry.entries) × (new.registry.failed ≡ old.registry.failed)
-  pub holders : (sector : ℕ) → holders_of new.registry.held sector + held_by old.slots sector ≡ holders_of old.registry.held sector + held_by new.slots sector
+  pub holders : (sector : ℕ) → holders_of new.registry.held sector + held_by old.slots sector
+      ≡ holders_of old.registry.held sector + held_by new.slots sector
   pub alone : HoldAlone old → HoldAlone new
 
 -- the binders stay on their flights
@@ -31,15 +33,18 @@ abbrev pub IsPut : List (Option Binding) → ℕ → List (Option Binding) → T
 IsPut old slot new = (binder : Binding) × (new ≡ slice_set old slot (Some binder))
 
 -- which flights the binders are on after one was begun: a new one, in the lowest free slot
-abbrev pub BegunIn : {D : Type 0} → (D → DiskFacts) → Slotted D → Slotted D → List ℕ → ℕ → State → List (Option Flight) → Result ℕ Refusal → Type 0
-BegunIn facts old new program base s flights (Ok slot) = (lowest_free old.slots ≡ Some slot) × AreOn facts new (slice_set flights slot (Some (begun program base s)))
+abbrev pub BegunIn : {D : Type 0} → (D → DiskFacts) → Slotted D → Slotted D → List ℕ
+    → ℕ → State → List (Option Flight) → Result ℕ Refusal → Type 0
+BegunIn facts old new program base s flights (Ok slot) = (lowest_free old.slots ≡ Some slot)
+    × AreOn facts new (slice_set flights slot (Some (begun program base s)))
 BegunIn facts old new program base s flights (Err refusal) = AreOn facts new flights
 
--- A binder was begun in a slot, or refused: S2, C7 exactly where a binder lives in each slot, or S11.
+-- A binder was begun in a slot, or refused: S2, C7 exactly where each slot has a binder, or S11.
 pub record BeginsIn {D : Type 0} (facts : D → DiskFacts) (old new : Slotted D) (program : List ℕ) (base : ℕ) (result : Result ℕ Refusal) : Type 0 where
-  pub ok : (s : State) (flights : List (Option Flight)) → IsAt facts old.registry s → AreOn facts old flights → BegunIn facts old new program base s flights result
+  pub ok : (s : State) (flights : List (Option Flight)) → IsAt facts old.registry s
+      → AreOn facts old flights → BegunIn facts old new program base s flights result
   pub stays : StaysAt facts old new
-  -- On any disk, of which no call is made: a slot gets a binder, or none does, and all stay on their flights.
+  -- On any disk, with no call of it: a slot gets a binder, or none does; no other flight changes.
   pub slots : IfOk result (λ slot. (lowest_free old.slots ≡ Some slot) × IsPut old.slots slot new.slots)
   pub err : OnErr result ((new.slots ≡ old.slots) × FlyOn facts old new)
   pub failed : IsTrue old.registry.failed → new ≡ old
@@ -49,14 +54,16 @@ pub record BeginsIn {D : Type 0} (facts : D → DiskFacts) (old new : Slotted D)
   pub no_slot : (result ≡ Err NoSlot) ↔ (IsFalse old.registry.failed × (lowest_free old.slots ≡ None))
   pub refusals : IfErr result (λ e. (e ≡ Reopen) ⊎ (e ≡ NoSlot) ⊎ (e ≡ OutOfMemory))
 
--- which flights the binders are on after a step of one: that one is a step further, or its flight is over with the answer
--- of the bind, or it is where it was
-abbrev pub SteppedIn : {D : Type 0} → (D → DiskFacts) → Slotted D → Slotted D → ℕ → List (Option Flight) → Flight → Result Step Refusal → Type 0
+-- which flights the binders are on after a step of one: that one is a step further, or its flight
+-- is over with the answer of the bind, or it is where it was
+abbrev pub SteppedIn : {D : Type 0} → (D → DiskFacts) → Slotted D → Slotted D → ℕ
+    → List (Option Flight) → Flight → Result Step Refusal → Type 0
 SteppedIn facts old new slot flights flight (Ok Going) = (flight.going < goings flight) × AreOn facts new (slice_set flights slot (Some (further flight)))
     × AreCallsExactly (step_sectors flight) (facts old.registry.disk) (facts new.registry.disk)
 SteppedIn facts old new slot flights flight (Ok (Final answer)) = (flight.going ≡ goings flight) × IsBindOf flight.state flight.program flight.base answer
     × AreOn facts new (slice_set flights slot None) × (new.registry.disk ≡ old.registry.disk)
-SteppedIn facts old new slot flights flight (Err refusal) = AreOn facts new flights × AreCallsAtMost (step_sectors flight) (facts old.registry.disk) (facts new.registry.disk)
+SteppedIn facts old new slot flights flight (Err refusal) = AreOn facts new flights
+    × AreCallsAtMost (step_sectors flight) (facts old.registry.disk) (facts new.registry.disk)
     × MayBeRefused flight.program refusal
 
 -- the slots after a step: the binder of this one is where it was, or a step further; or it is gone
@@ -66,10 +73,13 @@ SlotsAfter old slot new result = IsPut old slot new
 
 -- A step was made of the binder in a slot: C8 exactly where none lives there, before all else.
 pub record AdvancesIn {D : Type 0} (facts : D → DiskFacts) (old new : Slotted D) (slot : ℕ) (result : Result Step Refusal) : Type 0 where
-  pub step : (flights : List (Option Flight)) (flight : Flight) → AreOn facts old flights → slice_index_or flights slot None ≡ Some flight → SteppedIn facts old new slot flights flight result
-  pub bounds : (flights : List (Option Flight)) (flight : Flight) → AreOn facts old flights → slice_index_or flights slot None ≡ Some flight → IsBounded flight
-  -- no call of it leaves what could not be left before, and after it a stop may leave just what it could leave before
-  pub any_moment : IsTrue (facts old.registry.disk).honest → LeavesOnly (facts old.registry.disk) (facts new.registry.disk) (Mixture (facts old.registry.disk))
+  pub step : (flights : List (Option Flight)) (flight : Flight) → AreOn facts old flights
+      → slice_index_or flights slot None ≡ Some flight → SteppedIn facts old new slot flights flight result
+  pub bounds : (flights : List (Option Flight)) (flight : Flight) → AreOn facts old flights
+      → slice_index_or flights slot None ≡ Some flight → IsBounded flight
+  -- during it a stop leaves only what it could leave before, and after it may leave just the same
+  pub any_moment : IsTrue (facts old.registry.disk).honest
+      → LeavesOnly (facts old.registry.disk) (facts new.registry.disk) (Mixture (facts old.registry.disk))
   pub unchanged : IsTrue (facts old.registry.disk).honest → IsUnchanged (facts old.registry.disk) (facts new.registry.disk)
   pub stays : StaysAt facts old new
   -- on any disk
@@ -82,7 +92,7 @@ pub record AdvancesIn {D : Type 0} (facts : D → DiskFacts) (old new : Slotted 
   pub answers : IfOk result IsLastStep
   pub calls : AreCalls (facts old.registry.disk) (facts new.registry.disk)
 
--- A binder in a slot was ended: Done, or C8 exactly where none lives there. No call of the disk is made.
+-- A binder in a slot was ended: Done, or C8 exactly where none lives there. The disk isn't called.
 pub record CancelsIn {D : Type 0} (facts : D → DiskFacts) (old new : Slotted D) (slot : ℕ) (answer : Reply) : Type 0 where
   pub ok : (flights : List (Option Flight)) → AreOn facts old flights → AreOn facts new (slice_set flights slot None)
   pub stays : StaysAt facts old new

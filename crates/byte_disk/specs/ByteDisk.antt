@@ -51,8 +51,8 @@ byte_facts disk = facts_of disk.start.now disk.planned.items disk.idle
 abbrev pub LeavesAsAfter : ByteDisk → ℕ → ℕ → Type 0
 LeavesAsAfter disk u n = (m : List Sector) → MixtureAt (byte_facts disk) u m ↔ IsMixtureAfter (given_to disk) (take n (plan_of disk)) m
 
--- What a plan is to its disk: carried out in its order, it leaves at each of its steps what the disk said of a moment, and
--- no moment was without such a step.
+-- What a plan is to its disk: carried out in its order, it leaves at each of its steps what the
+-- disk said of a moment, and no moment was without such a step.
 pub record IsPlanOf (disk : ByteDisk) : Type 0 where
   pub prefixes : (n : ℕ) → n ≤ length (plan_of disk) → (u : ℕ) × (u ≤ (byte_facts disk).time) × LeavesAsAfter disk u n
   pub moments : (u : ℕ) → u ≤ (byte_facts disk).time → (n : ℕ) × (n ≤ length (plan_of disk)) × LeavesAsAfter disk u n

@@ -1,4 +1,4 @@
--- A plan: steps that whoever has a disk carries out in their order, and what a stop may leave of it meanwhile (own).
+-- A plan: steps to carry out on a disk in their order, and what a stop may leave meanwhile (own).
 use Rattle.std.specs.Prelude.{◌≡◌, ◌<◌, ◌≤◌, ℕ, List, [], ◌∷◌, length, set, take, drop, All}
 use Rattle.sector_disk.specs.Disk.{Sector, sector, IsWhole}
 use Rattle.byte_disk.specs.declared.step.Step.{Step}
@@ -15,12 +15,12 @@ abbrev pub IsWriteStep : Step → Type 0
 IsWriteStep (Write at content) = Unit {0}
 IsWriteStep Sync = ⊥
 
--- A stop after these steps may leave sector k with this content: with the one that it had when the last sync was done, or
--- after some step since. After i steps no sync came any more.
+-- A stop after these steps may leave sector k with this content: with the one that it had when the
+-- last sync was done, or after some step since. After i steps no sync came any more.
 abbrev pub MayBeLeft : List Sector → List Step → ℕ → Sector → Type 0
 MayBeLeft start steps k c = (i : ℕ) × (i ≤ length steps) × All IsWriteStep (drop i steps) × (c ≡ sector (carried_out start (take i steps)) k)
 
--- A mixture after these steps: each sector, by itself, with a content that a stop then may leave there.
+-- A mixture after these steps: each sector, by itself, with a content that a stop may leave there.
 pub record IsMixtureAfter (start : List Sector) (steps : List Step) (m : List Sector) : Type 0 where
   pub size : length m ≡ length start
   pub each : (k : ℕ) → k < length start → MayBeLeft start steps k (sector m k)

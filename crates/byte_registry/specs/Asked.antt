@@ -30,21 +30,22 @@ pub record IsDiskOf (bytes : List ℕ) (disk : ByteDisk) : Type 0 where
 abbrev pub IsBadLength : List ℕ → StoreRefusal → Type 0
 IsBadLength bytes refusal = (refusal ≡ BadGeometry) × (IsDiskLength (length bytes) → ⊥)
 
--- No registry is opened on these bytes, for this reason: where they hold a state, for want of memory alone.
+-- No registry is opened on these bytes, for this reason: where they hold a state, for want of
+-- memory alone.
 pub record IsUnopened (bytes : List ℕ) (refusal : StoreRefusal) : Type 0 where
   pub why : IsBadLength bytes refusal ⊎ IsDiskLength (length bytes) × RefusesOpen Stands (sectors_in bytes) refusal
   pub held : (s : State) → Holds bytes s → (refusal ≡ Device) ⊎ (refusal ≡ OutOfMemory)
 
--- The bytes hold this state and no other. The registry on them was asked this and answered so, by the step table; and once
--- it answered Done, these steps lead to the state that acceptance gives.
+-- The bytes hold this state and no other. The registry on them was asked this and answered so, by
+-- the step table; and once it answered Done, these steps lead to the state that acceptance gives.
 pub record IsAsked (bytes : List ℕ) (s : State) (request : Request) (reply : Reply) (steps : List Step) : Type 0 where
   pub holds : Holds bytes s
   pub only : (other : State) → Holds bytes other → other ≡ s
   pub by_table : IsReplyOn (sectors_in bytes) s request reply
   pub leads : reply ≡ Done → LeadsTo (sectors_in bytes) s (accepted s request) steps
 
--- Made on these bytes, an empty registry: no root was ever written there, and the steps lead from the sectors as they were
--- to sectors that stand for the empty state.
+-- Made on these bytes, an empty registry: no root was ever written there, and the steps lead from
+-- the sectors as they were to sectors that hold the empty state.
 pub record IsFormatted (bytes : List ℕ) (steps : List Step) : Type 0 where
   pub size : IsDiskLength (length bytes)
   pub unformatted : HasRootMagic (sectors_in bytes) → ⊥
@@ -59,15 +60,16 @@ pub record HoldsOld (bytes : List ℕ) (s : State) : Type 0 where
   pub size : IsDiskLength (length bytes)
   pub stands : StandsOld (sectors_in bytes) s
 
--- Made one of version 2: the bytes hold this state by the rules of version 1, and the steps lead to the state after it; or
--- they hold it by those of version 2, and the steps leave it.
+-- Made one of version 2: the bytes hold this state by the rules of version 1, and the steps lead to
+-- the state after it; or they hold it by those of version 2, and the steps leave it.
 abbrev pub IsUpgraded : List ℕ → State → List Step → Type 0
 IsUpgraded bytes s steps =
     (HoldsOld bytes s × LeadsFrom (sectors_in bytes) (λ m. StandsOld m s) (λ m. Stands m (upgraded s)) steps)
     ⊎ (Holds bytes s × LeadsTo (sectors_in bytes) s s steps)
 
--- No registry is upgraded on these bytes, for this reason: where they hold a state of version 1, the one of the tests of an
--- upgrade or want of memory; where they hold one of version 2, want of memory; else the one of a look at them.
+-- No registry is upgraded on these bytes, for this reason: where they hold a state of version 1,
+-- the one of the tests of an upgrade or want of memory; where they hold one of version 2, want of
+-- memory; else the one of a look at them.
 pub record IsUnupgraded (bytes : List ℕ) (refusal : StoreRefusal) : Type 0 where
   pub old : (s : State) → HoldsOld bytes s → IsUpgradeAnswer (refusal_of_upgrade (length (sectors_in bytes)) s) (Err refusal)
   pub held : (s : State) → Holds bytes s → (refusal ≡ Device) ⊎ (refusal ≡ OutOfMemory)

@@ -7,13 +7,14 @@ use Rattle.byte_disk.specs.Plan.{IsMixtureAfter, writes_in}
 use Rattle.states.specs.State.{State}
 use Rattle.registry.specs.Stands.{Stands}
 
--- The bytes are those of a disk that holds the state: whole sectors, which stand for it.
+-- The bytes are those of a disk: whole sectors, and these hold the state.
 pub record Holds (bytes : List ℕ) (s : State) : Type 0 where
   pub size : IsDiskLength (length bytes)
   pub stands : Stands (sectors_in bytes) s
 
--- Steps that are carried out on these sectors lead from what is true of the sectors before to what is true of them after:
--- each mixture after each prefix of the steps is the one or the other, and each mixture after all of them is the second.
+-- Steps that are carried out on these sectors lead from what is true of the sectors before to what
+-- is true of them after: each mixture after each prefix of the steps is the one or the other, and
+-- each mixture after all of them is the second.
 pub record LeadsFrom (start : List Sector) (Before After : List Sector → Type 0) (steps : List Step) : Type 0 where
   pub prefix : (n : ℕ) → n ≤ length steps → (m : List Sector) → IsMixtureAfter start (take n steps) m → Before m ⊎ After m
   pub whole : (m : List Sector) → IsMixtureAfter start steps m → After m

@@ -13,7 +13,7 @@ use Rattle.requests.specs.Request.{Request}
 use Rattle.requests.specs.Step.{Step}
 use Rattle.requests.specs.declared.reply.Reply.{Reply}
 
--- a registry that was just opened on these sectors, by this root and these entries: nobody holds anything
+-- a registry just opened on these sectors, by this root and these entries: nobody holds anything
 abbrev pub opened_on : List Sector → Root → List PlacedEntry → Opened (List Sector)
 opened_on m root entries = record { disk = m; root = root; entries = entries; held = []; failed = false }
 
@@ -28,7 +28,7 @@ phase_on m root entries failures s = record {
   state = s;
 }
 
--- By the step table a command may be answered so, where the sectors stand for the state.
+-- By the step table a command may be answered so, where the sectors hold the state.
 pub record IsReplyOn (m : List Sector) (s : State) (request : Request) (reply : Reply) : Type 0 where
   pub root : Root
   pub entries : List PlacedEntry

@@ -1,8 +1,9 @@
--- The refusals of a disk that isn't opened as a registry, or isn't made or upgraded to one, and their text (own).
+-- The refusals to open, make or upgrade a registry on a disk, and their text (own).
 use Rattle.std.specs.Prelude.{ℕ, List, ◌++◌, codes}
 use Rattle.store.specs.Opening.{IsRefusalOfOpen, IsRefusalOfFormat, IsRefusalOfUpgrade}
 use Rattle.store.specs.declared.refusal.StoreRefusal.{StoreRefusal}
-use Rattle.store.specs.declared.refusal.StoreRefusal.TheVariants.{Device, Reopen, NotFormatted, AlreadyFormatted, Damaged, BadGeometry, Full, Fragmented, TooMany, GenerationEnd, OutOfMemory, OldFormat}
+use Rattle.store.specs.declared.refusal.StoreRefusal.TheVariants.{Device, Reopen, NotFormatted, AlreadyFormatted, Damaged, BadGeometry}
+use Rattle.store.specs.declared.refusal.StoreRefusal.TheVariants.{Full, Fragmented, TooMany, GenerationEnd, OutOfMemory, OldFormat}
 
 -- the number of a refusal and its name
 abbrev pub disk_refusal_name : StoreRefusal → List ℕ

@@ -26,7 +26,8 @@ event_reply_of answer = None
 abbrev pub replied : List Answer → List EventReply
 replied answers = filter_map event_reply_of answers
 
--- What these lines ask happened over a disk, one after the other, one reply each; and what a stop leaves of it at any moment.
+-- What these lines ask happened over a disk, one after the other, one reply each;
+-- and what a stop leaves of it at any moment.
 abbrev pub LinesRan : {D : Type 0} → (D → DiskFacts) → Slotted D → Slotted D → List (List ℕ) → List Answer → Type 0
 LinesRan facts old new lines answers = EventsRan facts old new (happenings lines) (replied answers)
 

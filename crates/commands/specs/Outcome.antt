@@ -47,7 +47,8 @@ Asks (replace disk file) asked = (bytes : List ℕ) × (length bytes < read_limi
 Asks (remove disk name) asked = asked ≡ request.remove name
 Asks (preload disk names) asked = asked ≡ request.set_preloads names
 Asks (list disk) asked = asked ≡ request.list
-Asks (bind disk program base) asked = (bytes : List ℕ) × (at : ℕ) × (length bytes < read_limit) × (base_of base ≡ Some at) × (asked ≡ request.bind bytes at)
+Asks (bind disk program base) asked = (bytes : List ℕ) × (at : ℕ) × (length bytes < read_limit)
+    × (base_of base ≡ Some at) × (asked ≡ request.bind bytes at)
 Asks line asked = ⊥
 
 -- a registry, opened on a disk over a file, got such a request; exactly its reply was appended
@@ -79,22 +80,26 @@ pub record Upgrades (F : Type 0) (before after : Option (List ℕ)) : Type 0 whe
 
 -- exactly the line was appended that tells why a disk isn't made a registry, or isn't opened as one
 abbrev pub TurnsAway : (StoreRefusal → Type 0) → Status → Option (List ℕ) → Option (List ℕ) → Type 0
-TurnsAway MayRefuse status before after = (refusal : StoreRefusal) × MayRefuse refusal × (disk_status refusal ≡ status) × Appends before after (disk_refusal_text refusal)
+TurnsAway MayRefuse status before after = (refusal : StoreRefusal) × MayRefuse refusal
+    × (disk_status refusal ≡ status) × Appends before after (disk_refusal_text refusal)
 
--- a step of a registry with binders, and the greatest status of a script's replies before it and after it
+-- a step of a registry with binders, and the greatest status of a script's replies before and after
 abbrev pub Worsens : {S : Type 0} → (S → Happening → EventReply → S → Type 0) → S × Status → Happening → EventReply → S × Status → Type 0
 Worsens step old happening reply new = step old.0 happening reply new.0 × (new.1 ≡ greatest old.1 (event_status reply))
 
 module _ {S : Type 0} (step : S → Happening → EventReply → S → Type 0) (s s' : S) (io : Streams) (status : Status) where
   -- a script ran to its end: its status is the greatest of the replies', 1 at least if one refuses
   abbrev pub RunsToTheEnd : Type 0
-  RunsToTheEnd = (worst : Status) × (summary : Summary) × Finishes (Worsens step) io (s, Done) (s', worst) summary × (status ≡ greatest worst (lines_status summary.refused))
+  RunsToTheEnd = (worst : Status) × (summary : Summary) × Finishes (Worsens step) io (s, Done) (s', worst) summary
+      × (status ≡ greatest worst (lines_status summary.refused))
 
   -- a script ended early: the status is the greatest of its replies and of what ended it
   abbrev pub EndsEarly : Type 0
-  EndsEarly = (worst : Status) × (fault : ScriptFault) × Stops (Worsens step) io (s, Done) (s', worst) fault × (status ≡ greatest worst (fault_status fault))
+  EndsEarly = (worst : Status) × (fault : ScriptFault) × Stops (Worsens step) io (s, Done) (s', worst) fault
+      × (status ≡ greatest worst (fault_status fault))
 
--- A registry was opened on a disk over a file, without binders and with nothing held, and a script was run over it to its end.
+-- A registry was opened on a disk over a file, without binders and with nothing held, and a script
+-- was run over it to its end.
 pub record Runs (F : Type 0) (io : Streams) (status : Status) : Type 0 where
   pub disk : FileDisk F
   pub old : Slotted (FileDisk F)

@@ -5,7 +5,11 @@ use Rattle.image.specs.declared.refusal.BindRefusal.{BindRefusal}
 use Rattle.image.specs.declared.refusal.BindRefusal.TheVariants.{Program, BadBase, Missing, NoRoom, Undefined, OutOfMemory}
 use Rattle.text_output.specs.Name.{name_text}
 use Rattle.elf_file.specs.declared.refusal.ObjectRefusal.{ObjectRefusal}
-use Rattle.elf_file.specs.declared.refusal.ObjectRefusal.TheVariants.{TooShort, BadMagic, BadClass, BadData, BadVersion, BadOsAbi, BadType, BadMachine, BadHeaderSize, BadProgramHeaders, TlsSegment, BadSegment, TooLarge, SegmentOrder, BadDynamic, DuplicateTag, SymbolVersions, UnsupportedTag, NoHashTable, MissingTag, BadEntrySize, BadRange, BadString, CommonSymbol, TlsSymbol, IfuncSymbol, BadBinding, RelocationType, RelocationSymbol, RelocationPlace, BadSoname}
+use Rattle.elf_file.specs.declared.refusal.ObjectRefusal.TheVariants.{TooShort, BadMagic, BadClass, BadData, BadVersion, BadOsAbi, BadType, BadMachine}
+use Rattle.elf_file.specs.declared.refusal.ObjectRefusal.TheVariants.{BadHeaderSize, BadProgramHeaders, TlsSegment, BadSegment, TooLarge, SegmentOrder}
+use Rattle.elf_file.specs.declared.refusal.ObjectRefusal.TheVariants.{BadDynamic, DuplicateTag, SymbolVersions, UnsupportedTag, NoHashTable, MissingTag}
+use Rattle.elf_file.specs.declared.refusal.ObjectRefusal.TheVariants.{BadEntrySize, BadRange, BadString, CommonSymbol, TlsSymbol, IfuncSymbol}
+use Rattle.elf_file.specs.declared.refusal.ObjectRefusal.TheVariants.{BadBinding, RelocationType, RelocationSymbol, RelocationPlace, BadSoname}
 use Rattle.hash_check.specs.declared.file_refusal.FileRefusal.{FileRefusal}
 use Rattle.hash_check.specs.declared.file_refusal.FileRefusal.TheVariants.{Object, DuplicateDefinition, BadHashTable}
 use Rattle.store.specs.declared.refusal.StoreRefusal.TheVariants as disk

@@ -5,7 +5,9 @@ use Rattle.std.specs.Fmt.{decimal}
 use Rattle.text_output.specs.Name.{name_text}
 use Rattle.requests.specs.Table.{Listed}
 use Rattle.requests.specs.declared.refusal.Refusal.{Refusal}
-use Rattle.requests.specs.declared.refusal.Refusal.TheVariants.{Object, AlreadyInstalled, NotInstalled, InPreloads, RepeatedPreload, TooManyPreloads, NoSlot, NoSuchBinder, Device, Reopen, Damaged, BadGeometry, Full, Fragmented, TooMany, GenerationEnd, OutOfMemory, Bind}
+use Rattle.requests.specs.declared.refusal.Refusal.TheVariants.{Object, AlreadyInstalled, NotInstalled, InPreloads, RepeatedPreload}
+use Rattle.requests.specs.declared.refusal.Refusal.TheVariants.{TooManyPreloads, NoSlot, NoSuchBinder, Device, Reopen, Damaged, BadGeometry}
+use Rattle.requests.specs.declared.refusal.Refusal.TheVariants.{Full, Fragmented, TooMany, GenerationEnd, OutOfMemory, Bind}
 use Rattle.requests.specs.declared.reply.Reply.{Reply}
 use Rattle.requests.specs.declared.reply.Reply.TheVariants.{Done, Listing, Bound, Refused}
 use Rattle.image.specs.Text.{image_text}
@@ -17,7 +19,8 @@ use Rattle.commands.specs.Refusal.{file_refusal_text, refusal_text}
 abbrev pub refused_line : List ℕ → List ℕ
 refused_line said = codes "refused " ++ said ++ codes "\n"
 
--- the line of a refusal; after C1 comes that of the file; that of a bind is as without a registry, that of a disk as of one that isn't opened
+-- the line of a refusal; after C1 comes that of the file; that of a bind is as without a registry,
+-- that of a disk as of one that isn't opened
 abbrev pub command_refusal_text : Refusal → List ℕ
 command_refusal_text (Object refusal) = refused_line (codes "C1 " ++ file_refusal_text refusal)
 command_refusal_text AlreadyInstalled = refused_line (codes "C2 AlreadyInstalled")

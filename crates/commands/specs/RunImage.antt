@@ -13,5 +13,6 @@ use Rattle.commands.specs.Refusal.{refusal_text, memory_text}
 -- exactly this was appended: the text of the image, or of the refusal, or of want of memory
 abbrev pub Shows : List ℕ → ℕ → Option (List ℕ) → Option (List ℕ) → Shown → Type 0
 Shows program base before after shown.Image = (alone_refusal program base ≡ None) × Appends before after (image_text (image_of (alone program base)))
-Shows program base before after shown.Refused = (refusal : BindRefusal) × (alone_refusal program base ≡ Some refusal) × Appends before after (refusal_text refusal)
+Shows program base before after shown.Refused = (refusal : BindRefusal)
+    × (alone_refusal program base ≡ Some refusal) × Appends before after (refusal_text refusal)
 Shows program base before after shown.NoMemory = WantsMemory program × Appends before after memory_text

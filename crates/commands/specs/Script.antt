@@ -39,7 +39,8 @@ pub record Streams : Type 0 where
   pub before : Option (List ℕ)
   pub after : Option (List ℕ)
 
--- A writer held exactly the answers to the first lines; one answer alone is missing, or the lines whose answers are missing ask for no change.
+-- A writer held exactly the answers to the first lines; one answer alone is missing, or the lines
+-- whose answers are missing ask for no change.
 pub record IsHeldBack (before held : Option (List ℕ)) (whole : List (List ℕ)) (answers : List Answer) : Type 0 where
   pub told : List (List ℕ)
   pub untold : List (List ℕ)
@@ -81,4 +82,5 @@ module _ {S : Type 0} (step : S → Happening → EventReply → S → Type 0) w
 
   -- the writer failed, and held the answers before; the rest is open
   abbrev pub StopsWriting : Streams → S → S → Option (List ℕ) → Type 0
-  StopsWriting io s s' held = (whole : List (List ℕ)) × (part : List ℕ) × (answers : List Answer) × Breaks io s s' Write whole part answers × IsHeldBack io.before held whole answers
+  StopsWriting io s s' held = (whole : List (List ℕ)) × (part : List ℕ) × (answers : List Answer)
+      × Breaks io s s' Write whole part answers × IsHeldBack io.before held whole answers

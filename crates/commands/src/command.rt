@@ -165,11 +165,12 @@ fn run_command<R: Files, I: Read, O: Write, E: Write>(
     output: &mut O,
     errors: &mut E,
 ) -> Status
-    ensures ends { CommandEnds R.File (command_line (map (λ word. string_bytes word) words.now)) (record {
-      unread = I.remaining input.old;
-      before = O.contents output.old;
-      after = O.contents output.new;
-    }) result }
+    ensures ends { CommandEnds R.File (command_line (map (λ word. string_bytes word) words.now))
+        (record {
+          unread = I.remaining input.old;
+          before = O.contents output.old;
+          after = O.contents output.new;
+        }) result }
     ensures unread { reads_input (command_line (map (λ word. string_bytes word) words.now)) ≡ false
         → input.new ≡ input.old }
     ensures silent { is_told result ≡ false → E.contents errors.new ≡ E.contents errors.old }

@@ -1,10 +1,11 @@
--- The refusal of a file: that of the first test that applies, each test being made over the whole file.
+-- The refusal of a file: that of the first test that applies, each made over the whole file.
 use Rattle.std.specs.Prelude.{ℕ, List, [], ◌∷◌, Option}
 use Rattle.std.specs.Option.{option_map}
 use Rattle.elf_file.specs.FirstOf.{◌when◌, first_of}
 use Rattle.elf_file.specs.Refusal.{file_refusal}
 use Rattle.elf_file.specs.declared.refusal.ObjectRefusal.{ObjectRefusal}
-use Rattle.elf_file.specs.declared.refusal.ObjectRefusal.TheVariants.{BadRange, BadString, CommonSymbol, TlsSymbol, IfuncSymbol, BadBinding, RelocationType, RelocationSymbol, RelocationPlace}
+use Rattle.elf_file.specs.declared.refusal.ObjectRefusal.TheVariants.{BadRange, BadString, CommonSymbol, TlsSymbol, IfuncSymbol, BadBinding}
+use Rattle.elf_file.specs.declared.refusal.ObjectRefusal.TheVariants.{RelocationType, RelocationSymbol, RelocationPlace}
 use Rattle.elf_dynamic.specs.Table.{has_bad_range}
 use Rattle.elf_dynamic.specs.Strings.{has_bad_string}
 use Rattle.elf_dynamic.specs.Symbol.{has_common_symbol, has_tls_symbol, has_ifunc_symbol, has_bad_binding}
@@ -43,7 +44,7 @@ relocation_tests file =
 unfoldable pub relocation_refusal : List ℕ → Option ObjectRefusal
 relocation_refusal file = first_of (relocation_tests file)
 
--- the refusals of a file by what E1 to E21, E22 and E23, E24 to E27, and E30 to E32 test, in this order
+-- the refusals of a file by E1 to E21, E22 and E23, E24 to E27, and E30 to E32, in this order
 abbrev pub refusals : List ℕ → List (Option ObjectRefusal)
 refusals file = file_refusal file ∷ table_refusal file ∷ symbol_refusal file ∷ relocation_refusal file ∷ []
 

@@ -1,5 +1,7 @@
--- The string table, and the names that stand in it (gABI chapter 4, string table; chapter 5, DT_NEEDED and DT_SONAME).
-use Rattle.std.specs.Prelude.{ℕ, ◌-◌, List, [], map, take_while, drop, slice_get, slice_index, Option, Some, None, unwrap_or, Bool, not, ◌==◌, ◌||◌, ◌&&◌, nat_le, if◌then◌else◌}
+-- The string table, and the names in it (gABI chapter 4, string table; chapter 5, DT_NEEDED and
+-- DT_SONAME).
+use Rattle.std.specs.Prelude.{ℕ, ◌-◌, List, [], map, take_while, drop, slice_get, slice_index, Option, Some, None}
+use Rattle.std.specs.Prelude.{unwrap_or, Bool, not, ◌==◌, ◌||◌, ◌&&◌, nat_le, if◌then◌else◌}
 use Rattle.std.specs.Option.{option_map_or}
 use Rattle.std.specs.List.{list_any}
 use Rattle.elf_file.specs.Constant.{DT_SONAME, DT_STRTAB, DT_STRSZ}

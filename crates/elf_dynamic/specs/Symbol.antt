@@ -1,11 +1,13 @@
 -- The symbol table and the tests of its symbols (gABI chapter 4, symbol table).
-use Rattle.std.specs.Prelude.{ℕ, ◌+◌, ◌*◌, ◌/◌, ◌%◌, List, [], map, drop, length, slice_index, Option, unwrap_or, Bool, not, ◌==◌, ◌||◌, ◌&&◌}
+use Rattle.std.specs.Prelude.{ℕ, ◌+◌, ◌*◌, ◌/◌, ◌%◌, List, [], map, drop, length, slice_index}
+use Rattle.std.specs.Prelude.{Option, unwrap_or, Bool, not, ◌==◌, ◌||◌, ◌&&◌}
 use Rattle.std.specs.List.{list_any, range_with_len}
 use Rattle.elf_file.specs.Number.{number_at}
 use Rattle.elf_file.specs.Constant.{DT_SYMTAB, SYMBOL_SIZE}
 use Rattle.elf_file.specs.Dynamic.{tag_value}
 use Rattle.elf_file.specs.Address.{bytes_at}
-use Rattle.elf_dynamic.specs.Constant.{STB_LOCAL, STB_GLOBAL, STB_WEAK, STT_NOTYPE, STT_OBJECT, STT_FUNC, STT_COMMON, STT_TLS, STT_GNU_IFUNC, STV_DEFAULT, STV_INTERNAL, STV_HIDDEN, STV_PROTECTED, SHN_UNDEF, SHN_ABS, SHN_COMMON}
+use Rattle.elf_dynamic.specs.Constant.{STB_LOCAL, STB_GLOBAL, STB_WEAK, STT_NOTYPE, STT_OBJECT, STT_FUNC, STT_COMMON, STT_TLS, STT_GNU_IFUNC}
+use Rattle.elf_dynamic.specs.Constant.{STV_DEFAULT, STV_INTERNAL, STV_HIDDEN, STV_PROTECTED, SHN_UNDEF, SHN_ABS, SHN_COMMON}
 use Rattle.elf_dynamic.specs.HashTable.{chain_count}
 use Rattle.elf_dynamic.specs.declared.symbol.Symbol.{Symbol}
 

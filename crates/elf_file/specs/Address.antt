@@ -1,5 +1,6 @@
 -- The parts of a PT_LOAD, and the file's bytes at an address (gABI chapter 5, segment contents).
-use Rattle.std.specs.Prelude.{ℕ, ◌+◌, ◌-◌, List, [], take, drop, Option, Some, Bool, ◌==◌, ◌&&◌, nat_le, if◌then◌else◌, ◌≡◌, slice_get}
+use Rattle.std.specs.Prelude.{ℕ, ◌+◌, ◌-◌, List, [], take, drop, Option, Some, Bool, ◌==◌}
+use Rattle.std.specs.Prelude.{◌&&◌, nat_le, if◌then◌else◌, ◌≡◌, slice_get}
 use Rattle.std.specs.Option.{option_map}
 use Rattle.std.specs.List.{find, list_any}
 use Rattle.elf_file.specs.Segment.{loads}

@@ -1,9 +1,12 @@
 -- The dynamic section and the tests of its entries (gABI chapter 5).
-use Rattle.std.specs.Prelude.{ℕ, ◌+◌, ◌*◌, ◌/◌, ◌%◌, List, [], ◌∷◌, map, take_while, filter, bit_and, count_by, length, Option, unwrap_or, is_some, Bool, false, not, ◌==◌, ◌||◌, ◌&&◌, nat_lt, nat_le}
+use Rattle.std.specs.Prelude.{ℕ, ◌+◌, ◌*◌, ◌/◌, ◌%◌, List, [], ◌∷◌, map, take_while, filter, bit_and, count_by}
+use Rattle.std.specs.Prelude.{length, Option, unwrap_or, is_some, Bool, false, not, ◌==◌, ◌||◌, ◌&&◌, nat_lt, nat_le}
 use Rattle.std.specs.Option.{option_map, option_map_or}
 use Rattle.std.specs.List.{list_any, range_with_len, find}
 use Rattle.elf_file.specs.Number.{number_at}
-use Rattle.elf_file.specs.Constant.{PT_DYNAMIC, DYNAMIC_ENTRY_SIZE, SYMBOL_SIZE, RELOCATION_SIZE, DF_SYMBOLIC, DT_NULL, DT_NEEDED, DT_PLTRELSZ, DT_HASH, DT_STRTAB, DT_SYMTAB, DT_RELA, DT_RELASZ, DT_RELAENT, DT_STRSZ, DT_SYMENT, DT_SONAME, DT_SYMBOLIC, DT_REL, DT_PLTREL, DT_JMPREL, DT_FLAGS, DT_RELR, DT_VERSYM, DT_VERDEF, DT_VERNEED}
+use Rattle.elf_file.specs.Constant.{PT_DYNAMIC, DYNAMIC_ENTRY_SIZE, SYMBOL_SIZE, RELOCATION_SIZE, DF_SYMBOLIC, DT_NULL, DT_NEEDED, DT_PLTRELSZ}
+use Rattle.elf_file.specs.Constant.{DT_HASH, DT_STRTAB, DT_SYMTAB, DT_RELA, DT_RELASZ, DT_RELAENT, DT_STRSZ, DT_SYMENT, DT_SONAME}
+use Rattle.elf_file.specs.Constant.{DT_SYMBOLIC, DT_REL, DT_PLTREL, DT_JMPREL, DT_FLAGS, DT_RELR, DT_VERSYM, DT_VERDEF, DT_VERNEED}
 use Rattle.elf_file.specs.Segment.{program_headers, contents}
 use Rattle.elf_file.specs.declared.entry.Entry.{Entry}
 use Rattle.elf_file.specs.declared.segment.ProgramHeader.{ProgramHeader}
@@ -106,7 +109,7 @@ has_symbol_versions file = is_present file DT_VERSYM || is_present file DT_VERDE
 abbrev pub is_flagged_symbolic : List ℕ → Bool
 is_flagged_symbolic file = is_present file DT_FLAGS && not (bit_and (tag_value file DT_FLAGS) DF_SYMBOLIC == 0)
 
--- the object itself is looked in first for its own references: DT_SYMBOLIC is present, or DT_FLAGS has DF_SYMBOLIC
+-- its own references are looked up in it first: it has DT_SYMBOLIC, or DF_SYMBOLIC in DT_FLAGS
 unfoldable pub is_symbolic : List ℕ → Bool
 is_symbolic file = is_present file DT_SYMBOLIC || is_flagged_symbolic file
 

@@ -1,7 +1,8 @@
 -- The ELF-64 file header and the tests of it (gABI chapter 4; elf(5)).
 use Rattle.std.specs.Prelude.{ℕ, ◌+◌, ◌*◌, List, length, slice_index, Bool, not, ◌==◌, ◌||◌, ◌&&◌, nat_lt, ◌≤◌}
 use Rattle.elf_file.specs.Number.{number_at}
-use Rattle.elf_file.specs.Constant.{ELF_MAGIC, ELFCLASS64, ELFDATA2LSB, EV_CURRENT, ELFOSABI_SYSV, ELFOSABI_GNU, ET_DYN, EM_X86_64, PN_XNUM, FILE_HEADER_SIZE, PROGRAM_HEADER_SIZE}
+use Rattle.elf_file.specs.Constant.{ELF_MAGIC, ELFCLASS64, ELFDATA2LSB, EV_CURRENT, ELFOSABI_SYSV, ELFOSABI_GNU}
+use Rattle.elf_file.specs.Constant.{ET_DYN, EM_X86_64, PN_XNUM, FILE_HEADER_SIZE, PROGRAM_HEADER_SIZE}
 
 -- e_phoff: where the program headers begin, in bytes from the file's start
 abbrev pub headers_offset : List ℕ → ℕ

@@ -1,11 +1,16 @@
 -- The tests of headers, segments and tags in their order, each made over the whole file.
 use Rattle.std.specs.Prelude.{ℕ, List, [], ◌∷◌, Option}
 use Rattle.elf_file.specs.FirstOf.{◌when◌, first_of}
-use Rattle.elf_file.specs.Header.{is_too_short, has_bad_magic, has_bad_class, has_bad_data, has_bad_version, has_bad_os_abi, has_bad_type, has_bad_machine, has_bad_header_size, has_bad_program_headers}
+use Rattle.elf_file.specs.Header.{is_too_short, has_bad_magic, has_bad_class, has_bad_data, has_bad_version, has_bad_os_abi}
+use Rattle.elf_file.specs.Header.{has_bad_type, has_bad_machine, has_bad_header_size, has_bad_program_headers}
 use Rattle.elf_file.specs.Segment.{has_tls_segment, has_bad_segment, is_too_large, has_bad_order}
-use Rattle.elf_file.specs.Dynamic.{has_bad_dynamic, has_duplicate_tag, has_symbol_versions, has_unsupported_tag, has_no_hash_table, has_missing_tag, has_bad_entry_size}
+use Rattle.elf_file.specs.Dynamic.{has_bad_dynamic, has_duplicate_tag, has_symbol_versions, has_unsupported_tag}
+use Rattle.elf_file.specs.Dynamic.{has_no_hash_table, has_missing_tag, has_bad_entry_size}
 use Rattle.elf_file.specs.declared.refusal.ObjectRefusal.{ObjectRefusal}
-use Rattle.elf_file.specs.declared.refusal.ObjectRefusal.TheVariants.{TooShort, BadMagic, BadClass, BadData, BadVersion, BadOsAbi, BadType, BadMachine, BadHeaderSize, BadProgramHeaders, TlsSegment, BadSegment, TooLarge, SegmentOrder, BadDynamic, DuplicateTag, SymbolVersions, UnsupportedTag, NoHashTable, MissingTag, BadEntrySize}
+use Rattle.elf_file.specs.declared.refusal.ObjectRefusal.TheVariants.{TooShort, BadMagic, BadClass, BadData, BadVersion, BadOsAbi, BadType}
+use Rattle.elf_file.specs.declared.refusal.ObjectRefusal.TheVariants.{BadMachine, BadHeaderSize, BadProgramHeaders, TlsSegment, BadSegment}
+use Rattle.elf_file.specs.declared.refusal.ObjectRefusal.TheVariants.{TooLarge, SegmentOrder, BadDynamic, DuplicateTag, SymbolVersions}
+use Rattle.elf_file.specs.declared.refusal.ObjectRefusal.TheVariants.{UnsupportedTag, NoHashTable, MissingTag, BadEntrySize}
 
 -- the tests of the file header, E1 to E10, in their order
 abbrev pub header_tests : List ℕ → List (Option ObjectRefusal)

@@ -1,8 +1,10 @@
 -- The tags of the dynamic section that are read (gABI chapter 5).
 use Rattle.std.specs.Prelude.{ℕ}
-use Rattle.elf_file.specs.Constant.{DT_NEEDED, DT_PLTRELSZ, DT_HASH, DT_STRTAB, DT_SYMTAB, DT_RELA, DT_RELASZ, DT_RELAENT, DT_STRSZ, DT_SYMENT, DT_SONAME, DT_SYMBOLIC, DT_REL, DT_PLTREL, DT_JMPREL, DT_FLAGS, DT_RELR, DT_VERSYM, DT_VERDEF, DT_VERNEED}
+use Rattle.elf_file.specs.Constant.{DT_NEEDED, DT_PLTRELSZ, DT_HASH, DT_STRTAB, DT_SYMTAB, DT_RELA, DT_RELASZ, DT_RELAENT, DT_STRSZ, DT_SYMENT}
+use Rattle.elf_file.specs.Constant.{DT_SONAME, DT_SYMBOLIC, DT_REL, DT_PLTREL, DT_JMPREL, DT_FLAGS, DT_RELR, DT_VERSYM, DT_VERDEF, DT_VERNEED}
 use Rattle.elf_file.specs.declared.tag.Tag.{Tag}
-use Rattle.elf_file.specs.declared.tag.Tag.TheVariants.{Needed, PltRelSize, Hash, StrTab, SymTab, Rela, RelaSize, RelaEntry, StrSize, SymEntry, SoName, Symbolic, Rel, PltRel, JmpRel, Flags, Relr, VerSym, VerDef, VerNeed}
+use Rattle.elf_file.specs.declared.tag.Tag.TheVariants.{Needed, PltRelSize, Hash, StrTab, SymTab, Rela, RelaSize, RelaEntry, StrSize, SymEntry}
+use Rattle.elf_file.specs.declared.tag.Tag.TheVariants.{SoName, Symbolic, Rel, PltRel, JmpRel, Flags, Relr, VerSym, VerDef, VerNeed}
 
 -- the number of a tag
 abbrev pub number_of : Tag → ℕ

@@ -164,8 +164,8 @@ impl Segments<'_> {
         Some(usize::from(index.first[low - 1]))
     }
 
-    /// Whether there is a program header of this number, and it is a PT_LOAD that begins at or below
-    /// an address.
+    /// Whether there is a program header of this number, and it is a PT_LOAD that begins at or
+    /// below an address.
     fn begins_by(&self, i: usize, address: u64) -> bool
         ensures begins { result ≡ true → BeginsBy self.now address i }
         ensures order { has_bad_order self.now ≡ false }

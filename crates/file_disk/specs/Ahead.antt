@@ -1,5 +1,6 @@
 -- The sectors that were read from the file and are kept.
-use Rattle.std.specs.Prelude.{◌≡◌, ◌*◌, ◌-◌, ◌+◌, ◌≤◌, ◌&&◌, ◌⊎◌, ℕ, List, nat_le, nat_lt, Option, None, Some, IfSome, if◌then◌else◌, slice_range}
+use Rattle.std.specs.Prelude.{◌≡◌, ◌*◌, ◌-◌, ◌+◌, ◌≤◌, ◌&&◌, ◌⊎◌, ℕ, List}
+use Rattle.std.specs.Prelude.{nat_le, nat_lt, Option, None, Some, IfSome, if◌then◌else◌, slice_range}
 use Rattle.sector_disk.specs.Disk.{Sector}
 use Rattle.file_disk.specs.declared.ahead.Ahead.{Ahead}
 

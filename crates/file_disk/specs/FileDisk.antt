@@ -45,13 +45,16 @@ pub record IsSame {F : Type 0} (old new : FileDisk F) : Type 0 where
 -- All that waited was given to the file, at its place. Where nothing waited the file is as it was.
 pub record IsGiven {F : Type 0} (position : F → Option ℕ) (contents : F → Option (List ℕ)) (old : FileDisk F) (file : F) : Type 0 where
   pub idle : WaitsNot old → file ≡ old.file
-  pub given : WaitsNot old ⊎ IsWrittenAt position contents old.file file (512 * old.gathered.start) (flat_map (λ content. content) (gathered_sectors old.gathered))
+  pub given : WaitsNot old
+      ⊎ IsWrittenAt position contents old.file file (512 * old.gathered.start) (flat_map (λ content. content) (gathered_sectors old.gathered))
 
 -- Sector `at` waits with this content.
-pub record IsGathered {F : Type 0} (position : F → Option ℕ) (contents : F → Option (List ℕ)) (old new : FileDisk F) (at : ℕ) (content : Sector) : Type 0 where
+pub record IsGathered {F : Type 0} (position : F → Option ℕ) (contents : F → Option (List ℕ))
+    (old new : FileDisk F) (at : ℕ) (content : Sector) : Type 0 where
   pub here : waiting new at ≡ Some content
   -- the others wait as before, and the file is as it was; or all of them were given to the file
-  pub others : ((new.file ≡ old.file) × ((k : ℕ) → k ≢ at → waiting new k ≡ waiting old k)) ⊎ (((k : ℕ) → k ≢ at → waiting new k ≡ None) × IsGiven position contents old new.file)
+  pub others : ((new.file ≡ old.file) × ((k : ℕ) → k ≢ at → waiting new k ≡ waiting old k))
+      ⊎ (((k : ℕ) → k ≢ at → waiting new k ≡ None) × IsGiven position contents old new.file)
 
 -- As it starts: no call was made, none has failed, nothing waits, and nothing is kept.
 pub record IsNew {F : Type 0} (disk : FileDisk F) : Type 0 where
@@ -62,7 +65,8 @@ pub record IsNew {F : Type 0} (disk : FileDisk F) : Type 0 where
   pub kept : (k : ℕ) → kept disk k ≡ None
 
 -- the content is the first sector of the bytes that were read at its place; some of them are kept
-pub record IsFetched {F : Type 0} (position : F → Option ℕ) (remaining : F → Option (List ℕ)) (old new : FileDisk F) (at : ℕ) (content : Sector) : Type 0 where
+pub record IsFetched {F : Type 0} (position : F → Option ℕ) (remaining : F → Option (List ℕ))
+    (old new : FileDisk F) (at : ℕ) (content : Sector) : Type 0 where
   pub bytes : List ℕ
   pub read : IsReadAt position remaining old.file new.file (512 * at) bytes
   pub is : content ≡ sector_among bytes at at

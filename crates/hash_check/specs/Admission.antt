@@ -1,6 +1,8 @@
--- The tests of admission, which are made of an object after its own tests (own; of gABI chapter 5, "Hash Table"). A walk
--- that ends does so in fewer steps than there are chain words, so these tests decide what HashTable.antt says.
-use Rattle.std.specs.Prelude.{ℕ, List, [], ◌∷◌, Bool, true, Option, Some, ◌≡◌, ◌≤◌, ◌==◌, ◌&&◌, ◌⊎◌, not, nat_lt, length, map, take_while}
+-- The tests of admission, which are made of an object after its own tests (own; of gABI chapter 5,
+-- "Hash Table"). A walk that ends does so in fewer steps than there are chain words, so these tests
+-- decide what HashTable.antt says.
+use Rattle.std.specs.Prelude.{ℕ, List, [], ◌∷◌, Bool, true, Option, Some, ◌≡◌, ◌≤◌}
+use Rattle.std.specs.Prelude.{◌==◌, ◌&&◌, ◌⊎◌, not, nat_lt, length, map, take_while}
 use Rattle.std.specs.List.{list_any, list_all, range_with_len}
 use Rattle.elf_dynamic.specs.Strings.{name_of}
 use Rattle.elf_dynamic.specs.HashTable.{buckets, chains}
@@ -13,7 +15,7 @@ use Rattle.hash_check.specs.HashTable.{bucket_of, HasGoodTable}
 use Rattle.hash_check.specs.declared.refusal.AdmitRefusal.{AdmitRefusal}
 use Rattle.hash_check.specs.declared.refusal.AdmitRefusal.TheVariants.{DuplicateDefinition, BadHashTable, OutOfMemory}
 
--- the indices on the walk from an index before it comes to 0, and at most as many as there are chain words
+-- the indices on the walk from one, before it comes to 0, and at most as many as the chain words
 unfoldable pub walked : List ℕ → ℕ → List ℕ
 walked words from = take_while (λ i. not (i == 0)) (map (walk words from) (range_with_len 0 (length words)))
 
@@ -51,7 +53,8 @@ unfoldable pub admission_refusal : List ℕ → Option AdmitRefusal
 admission_refusal file =
     first_of ((DuplicateDefinition when has_duplicate_definition file) ∷ (BadHashTable when has_bad_hash_table file) ∷ [])
 
--- what takes memory: to look for two symbols of one name where there are two, and to follow the walks where every word is an index (own)
+-- what takes memory: to look for two symbols of one name where there are two, and to follow the
+-- walks where every word is an index (own)
 abbrev pub NeedsMemory : List ℕ → Type 0
 NeedsMemory file = (2 ≤ length (exported_symbols file)) ⊎ (has_good_words file ≡ true)
 
@@ -60,7 +63,8 @@ abbrev pub IsRefusedBy : List ℕ → AdmitRefusal → Type 0
 IsRefusedBy file OutOfMemory = NeedsMemory file
 IsRefusedBy file refusal = admission_refusal file ≡ Some refusal
 
--- what a refusal says in the words of the definitions: two exported symbols share a name; or none do, and the table isn't good
+-- what a refusal says in the words of the definitions: two exported symbols share a name; or none
+-- do, and the table isn't good
 abbrev pub Says : List ℕ → AdmitRefusal → Type 0
 Says file DuplicateDefinition = HasSharedName file
 Says file BadHashTable = HasUniqueNames file × (¬ HasGoodTable file)

@@ -1,4 +1,5 @@
--- The symbol that an object exports under a name, and names that are exported twice (gABI chapter 4, "Symbol Table"; own).
+-- The symbol that an object exports under a name, and names that are exported twice (gABI chapter
+-- 4, "Symbol Table"; own).
 use Rattle.std.specs.Prelude.{ℕ, List, Bool, true, Option, ◌≡◌, ◌<◌, ◌-◌, ◌&&◌, length}
 use Rattle.std.specs.List.{find, list_any, range_with_len}
 use Rattle.std.specs.Str.{bytes_eq}

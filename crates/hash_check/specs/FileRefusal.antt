@@ -1,4 +1,5 @@
--- Why a file isn't taken: the tests of an object by itself, and then those of admission (own: all of them in one order).
+-- Why a file isn't taken: the tests of an object by itself, and then those of admission (own: all
+-- of them in one order).
 use Rattle.std.specs.Prelude.{ℕ, List, [], ◌∷◌, Option, Some, None, ◌≡◌}
 use Rattle.std.specs.Option.{option_map}
 use Rattle.elf_file.specs.FirstOf.{◌when◌, first_of}

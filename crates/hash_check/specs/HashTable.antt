@@ -32,7 +32,8 @@ HasEndingWalks file = All (Ends (chains file)) (buckets file)
 abbrev pub MeetsExports : List ℕ → Type 0
 MeetsExports file = (i : ℕ) → is_exported file i ≡ true → Meets (chains file) (bucket_of (buckets file) (elf_hash (name_of file i))) i
 
--- a table that can be trusted: it has a bucket, its words are indices, its walks end, and they meet every exported symbol
+-- a table that can be trusted: it has a bucket, its words are indices, its walks end, and they meet
+-- every exported symbol
 pub record HasGoodTable (file : List ℕ) : Type 0 where
   pub some_bucket : HasBucket file
   pub words : HasIndexWords file

@@ -1,5 +1,6 @@
 -- Symbols and what relocations write (gABI chapter 4, symbol values; psABI, relocation types).
-use Rattle.std.specs.Prelude.{ℕ, ◌+◌, ◌-◌, ◌%◌, ◌^◌, ◌==◌, Bool, ◌&&◌, is_none, if◌then◌else◌, List, [], length, map, reverse, get_or, slice_get, slice_index, Option, Some, None}
+use Rattle.std.specs.Prelude.{ℕ, ◌+◌, ◌-◌, ◌%◌, ◌^◌, ◌==◌, Bool, ◌&&◌, is_none, if◌then◌else◌}
+use Rattle.std.specs.Prelude.{List, [], length, map, reverse, get_or, slice_get, slice_index, Option, Some, None}
 use Rattle.std.specs.List.{find, flat_map, filter_map, range_with_len}
 use Rattle.std.specs.Option.{option_map, option_map_or}
 use Rattle.std.specs.Int.{byte_at}

@@ -7,8 +7,8 @@ use Rattle.requests.specs.declared.refusal.Refusal.TheVariants.{Device}
 use Rattle.requests.specs.declared.reply.Reply.{Reply}
 use Rattle.requests.specs.declared.reply.Reply.TheVariants.{Done, Refused}
 
--- what was asked and answered: a command and its reply, or none where no change of the state was asked for, as a step of a
--- binder
+-- what was asked and answered: a command and its reply, or none where no change of the state was
+-- asked for, as by a step of a binder
 abbrev pub Exchange : Type 0
 Exchange = Option (Request × Reply)
 

@@ -6,7 +6,8 @@ use Rattle.store.specs.Opened.{Opened}
 use Rattle.image.specs.Refusal.{program_refusal}
 use Rattle.requests.specs.Request.{Request, install, replace, remove, set_preloads, bind, list}
 use Rattle.requests.specs.declared.refusal.Refusal.{Refusal}
-use Rattle.requests.specs.declared.refusal.Refusal.TheVariants.{Object, AlreadyInstalled, NotInstalled, InPreloads, RepeatedPreload, TooManyPreloads, Bind, Device, Reopen, Damaged, Full, Fragmented, TooMany, GenerationEnd, OutOfMemory}
+use Rattle.requests.specs.declared.refusal.Refusal.TheVariants.{Object, AlreadyInstalled, NotInstalled, InPreloads, RepeatedPreload, TooManyPreloads}
+use Rattle.requests.specs.declared.refusal.Refusal.TheVariants.{Bind, Device, Reopen, Damaged, Full, Fragmented, TooMany, GenerationEnd, OutOfMemory}
 use Rattle.requests.specs.declared.reply.Reply.{Reply}
 use Rattle.requests.specs.declared.reply.Reply.TheVariants.{Done, Listing, Bound, Refused}
 
@@ -121,5 +122,6 @@ pub record Answered {D : Type 0} (facts : D → DiskFacts) (old new : Opened D) 
 -- commands were answered so, one after the other, one answer each
 abbrev pub AreAnswered : {D : Type 0} → (D → DiskFacts) → Opened D → Opened D → List Request → List Reply → Type 0
 AreAnswered facts old new [] [] = new ≡ old
-AreAnswered facts old new (request ∷ requests) (answer ∷ answers) = (mid : Opened _) × Answered facts old mid request answer × AreAnswered facts mid new requests answers
+AreAnswered facts old new (request ∷ requests) (answer ∷ answers) = (mid : Opened _)
+    × Answered facts old mid request answer × AreAnswered facts mid new requests answers
 AreAnswered facts old new requests answers = ⊥

@@ -9,8 +9,9 @@ use Rattle.requests.specs.declared.reply.Reply.{Reply}
 use Rattle.requests.specs.declared.reply.Reply.TheVariants.{Refused}
 use Rattle.registry.specs.Binding.{bind_sectors}
 
--- how many calls an accepted command makes: of a put one for each sector of the file and for each catalogue of the new
--- list, and four (the entry, the root, two syncs); of a removal those for the catalogues, and three
+-- how many calls an accepted command makes: of a put one for each sector of the file and for each
+-- catalogue of the new list, and four (the entry, the root, two syncs); of a removal those for the
+-- catalogues, and three; of a choice of preloads two; of a bind the sectors that it reads
 abbrev pub calls_of : State → Request → ℕ
 calls_of s (install bytes) = div_ceil (length bytes) sector_bytes + catalogues_for (length s.libraries + 1) + 4
 calls_of s (replace bytes) = div_ceil (length bytes) sector_bytes + catalogues_for (length s.libraries) + 4

@@ -14,7 +14,7 @@ use Rattle.requests.specs.declared.reply.Reply.{Reply}
 use Rattle.requests.specs.declared.reply.Reply.TheVariants.{Bound, Refused}
 use Rattle.registry.specs.Binding.{data_sectors}
 
--- what a binder is to bind, the state that it was begun at, and how many of its steps were answered Going
+-- what a binder binds, the state that it was begun at, and how many steps were answered Going
 pub record Flight : Type 0 where
   pub program : List ℕ
   pub base : ℕ
@@ -33,25 +33,27 @@ further f = record { program = f.program; base = f.base; state = f.state; going 
 abbrev pub flight_order : Flight → List Named
 flight_order f = load_order f.program (objects f.state) (preload_numbers f.state)
 
+-- the length of a load order; 0 where a test refuses the program by itself
 abbrev pub goings_by : Option BindRefusal → List Named → ℕ
 goings_by None order = length order
 goings_by (Some refusal) order = 0
 
--- how many steps are answered Going before the last one: one that tests the program, and one for each library of the
--- load order; none where a test refuses the program by itself
+-- how many steps are answered Going before the last one: one that tests the program, and one for
+-- each library of the load order; none where a test refuses the program by itself
 abbrev pub goings : Flight → ℕ
 goings f = goings_by (program_refusal f.program f.base) (flight_order f)
 
+-- the data sectors of the library at a place of the load order, if there is one
 abbrev pub sectors_at : ℕ → List Named → ℕ
 sectors_at zero order = 0
 sectors_at (suc k) order = sum_by (λ o. data_sectors o.file) (take 1 (drop (suc k) order))
 
--- how many sectors the next step reads: those of the library at this place of the load order, if there is one
+-- how many sectors the next step reads: those of the library at this place of the load order, or 0
 abbrev pub step_sectors : Flight → ℕ
 step_sectors f = sectors_at f.going (flight_order f)
 
--- At most one step more is answered Going than the state has libraries, and no step reads more sectors than one of these
--- has: where none has more than n, no step reads more.
+-- At most one step more is answered Going than the state has libraries, and no step reads more
+-- sectors than one of these has: where none has more than n, no step reads more.
 pub record IsBounded (f : Flight) : Type 0 where
   pub steps : goings f ≤ length f.state.libraries + 1
   pub sectors : (n : ℕ) → All (λ library. data_sectors library.bytes ≤ n) f.state.libraries → step_sectors f ≤ n

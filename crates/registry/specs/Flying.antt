@@ -20,8 +20,9 @@ use Rattle.registry.specs.declared.binder.Step.{Step}
 use Rattle.registry.specs.declared.binder.Step.TheVariants.{Going, Final}
 use Rattle.registry.specs.inside.Binding.{Binding, HasCome}
 
--- The binder is on this flight: it holds, in the registry as it is now, the libraries of the state that it was begun at.
--- How far it has come is said in specs/inside/Binding.antt, which nobody has to believe: each step below moves it.
+-- The binder is on this flight: it holds, in the registry as it is now, the libraries of the state
+-- that it was begun at. How far it has come is said in specs/inside/Binding.antt, which nobody has
+-- to believe: each step below moves it.
 pub record Flies {D : Type 0} (facts : D → DiskFacts) (now : Opened D) (binder : Binding) (flight : Flight) : Type 0 where
   pub taken : Opened D
   pub at : IsAt facts taken flight.state
@@ -51,14 +52,15 @@ pub record Begins {D : Type 0} (facts : D → DiskFacts) (old new : Opened D) (p
   pub reopen : (result ≡ Err Reopen) ↔ IsTrue old.failed
   pub refusals : IfErr result (λ e. (e ≡ Reopen) ⊎ (e ≡ OutOfMemory))
 
--- a step for a program is refused with S11 only where the tests that come before memory is taken refuse it not
+-- a step for a program is refused with S11 only where no test before memory is taken refuses it
 abbrev pub MayBeRefused : List ℕ → Refusal → Type 0
 MayBeRefused program OutOfMemory = WantsMemory program
 MayBeRefused program refusal = Unit {0}
 
--- What a step may be answered: Going, and the binder is one step further, or the answer of the bind, after exactly as
--- many steps as it takes; or a refusal, and the binder is where it was: after S1 and S11 the same step can be made again,
--- and after S2 the disk has to be opened again. No step reads more than its sectors.
+-- What a step may be answered: Going, and the binder is one step further; or the answer of the
+-- bind, after exactly as many steps as it takes; or a refusal, and the binder is where it was:
+-- after S1 and S11 the same step can be made again, and after S2 the disk has to be opened again.
+-- No step reads more than its sectors.
 abbrev pub IsStep : {D : Type 0} → (D → DiskFacts) → Opened D → Opened D → Flight → Binding → Result Step Refusal → Type 0
 IsStep facts old new flight binder (Ok Going) = (flight.going < goings flight) × Flies facts new binder (further flight)
     × AreCallsExactly (step_sectors flight) (facts old.disk) (facts new.disk)
@@ -82,6 +84,7 @@ IsLast (Refused (Bind refusal)) = Unit
 IsLast (Refused Damaged) = Unit
 IsLast answer = ⊥
 
+-- the same of a step: Going, or such an answer
 abbrev pub IsLastStep : Step → Type 0
 IsLastStep Going = Unit {0}
 IsLastStep (Final answer) = IsLast answer
@@ -90,11 +93,11 @@ IsLastStep (Final answer) = IsLast answer
 pub record Advances {D : Type 0} (facts : D → DiskFacts) (old new : Opened D) (before after : Binding) (result : Result Step Refusal) : Type 0 where
   pub step : (flight : Flight) → Flies facts old before flight → IsStep facts old new flight after result
   pub bounds : (flight : Flight) → Flies facts old before flight → IsBounded flight
-  -- no call of it leaves what could not be left before, and after it a stop may leave just what it could leave before
+  -- during it a stop leaves only what it could leave before, and after it may leave just the same
   pub any_moment : IsTrue (facts old.disk).honest → LeavesOnly (facts old.disk) (facts new.disk) (Mixture (facts old.disk))
   pub unchanged : IsTrue (facts old.disk).honest → IsUnchanged (facts old.disk) (facts new.disk)
   pub same : (s : State) → IsAt facts old s → IsAt facts new s
-  -- on any disk: other binders stay on their flights, and nothing but the disk's time and failures changes
+  -- on any disk: other binders stay on their flights; only the disk's time and failures change
   pub others : (binder : Binding) (flight : Flight) → Flies facts old binder flight → Flies facts new binder flight
   pub held : KeepsHeld facts old new
   pub kept : (new.root ≡ old.root) × (new.entries ≡ old.entries) × (new.held ≡ old.held) × (new.failed ≡ old.failed)
@@ -105,9 +108,10 @@ pub record Advances {D : Type 0} (facts : D → DiskFacts) (old new : Opened D) 
   pub answers : IfOk result IsLastStep
   pub calls : AreCalls (facts old.disk) (facts new.disk)
 
--- A binder is ended: what it held is let go, and other binders stay on their flights, since they still hold theirs.
+-- A binder is ended: what it held is let go. Others stay on their flights, since these hold theirs.
 pub record Ends {D : Type 0} (facts : D → DiskFacts) (old new : Opened D) (binder : Binding) : Type 0 where
   pub let_go : LetsAllGo facts old new (handles_of binder)
   pub same : (s : State) → IsAt facts old s → IsAt facts new s
-  pub others : (other : Binding) (flight : Flight) → ((i : ℕ) → i < length (handles_of other) → 0 < holders_of new.held (slice_index_or (handles_of other) i 0))
+  pub others : (other : Binding) (flight : Flight)
+      → ((i : ℕ) → i < length (handles_of other) → 0 < holders_of new.held (slice_index_or (handles_of other) i 0))
       → Flies facts old other flight → Flies facts new other flight

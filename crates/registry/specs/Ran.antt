@@ -37,13 +37,13 @@ pub record Goes {D : Type 0} (facts : D → DiskFacts) (p : Point D) (request : 
   pub answered : Answered facts p.registry p'.registry request answer
   pub applied : AppliesAt facts p request answer p' ⊎ (IsTrue p.registry.failed × (p' ≡ p))
 
--- the registry stays at its state, and whatever a stop may leave meanwhile it might have left before
+-- the registry stays at its state, and what a stop may leave meanwhile it might have left before
 pub record IdlesAt {D : Type 0} (facts : D → DiskFacts) (p p' : Point D) : Type 0 where
   pub before : IsAt facts p.registry p.state
   pub after : IsAt facts p'.registry p'.state
   pub any_moment : LeavesOnly (disk_at facts p) (disk_at facts p') (Mixture (disk_at facts p))
 
--- no change was asked for: all stays; or a write or a sync has failed before, and no call of the disk is made
+-- no change was asked for: all stays; or a write or a sync failed before, and no call is made
 pub record Idles {D : Type 0} (facts : D → DiskFacts) (p p' : Point D) : Type 0 where
   pub same : p'.state ≡ p.state
   pub stays : IdlesAt facts p p' ⊎ (IsTrue p.registry.failed × IsTrue p'.registry.failed × (p'.registry.disk ≡ p.registry.disk))
@@ -59,9 +59,10 @@ LeadsThrough facts p [] [] = Unit {0}
 LeadsThrough facts p (x ∷ xs) (t ∷ ts) = Moves facts p x t × LeadsThrough facts t xs ts
 LeadsThrough facts p xs ts = ⊥
 
--- after commands from a state, whatever a stop leaves stands for the state after the accepted ones
+-- after commands from a state, whatever a stop leaves holds the state after the accepted ones
 abbrev pub FindsAccepted : {D : Type 0} → (D → DiskFacts) → Opened D → State → List Exchange → Type 0
-FindsAccepted facts new s exchanges = (m : List Sector) → Mixture (facts new.disk) m → (commands : List Request) × AreAccepted exchanges commands × Stands m (state_after s commands)
+FindsAccepted facts new s exchanges = (m : List Sector) → Mixture (facts new.disk) m
+    → (commands : List Request) × AreAccepted exchanges commands × Stands m (state_after s commands)
 
 module _ {D : Type 0} (facts : D → DiskFacts) (start : Point D) (exchanges : List Exchange) (points : List (Point D)) where
   -- the last of the first k has begun by this moment
@@ -77,7 +78,7 @@ module _ {D : Type 0} (facts : D → DiskFacts) (start : Point D) (exchanges : L
   LeavesAccepted moment m = (k : ℕ) × (k ≤ length exchanges) × HasBegun k moment × HoldsAcknowledged k moment
       × (commands : List Request) × AreAccepted (take k exchanges) commands × Stands m (state_after start.state commands)
 
-  -- Commands were answered so, with other things between them, and led through these registries, one after each.
+  -- Commands were answered so, with other things between, and led to these registries, one each.
   pub record Ran (end : Point D) : Type 0 where
     pub steps : LeadsThrough facts start exchanges points
     pub last : end ≡ last_of start points
@@ -87,13 +88,16 @@ module _ {D : Type 0} (facts : D → DiskFacts) (start : Point D) (exchanges : L
     pub kept : IsAt facts end.registry end.state ⊎ IsTrue end.registry.failed
     -- at each moment from start to end, failed calls among them, a stop leaves such a state
     pub past : KeepsPast (disk_at facts start) (disk_at facts end)
-    pub any_moment : (moment : ℕ) (m : List Sector) → (disk_at facts start).time ≤ moment → moment ≤ (disk_at facts end).time → MixtureAt (disk_at facts end) moment m → LeavesAccepted moment m
+    pub any_moment : (moment : ℕ) (m : List Sector) → (disk_at facts start).time ≤ moment → moment ≤ (disk_at facts end).time
+        → MixtureAt (disk_at facts end) moment m → LeavesAccepted moment m
     pub found : FindsAccepted facts end.registry start.state exchanges
 
 -- the same, from one registry to another, through these registries, one after each
 abbrev pub RunsThrough : {D : Type 0} → (D → DiskFacts) → Opened D → List (Opened D) → Opened D → State → List Exchange → Type 0
-RunsThrough facts old registries new s exchanges = (s' : State) × (points : List (Point _)) × (map (λ (p : Point _). p.registry) points ≡ registries) × Ran facts (point old s) exchanges points (point new s')
+RunsThrough facts old registries new s exchanges = (s' : State) × (points : List (Point _))
+    × (map (λ (p : Point _). p.registry) points ≡ registries) × Ran facts (point old s) exchanges points (point new s')
 
 -- commands were answered so, one reply each
 abbrev pub RunsOver : {D : Type 0} → (D → DiskFacts) → Opened D → Opened D → State → List Request → List Reply → Type 0
-RunsOver facts old new s requests answers = (registries : List (Opened _)) × (length answers ≡ length requests) × RunsThrough facts old registries new s (commanded requests answers)
+RunsOver facts old new s requests answers = (registries : List (Opened _)) × (length answers ≡ length requests)
+    × RunsThrough facts old registries new s (commanded requests answers)

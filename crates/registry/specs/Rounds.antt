@@ -17,7 +17,7 @@ use Rattle.registry.specs.Opened.{IsAt}
 use Rattle.registry.specs.Ran.{RunsOver}
 use Rattle.registry.specs.Acknowledged.{commanded, AreAccepted, state_after}
 
--- whatever a stop leaves of the disk stands for the state
+-- whatever a stop leaves of the disk holds the state
 abbrev pub AlwaysStands : Memory → State → Type 0
 AlwaysStands disk s = (m : List Sector) → Mixture (memory_facts disk) m → Stands m s
 
@@ -29,9 +29,10 @@ fused_memory = fuse_facts memory_facts
 abbrev pub asked : Round → List Request
 asked round = map request_of round.commands.items
 
--- A round leads from a state to the one after its accepted commands, over a registry of which nobody holds a version, or
--- isn't run and keeps it.
+-- A round leads from a state to the one after its accepted commands, over a registry of which
+-- nobody holds a version, or isn't run and keeps it.
 abbrev pub RoundLeads : State → Round → RoundReplies → State → Type 0
-RoundLeads s round (Ran replies) s' = (old new : Opened (Fuse Memory)) × IsAt fused_memory old s × (old.held ≡ []) × RunsOver fused_memory old new s (asked round) replies.items
+RoundLeads s round (Ran replies) s' = (old new : Opened (Fuse Memory)) × IsAt fused_memory old s
+    × (old.held ≡ []) × RunsOver fused_memory old new s (asked round) replies.items
     × (commands : List Request) × AreAccepted (commanded (asked round) replies.items) commands × (s' ≡ state_after s commands)
 RoundLeads s round (NotRun refusal) s' = ((refusal ≡ Device) ⊎ (refusal ≡ OutOfMemory)) × (s' ≡ s)

@@ -1,4 +1,4 @@
--- What a list of sectors stands for as a registry (own).
+-- Which state of a registry a list of sectors holds (own).
 use Rattle.std.specs.Prelude.{◌⊎◌, ℕ, List, All}
 use Rattle.std.specs.Int.{div_ceil}
 use Rattle.sector_disk.specs.Disk.{Sector, sector_bytes}
@@ -11,7 +11,7 @@ use Rattle.requests.specs.Library.{IsLibrary}
 abbrev pub file_sectors : PlacedEntry → ℕ
 file_sectors placed = div_ceil placed.entry.file_length sector_bytes
 
--- the sectors stand for this state, and each of its files is a library under its SONAME
+-- the sectors hold this state, and each of its files is a library under its SONAME
 pub record Stands (m : List Sector) (s : State) : Type 0 where
   pub stored : store.Stands m s
   pub libraries : All IsLibrary s.libraries

@@ -7,10 +7,11 @@ use Rattle.store.specs.Upgraded.{upgraded}
 use Rattle.registry.specs.Opened.{IsAt}
 use Rattle.registry.specs.Stands.{Stands, StandsOld}
 
--- no state is what these sectors stand for by the old rules
+-- these sectors hold no state by the old rules
 abbrev pub IsNotOld : List Sector → Type 0
 IsNotOld m = (s : State) → StandsOld m s → ⊥
 
--- The registry is at the state that these sectors stood for, or, where they did so by the old rules, at the one after it.
+-- The registry is at the state that these sectors held, or, where they held it by the old rules,
+-- at the one after it.
 abbrev pub IsUpgradeOf : {D : Type 0} → (D → DiskFacts) → Opened D → List Sector → State → Type 0
 IsUpgradeOf facts registry m s = (Stands m s × IsAt facts registry s) ⊎ (StandsOld m s × IsAt facts registry (upgraded s))

@@ -1,4 +1,5 @@
--- What the code keeps as it goes. Nobody has to believe it; of public clauses only those of binders in flight cite it.
+-- What the code keeps as it goes. Nobody has to believe it; of public clauses only those of binders
+-- in flight cite it.
 pub mod Binding
 pub mod Named
 pub mod Reading

@@ -1,10 +1,10 @@
 //! A registry of shared libraries on a disk, which survives power cuts.
 //!
 //! A disk is made a registry by `Registry::format`, and opened again by `Registry::open`: a stop at
-//! any moment leaves sectors that stand for the state from before or for the one after.
+//! any moment leaves sectors that hold the state from before or the one after.
 //! `Registry::upgrade` makes a disk of version 1 one of version 2. No byte of a file is kept in
 //! memory after a call has ended.
-//! What sectors stand for is defined in specs/Stands.antt.
+//! Which state sectors hold is defined in specs/Stands.antt.
 #![tactic(auto)]
 
 mod admit;

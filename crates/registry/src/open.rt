@@ -31,8 +31,8 @@ impl<D: Disk> Registry<D> {
         ensures now { IsTrue (D.facts disk).honest
             → (D.facts (disk_after result)).now ≡ (D.facts disk).now }
 
-        // The registry is at the state for which what reads give stands, and they stand for no
-        // other: every mixture stands for it.
+        // What reads give holds one state and no other. The registry is at it: every mixture holds
+        // it too.
         ensures ok { IsTrue (D.facts disk).honest → IfOk result (λ registry.
             (s : State) × Stands (D.facts disk).now s × IsAt D.facts registry s
             × ((other : State) → Stands (D.facts disk).now other → other ≡ s)) }

@@ -69,8 +69,8 @@ pub fn run_rounds(
     disk: Memory,
     rounds: Vec<Round<'_>>,
 ) -> Result<(Vec<RoundReplies>, Memory), (AllocError, Memory)>
-    // From each state that the disk stands for, each round leads to the next state, and the disk
-    // stands for the last one.
+    // From each state that the disk holds, each round leads to the next state, and the disk that
+    // comes back holds the last one.
     ensures ok { (s : State) → AlwaysStands disk s → IfOk result (λ done. (s' : State)
         × Run RoundLeads s rounds.entry.items done.0.items s' × AlwaysStands done.1 s') }
     ensures err { IfErr result (λ refused. refused.1 ≡ disk) }

@@ -46,8 +46,8 @@ impl<D: Disk> Registry<D> {
             → IfErr result (λ e. e.0 ≢ StoreRefusal.Device
             → (D.facts e.1).now ≡ (D.facts disk).now) }
 
-        // The registry is at the state for which what reads give stands, or at the one after it:
-        // every mixture stands for it.
+        // The registry is at the state that what reads gave held, or, on version 1, at the one
+        // after it: every mixture holds that.
         ensures ok { IsTrue (D.facts disk).honest → IfOk result (λ registry.
             (s : State) × IsUpgradeOf D.facts registry (D.facts disk).now s) }
         ensures stands { IsTrue (D.facts disk).honest → (s : State) → Stands (D.facts disk).now s

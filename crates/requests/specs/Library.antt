@@ -1,4 +1,4 @@
--- Libraries: files that are installed under the names that they have (gABI chapter 5, DT_SONAME; own).
+-- Libraries: files that are installed under their own names (gABI chapter 5, DT_SONAME; own).
 use Rattle.std.specs.Prelude.{ℕ, List, [], ◌∷◌, Option, Some, None, unwrap_or, ◌≡◌}
 use Rattle.elf_file.specs.FirstOf.{◌when◌, first_of}
 use Rattle.elf_file.specs.declared.refusal.ObjectRefusal.TheVariants.{BadSoname}
@@ -9,7 +9,7 @@ use Rattle.hash_check.specs.declared.file_refusal.FileRefusal.{FileRefusal}
 use Rattle.hash_check.specs.declared.file_refusal.FileRefusal.TheVariants.{Object}
 use Rattle.states.specs.State.{Library}
 
--- the tests of a file as a library: those of its object, those of admission, and then E33, that of its name
+-- the tests of a file as a library: those of its object, of admission, and then E33, of its name
 abbrev pub library_tests : List ℕ → List (Option FileRefusal)
 library_tests file = first_file_refusal file ∷ (Object BadSoname when has_bad_soname file) ∷ []
 

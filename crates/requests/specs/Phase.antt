@@ -9,7 +9,7 @@ pub record Phase : Type 0 where
   pub sectors : ℕ
   -- how many sectors are in use beside the state: those of versions that only binders hold
   pub lone : ℕ
-  -- how many sectors that aren't in use lie in as many of the longest runs as a file may have extents
+  -- how many sectors that aren't in use lie in the longest runs, as many as a file may have extents
   pub longest : ℕ
   -- how many calls of its disk have failed
   pub failures : ℕ

@@ -11,7 +11,7 @@ abbrev pub after : {S : Type 0} → S → List S → ℕ → S
 after s states k = last_of s (take k states)
 
 module _ {S Q R : Type 0} (Step : S → Q → R → S → Type 0) where
-  -- What is asked may be answered so, one after the other, and lead to these states, one after each.
+  -- What is asked may be answered so, one after the other, and lead to these states.
   abbrev pub Steps : S → List Q → List R → List S → Type 0
   Steps s [] [] [] = Unit {0}
   Steps s (q ∷ qs) (r ∷ rs) (t ∷ ts) = Step s q r t × Steps t qs rs ts

@@ -36,7 +36,8 @@ reply_of s request = Done
 
 -- The answer is this one. Each address has in an image the byte that is defined for it.
 abbrev pub IsReply : State → Request → Reply → Type 0
-IsReply s (bind program base) (reply.Bound image) = (image ≡ bound_image s program base) × ((a : ℕ) → image_byte image a ≡ byte_of (bound_objects s program base) a)
+IsReply s (bind program base) (reply.Bound image) = (image ≡ bound_image s program base)
+    × ((a : ℕ) → image_byte image a ≡ byte_of (bound_objects s program base) a)
 IsReply s request answer = answer ≡ reply_of s request
 
 -- the refusal of a command by the first of its tests that applies, or none where it is accepted
@@ -44,8 +45,9 @@ abbrev pub refusal_at : Phase → Request → Option Refusal
 refusal_at p (bind program base) = option_map Bind (binding_refusal p.state program base)
 refusal_at p request = first_refusal (table_of p) request
 
--- What takes memory: to admit a file that passes all tests before those of admission, and to tell what is listed. A bind
--- takes more behind the admission of its program, before which it answers the refusals of the program's object alone.
+-- What takes memory: to admit a file that passes all tests before those of admission, and to tell
+-- what is listed. A bind takes more behind the admission of its program, before which it answers
+-- the refusals of the program's object alone.
 abbrev pub TakesMemory : Request → Type 0
 TakesMemory (install bytes) = ReadNeedsMemory bytes
 TakesMemory (replace bytes) = ReadNeedsMemory bytes
@@ -60,7 +62,7 @@ pub record Leads (p : Phase) (s : State) (p' : Phase) : Type 0 where
   pub failed : p'.failed ≡ p.failed
   pub state : p'.state ≡ s
 
--- A write or a sync of a change failed: the change may have taken effect, and after it the disk has to be opened.
+-- A write or sync of a change failed: it may have taken effect; the disk has to be opened again.
 pub record LacksWrite (p : Phase) (request : Request) (p' : Phase) : Type 0 where
   pub sectors : p'.sectors ≡ p.sectors
   pub risen : p.failures < p'.failures
@@ -68,7 +70,8 @@ pub record LacksWrite (p : Phase) (request : Request) (p' : Phase) : Type 0 wher
   pub untested : refusal_at p request ≡ None
   pub state : (p'.state ≡ p.state) ⊎ (p'.state ≡ accepted p.state request)
 
--- A read of a bind failed: nothing changed, and the disk need not be opened. B1 and B2 come before all reads.
+-- A read of a bind failed: nothing changed, and the disk need not be opened.
+-- B1 and B2 come before all reads.
 pub record LacksRead (p : Phase) (program : List ℕ) (base : ℕ) (p' : Phase) : Type 0 where
   pub risen : p.failures < p'.failures
   pub untested : program_refusal program base ≡ None
@@ -80,7 +83,8 @@ LeavesFailed p (bind program base) p' = LacksRead p program base p'
 LeavesFailed p list p' = ⊥
 LeavesFailed p request p' = LacksWrite p request p'
 
--- A command may be answered so, and lead to this phase. After a failed write or sync every answer is S2, and no answer before is.
+-- A command may be answered so, and lead to this phase. After a failed write or sync every answer
+-- is S2, and no answer before is.
 abbrev pub Step : Phase → Request → Reply → Phase → Type 0
 Step p request (Refused Reopen) p' = IsTrue p.failed × Leads p p.state p'
 Step p request (Refused Device) p' = IsFalse p.failed × LeavesFailed p request p'

@@ -23,5 +23,5 @@ pub record Table : Type 0 where
   pub preloads : List (List ℕ)
   -- how many sectors are free beside those that the catalogues of the next change take
   pub free : ℕ
-  -- how many sectors that aren't in use lie in as many of the longest runs as a file may have extents
+  -- how many sectors that aren't in use lie in the longest runs, as many as a file may have extents
   pub longest : ℕ

@@ -10,7 +10,8 @@ use Rattle.states.specs.Cost.{cost, catalogue_cost}
 use Rattle.requests.specs.Table.{Table}
 use Rattle.requests.specs.Request.{Request, install, replace, remove, set_preloads, bind, list}
 use Rattle.requests.specs.declared.refusal.Refusal.{Refusal}
-use Rattle.requests.specs.declared.refusal.Refusal.TheVariants.{Object, AlreadyInstalled, NotInstalled, InPreloads, RepeatedPreload, TooManyPreloads, Full, Fragmented, TooMany, GenerationEnd}
+use Rattle.requests.specs.declared.refusal.Refusal.TheVariants.{Object, AlreadyInstalled, NotInstalled, InPreloads, RepeatedPreload}
+use Rattle.requests.specs.declared.refusal.Refusal.TheVariants.{TooManyPreloads, Full, Fragmented, TooMany, GenerationEnd}
 
 -- a library of this name is installed
 abbrev pub is_installed : Table → List ℕ → Bool
@@ -75,7 +76,7 @@ preload_tests t names =
     ∷ (GenerationEnd when is_last t)
     ∷ []
 
--- the tests of a command: of the files, they read the one that is put alone; none refuses a bind or a listing
+-- the tests of a command: of files they read the one that is put; a bind or a listing has none
 abbrev pub tests_of : Table → Request → List (Option Refusal)
 tests_of t (install bytes) = install_tests t bytes
 tests_of t (replace bytes) = replace_tests t bytes

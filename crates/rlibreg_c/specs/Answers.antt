@@ -66,10 +66,11 @@ IsTurnedAway refusal text answer status = TurnsAway refusal text answer.text sta
 
 -- the steps are given, and that it is done is told; or their buffer is too small
 abbrev pub IsPlanned : List Step → List ℕ → List ℕ → Answer → ℕ → Type 0
-IsPlanned steps plan text answer status = (HasPlan steps plan answer.bytes answer.count × IsTold reply.Done text answer status) ⊎ LacksRoom steps plan answer.bytes status
+IsPlanned steps plan text answer status = (HasPlan steps plan answer.bytes answer.count × IsTold reply.Done text answer status)
+    ⊎ LacksRoom steps plan answer.bytes status
 
--- The plan of a change of the registry that the bytes hold: it leads from their state, and they hold no other, to the one
--- that acceptance gives.
+-- The plan of a change of the registry that the bytes hold: it leads from their state, and they
+-- hold no other, to the one that acceptance gives.
 pub record IsPlanOf (bytes : List ℕ) (request : Request) (buffer : List ℕ) (answer : Answer) : Type 0 where
   pub state : State
   pub steps : List Step
@@ -83,7 +84,8 @@ abbrev pub IsChangeTold : Reply → List Step → List ℕ → List ℕ → Answ
 IsChangeTold reply.Done steps plan text answer status = IsPlanned steps plan text answer status
 IsChangeTold other steps plan text answer status = IsTold other text answer status
 
--- A change was asked of the registry that the bytes hold, and its reply is told; or there is none, and it is told why.
+-- A change of the registry that the bytes hold was asked, and its reply is told;
+-- or there is no registry, and it is told why.
 abbrev pub IsChangeAnswered : List ℕ → Request → List ℕ → List ℕ → Answer → ℕ → Type 0
 IsChangeAnswered bytes request plan text answer status =
     ((s : State) × (reply : Reply) × (steps : List Step) × IsAsked bytes s request reply steps × IsChangeTold reply steps plan text answer status)
@@ -94,7 +96,8 @@ abbrev pub IsBindTold : Reply → List SegmentPlace → List ℕ → List ℕ �
 IsBindTold (reply.Bound image) segments bytes text answer status = IsImageGiven image segments bytes answer status
 IsBindTold other segments bytes text answer status = IsTold other text answer status
 
--- A bind was asked of the registry that the bytes hold, and its reply is told; or there is none, and it is told why.
+-- A bind with the registry that the bytes hold was asked, and its reply is told;
+-- or there is no registry, and it is told why.
 abbrev pub IsBindAnswered : List ℕ → Request → List SegmentPlace → List ℕ → List ℕ → Answer → ℕ → Type 0
 IsBindAnswered disk request segments bytes text answer status =
     ((s : State) × (reply : Reply) × (steps : List Step) × IsAsked disk s request reply steps × IsBindTold reply segments bytes text answer status)
@@ -136,14 +139,15 @@ abbrev pub IsListTold : State → Reply → List EntryPlace → List ℕ → Lis
 IsListTold s (reply.Listing l) entries names text answer status = IsListGiven l entries names text answer status × (answer.generation ≡ s.generation)
 IsListTold s other entries names text answer status = IsTold other text answer status
 
--- A listing was asked of the registry that the bytes hold, and its reply is told; or there is none, and it is told why.
+-- A listing of the registry that the bytes hold was asked, and its reply is told;
+-- or there is no registry, and it is told why.
 abbrev pub IsListAnswered : List ℕ → List EntryPlace → List ℕ → List ℕ → Answer → ℕ → Type 0
 IsListAnswered disk entries names text answer status =
     ((s : State) × (reply : Reply) × (steps : List Step) × IsAsked disk s list reply steps × IsListTold s reply entries names text answer status)
     ⊎ ((refusal : StoreRefusal) × IsUnopened disk refusal × IsTurnedAway refusal text answer status)
 
--- A choice of the preloads was asked, by names in a row, and is answered as a change; or the bytes are no names in a row; or
--- memory was refused.
+-- A choice of the preloads was asked, by names in a row, and is answered as a change;
+-- or the bytes are no names in a row; or memory was refused.
 abbrev pub IsPreloadAnswered : List ℕ → List ℕ → List ℕ → List ℕ → Answer → ℕ → Type 0
 IsPreloadAnswered disk names plan text answer status =
     ((list : List (List ℕ)) × AreNames list names × IsChangeAnswered disk (set_preloads list) plan text answer status)

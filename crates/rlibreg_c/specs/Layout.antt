@@ -42,8 +42,8 @@ IsImageGiven image segments bytes answer status =
     ((status ≡ done) × IsLaidOut image segments bytes answer.count answer.bytes)
     ⊎ ((status ≡ no_room) × LacksSpace image segments bytes answer.count answer.bytes)
 
--- The buffers have the image that is defined for a program at a base over the registry that the bytes hold, with the
--- defined byte at each address.
+-- The buffers have the image that is defined for a program at a base over the registry that the
+-- bytes hold, with the defined byte at each address.
 pub record IsImageOf (disk program : List ℕ) (base : ℕ) (segments : List SegmentPlace) (bytes : List ℕ) (answer : Answer) : Type 0 where
   pub state : State
   pub holds : Holds disk state

@@ -52,9 +52,10 @@ pub record Counts (l : Listed) (told_libraries told_preloads : ℕ) : Type 0 whe
 -- the listing is given, or a buffer is too small
 abbrev pub IsListingGiven : Listed → List EntryPlace → List ℕ → Answer → ℕ → Type 0
 IsListingGiven l entries names answer status = Counts l answer.count answer.preloads
-    × ((status ≡ done) × AreListed (entries_of l) entries names answer.bytes ⊎ (status ≡ no_room) × LackSpace (entries_of l) entries names answer.bytes)
+    × ((status ≡ done) × AreListed (entries_of l) entries names answer.bytes
+    ⊎ (status ≡ no_room) × LackSpace (entries_of l) entries names answer.bytes)
 
--- The buffers have what is listed of the state that the bytes hold, and the answer has its generation.
+-- The buffers have what is listed of the state that the bytes hold, the answer its generation.
 pub record IsListingOf (disk : List ℕ) (entries : List EntryPlace) (names : List ℕ) (answer : Answer) : Type 0 where
   pub state : State
   pub holds : Holds disk state

@@ -9,7 +9,8 @@ use Rattle.byte_disk.specs.declared.step.Step.TheVariants.{Write, Sync}
 abbrev pub sync_number : ℕ
 sync_number = 4294967295
 
--- a step: of a write the sector's number in four bytes, the lowest first, and its content; of a sync the number of a sync
+-- a step: of a write the sector's number in four bytes, the lowest first, and its content;
+-- of a sync the number of a sync
 abbrev pub step_bytes : Step → List ℕ
 step_bytes (Write at content) = to_le_bytes w32 at ++ content
 step_bytes Sync = to_le_bytes w32 sync_number

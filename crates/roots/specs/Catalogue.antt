@@ -16,8 +16,8 @@ catalogue_bytes catalogue =
     ++ numbers w32 catalogue.entry_sectors  -- 16
     ++ zeros 240  -- 272
 
--- The limits of the fields: a catalogue has a spelling exactly where it keeps to them. It lists at least one
--- entry, and names no disk, so its sectors are those of the largest one.
+-- The limits of the fields: a catalogue has a spelling exactly where it keeps to them. It lists at
+-- least one entry, and names no disk, so its sectors are those of the largest one.
 pub record CatalogueHasSpelling (catalogue : Catalogue) : Type 0 where
   pub some : 1 ≤ catalogue.count
   pub sectors : ListsSectors most_catalogue_entries catalogue.count most_sectors catalogue.entry_sectors

@@ -1,5 +1,6 @@
 -- Which root is current: the choice between the two slots, and what it means for the two sectors.
-use Rattle.std.specs.Prelude.{◌≡◌, ◌⊎◌, ℕ, ◌+◌, ◌%◌, List, Bool, true, false, Result, Ok, Err, ◌&&◌, ◌==◌, nat_lt, if◌then◌else◌}
+use Rattle.std.specs.Prelude.{◌≡◌, ◌⊎◌, ℕ, ◌+◌, ◌%◌, List, Bool, true, false}
+use Rattle.std.specs.Prelude.{Result, Ok, Err, ◌&&◌, ◌==◌, nat_lt, if◌then◌else◌}
 use Rattle.std.specs.Int.{abs_diff}
 use Rattle.extents.specs.Limits.{root_sectors}
 use Rattle.roots.specs.declared.root.Root.{Root}
@@ -27,12 +28,12 @@ later a b = if nat_lt a.generation b.generation then b else a
 abbrev pub earlier : Root → Root → Root
 earlier a b = if nat_lt a.generation b.generation then a else b
 
--- whether a root of the newer version may follow one of the older: one of version 1 follows none of version 2
+-- whether a later root's version may follow an earlier one's: version 1 doesn't follow version 2
 abbrev pub keeps_version : Version → Version → Bool
 keeps_version Two One = false
 keeps_version older newer = true
 
--- whether two roots, each in its sector, are one commit apart and follow each other by their versions
+-- whether two roots, each in its sector, are one commit apart, with versions that may follow so
 abbrev pub are_in_row : Root → Root → Bool
 are_in_row even odd =
     are_neighbours even.generation odd.generation && keeps_version (version_of (earlier even odd)) (version_of (later even odd))
@@ -58,4 +59,5 @@ KeepsVersion older newer = version_of newer ≡ One → version_of older ≡ One
 abbrev pub IsCurrent : List ℕ → List ℕ → Root → Type 0
 IsCurrent sector0 sector1 root =
     (SpellsRoot sector0 root × (root.generation ≡ 0) × LacksMagic sector1)
-    ⊎ ((even : Root) × (odd : Root) × SpellsRoot sector0 even × SpellsRoot sector1 odd × AreSuccessive even.generation odd.generation × KeepsVersion (earlier even odd) (later even odd) × (root ≡ later even odd))
+    ⊎ ((even : Root) × (odd : Root) × SpellsRoot sector0 even × SpellsRoot sector1 odd
+    × AreSuccessive even.generation odd.generation × KeepsVersion (earlier even odd) (later even odd) × (root ≡ later even odd))

@@ -20,7 +20,7 @@ pub record UsesFirst {A : Type 0} (places count : ℕ) (Fits : A → Type 0) (un
   pub used : All Fits (take count values)
   pub rest : All (λ value. value ≡ unused) (drop count values)
 
--- A list of sectors, `count` of them in so many places: they lie behind the root sectors and before `end`, and none stands twice.
+-- A list of `count` sectors in so many places: behind the root sectors, before `end`, none twice.
 pub record ListsSectors (places count end : ℕ) (sectors : List ℕ) : Type 0 where
   pub listed : UsesFirst places count (λ sector. (root_sectors ≤ sector) × (sector < end)) 0 sectors
   pub distinct : AreDistinct (take count sectors)

@@ -1,4 +1,4 @@
--- The limits of what root, catalogue and entry sectors say, beside those that free sectors and states have too.
+-- Limits of what root, catalogue and entry sectors say, beside those of free sectors and states.
 use Rattle.std.specs.Prelude.{ℕ}
 
 -- the most entries that a root of version 1 lists, and so the most libraries that it counts

@@ -75,14 +75,14 @@ pub record PreloadsFit (root : Root) : Type 0 where
   pub listed : UsesFirst most_preloads root.preload_count (λ position. position < root.library_count) 0 root.preloads
   pub distinct : AreDistinct (take root.preload_count root.preloads)
 
--- Places for the sectors of catalogues, which lie on the disk: just as many as list so many libraries.
+-- Places for the catalogues' sectors, which lie on the disk: just as many as list these libraries.
 pub record CatalogueListFits (libraries disk count : ℕ) (sectors : List ℕ) : Type 0 where
   pub few : libraries ≤ most_libraries
   pub enough : count ≡ catalogues_for libraries
   pub listed : ListsSectors most_catalogues count disk sectors
 
--- places for the sectors that a root of so many libraries lists, on a disk of so many sectors: in version 1 those of
--- the libraries' entries, in version 2 those of the catalogues
+-- places for the sectors that a root of so many libraries lists, on a disk of so many sectors: in
+-- version 1 those of the libraries' entries, in version 2 those of the catalogues
 abbrev pub ListFits : ℕ → ℕ → EntryList → Type 0
 ListFits libraries disk (InRoot sectors) = ListsSectors most_root_entries libraries disk sectors
 ListFits libraries disk (InCatalogues count sectors) = CatalogueListFits libraries disk count sectors
@@ -104,7 +104,7 @@ abbrev pub used_places : ℕ → EntryList → List ℕ
 used_places libraries (InRoot sectors) = take libraries sectors
 used_places libraries (InCatalogues count sectors) = take count sectors
 
--- the sectors that a root itself lists: in version 1 those of the entries, in version 2 those of the catalogues
+-- the sectors that a root itself lists: in version 1 the entries', in version 2 the catalogues'
 abbrev pub listed_sectors : Root → List ℕ
 listed_sectors root = used_places root.library_count root.list
 
@@ -112,7 +112,7 @@ listed_sectors root = used_places root.library_count root.list
 abbrev pub listed_preloads : Root → List ℕ
 listed_preloads root = take root.preload_count root.preloads
 
--- the root of so many libraries with this list and these preloads, with zeros in the places behind them
+-- the root of so many libraries with this list and these preloads, and zeros in the places behind
 abbrev pub root_with : ℕ → ℕ → ℕ → EntryList → List ℕ → Root
 root_with generation sectors libraries list preloads = record {
   generation = generation;

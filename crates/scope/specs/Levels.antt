@@ -1,5 +1,6 @@
--- Levels of what is needed (gABI chapter 5, "Shared Object Dependencies": breadth first). Objects are told by numbers
--- here, and `needs` gives for each object the objects that it needs, in its order.
+-- Levels of what is needed (gABI chapter 5, "Shared Object Dependencies": breadth first). Objects
+-- are told by numbers here, and `needs` gives for each object the objects that it needs, in its
+-- order.
 use Rattle.std.specs.Prelude.{ℕ, zero, suc, ◌==◌, List, [], ◌∷◌, ◌++◌, Bool, not}
 use Rattle.std.specs.List.{list_any, filter, flat_map, concat}
 
@@ -16,8 +17,8 @@ first_occurrences (p ∷ ps) = p ∷ filter (λ q. not (q == p)) (first_occurren
 abbrev pub without : List ℕ → List ℕ → List ℕ
 without others ps = filter (λ p. not (is_among others p)) ps
 
--- The level after one: what its objects need, object by object and for each in its order, first occurrences only,
--- without the objects of earlier levels, which are those up to that one.
+-- The level after one: what its objects need, object by object and for each in its order, first
+-- occurrences only, without the objects of earlier levels, which are those up to that one.
 unfoldable pub next_level : (ℕ → List ℕ) → List ℕ → List ℕ → List ℕ
 next_level needs earlier level = without earlier (first_occurrences (flat_map needs level))
 

@@ -1,4 +1,5 @@
--- Load order (gABI chapter 5, "Shared Object Dependencies"; ld.so(8), LD_PRELOAD), and the first name that isn't installed.
+-- Load order (gABI chapter 5, "Shared Object Dependencies"; ld.so(8), LD_PRELOAD), and the first
+-- name that isn't installed.
 use Rattle.std.specs.Prelude.{ℕ, ◌+◌, List, ◌∷◌, map, length, Bool, Option, is_none, position}
 use Rattle.std.specs.List.{filter_map, flat_map, find}
 use Rattle.std.specs.Option.{option_map}
@@ -7,8 +8,8 @@ use Rattle.elf_dynamic.specs.Strings.{needed}
 use Rattle.scope.specs.Objects.{Named, program_name, name_at, file_at}
 use Rattle.scope.specs.Levels.{joined_levels}
 
--- A program and the libraries that are installed, in one list. An object is told by its place in it: 0 is the program,
--- and p + 1 the library number p (own).
+-- A program and the libraries that are installed, in one list. An object is told by its place in
+-- it: 0 is the program, and p + 1 the library number p (own).
 abbrev pub available : List ℕ → List Named → List Named
 available program libraries = record { name = program_name; file = program } ∷ libraries
 
@@ -16,7 +17,7 @@ available program libraries = record { name = program_name; file = program } ∷
 abbrev pub names_of : List Named → List (List ℕ)
 names_of objects = map (λ o. o.name) objects
 
--- the place of the library that goes by a name, among libraries of these names; none where it isn't installed
+-- the place of the library of a name, among libraries of these names; none where it isn't installed
 abbrev pub place_of : List (List ℕ) → List ℕ → Option ℕ
 place_of names name = option_map (λ p. p + 1) (position (bytes_eq name) names)
 
@@ -29,7 +30,8 @@ needs_of program libraries place =
 abbrev pub level_0 : List ℕ → List ℕ
 level_0 preloads = 0 ∷ map (λ p. p + 1) preloads
 
--- The places of the objects in load order: the levels joined. No more levels have objects than there are objects.
+-- The places of the objects in load order: the levels joined. No more levels have objects than
+-- there are objects.
 unfoldable pub load_places : List ℕ → List Named → List ℕ → List ℕ
 load_places program libraries preloads =
     joined_levels (needs_of program libraries) (length (available program libraries)) (level_0 preloads)
@@ -55,6 +57,6 @@ needed_by object = map (λ name. record { needer = object.name; name = name }) (
 abbrev pub is_missing : List (List ℕ) → Need → Bool
 is_missing names need = is_none (place_of names need.name)
 
--- the first needed name that isn't installed: by needers in load order, for each in the order of its entries
+-- the first needed name that isn't installed: needer by needer in load order, entry by entry
 unfoldable pub missing : List ℕ → List Named → List ℕ → Option Need
 missing program libraries preloads = find (is_missing (names_of libraries)) (flat_map needed_by (load_order program libraries preloads))

@@ -16,8 +16,8 @@ pub record Named : Type 0 where
 abbrev pub program_name : List ℕ
 program_name = codes "/program"
 
--- An object is told from others by its place in load order, and not by its bytes: two may have the same. No definition
--- here asks for a place behind the last object.
+-- An object is told from others by its place in load order, and not by its bytes: two may have the
+-- same. No definition here asks for a place behind the last object.
 
 -- the name of the object at a place
 abbrev pub name_at : List Named → ℕ → List ℕ

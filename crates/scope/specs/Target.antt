@@ -10,7 +10,7 @@ use Rattle.scope.specs.Lookup.{lookup}
 use Rattle.scope.specs.declared.target.Target.{Target}
 use Rattle.scope.specs.declared.target.Target.TheVariants.{Zero, At}
 
--- no other object can replace it: it is local, or defined here with a visibility other than the default one
+-- no other object can replace it: it is local, or defined here and its visibility isn't the default
 abbrev pub is_own : Symbol → Bool
 is_own s = is_local s || (is_defined s && not (has_default_visibility s))
 
@@ -18,14 +18,15 @@ is_own s = is_local s || (is_defined s && not (has_default_visibility s))
 abbrev pub is_withheld : Symbol → Bool
 is_withheld s = not (is_defined s) && is_hidden s
 
--- The target of symbol i, which is s, of the object at a place: itself where it is the object's own; else, unless it is
--- withheld, what is found under its name; else 0 where it is weak; else none.
+-- The target of symbol i, which is s, of the object at a place: itself where it is the object's
+-- own; else, unless it is withheld, what is found under its name; else 0 where it is weak; else
+-- none.
 abbrev pub target_of : List Named → ℕ → ℕ → Symbol → Option Target
 target_of objects object i s =
     if is_own s then Some (At object i)
     else option_or (if is_withheld s then None else lookup objects object (name_of (file_at objects object) i)) (Zero when is_weak s)
 
--- the target of symbol i of the object at a place, none where it is undefined; that of symbol 0 is 0
+-- the target of symbol i of the object at a place, none where it is undefined; of symbol 0 it is 0
 unfoldable pub target : List Named → ℕ → ℕ → Option Target
 target objects object i =
     if i == 0 then Some Zero else option_and_then (target_of objects object i) (slice_get (symbols (file_at objects object)) i)

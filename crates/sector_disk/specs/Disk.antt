@@ -1,5 +1,6 @@
 -- The disk model: what is said of a disk, what a stop may leave of it, and what each call does.
-use Rattle.std.specs.Prelude.{◌≡◌, ◌<◌, ◌≤◌, ◌+◌, ◌-◌, ◌↔◌, ◌⊎◌, ℕ, Bool, IsTrue, List, [], length, set, slice_index_or, All, Result, OnOk, OnErr}
+use Rattle.std.specs.Prelude.{◌≡◌, ◌<◌, ◌≤◌, ◌+◌, ◌-◌, ◌↔◌, ◌⊎◌, ℕ, Bool}
+use Rattle.std.specs.Prelude.{IsTrue, List, [], length, set, slice_index_or, All, Result, OnOk, OnErr}
 
 -- the bytes of a sector
 abbrev pub sector_bytes : ℕ

@@ -1,5 +1,6 @@
 -- What is said of a disk behind a fuse, and what the fuse makes of each call.
-use Rattle.std.specs.Prelude.{◌≡◌, ◌==◌, ◌-◌, ◌+◌, ◌&&◌, ℕ, nat_lt, if◌then◌else◌, IsTrue, List, length, drop, filter, Result, Err}
+use Rattle.std.specs.Prelude.{◌≡◌, ◌==◌, ◌-◌, ◌+◌, ◌&&◌, ℕ, nat_lt, if◌then◌else◌}
+use Rattle.std.specs.Prelude.{IsTrue, List, length, drop, filter, Result, Err}
 use Rattle.sector_disk.specs.declared.disk.DiskFault.{DiskFault}
 use Rattle.sector_disk.specs.declared.disk.DiskFault.TheVariants.{Failed}
 use Rattle.sector_disk.specs.declared.fuse.Fuse.{Fuse}

@@ -1,5 +1,6 @@
--- All byte strings of a store as they were at one moment, and what taking them and letting them go does.
-use Rattle.std.specs.Prelude.{◌≡◌, ◌↔◌, ◌⊎◌, ℕ, ◌+◌, ◌-◌, ◌<◌, ◌==◌, List, length, slice_index_or, IsTrue, Result, Err, IfOk, IfErr, OnErr}
+-- All byte strings of a store as they were at one moment: taking them, and letting them go.
+use Rattle.std.specs.Prelude.{◌≡◌, ◌↔◌, ◌⊎◌, ℕ, ◌+◌, ◌-◌, ◌<◌, ◌==◌}
+use Rattle.std.specs.Prelude.{List, length, slice_index_or, IsTrue, Result, Err, IfOk, IfErr, OnErr}
 use Rattle.std.specs.List.{count_by}
 use Rattle.sector_disk.specs.Disk.{DiskFacts}
 use Rattle.roots.specs.Root.{listed_preloads}
@@ -14,7 +15,8 @@ use Rattle.store.specs.NameOrder.{IsOrderOf, entry_names}
 use Rattle.store.specs.Opened.{Opened, IsAt}
 use Rattle.store.specs.Stands.{no_library}
 
--- what a snapshot keeps: a handle for each byte string, their positions in the order of the names, and those of the preloads
+-- what a snapshot keeps: a handle for each byte string, their positions in the order of the names,
+-- and those of the preloads
 pub record Taken : Type 0 where
   pub handles : List ℕ
   pub order : List ℕ
@@ -45,7 +47,7 @@ pub record IsSnapshotOf {D : Type 0} (facts : D → DiskFacts) (taken now : Open
   pub preloads : snapshot.preloads ≡ listed_preloads taken.root
   pub libraries : (s : State) → IsAt facts taken s → IsTrue (facts now.disk).honest × AreHeldAs facts now snapshot.handles s.libraries
 
--- A snapshot of a store is taken: each byte string is held once more, or none is. No call of the disk is made.
+-- A snapshot of a store is taken: each byte string is held once more, or none is. No call is made.
 pub record Takes {D : Type 0} (facts : D → DiskFacts) (old new : Opened D) (result : Result Taken StoreRefusal) : Type 0 where
   pub ok : IfOk result (λ snapshot. IsSnapshotOf facts old new snapshot)
   pub holders : IfOk result (λ snapshot. (sector : ℕ) → holders_of new.held sector ≡ holders_of old.held sector + times sector snapshot.handles)
@@ -62,7 +64,8 @@ pub record Takes {D : Type 0} (facts : D → DiskFacts) (old new : Opened D) (re
 pub record LetsAllGo {D : Type 0} (facts : D → DiskFacts) (old new : Opened D) (handles : List ℕ) : Type 0 where
   pub holders : (sector : ℕ) → holders_of new.held sector ≡ holders_of old.held sector - times sector handles
   pub others : (sector : ℕ) (library : Library) → 0 < holders_of new.held sector → HeldIs facts old sector library → HeldIs facts new sector library
-  pub versions : (sector : ℕ) (placed : PlacedEntry) → IsHeldBy new.held sector placed ↔ (IsHeldBy old.held sector placed × (0 < holders_of new.held sector))
+  pub versions : (sector : ℕ) (placed : PlacedEntry)
+      → IsHeldBy new.held sector placed ↔ (IsHeldBy old.held sector placed × (0 < holders_of new.held sector))
   pub flags : AreFlagged new
   pub kept : (new.disk ≡ old.disk) × (new.root ≡ old.root) × (new.entries ≡ old.entries) × (new.failed ≡ old.failed)
   pub same : (s : State) → IsAt facts old s → IsAt facts new s

@@ -14,11 +14,12 @@ cost size = div_ceil size sector_bytes + 1
 abbrev pub catalogues_for : ℕ → ℕ
 catalogues_for libraries = div_ceil libraries most_catalogue_entries
 
--- how many sectors a state takes: for its libraries, and for their catalogues twice, since a change writes all of them anew
+-- how many sectors a state takes: for its libraries, and for their catalogues twice, since a change
+-- writes all of them anew
 abbrev pub taken_by : State → ℕ
 taken_by s = sum_by (λ l. cost (length l.bytes)) s.libraries + 2 * catalogues_for (length s.libraries)
 
--- how many of so many sectors are free in a state, beside those that the catalogues of the next change take
+-- how many of so many sectors are free in a state, beside those for the next change's catalogues
 abbrev pub free : ℕ → State → ℕ
 free sectors s = sectors - root_sectors - taken_by s
 

@@ -3,8 +3,10 @@ use Rattle.std.specs.Prelude.{◌≡◌, ◌≢◌, ◌<◌, ◌↔◌, ℕ, IsT
 use Rattle.sector_disk.specs.Disk.{DiskFacts, AreCallsExactly, AreCallsAtMost}
 use Rattle.store.specs.Opened.{Opened}
 
--- A change of so many calls at the most, with these refusals, of which one is that of a failing device (S1), and one that of a store that has to be opened again (S2).
-pub record Changed {D R : Type 0} (facts : D → DiskFacts) (s1 s2 : R) (old new : Opened D) (most : ℕ) (Refuses : R → Type 0) (result : Result (Unit {0}) R) : Type 0 where
+-- A change of at most so many calls, with these refusals: `s1` is that of a failing device (S1),
+-- and `s2` that of a store that has to be opened again (S2).
+pub record Changed {D R : Type 0} (facts : D → DiskFacts) (s1 s2 : R) (old new : Opened D) (most : ℕ) (Refuses : R → Type 0)
+    (result : Result (Unit {0}) R) : Type 0 where
   -- after a failed write or sync the disk has to be opened again
   pub reopen : (result ≡ Err s2) ↔ IsTrue old.failed
   pub device : IfErr result (λ e. e ≡ s1 → ((facts old.disk).failures < (facts new.disk).failures) × IsTrue new.failed)

@@ -10,7 +10,7 @@ use Rattle.store.specs.Stands.{sectors_of, used}
 abbrev pub HaveOwnRows : List Holding → Type 0
 HaveOwnRows held = AllPairs (λ a b. a.placed.at ≢ b.placed.at) held
 
--- the sectors that a held version keeps beside the state: all of its own where the state lists it no longer
+-- the sectors that a held version keeps beside the state: all, where the state lists it no longer
 abbrev pub own_sectors : Holding → List ℕ
 own_sectors holding = if holding.listed then [] else sectors_of holding.placed
 
@@ -22,7 +22,7 @@ lone_sectors held = flat_map own_sectors held
 abbrev pub in_use : Root → List PlacedEntry → List Holding → List ℕ
 in_use root entries held = used root entries ++ lone_sectors held
 
--- How many hold the version with this entry sector. The sector tells it from all others, for as long as it is held.
+-- How many hold the version with this entry sector, which no other has for as long as it is held.
 abbrev pub holders_of : List Holding → ℕ → ℕ
 holders_of held sector = sum_by (λ holding. if holding.placed.at == sector then holding.holders else 0) held
 

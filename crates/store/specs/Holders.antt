@@ -8,7 +8,7 @@ use Rattle.store.specs.Stands.{library_of}
 use Rattle.store.specs.Held.{IsHeldBy, holders_of}
 use Rattle.store.specs.Opened.{Opened}
 
--- The version with this entry sector is held, and in every mixture of the disk it is this byte string.
+-- The version with this entry sector is held, and is this byte string in every mixture of the disk.
 pub record IsHeldAs (disk : DiskFacts) (held : List Holding) (sector : ℕ) (library : Library) : Type 0 where
   pub placed : PlacedEntry
   pub by : IsHeldBy held sector placed
@@ -18,7 +18,7 @@ pub record IsHeldAs (disk : DiskFacts) (held : List Holding) (sector : ℕ) (lib
 abbrev pub HeldIs : {D : Type 0} → (D → DiskFacts) → Opened D → ℕ → Library → Type 0
 HeldIs facts store sector library = IsHeldAs (facts store.disk) store.held sector library
 
--- What is held stays held by as many, on any disk, and on an honest one each of its byte strings is what it was.
+-- What is held stays held by as many, on any disk; on an honest one its bytes stay what they were.
 pub record KeepsHolders (before after : DiskFacts) (old new : List Holding) : Type 0 where
   pub holders : (sector : ℕ) → holders_of new sector ≡ holders_of old sector
   pub bytes : IsTrue before.honest → (sector : ℕ) (library : Library) → IsHeldAs before old sector library → IsHeldAs after new sector library

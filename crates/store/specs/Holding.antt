@@ -1,5 +1,6 @@
--- What holding a version does, what reading it does, and what letting it go does, each by its result.
-use Rattle.std.specs.Prelude.{◌≡◌, ◌≢◌, ◌↔◌, ◌⊎◌, ℕ, ◌+◌, ◌-◌, ◌<◌, ◌==◌, length, slice_index_or, IsTrue, IsFalse, Result, Err, IfOk, IfErr, OnOk, OnErr, if◌then◌else◌}
+-- What holding a version, reading it and letting it go does, each by its result.
+use Rattle.std.specs.Prelude.{◌≡◌, ◌≢◌, ◌↔◌, ◌⊎◌, ℕ, ◌+◌, ◌-◌, ◌<◌, ◌==◌, length}
+use Rattle.std.specs.Prelude.{slice_index_or, IsTrue, IsFalse, Result, Err, IfOk, IfErr, OnOk, OnErr, if◌then◌else◌}
 use Rattle.std.specs.Global.{Vec}
 use Rattle.std.specs.Int.{div_ceil}
 use Rattle.sector_disk.specs.Disk.{DiskFacts, sector_bytes, Mixture, IsUnchanged, LeavesOnly, AreCalls, AreCallsExactly, AreCallsAtMost}
@@ -12,7 +13,7 @@ use Rattle.store.specs.Holders.{AreFlagged, HeldIs, KeepsHeld}
 use Rattle.store.specs.Opened.{Opened, IsAt}
 use Rattle.store.specs.Stands.{no_library}
 
--- The byte string at a position is held as it is. No call of the disk is made, and no sector is taken.
+-- The byte string at a position is held as it is. No call is made, and no sector is taken.
 pub record Holds {D : Type 0} (facts : D → DiskFacts) (old new : Opened D) (position : ℕ) (result : Result ℕ StoreRefusal) : Type 0 where
   pub ok : (s : State) → IsAt facts old s → IfOk result (λ held. HeldIs facts new held (slice_index_or s.libraries position no_library))
   pub same : (s : State) → IsAt facts old s → IsAt facts new s
@@ -28,7 +29,8 @@ pub record Holds {D : Type 0} (facts : D → DiskFacts) (old new : Opened D) (po
   pub err : OnErr result (new ≡ old)
   pub refusals : IfErr result (λ e. (e ≡ Reopen) ⊎ (e ≡ OutOfMemory))
 
--- The byte string that is held is read: each of its sectors once, and nothing is written. Damaged where nobody holds it here.
+-- The byte string that is held is read: each of its sectors once, and nothing is written.
+-- Damaged where nobody holds it here.
 pub record ReadsHeld {D : Type 0} (facts : D → DiskFacts) (old new : Opened D) (held : ℕ) (result : Result (Vec ℕ) StoreRefusal) : Type 0 where
   -- a stop at any moment leaves what it could leave before
   pub any_moment : IsTrue (facts old.disk).honest → LeavesOnly (facts old.disk) (facts new.disk) (Mixture (facts old.disk))
@@ -47,8 +49,10 @@ pub record ReadsHeld {D : Type 0} (facts : D → DiskFacts) (old new : Opened D)
   pub device : IfErr result (λ e. e ≡ Device → (facts old.disk).failures < (facts new.disk).failures)
   pub untouched : IfErr result (λ e. e ≢ Device → new ≡ old)
   pub size : (placed : PlacedEntry) → IsHeldBy old.held held placed → IfOk result (λ bytes. length bytes.items ≡ placed.entry.file_length)
-  pub all_calls : (placed : PlacedEntry) → IsHeldBy old.held held placed → OnOk result (AreCallsExactly (div_ceil placed.entry.file_length sector_bytes) (facts old.disk) (facts new.disk))
-  pub calls : (placed : PlacedEntry) → IsHeldBy old.held held placed → AreCallsAtMost (div_ceil placed.entry.file_length sector_bytes) (facts old.disk) (facts new.disk)
+  pub all_calls : (placed : PlacedEntry) → IsHeldBy old.held held placed
+      → OnOk result (AreCallsExactly (div_ceil placed.entry.file_length sector_bytes) (facts old.disk) (facts new.disk))
+  pub calls : (placed : PlacedEntry) → IsHeldBy old.held held placed
+      → AreCallsAtMost (div_ceil placed.entry.file_length sector_bytes) (facts old.disk) (facts new.disk)
   -- also where nobody holds it
   pub called : AreCalls (facts old.disk) (facts new.disk)
 
@@ -56,7 +60,8 @@ pub record ReadsHeld {D : Type 0} (facts : D → DiskFacts) (old new : Opened D)
 pub record LetsGo {D : Type 0} (facts : D → DiskFacts) (old new : Opened D) (held : ℕ) : Type 0 where
   pub holders : (sector : ℕ) → holders_of new.held sector ≡ holders_of old.held sector - (if held == sector then 1 else 0)
   pub others : (sector : ℕ) (library : Library) → 0 < holders_of new.held sector → HeldIs facts old sector library → HeldIs facts new sector library
-  pub versions : (sector : ℕ) (placed : PlacedEntry) → IsHeldBy new.held sector placed ↔ (IsHeldBy old.held sector placed × (0 < holders_of new.held sector))
+  pub versions : (sector : ℕ) (placed : PlacedEntry)
+      → IsHeldBy new.held sector placed ↔ (IsHeldBy old.held sector placed × (0 < holders_of new.held sector))
   pub flags : AreFlagged new
   pub kept : (new.disk ≡ old.disk) × (new.root ≡ old.root) × (new.entries ≡ old.entries) × (new.failed ≡ old.failed)
   pub same : (s : State) → IsAt facts old s → IsAt facts new s

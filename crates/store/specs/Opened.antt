@@ -12,7 +12,8 @@ use Rattle.store.specs.declared.holding.Holding.{Holding}
 use Rattle.store.specs.Stands.{StandsBy}
 use Rattle.store.specs.Held.{in_use, lone_sectors}
 
--- what a store keeps: its disk, the current root, its entries with their sectors, what is held, and whether a write or a sync failed
+-- what a store keeps: its disk, the current root, its entries with their sectors, what is held,
+-- and whether a write or a sync failed
 pub record Opened (D : Type 0) : Type 0 where
   pub disk : D
   pub root : Root
@@ -28,7 +29,7 @@ layout_in_use store = layout_of store.root.sectors (in_use store.root store.entr
 abbrev pub room_of : {D : Type 0} → Opened D → ℕ
 room_of store = store.root.sectors - length (lone_sectors store.held)
 
--- The store is at a state by a root of this version: every mixture of its disk stands for it.
+-- The store is at a state by a root of this version: every mixture of its disk holds it.
 pub record IsAtBy (version : Version) {D : Type 0} (facts : D → DiskFacts) (store : Opened D) (s : State) : Type 0 where
   pub honest : IsTrue (facts store.disk).honest
   pub usable : IsFalse store.failed

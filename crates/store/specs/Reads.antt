@@ -12,8 +12,10 @@ use Rattle.store.specs.Opened.{Opened, IsAtBy}
 use Rattle.store.specs.Stands.{no_library}
 use Rattle.states.specs.State.{State}
 
--- The byte string at a position of a store of this version is read: each of its sectors once, and nothing is written.
-pub record ReadsBlob (version : Version) {D : Type 0} (facts : D → DiskFacts) (old new : Opened D) (position : ℕ) (result : Result (Vec ℕ) StoreRefusal) : Type 0 where
+-- The byte string at a position of a store of this version is read: each of its sectors once, and
+-- nothing is written.
+pub record ReadsBlob (version : Version) {D : Type 0} (facts : D → DiskFacts) (old new : Opened D) (position : ℕ)
+    (result : Result (Vec ℕ) StoreRefusal) : Type 0 where
   -- a stop at any moment leaves what it could leave before
   pub any_moment : IsTrue (facts old.disk).honest → LeavesOnly (facts old.disk) (facts new.disk) (Mixture (facts old.disk))
   pub ok : (s : State) → IsAtBy version facts old s → IfOk result (λ bytes. bytes.items ≡ (slice_index_or s.libraries position no_library).bytes)
@@ -29,5 +31,7 @@ pub record ReadsBlob (version : Version) {D : Type 0} (facts : D → DiskFacts) 
   pub refusals : IfErr result (λ e. (e ≡ Device) ⊎ (e ≡ Reopen) ⊎ (e ≡ OutOfMemory))
   pub device : IfErr result (λ e. e ≡ Device → (facts old.disk).failures < (facts new.disk).failures)
   pub untouched : IfErr result (λ e. e ≢ Device → new ≡ old)
-  pub all_calls : (d : PlacedEntry) → OnOk result (AreCallsExactly (div_ceil (slice_index_or old.entries position d).entry.file_length sector_bytes) (facts old.disk) (facts new.disk))
-  pub calls : (d : PlacedEntry) → AreCallsAtMost (div_ceil (slice_index_or old.entries position d).entry.file_length sector_bytes) (facts old.disk) (facts new.disk)
+  pub all_calls : (d : PlacedEntry)
+      → OnOk result (AreCallsExactly (div_ceil (slice_index_or old.entries position d).entry.file_length sector_bytes) (facts old.disk) (facts new.disk))
+  pub calls : (d : PlacedEntry)
+      → AreCallsAtMost (div_ceil (slice_index_or old.entries position d).entry.file_length sector_bytes) (facts old.disk) (facts new.disk)

@@ -1,5 +1,6 @@
 -- The refusals of a store's changes, in their order.
-use Rattle.std.specs.Prelude.{◌≡◌, ℕ, ◌+◌, ◌-◌, ◌==◌, ◌⊎◌, nat_lt, List, length, Option, Some, None, Result, Ok, Err, if◌then◌else◌}
+use Rattle.std.specs.Prelude.{◌≡◌, ℕ, ◌+◌, ◌-◌, ◌==◌, ◌⊎◌, nat_lt, List}
+use Rattle.std.specs.Prelude.{length, Option, Some, None, Result, Ok, Err, if◌then◌else◌}
 use Rattle.extents.specs.Extent.{sector_count}
 use Rattle.extents.specs.Limits.{root_sectors}
 use Rattle.extents.specs.Longest.{longest_runs}
@@ -16,7 +17,8 @@ use Rattle.store.specs.Opened.{Opened, layout_in_use}
 abbrev pub longest_free : {D : Type 0} → Opened D → ℕ
 longest_free store = sector_count (longest_runs (layout_in_use store))
 
--- the first reason to refuse bytes beside which so many sectors more are taken, by the size of the disk and its longest runs
+-- the first reason to refuse bytes beside which so many sectors more are taken, by the size of the
+-- disk and its longest runs
 abbrev pub refusal_of_bytes : (sectors longest more : ℕ) → State → List ℕ → Option StoreRefusal
 refusal_of_bytes sectors longest more s bytes =
     if s.generation == last_generation then Some GenerationEnd
@@ -50,7 +52,8 @@ IsAnswer (Some Full) (Err refusal) = (refusal ≡ Full) ⊎ (refusal ≡ OutOfMe
 IsAnswer (Some Fragmented) (Err refusal) = (refusal ≡ Fragmented) ⊎ (refusal ≡ OutOfMemory)
 IsAnswer (Some first) (Err refusal) = refusal ≡ first
 
--- the answers to an upgrade with this first refusal; S1 and S11 may replace each, since it reads the disk before it comes to that
+-- the answers to an upgrade with this first refusal; S1 and S11 may replace each, since it reads
+-- the disk before it comes to that
 abbrev pub IsUpgradeAnswer : Option StoreRefusal → Result (Unit {0}) StoreRefusal → Type 0
 IsUpgradeAnswer None (Ok done) = Unit
 IsUpgradeAnswer None (Err refusal) = (refusal ≡ Device) ⊎ (refusal ≡ OutOfMemory)

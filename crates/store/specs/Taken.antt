@@ -15,13 +15,15 @@ abbrev pub AreTaken : List Bool → List ℕ → Type 0
 AreTaken layout [] = Unit
 AreTaken layout (k ∷ ks) = IsLowestFree layout k × AreTaken (with_flag true (one_sector k) layout) ks
 
--- sectors of this layout are taken: the extents by `take`, then the entry's, the lowest free one, then those of the catalogues
+-- sectors of this layout are taken: the extents by `take`, then the entry's, the lowest free one,
+-- then those of the catalogues
 pub record IsTaken (layout : List Bool) (need : ℕ) (extents : List Extent) (at : ℕ) (catalogues : List ℕ) : Type 0 where
   pub bytes : extents ≡ taken need layout
   pub entry : IsLowestFree (with_flags true extents layout) at
   pub listed : AreTaken (with_flag true (one_sector at) (with_flags true extents layout)) catalogues
 
--- there is one more entry, the last; it, its bytes and the catalogues are in sectors that weren't in use
+-- there is one more entry, the last; it, its bytes and the catalogues are in sectors that weren't
+-- in use
 pub record IsPutBehind {D : Type 0} (old new : Opened D) (need : ℕ) : Type 0 where
   pub put : PlacedEntry
   pub taken : IsTaken (layout_in_use old) need (extents_of put.entry) put.at (catalogues_of new.root)
@@ -32,7 +34,7 @@ pub record IsNamedAt {D : Type 0} (store : Opened D) (name : List ℕ) (position
   pub inside : position < length store.entries
   pub named : (d : PlacedEntry) → name_of (slice_index_or store.entries position d).entry ≡ name
 
--- another entry replaces the one of this name; its sectors and those of the catalogues are none of those that were in use
+-- another entry replaces the one of this name; its sectors and the catalogues' weren't in use
 pub record IsPutOver {D : Type 0} (old new : Opened D) (name : List ℕ) (need : ℕ) : Type 0 where
   pub position : ℕ
   pub at : IsNamedAt old name position
@@ -40,7 +42,8 @@ pub record IsPutOver {D : Type 0} (old new : Opened D) (name : List ℕ) (need :
   pub taken : IsTaken (layout_in_use old) need (extents_of put.entry) put.at (catalogues_of new.root)
   pub entries : new.entries ≡ set old.entries position put
 
--- the entry of this name is gone; the catalogues are in sectors that weren't in use, so none of them in one of the entry's
+-- the entry of this name is gone; the catalogues are in sectors that weren't in use, so none of
+-- them in one of the entry's
 pub record IsTakenOut {D : Type 0} (old new : Opened D) (name : List ℕ) : Type 0 where
   pub position : ℕ
   pub at : IsNamedAt old name position

@@ -14,16 +14,17 @@ use Rattle.store.specs.Taken.{AreTaken}
 abbrev pub upgraded : State → State
 upgraded s = next s s.libraries s.preloads
 
--- no state is what these sectors stand for by the old rules
+-- these sectors hold no state by the old rules
 abbrev pub IsNotOld : List Sector → Type 0
 IsNotOld m = (s : State) → StandsOld m s → ⊥
 
--- The store is at the state that these sectors stood for, or, where they did so by the old rules, at the one after it.
+-- The store is at the state that these sectors held, or, where they held it by the old rules, at
+-- the one after it.
 abbrev pub IsUpgradeOf : {D : Type 0} → (D → DiskFacts) → Opened D → List Sector → State → Type 0
 IsUpgradeOf facts store m s = (Stands m s × IsAt facts store s) ⊎ (StandsOld m s × IsAt facts store (upgraded s))
 
--- The store has the entries by which these sectors stood for the state by the old rules, and its catalogues are in sectors
--- that weren't in use then: each in its turn in the lowest free one.
+-- The store has the entries by which these sectors held the state by the old rules, and its
+-- catalogues are in sectors that weren't in use then: each in its turn in the lowest free one.
 pub record IsRelistedFrom {D : Type 0} (m : List Sector) (s : State) (store : Opened D) : Type 0 where
   pub root : Root
   pub stood : StandsBy One m root store.entries s

@@ -4,7 +4,7 @@
 //! moment. Byte strings are put behind the others by `put_new`, in the place of those under a name
 //! by `put_over`, and taken out by `delete`; `set_preloads` chooses the preloads. `Store::look`
 //! looks at a disk of either version, and `Store::upgrade` makes one of version 1 one of version 2.
-//! What sectors stand for is defined in specs/Stands.antt.
+//! Which state sectors hold is defined in specs/Stands.antt.
 #![tactic(auto)]
 
 mod catalogues;

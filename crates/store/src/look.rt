@@ -41,7 +41,7 @@ impl<D: Disk> Store<D> {
         ensures now { IsTrue (D.facts disk).honest
             → (D.facts (looked_after result)).now ≡ (D.facts disk).now }
 
-        // Of the version of its root, it is at the state for which what reads give stands.
+        // It is of the version of its root, and at the state that what reads give holds.
         ensures stands { IsTrue (D.facts disk).honest → (s : State) → Stands (D.facts disk).now s
             → MatchResult result (λ look. IsSeenAt D.facts look s) (λ e.
             (e.0 ≡ StoreRefusal.Device) ⊎ (e.0 ≡ StoreRefusal.OutOfMemory)) }

@@ -30,7 +30,7 @@ impl<D: Disk> Store<D> {
         ensures now { IsTrue (D.facts disk).honest
             → (D.facts (disk_after result)).now ≡ (D.facts disk).now }
 
-        // The store is at the state for which what reads give stands: every mixture stands for it.
+        // The store is at the state that what reads give holds: every mixture holds it too.
         ensures ok { IsTrue (D.facts disk).honest → IfOk result (λ store.
             (s : State) × Stands (D.facts disk).now s × IsAt D.facts store s) }
         ensures stands { IsTrue (D.facts disk).honest → (s : State) → Stands (D.facts disk).now s

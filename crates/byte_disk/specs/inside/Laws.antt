@@ -18,7 +18,9 @@ byte_holds disk =
     let planned = disk.planned.items in
     record {
       size = length-carried_out start (plan_in planned);
-      each = λ k lt. subst (λ steps. MayBeLeft start steps k (sector (carried_out start (plan_in planned)) k)) (sym (plan_now planned (calls_made disk.idle))) (now_left start (plan_in planned) k);
+      each = λ k lt. subst (λ steps. MayBeLeft start steps k (sector (carried_out start (plan_in planned)) k))
+          (sym (plan_now planned (calls_made disk.idle)))
+          (now_left start (plan_in planned) k);
     }
 
 -- Its sectors are whole.
@@ -28,6 +30,8 @@ byte_whole disk =
     let steps = plan_in disk.planned.items in
     let n = length start in
     record {
-      now = λ k lt. All-get_or IsWhole (carried_out start steps) k [] (omega (arith, lt, length-carried_out start steps)) (carried_out_whole n start steps disk.whole disk.writes);
-      left = λ u k c le lt left. let made = steps_at disk.planned.items u in left_whole n start (take made steps) k c lt disk.whole (writes_taken (IsWriteOn n) made steps disk.writes) left;
+      now = λ k lt. All-get_or IsWhole (carried_out start steps) k [] (omega (arith, lt, length-carried_out start steps))
+          (carried_out_whole n start steps disk.whole disk.writes);
+      left = λ u k c le lt left. let made = steps_at disk.planned.items u in
+          left_whole n start (take made steps) k c lt disk.whole (writes_taken (IsWriteOn n) made steps disk.writes) left;
     }

@@ -1,5 +1,6 @@
 -- What follows of what a plan leaves, and of the moments at which its steps are made.
-use Rattle.std.proofs.Common.{◌≡◌, ℕ, zero, suc, ◌+◌, ◌-◌, ◌<◌, List, [], ◌∷◌, length, set, take, refl, sym, ◌∙◌, ap, subst, arith}
+use Rattle.std.proofs.Common.{◌≡◌, ℕ, zero, suc, ◌+◌, ◌-◌, ◌<◌, List, [], ◌∷◌}
+use Rattle.std.proofs.Common.{length, set, take, refl, sym, ◌∙◌, ap, subst, arith}
 use Rattle.std.proofs.lemmas.Bool.{lt-ltb}
 use Rattle.std.proofs.lemmas.List.{length-set, length-map, take_all, drop_all}
 use Rattle.std.proofs.lemmas.List.Elements.{All-nil, All-cons, All-head, All-tail, All-set, All-get_or}
@@ -19,11 +20,13 @@ length-carried_out start (Write at content ∷ steps) = length-carried_out (set 
 length-carried_out start (Sync ∷ steps) = length-carried_out start steps
 
 -- whole sectors stay whole
-pub carried_out_whole : (n : ℕ) (start : List Sector) (steps : List Step) → All IsWhole start → All (IsWriteOn n) (writes_in steps) → All IsWhole (carried_out start steps)
+pub carried_out_whole : (n : ℕ) (start : List Sector) (steps : List Step) → All IsWhole start → All (IsWriteOn n) (writes_in steps)
+    → All IsWhole (carried_out start steps)
 carried_out_whole n start [] whole writes = whole
 carried_out_whole n start (Write at content ∷ steps) whole writes =
     let this : IsWriteOn n (at, content) = All-head (IsWriteOn n) (at, content) (writes_in steps) writes in
-    carried_out_whole n (set start at content) steps (All-set IsWhole start at content this.whole whole) (All-tail (IsWriteOn n) (at, content) (writes_in steps) writes)
+    carried_out_whole n (set start at content) steps (All-set IsWhole start at content this.whole whole)
+    (All-tail (IsWriteOn n) (at, content) (writes_in steps) writes)
 carried_out_whole n start (Sync ∷ steps) whole writes = carried_out_whole n start steps whole writes
 
 -- what is true of all writes is true of the first ones
@@ -31,15 +34,18 @@ pub writes_taken : (P : SectorWrite → Type 0) (i : ℕ) (steps : List Step) �
 writes_taken P zero steps all = All-nil P
 writes_taken P (suc i) [] all = All-nil P
 writes_taken P (suc i) (Write at content ∷ steps) all =
-    All-cons P (at, content) (writes_in (take i steps)) (All-head P (at, content) (writes_in steps) all) (writes_taken P i steps (All-tail P (at, content) (writes_in steps) all))
+    All-cons P (at, content) (writes_in (take i steps)) (All-head P (at, content) (writes_in steps) all)
+    (writes_taken P i steps (All-tail P (at, content) (writes_in steps) all))
 writes_taken P (suc i) (Sync ∷ steps) all = writes_taken P i steps all
 
 -- what may be left is whole
-pub left_whole : (n : ℕ) (start : List Sector) (steps : List Step) (k : ℕ) (c : Sector) → k < length start → All IsWhole start → All (IsWriteOn n) (writes_in steps) → MayBeLeft start steps k c → IsWhole c
+pub left_whole : (n : ℕ) (start : List Sector) (steps : List Step) (k : ℕ) (c : Sector)
+    → k < length start → All IsWhole start → All (IsWriteOn n) (writes_in steps) → MayBeLeft start steps k c → IsWhole c
 left_whole n start steps k c lt whole writes left =
     let front = take left.0 steps in
     subst IsWhole (sym left.3)
-    (All-get_or IsWhole (carried_out start front) k [] (omega (arith, lt, length-carried_out start front)) (carried_out_whole n start front whole (writes_taken (IsWriteOn n) left.0 steps writes)))
+    (All-get_or IsWhole (carried_out start front) k [] (omega (arith, lt, length-carried_out start front))
+    (carried_out_whole n start front whole (writes_taken (IsWriteOn n) left.0 steps writes)))
 
 -- what reads give may be left
 pub now_left : (start : List Sector) (steps : List Step) (k : ℕ) → MayBeLeft start steps k (sector (carried_out start steps) k)
@@ -64,4 +70,5 @@ steps_at_end (p ∷ planned) n =
 -- the plan up to the present moment is the plan
 pub plan_now : (planned : List PlannedStep) (n : ℕ) → take (steps_at planned (calls_for planned + n)) (plan_in planned) ≡ plan_in planned
 plan_now planned n =
-    ap (λ m. take m (plan_in planned)) (steps_at_end planned n) ∙ take_all (length planned) (plan_in planned) (omega (arith, length-map planned (λ (p : PlannedStep). p.step)))
+    ap (λ m. take m (plan_in planned)) (steps_at_end planned n)
+    ∙ take_all (length planned) (plan_in planned) (omega (arith, length-map planned (λ (p : PlannedStep). p.step)))

@@ -30,7 +30,8 @@ GotLine before after line Whole = Consumes before after (ended line) × IsLine l
 GotLine before after line Cut = IsAll before line × Consumes before after line × IsLine line × (0 < length line)
 GotLine before after line End = IsAll before [] × Consumes before after []
 
--- What a read of a line that failed did: the writer failed before it, or part of a line was read, and all that was written or waits is as it was.
+-- What a read of a line that failed did: the writer failed before it, or part of a line was read,
+-- and all that was written or waits is as it was.
 abbrev pub Unread : Option (List ℕ) → Option (List ℕ) → Option (List ℕ) → Option (List ℕ) → List ℕ → ScriptFault → Type 0
 Unread before after waits now line Write = after ≡ before
 Unread before after waits now line fault = Consumes before after line × StopsAt line 10 × Appends waits now []
@@ -53,7 +54,9 @@ module _ {S : Type 0} (step : S → Happening → EventReply → S → Type 0) w
   abbrev pub Stepped : S → List ℕ → S → Type 0
   Stepped s line s' = (answer : Answer) × LineStep step s line answer s'
 
-  -- Of a whole line, with what the writer holds and what waits behind it, before and now: for want of memory nothing was done; or the writer failed before the line was applied, or where it asks for no change, or where the writer held all that had waited.
+  -- Of a whole line, with what the writer holds and what waits behind it, before and now:
+  -- for want of memory nothing was done; or the writer failed before the line was applied,
+  -- or where it asks for no change, or where the writer held all that had waited.
   abbrev pub Misses : {W : Type 0} → (W → Option (List ℕ)) → S → S → Option (List ℕ) → Option (List ℕ) → List ℕ → ScriptFault → Type 0
   Misses contents s s' waits now line Write = (s' ≡ s) ⊎ (Stepped s line s' × (AsksNoChange line ⊎ ((held : _) × Appends waits (contents held) [])))
   Misses contents s s' waits now line fault = (s' ≡ s) × (now ≡ waits)

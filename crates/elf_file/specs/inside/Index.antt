@@ -1,5 +1,6 @@
 -- What the index of the PT_LOADs says of the program headers.
-use Rattle.std.specs.Prelude.{ℕ, ◌+◌, ◌-◌, ◌*◌, ◌<◌, ◌≤◌, ◌≡◌, Bool, true, false, ◌&&◌, nat_lt, List, map, filter, length, slice_index, slice_set}
+use Rattle.std.specs.Prelude.{ℕ, ◌+◌, ◌-◌, ◌*◌, ◌<◌, ◌≤◌, ◌≡◌, Bool, true, false}
+use Rattle.std.specs.Prelude.{◌&&◌, nat_lt, List, map, filter, length, slice_index, slice_set}
 use Rattle.std.specs.List.{range_with_len}
 use Rattle.elf_file.specs.Header.{header_count}
 use Rattle.elf_file.specs.Segment.{program_header, is_load, has_bad_load, is_too_large, has_bad_order}
@@ -50,11 +51,13 @@ is_spanned index i = nat_lt 0 index.blocks && nat_lt i (slice_index index.first 
 
 -- all PT_LOADs from a program header on begin above an address
 abbrev pub AllAbove : List ℕ → ℕ → ℕ → Type 0
-AllAbove file address k = (j : ℕ) → k ≤ j → j < header_count file → is_load (program_header file j) ≡ true → address < (program_header file j).address
+AllAbove file address k = (j : ℕ) → k ≤ j → j < header_count file → is_load (program_header file j) ≡ true
+    → address < (program_header file j).address
 
 -- all PT_LOADs before a program header end at or below an address
 abbrev pub AllBelow : List ℕ → ℕ → ℕ → Type 0
-AllBelow file address k = (j : ℕ) → j < k → is_load (program_header file j) ≡ true → (program_header file j).address + (program_header file j).memory_size ≤ address
+AllBelow file address k = (j : ℕ) → j < k → is_load (program_header file j) ≡ true
+    → (program_header file j).address + (program_header file j).memory_size ≤ address
 
 -- a program header such that only PT_LOADs of the block from it on can have an address
 abbrev pub IsBlockAt : List ℕ → ℕ → ℕ → Type 0

@@ -1,5 +1,6 @@
 -- What is kept of the entries of the dynamic section.
-use Rattle.std.specs.Prelude.{ℕ, ◌+◌, ◌/◌, ◌≤◌, ◌≡◌, map, length, List, Option, Some, None, ◌==◌, nat_lt, count_by, slice_index_or, if◌then◌else◌}
+use Rattle.std.specs.Prelude.{ℕ, ◌+◌, ◌/◌, ◌≤◌, ◌≡◌, map, length, List, Option, Some}
+use Rattle.std.specs.Prelude.{None, ◌==◌, nat_lt, count_by, slice_index_or, if◌then◌else◌}
 use Rattle.std.specs.Option.{option_map, option_or}
 use Rattle.std.specs.List.{find, range_with_len}
 use Rattle.elf_file.specs.Constant.{DYNAMIC_ENTRY_SIZE}

@@ -1,5 +1,7 @@
--- What is kept of the walks that were followed: of each index on them how far it is from 0, and an index further along.
-use Rattle.std.specs.Prelude.{ℕ, List, Option, Some, None, ◌≡◌, ◌≢◌, ◌<◌, ◌≤◌, ◌-◌, ◌+◌, length, slice_index, slice_index_or, set}
+-- What is kept of the walks that were followed: of each index on them how far it is from 0, and an
+-- index further along.
+use Rattle.std.specs.Prelude.{ℕ, List, Option, Some, None, ◌≡◌, ◌≢◌, ◌<◌, ◌≤◌}
+use Rattle.std.specs.Prelude.{◌-◌, ◌+◌, length, slice_index, slice_index_or, set}
 use Rattle.std.proofs.Math.ListN.{replicate}
 use Rattle.std.specs.List.{All}
 use Rattle.hash_check.specs.Walk.{walk, Meets}

@@ -1,5 +1,6 @@
 -- Where segments lie, and what loading and relocating do to them. Nobody has to believe these.
-use Rattle.std.specs.Prelude.{ℕ, ◌≡◌, ◌+◌, ◌-◌, ◌^◌, ◌<◌, ◌≤◌, Bool, ◌&&◌, true, nat_le, if◌then◌else◌, List, [], ◌∷◌, ◌++◌, length, map, take, drop, replicate, slice_get, sum_by, Option, Some, None}
+use Rattle.std.specs.Prelude.{ℕ, ◌≡◌, ◌+◌, ◌-◌, ◌^◌, ◌<◌, ◌≤◌, Bool, ◌&&◌, true, nat_le, if◌then◌else◌}
+use Rattle.std.specs.Prelude.{List, [], ◌∷◌, ◌++◌, length, map, take, drop, replicate, slice_get, sum_by, Option, Some, None}
 use Rattle.std.specs.Int.{byte_at}
 use Rattle.std.specs.List.{All, list_any}
 use Rattle.byteorder.specs.Endian.{little_bytes}

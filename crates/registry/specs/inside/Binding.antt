@@ -14,7 +14,7 @@ pub record Found : Type 0 where
   pub needs : Needs
   pub files : List Library
 
--- a binder: its program, where that is to be bound, the snapshot, and what its walk has found since the first step
+-- a binder: its program, where to bind it, the snapshot, and what its walk has found so far
 pub record Binding : Type 0 where
   pub program : List ℕ
   pub base : ℕ
@@ -25,7 +25,7 @@ abbrev pub found_of : Option Walk → Option Found
 found_of None = None
 found_of (Some walk) = Some (record { needs = walk.needs; files = walk.files.items })
 
--- Once it walks, no test refuses its program by itself, and the walk is one among the files of its snapshot.
+-- Once it walks, no test refuses its program by itself, and its walk is among its snapshot's files.
 abbrev pub IsReadyFor : Binding → Option Found → Type 0
 IsReadyFor binder None = Unit
 IsReadyFor binder (Some found) = (program_refusal binder.program binder.base ≡ None)

@@ -30,7 +30,7 @@ abbrev pub HasFiles : {D : Type 0} → (D → DiskFacts) → Source → Opened D
 HasFiles facts Current store s = IsAt facts store s
 HasFiles facts (Held snapshot) store s = IsTrue (facts store.disk).honest × AreHeldAs facts store snapshot.now.handles s.libraries
 
--- What it offers in a store as it is now is what the store had when it was at what the source tells of.
+-- What it offers in a store as it is now is what the store had when it was as the source tells.
 pub record Offers {D : Type 0} (facts : D → DiskFacts) (source : Source) (taken now : Opened D) : Type 0 where
   pub entries : HasEntries source now taken.entries
   pub own : HaveOwnNames taken.entries

@@ -18,14 +18,15 @@ use Rattle.registry.specs.Opened.{IsAt}
 use Rattle.store.specs.NameOrder.{entry_names}
 use Rattle.registry.specs.declared.needs.Needs.{Needs}
 
--- what is needed after an object that needs these too: the places of the names that files go by, and the first missing one
+-- what is needed after an object that needs these too: the places of the names that files go by,
+-- and the first missing name
 abbrev pub more_needs : List (List ℕ) → Needs → List ℕ → List (List ℕ) → Needs
 more_needs names needs needer needed = record {
   places = record { limit = needs.places.limit; places = grown needs.places.places (filter_map (place_of names) needed) };
   missing = option_or needs.missing (find (is_missing names) (map (λ name. record { needer = needer; name = name }) needed));
 }
 
--- What is needed grows: the queue stays the beginning of what it becomes, and a name that is noted stays noted.
+-- What is needed grows: the queue keeps its beginning, and a name that is noted stays noted.
 pub record Grows (old new : Needs) : Type 0 where
   pub limit : new.places.limit ≡ old.places.limit
   pub begins : take (length old.places.places) new.places.places ≡ old.places.places
@@ -49,12 +50,13 @@ next_place needs files = get_or needs.places.places (length files + 1) 0
 abbrev pub walked : List ℕ → ℕ → List ℕ
 walked places count = drop 1 (take (count + 1) places)
 
--- The program was looked at, and then the files of the queue's places before this many, each once: the queue has what
--- these need, and the first of these names that no file goes by is noted.
+-- The program was looked at, and then the files of the queue's places before this many, each once:
+-- the queue has what these need, and the first of these names that no file goes by is noted.
 pub record IsWalked {D : Type 0} (facts : D → DiskFacts) (program : List ℕ) (taken : Opened D) (needs : Needs) (files : List Library) : Type 0 where
   pub among : IsAmong (length taken.entries) needs files
   pub missing : needs.missing ≡ find (is_missing (entry_names taken.entries)) (flat_map needed_by (available program (map object_of files)))
-  pub each : (s : State) → IsAt facts taken s → map object_of files ≡ map (object_at (available program (objects s))) (walked needs.places.places (length files))
+  pub each : (s : State) → IsAt facts taken s → map object_of files
+      ≡ map (object_at (available program (objects s))) (walked needs.places.places (length files))
   pub reached : (s : State) → IsAt facts taken s
       → Reached (needs_of program (objects s)) (length (available program (objects s))) (level_0 (preload_numbers s)) needs.places.places (length files + 1)
 

@@ -1,4 +1,4 @@
--- The exported names of all objects of an order, as they are sorted to be searched. Nobody has to believe this.
+-- The exported names of all objects of an order, sorted to be searched. Nobody has to believe this.
 use Rattle.std.specs.Prelude.{ℕ, List, [], ◌∷◌, ◌%◌, ◌^◌, nat_lt, length, map, if◌then◌else◌}
 use Rattle.std.specs.List.{flat_map, range_with_len}
 use Rattle.std.specs.List.Sorted.{IsPermutation, IsSortedBy}

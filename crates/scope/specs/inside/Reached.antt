@@ -4,8 +4,8 @@ use Rattle.std.specs.List.{flat_map, concat}
 use Rattle.scope.specs.Levels.{levels_after, joined_levels}
 use Rattle.scope.specs.inside.Growing.{grown}
 
--- The objects of the queue before i have been walked. `earlier` has the levels up to one whose objects before i are
--- `walked`.
+-- The objects of the queue before i have been walked. `earlier` has the levels up to one whose
+-- objects before i are `walked`.
 pub record Reached (needs : ℕ → List ℕ) (n : ℕ) (first places : List ℕ) (i : ℕ) : Type 0 where
   pub earlier : List ℕ
   pub walked : List ℕ

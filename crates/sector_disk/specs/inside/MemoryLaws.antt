@@ -14,16 +14,19 @@ use Rattle.sector_disk.specs.inside.WrittenLaws.{length-contents, now_chosen}
 use Rattle.sector_disk.specs.Memory.{memory_facts}
 
 -- the present moment's mark
-pub present : (writes : List Written) (synced : ℕ) (past : List Moment) → moment_at writes synced past (length past) ≡ record { writes = length writes; synced = synced; failed = false }
+pub present : (writes : List Written) (synced : ℕ) (past : List Moment)
+    → moment_at writes synced past (length past) ≡ record { writes = length writes; synced = synced; failed = false }
 present writes synced past = get_or_past past (length past) _ (omega arith)
 
 -- what a stop now may leave, told without the past
-pub left_now : (start : List Sector) (writes : List Written) (synced : ℕ) (past : List Moment) (k : ℕ) (c : Sector) → Contains (choices start writes synced k) c → (facts_of start writes synced past).may_leave (length past) k c
+pub left_now : (start : List Sector) (writes : List Written) (synced : ℕ) (past : List Moment) (k : ℕ) (c : Sector)
+    → Contains (choices start writes synced k) c → (facts_of start writes synced past).may_leave (length past) k c
 left_now start writes synced past k c left =
     subst (λ moment. Contains (choices start (take moment.writes writes) moment.synced k) c) (sym (present writes synced past))
     (subst (λ ws. Contains (choices start ws synced k) c) (sym (take_all (length writes) writes (omega arith))) left)
 
-pub now_leaves : (start : List Sector) (writes : List Written) (synced : ℕ) (past : List Moment) (k : ℕ) (c : Sector) → (facts_of start writes synced past).may_leave (length past) k c → Contains (choices start writes synced k) c
+pub now_leaves : (start : List Sector) (writes : List Written) (synced : ℕ) (past : List Moment) (k : ℕ) (c : Sector)
+    → (facts_of start writes synced past).may_leave (length past) k c → Contains (choices start writes synced k) c
 now_leaves start writes synced past k c left =
     subst (λ ws. Contains (choices start ws synced k) c) (take_all (length writes) writes (omega arith))
     (subst (λ moment. Contains (choices start (take moment.writes writes) moment.synced k) c) (present writes synced past) left)
@@ -36,28 +39,35 @@ memory_holds m = record {
 }
 
 -- whole contents stay whole under whole writes
-contents_whole : (start : List Sector) (writes : List Written) → All IsWhole start → All (λ (write : Written). IsWhole write.content) writes → All IsWhole (contents start writes)
+contents_whole : (start : List Sector) (writes : List Written) → All IsWhole start
+    → All (λ (write : Written). IsWhole write.content) writes → All IsWhole (contents start writes)
 contents_whole start [] whole whole_writes = whole
 contents_whole start (w ∷ writes) whole whole_writes =
     let IsWholeWrite = λ (write : Written). IsWhole write.content in
-    contents_whole (set start w.at w.content) writes (All-set IsWhole start w.at w.content (whole_writes 0 w (omega arith)) whole) (All-tail IsWholeWrite w writes whole_writes)
+    contents_whole (set start w.at w.content) writes (All-set IsWhole start w.at w.content (whole_writes 0 w (omega arith)) whole)
+    (All-tail IsWholeWrite w writes whole_writes)
 
 -- every choice of a sector that the disk has is whole
-pub choices_whole : (start : List Sector) (writes : List Written) (synced k : ℕ) → k < length start → All IsWhole start → All (λ (write : Written). IsWhole write.content) writes → All IsWhole (choices start writes synced k)
+pub choices_whole : (start : List Sector) (writes : List Written) (synced k : ℕ) → k < length start
+    → All IsWhole start → All (λ (write : Written). IsWhole write.content) writes → All IsWhole (choices start writes synced k)
 choices_whole start writes synced k lt whole whole_writes =
     let IsWholeWrite = λ (write : Written). IsWhole write.content in
     let front = take synced writes in
     All-cons IsWhole (sector (contents start front) k) (written_to k (drop synced writes))
-    (All-get_or IsWhole (contents start front) k [] (omega (arith, lt, length-contents start front)) (contents_whole start front whole (All-take IsWholeWrite synced writes whole_writes)))
-    (All-map IsWhole (λ (write : Written). write.content) (filter (λ (write : Written). write.at == k) (drop synced writes)) (All-filter (λ (write : Written). write.at == k) IsWholeWrite (drop synced writes) (All-drop IsWholeWrite synced writes whole_writes)))
+    (All-get_or IsWhole (contents start front) k [] (omega (arith, lt, length-contents start front))
+    (contents_whole start front whole (All-take IsWholeWrite synced writes whole_writes)))
+    (All-map IsWhole (λ (write : Written). write.content) (filter (λ (write : Written). write.at == k) (drop synced writes))
+    (All-filter (λ (write : Written). write.at == k) IsWholeWrite (drop synced writes) (All-drop IsWholeWrite synced writes whole_writes)))
 
 -- Its sectors are whole.
 pub memory_whole : (m : Memory) → HasWholeSectors (memory_facts m)
 memory_whole m = record {
-  now = λ k lt. All-get_or IsWhole (contents m.start.items m.writes.items) k [] (omega (arith, lt, length-contents m.start.items m.writes.items)) (contents_whole m.start.items m.writes.items m.whole_start m.whole_writes);
+  now = λ k lt. All-get_or IsWhole (contents m.start.items m.writes.items) k [] (omega (arith, lt, length-contents m.start.items m.writes.items))
+      (contents_whole m.start.items m.writes.items m.whole_start m.whole_writes);
   left = λ u k c le lt left.
       let moment = moment_at m.writes.items m.synced m.past.items u in
       All-contains IsWhole (choices m.start.items (take moment.writes m.writes.items) moment.synced k) c
-      (choices_whole m.start.items (take moment.writes m.writes.items) moment.synced k lt m.whole_start (All-take (λ (write : Written). IsWhole write.content) moment.writes m.writes.items m.whole_writes))
+      (choices_whole m.start.items (take moment.writes m.writes.items) moment.synced k lt m.whole_start
+      (All-take (λ (write : Written). IsWhole write.content) moment.writes m.writes.items m.whole_writes))
       left;
 }

@@ -28,7 +28,8 @@ AreSome store = (sector : ℕ) (placed : PlacedEntry) → IsHeldBy store.held se
 pub record HoldsFirst {D : Type 0} (facts : D → DiskFacts) (old new : Opened D) (count : ℕ) (handles : List ℕ) : Type 0 where
   pub size : length handles ≡ count
   pub each : (i : ℕ) (d : PlacedEntry) → i < count → IsHeldBy new.held (slice_index_or handles i 0) (slice_index_or old.entries i d)
-  pub libraries : (s : State) → IsAt facts old s → (i : ℕ) → i < count → HeldIs facts new (slice_index_or handles i 0) (slice_index_or s.libraries i no_library)
+  pub libraries : (s : State) → IsAt facts old s → (i : ℕ) → i < count
+      → HeldIs facts new (slice_index_or handles i 0) (slice_index_or s.libraries i no_library)
   pub holders : (sector : ℕ) → holders_of new.held sector ≡ holders_of old.held sector + times sector handles
   pub beside : StaysBeside facts old new
 

@@ -2,7 +2,7 @@
 use Rattle.std.specs.Prelude.{ℕ, ◌<◌, ◌≤◌, List, All, length, nat_eq}
 use Rattle.std.specs.List.{IsDistinct}
 
--- There are as few handles as a store can list, and the positions of the preloads are places among them, each once.
+-- There are as few handles as a store can list; the preloads' positions are among them, each once.
 pub record AreInside (handles preloads : List ℕ) : Type 0 where
   pub few : length handles ≤ 2048
   pub inside : All (λ p. p < length handles) preloads

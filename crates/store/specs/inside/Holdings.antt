@@ -1,5 +1,6 @@
 -- What the calls of the table of held versions make of it, and what a store keeps of it.
-use Rattle.std.specs.Prelude.{◌≡◌, ◌≢◌, ℕ, ◌+◌, ◌<◌, false, true, List, [], ◌∷◌, ◌++◌, length, set, swap_remove, slice_index_or, All, Contains}
+use Rattle.std.specs.Prelude.{◌≡◌, ◌≢◌, ℕ, ◌+◌, ◌<◌, false, true, List, [], ◌∷◌}
+use Rattle.std.specs.Prelude.{◌++◌, length, set, swap_remove, slice_index_or, All, Contains}
 use Rattle.roots.specs.Entry.{EntryHasSpelling}
 use Rattle.store.specs.declared.placed_entry.PlacedEntry.{PlacedEntry}
 use Rattle.store.specs.declared.holding.Holding.{Holding}

@@ -16,7 +16,8 @@ use Rattle.store.specs.inside.Holdings.{AreHoldings}
 abbrev pub HaveSpellings : List PlacedEntry → Type 0
 HaveSpellings entries = All (λ placed. EntryHasSpelling placed.entry) entries
 
--- Just the sectors in use are claimed in the layout of a disk of so many, by the state and by holders alone; and each of them once.
+-- Just the sectors in use are claimed in the layout of a disk of so many, by the state and by
+-- holders alone; and each of them once.
 pub record AreClaimed (sectors : ℕ) (layout : List Bool) (used lone : List ℕ) : Type 0 where
   pub inside : All (IsUsable sectors) lone
   pub once : AreDistinct (used ++ lone)

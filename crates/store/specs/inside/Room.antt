@@ -24,7 +24,8 @@ pub record IsReleased (old new : List Bool) (gone : List ℕ) : Type 0 where
   pub size : length new ≡ length old
   pub each : (kept : List ℕ) → ClaimsJust old (kept ++ gone) → AreDistinct (kept ++ gone) → ClaimsJust new kept
 
--- The state uses an entry's sectors and those of catalogues no longer. They are free now, but for the entry's where somebody holds it.
+-- The state uses an entry's sectors and those of catalogues no longer. They are free now, but for
+-- the entry's where somebody holds it.
 abbrev pub IsGivenUp : (held left : List Holding) (old new : List Bool) (placed : PlacedEntry) (catalogues : List ℕ) → Type 0
 IsGivenUp held left old new placed catalogues =
     (IsLeft held left placed.at × IsReleased old new catalogues)
