@@ -12,6 +12,7 @@ pub mod NameLengths
 pub mod Ordering
 pub mod NameOrder
 pub mod SharedNames
+pub mod AllSymbols
 pub mod Searching
 pub mod Definitions
 pub mod Deciding

@@ -18,7 +18,7 @@ pub(crate) struct Entry {
 
 /// The name itself; the empty one where there is no such object.
 #[tactic(auto, unfolding(crate::specs::inside::Entries::text_at))]
-fn text_at<'a>(objects: &[LoadedObject<'a>], entry: Entry) -> &'a [u8]
+pub(crate) fn text_at<'a>(objects: &[LoadedObject<'a>], entry: Entry) -> &'a [u8]
     ensures { result.now ≡ text_at objects.now entry }
 {
     if entry.object < objects.len() {

@@ -6,6 +6,8 @@
 //! undefined.
 #![tactic(auto)]
 
+mod ahead;
+mod compared;
 mod entry;
 mod installed;
 mod level;
@@ -19,10 +21,12 @@ mod order;
 mod places;
 mod refusal;
 mod resolution;
+mod strings;
 mod table;
 mod target;
 mod worth;
 
+pub use ahead::Ahead;
 pub use level::first_level;
 pub use library::Library;
 pub use loading::load_order;
