@@ -60,11 +60,15 @@ less-before Greater Greater le less = less
 abbrev pub is_before : List Named → List ℕ → Entry → Bool
 is_before objects name e = is_lt (order_to objects e name)
 
+-- no entry that ranks below a list stands behind one that doesn't
+pub partitioned-at : (objects : List Named) (entries : List Entry) (r : List ℕ) → IsTableOf objects entries → IsPartitionedBy (λ e. is_lt (slice_cmp nat_cmp (rank objects e) r)) entries
+partitioned-at objects entries r table i j d le lt before =
+    let rises = searchable_from_sorted nat_list_cmp_total (rank objects) entries r (sorted-names objects entries table.sorted) in
+    less-before (slice_cmp nat_cmp (rank objects (get_or entries i d)) r) (slice_cmp nat_cmp (rank objects (get_or entries j d)) r) (rises i j d le lt) before
+
 -- no entry that comes before those of a name stands behind one that doesn't
 pub partitioned : (objects : List Named) (entries : List Entry) (name : List ℕ) → IsTableOf objects entries → IsPartitionedBy (is_before objects name) entries
-partitioned objects entries name table i j d le lt before =
-    let rises = searchable_from_sorted nat_list_cmp_total (rank objects) entries (rank_of_name name) (sorted-names objects entries table.sorted) in
-    less-before (order_to objects (get_or entries i d) name) (order_to objects (get_or entries j d) name) (rises i j d le lt) before
+partitioned objects entries name table = partitioned-at objects entries (rank_of_name name) table
 
 neither-less : (o : Ordering) → is_lt o ≡ false → is_lt (ordering_reverse o) ≡ false → o ≡ Equal
 neither-less Less a b = absurd (false≢true (sym a))
@@ -121,7 +125,7 @@ first-of objects entries name q i d table point lt is = ⊎_elim
     record { within = within; here = both.0; first = both.1 })
     (cases_lt i q)
 
-text-is : (objects : List Named) (e : Entry) → e.object < length objects → text_at objects e ≡ name_of (file_at objects e.object) e.name.symbol
+pub text-is : (objects : List Named) (e : Entry) → e.object < length objects → text_at objects e ≡ name_of (file_at objects e.object) e.name.symbol
 unfolding text_at
 text-is objects e lt = ap (λ b. cond b (name_of (file_at objects e.object) e.name.symbol) []) (lt-ltb e.object (length objects) lt)
 

@@ -90,7 +90,7 @@ fn agreement(a: &[u8], b: &[u8]) -> usize
 
 /// Compares two names, byte by byte.
 pub(crate) fn compare_bytes(objects: &[LoadedObject<'_>], first: Entry, second: Entry) -> Compared
-    ensures { IsCompared objects.now result }
+    ensures compared { IsCompared objects.now result }
     ensures order { result.order ≡ bytes_order objects.now first second }
 {
     let (a, b) = (text_at(objects, first), text_at(objects, second));

@@ -13,6 +13,14 @@ struct End {
     entry: usize,
 }
 
+/// Where a name ends; 0 where it doesn't stand in the string table.
+fn end_of(objects: &[LoadedObject<'_>], entry: Entry) -> u64 {
+    match offset_of(objects, entry) {
+        Some(from) => u64::from(from) + u64::from(entry.name.length),
+        None => 0,
+    }
+}
+
 /// Where each name of a table ends, sorted by objects and places.
 fn sorted_ends(
     alloc: Global,
@@ -21,11 +29,9 @@ fn sorted_ends(
 ) -> Result<Vec<End>, AllocError> {
     let mut ends = Vec::with_capacity(alloc, table.len())?;
     for entry in 0..table.len() {
-        let named = table[entry];
-        let from = offset_of(objects, named).unwrap_or(0);
         ends.push(End {
-            object: named.object,
-            at: u64::from(from) + u64::from(named.name.length),
+            object: table[entry].object,
+            at: end_of(objects, table[entry]),
             entry,
         })?;
     }
@@ -34,7 +40,7 @@ fn sorted_ends(
 }
 
 /// For each name of a table the number of the string of which it is a tail: names of one object
-/// that end at one place have the same one. They are numbered from 0 on, and none is skipped.
+/// that end at one place have the same one. The numbers are below that of the names.
 pub(crate) fn numbers_of_strings(
     alloc: Global,
     objects: &[LoadedObject<'_>],
@@ -46,7 +52,7 @@ pub(crate) fn numbers_of_strings(
     for i in 0..ends.len() {
         let end = ends[i];
         if i > 0 && (ends[i - 1].object != end.object || ends[i - 1].at != end.at) {
-            number += 1;
+            number = i;
         }
         if end.entry < numbers.len() {
             numbers[end.entry] = number;
