@@ -11,11 +11,11 @@ ghost use Rattle.scope.specs.Lookup.{all_places, definition_at, lookup};
 ghost use Rattle.scope.specs.Target.{target};
 ghost use Rattle.scope.specs.inside.Entries.{text_at, text_order, name_order, IsTableOf};
 ghost use Rattle.scope.specs.inside.Compared.{bytes_order, IsKept, IsNameOf, IsPlaceOf};
+ghost use Rattle.scope.specs.inside.Compared.{place_order};
 
 use crate::compared::{Compared, compare_kept};
 use crate::entry::Entry;
 use crate::loaded::LoadedObject;
-use crate::lookup::lookup;
 use crate::order::Order;
 use crate::resolution::{is_own, is_withheld};
 use crate::strings::numbers_of_strings;
@@ -123,24 +123,45 @@ fn compare_names(
     }
 }
 
-/// Where the entries begin that don't come before a name.
+/// The order of the name of an entry and of one that is looked for; of entries of this name that of
+/// their objects and of the object at a place.
+fn compare_from(
+    objects: &[LoadedObject<'_>],
+    kept: &mut Vec<Option<Compared>>,
+    number: usize,
+    entry: Entry,
+    wanted: Entry,
+    from: usize,
+) -> Ordering
+    requires kept { All (IsKept objects.now) kept.old.items }
+    ensures kept { All (IsKept objects.now) kept.new.items }
+    ensures order { result ≡ place_order objects.now wanted from entry }
+{
+    match compare_names(objects, kept, number, entry, wanted) {
+        Ordering::Equal => entry.object.cmp(&from),
+        other => other,
+    }
+}
+
+/// Where the entries begin that don't come before a name of the objects from a place on.
 fn place_of(
     objects: &[LoadedObject<'_>],
     table: &[Entry],
     strings: &[usize],
     kept: &mut Vec<Option<Compared>>,
     wanted: Entry,
+    from: usize,
 ) -> usize
     requires table { IsTableOf objects.now table.now }
     requires kept { All (IsKept objects.now) kept.old.items }
     ensures kept { All (IsKept objects.now) kept.new.items }
-    ensures place { IsPlaceOf objects.now table.now wanted result }
+    ensures place { IsPlaceOf objects.now table.now wanted from result }
 {
     let (mut low, mut high) = (0, table.len());
     while low < high {
         let middle = low + (high - low) / 2;
         let number = number_at(strings, middle);
-        if compare_names(objects, kept, number, table[middle], wanted).is_lt() {
+        if compare_from(objects, kept, number, table[middle], wanted, from).is_lt() {
             low = middle + 1;
         } else {
             high = middle;
@@ -167,7 +188,7 @@ fn first_definition(
         (definition_at objects.now (name_of (file_at objects.now wanted.object) wanted.name.symbol))
         (all_places objects.now)) }
 {
-    let place = place_of(objects, table, strings, kept, wanted);
+    let place = place_of(objects, table, strings, kept, wanted, 0);
     if place >= table.len() {
         return None;
     }
@@ -181,6 +202,68 @@ fn first_definition(
     } else {
         None
     }
+}
+
+/// What the object of a name exports under it.
+fn own_definition(
+    objects: &[LoadedObject<'_>],
+    table: &[Entry],
+    strings: &[usize],
+    kept: &mut Vec<Option<Compared>>,
+    wanted: Entry,
+) -> Option<Target>
+    requires table { IsTableOf objects.now table.now }
+    requires taken { All (λ o. IsTaken o.file) objects.now }
+    requires kept { All (IsKept objects.now) kept.old.items }
+    requires object { wanted.object < length objects.now }
+    requires name { IsNameOf objects.now wanted }
+    ensures kept { All (IsKept objects.now) kept.new.items }
+    ensures found { result ≡ definition_at objects.now
+        (name_of (file_at objects.now wanted.object) wanted.name.symbol) wanted.object }
+{
+    let place = place_of(objects, table, strings, kept, wanted, wanted.object);
+    if place >= table.len() {
+        return None;
+    }
+    let found = table[place];
+    if found.object != wanted.object {
+        return None;
+    }
+    let number = number_at(strings, place);
+    if compare_names(objects, kept, number, found, wanted).is_eq() {
+        Some(Target::At {
+            object: wanted.object,
+            symbol: found.name.symbol,
+        })
+    } else {
+        None
+    }
+}
+
+/// The first definition of a name of an object for this object, that asks.
+#[tactic(auto, unfolding(crate::specs::Lookup::lookup))]
+fn lookup_in(
+    objects: &[LoadedObject<'_>],
+    table: &[Entry],
+    strings: &[usize],
+    kept: &mut Vec<Option<Compared>>,
+    wanted: Entry,
+) -> Option<Target>
+    requires table { IsTableOf objects.now table.now }
+    requires taken { All (λ o. IsTaken o.file) objects.now }
+    requires kept { All (IsKept objects.now) kept.old.items }
+    requires object { wanted.object < length objects.now }
+    requires name { IsNameOf objects.now wanted }
+    ensures kept { All (IsKept objects.now) kept.new.items }
+    ensures found { result ≡ lookup objects.now wanted.object
+        (name_of (file_at objects.now wanted.object) wanted.name.symbol) }
+{
+    if objects[wanted.object].is_symbolic() {
+        if let Some(own) = own_definition(objects, table, strings, kept, wanted) {
+            return Some(own);
+        }
+    }
+    first_definition(objects, table, strings, kept, wanted)
 }
 
 /// Room for so many comparisons, none of which is kept.
@@ -216,18 +299,9 @@ impl<'a> Ahead<'a> {
         ensures same { self.new ≡ self.old }
         ensures found { result ≡ lookup self.old object (name_of (file_at self.old object) name.symbol) }
     {
-        let order = self.order;
-        if order.is_symbolic(object) {
-            return lookup(order, object, order.object(object).name_at(name.symbol));
-        }
+        let objects = self.order.objects();
         let wanted = Entry { name, object };
-        first_definition(
-            order.objects(),
-            &self.table,
-            &self.strings,
-            &mut self.kept,
-            wanted,
-        )
+        lookup_in(objects, &self.table, &self.strings, &mut self.kept, wanted)
     }
 
     /// The target of a symbol of the object at a place, as `resolve` gives it. It takes no memory.

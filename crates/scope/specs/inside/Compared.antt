@@ -2,7 +2,7 @@
 use Rattle.std.specs.Prelude.{ℕ, ◌≡◌, ◌≤◌, ◌<◌, List, length, slice_index, Option, IfSome}
 use Rattle.std.specs.List.{All}
 use Rattle.std.specs.Cmp.Lexicographic.{slice_cmp}
-use Rattle.std.specs.Ordering.{nat_cmp, is_lt}
+use Rattle.std.specs.Ordering.{nat_cmp, ordering_then, is_lt}
 use Rattle.std.specs.List.Sorted.{IsPartitionPoint}
 use Rattle.std.specs.declared.cmp.Ordering.{Ordering}
 use Rattle.std.specs.Prelude.{true, false}
@@ -31,7 +31,11 @@ IsKept objects kept = IfSome kept (IsCompared objects)
 abbrev pub IsNameOf : List Named → Entry → Type 0
 IsNameOf objects e = e.name ≡ named (file_at objects e.object) e.name.symbol
 
--- the entries before a place come before a name in the order of names, and no other ones do
-abbrev pub IsPlaceOf : List Named → List Entry → Entry → ℕ → Type 0
-IsPlaceOf objects entries wanted place =
-    IsPartitionPoint (λ e. is_lt (name_order objects e wanted) ≡ true) (λ e. is_lt (name_order objects e wanted) ≡ false) entries place
+-- an entry and a name that is looked for by their names, entries of this name by their objects and a place
+abbrev pub place_order : List Named → Entry → ℕ → Entry → Ordering
+place_order objects wanted from e = ordering_then (name_order objects e wanted) (nat_cmp e.object from)
+
+-- the entries before a place come before a name of the objects from some place on, and no other ones do
+abbrev pub IsPlaceOf : List Named → List Entry → Entry → ℕ → ℕ → Type 0
+IsPlaceOf objects entries wanted from place =
+    IsPartitionPoint (λ e. is_lt (place_order objects wanted from e) ≡ true) (λ e. is_lt (place_order objects wanted from e) ≡ false) entries place

@@ -2,7 +2,7 @@ use Rattle.std.proofs.Common.{◌≡◌, ◌<◌, ◌+◌, ◌-◌, ◌/◌, ◌
 use Rattle.std.specs.Ordering.{is_lt}
 use Rattle.scope.specs.Objects.{Named}
 use Rattle.scope.specs.declared.entry.Entry.{Entry}
-use Rattle.scope.specs.inside.Entries.{name_order}
+use Rattle.scope.specs.inside.Compared.{place_order}
 use Rattle.scope.proofs.NameSearch.{partitioned-names, passes-up-to, fails-from}
 use Rattle.scope.proofs.ahead.place_of.Goals as goal
 
@@ -14,14 +14,14 @@ unfolding none
 loop-low-preserved-then-is_lt c =
     let middle = c.loop-low.low + (c.loop-low.high - c.loop-low.low) / 2 in
     let within : c.loop-low.low + (c.loop-low.high - c.loop-low.low) / 2 < length c.args.table.now = omega (arith, c.loop-low-test.true, c.loop-low.invariant.end) in
-    let here : is_lt (name_order c.args.objects.now (get_or c.args.table.now (c.loop-low.low + (c.loop-low.high - c.loop-low.low) / 2) none) c.args.wanted) ≡ true =
-    ap is_lt (sym c.compare_names.ensures.order) ∙ sym c.is_lt.ensures ∙ c.if-is_lt.true in
+    let here : is_lt (place_order c.args.objects.now c.args.wanted c.args.from (get_or c.args.table.now (c.loop-low.low + (c.loop-low.high - c.loop-low.low) / 2) none)) ≡ true =
+    ap is_lt (sym c.compare_from.ensures.order) ∙ sym c.is_lt.ensures ∙ c.if-is_lt.true in
     record {
       ordered = omega (arith, c.loop-low-test.true);
       end = c.loop-low.invariant.end;
-      kept = c.compare_names.ensures.kept;
-      before = passes-up-to (λ e. is_lt (name_order c.args.objects.now e c.args.wanted)) c.args.table.now middle none
-          (partitioned-names c.args.objects.now c.args.table.now c.args.wanted c.requires.table) within here;
+      kept = c.compare_from.ensures.kept;
+      before = passes-up-to (λ e. is_lt (place_order c.args.objects.now c.args.wanted c.args.from e)) c.args.table.now middle none
+          (partitioned-names c.args.objects.now c.args.table.now c.args.wanted c.args.from c.requires.table) within here;
       behind = c.loop-low.invariant.behind;
     }
 
@@ -30,13 +30,13 @@ unfolding none
 loop-low-preserved c =
     let middle = c.loop-low.low + (c.loop-low.high - c.loop-low.low) / 2 in
     let within : c.loop-low.low + (c.loop-low.high - c.loop-low.low) / 2 < length c.args.table.now = omega (arith, c.loop-low-test.true, c.loop-low.invariant.end) in
-    let here : is_lt (name_order c.args.objects.now (get_or c.args.table.now (c.loop-low.low + (c.loop-low.high - c.loop-low.low) / 2) none) c.args.wanted) ≡ false =
-    ap is_lt (sym c.compare_names.ensures.order) ∙ sym c.is_lt.ensures ∙ c.if-is_lt.false in
+    let here : is_lt (place_order c.args.objects.now c.args.wanted c.args.from (get_or c.args.table.now (c.loop-low.low + (c.loop-low.high - c.loop-low.low) / 2) none)) ≡ false =
+    ap is_lt (sym c.compare_from.ensures.order) ∙ sym c.is_lt.ensures ∙ c.if-is_lt.false in
     record {
       ordered = omega (arith, c.loop-low-test.true);
       end = omega (arith, within);
-      kept = c.compare_names.ensures.kept;
+      kept = c.compare_from.ensures.kept;
       before = c.loop-low.invariant.before;
-      behind = fails-from (λ e. is_lt (name_order c.args.objects.now e c.args.wanted)) c.args.table.now middle none
-          (partitioned-names c.args.objects.now c.args.table.now c.args.wanted c.requires.table) within here;
+      behind = fails-from (λ e. is_lt (place_order c.args.objects.now c.args.wanted c.args.from e)) c.args.table.now middle none
+          (partitioned-names c.args.objects.now c.args.table.now c.args.wanted c.args.from c.requires.table) within here;
     }
