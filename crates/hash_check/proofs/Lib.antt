@@ -9,6 +9,7 @@ pub mod Starting
 pub mod Sorting
 pub mod Exported
 pub mod NameLengths
+pub mod NameTexts
 pub mod Ordering
 pub mod NameOrder
 pub mod SharedNames

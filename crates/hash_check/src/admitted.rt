@@ -18,7 +18,7 @@ use crate::duplicates::has_duplicate_definition;
 use crate::exported_names::{all_names, exported_names};
 use crate::hash::elf_hash;
 use crate::keyed_name::KeyedName;
-use crate::names::name_at;
+use crate::names::{name_at, text_of_name};
 use crate::refusal::AdmitRefusal;
 use crate::search::{Found, search};
 use crate::soname::is_library_name;
@@ -98,6 +98,15 @@ impl<'a> Admitted<'a> {
         ensures { result.now ≡ name_of self.now i }
     {
         name_at(self.object(), i)
+    }
+
+    /// The name of a symbol with its key and its length, in constant time: its end is looked for
+    /// only in a string table of 2^32 bytes and more.
+    pub fn text_of(&self, name: KeyedName) -> &'a [u8]
+        requires { name ≡ named self.now name.symbol }
+        ensures { result.now ≡ name_of self.now name.symbol }
+    {
+        text_of_name(self.object(), name)
     }
 
     /// The name of a library: its SONAME, or E33.

@@ -3,10 +3,10 @@
 ghost use Rattle.std.specs.Prelude.{◌≡◌, ◌<◌, ◌≤◌, ℕ, length, drop, slice_index, IfSome};
 ghost use Rattle.elf_dynamic.specs.Strings.{string_table, string_at};
 ghost use Rattle.scope.specs.Objects.{file_at};
-ghost use Rattle.scope.specs.inside.Compared.{IsCompared, IsKept, bytes_order};
+ghost use Rattle.scope.specs.inside.Compared.{IsCompared, IsKept, IsNameOf, bytes_order};
 ghost use Rattle.scope.specs.inside.Entries.{text_at};
 
-use crate::entry::{Entry, text_at};
+use crate::entry::{Entry, known_text_at};
 use crate::loaded::LoadedObject;
 use std::cmp::Ordering;
 
@@ -90,10 +90,15 @@ fn agreement(a: &[u8], b: &[u8]) -> usize
 
 /// Compares two names, byte by byte.
 pub(crate) fn compare_bytes(objects: &[LoadedObject<'_>], first: Entry, second: Entry) -> Compared
+    requires first { IsNameOf objects.now first }
+    requires second { IsNameOf objects.now second }
     ensures compared { IsCompared objects.now result }
     ensures order { result.order ≡ bytes_order objects.now first second }
 {
-    let (a, b) = (text_at(objects, first), text_at(objects, second));
+    let (a, b) = (
+        known_text_at(objects, first),
+        known_text_at(objects, second),
+    );
     Compared {
         first,
         second,
@@ -110,6 +115,8 @@ pub(crate) fn compare_kept(
     first: Entry,
     second: Entry,
 ) -> Ordering
+    requires first { IsNameOf objects.now first }
+    requires second { IsNameOf objects.now second }
     requires kept { IsKept objects.now kept.old }
     ensures kept { IsKept objects.now kept.new }
     ensures order { result ≡ bytes_order objects.now first second }

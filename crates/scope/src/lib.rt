@@ -15,6 +15,7 @@ mod library;
 mod loaded;
 mod loading;
 mod lookup;
+mod name_search;
 mod needed_name;
 mod needs;
 mod order;

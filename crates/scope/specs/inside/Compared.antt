@@ -27,9 +27,10 @@ pub record IsCompared (objects : List Named) (c : Compared) : Type 0 where
 abbrev pub IsKept : List Named → Option Compared → Type 0
 IsKept objects kept = IfSome kept (IsCompared objects)
 
--- an entry has the key and the length of the name of its symbol
-abbrev pub IsNameOf : List Named → Entry → Type 0
-IsNameOf objects e = e.name ≡ named (file_at objects e.object) e.name.symbol
+-- an entry is of an object, and has the key and the length of the name of its symbol
+pub record IsNameOf (objects : List Named) (e : Entry) : Type 0 where
+  pub there : e.object < length objects
+  pub is : e.name ≡ named (file_at objects e.object) e.name.symbol
 
 -- an entry and a name that is looked for by their names, entries of this name by their objects and a place
 abbrev pub place_order : List Named → Entry → ℕ → Entry → Ordering

@@ -1,5 +1,5 @@
 use Rattle.scope.proofs.EntryOrder.{texts-bytes, texts-lengths}
-use Rattle.scope.proofs.ahead.compare_texts.Goals as goal
+use Rattle.scope.proofs.name_search.compare_texts.Goals as goal
 
 pub returns-in-Equal-clause-order : goal.returns-in-Equal-clause-order
 returns-in-Equal-clause-order c =

@@ -1,5 +1,5 @@
 use Rattle.scope.proofs.EntryOrder.{names-texts, names-keys}
-use Rattle.scope.proofs.ahead.compare_names.Goals as goal
+use Rattle.scope.proofs.name_search.compare_names.Goals as goal
 
 pub returns-in-Equal-clause-order : goal.returns-in-Equal-clause-order
 returns-in-Equal-clause-order c =

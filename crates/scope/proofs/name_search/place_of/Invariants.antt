@@ -2,7 +2,7 @@ use Rattle.std.proofs.Common.{◌≡◌, ◌≤◌, ◌-◌, true, false, length
 use Rattle.std.specs.List.{All, AllWithin}
 use Rattle.std.specs.Ordering.{is_lt}
 use Rattle.scope.specs.inside.Compared.{IsKept, place_order}
-use Rattle.scope.proofs.ahead.place_of.Given as goal
+use Rattle.scope.proofs.name_search.place_of.Given as goal
 
 abbrev pub invariant-loop-low : goal.invariant-loop-low
 invariant-loop-low l = record {

@@ -1,5 +1,5 @@
 use Rattle.scope.proofs.EntryOrder.{places-objects, places-names}
-use Rattle.scope.proofs.ahead.compare_from.Goals as goal
+use Rattle.scope.proofs.name_search.compare_from.Goals as goal
 
 pub returns-in-Equal-clause-order : goal.returns-in-Equal-clause-order
 returns-in-Equal-clause-order c =

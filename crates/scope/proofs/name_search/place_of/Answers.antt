@@ -3,11 +3,17 @@ use Rattle.std.specs.Ordering.{is_lt}
 use Rattle.scope.specs.Objects.{Named}
 use Rattle.scope.specs.declared.entry.Entry.{Entry}
 use Rattle.scope.specs.inside.Compared.{place_order}
-use Rattle.scope.proofs.NameSearch.{partitioned-names, passes-up-to, fails-from}
-use Rattle.scope.proofs.ahead.place_of.Goals as goal
+use Rattle.scope.proofs.NameSearch.{entry-name, partitioned-names, passes-up-to, fails-from}
+use Rattle.scope.proofs.name_search.place_of.Goals as goal
 
 none : Entry
 none = record { name = record { key = 0; symbol = 0; length = 0 }; object = 0 }
+
+pub compare_from-requires-clause-entry : goal.compare_from-requires-clause-entry
+unfolding none
+compare_from-requires-clause-entry c =
+    entry-name c.args.objects.now c.args.table.now (c.loop-low.low + (c.loop-low.high - c.loop-low.low) / 2) none c.requires.table
+    (omega (arith, c.loop-low-test.true, c.loop-low.invariant.end))
 
 pub loop-low-preserved-then-is_lt : goal.loop-low-preserved-then-is_lt
 unfolding none
