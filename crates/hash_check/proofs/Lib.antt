@@ -9,9 +9,11 @@ pub mod Starting
 pub mod Sorting
 pub mod Exported
 pub mod NameLengths
+pub mod NameTexts
 pub mod Ordering
 pub mod NameOrder
 pub mod SharedNames
+pub mod AllSymbols
 pub mod Searching
 pub mod Definitions
 pub mod Deciding

@@ -6,7 +6,7 @@ ghost use Rattle.elf_dynamic.specs.Refusal.{first_refusal};
 ghost use Rattle.elf_dynamic.specs.Strings.{name_of, soname};
 ghost use Rattle.elf_file.specs.declared.refusal.ObjectRefusal.TheVariants.{BadSoname};
 ghost use Rattle.hash_check.specs.Export.{exported_symbols};
-ghost use Rattle.hash_check.specs.KeyedName.{named};
+ghost use Rattle.hash_check.specs.KeyedName.{named, all_symbols};
 ghost use Rattle.hash_check.specs.Hash.{elf_hash};
 ghost use Rattle.hash_check.specs.Definition.{definition_of, HasUniqueNames};
 ghost use Rattle.hash_check.specs.HashTable.{HasGoodTable};
@@ -15,10 +15,10 @@ ghost use Rattle.hash_check.specs.Search.{compared};
 ghost use Rattle.hash_check.specs.Soname.{has_bad_soname};
 
 use crate::duplicates::has_duplicate_definition;
-use crate::exported_names::exported_names;
+use crate::exported_names::{all_names, exported_names};
 use crate::hash::elf_hash;
 use crate::keyed_name::KeyedName;
-use crate::names::name_at;
+use crate::names::{name_at, text_of_name};
 use crate::refusal::AdmitRefusal;
 use crate::search::{Found, search};
 use crate::soname::is_library_name;
@@ -100,6 +100,15 @@ impl<'a> Admitted<'a> {
         name_at(self.object(), i)
     }
 
+    /// The name of a symbol with its key and its length, in constant time: its end is looked for
+    /// only in a string table of 2^32 bytes and more.
+    pub fn text_of(&self, name: KeyedName) -> &'a [u8]
+        requires { name ≡ named self.now name.symbol }
+        ensures { result.now ≡ name_of self.now name.symbol }
+    {
+        text_of_name(self.object(), name)
+    }
+
     /// The name of a library: its SONAME, or E33.
     #[tactic(auto, unfolding(crate::specs::Soname::has_bad_soname))]
     pub fn library_name(&self) -> Result<&'a [u8], ObjectRefusal>
@@ -138,5 +147,15 @@ impl<'a> Admitted<'a> {
             IsPermutation (map (named self.now) (exported_symbols self.now)) names.items) }
     {
         exported_names(alloc, self.object())
+    }
+    /// All symbols but number 0 with the keys of their names, for lookups ahead. They come by the
+    /// places of their names, so of names that are tails of one string the longest is the first. It
+    /// takes some 20 bytes a symbol, of which it keeps 16.
+    pub fn all_names(&self, alloc: Global) -> Result<Vec<KeyedName>, AllocError>
+        // Each of them once; no clause says in which order.
+        ensures { IfOk result (λ names.
+            IsPermutation (map (named self.now) (all_symbols self.now)) names.items) }
+    {
+        all_names(alloc, self.object())
     }
 }

@@ -1,9 +1,11 @@
-// The names that an object exports.
+// The names of an object's symbols with their keys.
 
-ghost use Rattle.std.specs.Prelude.{map, IfOk};
+ghost use Rattle.std.specs.Prelude.{◌≡◌, map, IfOk};
+ghost use Rattle.std.specs.List.{All};
 ghost use Rattle.std.specs.List.Sorted.{IsPermutation};
 ghost use Rattle.hash_check.specs.Export.{exported_symbols};
-ghost use Rattle.hash_check.specs.KeyedName.{named};
+ghost use Rattle.hash_check.specs.KeyedName.{named, all_symbols};
+ghost use Rattle.hash_check.specs.inside.Names.{IsSymbol};
 
 use crate::export::exported_symbols;
 use crate::keyed_name::KeyedName;
@@ -11,8 +13,22 @@ use crate::names::{names_of, offset_of};
 use elf_dynamic::Object;
 use std::alloc::{AllocError, Global};
 
-/// The exported symbols with the keys of their names, by the places of these. Each byte of the
-/// string table is looked at once.
+/// Symbols with the keys of their names, by the places of these. Each byte of the string table is
+/// looked at once.
+fn names_by_place(
+    alloc: Global,
+    object: &Object<'_>,
+    mut symbols: Vec<u32>,
+) -> Result<Vec<KeyedName>, AllocError>
+    requires { All (IsSymbol object.now) symbols.items }
+    ensures { IfOk result (λ names.
+        IsPermutation (map (named object.now) symbols.items) names.items) }
+{
+    symbols.sort_unstable_by_key(|i| offset_of(object, *i));
+    names_of(alloc, object, &symbols)
+}
+
+/// The exported symbols with the keys of their names, by the places of these.
 pub(crate) fn exported_names(
     alloc: Global,
     object: &Object<'_>,
@@ -20,7 +36,23 @@ pub(crate) fn exported_names(
     ensures { IfOk result (λ names.
         IsPermutation (map (named object.now) (exported_symbols object.now)) names.items) }
 {
-    let mut symbols = exported_symbols(alloc, object)?;
-    symbols.sort_unstable_by_key(|i| offset_of(object, *i));
-    names_of(alloc, object, &symbols)
+    let symbols = exported_symbols(alloc, object)?;
+    names_by_place(alloc, object, symbols)
+}
+
+/// The numbers of all symbols but number 0.
+#[tactic(auto, unfolding(crate::specs::KeyedName::all_symbols))]
+fn all_symbols(alloc: Global, object: &Object<'_>) -> Result<Vec<u32>, AllocError>
+    ensures { IfOk result (λ numbers. numbers.items ≡ all_symbols object.now) }
+{
+    (1..object.symbol_count()).collect(alloc)
+}
+
+/// All symbols but number 0 with the keys of their names, by the places of these.
+pub(crate) fn all_names(alloc: Global, object: &Object<'_>) -> Result<Vec<KeyedName>, AllocError>
+    ensures { IfOk result (λ names.
+        IsPermutation (map (named object.now) (all_symbols object.now)) names.items) }
+{
+    let symbols = all_symbols(alloc, object)?;
+    names_by_place(alloc, object, symbols)
 }

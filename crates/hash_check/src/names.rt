@@ -77,6 +77,21 @@ fn text_of<'a>(object: &Object<'a>, symbol: u32, length: usize) -> &'a [u8]
     &rest[..length]
 }
 
+/// The name of a symbol with its key and its length. Its end is looked for only in a string table
+/// that is so large that lengths are cut.
+pub(crate) fn text_of_name<'a>(object: &Object<'a>, name: KeyedName) -> &'a [u8]
+    requires { name ≡ named object.now name.symbol }
+    ensures { result.now ≡ name_of object.now name.symbol }
+{
+    let symbol = name.symbol;
+    let small = object.string_table().len() < 1 << 32;
+    if small && symbol != 0 && symbol < object.symbol_count() {
+        text_of(object, symbol, name.length as usize)
+    } else {
+        name_at(object, symbol)
+    }
+}
+
 /// A symbol with its key, where the length of its name is known.
 fn name_of_length(object: &Object<'_>, symbol: u32, length: usize) -> KeyedName
     requires symbol { IsSymbol object.now symbol }

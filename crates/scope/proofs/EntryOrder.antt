@@ -7,6 +7,7 @@ use Rattle.std.specs.declared.cmp.Ordering.TheVariants.{Less, Equal, Greater}
 use Rattle.hash_check.specs.Key.{key_of}
 use Rattle.scope.specs.Objects.{Named}
 use Rattle.scope.specs.declared.entry.Entry.{Entry}
+use Rattle.scope.specs.inside.Compared.{place_order}
 use Rattle.scope.specs.inside.Entries.{text_at, text, text_order, rank, name_order, order, text_of_name, text_order_to, rank_of_name, order_to}
 
 -- the second answer where the first is `Equal`, and the first where it isn't
@@ -74,3 +75,9 @@ to-texts objects e name o r = by-second o (nat_cmp e.name.key (key_of name)) r (
 
 pub to-keys : (objects : List Named) (e : Entry) (name : List ℕ) (o : Ordering) → o ≡ nat_cmp e.name.key (key_of name) → (o ≡ Equal → ⊥) → o ≡ order_to objects e name
 to-keys objects e name o = by-first o (nat_cmp e.name.key (key_of name)) (text_order_to objects e name) (order_to objects e name) (order-to-is objects e name)
+
+pub places-objects : (objects : List Named) (e w : Entry) (from : ℕ) (o r : Ordering) → o ≡ name_order objects e w → o ≡ Equal → r ≡ nat_cmp e.object from → r ≡ place_order objects w from e
+places-objects objects e w from o r = by-second o (name_order objects e w) r (nat_cmp e.object from) (place_order objects w from e) refl
+
+pub places-names : (objects : List Named) (e w : Entry) (from : ℕ) (o : Ordering) → o ≡ name_order objects e w → (o ≡ Equal → ⊥) → o ≡ place_order objects w from e
+places-names objects e w from o = by-first o (name_order objects e w) (nat_cmp e.object from) (place_order objects w from e) refl

@@ -4,6 +4,8 @@ pub mod Found
 pub mod EntryOrder
 pub mod AllEntries
 pub mod TableSearch
+pub mod Tails
+pub mod NameSearch
 pub mod Apart
 pub mod Naming
 pub mod Missing

@@ -35,7 +35,7 @@ pub order-total : (objects : List Named) → IsTotalOrder (order objects)
 unfolding order
 order-total objects = then_total (on_total (rank objects) nat_list_cmp_total) (on_total (λ (e : Entry). e.object) nat_cmp_total)
 
-first-not-less : (o p : Ordering) → is_lt (ordering_then o p) ≡ false → is_lt o ≡ false
+pub first-not-less : (o p : Ordering) → is_lt (ordering_then o p) ≡ false → is_lt o ≡ false
 first-not-less Less p e = e
 first-not-less Equal p e = refl
 first-not-less Greater p e = refl
@@ -47,7 +47,7 @@ sorted-names objects entries up k d low high =
     let b : Entry = get_or entries k d in
     first-not-less (name_order objects (get_or entries (k + 1) d) (get_or entries k d)) (nat_cmp a.object b.object) (up k d low high)
 
-less-before : (a b : Ordering) → ordering_index a ≤ ordering_index b → is_lt b ≡ true → is_lt a ≡ true
+pub less-before : (a b : Ordering) → ordering_index a ≤ ordering_index b → is_lt b ≡ true → is_lt a ≡ true
 less-before Less b le less = refl
 less-before Equal Less le less = absurd (omega arith)
 less-before Equal Equal le less = less
@@ -93,7 +93,7 @@ record IsFirstOf (objects : List Named) (entries : List Entry) (name : List ℕ)
   first : (λ (f : Entry). f.object) (get_or entries q d) ≤ e.object
 
 -- two entries, the first of which isn't less than the second, where the first has the name and the second isn't before it
-same-name : (objects : List Named) (name : List ℕ) (e f : Entry) → is_lt (order objects e f) ≡ false → IsNamed objects name e → is_before objects name f ≡ false
+pub same-name : (objects : List Named) (name : List ℕ) (e f : Entry) → is_lt (order objects e f) ≡ false → IsNamed objects name e → is_before objects name f ≡ false
     → IsNamed objects name f × (f.object ≤ e.object)
 unfolding order
 same-name objects name e f up is not =
@@ -121,12 +121,12 @@ first-of objects entries name q i d table point lt is = ⊎_elim
     record { within = within; here = both.0; first = both.1 })
     (cases_lt i q)
 
-text-is : (objects : List Named) (e : Entry) → e.object < length objects → text_at objects e ≡ name_of (file_at objects e.object) e.name.symbol
+pub text-is : (objects : List Named) (e : Entry) → e.object < length objects → text_at objects e ≡ name_of (file_at objects e.object) e.name.symbol
 unfolding text_at
 text-is objects e lt = ap (λ b. cond b (name_of (file_at objects e.object) e.name.symbol) []) (lt-ltb e.object (length objects) lt)
 
 -- an exported symbol of the name that is looked for
-named-entry : (objects : List Named) (name : List ℕ) (place i : ℕ) → place < length objects → name_of (file_at objects place) i ≡ name
+pub named-entry : (objects : List Named) (name : List ℕ) (place i : ℕ) → place < length objects → name_of (file_at objects place) i ≡ name
     → IsNamed objects name (entry_at place (named (file_at objects place) i))
 unfolding rank text rank_of_name text_of_name named
 named-entry objects name place i lt same =
@@ -136,7 +136,7 @@ named-entry objects name place i lt same =
     ∙ ap (λ n. key_of n ∷ (length n % 2 ^ 32) ∷ name) same in
     ap (λ l. slice_cmp nat_cmp l (rank_of_name name)) ranks ∙ tied_itself nat_list_cmp_total (rank_of_name name)
 
-taken-at : (objects : List Named) (place : ℕ) → All (λ (o : Named). IsTaken o.file) objects → place < length objects → IsTaken (file_at objects place)
+pub taken-at : (objects : List Named) (place : ℕ) → All (λ (o : Named). IsTaken o.file) objects → place < length objects → IsTaken (file_at objects place)
 taken-at objects place all lt =
     let d : Named = record { name = []; file = [] } in
     subst IsTaken (sym (get_or-map (λ (o : Named). o.file) objects place d [] lt)) (all place d lt)
@@ -153,29 +153,35 @@ none-before objects entries name end place table none lt early =
     (named-entry objects name place i lt (named-as (file_at objects place) name i is)) in
     omega (arith, late, early))))
 
+-- an entry of a name is what its object defines under it
+pub entry-defines : (objects : List Named) (entries : List Entry) (name : List ℕ) (q : ℕ) (d : Entry) → IsTableOf objects entries → All (λ (o : Named). IsTaken o.file) objects
+    → q < length entries → IsNamed objects name (get_or entries q d) → (e : Entry) → get_or entries q d ≡ e
+    → (e.object < length objects) × (Some e.name.symbol ≡ definition_of (file_at objects e.object) name)
+entry-defines objects entries name q d table taken within here e is =
+    let entry : IsEntry objects (length objects) e =
+    subst (IsEntry objects (length objects)) is
+    (All-permutation (IsEntry objects (length objects)) (entries_before objects (length objects)) entries table.moved (all-entries objects (length objects)) q d within) in
+    let text : name_of (file_at objects e.object) e.name.symbol ≡ name =
+    sym (text-is objects e entry.below) ∙ named-text objects name e (ap (λ f. order_to objects f name) (sym is) ∙ here) in (
+      entry.below,
+      definition-one (file_at objects e.object) name e.name.symbol (taken-at objects e.object taken entry.below).unique
+          (as-exported (file_at objects e.object) name e.name.symbol entry.exported text),
+    )
+
 -- where the search ends at an entry of the name, that is the first definition
 pub found : (objects : List Named) (entries : List Entry) (name : List ℕ) (q : ℕ) (d : Entry) → IsTableOf objects entries → All (λ (o : Named). IsTaken o.file) objects
     → IsPartitionPoint (λ e. is_before objects name e ≡ true) (λ e. is_before objects name e ≡ false) entries q
     → q < length entries → IsNamed objects name (get_or entries q d) → (e : Entry) → get_or entries q d ≡ e
     → Some (At e.object e.name.symbol) ≡ first_of (map (definition_at objects name) (all_places objects))
 found objects entries name q d table taken point within here e is =
-    let end : ℕ = e.object in
-    let file : List ℕ = file_at objects e.object in
-    let entry : IsEntry objects (length objects) e =
-    subst (IsEntry objects (length objects)) is
-    (All-permutation (IsEntry objects (length objects)) (entries_before objects (length objects)) entries table.moved (all-entries objects (length objects)) q d within) in
-    let text : name_of (file_at objects e.object) e.name.symbol ≡ name =
-    sym (text-is objects e entry.below) ∙ named-text objects name e (ap (λ f. order_to objects f name) (sym is) ∙ here) in
-    let defines : Some e.name.symbol ≡ definition_of (file_at objects e.object) name =
-    definition-one (file_at objects e.object) name e.name.symbol (taken-at objects e.object taken entry.below).unique
-    (as-exported (file_at objects e.object) name e.name.symbol entry.exported text) in
+    let known = entry-defines objects entries name q d table taken within here e is in
     let late : All (λ f. IsNamed objects name f → e.object ≤ f.object) entries =
     All-from_get_or (λ (f : Entry). IsNamed objects name f → e.object ≤ f.object) entries d
     (λ i lt named. subst (λ (x : Entry). x.object ≤ (λ (f : Entry). f.object) (get_or entries i d)) is (first-of objects entries name q i d table point lt named).first) in
     let at : 0 + e.object ≡ e.object = omega arith in
-    sym (some_from (definition_at objects name) e.object (length objects) 0 (At e.object e.name.symbol) entry.below
-    (λ k ge lt. none-before objects entries name e.object k table late (omega (arith, lt, entry.below)) (omega (arith, lt)))
-    (ap (definition_at objects name) at ∙ ap (option_map (At e.object)) (sym defines)))
+    sym (some_from (definition_at objects name) e.object (length objects) 0 (At e.object e.name.symbol) known.0
+    (λ k ge lt. none-before objects entries name e.object k table late (omega (arith, lt, known.0)) (omega (arith, lt)))
+    (ap (definition_at objects name) at ∙ ap (option_map (At e.object)) (sym known.1)))
 
 -- and where it ends elsewhere, there is none
 pub nowhere : (objects : List Named) (entries : List Entry) (name : List ℕ) (q : ℕ) (d : Entry) → IsTableOf objects entries

@@ -4,6 +4,7 @@ ghost use Rattle.std.specs.Prelude.{◌≡◌};
 ghost use Rattle.hash_check.specs.Key.{key_of};
 ghost use Rattle.scope.specs.inside.Entries.{text_at, text_order, name_order, order};
 ghost use Rattle.scope.specs.inside.Entries.{text_order_to, order_to};
+ghost use Rattle.scope.specs.inside.Compared.{IsNameOf};
 
 use crate::loaded::LoadedObject;
 use hash_check::KeyedName;
@@ -26,6 +27,14 @@ fn text_at<'a>(objects: &[LoadedObject<'a>], entry: Entry) -> &'a [u8]
     } else {
         &[]
     }
+}
+
+/// The name itself, where its key and its length are known: its end isn't looked for.
+pub(crate) fn known_text_at<'a>(objects: &[LoadedObject<'a>], entry: Entry) -> &'a [u8]
+    requires { IsNameOf objects.now entry }
+    ensures { result.now ≡ text_at objects.now entry }
+{
+    objects[entry.object].object().text_of(entry.name)
 }
 
 /// The order of two names of one key: by their lengths, then by their bytes. No byte of two names

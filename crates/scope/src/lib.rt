@@ -6,6 +6,8 @@
 //! undefined.
 #![tactic(auto)]
 
+mod ahead;
+mod compared;
 mod entry;
 mod installed;
 mod level;
@@ -13,16 +15,19 @@ mod library;
 mod loaded;
 mod loading;
 mod lookup;
+mod name_search;
 mod needed_name;
 mod needs;
 mod order;
 mod places;
 mod refusal;
 mod resolution;
+mod strings;
 mod table;
 mod target;
 mod worth;
 
+pub use ahead::Ahead;
 pub use level::first_level;
 pub use library::Library;
 pub use loading::load_order;

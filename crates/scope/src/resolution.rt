@@ -11,14 +11,14 @@ use crate::target::{Target, Undefined};
 use elf_dynamic::Symbol;
 
 /// Whether no other object can replace a symbol.
-fn is_own(symbol: Symbol) -> bool
+pub(crate) fn is_own(symbol: Symbol) -> bool
     ensures { result ≡ is_own symbol }
 {
     symbol.is_local() || (symbol.is_defined() && !symbol.has_default_visibility())
 }
 
 /// Whether no other object can give a symbol.
-fn is_withheld(symbol: Symbol) -> bool
+pub(crate) fn is_withheld(symbol: Symbol) -> bool
     ensures { result ≡ is_withheld symbol }
 {
     !symbol.is_defined() && symbol.is_hidden()

@@ -1,0 +1,144 @@
+#!/usr/bin/env python3
+"""Writes the list of programs whose names are tails of a few long strings, and its files.
+
+    python3 crates/cases/make/tails.py
+
+So many bytes of names are asked for that a binder which looks for each name by itself reads the strings many times over.
+The texts come from `binder.py`, the second reading; which object defines each word, and where, stands here as it was worked
+out by hand, and the texts agree with it.
+"""
+
+from dataclasses import dataclass
+
+import binds
+import samples
+from binder import Binder
+from binds import Bind, refused, text, write_list
+from samples import DEFINED, GLOBAL, OBJECT, R_64, R_GLOB_DAT, WEAK, Object, Symbol
+
+LENGTH = 4000
+STRING = bytes(97 + i * i * i // 97 % 26 for i in range(LENGTH))
+LATE = 3000  # where another string differs, far from the first, the last and the middle bytes of its tails
+OTHER = STRING[:LATE] + b'#' + STRING[LATE + 1:]
+FRONT = range(24)  # where tails begin that have the place of the difference in them
+BACK = range(LATE + 1, LATE + 7)  # and where some begin behind it
+SYMBOLIC = [(16, 0)]
+
+
+@dataclass
+class Tail(Symbol):
+    """A symbol whose name is the tail of a string of its object, by the string's number."""
+    string: int = 0
+
+
+@dataclass
+class Shared(Object):
+    """An object whose symbols' names are tails of these strings."""
+    strings: tuple = ()
+
+
+def strings_of(o):
+    if not isinstance(o, Shared):
+        return separate(o)
+    table, places, starts = b'\0', [], []
+    for name in ([] if o.soname is None else [o.soname]) + o.needed:
+        places.append(len(table))
+        table += name + b'\0'
+    for string in o.strings:
+        starts.append(len(table))
+        table += string + b'\0'
+    return table, places + [starts[s.string] + len(o.strings[s.string]) - len(s.name) for s in o.symbols]
+
+
+separate, samples.strings_of = samples.strings_of, strings_of
+
+
+def asks(k, string=0, binding=GLOBAL):
+    return Tail(STRING[k:], binding, string=string)
+
+
+def gives(k, at, string=0, of=STRING):
+    return Tail(of[k:], GLOBAL, OBJECT, DEFINED, at, string=string)
+
+
+def asking(symbols, soname=None, needed=(), strings=(STRING,), entries=(), room=0):
+    """An object that asks for its first symbols, as many as aren't defined, twice each: in their order, and again."""
+    asked = [i for i, s in enumerate(symbols) if s.section != DEFINED]
+    relocations = [(kind, 8 * (n * len(asked) + i), s + 1, 0) for n, kind in enumerate((R_64, R_GLOB_DAT)) for i, s in enumerate(asked)]
+    return Shared(soname, list(needed), symbols, relocations, 16 * len(asked) + room, entries=list(entries), strings=tuple(strings))
+
+
+def giving(soname, symbols, strings=(STRING,), needed=()):
+    return Shared(soname, list(needed), symbols, data=8 * (1 + len(symbols)), strings=tuple(strings))
+
+
+DATA_OF = {}  # where the data of each file begin
+
+
+def kept(name, o):
+    DATA_OF[name] = samples.build(o)[1]['data']
+    return binds.kept(name, o)
+
+
+def mixed(tails):
+    """Some tails in an order that isn't that of their places."""
+    return sorted(tails, key=lambda k: (k * 7) % 31)
+
+
+def asker(name, needed, tails):
+    return kept(name, asking([asks(k) for k in mixed(tails)], needed=needed))
+
+
+def bound(bind, file, asker, words):
+    """A case of `bind` with its whole text. The words of the asker, by its place in load order, are worked out by hand: each is
+    the place of the object that defines it and where it stands in its data, or None. They come twice."""
+    files = [bind.program.name] + [f.name for f, _ in bind.libraries]
+    _, order = Binder().bind(*bind.arguments())
+    held = Binder().memory(order)
+    assert len(order) == len(files)
+    for i, found in enumerate(words * 2):
+        at = order[asker].base + DATA_OF[files[asker]] + 8 * i
+        value = 0 if found is None else order[found[0]].base + DATA_OF[files[found[0]]] + found[1]
+        assert bytes(held[at + k] for k in range(8)) == value.to_bytes(8, 'little'), (file, i)
+    return text(bind, file)
+
+
+def lists():
+    all_tails = [*FRONT, *BACK]
+    at = {k: 8 * i for i, k in enumerate(all_tails)}
+    program = asker('tails-asking.so', [b'a'], FRONT)
+    both = asker('tails-asking-both.so', [b'a', b'b'], all_tails)
+    two = kept('tails-of-two.so', giving(b'a', [gives(k, at[k], k % 2) for k in FRONT], (STRING, STRING)))
+    late = kept('tails-late.so', giving(b'a', [gives(k, at[k], 0, OTHER) for k in all_tails], (OTHER,)))
+    whole = kept('tails-whole.so', giving(b'b', [gives(k, at[k]) for k in all_tails]))
+    odd = kept('tails-odd.so', giving(b'a', [gives(k, at[k]) for k in all_tails if k % 2], needed=[]))
+    weak = kept('tails-weak.so', asking([asks(k, 0, WEAK) for k in FRONT], needed=[b'a']))
+    some = kept('tails-some.so', giving(b'a', [gives(k, at[k]) for k in FRONT if k % 3]))
+    last = mixed(FRONT)[-1]
+    most = kept('tails-most.so', giving(b'a', [gives(k, at[k]) for k in FRONT if k != last]))
+    # A library that asks for each of the names, and gives those at odd places itself, by another string.
+    def itself(name, entries):
+        symbols = [asks(k) for k in mixed(FRONT)] + [gives(k, 16 * 24 + at[k], 1) for k in FRONT if k % 2]
+        return kept(name, asking(symbols, b'c', strings=(STRING, STRING), entries=entries, room=8 * 24))
+    symbolic, plain = itself('tails-symbolic.so', SYMBOLIC), itself('tails-plain.so', [(24, 0)])
+    definer = kept('tails-program.so', Shared(None, [b'c'], [gives(k, at[k]) for k in FRONT], data=8 * 24, strings=(STRING,)))
+    write_list('binds-tails.txt', [
+        ('A program asks for 24 tails of a string of 4,000 bytes, twice each. The library gives them as tails of two equal strings in\n'
+         'turn.', [bound(Bind(program, [two]), 'tails-of-two.image', 0, [(1, at[k]) for k in mixed(FRONT)])]),
+        ('The names of a differ from those that are asked for in one byte, far behind; only those that begin behind it are the same.\n'
+         'The others are found in b.', [
+             bound(Bind(both, [late, whole]), 'tails-late.image', 0, [(1 if k in BACK else 2, at[k]) for k in mixed(all_tails)])]),
+        ('a gives the names at odd places, b all: the first in load order is taken. Where a gives all too, it is a.', [
+            bound(Bind(both, [odd, whole]), 'tails-odd.image', 0, [(1 if k % 2 else 2, at[k]) for k in mixed(all_tails)]),
+            bound(Bind(both, [(whole, b'a'), whole]), 'tails-twice.image', 0, [(1, at[k]) for k in mixed(all_tails)])]),
+        ('Weak names of which every third one is missing are 0. The last name that is asked for is undefined.', [
+            bound(Bind(weak, [some]), 'tails-weak.image', 0, [(1, at[k]) if k % 3 else None for k in FRONT]),
+            refused(Bind(program, [most]), f'B5 Undefined /program {STRING[last:].decode()}')]),
+        ('A library asks for names that the program gives, and gives those at odd places itself. A symbolic one takes its own.', [
+            bound(Bind(definer, [symbolic]), 'tails-symbolic.image', 1, [(1, 16 * 24 + at[k]) if k % 2 else (0, at[k]) for k in mixed(FRONT)]),
+            bound(Bind(definer, [plain]), 'tails-plain.image', 1, [(0, at[k]) for k in mixed(FRONT)])]),
+    ])
+
+
+if __name__ == '__main__':
+    lists()

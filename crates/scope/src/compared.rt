@@ -1,0 +1,132 @@
+// Comparisons of names that are kept for names that are tails of them.
+
+ghost use Rattle.std.specs.Prelude.{◌≡◌, ◌<◌, ◌≤◌, ℕ, length, drop, slice_index, IfSome};
+ghost use Rattle.elf_dynamic.specs.Strings.{string_table, string_at};
+ghost use Rattle.scope.specs.Objects.{file_at};
+ghost use Rattle.scope.specs.inside.Compared.{IsCompared, IsKept, IsNameOf, bytes_order};
+ghost use Rattle.scope.specs.inside.Entries.{text_at};
+
+use crate::entry::{Entry, known_text_at};
+use crate::loaded::LoadedObject;
+use std::cmp::Ordering;
+
+/// Two names that were compared: how many of their first bytes are known to agree, and their order.
+#[derive(Clone, Copy)]
+pub(crate) struct Compared {
+    first: Entry,
+    second: Entry,
+    same: usize,
+    pub(crate) order: Ordering,
+}
+
+/// Where a name begins in the string table of its object; none where it isn't a symbol's, or is
+/// that of symbol 0.
+pub(crate) fn offset_of(objects: &[LoadedObject<'_>], entry: Entry) -> Option<u32>
+    ensures { IfSome result (λ at. text_at objects.now entry
+        ≡ string_at (string_table (file_at objects.now entry.object)) at) }
+{
+    if entry.object >= objects.len() {
+        return None;
+    }
+    let object = objects[entry.object].object().object();
+    let symbol = entry.name.symbol;
+    if symbol == 0 || symbol >= object.symbol_count() {
+        return None;
+    }
+    Some(object.symbol(symbol).name)
+}
+
+/// How many bytes behind the beginning of one name another one of the same object begins. Where
+/// that is within the first, the other is a tail of it.
+fn shift(objects: &[LoadedObject<'_>], name: Entry, tail: Entry) -> Option<usize>
+    ensures { IfSome result (λ d. d ≤ length (text_at objects.now name)
+        → text_at objects.now tail ≡ drop d (text_at objects.now name)) }
+{
+    if name.object != tail.object {
+        return None;
+    }
+    match (offset_of(objects, name), offset_of(objects, tail)) {
+        (Some(from), Some(to)) if from <= to => Some((to - from) as usize),
+        _ => None,
+    }
+}
+
+/// The order of two names, where they are tails of two that were compared, from one place on up to
+/// which those agree: it is that of the two.
+pub(crate) fn order_of_tails(
+    objects: &[LoadedObject<'_>],
+    known: Compared,
+    first: Entry,
+    second: Entry,
+) -> Option<Ordering>
+    requires { IsCompared objects.now known }
+    ensures { IfSome result (λ order. order ≡ bytes_order objects.now first second) }
+{
+    match (
+        shift(objects, known.first, first),
+        shift(objects, known.second, second),
+    ) {
+        (Some(skipped), Some(also)) if skipped == also && skipped <= known.same => {
+            Some(known.order)
+        }
+        _ => None,
+    }
+}
+
+/// In how many of their first bytes two names agree.
+fn agreement(a: &[u8], b: &[u8]) -> usize
+    ensures first { result ≤ length a.now }
+    ensures second { result ≤ length b.now }
+    ensures agree { (k : ℕ) → k < result → slice_index a.now k ≡ slice_index b.now k }
+{
+    let shorter = a.len().min(b.len());
+    for i in 0..shorter {
+        if a[i] != b[i] {
+            return i;
+        }
+    }
+    shorter
+}
+
+/// Compares two names, byte by byte.
+pub(crate) fn compare_bytes(objects: &[LoadedObject<'_>], first: Entry, second: Entry) -> Compared
+    requires first { IsNameOf objects.now first }
+    requires second { IsNameOf objects.now second }
+    ensures compared { IsCompared objects.now result }
+    ensures order { result.order ≡ bytes_order objects.now first second }
+{
+    let (a, b) = (
+        known_text_at(objects, first),
+        known_text_at(objects, second),
+    );
+    Compared {
+        first,
+        second,
+        same: agreement(a, b),
+        order: a.cmp(b),
+    }
+}
+
+/// The order of two names by their bytes. Where it follows from what is kept, none is read; else
+/// this comparison is kept.
+pub(crate) fn compare_kept(
+    objects: &[LoadedObject<'_>],
+    kept: &mut Option<Compared>,
+    first: Entry,
+    second: Entry,
+) -> Ordering
+    requires first { IsNameOf objects.now first }
+    requires second { IsNameOf objects.now second }
+    requires kept { IsKept objects.now kept.old }
+    ensures kept { IsKept objects.now kept.new }
+    ensures order { result ≡ bytes_order objects.now first second }
+{
+    if let Some(known) = *kept {
+        if let Some(order) = order_of_tails(objects, known, first, second) {
+            return order;
+        }
+    }
+    let compared = compare_bytes(objects, first, second);
+    *kept = Some(compared);
+    compared.order
+}
