@@ -7,7 +7,6 @@ use registry::Registry;
 use requests::{Command, Listing, Refusal, Reply};
 use sector_disk::{Fuse, Memory};
 use std::alloc::{AllocError, Global};
-use std::process::Abort;
 use std::test::Fail;
 use store::Store;
 
@@ -87,55 +86,62 @@ pub(crate) fn number(reply: &Reply) -> &'static str {
     }
 }
 
-/// The answer to a command.
-pub(crate) fn ask(
-    alloc: Global,
-    registry: &mut OnMemory,
-    asked: Asked,
-) -> Result<Reply, AllocError> {
-    let mut bad = library(b'a');
-    bad[16] = 2;
-    Ok(match asked {
-        Asked::Install(name, size) => {
-            registry.apply(&Command::Install(&padded(alloc, name, size)?))
+// The file that a command has, the name, or nothing.
+fn bytes_of(alloc: Global, asked: Asked) -> Result<Vec<u8>, AllocError> {
+    match asked {
+        Asked::Install(name, size) | Asked::Replace(name, size) => padded(alloc, name, size),
+        Asked::InstallBad | Asked::ReplaceBad => {
+            let mut bad = library(b'a');
+            bad[16] = 2;
+            Vec::from_slice(alloc, &bad)
         }
-        Asked::Replace(name, size) => {
-            registry.apply(&Command::Replace(&padded(alloc, name, size)?))
-        }
-        Asked::InstallBad => registry.apply(&Command::Install(&bad)),
-        Asked::ReplaceBad => registry.apply(&Command::Replace(&bad)),
-        Asked::Remove(name) => registry.apply(&Command::Remove(&[name])),
-        Asked::Preload(names) => registry.apply(&Command::SetPreloads(names)),
-        Asked::List => registry.apply(&Command::List),
-    })
+        Asked::Remove(name) => Vec::from_slice(alloc, &[name]),
+        Asked::Preload(_) | Asked::List => Ok(Vec::new(alloc)),
+    }
 }
 
-/// Asks one after the other. Each is answered so.
-pub(crate) fn ask_all(
-    rt: &impl Abort,
-    alloc: Global,
-    registry: &mut OnMemory,
-    commands: &[(Asked, &str)],
-) -> Result<(), Fail> {
-    for (i, (asked, wanted)) in commands.iter().enumerate() {
-        let reply = ask(alloc, registry, *asked)?;
-        assert_eq!(rt; number(&reply), *wanted, "command {i}");
+// The command of these bytes.
+fn command_of<'a>(asked: Asked, bytes: &'a [u8]) -> Command<'a> {
+    match asked {
+        Asked::Install(..) | Asked::InstallBad => Command::Install(bytes),
+        Asked::Replace(..) | Asked::ReplaceBad => Command::Replace(bytes),
+        Asked::Remove(_) => Command::Remove(bytes),
+        Asked::Preload(names) => Command::SetPreloads(names),
+        Asked::List => Command::List,
     }
-    Ok(())
+}
+
+/// The answer to a command.
+pub(crate) fn ask(alloc: Global, registry: &mut OnMemory, asked: Asked) -> Reply {
+    match bytes_of(alloc, asked) {
+        Ok(bytes) => registry.apply(&command_of(asked, &bytes)),
+        Err(_) => Reply::Refused(Refusal::OutOfMemory),
+    }
+}
+
+/// Asks one after the other. Whether each is answered so.
+pub(crate) fn ask_all(alloc: Global, registry: &mut OnMemory, commands: &[(Asked, &str)]) -> bool {
+    let mut same = true;
+    for (asked, wanted) in commands {
+        same &= number(&ask(alloc, registry, *asked)) == *wanted;
+    }
+    same
 }
 
 /// The disk of a new registry after these commands, each of which is answered so.
 pub(crate) fn disk_after(
-    rt: &impl Abort,
     alloc: Global,
     disk: Fuse<Memory>,
     commands: &[(Asked, &str)],
 ) -> Result<Memory, Fail> {
     let mut registry = formatted(alloc, disk)?;
-    let asked = ask_all(rt, alloc, &mut registry, commands);
+    let same = ask_all(alloc, &mut registry, commands);
     let disk = registry.into_disk().into_inner();
-    asked?;
-    Ok(disk)
+    if same {
+        Ok(disk)
+    } else {
+        Err("another answer".into())
+    }
 }
 
 /// Whether these libraries and preloads are listed, in this order.

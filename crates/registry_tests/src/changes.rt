@@ -4,14 +4,13 @@ use crate::calls::{Asked, Held, OnMemory, ask_all, disk_after, holds, lists, ope
 use crate::files::SIZE;
 use sector_disk::{Fuse, Memory};
 use std::alloc::Global;
-use std::process::Abort;
 use std::test::Fail;
 
 const BOTH: [(Asked, &str); 2] = [(Install(b'a', SIZE), "ok"), (Install(b'b', SIZE), "ok")];
 
 // A disk with the libraries a and b.
-fn disk(rt: &impl Abort, alloc: Global) -> Result<Memory, Fail> {
-    disk_after(rt, alloc, whole(Memory::new(alloc, 16)?), &BOTH)
+fn disk(alloc: Global) -> Result<Memory, Fail> {
+    disk_after(alloc, whole(Memory::new(alloc, 16)?), &BOTH)
 }
 
 const A: &[u8] = b"a";
@@ -54,39 +53,34 @@ const PRELOADED: [Steps; 3] = [
     (&[(Preload(&[]), "ok")], (AB, b"")),
 ];
 
-// Takes these steps.
-fn take(
-    rt: &impl Abort,
-    alloc: Global,
-    registry: &mut OnMemory,
-    steps: &[Steps],
-) -> Result<(), Fail> {
-    for (i, (commands, held)) in steps.iter().enumerate() {
-        ask_all(rt, alloc, registry, commands)?;
-        assert!(rt; lists(registry, *held), "step {i}");
+// Takes these steps. Whether each is answered and listed so.
+fn take(alloc: Global, registry: &mut OnMemory, steps: &[Steps]) -> bool {
+    let mut same = true;
+    for (commands, held) in steps {
+        same &= ask_all(alloc, registry, commands);
+        same &= lists(registry, *held);
     }
-    Ok(())
+    same
 }
 
 // Takes these steps over the libraries a and b, and opens the disk again.
-fn walk(rt: &impl Abort, alloc: Global, steps: &[Steps], last: Held) -> Result<(), Fail> {
-    let mut registry = opened(alloc, whole(disk(rt, alloc)?))?;
-    let taken = take(rt, alloc, &mut registry, steps);
-    let disk = registry.into_disk();
-    taken?;
-    let (listed, _) = holds(alloc, disk, last, last)?;
-    assert!(rt; listed, "opened again");
-    Ok(())
+fn walk(alloc: Global, steps: &[Steps], last: Held) -> Result<bool, Fail> {
+    let mut registry = opened(alloc, whole(disk(alloc)?))?;
+    let taken = take(alloc, &mut registry, steps);
+    let (listed, _) = holds(alloc, registry.into_disk(), last, last)?;
+    Ok(taken && listed)
 }
 
 #[test]
 fn a_library_is_removed_once_it_is_no_preload(rt: HostRuntime) -> Result<(), Fail> {
-    walk(&rt, rt.alloc(), &REMOVED, (ONLY_B, b"b"))
+    assert!(rt; walk(rt.alloc(), &REMOVED, (ONLY_B, b"b"))?);
+    Ok(())
 }
 
 #[test]
 fn preloads_are_counted_then_compared_then_looked_for(rt: HostRuntime) -> Result<(), Fail> {
-    walk(&rt, rt.alloc(), &PRELOADED, (AB, b""))
+    assert!(rt; walk(rt.alloc(), &PRELOADED, (AB, b""))?);
+    Ok(())
 }
 
 // What a change is answered one of whose calls fails, and then every command.
@@ -105,43 +99,48 @@ const CUT_PRELOADS: [(Asked, &str); 4] = [
 ];
 
 // A change one of whose calls fails, behind the eight of the opening, and then what its disk holds:
-// a and b as before, or what the change makes of them.
+// a and b as before, or what the change makes of them. None where it is answered otherwise, or where
+// it holds neither.
 fn cut(
-    rt: &impl Abort,
     alloc: Global,
     disk: Fuse<Memory>,
     commands: &[(Asked, &str)],
     after: Held,
-) -> Result<bool, Fail> {
+) -> Result<Option<bool>, Fail> {
     let mut registry = opened(alloc, disk)?;
-    let asked = ask_all(rt, alloc, &mut registry, commands);
-    let disk = registry.into_disk();
-    asked?;
-    let (is_before, is_after) = holds(alloc, disk, (AB, b""), after)?;
-    assert!(rt; is_before != is_after);
-    Ok(is_after)
+    let same = ask_all(alloc, &mut registry, commands);
+    let (is_before, is_after) = holds(alloc, registry.into_disk(), (AB, b""), after)?;
+    Ok((same && is_before != is_after).then_some(is_after))
 }
 
-// The changes, what stands after each, and the number of the call that writes its root.
-const CUTS: [(&[(Asked, &str)], Held, u64); 2] = [
+// A change, what stands after it, and the number of the call that writes its root.
+type Cut = (&'static [(Asked, &'static str)], Held, u64);
+
+const CUTS: [Cut; 2] = [
     // Behind the catalogue and a sync.
     (&CUT_REMOVAL, (ONLY_B, b""), 11),
     (&CUT_PRELOADS, (AB, A), 9),
 ];
 
-#[test]
-fn each_failing_call_of_a_change_is_told(rt: HostRuntime) -> Result<(), Fail> {
-    let disk = disk(&rt, rt.alloc())?;
-    for (commands, after, root) in CUTS {
-        // The last one is the sync behind the root.
-        for call in 9..=root + 1 {
-            for late in [false, true] {
-                let fused = Fuse::new(disk.copy()?, call, false, late);
-                let is_after = cut(&rt, rt.alloc(), fused, commands, after)?;
-                let wanted = call > root || call == root && late;
-                assert!(rt; is_after == wanted, "call {call}");
-            }
+// Whether each call of a change that fails leaves what is behind it. The last one is the sync
+// behind the root.
+fn is_cut(alloc: Global, disk: &Memory, (commands, after, root): Cut) -> Result<bool, Fail> {
+    let mut same = true;
+    for call in 9..=root + 1 {
+        for late in [false, true] {
+            let fused = Fuse::new(disk.copy()?, call, false, late);
+            let is_after = call > root || call == root && late;
+            same &= cut(alloc, fused, commands, after)? == Some(is_after);
         }
     }
+    Ok(same)
+}
+
+#[test]
+fn each_failing_call_of_a_change_is_told(rt: HostRuntime) -> Result<(), Fail> {
+    let disk = disk(rt.alloc())?;
+    let removal = is_cut(rt.alloc(), &disk, CUTS[0])?;
+    let preloads = is_cut(rt.alloc(), &disk, CUTS[1])?;
+    assert!(rt; removal && preloads);
     Ok(())
 }

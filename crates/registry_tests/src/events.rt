@@ -8,7 +8,6 @@ use registry::{Binder, Step};
 use requests::{Command, Reply};
 use sector_disk::Memory;
 use std::alloc::Global;
-use std::process::Abort;
 use std::test::Fail;
 
 /// What happens to a registry. Its binders are numbered as they were begun, from 0.
@@ -49,6 +48,12 @@ pub(crate) type Row = (Event, Told);
 /// The base of the program that asks for f.
 pub(crate) const BASE: u64 = 0x10000;
 
+/// Its bind.
+pub(crate) const BIND: Command<'static> = Command::Bind {
+    program: ASKING,
+    base: BASE,
+};
+
 // The eight bytes at the place where the program asks for f.
 fn word_of(image: &Image) -> Option<u64> {
     let mut word = [0; 8];
@@ -69,6 +74,27 @@ pub(crate) fn answer_of(reply: &Reply) -> Told {
     }
 }
 
+// What a command is answered.
+fn apply(registry: &mut OnMemory, command: &Command<'_>) -> Told {
+    answer_of(&registry.apply(command))
+}
+
+// Begins a binder behind the others.
+fn begin(
+    registry: &mut OnMemory,
+    binders: &mut Vec<Option<Binder>>,
+    program: &[u8],
+    base: u64,
+) -> Told {
+    match registry.begin(program, base) {
+        Ok(binder) => match binders.push(Some(binder)) {
+            Ok(()) => Number("begun"),
+            Err(_) => Number("no memory"),
+        },
+        Err(refusal) => answer_of(&Reply::Refused(refusal)),
+    }
+}
+
 // Makes the next step of a binder.
 fn advance(registry: &mut OnMemory, binder: &mut Binder) -> Told {
     match registry.advance(binder) {
@@ -77,19 +103,27 @@ fn advance(registry: &mut OnMemory, binder: &mut Binder) -> Told {
             Number(last) => Last(last),
             image => image,
         },
-        Err(refusal) => Number(number(&Reply::Refused(refusal))),
+        Err(refusal) => answer_of(&Reply::Refused(refusal)),
+    }
+}
+
+// Makes the next step of the binder at a place, if there is one.
+fn advance_at(registry: &mut OnMemory, binders: &mut [Option<Binder>], at: usize) -> Told {
+    match binders.get_mut(at) {
+        Some(Some(binder)) => advance(registry, binder),
+        _ => Number("no binder"),
     }
 }
 
 // Ends a binder, whose place is empty then.
 fn end(registry: &mut OnMemory, binders: &mut [Option<Binder>], at: usize) -> Told {
-    if let Some(place) = binders.get_mut(at)
-        && let Some(binder) = place.take()
-    {
-        registry.end(binder);
-        return Number("ended");
+    match binders.get_mut(at).and_then(Option::take) {
+        Some(binder) => {
+            registry.end(binder);
+            Number("ended")
+        }
+        None => Number("no binder"),
     }
-    Number("no binder")
 }
 
 // What an event is answered.
@@ -98,57 +132,31 @@ fn take(
     registry: &mut OnMemory,
     binders: &mut Vec<Option<Binder>>,
     event: Event,
-) -> Result<Told, Fail> {
-    Ok(match event {
-        Install => answer_of(&registry.apply(&Command::Install(DEFINING))),
-        Replace(value) => answer_of(&registry.apply(&Command::Replace(&absolute(value)))),
-        Ask(asked) => answer_of(&ask(alloc, registry, asked)?),
-        Bind => answer_of(&registry.apply(&Command::Bind {
-            program: ASKING,
-            base: BASE,
-        })),
-        Begin(program, base) => match registry.begin(program, base) {
-            Ok(binder) => {
-                binders.push(Some(binder))?;
-                Number("begun")
-            }
-            Err(refusal) => Number(number(&Reply::Refused(refusal))),
-        },
-        Advance(at) => match binders.get_mut(at) {
-            Some(Some(binder)) => advance(registry, binder),
-            _ => Number("no binder"),
-        },
+) -> Told {
+    match event {
+        Install => apply(registry, &Command::Install(DEFINING)),
+        Replace(value) => apply(registry, &Command::Replace(&absolute(value))),
+        Ask(asked) => answer_of(&ask(alloc, registry, asked)),
+        Bind => apply(registry, &BIND),
+        Begin(program, base) => begin(registry, binders, program, base),
+        Advance(at) => advance_at(registry, binders, at),
         End(at) => end(registry, binders, at),
-    })
-}
-
-/// Takes one event after the other. Each is answered so.
-pub(crate) fn take_all(
-    rt: &impl Abort,
-    alloc: Global,
-    registry: &mut OnMemory,
-    binders: &mut Vec<Option<Binder>>,
-    rows: &[Row],
-) -> Result<(), Fail> {
-    for (i, (event, wanted)) in rows.iter().enumerate() {
-        let told = take(alloc, registry, binders, *event)?;
-        assert_eq!(rt; told, *wanted, "event {i}");
     }
-    Ok(())
 }
 
 /// The disk of a registry after these events, each of which is answered so. Nobody has its binders
 /// any more.
-pub(crate) fn disk_left(
-    rt: &impl Abort,
-    alloc: Global,
-    registry: OnMemory,
-    rows: &[Row],
-) -> Result<Memory, Fail> {
+pub(crate) fn disk_left(alloc: Global, registry: OnMemory, rows: &[Row]) -> Result<Memory, Fail> {
     let mut registry = registry;
     let mut binders = Vec::new(alloc);
-    let taken = take_all(rt, alloc, &mut registry, &mut binders, rows);
+    let mut same = true;
+    for (event, wanted) in rows {
+        same &= take(alloc, &mut registry, &mut binders, *event) == *wanted;
+    }
     let disk = registry.into_disk().into_inner();
-    taken?;
-    Ok(disk)
+    if same {
+        Ok(disk)
+    } else {
+        Err("another answer".into())
+    }
 }

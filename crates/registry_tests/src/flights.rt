@@ -1,14 +1,13 @@
 // Programs that are bound step by step, over the libraries as they were, while the registry
 // changes.
 use crate::calls::Asked::{self, Remove};
-use crate::calls::{OnMemory, ask_all, formatted, opened, whole};
+use crate::calls::{OnMemory, formatted, opened, whole};
 use crate::events::Event::{Advance, Ask, Begin, Bind, End, Install, Replace};
 use crate::events::Told::{Last, Number, Word};
-use crate::events::{BASE, Row, Told, disk_left, take_all};
+use crate::events::{BASE, Row, Told, disk_left};
 use crate::files::ASKING;
 use sector_disk::{Fuse, Memory, SECTOR_BYTES};
-use std::alloc::Global;
-use std::process::Abort;
+use std::alloc::{AllocError, Global};
 use std::test::Fail;
 
 pub(crate) const OK: Told = Number("ok");
@@ -56,8 +55,8 @@ const REMOVED: [Row; 11] = [
 #[test]
 fn a_binder_has_the_libraries_as_they_were(rt: HostRuntime) -> Result<(), Fail> {
     let alloc = rt.alloc();
-    disk_left(&rt, alloc, small(alloc)?, &REPLACED)?;
-    disk_left(&rt, alloc, small(alloc)?, &REMOVED)?;
+    disk_left(alloc, small(alloc)?, &REPLACED)?;
+    disk_left(alloc, small(alloc)?, &REMOVED)?;
     Ok(())
 }
 
@@ -72,7 +71,7 @@ const NOT_STEPPED: [Row; 6] = [
 
 #[test]
 fn a_binder_ends_before_its_first_step(rt: HostRuntime) -> Result<(), Fail> {
-    disk_left(&rt, rt.alloc(), small(rt.alloc())?, &NOT_STEPPED)?;
+    disk_left(rt.alloc(), small(rt.alloc())?, &NOT_STEPPED)?;
     Ok(())
 }
 
@@ -95,75 +94,63 @@ const REFUSED: [Row; 11] = [
 fn a_program_that_is_refused_by_itself_is_so_at_the_first_step(
     rt: HostRuntime,
 ) -> Result<(), Fail> {
-    disk_left(&rt, rt.alloc(), small(rt.alloc())?, &REFUSED)?;
+    disk_left(rt.alloc(), small(rt.alloc())?, &REFUSED)?;
     Ok(())
 }
 
 // So many sectors are free: a library takes them all, and is removed again.
-fn has_free(
-    rt: &impl Abort,
-    alloc: Global,
-    registry: &mut OnMemory,
-    free: usize,
-) -> Result<(), Fail> {
-    assert!(rt; 2 <= free && free <= 100);
-    let size = (free - 1) * SECTOR_BYTES;
-    let commands = [
-        (Asked::Install(b'b', size + 1), "S7"),
-        (Asked::Install(b'b', size), "ok"),
-        (Remove(b'b'), "ok"),
-    ];
-    ask_all(rt, alloc, registry, &commands)
+fn free_rows(free: usize) -> [Row; 3] {
+    let size = free.saturating_sub(1).saturating_mul(SECTOR_BYTES);
+    [
+        (Ask(Asked::Install(b'b', size.saturating_add(1))), FULL),
+        (Ask(Asked::Install(b'b', size)), OK),
+        (Ask(Remove(b'b')), OK),
+    ]
 }
 
 // Begins eight binders, each over a version of a whose f is one more than the binder's number, and
-// makes two steps of each. Then they end in this order.
-fn end_eight(
-    rt: &impl Abort,
-    alloc: Global,
-    registry: &mut OnMemory,
-    order: [usize; 8],
-) -> Result<(), Fail> {
-    let mut binders = Vec::new(alloc);
-    take_all(rt, alloc, registry, &mut binders, &[(Install, OK)])?;
+// makes two steps of each in this order.
+fn begin_eight(alloc: Global, order: [usize; 8]) -> Result<Vec<Row>, AllocError> {
+    let mut rows = Vec::from_slice(alloc, &[(Install, OK)])?;
     for f in 1..9 {
-        let rows = [(Replace(f), OK), (Begin(ASKING, BASE), BEGUN)];
-        take_all(rt, alloc, registry, &mut binders, &rows)?;
+        rows.extend_from_slice(&[(Replace(f), OK), (Begin(ASKING, BASE), BEGUN)])?;
     }
-    take_all(rt, alloc, registry, &mut binders, &[(Replace(9), OK)])?;
+    rows.push((Replace(9), OK))?;
     for at in order {
-        let rows = [(Advance(at), GOING), (Advance(at), GOING)];
-        take_all(rt, alloc, registry, &mut binders, &rows)?;
+        rows.extend_from_slice(&[(Advance(at), GOING), (Advance(at), GOING)])?;
     }
-    // Of 38 sectors the state takes two, its catalogue counts twice, and each version takes two.
-    let mut free = 18;
-    has_free(rt, alloc, registry, free)?;
+    Ok(rows)
+}
+
+// Then they end in this order. Of 38 sectors the state takes two, its catalogue counts twice, and
+// each version takes two.
+fn end_eight(alloc: Global, order: [usize; 8]) -> Result<Vec<Row>, AllocError> {
+    let mut rows = begin_eight(alloc, order)?;
+    let mut free = 18_usize;
+    rows.extend_from_slice(&free_rows(free))?;
     for at in order {
         let f = (at as u64).wrapping_add(1);
-        let rows = [(Advance(at), Word(f)), (End(at), ENDED)];
-        take_all(rt, alloc, registry, &mut binders, &rows)?;
-        assert!(rt; free < 40);
-        free += 2;
-        has_free(rt, alloc, registry, free)?;
+        free = free.saturating_add(2);
+        rows.extend_from_slice(&[(Advance(at), Word(f)), (End(at), ENDED)])?;
+        rows.extend_from_slice(&free_rows(free))?;
     }
-    Ok(())
+    Ok(rows)
 }
 
 #[test]
 fn eight_binders_have_eight_versions_and_end_in_any_order(rt: HostRuntime) -> Result<(), Fail> {
     for order in [[0, 1, 2, 3, 4, 5, 6, 7], [5, 0, 7, 2, 6, 1, 4, 3]] {
-        let mut registry = formatted(rt.alloc(), whole(Memory::new(rt.alloc(), 40)?))?;
-        let ended = end_eight(&rt, rt.alloc(), &mut registry, order);
-        let _ = registry.into_disk();
-        ended?;
+        let rows = end_eight(rt.alloc(), order)?;
+        let registry = formatted(rt.alloc(), whole(Memory::new(rt.alloc(), 40)?))?;
+        disk_left(rt.alloc(), registry, &rows)?;
     }
     Ok(())
 }
 
 /// A disk of eight sectors with a. Its opening takes six calls: a sync, two roots, the catalogue,
 /// the entry, and the file.
-pub(crate) fn with_a(rt: &impl Abort, alloc: Global) -> Result<Memory, Fail> {
-    disk_left(rt, alloc, small(alloc)?, &[(Install, OK)])
+pub(crate) fn with_a(alloc: Global) -> Result<Memory, Fail> {
+    disk_left(alloc, small(alloc)?, &[(Install, OK)])
 }
 
 // The replacement makes calls 7 to 12, and call 13 is the read of the second step.
@@ -181,10 +168,10 @@ const UNREAD: [Row; 9] = [
 
 #[test]
 fn a_step_whose_read_fails_is_made_again(rt: HostRuntime) -> Result<(), Fail> {
-    let disk = with_a(&rt, rt.alloc())?;
+    let disk = with_a(rt.alloc())?;
     for late in [false, true] {
         let fused = Fuse::new(disk.copy()?, 13, false, late);
-        disk_left(&rt, rt.alloc(), opened(rt.alloc(), fused)?, &UNREAD)?;
+        disk_left(rt.alloc(), opened(rt.alloc(), fused)?, &UNREAD)?;
     }
     Ok(())
 }
@@ -195,10 +182,10 @@ const FREE: [Row; 2] = [
 ];
 
 // After a stop the two sectors are free that a leaves, whichever version it is.
-fn stop(rt: &impl Abort, alloc: Global, disk: Memory) -> Result<(), Fail> {
+fn stop(alloc: Global, disk: &Memory) -> Result<(), Fail> {
     for choice in 0..2 {
         let stopped = whole(disk.copy()?.stop(|_, _| choice));
-        disk_left(rt, alloc, opened(alloc, stopped)?, &FREE)?;
+        disk_left(alloc, opened(alloc, stopped)?, &FREE)?;
     }
     Ok(())
 }
@@ -215,12 +202,12 @@ const FAILED: [Row; 6] = [
 #[test]
 fn after_a_failed_write_binders_are_ended_alone(rt: HostRuntime) -> Result<(), Fail> {
     let alloc = rt.alloc();
-    let disk = with_a(&rt, alloc)?;
+    let disk = with_a(alloc)?;
     for call in 7..13 {
         for late in [false, true] {
             let fused = Fuse::new(disk.copy()?, call, false, late);
-            let left = disk_left(&rt, alloc, opened(alloc, fused)?, &FAILED)?;
-            stop(&rt, alloc, left)?;
+            let left = disk_left(alloc, opened(alloc, fused)?, &FAILED)?;
+            stop(alloc, &left)?;
         }
     }
     Ok(())
@@ -237,6 +224,6 @@ const STOPPED: [Row; 5] = [
 
 #[test]
 fn after_a_stop_no_binder_keeps_sectors(rt: HostRuntime) -> Result<(), Fail> {
-    let disk = disk_left(&rt, rt.alloc(), small(rt.alloc())?, &STOPPED)?;
-    stop(&rt, rt.alloc(), disk)
+    let disk = disk_left(rt.alloc(), small(rt.alloc())?, &STOPPED)?;
+    stop(rt.alloc(), &disk)
 }

@@ -2,10 +2,9 @@
 use crate::calls::{formatted, is_listed, number, whole};
 use crate::files::library;
 use registry::{Round, RoundReplies, run_rounds};
-use requests::{Command, Reply};
+use requests::{Command, Listing, Reply};
 use sector_disk::Memory;
-use std::alloc::Global;
-use std::process::Abort;
+use std::alloc::{AllocError, Global};
 use std::test::Fail;
 
 // An empty registry's disk.
@@ -21,16 +20,12 @@ fn round<'a>(
     cut: u64,
     late: bool,
     pick: usize,
-) -> Result<Round<'a>, Fail> {
-    let mut commands = Vec::new(alloc);
-    commands.push(command)?;
-    let mut picks = Vec::new(alloc);
-    picks.push(pick)?;
+) -> Result<Round<'a>, AllocError> {
     Ok(Round {
-        commands,
+        commands: Vec::from_slice(alloc, &[command])?,
         cut,
         late,
-        picks,
+        picks: Vec::from_slice(alloc, &[pick])?,
     })
 }
 
@@ -47,39 +42,43 @@ fn told(replies: &RoundReplies) -> &'static str {
 
 // Whether the one reply of a round lists the library a alone, or nothing.
 fn has_a(replies: &RoundReplies) -> Option<bool> {
-    let RoundReplies::Ran(replies) = replies else {
-        return None;
-    };
-    let Some(Reply::Listing(listing)) = replies.first() else {
-        return None;
-    };
-    if is_listed(listing, (&[(b'a', 344)], &[])) {
-        return Some(true);
+    match replies {
+        RoundReplies::Ran(replies) => match replies.first() {
+            Some(Reply::Listing(listing)) => lists_a(listing),
+            _ => None,
+        },
+        RoundReplies::NotRun(_) => None,
     }
-    if is_listed(listing, (&[], &[])) {
-        return Some(false);
+}
+
+// Whether the library a alone is listed, or nothing.
+fn lists_a(listing: &Listing) -> Option<bool> {
+    let is_a = is_listed(listing, (&[(b'a', 344)], &[]));
+    (is_a || is_listed(listing, (&[], &[]))).then_some(is_a)
+}
+
+// What the rounds of an install, cut so, and a listing behind it give.
+fn told_by(alloc: Global, disk: Memory, rounds: Vec<Round<'_>>) -> (&'static str, Option<bool>) {
+    match run_rounds(alloc, disk, rounds) {
+        Ok((replies, _)) => (
+            replies.first().map_or("none", told),
+            replies.get(1).and_then(has_a),
+        ),
+        Err(_) => ("no memory", None),
     }
-    None
 }
 
 // What an install and a listing behind it give, with the first round cut so.
 fn install_cut(
     alloc: Global,
     file: &[u8],
-    cut: u64,
-    late: bool,
-    pick: usize,
+    (cut, late, pick): (u64, bool, usize),
 ) -> Result<(&'static str, Option<bool>), Fail> {
+    let disk = empty(alloc)?;
     let mut rounds = Vec::new(alloc);
     rounds.push(round(alloc, Command::Install(file), cut, late, pick)?)?;
     rounds.push(round(alloc, Command::List, 1000, false, 0)?)?;
-    match run_rounds(alloc, empty(alloc)?, rounds) {
-        Ok((replies, _)) => match (replies.first(), replies.get(1)) {
-            (Some(first), Some(second)) => Ok((told(first), has_a(second))),
-            _ => Err("a round has no replies".into()),
-        },
-        Err(_) => Err("no memory".into()),
-    }
+    Ok(told_by(alloc, disk, rounds))
 }
 
 // The call of an install's round that fails, whether it reached the disk, the choice of every
@@ -106,10 +105,9 @@ fn a_round_leaves_what_was_acknowledged_and_perhaps_what_was_cut(
     rt: HostRuntime,
 ) -> Result<(), Fail> {
     let file = library(b'a');
-    for (cut, late, pick, reply, stands) in &CUTS {
-        let (told, found) = install_cut(rt.alloc(), &file, *cut, *late, *pick)?;
-        assert_eq!(rt; told, *reply, "cut {cut}");
-        assert_eq!(rt; found, Some(*stands), "cut {cut}");
+    for (cut, late, pick, reply, stands) in CUTS {
+        let found = install_cut(rt.alloc(), &file, (cut, late, pick))?;
+        assert_eq!(rt; found, (reply, Some(stands)));
     }
     Ok(())
 }

@@ -24,9 +24,32 @@ const AB: &[(u8, u32)] = &[(b'a', 344), (b'b', 344)];
 
 const ONLY_B: &[(u8, u32)] = &[(b'b', 344)];
 
+// Whether a run of these commands is answered so, and the disk.
+fn runs(
+    alloc: Global,
+    disk: Fuse<Memory>,
+    commands: &[Command<'_>],
+    wanted: &[&str],
+) -> Result<(bool, Fuse<Memory>), Fail> {
+    let mut registry = opened(alloc, disk)?;
+    let same = match registry.run(commands) {
+        Ok(replies) => are_numbers(&replies, wanted),
+        Err(_) => false,
+    };
+    Ok((same, registry.into_disk()))
+}
+
+// Whether the numbers of answers are these.
+fn are_numbers(replies: &[Reply], wanted: &[&str]) -> bool {
+    let mut same = replies.len() == wanted.len();
+    for (reply, wanted) in replies.iter().zip(wanted) {
+        same &= number(reply) == *wanted;
+    }
+    same
+}
+
 #[test]
 fn a_run_gives_one_answer_for_each_command(rt: HostRuntime) -> Result<(), Fail> {
-    let mut registry = opened(rt.alloc(), whole(empty(rt.alloc())?))?;
     let files = [library(b'a'), library(b'b'), [0; SIZE]];
     let commands = [
         Command::Install(&files[0]),
@@ -39,23 +62,19 @@ fn a_run_gives_one_answer_for_each_command(rt: HostRuntime) -> Result<(), Fail> 
         Command::Install(&files[2]),
         Command::List,
     ];
-    let run = registry.run(&commands);
-    let disk = registry.into_disk();
-    let answers = run?;
     let wanted = ["ok", "C2", "ok", "ok", "C4", "ok", "C3", "C1 E2", "listing"];
-    assert_eq!(rt; answers.len(), wanted.len());
-    for (answer, wanted) in answers.iter().zip(&wanted) {
-        assert_eq!(rt; number(answer), *wanted);
-    }
+    let (same, disk) = runs(rt.alloc(), whole(empty(rt.alloc())?), &commands, &wanted)?;
     let (listed, _) = holds(rt.alloc(), disk, (AB, B), (AB, B))?;
-    assert!(rt; listed, "opened again");
+    assert!(rt; same && listed);
     Ok(())
 }
 
 // For each command of a run: the calls of the disk that it makes, behind the three of the opening;
 // the answers of the run where one of these calls fails; what the registry holds before it, and
 // after it.
-const CUTS: [(&[u64], [&str; 4], Held, Held); 4] = [
+type Cut = (&'static [u64], [&'static str; 4], Held, Held);
+
+const CUTS: [Cut; 4] = [
     (
         &[4, 5, 6, 7, 8, 9],
         ["S1", "S2", "S2", "S2"],
@@ -77,9 +96,9 @@ const CUTS: [(&[u64], [&str; 4], Held, Held); 4] = [
     ),
 ];
 
-// What a run answers over this disk, and the disk.
-fn run_cut(alloc: Global, disk: Fuse<Memory>) -> Result<(Vec<Reply>, Fuse<Memory>), Fail> {
-    let mut registry = opened(alloc, disk)?;
+// Whether a run over this disk is answered so, and then holds what it held before a command, or
+// after it.
+fn is_cut(alloc: Global, disk: Fuse<Memory>, row: &Cut) -> Result<bool, Fail> {
     let files = [library(b'a'), library(b'b')];
     let commands = [
         Command::Install(&files[0]),
@@ -87,28 +106,27 @@ fn run_cut(alloc: Global, disk: Fuse<Memory>) -> Result<(Vec<Reply>, Fuse<Memory
         Command::SetPreloads(&[B]),
         Command::Remove(A),
     ];
-    let run = registry.run(&commands);
-    let disk = registry.into_disk();
-    Ok((run?, disk))
+    let (same, disk) = runs(alloc, disk, &commands, &row.1)?;
+    let (is_before, is_after) = holds(alloc, disk, row.2, row.3)?;
+    Ok(same && is_before != is_after)
+}
+
+// The same for each call of a command, early and late.
+fn are_cut(alloc: Global, empty: &Memory, row: &Cut) -> Result<bool, Fail> {
+    let mut same = true;
+    for call in row.0 {
+        for late in [false, true] {
+            same &= is_cut(alloc, Fuse::new(empty.copy()?, *call, false, late), row)?;
+        }
+    }
+    Ok(same)
 }
 
 #[test]
 fn after_a_failed_call_of_a_run_all_answers_are_reopen(rt: HostRuntime) -> Result<(), Fail> {
-    let alloc = rt.alloc();
-    let empty = empty(alloc)?;
-    for (calls, wanted, before, after) in &CUTS {
-        for call in *calls {
-            for late in [false, true] {
-                let fused = Fuse::new(empty.copy()?, *call, false, late);
-                let (answers, disk) = run_cut(alloc, fused)?;
-                let (is_before, is_after) = holds(alloc, disk, *before, *after)?;
-                assert!(rt; is_before != is_after, "call {call}");
-                assert_eq!(rt; answers.len(), 4);
-                for (answer, wanted) in answers.iter().zip(wanted) {
-                    assert_eq!(rt; number(answer), *wanted, "call {call}");
-                }
-            }
-        }
+    let empty = empty(rt.alloc())?;
+    for row in &CUTS {
+        assert!(rt; are_cut(rt.alloc(), &empty, row)?);
     }
     Ok(())
 }

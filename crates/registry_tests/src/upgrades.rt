@@ -6,35 +6,33 @@ use crate::opens::open;
 use crate::sectors::Harm::Byte;
 use crate::sectors::{Sectors, disk_of, harmed, old_library, old_sectors, sectors_of};
 use registry::Registry;
-use sector_disk::{Disk, Fuse, Memory, SECTOR_BYTES};
+use sector_disk::{Fuse, Memory, SECTOR_BYTES};
 use std::alloc::Global;
-use std::process::Abort;
 use std::test::Fail;
 use store::StoreRefusal;
 
 /// How an upgrade refuses, if it does, and the disk.
-pub(crate) fn upgrade<D: Disk + Drop>(alloc: Global, disk: D) -> (Option<StoreRefusal>, D) {
+pub(crate) fn upgrade(alloc: Global, disk: Fuse<Memory>) -> (Option<StoreRefusal>, Fuse<Memory>) {
     match Registry::upgrade(alloc, disk) {
         Ok(registry) => (None, registry.into_disk()),
         Err((refusal, disk)) => (Some(refusal), disk),
     }
 }
 
-// What an upgrade of eight sectors is refused with, if it is, and what they hold then.
-fn upgraded(
-    rt: &impl Abort,
+/// What an upgrade of eight sectors is refused with, if it is, and what they hold then.
+pub(crate) fn upgraded(
     alloc: Global,
     sectors: &Sectors,
 ) -> Result<(Option<StoreRefusal>, Sectors), Fail> {
-    let (refusal, mut disk) = upgrade(alloc, disk_of(rt, alloc, sectors)?);
-    Ok((refusal, sectors_of(rt, &mut disk)))
+    let (refusal, disk) = upgrade(alloc, whole(disk_of(alloc, sectors)?));
+    Ok((refusal, sectors_of(&mut disk.into_inner())))
 }
 
 #[test]
 fn an_upgrade_writes_the_catalogue_and_the_other_root(rt: HostRuntime) -> Result<(), Fail> {
     let alloc = rt.alloc();
     let sectors = old_library(alloc, SIZE)?;
-    let (refusal, _) = open(alloc, whole(disk_of(&rt, alloc, &sectors)?));
+    let (refusal, _) = open(alloc, whole(disk_of(alloc, &sectors)?));
     assert_eq!(rt; refusal, Some(StoreRefusal::OldFormat));
     let mut wanted = sectors;
     wanted[0] = [0; SECTOR_BYTES];
@@ -44,9 +42,8 @@ fn an_upgrade_writes_the_catalogue_and_the_other_root(rt: HostRuntime) -> Result
     }
     put(&mut wanted[4], 0, b"LIBC\x01");
     put(&mut wanted[4], 16, &[3]);
-    let (refusal, left) = upgraded(&rt, alloc, &sectors)?;
-    assert_eq!(rt; refusal, None);
-    assert!(rt; left == wanted, "the sectors");
+    let (refusal, left) = upgraded(alloc, &sectors)?;
+    assert!(rt; refusal.is_none() && left == wanted);
     Ok(())
 }
 
@@ -55,9 +52,8 @@ fn an_upgrade_needs_room_for_its_catalogue_twice(rt: HostRuntime) -> Result<(), 
     let full = Some(StoreRefusal::Full);
     for (size, wanted) in [(2560, full), (2048, full), (1536, None)] {
         let sectors = old_library(rt.alloc(), size)?;
-        let (refusal, left) = upgraded(&rt, rt.alloc(), &sectors)?;
-        assert_eq!(rt; refusal, wanted, "{size}");
-        assert!(rt; (left == sectors) == wanted.is_some(), "{size}");
+        let (refusal, left) = upgraded(rt.alloc(), &sectors)?;
+        assert_eq!(rt; (refusal, left == sectors), (wanted, wanted.is_some()));
     }
     Ok(())
 }
@@ -76,27 +72,18 @@ fn an_upgrade_writes_nothing_where_a_file_is_no_library_of_its_name(
         (&a, &none, false),
     ] {
         let sectors = old_sectors(&[(b'a', first), (b'b', second)]);
-        let (refusal, left) = upgraded(&rt, rt.alloc(), &sectors)?;
-        let wanted = if passes {
-            None
-        } else {
-            Some(StoreRefusal::Damaged)
-        };
-        assert_eq!(rt; refusal, wanted);
-        assert!(rt; passes || left == sectors, "it was written");
+        let (refusal, left) = upgraded(rt.alloc(), &sectors)?;
+        let wanted = (!passes).then_some(StoreRefusal::Damaged);
+        assert_eq!(rt; (refusal, left == sectors), (wanted, !passes));
     }
     Ok(())
 }
 
 // A disk with the libraries a and b, of which b is a preload: it has room for their catalogue
 // twice.
-fn both(rt: &impl Abort, alloc: Global) -> Result<Memory, Fail> {
+fn both(alloc: Global) -> Result<Memory, Fail> {
     let sectors = old_sectors(&[(b'a', &library(b'a')), (b'b', &library(b'b'))]);
-    disk_of(
-        rt,
-        alloc,
-        &harmed(&sectors, &[Byte(0, 22, 1), Byte(0, 24, 1)]),
-    )
+    disk_of(alloc, &harmed(&sectors, &[Byte(0, 22, 1), Byte(0, 24, 1)]))
 }
 
 const AB: Held = (&[(b'a', 344), (b'b', 344)], b"b");
@@ -112,37 +99,41 @@ const AFTER: [(Asked, &str); 6] = [
     (Install(b'c', SIZE), "ok"),
 ];
 
-#[test]
-fn an_old_registry_goes_on_as_it_was(rt: HostRuntime) -> Result<(), Fail> {
-    let alloc = rt.alloc();
-    let mut registry = match Registry::upgrade(alloc, whole(both(&rt, alloc)?)) {
-        Ok(registry) => registry,
-        Err(_) => return Err("upgrade refused".into()),
+// Whether an old registry lists what it has, and then answers so, and what it lists then.
+fn goes_on(alloc: Global, disk: Fuse<Memory>) -> Result<bool, Fail> {
+    let Ok(mut registry) = Registry::upgrade(alloc, disk) else {
+        return Ok(false);
     };
     let is_listed = lists(&mut registry, AB);
-    let asked = ask_all(&rt, alloc, &mut registry, &AFTER);
-    let disk = registry.into_disk();
-    asked?;
-    let (stands, _) = holds(alloc, disk, BC, BC)?;
-    assert!(rt; is_listed && stands);
+    let same = ask_all(alloc, &mut registry, &AFTER);
+    let (stands, _) = holds(alloc, registry.into_disk(), BC, BC)?;
+    Ok(is_listed && same && stands)
+}
+
+#[test]
+fn an_old_registry_goes_on_as_it_was(rt: HostRuntime) -> Result<(), Fail> {
+    assert!(rt; goes_on(rt.alloc(), whole(both(rt.alloc())?))?);
     Ok(())
+}
+
+// Whether an upgrade is answered S1 over a disk of which a call fails, and the registry is old then.
+fn cut(alloc: Global, disk: Fuse<Memory>) -> (bool, bool) {
+    let (refusal, left) = upgrade(alloc, disk);
+    let is_old = open(alloc, left).0 == Some(StoreRefusal::OldFormat);
+    (refusal == Some(StoreRefusal::Device), is_old)
 }
 
 #[test]
 fn each_failing_call_of_an_upgrade_leaves_the_old_registry_or_the_new_one(
     rt: HostRuntime,
 ) -> Result<(), Fail> {
-    let disk = both(&rt, rt.alloc())?;
+    let disk = both(rt.alloc())?;
     // A sync, two roots, two entries, a sector of each file; then the catalogue, a sync, the root
     // of call 10, and a sync; there is no twelfth.
     for call in 1..13 {
         for late in [false, true] {
-            let fused = Fuse::new(disk.copy()?, call, false, late);
-            let (refusal, left) = upgrade(rt.alloc(), fused);
-            let is_old = open(rt.alloc(), left).0 == Some(StoreRefusal::OldFormat);
-            let wanted = (call < 12, call < 10 || call == 10 && !late);
-            let told = (refusal == Some(StoreRefusal::Device), is_old);
-            assert_eq!(rt; told, wanted, "call {call}");
+            let told = cut(rt.alloc(), Fuse::new(disk.copy()?, call, false, late));
+            assert_eq!(rt; told, (call < 12, call < 10 || call == 10 && !late));
         }
     }
     Ok(())
