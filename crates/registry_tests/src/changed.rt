@@ -1,13 +1,13 @@
 // A registry on a disk that was changed by something else: which numbered refusal each call has.
-use crate::calls::Asked::Install;
-use crate::calls::{ask_all, lists, opened, whole};
-use crate::files::SIZE;
+use crate::calls::{opened, whole};
+use crate::files::library;
 use crate::harms::{OLD_ROWS, OldRow, ROWS};
 use crate::opens::{format, open};
 use crate::sectors::Harm::{Byte, Zeros};
 use crate::sectors::{Sectors, disk_of, harmed, old_library, one_library, sectors_of};
 use crate::upgrades::upgraded;
-use sector_disk::{Memory, SECTOR_BYTES};
+use requests::{Command, Reply};
+use sector_disk::Memory;
 use std::alloc::Global;
 use std::test::Fail;
 use store::{Store, StoreRefusal};
@@ -93,7 +93,7 @@ fn is_told(alloc: Global, sectors: &Sectors, row: &OldRow) -> Result<bool, Fail>
 
 #[test]
 fn a_disk_of_version_1_that_was_changed_is_told(rt: HostRuntime) -> Result<(), Fail> {
-    let sectors = old_library(rt.alloc(), SIZE)?;
+    let sectors = old_library();
     for row in &OLD_ROWS {
         assert!(rt; is_told(rt.alloc(), &harmed(&sectors, row.0), row)?);
     }
@@ -104,7 +104,7 @@ fn a_disk_of_version_1_that_was_changed_is_told(rt: HostRuntime) -> Result<(), F
 fn a_name_that_was_changed_opens_at_the_store(rt: HostRuntime) -> Result<(), Fail> {
     let alloc = rt.alloc();
     let sectors = one_library(alloc)?;
-    let old = old_library(alloc, SIZE)?;
+    let old = old_library();
     for (harm, name) in [(Byte(3, 16, b'b'), b'b'), (Zeros(2), b'a')] {
         let new = store_of(disk_of(alloc, &harmed(&sectors, &[harm]))?, alloc);
         // So it does once it is upgraded.
@@ -115,20 +115,27 @@ fn a_name_that_was_changed_opens_at_the_store(rt: HostRuntime) -> Result<(), Fai
     Ok(())
 }
 
-// Whether a registry is empty and b is installed, and its second root then.
-fn installed(alloc: Global, disk: Memory) -> Result<(bool, [u8; SECTOR_BYTES]), Fail> {
+// Whether a registry is empty and b is installed, and the generation and the count of libraries in
+// its second root then.
+fn goes_on(alloc: Global, disk: Memory) -> Result<(bool, u8, u8), Fail> {
     let mut registry = opened(alloc, whole(disk))?;
-    let is_empty = lists(&mut registry, (&[], b""));
-    let is_done = ask_all(alloc, &mut registry, &[(Install(b'b', SIZE), "ok")]);
-    let mut disk = registry.into_disk().into_inner();
-    Ok((is_empty && is_done, sectors_of(&mut disk)[1]))
+    let is_empty = match registry.apply(&Command::List) {
+        Reply::Listing(listing) => listing.libraries.is_empty() && listing.preloads.is_empty(),
+        _ => false,
+    };
+    let is_done = matches!(
+        registry.apply(&Command::Install(&library(b'b'))),
+        Reply::Done
+    );
+    let sectors = sectors_of(&mut registry.into_disk().into_inner());
+    Ok((is_empty && is_done, sectors[1][8], sectors[1][20]))
 }
 
 // The next change writes the root of generation 1.
 #[test]
 fn without_its_second_root_a_registry_is_empty(rt: HostRuntime) -> Result<(), Fail> {
     let sectors = harmed(&one_library(rt.alloc())?, &[Zeros(1)]);
-    let (holds, root) = installed(rt.alloc(), disk_of(rt.alloc(), &sectors)?)?;
-    assert_eq!(rt; (holds, root[8], root[20]), (true, 1, 1));
+    let found = goes_on(rt.alloc(), disk_of(rt.alloc(), &sectors)?)?;
+    assert_eq!(rt; found, (true, 1, 1));
     Ok(())
 }

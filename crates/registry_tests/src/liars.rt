@@ -1,6 +1,6 @@
 // A registry on a disk that lies: which numbered refusal each call has, or what it answers.
 use crate::calls::number;
-use crate::files::{SIZE, file};
+use crate::files::file;
 use crate::harms::{OLD_ROWS, ROWS, Wanted};
 use crate::scripts::{LINES, answers, script};
 use crate::sectors::{Sectors, harmed, old_library, one_library};
@@ -123,7 +123,7 @@ fn old_lies(
 
 #[test]
 fn a_liar_of_version_1_is_refused_or_upgraded(rt: HostRuntime) -> Result<(), Fail> {
-    let sectors = old_library(rt.alloc(), SIZE)?;
+    let sectors = old_library();
     let script = script(rt.alloc())?;
     for (harms, _, _, wanted) in &OLD_ROWS {
         assert!(rt;

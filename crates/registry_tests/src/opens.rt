@@ -64,39 +64,3 @@ fn each_file_is_to_be_a_library_of_its_name(rt: HostRuntime) -> Result<(), Fail>
     }
     Ok(())
 }
-
-#[test]
-fn each_failing_call_of_an_opening_is_told(rt: HostRuntime) -> Result<(), Fail> {
-    let disk = filled(rt.alloc(), &library(b'a'), &library(b'b'))?;
-    // A sync, two roots, a catalogue, two entries, and a sector of each file; there is no ninth.
-    for call in 1..10 {
-        let (refusal, _) = open(rt.alloc(), Fuse::new(disk.copy()?, call, false, false));
-        assert_eq!(rt; refusal, (call < 9).then_some(StoreRefusal::Device));
-    }
-    Ok(())
-}
-
-// What an opening of a new disk of so many sectors, a format of it, and both once more are refused
-// with.
-fn formatted_twice(alloc: Global, sectors: u32) -> Result<[Option<StoreRefusal>; 4], Fail> {
-    let (empty, disk) = open(alloc, whole(Memory::new(alloc, sectors)?));
-    let (first, disk) = format(alloc, disk);
-    let (opened, disk) = open(alloc, disk);
-    let (again, _) = format(alloc, disk);
-    Ok([empty, first, opened, again])
-}
-
-#[test]
-fn a_disk_is_formatted_once(rt: HostRuntime) -> Result<(), Fail> {
-    let small = Some(StoreRefusal::BadGeometry);
-    assert_eq!(rt; formatted_twice(rt.alloc(), 7)?, [small; 4]);
-    let unformatted = Some(StoreRefusal::NotFormatted);
-    let wanted = [
-        unformatted,
-        None,
-        None,
-        Some(StoreRefusal::AlreadyFormatted),
-    ];
-    assert_eq!(rt; formatted_twice(rt.alloc(), 8)?, wanted);
-    Ok(())
-}

@@ -1,9 +1,8 @@
 // A disk of eight sectors, and what becomes of them.
-use crate::calls::Asked::Install;
-use crate::calls::{disk_after, whole};
-use crate::files::{SIZE, padded, put};
+use crate::calls::disk_with;
+use crate::files::{library, put};
 use sector_disk::{Disk, Memory, SECTOR_BYTES};
-use std::alloc::{AllocError, Global};
+use std::alloc::Global;
 use std::test::Fail;
 
 /// What a disk of eight sectors holds.
@@ -47,9 +46,7 @@ pub(crate) fn disk_of(alloc: Global, sectors: &Sectors) -> Result<Memory, Fail> 
 /// The sectors of a disk that was made a registry and has the library a: its bytes in sector 2, its
 /// entry in 3, its catalogue in 4, the root of generation 1 in 1.
 pub(crate) fn one_library(alloc: Global) -> Result<Sectors, Fail> {
-    let disk = whole(Memory::new(alloc, 8)?);
-    let mut disk = disk_after(alloc, disk, &[(Install(b'a', SIZE), "ok")])?;
-    Ok(sectors_of(&mut disk))
+    Ok(sectors_of(&mut disk_with(alloc, 8, &library(b'a'))?))
 }
 
 // Puts bytes into a sector from a place on.
@@ -101,9 +98,9 @@ pub(crate) fn old_sectors(files: &[(u8, &[u8])]) -> Sectors {
     sectors
 }
 
-/// The sectors of a disk of version 1 that has the library a of so many bytes.
-pub(crate) fn old_library(alloc: Global, size: usize) -> Result<Sectors, AllocError> {
-    Ok(old_sectors(&[(b'a', &padded(alloc, b'a', size)?)]))
+/// The sectors of a disk of version 1 that has the library a.
+pub(crate) fn old_library() -> Sectors {
+    old_sectors(&[(b'a', &library(b'a'))])
 }
 
 /// The sectors after these changes.

@@ -1,135 +1,39 @@
 // Binders in slots: which slot each has, what is refused of a slot, and until when they keep the
 // sectors of a version. Each table runs twice, by a call for each event and by one run of them.
-use crate::calls::opened;
+use crate::calls::{disk_with, formatted, whole};
 use crate::events::Told::{self, Number, Slot, Word};
-use crate::events::{BASE, BIND, answer_of, disk_left};
+use crate::events::{BASE, BEGIN, BIND, GOING, Row, happen};
 use crate::files::{ASKING, DEFINING, absolute};
-use crate::flights::{FULL, GOING, OK, small, with_a};
+use binders::Event;
 use binders::Event::{Advance, Apply, Begin, Cancel};
-use binders::{Binders, Event, EventReply};
-use registry::Step;
-use requests::{Command, Reply};
-use sector_disk::{Fuse, Memory};
+use requests::Command;
+use sector_disk::Memory;
 use std::alloc::Global;
 use std::test::Fail;
 
-const NO_BINDER: Told = Number("C8");
+const OK: Told = Number("ok");
 
-const BEGIN: Event<'static> = Begin {
-    program: ASKING,
-    base: BASE,
-};
+const FULL: Told = Number("S7");
+
+const NO_BINDER: Told = Number("C8");
 
 // No call of the disk fails.
 const WHOLE: (u64, bool) = (0, false);
 
-// An event and its answer.
-type Row<'a> = (Event<'a>, Told);
-
-// What the call for an event is answered.
-fn told_by_call(binders: &mut Binders<Fuse<Memory>>, event: &Event<'_>) -> Told {
-    let refusal = match event {
-        Apply(command) => return answer_of(&binders.apply(command)),
-        Cancel(slot) => return answer_of(&binders.cancel(*slot)),
-        Begin { program, base } => match binders.begin(program, *base) {
-            Ok(slot) => return Slot(slot),
-            Err(refusal) => refusal,
-        },
-        Advance(slot) => match binders.advance(*slot) {
-            Ok(Step::Going) => return GOING,
-            Ok(Step::Final(answer)) => return answer_of(&answer),
-            Err(refusal) => refusal,
-        },
-    };
-    answer_of(&Reply::Refused(refusal))
+// The disk of a new registry of eight sectors. With a library of one sector two of them are free.
+fn empty(alloc: Global) -> Result<Memory, Fail> {
+    let registry = formatted(alloc, whole(Memory::new(alloc, 8)?))?;
+    Ok(registry.into_disk().into_inner())
 }
 
-// What a reply of a run says.
-fn told_of(reply: &EventReply) -> Told {
-    match reply {
-        EventReply::Replied(reply) => answer_of(reply),
-        EventReply::Slot(slot) => Slot(*slot),
-        EventReply::Going => GOING,
-    }
-}
-
-// Whether one run of the events is answered so.
-fn is_told_by_run(
-    binders: &mut Binders<Fuse<Memory>>,
-    events: &[Event<'_>],
-    rows: &[Row<'_>],
-) -> bool {
-    let Ok(replies) = binders.run_events(events) else {
-        return false;
-    };
-    let mut same = replies.len() == rows.len();
-    for (reply, (_, wanted)) in replies.iter().zip(rows) {
-        same &= told_of(reply) == *wanted;
-    }
-    same
-}
-
-// Whether a call for each event is answered so.
-fn is_told_by_calls(binders: &mut Binders<Fuse<Memory>>, rows: &[Row<'_>]) -> bool {
-    let mut same = true;
-    for (event, wanted) in rows {
-        same &= told_by_call(binders, event) == *wanted;
-    }
-    same
-}
-
-// The registry of a disk with binders. The call of the disk with this number fails, early or late,
-// and none for 0.
-fn binders_of(
-    alloc: Global,
-    disk: &Memory,
-    (call, late): (u64, bool),
-) -> Result<Binders<Fuse<Memory>>, Fail> {
-    let fused = Fuse::new(disk.copy()?, call, false, late);
-    Ok(Binders::new(alloc, opened(alloc, fused)?))
-}
-
-// Whether these events are answered so, by a call for each, and from the start again by one run.
-fn is_told(
-    alloc: Global,
-    disk: &Memory,
-    cut: (u64, bool),
-    events: &[Event<'_>],
-    rows: &[Row<'_>],
-) -> Result<bool, Fail> {
-    let mut binders = binders_of(alloc, disk, cut)?;
-    let by_calls = is_told_by_calls(&mut binders, rows);
-    let _ = binders.into_registry().into_disk();
-    let mut binders = binders_of(alloc, disk, cut)?;
-    let by_run = is_told_by_run(&mut binders, events, rows);
-    let _ = binders.into_registry().into_disk();
-    Ok(by_calls && by_run)
-}
-
-// Begins so many binders over the registry of a disk, and then lets the events happen. Each is
-// answered so.
-fn happen(
-    alloc: Global,
-    disk: &Memory,
-    cut: (u64, bool),
-    begun: usize,
-    events: &[Row<'_>],
-) -> Result<bool, Fail> {
-    let mut rows: Vec<Row<'_>> = Vec::new(alloc);
-    for slot in 0..begun {
-        rows.push((BEGIN, Slot(slot)))?;
-    }
-    rows.extend_from_slice(events)?;
-    let mut asked = Vec::new(alloc);
-    for (event, _) in rows.iter() {
-        asked.push(*event)?;
-    }
-    is_told(alloc, disk, cut, &asked, &rows)
+// The same with a. Its opening takes six calls: a sync, two roots, the catalogue, the entry, and the
+// file.
+fn with_a(alloc: Global) -> Result<Memory, Fail> {
+    disk_with(alloc, 8, DEFINING)
 }
 
 #[test]
 fn a_slot_is_free_after_the_last_step(rt: HostRuntime) -> Result<(), Fail> {
-    let alloc = rt.alloc();
     let other = absolute(0x1234);
     let replace = Apply(Command::Replace(&other));
     let rows = [
@@ -141,17 +45,99 @@ fn a_slot_is_free_after_the_last_step(rt: HostRuntime) -> Result<(), Fail> {
         (Advance(0), GOING),
         (Advance(0), Word(0x11170)),
         (replace, OK),
-        (Apply(BIND), Word(0x1234)),
+        (BIND, Word(0x1234)),
         (Advance(0), NO_BINDER),
-        (Apply(Command::Remove(b"a")), OK),
+        (REMOVE, OK),
         (BEGIN, Slot(0)),
         (Advance(0), GOING),
         (Advance(0), Number("B3")),
         (Cancel(0), NO_BINDER),
         (BEGIN, Slot(0)),
     ];
-    let disk = disk_left(alloc, small(alloc)?, &[])?;
-    assert!(rt; happen(alloc, &disk, WHOLE, 0, &rows)?);
+    assert!(rt; happen(rt.alloc(), &empty(rt.alloc())?, WHOLE, 0, &rows)?);
+    Ok(())
+}
+
+const REMOVE: Event<'static> = Apply(Command::Remove(b"a"));
+
+#[test]
+fn a_binder_has_a_library_that_was_removed(rt: HostRuntime) -> Result<(), Fail> {
+    let other = absolute(0x1234);
+    let replace = Apply(Command::Replace(&other));
+    let rows = [
+        (BEGIN, Slot(0)),
+        (replace, OK),
+        (REMOVE, OK),
+        (replace, Number("C3")),
+        (Advance(0), GOING),
+        (Advance(0), GOING),
+        (Advance(0), Word(0x11170)),
+        (replace, Number("C3")),
+        (BIND, Number("B3")),
+    ];
+    assert!(rt; happen(rt.alloc(), &with_a(rt.alloc())?, WHOLE, 0, &rows)?);
+    Ok(())
+}
+
+#[test]
+fn a_binder_ends_before_its_first_step(rt: HostRuntime) -> Result<(), Fail> {
+    let other = absolute(0x1234);
+    let replace = Apply(Command::Replace(&other));
+    let rows = [
+        (BEGIN, Slot(0)),
+        (replace, OK),
+        (replace, FULL),
+        (Cancel(0), OK),
+        (replace, OK),
+    ];
+    assert!(rt; happen(rt.alloc(), &with_a(rt.alloc())?, WHOLE, 0, &rows)?);
+    Ok(())
+}
+
+// What lacks a library is refused at the last step.
+const REFUSED: [Row<'static>; 11] = [
+    (
+        Begin {
+            program: b"",
+            base: BASE,
+        },
+        Slot(0),
+    ),
+    (
+        Begin {
+            program: &[0; 64],
+            base: BASE,
+        },
+        Slot(1),
+    ),
+    (
+        Begin {
+            program: b"",
+            base: 0x10001,
+        },
+        Slot(2),
+    ),
+    (
+        Begin {
+            program: ASKING,
+            base: 0x10001,
+        },
+        Slot(3),
+    ),
+    (BEGIN, Slot(4)),
+    (Advance(0), Number("B1")),
+    (Advance(1), Number("B1")),
+    (Advance(2), Number("B1")),
+    (Advance(3), Number("B2")),
+    (Advance(4), GOING),
+    (Advance(4), Number("B3")),
+];
+
+#[test]
+fn a_program_that_is_refused_by_itself_is_so_at_the_first_step(
+    rt: HostRuntime,
+) -> Result<(), Fail> {
+    assert!(rt; happen(rt.alloc(), &empty(rt.alloc())?, WHOLE, 0, &REFUSED)?);
     Ok(())
 }
 

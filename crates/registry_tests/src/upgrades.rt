@@ -1,12 +1,9 @@
-// What an upgrade finds on a disk of version 1, what it leaves, and what it refuses.
-use crate::calls::Asked::{Install, Remove, Replace};
-use crate::calls::{Asked, Held, ask_all, holds, lists, whole};
-use crate::files::{SIZE, library, put};
-use crate::opens::open;
-use crate::sectors::Harm::Byte;
-use crate::sectors::{Sectors, disk_of, harmed, old_library, old_sectors, sectors_of};
+// What an upgrade finds on a disk of version 1, and what it refuses.
+use crate::calls::whole;
+use crate::files::{SIZE, library};
+use crate::sectors::{Sectors, disk_of, old_sectors, sectors_of};
 use registry::Registry;
-use sector_disk::{Fuse, Memory, SECTOR_BYTES};
+use sector_disk::{Fuse, Memory};
 use std::alloc::Global;
 use std::test::Fail;
 use store::StoreRefusal;
@@ -29,36 +26,6 @@ pub(crate) fn upgraded(
 }
 
 #[test]
-fn an_upgrade_writes_the_catalogue_and_the_other_root(rt: HostRuntime) -> Result<(), Fail> {
-    let alloc = rt.alloc();
-    let sectors = old_library(alloc, SIZE)?;
-    let (refusal, _) = open(alloc, whole(disk_of(alloc, &sectors)?));
-    assert_eq!(rt; refusal, Some(StoreRefusal::OldFormat));
-    let mut wanted = sectors;
-    wanted[0] = [0; SECTOR_BYTES];
-    put(&mut wanted[0], 0, b"RLIBREG2\x02");
-    for (place, byte) in [(16, 8), (20, 1), (56, 1), (64, 4)] {
-        put(&mut wanted[0], place, &[byte]);
-    }
-    put(&mut wanted[4], 0, b"LIBC\x01");
-    put(&mut wanted[4], 16, &[3]);
-    let (refusal, left) = upgraded(alloc, &sectors)?;
-    assert!(rt; refusal.is_none() && left == wanted);
-    Ok(())
-}
-
-#[test]
-fn an_upgrade_needs_room_for_its_catalogue_twice(rt: HostRuntime) -> Result<(), Fail> {
-    let full = Some(StoreRefusal::Full);
-    for (size, wanted) in [(2560, full), (2048, full), (1536, None)] {
-        let sectors = old_library(rt.alloc(), size)?;
-        let (refusal, left) = upgraded(rt.alloc(), &sectors)?;
-        assert_eq!(rt; (refusal, left == sectors), (wanted, wanted.is_some()));
-    }
-    Ok(())
-}
-
-#[test]
 fn an_upgrade_writes_nothing_where_a_file_is_no_library_of_its_name(
     rt: HostRuntime,
 ) -> Result<(), Fail> {
@@ -75,66 +42,6 @@ fn an_upgrade_writes_nothing_where_a_file_is_no_library_of_its_name(
         let (refusal, left) = upgraded(rt.alloc(), &sectors)?;
         let wanted = (!passes).then_some(StoreRefusal::Damaged);
         assert_eq!(rt; (refusal, left == sectors), (wanted, !passes));
-    }
-    Ok(())
-}
-
-// A disk with the libraries a and b, of which b is a preload: it has room for their catalogue
-// twice.
-fn both(alloc: Global) -> Result<Memory, Fail> {
-    let sectors = old_sectors(&[(b'a', &library(b'a')), (b'b', &library(b'b'))]);
-    disk_of(alloc, &harmed(&sectors, &[Byte(0, 22, 1), Byte(0, 24, 1)]))
-}
-
-const AB: Held = (&[(b'a', 344), (b'b', 344)], b"b");
-
-const BC: Held = (&[(b'b', 344), (b'c', 344)], b"b");
-
-const AFTER: [(Asked, &str); 6] = [
-    (Remove(b'b'), "C4"),
-    (Install(b'a', SIZE), "C2"),
-    (Install(b'c', SIZE), "S7"),
-    (Replace(b'a', SIZE), "S7"),
-    (Remove(b'a'), "ok"),
-    (Install(b'c', SIZE), "ok"),
-];
-
-// Whether an old registry lists what it has, and then answers so, and what it lists then.
-fn goes_on(alloc: Global, disk: Fuse<Memory>) -> Result<bool, Fail> {
-    let Ok(mut registry) = Registry::upgrade(alloc, disk) else {
-        return Ok(false);
-    };
-    let is_listed = lists(&mut registry, AB);
-    let same = ask_all(alloc, &mut registry, &AFTER);
-    let (stands, _) = holds(alloc, registry.into_disk(), BC, BC)?;
-    Ok(is_listed && same && stands)
-}
-
-#[test]
-fn an_old_registry_goes_on_as_it_was(rt: HostRuntime) -> Result<(), Fail> {
-    assert!(rt; goes_on(rt.alloc(), whole(both(rt.alloc())?))?);
-    Ok(())
-}
-
-// Whether an upgrade is answered S1 over a disk of which a call fails, and the registry is old then.
-fn cut(alloc: Global, disk: Fuse<Memory>) -> (bool, bool) {
-    let (refusal, left) = upgrade(alloc, disk);
-    let is_old = open(alloc, left).0 == Some(StoreRefusal::OldFormat);
-    (refusal == Some(StoreRefusal::Device), is_old)
-}
-
-#[test]
-fn each_failing_call_of_an_upgrade_leaves_the_old_registry_or_the_new_one(
-    rt: HostRuntime,
-) -> Result<(), Fail> {
-    let disk = both(rt.alloc())?;
-    // A sync, two roots, two entries, a sector of each file; then the catalogue, a sync, the root
-    // of call 10, and a sync; there is no twelfth.
-    for call in 1..13 {
-        for late in [false, true] {
-            let told = cut(rt.alloc(), Fuse::new(disk.copy()?, call, false, late));
-            assert_eq!(rt; told, (call < 12, call < 10 || call == 10 && !late));
-        }
     }
     Ok(())
 }
