@@ -1,17 +1,15 @@
 -- Names that are tails of names, and their order.
-use Rattle.std.proofs.Common.{◌≡◌, ℕ, ◌<◌, ◌≤◌, ◌+◌, ◌-◌, Bool, true, false, cond, List, [], ◌∷◌, length, take, drop, arith, refl, sym, ap, ◌∙◌, subst, suc, zero, eqb, get_or, Some}
+use Rattle.std.proofs.Common.{◌≡◌, ℕ, ◌<◌, ◌≤◌, ◌+◌, Bool, true, false, cond, List, [], ◌∷◌, length, take, drop, arith, refl, sym, ap, ◌∙◌, suc, zero, eqb, get_or, Some}
 use Rattle.std.specs.Prelude.{not, slice_get}
 use Rattle.std.specs.List.{prefix_len}
 use Rattle.std.specs.Cmp.Lexicographic.{slice_cmp}
 use Rattle.std.specs.Ordering.{nat_cmp, ordering_then}
-use Rattle.std.specs.declared.cmp.Ordering.{Ordering}
 use Rattle.std.specs.declared.cmp.Ordering.TheVariants.{Equal}
 use Rattle.std.proofs.lemmas.Cmp.{nat_cmp_total, tied_itself}
 use Rattle.std.proofs.lemmas.List.{drop-drop}
-use Rattle.std.proofs.lemmas.Bool.{lt-ltb}
 use Rattle.elf_dynamic.specs.Symbol.{symbols}
 use Rattle.elf_dynamic.specs.declared.symbol.Symbol.{Symbol}
-use Rattle.elf_dynamic.specs.Strings.{name_of, string_table, string_at}
+use Rattle.elf_dynamic.specs.Strings.{string_table, string_at}
 use Rattle.hash_check.proofs.NameLengths.{name-by-symbol}
 use Rattle.scope.specs.Objects.{Named, file_at}
 use Rattle.scope.specs.declared.entry.Entry.{Entry}

@@ -1,11 +1,11 @@
-use Rattle.std.proofs.Common.{◌≡◌, ◌∙◌, ℕ, List, sym, ap, get_or, arith, refl, true, false}
+use Rattle.std.proofs.Common.{◌≡◌, ◌∙◌, ℕ, List, sym, ap, get_or, arith, refl}
 use Rattle.std.specs.Ordering.{is_eq}
 use Rattle.std.specs.declared.cmp.Ordering.TheVariants.{Equal}
 use Rattle.std.proofs.lemmas.Bool.{false≢true}
 use Rattle.elf_dynamic.specs.Strings.{name_of}
 use Rattle.scope.specs.Objects.{Named, file_at}
 use Rattle.scope.specs.declared.entry.Entry.{Entry}
-use Rattle.scope.specs.inside.Entries.{name_order, order_to}
+use Rattle.scope.specs.inside.Entries.{name_order}
 use Rattle.scope.proofs.TableSearch.{is-equal, found, nowhere}
 use Rattle.scope.proofs.NameSearch.{entry-name, wanted-order, wanted-place}
 use Rattle.scope.proofs.name_search.first_definition.Goals as goal

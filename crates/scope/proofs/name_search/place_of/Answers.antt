@@ -1,6 +1,5 @@
-use Rattle.std.proofs.Common.{◌≡◌, ◌<◌, ◌+◌, ◌-◌, ◌/◌, ◌∙◌, Bool, true, false, ap, sym, get_or, length, arith}
+use Rattle.std.proofs.Common.{◌≡◌, ◌<◌, ◌+◌, ◌-◌, ◌/◌, ◌∙◌, true, false, ap, sym, get_or, length, arith}
 use Rattle.std.specs.Ordering.{is_lt}
-use Rattle.scope.specs.Objects.{Named}
 use Rattle.scope.specs.declared.entry.Entry.{Entry}
 use Rattle.scope.specs.inside.Compared.{place_order}
 use Rattle.scope.proofs.NameSearch.{entry-name, partitioned-names, passes-up-to, fails-from}
