@@ -7,7 +7,7 @@ use crate::sectors::Harm::{Byte, Zeros};
 use crate::sectors::{Sectors, disk_of, harmed, old_library, one_library, sectors_of};
 use crate::upgrades::upgraded;
 use requests::{Command, Reply};
-use sector_disk::Memory;
+use sector_disk::{Memory, SECTOR_BYTES};
 use std::alloc::Global;
 use std::test::Fail;
 use store::{Store, StoreRefusal};
@@ -60,21 +60,23 @@ fn upgrade_store(alloc: Global, disk: Memory) -> (Option<StoreRefusal>, Memory) 
     }
 }
 
+// Whether a sector begins as a root of version 2 of this generation.
+fn is_root(sector: &[u8; SECTOR_BYTES], generation: u8) -> bool {
+    sector.starts_with(b"RLIBREG2") && sector[8] == generation
+}
+
 // Whether an upgrade of these sectors is refused so, and has left them as they were; or its root of
 // this generation is where it belongs.
 fn is_upgraded(
     before: &Sectors,
-    (refusal, after): (Option<StoreRefusal>, Sectors),
+    found: (Option<StoreRefusal>, Sectors),
     wanted: Result<u8, StoreRefusal>,
 ) -> bool {
     let holds = match wanted {
-        Ok(generation) => {
-            let root = after[usize::from(generation % 2)];
-            root.starts_with(b"RLIBREG2") && root[8] == generation
-        }
-        Err(_) => after == *before,
+        Ok(generation) => is_root(&found.1[usize::from(generation % 2)], generation),
+        Err(_) => found.1 == *before,
     };
-    holds && refusal == wanted.err()
+    holds && found.0 == wanted.err()
 }
 
 // Whether a disk of version 1 is refused so, or upgraded, by a registry that is opened, and by a

@@ -143,9 +143,9 @@ fn is_told(
     Ok(by_calls && by_run)
 }
 
-/// Begins so many binders over the registry of a disk, and then lets the events happen, by a call for
-/// each, and from the start again by one run. Whether each is answered so. The call of the disk with
-/// this number fails, early or late, and none for 0.
+/// Begins so many binders over the registry of a disk, and then lets the events happen, by a call
+/// for each, and from the start again by one run. Whether each is answered so. The call of the disk
+/// with this number fails, early or late, and none for 0.
 pub(crate) fn happen(
     alloc: Global,
     disk: &Memory,

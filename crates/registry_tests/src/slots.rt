@@ -26,8 +26,8 @@ fn empty(alloc: Global) -> Result<Memory, Fail> {
     Ok(registry.into_disk().into_inner())
 }
 
-// The same with a. Its opening takes six calls: a sync, two roots, the catalogue, the entry, and the
-// file.
+// The same with a. Its opening takes six calls: a sync, two roots, the catalogue, the entry, and
+// the file.
 fn with_a(alloc: Global) -> Result<Memory, Fail> {
     disk_with(alloc, 8, DEFINING)
 }
@@ -188,15 +188,17 @@ fn after_a_failed_write_slots_are_cancelled_alone(rt: HostRuntime) -> Result<(),
     Ok(())
 }
 
-// A replacement that waits until each of eight binders is cancelled in this order, and then the next
-// one is done.
+// A replacement after which there is no room for another until each of eight binders is cancelled,
+// in this order.
 fn cancel_rows<'a>(replace: Event<'a>, order: [usize; 8]) -> [Row<'a>; 18] {
     let mut rows = [(replace, OK); 18];
     for (i, slot) in order.iter().enumerate() {
-        let at = i.wrapping_mul(2);
-        if let Some([refused, cancelled]) = rows.get_mut(at.wrapping_add(1)..at.wrapping_add(3)) {
-            *refused = (replace, FULL);
-            *cancelled = (Cancel(*slot), OK);
+        let at = i.wrapping_mul(2).wrapping_add(1);
+        if let Some(row) = rows.get_mut(at) {
+            *row = (replace, FULL);
+        }
+        if let Some(row) = rows.get_mut(at.wrapping_add(1)) {
+            *row = (Cancel(*slot), OK);
         }
     }
     rows
