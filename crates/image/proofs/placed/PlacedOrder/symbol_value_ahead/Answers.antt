@@ -1,11 +1,9 @@
-use Rattle.std.proofs.Common.{◌≡◌, ◌<◌, ◌∙◌, List, ℕ, Some, ap, sym, subst, arith, length, map}
-use Rattle.std.proofs.lemmas.List.{length-map}
+use Rattle.std.proofs.Common.{◌<◌, ◌∙◌, List, ℕ, Some, ap, sym, subst, length}
 use Rattle.elf_dynamic.specs.Symbol.{symbols}
 use Rattle.hash_check.specs.KeyedName.{named as keyed}
 use Rattle.scope.specs.Objects.{Named, file_at}
 use Rattle.scope.specs.Target.{target}
 use Rattle.scope.specs.declared.target.Target.{Target}
-use Rattle.image.specs.Placement.{named}
 use Rattle.image.proofs.SymbolNames.{file-named}
 use Rattle.image.proofs.Targets.{placed-there}
 use Rattle.image.proofs.placed.PlacedOrder.symbol_value_ahead.Goals as goal
