@@ -195,13 +195,13 @@ fn opening_calls(case: &Case) -> u64 {
 }
 
 // Whether a bind is answered S1 over a disk of which a call fails. The same bind then is answered
-// as the plain registry does, and so is each bind that isn't answered S1.
+// as the plain registry does, and so is a first bind that isn't answered S1.
 fn fails(alloc: Global, disk: Fuse<Memory>, program: &[u8], wanted: &Told) -> Result<bool, Fail> {
     let (first, again) = bind_twice(alloc, disk, program)?;
     let failed = matches!(first, Reply::Refused(Refusal::Device));
     let is_first = text_of(alloc, first)? == *wanted;
     let is_again = text_of(alloc, again)? == *wanted;
-    if (is_first || failed) && is_again {
+    if (failed && is_again) || (!failed && is_first) {
         Ok(failed)
     } else {
         Err("another answer".into())

@@ -152,21 +152,26 @@ fn answered(registry: &mut Registry<Liar>, program: &[u8]) -> [&'static str; 4] 
     ]
 }
 
-// The same over the registry of a disk.
-fn told_by(alloc: Global, disk: Liar, program: &[u8]) -> Result<[&'static str; 4], Fail> {
+// Whether they are answered so over the registry of a disk.
+fn is_answered(
+    alloc: Global,
+    disk: Liar,
+    program: &[u8],
+    wanted: &[&str; 4],
+) -> Result<bool, Fail> {
     let Ok(mut registry) = Registry::open(alloc, disk) else {
         return Err("open refused".into());
     };
     let told = answered(&mut registry, program);
     let _ = registry.into_disk();
-    Ok(told)
+    Ok(told == *wanted)
 }
 
 #[test]
 fn a_file_that_reads_otherwise_than_at_the_opening_is_told(rt: HostRuntime) -> Result<(), Fail> {
     let program = file(rt.alloc(), None, b"a", 0)?;
     let disk = in_order(rt.alloc(), &one_library(rt.alloc())?)?;
-    let told = told_by(rt.alloc(), disk, &program)?;
-    assert_eq!(rt; told, ["S5", "listing", "ok", "B3"]);
+    let wanted = ["S5", "listing", "ok", "B3"];
+    assert!(rt; is_answered(rt.alloc(), disk, &program, &wanted)?);
     Ok(())
 }
