@@ -18,7 +18,7 @@ const PAGE: usize = 0x10000;
 
 /// Why a file wasn't read.
 #[derive(Clone, Copy, Debug, PartialEq, Eq)]
-pub(crate) enum FileFault {
+pub enum FileFault {
     /// It can't be opened or read, or it is too long.
     CannotRead,
     /// A growth was refused.
@@ -37,11 +37,7 @@ pub(crate) fn read_file<R: Files>(rt: &R, alloc: Global, path: &str) -> Result<V
 
 /// Reads to the end, where that comes before a limit, through a page on the stack, so that a growth
 /// that is refused is told from a read that fails, for whatever reason it fails.
-pub(crate) fn read_all<F: Read>(
-    alloc: Global,
-    file: &mut F,
-    limit: usize,
-) -> Result<Vec<u8>, FileFault>
+pub fn read_all<F: Read>(alloc: Global, file: &mut F, limit: usize) -> Result<Vec<u8>, FileFault>
     ensures short { IfOk result (λ bytes. length bytes.items < limit) }
     // Of a reader that tells its bytes these are all.
     ensures whole { IfOk result (λ bytes.

@@ -33,8 +33,6 @@ mod status;
 mod streams;
 mod summary;
 mod takes_events;
-#[cfg(test)]
-mod tests;
 mod unread;
 mod watched;
 mod word;
@@ -45,6 +43,7 @@ pub use command::run_words;
 pub use disk_refusal::write_disk_refusal;
 pub use disk_script::run_script_on_disk;
 pub use fault::ScriptFault;
+pub use file::{FileFault, read_all};
 pub use refusal::{write_file_refusal, write_refusal};
 pub use reply::write_reply;
 pub use script::run_script;

@@ -2,362 +2,294 @@
 // the byte 2 alone is content 2.
 use sector_disk::{CallCount, Disk, DiskFault, Fuse, Liar, Memory, SECTOR_BYTES};
 use std::alloc::Global;
-use std::process::Abort;
 use std::test::Fail;
 
-/// Fills a sector with a byte.
-pub(crate) fn write<D: Disk>(
-    rt: &impl Abort,
-    disk: &mut D,
-    at: u32,
-    content: u8,
-) -> Result<(), DiskFault> {
-    assert!(rt; at < disk.sectors(), "sector {at}");
-    disk.write(at, &[content; SECTOR_BYTES])
+/// Fills a sector with a byte: whether there is one and it was written.
+pub(crate) fn write<D: Disk>(disk: &mut D, at: u32, content: u8) -> bool {
+    at < disk.sectors() && disk.write(at, &[content; SECTOR_BYTES]).is_ok()
 }
 
-/// The content of a sector, or None where the disk failed.
-pub(crate) fn read<D: Disk>(rt: &impl Abort, disk: &mut D, at: u32) -> Option<u8> {
-    assert!(rt; at < disk.sectors(), "sector {at}");
+/// The content of a sector, or None where there is none, where the disk failed, and where its bytes
+/// differ.
+pub(crate) fn read<D: Disk>(disk: &mut D, at: u32) -> Option<u8> {
     let mut sector = [99; SECTOR_BYTES];
-    if disk.read(at, &mut sector).is_err() {
+    if at >= disk.sectors() || disk.read(at, &mut sector).is_err() {
         return None;
     }
-    assert_eq!(rt; sector, [sector[0]; SECTOR_BYTES], "sector {at}");
-    Some(sector[0])
+    (sector == [sector[0]; SECTOR_BYTES]).then_some(sector[0])
 }
 
-fn choices(rt: &impl Abort, disk: &Memory, at: u32) -> usize {
-    assert!(rt; at < disk.sectors(), "sector {at}");
-    disk.choices(at)
+/// Fills each sector with its number modulo 251: whether all were written.
+pub(crate) fn fill<D: Disk>(disk: &mut D) -> bool {
+    for at in 0..disk.sectors() {
+        if !write(disk, at, (at % 251) as u8) {
+            return false;
+        }
+    }
+    true
 }
 
-// What this sector holds after a stop that picks the same number everywhere.
-fn left(rt: &impl Abort, disk: &Memory, at: u32, pick: usize) -> Result<Option<u8>, Fail> {
-    let mut stopped = disk.copy()?.stop(|_, _| pick);
-    assert_eq!(rt; stopped.sectors(), disk.sectors());
-    assert_eq!(rt; choices(rt, &stopped, at), 1, "all is synced");
-    Ok(read(rt, &mut stopped, at))
+/// Whether each sector holds its number modulo 251.
+pub(crate) fn is_filled<D: Disk>(disk: &mut D) -> bool {
+    for at in 0..disk.sectors() {
+        if read(disk, at) != Some((at % 251) as u8) {
+            return false;
+        }
+    }
+    true
+}
+
+// How many choices a stop has for a sector, or 0 where there is none.
+fn choices(disk: &Memory, at: u32) -> usize {
+    if at < disk.sectors() {
+        disk.choices(at)
+    } else {
+        0
+    }
+}
+
+// What this sector holds after a stop that picks the same number everywhere. Then all is synced.
+fn left(disk: &Memory, at: u32, pick: usize) -> Option<u8> {
+    let mut stopped = disk.copy().ok()?.stop(|_, _| pick);
+    if stopped.sectors() == disk.sectors() && choices(&stopped, at) == 1 {
+        read(&mut stopped, at)
+    } else {
+        None
+    }
+}
+
+// Whether these are the choices for a sector, in their order: each is picked by its number, and by
+// what is one round higher.
+fn leaves(disk: &Memory, at: u32, contents: &[u8]) -> bool {
+    for (pick, content) in contents.iter().enumerate() {
+        let higher = pick.saturating_add(contents.len());
+        if left(disk, at, pick) != Some(*content) || left(disk, at, higher) != Some(*content) {
+            return false;
+        }
+    }
+    choices(disk, at) == contents.len()
+}
+
+// Whether the sectors 1, 2 and 3 have these choices.
+fn leave(disk: &Memory, contents: [&[u8]; 3]) -> [bool; 3] {
+    let [one, two, three] = contents;
+    [
+        leaves(disk, 1, one),
+        leaves(disk, 2, two),
+        leaves(disk, 3, three),
+    ]
+}
+
+// Whether each of these writes succeeds.
+fn write_all(disk: &mut Memory, writes: &[(u32, u8)]) -> bool {
+    for (at, content) in writes {
+        if !write(disk, *at, *content) {
+            return false;
+        }
+    }
+    true
 }
 
 #[test]
 fn a_stop_leaves_the_synced_content_or_one_written_since(rt: HostRuntime) -> Result<(), Fail> {
     let mut disk = Memory::new(rt.alloc(), 8)?;
-    assert_eq!(rt; disk.sectors(), 8);
-    for at in 0..8 {
-        assert_eq!(rt; read(&rt, &mut disk, at), Some(0), "zeros at first");
-    }
-    write(&rt, &mut disk, 2, 5)?;
-    write(&rt, &mut disk, 2, 6)?;
-    assert_eq!(rt; read(&rt, &mut disk, 2), Some(6));
-    assert_eq!(rt; choices(&rt, &disk, 2), 3);
-    assert_eq!(rt; choices(&rt, &disk, 3), 1);
-    let copy = disk.copy()?;
-    assert_eq!(rt; choices(&rt, &copy, 2), 3);
-    assert_eq!(rt; choices(&rt, &copy, 3), 1);
-    for (pick, content) in [(0, 0), (1, 5), (2, 6), (3, 0), (4, 5), (usize::MAX, 0)] {
-        assert_eq!(rt; left(&rt, &disk, 2, pick)?, Some(content), "pick {pick}");
-        assert_eq!(rt;
-            left(&rt, &copy, 2, pick)?,
-            Some(content),
-            "pick {pick} of the copy"
-        );
-        assert_eq!(rt;
-            left(&rt, &disk, 3, pick)?,
-            Some(0),
-            "pick {pick} elsewhere"
-        );
-    }
-    disk.sync()?;
-    assert_eq!(rt; choices(&rt, &disk, 2), 1);
-    assert_eq!(rt; left(&rt, &disk, 2, 0)?, Some(6));
-    assert_eq!(rt; choices(&rt, &copy, 2), 3, "the copy isn't synced");
-    Ok(())
-}
+    let zeros = leave(&disk, [&[0], &[0], &[0]]);
+    let first = write(&mut disk, 1, 20) && disk.sync().is_ok();
 
-#[test]
-fn a_content_that_is_written_again_is_a_choice_of_its_own(rt: HostRuntime) -> Result<(), Fail> {
-    let mut disk = Memory::new(rt.alloc(), 2)?;
-    write(&rt, &mut disk, 1, 20)?;
-    disk.sync()?;
-    write(&rt, &mut disk, 1, 30)?;
-    write(&rt, &mut disk, 1, 30)?;
-    assert_eq!(rt; read(&rt, &mut disk, 1), Some(30));
-    assert_eq!(rt; choices(&rt, &disk, 1), 3);
-    write(&rt, &mut disk, 1, 20)?;
-    assert_eq!(rt; choices(&rt, &disk, 1), 4);
-    for (pick, content) in [(0, 20), (1, 30), (2, 30), (3, 20), (4, 20)] {
-        assert_eq!(rt; left(&rt, &disk, 1, pick)?, Some(content), "pick {pick}");
-    }
-    assert_eq!(rt; choices(&rt, &disk, 0), 1);
-    disk.sync()?;
-    assert_eq!(rt; choices(&rt, &disk, 1), 1);
+    // A content that is written again is a choice of its own.
+    let second = write_all(&mut disk, &[(2, 5), (1, 30), (1, 30), (2, 6), (1, 20)]);
+    let reads = [read(&mut disk, 1), read(&mut disk, 2), read(&mut disk, 0)];
+    let loose = leave(&disk, [&[20, 30, 30, 20], &[0, 5, 6], &[0]]);
+    let highest = left(&disk, 2, usize::MAX);
+    let copy = disk.copy()?;
+    let third = disk.sync().is_ok();
+    let synced = leave(&disk, [&[20], &[6], &[0]]);
+    let copied = leave(&copy, [&[20, 30, 30, 20], &[0, 5, 6], &[0]]);
+    assert!(rt; first && second && third);
+    assert_eq!(rt; (reads, highest), ([Some(20), Some(6), Some(0)], Some(0)));
+    assert_eq!(rt; [zeros, loose, synced, copied], [[true; 3]; 4]);
     Ok(())
 }
 
 #[test]
 fn a_disk_may_have_tens_of_thousands_of_sectors(rt: HostRuntime) -> Result<(), Fail> {
     let mut disk = Memory::new(rt.alloc(), 50_000)?;
-    assert_eq!(rt; disk.sectors(), 50_000);
-    for at in 0..50_000 {
-        write(&rt, &mut disk, at, (at % 251) as u8)?;
-    }
-    disk.sync()?;
-    write(&rt, &mut disk, 49_999, 255)?;
-    assert_eq!(rt; choices(&rt, &disk, 49_999), 2);
-    assert_eq!(rt; left(&rt, &disk, 49_999, 1)?, Some(255));
+    let filled = fill(&mut disk) && disk.sync().is_ok();
+    let more = write(&mut disk, 49_999, 255);
+    let last = (choices(&disk, 49_999), left(&disk, 49_999, 1));
     let mut stopped = disk.stop(|_, _| 0);
-    for at in 0..50_000 {
-        assert_eq!(rt; read(&rt, &mut stopped, at), Some((at % 251) as u8));
-    }
+    let kept = stopped.sectors() == 50_000 && is_filled(&mut stopped);
+    assert!(rt; filled && more && kept && last == (2, Some(255)));
     Ok(())
+}
+
+// Writes 1, 2 .. 5,000 modulo 251 to sector 1.
+fn write_often(disk: &mut Memory) -> bool {
+    for nth in 1_u32..5_001 {
+        if !write(disk, 1, (nth % 251) as u8) {
+            return false;
+        }
+    }
+    true
 }
 
 #[test]
 fn a_sector_may_have_thousands_of_choices(rt: HostRuntime) -> Result<(), Fail> {
     let mut disk = Memory::new(rt.alloc(), 2)?;
-    for nth in 1_u32..5_001 {
-        write(&rt, &mut disk, 1, (nth % 251) as u8)?;
-    }
-    assert_eq!(rt; choices(&rt, &disk, 0), 1);
-    assert_eq!(rt; choices(&rt, &disk, 1), 5_001);
-    for pick in [0, 1, 250, 251, 2_500, 4_999, 5_000] {
-        assert_eq!(rt;
-            left(&rt, &disk, 1, pick)?,
-            Some((pick % 251) as u8),
-            "pick {pick}"
-        );
-    }
-    disk.sync()?;
-    assert_eq!(rt; choices(&rt, &disk, 1), 1);
-    assert_eq!(rt; left(&rt, &disk, 1, 0)?, Some(231));
+    let written = write_often(&mut disk);
+    let counts = (choices(&disk, 0), choices(&disk, 1));
+    let first = [left(&disk, 1, 0), left(&disk, 1, 1), left(&disk, 1, 250)];
+    let middle = [left(&disk, 1, 251), left(&disk, 1, 2_500)];
+    let last = [left(&disk, 1, 4_999), left(&disk, 1, 5_000)];
+    let synced = disk.sync().is_ok() && leaves(&disk, 1, &[231]);
+    assert!(rt; written && synced && counts == (1, 5_001));
+    assert_eq!(rt; first, [Some(0), Some(1), Some(250)]);
+    assert_eq!(rt;
+        (middle, last),
+        ([Some(0), Some(241)], [Some(230), Some(231)])
+    );
     Ok(())
 }
 
 #[test]
-fn a_count_of_calls_has_no_bytes(rt: HostRuntime) -> Result<(), Fail> {
+fn a_count_of_calls_has_no_bytes(rt: HostRuntime) {
     let mut calls = CallCount::new();
     calls.end_call(&Ok(()));
     calls.end_call(&Err(DiskFault::Failed));
-    assert_eq!(rt; size_of::<CallCount>(), 0);
-    Ok(())
+    assert!(rt; size_of::<CallCount>() == 0);
 }
 
-// Every mixture of a disk of three sectors, the choice of the last sector counted first.
-fn mixtures(rt: &impl Abort, alloc: Global, disk: &Memory) -> Result<Vec<[u8; 3]>, Fail> {
-    let mut found = Vec::new(alloc);
-    for first in 0..choices(rt, disk, 0) {
-        for second in 0..choices(rt, disk, 1) {
-            for third in 0..choices(rt, disk, 2) {
-                let mut stopped = disk.copy()?.stop(|at, _| match at {
-                    0 => first,
-                    1 => second,
-                    _ => third,
-                });
-                let mut contents = [0; 3];
-                for (at, content) in contents.iter_mut().enumerate() {
-                    *content = read(rt, &mut stopped, at as u32).ok_or("a read failed")?;
+// What the three sectors of a disk hold after a stop with these picks.
+fn mixture(disk: &Memory, picks: [u8; 3]) -> [Option<u8>; 3] {
+    let Ok(copy) = disk.copy() else {
+        return [None; 3];
+    };
+    let mut stopped = copy.stop(|at, _| match at {
+        0 => usize::from(picks[0]),
+        1 => usize::from(picks[1]),
+        _ => usize::from(picks[2]),
+    });
+    [
+        read(&mut stopped, 0),
+        read(&mut stopped, 1),
+        read(&mut stopped, 2),
+    ]
+}
+
+// The first mixture that isn't as it is to be: choice k of the sectors is 10, 20 and 30 and k more.
+fn mixed_otherwise(disk: &Memory, choices: [u8; 3]) -> Option<[u8; 3]> {
+    for first in 0..choices[0] {
+        for second in 0..choices[1] {
+            for third in 0..choices[2] {
+                let contents = [
+                    first.checked_add(10),
+                    second.checked_add(20),
+                    third.checked_add(30),
+                ];
+                if mixture(disk, [first, second, third]) != contents {
+                    return Some([first, second, third]);
                 }
-                found.push(contents)?;
             }
         }
     }
-    Ok(found)
+    None
 }
 
-// A disk that holds 10, 20 and 30, synced, and then has these writes.
-fn written(rt: &impl Abort, alloc: Global, writes: &[(u32, u8)]) -> Result<Memory, Fail> {
+// Whether a disk that holds 10, 20 and 30, synced, and then has these writes, leaves just the
+// mixtures of so many choices of each sector.
+fn is_mixed(alloc: Global, writes: &[(u32, u8)], counts: [u8; 3]) -> Result<bool, Fail> {
     let mut disk = Memory::new(alloc, 3)?;
-    write(rt, &mut disk, 0, 9)?;
-    for (at, content) in [(0, 10), (1, 20), (2, 30)] {
-        write(rt, &mut disk, at, content)?;
-    }
-    disk.sync()?;
-    for (at, content) in writes {
-        write(rt, &mut disk, *at, *content)?;
-    }
-    Ok(disk)
+    let first = write_all(&mut disk, &[(0, 9), (0, 10), (1, 20), (2, 30)]);
+    let synced = disk.sync().is_ok();
+    let second = write_all(&mut disk, writes);
+    let found = [choices(&disk, 0), choices(&disk, 1), choices(&disk, 2)];
+    let [one, two, three] = counts;
+    let counted = found == [usize::from(one), usize::from(two), usize::from(three)];
+    let mixed = mixed_otherwise(&disk, counts).is_none();
+    Ok(first && synced && second && counted && mixed)
 }
+
+const THREE_EACH: [(u32, u8); 9] = [
+    (0, 11),
+    (1, 21),
+    (1, 22),
+    (2, 31),
+    (0, 12),
+    (2, 32),
+    (0, 13),
+    (2, 33),
+    (1, 23),
+];
 
 #[test]
 fn each_sector_of_a_mixture_is_picked_by_itself(rt: HostRuntime) -> Result<(), Fail> {
-    let three_each = [
-        (0, 11),
-        (1, 21),
-        (1, 22),
-        (2, 31),
-        (0, 12),
-        (2, 32),
-        (0, 13),
-        (2, 33),
-        (1, 23),
-    ];
-    let disk = written(&rt, rt.alloc(), &three_each)?;
-    assert_eq!(rt;
-        mixtures(&rt, rt.alloc(), &disk)?.as_slice(),
-        [
-            [10, 20, 30],
-            [10, 20, 31],
-            [10, 20, 32],
-            [10, 20, 33],
-            [10, 21, 30],
-            [10, 21, 31],
-            [10, 21, 32],
-            [10, 21, 33],
-            [10, 22, 30],
-            [10, 22, 31],
-            [10, 22, 32],
-            [10, 22, 33],
-            [10, 23, 30],
-            [10, 23, 31],
-            [10, 23, 32],
-            [10, 23, 33],
-            [11, 20, 30],
-            [11, 20, 31],
-            [11, 20, 32],
-            [11, 20, 33],
-            [11, 21, 30],
-            [11, 21, 31],
-            [11, 21, 32],
-            [11, 21, 33],
-            [11, 22, 30],
-            [11, 22, 31],
-            [11, 22, 32],
-            [11, 22, 33],
-            [11, 23, 30],
-            [11, 23, 31],
-            [11, 23, 32],
-            [11, 23, 33],
-            [12, 20, 30],
-            [12, 20, 31],
-            [12, 20, 32],
-            [12, 20, 33],
-            [12, 21, 30],
-            [12, 21, 31],
-            [12, 21, 32],
-            [12, 21, 33],
-            [12, 22, 30],
-            [12, 22, 31],
-            [12, 22, 32],
-            [12, 22, 33],
-            [12, 23, 30],
-            [12, 23, 31],
-            [12, 23, 32],
-            [12, 23, 33],
-            [13, 20, 30],
-            [13, 20, 31],
-            [13, 20, 32],
-            [13, 20, 33],
-            [13, 21, 30],
-            [13, 21, 31],
-            [13, 21, 32],
-            [13, 21, 33],
-            [13, 22, 30],
-            [13, 22, 31],
-            [13, 22, 32],
-            [13, 22, 33],
-            [13, 23, 30],
-            [13, 23, 31],
-            [13, 23, 32],
-            [13, 23, 33],
-        ]
-        .as_slice()
-    );
-
-    let disk = written(&rt, rt.alloc(), &[(2, 31), (1, 21), (2, 32), (2, 33)])?;
-    assert_eq!(rt;
-        mixtures(&rt, rt.alloc(), &disk)?.as_slice(),
-        [
-            [10, 20, 30],
-            [10, 20, 31],
-            [10, 20, 32],
-            [10, 20, 33],
-            [10, 21, 30],
-            [10, 21, 31],
-            [10, 21, 32],
-            [10, 21, 33],
-        ]
-        .as_slice()
-    );
-
-    // A content may be written again, and then is two choices.
-    let disk = written(&rt, rt.alloc(), &[(0, 11), (0, 10), (0, 11)])?;
-    assert_eq!(rt;
-        mixtures(&rt, rt.alloc(), &disk)?.as_slice(),
-        [[10, 20, 30], [11, 20, 30], [10, 20, 30], [11, 20, 30],].as_slice()
-    );
-
-    let disk = written(&rt, rt.alloc(), &[])?;
-    assert_eq!(rt;
-        mixtures(&rt, rt.alloc(), &disk)?.as_slice(),
-        [[10, 20, 30]].as_slice()
-    );
+    let all = is_mixed(rt.alloc(), &THREE_EACH, [4, 4, 4])?;
+    let some = is_mixed(rt.alloc(), &[(2, 31), (1, 21), (2, 32), (2, 33)], [1, 2, 4])?;
+    let none = is_mixed(rt.alloc(), &[], [1, 1, 1])?;
+    assert!(rt; all && some && none);
     Ok(())
 }
 
 // Writes 1 to sector 0, syncs, writes 2 to it and reads it: whether each call succeeded, and what
 // was read.
-fn four_calls<D: Disk>(rt: &impl Abort, disk: &mut D) -> ([bool; 4], Option<u8>) {
-    let first = write(rt, disk, 0, 1).is_ok();
+fn four_calls<D: Disk>(disk: &mut D) -> ([bool; 4], Option<u8>) {
+    let first = write(disk, 0, 1);
     let synced = disk.sync().is_ok();
-    let second = write(rt, disk, 0, 2).is_ok();
-    let content = read(rt, disk, 0);
+    let second = write(disk, 0, 2);
+    let content = read(disk, 0);
     ([first, synced, second, content.is_some()], content)
+}
+
+/// The failing call, whether it fails forever and late; which calls succeed; the content that was
+/// read; what a stop may leave in sector 0 of the inner disk.
+type Row = (u64, bool, bool, [bool; 4], Option<u8>, &'static [u8]);
+
+const FUSES: [Row; 18] = [
+    (0, false, false, [true, true, true, true], Some(2), &[1, 2]),
+    (0, true, true, [true, true, true, true], Some(2), &[1, 2]),
+    (1, false, false, [false, true, true, true], Some(2), &[0, 2]),
+    (1, false, true, [false, true, true, true], Some(2), &[1, 2]),
+    (1, true, false, [false, false, false, false], None, &[0]),
+    (1, true, true, [false, false, false, false], None, &[0, 1]),
+    (
+        2,
+        false,
+        false,
+        [true, false, true, true],
+        Some(2),
+        &[0, 1, 2],
+    ),
+    (2, false, true, [true, false, true, true], Some(2), &[1, 2]),
+    (2, true, false, [true, false, false, false], None, &[0, 1]),
+    (2, true, true, [true, false, false, false], None, &[1]),
+    (3, false, false, [true, true, false, true], Some(1), &[1]),
+    (3, false, true, [true, true, false, true], Some(2), &[1, 2]),
+    (3, true, false, [true, true, false, false], None, &[1]),
+    (3, true, true, [true, true, false, false], None, &[1, 2]),
+    (4, false, false, [true, true, true, false], None, &[1, 2]),
+    (4, true, true, [true, true, true, false], None, &[1, 2]),
+    (5, false, false, [true, true, true, true], Some(2), &[1, 2]),
+    (5, true, true, [true, true, true, true], Some(2), &[1, 2]),
+];
+
+// Whether a fuse over this disk of two sectors is as its row says.
+fn is_row(disk: Memory, row: Row) -> bool {
+    let (call, forever, late, succeed, content, left_inside) = row;
+    let mut fuse = Fuse::new(disk, call, forever, late);
+    let two = fuse.sectors() == 2;
+    let done = four_calls(&mut fuse);
+    two && done == (succeed, content) && leaves(&fuse.into_inner(), 0, left_inside)
 }
 
 #[test]
 fn a_fuse_fails_the_planned_calls(rt: HostRuntime) -> Result<(), Fail> {
-    // The failing call, forever, late; which calls succeed; the content that was read; what a
-    // stop may leave in sector 0 of the inner disk.
-    let cases: [(u64, bool, bool, [bool; 4], Option<u8>, &[u8]); 18] = [
-        (0, false, false, [true, true, true, true], Some(2), &[1, 2]),
-        (0, true, true, [true, true, true, true], Some(2), &[1, 2]),
-        (1, false, false, [false, true, true, true], Some(2), &[0, 2]),
-        (1, false, true, [false, true, true, true], Some(2), &[1, 2]),
-        (1, true, false, [false, false, false, false], None, &[0]),
-        (1, true, true, [false, false, false, false], None, &[0, 1]),
-        (
-            2,
-            false,
-            false,
-            [true, false, true, true],
-            Some(2),
-            &[0, 1, 2],
-        ),
-        (2, false, true, [true, false, true, true], Some(2), &[1, 2]),
-        (2, true, false, [true, false, false, false], None, &[0, 1]),
-        (2, true, true, [true, false, false, false], None, &[1]),
-        (3, false, false, [true, true, false, true], Some(1), &[1]),
-        (3, false, true, [true, true, false, true], Some(2), &[1, 2]),
-        (3, true, false, [true, true, false, false], None, &[1]),
-        (3, true, true, [true, true, false, false], None, &[1, 2]),
-        (4, false, false, [true, true, true, false], None, &[1, 2]),
-        (4, true, true, [true, true, true, false], None, &[1, 2]),
-        (5, false, false, [true, true, true, true], Some(2), &[1, 2]),
-        (5, true, true, [true, true, true, true], Some(2), &[1, 2]),
-    ];
-    for (k, forever, late, succeed, content, left_inside) in cases {
-        let mut fuse = Fuse::new(Memory::new(rt.alloc(), 2)?, k, forever, late);
-        assert_eq!(rt; fuse.sectors(), 2);
-        assert_eq!(rt;
-            four_calls(&rt, &mut fuse),
-            (succeed, content),
-            "{k} {forever} {late}"
-        );
-        let inner = fuse.into_inner();
-        assert_eq!(rt;
-            choices(&rt, &inner, 0),
-            left_inside.len(),
-            "{k} {forever} {late}"
-        );
-        for (pick, content) in left_inside.iter().enumerate() {
-            assert_eq!(rt;
-                left(&rt, &inner, 0, pick)?,
-                Some(*content),
-                "{k} {forever} {late}"
-            );
+    let mut wrong = None;
+    for row in &FUSES {
+        if !is_row(Memory::new(rt.alloc(), 2)?, *row) {
+            wrong = Some((row.0, row.1, row.2));
         }
     }
+    assert_eq!(rt; wrong, None);
     Ok(())
 }
 
@@ -365,42 +297,36 @@ fn a_fuse_fails_the_planned_calls(rt: HostRuntime) -> Result<(), Fail> {
 fn a_fuse_passes_on_the_failures_behind_it(rt: HostRuntime) -> Result<(), Fail> {
     let inner = Fuse::new(Memory::new(rt.alloc(), 1)?, 2, false, false);
     let mut fuse = Fuse::new(inner, 3, false, true);
-    assert_eq!(rt;
-        four_calls(&rt, &mut fuse),
-        ([true, false, false, true], Some(2))
-    );
+    let done = four_calls(&mut fuse);
     let memory = fuse.into_inner().into_inner();
-    assert_eq!(rt; choices(&rt, &memory, 0), 3);
+    assert!(rt; done == ([true, false, false, true], Some(2)) && choices(&memory, 0) == 3);
     Ok(())
 }
 
 #[test]
 fn a_liar_gives_its_answers_in_turn_and_keeps_nothing(rt: HostRuntime) -> Result<(), Fail> {
-    let mut answers = Vec::new(rt.alloc());
-    for content in [3, 1, 2] {
-        answers.push([content; SECTOR_BYTES])?;
-    }
-    let mut liar = Liar::new(2, answers);
-    assert_eq!(rt; liar.sectors(), 2);
-    for (at, content) in [(0, 3), (0, 1), (1, 2), (1, 3)] {
-        assert_eq!(rt; read(&rt, &mut liar, at), Some(content), "sector {at}");
-    }
-    write(&rt, &mut liar, 1, 7)?;
-    liar.sync()?;
-    assert_eq!(rt; read(&rt, &mut liar, 1), Some(1), "the fifth read");
-
-    let mut silent = Liar::new(1, Vec::new(rt.alloc()));
-    write(&rt, &mut silent, 0, 7)?;
-    assert_eq!(rt; read(&rt, &mut silent, 0), Some(0), "no answer is zeros");
-    assert_eq!(rt; read(&rt, &mut silent, 0), Some(0), "also the second time");
+    let answers = [[3; SECTOR_BYTES], [1; SECTOR_BYTES], [2; SECTOR_BYTES]];
+    let mut liar = Liar::new(2, Vec::from_slice(rt.alloc(), &answers)?);
+    let first = [read(&mut liar, 0), read(&mut liar, 0)];
+    let second = [read(&mut liar, 1), read(&mut liar, 1)];
+    let written = write(&mut liar, 1, 7) && liar.sync().is_ok();
+    let fifth = read(&mut liar, 1);
+    assert_eq!(rt; (first, second), ([Some(3), Some(1)], [Some(2), Some(3)]));
+    assert!(rt; liar.sectors() == 2 && written && fifth == Some(1));
     Ok(())
 }
 
 #[test]
+fn a_liar_without_answers_gives_zeros(rt: HostRuntime) {
+    let mut silent = Liar::new(1, Vec::new(rt.alloc()));
+    let written = write(&mut silent, 0, 7);
+    let reads = [read(&mut silent, 0), read(&mut silent, 0)];
+    assert!(rt; written && reads == [Some(0), Some(0)]);
+}
+
+#[test]
 fn a_failure_says_what_failed(rt: HostRuntime) -> Result<(), Fail> {
-    assert_eq!(rt;
-        format!(in rt.alloc(); "{}", DiskFault::Failed)?.as_str(),
-        "the disk failed"
-    );
+    let text = format!(in rt.alloc(); "{}", DiskFault::Failed)?;
+    assert!(rt; text.as_str() == "the disk failed");
     Ok(())
 }

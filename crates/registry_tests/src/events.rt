@@ -1,34 +1,15 @@
-// Events of a registry on a disk as data, commands and binders, each with its answer.
-use crate::calls::{Asked, OnMemory, ask, number};
-use crate::events::Event::{Advance, Ask, Begin, Bind, End, Install, Replace};
-use crate::events::Told::{Last, Number, Word};
-use crate::files::{ASKING, DEFINING, absolute};
+// Events of a registry on a disk with binders, each with its answer.
+use crate::calls::{number, opened};
+use crate::events::Told::{Number, Slot, Word};
+use crate::files::ASKING;
+use binders::Event::{Advance, Apply, Begin, Cancel};
+use binders::{Binders, Event, EventReply};
 use image::Image;
-use registry::{Binder, Step};
+use registry::Step;
 use requests::{Command, Reply};
-use sector_disk::Memory;
+use sector_disk::{Fuse, Memory};
 use std::alloc::Global;
-use std::process::Abort;
 use std::test::Fail;
-
-/// What happens to a registry. Its binders are numbered as they were begun, from 0.
-#[derive(Clone, Copy)]
-pub(crate) enum Event {
-    /// The library a is installed, with f at its data.
-    Install,
-    /// It is replaced by one whose f has this value.
-    Replace(u16),
-    /// Another command.
-    Ask(Asked),
-    /// The program that asks for f is bound.
-    Bind,
-    /// A binder of these bytes is begun, at a base.
-    Begin(&'static [u8], u64),
-    /// The next step of a binder.
-    Advance(usize),
-    /// The end of a binder.
-    End(usize),
-}
 
 /// What an event is answered.
 #[derive(Clone, Copy, Debug, PartialEq, Eq)]
@@ -37,17 +18,27 @@ pub(crate) enum Told {
     Number(&'static str),
     /// An image, by its word at the place where the program asks for f.
     Word(u64),
-    /// The last answer of a binder that gives no image, by its number.
-    Last(&'static str),
     /// The slot of a binder that was begun.
     Slot(usize),
 }
 
-/// An event and its answer.
-pub(crate) type Row = (Event, Told);
+/// The answer to a step that isn't the last.
+pub(crate) const GOING: Told = Number("going");
 
 /// The base of the program that asks for f.
 pub(crate) const BASE: u64 = 0x10000;
+
+/// Its bind.
+pub(crate) const BIND: Event<'static> = Apply(Command::Bind {
+    program: ASKING,
+    base: BASE,
+});
+
+/// The beginning of a binder of it.
+pub(crate) const BEGIN: Event<'static> = Begin {
+    program: ASKING,
+    base: BASE,
+};
 
 // The eight bytes at the place where the program asks for f.
 fn word_of(image: &Image) -> Option<u64> {
@@ -58,8 +49,8 @@ fn word_of(image: &Image) -> Option<u64> {
     Some(u64::from_le_bytes(word))
 }
 
-/// A reply, which is an image or has a number.
-pub(crate) fn answer_of(reply: &Reply) -> Told {
+// A reply, which is an image or has a number.
+fn answer_of(reply: &Reply) -> Told {
     match reply {
         Reply::Bound(image) => match word_of(image) {
             Some(word) => Word(word),
@@ -69,86 +60,107 @@ pub(crate) fn answer_of(reply: &Reply) -> Told {
     }
 }
 
-// Makes the next step of a binder.
-fn advance(registry: &mut OnMemory, binder: &mut Binder) -> Told {
-    match registry.advance(binder) {
-        Ok(Step::Going) => Number("going"),
-        Ok(Step::Final(reply)) => match answer_of(&reply) {
-            Number(last) => Last(last),
-            image => image,
+/// An event and its answer.
+pub(crate) type Row<'a> = (Event<'a>, Told);
+
+// What the call for an event is answered.
+fn told_by_call(binders: &mut Binders<Fuse<Memory>>, event: &Event<'_>) -> Told {
+    let refusal = match event {
+        Apply(command) => return answer_of(&binders.apply(command)),
+        Cancel(slot) => return answer_of(&binders.cancel(*slot)),
+        Begin { program, base } => match binders.begin(program, *base) {
+            Ok(slot) => return Slot(slot),
+            Err(refusal) => refusal,
         },
-        Err(refusal) => Number(number(&Reply::Refused(refusal))),
+        Advance(slot) => match binders.advance(*slot) {
+            Ok(Step::Going) => return GOING,
+            Ok(Step::Final(answer)) => return answer_of(&answer),
+            Err(refusal) => refusal,
+        },
+    };
+    answer_of(&Reply::Refused(refusal))
+}
+
+// What a reply of a run says.
+fn told_of(reply: &EventReply) -> Told {
+    match reply {
+        EventReply::Replied(reply) => answer_of(reply),
+        EventReply::Slot(slot) => Slot(*slot),
+        EventReply::Going => GOING,
     }
 }
 
-// Ends a binder, whose place is empty then.
-fn end(registry: &mut OnMemory, binders: &mut [Option<Binder>], at: usize) -> Told {
-    if let Some(place) = binders.get_mut(at)
-        && let Some(binder) = place.take()
-    {
-        registry.end(binder);
-        return Number("ended");
+// Whether one run of the events is answered so.
+fn is_told_by_run(
+    binders: &mut Binders<Fuse<Memory>>,
+    events: &[Event<'_>],
+    rows: &[Row<'_>],
+) -> bool {
+    let Ok(replies) = binders.run_events(events) else {
+        return false;
+    };
+    let mut same = replies.len() == rows.len();
+    for (reply, (_, wanted)) in replies.iter().zip(rows) {
+        same &= told_of(reply) == *wanted;
     }
-    Number("no binder")
+    same
 }
 
-// What an event is answered.
-fn take(
-    alloc: Global,
-    registry: &mut OnMemory,
-    binders: &mut Vec<Option<Binder>>,
-    event: Event,
-) -> Result<Told, Fail> {
-    Ok(match event {
-        Install => answer_of(&registry.apply(&Command::Install(DEFINING))),
-        Replace(value) => answer_of(&registry.apply(&Command::Replace(&absolute(value)))),
-        Ask(asked) => answer_of(&ask(alloc, registry, asked)?),
-        Bind => answer_of(&registry.apply(&Command::Bind {
-            program: ASKING,
-            base: BASE,
-        })),
-        Begin(program, base) => match registry.begin(program, base) {
-            Ok(binder) => {
-                binders.push(Some(binder))?;
-                Number("begun")
-            }
-            Err(refusal) => Number(number(&Reply::Refused(refusal))),
-        },
-        Advance(at) => match binders.get_mut(at) {
-            Some(Some(binder)) => advance(registry, binder),
-            _ => Number("no binder"),
-        },
-        End(at) => end(registry, binders, at),
-    })
-}
-
-/// Takes one event after the other. Each is answered so.
-pub(crate) fn take_all(
-    rt: &impl Abort,
-    alloc: Global,
-    registry: &mut OnMemory,
-    binders: &mut Vec<Option<Binder>>,
-    rows: &[Row],
-) -> Result<(), Fail> {
-    for (i, (event, wanted)) in rows.iter().enumerate() {
-        let told = take(alloc, registry, binders, *event)?;
-        assert_eq!(rt; told, *wanted, "event {i}");
+// Whether a call for each event is answered so.
+fn is_told_by_calls(binders: &mut Binders<Fuse<Memory>>, rows: &[Row<'_>]) -> bool {
+    let mut same = true;
+    for (event, wanted) in rows {
+        same &= told_by_call(binders, event) == *wanted;
     }
-    Ok(())
+    same
 }
 
-/// The disk of a registry after these events, each of which is answered so. Nobody has its binders
-/// any more.
-pub(crate) fn disk_left(
-    rt: &impl Abort,
+// The registry of a disk with binders. The call of the disk with this number fails, early or late,
+// and none for 0.
+fn binders_of(
     alloc: Global,
-    registry: OnMemory,
-    rows: &[Row],
-) -> Result<Memory, Fail> {
-    let mut registry = registry;
-    let mut binders = Vec::new(alloc);
-    let taken = take_all(rt, alloc, &mut registry, &mut binders, rows);
-    let disk = registry.into_disk().into_inner();
-    taken?;
-    Ok(disk)
+    disk: &Memory,
+    (call, late): (u64, bool),
+) -> Result<Binders<Fuse<Memory>>, Fail> {
+    let fused = Fuse::new(disk.copy()?, call, false, late);
+    Ok(Binders::new(alloc, opened(alloc, fused)?))
+}
+
+// Whether these events are answered so, by a call for each, and from the start again by one run.
+fn is_told(
+    alloc: Global,
+    disk: &Memory,
+    cut: (u64, bool),
+    events: &[Event<'_>],
+    rows: &[Row<'_>],
+) -> Result<bool, Fail> {
+    let mut binders = binders_of(alloc, disk, cut)?;
+    let by_calls = is_told_by_calls(&mut binders, rows);
+    let _ = binders.into_registry().into_disk();
+    let mut binders = binders_of(alloc, disk, cut)?;
+    let by_run = is_told_by_run(&mut binders, events, rows);
+    let _ = binders.into_registry().into_disk();
+    Ok(by_calls && by_run)
+}
+
+/// Begins so many binders over the registry of a disk, and then lets the events happen, by a call
+/// for each, and from the start again by one run. Whether each is answered so. The call of the disk
+/// with this number fails, early or late, and none for 0.
+pub(crate) fn happen(
+    alloc: Global,
+    disk: &Memory,
+    cut: (u64, bool),
+    begun: usize,
+    events: &[Row<'_>],
+) -> Result<bool, Fail> {
+    let mut rows: Vec<Row<'_>> = Vec::new(alloc);
+    for slot in 0..begun {
+        rows.push((BEGIN, Slot(slot)))?;
+    }
+    rows.extend_from_slice(events)?;
+    let mut asked = Vec::new(alloc);
+    for (event, _) in rows.iter() {
+        asked.push(*event)?;
+    }
+    is_told(alloc, disk, cut, &asked, &rows)
 }

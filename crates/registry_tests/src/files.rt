@@ -10,11 +10,6 @@ pub(crate) fn library(name: u8) -> [u8; SIZE] {
     samples::library(name, 0)
 }
 
-/// The library under a name of one byte, with zeros behind it up to this size.
-pub(crate) fn padded(alloc: Global, name: u8, size: usize) -> Result<Vec<u8>, AllocError> {
-    samples::padded(alloc, name, 0, size)
-}
-
 /// A file that needs libraries of one letter each, with a name of one letter if it is a library,
 /// padded to so many bytes.
 pub(crate) fn file(

@@ -1,10 +1,8 @@
 // A disk of eight sectors, and what becomes of them.
-use crate::calls::Asked::Install;
-use crate::calls::{disk_after, whole};
-use crate::files::{SIZE, padded, put};
+use crate::calls::disk_with;
+use crate::files::{library, put};
 use sector_disk::{Disk, Memory, SECTOR_BYTES};
-use std::alloc::{AllocError, Global};
-use std::process::Abort;
+use std::alloc::Global;
 use std::test::Fail;
 
 /// What a disk of eight sectors holds.
@@ -19,45 +17,36 @@ pub(crate) enum Harm {
     Byte(usize, usize, u8),
 }
 
-// What a sector holds.
-fn read(rt: &impl Abort, disk: &mut Memory, at: u32) -> [u8; SECTOR_BYTES] {
-    assert!(rt; at < disk.sectors());
-    let mut content = [99; SECTOR_BYTES];
-    assert!(rt; disk.read(at, &mut content).is_ok());
-    content
-}
-
-// Writes a sector.
-fn write(rt: &impl Abort, disk: &mut Memory, at: u32, content: &[u8; SECTOR_BYTES]) {
-    assert!(rt; at < disk.sectors());
-    assert!(rt; disk.write(at, content).is_ok());
-}
-
 /// The first eight sectors of a disk.
-pub(crate) fn sectors_of(rt: &impl Abort, disk: &mut Memory) -> Sectors {
+pub(crate) fn sectors_of(disk: &mut Memory) -> Sectors {
     let mut sectors = [[99; SECTOR_BYTES]; 8];
     for at in 0..8_u32 {
-        sectors[at as usize] = read(rt, disk, at);
+        if at < disk.sectors() {
+            let _ = disk.read(at, &mut sectors[at as usize]);
+        }
     }
     sectors
 }
 
 /// A disk with these sectors, all synced.
-pub(crate) fn disk_of(rt: &impl Abort, alloc: Global, sectors: &Sectors) -> Result<Memory, Fail> {
+pub(crate) fn disk_of(alloc: Global, sectors: &Sectors) -> Result<Memory, Fail> {
     let mut disk = Memory::new(alloc, 8)?;
+    let mut done = true;
     for at in 0..8_u32 {
-        write(rt, &mut disk, at, &sectors[at as usize]);
+        done &= at < disk.sectors() && disk.write(at, &sectors[at as usize]).is_ok();
     }
-    assert!(rt; disk.sync().is_ok());
-    Ok(disk)
+    done &= disk.sync().is_ok();
+    if done {
+        Ok(disk)
+    } else {
+        Err("no disk".into())
+    }
 }
 
 /// The sectors of a disk that was made a registry and has the library a: its bytes in sector 2, its
 /// entry in 3, its catalogue in 4, the root of generation 1 in 1.
-pub(crate) fn one_library(rt: &impl Abort, alloc: Global) -> Result<Sectors, Fail> {
-    let disk = whole(Memory::new(alloc, 8)?);
-    let mut disk = disk_after(rt, alloc, disk, &[(Install(b'a', SIZE), "ok")])?;
-    Ok(sectors_of(rt, &mut disk))
+pub(crate) fn one_library(alloc: Global) -> Result<Sectors, Fail> {
+    Ok(sectors_of(&mut disk_with(alloc, 8, &library(b'a'))?))
 }
 
 // Puts bytes into a sector from a place on.
@@ -109,9 +98,9 @@ pub(crate) fn old_sectors(files: &[(u8, &[u8])]) -> Sectors {
     sectors
 }
 
-/// The sectors of a disk of version 1 that has the library a of so many bytes.
-pub(crate) fn old_library(alloc: Global, size: usize) -> Result<Sectors, AllocError> {
-    Ok(old_sectors(&[(b'a', &padded(alloc, b'a', size)?)]))
+/// The sectors of a disk of version 1 that has the library a.
+pub(crate) fn old_library() -> Sectors {
+    old_sectors(&[(b'a', &library(b'a'))])
 }
 
 /// The sectors after these changes.

@@ -1,114 +1,41 @@
 // Binders in slots: which slot each has, what is refused of a slot, and until when they keep the
 // sectors of a version. Each table runs twice, by a call for each event and by one run of them.
-use crate::calls::opened;
+use crate::calls::{disk_with, formatted, whole};
 use crate::events::Told::{self, Number, Slot, Word};
-use crate::events::{BASE, answer_of, disk_left};
+use crate::events::{BASE, BEGIN, BIND, GOING, Row, happen};
 use crate::files::{ASKING, DEFINING, absolute};
-use crate::flights::{FULL, GOING, OK, small, with_a};
+use binders::Event;
 use binders::Event::{Advance, Apply, Begin, Cancel};
-use binders::{Binders, Event, EventReply};
-use registry::Step;
-use requests::{Command, Reply};
-use sector_disk::{Fuse, Memory};
-use std::alloc::{AllocError, Global};
-use std::process::Abort;
+use requests::Command;
+use sector_disk::Memory;
+use std::alloc::Global;
 use std::test::Fail;
 
-const NO_BINDER: Told = Number("C8");
+const OK: Told = Number("ok");
 
-const BEGIN: Event<'static> = Begin {
-    program: ASKING,
-    base: BASE,
-};
+const FULL: Told = Number("S7");
+
+const NO_BINDER: Told = Number("C8");
 
 // No call of the disk fails.
 const WHOLE: (u64, bool) = (0, false);
 
-// An event and its answer.
-type Row<'a> = (Event<'a>, Told);
-
-// What the call for an event is answered.
-fn told_by_call(binders: &mut Binders<Fuse<Memory>>, event: &Event<'_>) -> Told {
-    let refusal = match event {
-        Apply(command) => return answer_of(&binders.apply(command)),
-        Cancel(slot) => return answer_of(&binders.cancel(*slot)),
-        Begin { program, base } => match binders.begin(program, *base) {
-            Ok(slot) => return Slot(slot),
-            Err(refusal) => refusal,
-        },
-        Advance(slot) => match binders.advance(*slot) {
-            Ok(Step::Going) => return GOING,
-            Ok(Step::Final(answer)) => return answer_of(&answer),
-            Err(refusal) => refusal,
-        },
-    };
-    answer_of(&Reply::Refused(refusal))
+// The disk of a new registry of eight sectors. With a library of one sector two of them are free.
+fn empty(alloc: Global) -> Result<Memory, Fail> {
+    let registry = formatted(alloc, whole(Memory::new(alloc, 8)?))?;
+    Ok(registry.into_disk().into_inner())
 }
 
-// What one run of the events is answered.
-fn told_by_run(
-    alloc: Global,
-    binders: &mut Binders<Fuse<Memory>>,
-    rows: &[Row<'_>],
-) -> Result<Vec<Told>, AllocError> {
-    let mut events = Vec::new(alloc);
-    for (event, _) in rows {
-        events.push(*event)?;
-    }
-    let mut told = Vec::new(alloc);
-    for reply in binders.run_events(&events)?.iter() {
-        told.push(match reply {
-            EventReply::Replied(reply) => answer_of(reply),
-            EventReply::Slot(slot) => Slot(*slot),
-            EventReply::Going => GOING,
-        })?;
-    }
-    Ok(told)
-}
-
-// Begins so many binders over the registry of a disk, and then lets the events happen: by a call
-// for each, and from the start again by one run. Each is answered so. The call of the disk with
-// this number fails, early or late, and none for 0.
-fn happen(
-    rt: &impl Abort,
-    alloc: Global,
-    disk: &Memory,
-    (call, late): (u64, bool),
-    begun: usize,
-    events: &[Row<'_>],
-) -> Result<(), Fail> {
-    let mut rows: Vec<Row<'_>> = Vec::new(alloc);
-    for slot in 0..begun {
-        rows.push((BEGIN, Slot(slot)))?;
-    }
-    rows.extend_from_slice(events)?;
-    let fused = Fuse::new(disk.copy()?, call, false, late);
-    let mut binders = Binders::new(alloc, opened(alloc, fused)?);
-    for (i, (event, wanted)) in rows.iter().enumerate() {
-        assert_eq!(rt; told_by_call(&mut binders, event), *wanted, "event {i}");
-    }
-    let _ = binders.into_registry().into_disk();
-    let fused = Fuse::new(disk.copy()?, call, false, late);
-    let mut binders = Binders::new(alloc, opened(alloc, fused)?);
-    let told = told_by_run(alloc, &mut binders, &rows);
-    let _ = binders.into_registry().into_disk();
-    let told = told?;
-    assert_eq!(rt; told.len(), rows.len());
-    for (i, (told, (_, wanted))) in told.iter().zip(rows.iter()).enumerate() {
-        assert_eq!(rt; *told, *wanted, "event {i} of a run");
-    }
-    Ok(())
+// The same with a. Its opening takes six calls: a sync, two roots, the catalogue, the entry, and
+// the file.
+fn with_a(alloc: Global) -> Result<Memory, Fail> {
+    disk_with(alloc, 8, DEFINING)
 }
 
 #[test]
 fn a_slot_is_free_after_the_last_step(rt: HostRuntime) -> Result<(), Fail> {
-    let alloc = rt.alloc();
     let other = absolute(0x1234);
     let replace = Apply(Command::Replace(&other));
-    let bind = Apply(Command::Bind {
-        program: ASKING,
-        base: BASE,
-    });
     let rows = [
         (Apply(Command::Install(DEFINING)), OK),
         (BEGIN, Slot(0)),
@@ -118,17 +45,100 @@ fn a_slot_is_free_after_the_last_step(rt: HostRuntime) -> Result<(), Fail> {
         (Advance(0), GOING),
         (Advance(0), Word(0x11170)),
         (replace, OK),
-        (bind, Word(0x1234)),
+        (BIND, Word(0x1234)),
         (Advance(0), NO_BINDER),
-        (Apply(Command::Remove(b"a")), OK),
+        (REMOVE, OK),
         (BEGIN, Slot(0)),
         (Advance(0), GOING),
         (Advance(0), Number("B3")),
         (Cancel(0), NO_BINDER),
         (BEGIN, Slot(0)),
     ];
-    let disk = disk_left(&rt, alloc, small(alloc)?, &[])?;
-    happen(&rt, alloc, &disk, WHOLE, 0, &rows)
+    assert!(rt; happen(rt.alloc(), &empty(rt.alloc())?, WHOLE, 0, &rows)?);
+    Ok(())
+}
+
+const REMOVE: Event<'static> = Apply(Command::Remove(b"a"));
+
+#[test]
+fn a_binder_has_a_library_that_was_removed(rt: HostRuntime) -> Result<(), Fail> {
+    let other = absolute(0x1234);
+    let replace = Apply(Command::Replace(&other));
+    let rows = [
+        (BEGIN, Slot(0)),
+        (replace, OK),
+        (REMOVE, OK),
+        (replace, Number("C3")),
+        (Advance(0), GOING),
+        (Advance(0), GOING),
+        (Advance(0), Word(0x11170)),
+        (replace, Number("C3")),
+        (BIND, Number("B3")),
+    ];
+    assert!(rt; happen(rt.alloc(), &with_a(rt.alloc())?, WHOLE, 0, &rows)?);
+    Ok(())
+}
+
+#[test]
+fn a_binder_ends_before_its_first_step(rt: HostRuntime) -> Result<(), Fail> {
+    let other = absolute(0x1234);
+    let replace = Apply(Command::Replace(&other));
+    let rows = [
+        (BEGIN, Slot(0)),
+        (replace, OK),
+        (replace, FULL),
+        (Cancel(0), OK),
+        (replace, OK),
+    ];
+    assert!(rt; happen(rt.alloc(), &with_a(rt.alloc())?, WHOLE, 0, &rows)?);
+    Ok(())
+}
+
+// What lacks a library is refused at the last step.
+const REFUSED: [Row<'static>; 11] = [
+    (
+        Begin {
+            program: b"",
+            base: BASE,
+        },
+        Slot(0),
+    ),
+    (
+        Begin {
+            program: &[0; 64],
+            base: BASE,
+        },
+        Slot(1),
+    ),
+    (
+        Begin {
+            program: b"",
+            base: 0x10001,
+        },
+        Slot(2),
+    ),
+    (
+        Begin {
+            program: ASKING,
+            base: 0x10001,
+        },
+        Slot(3),
+    ),
+    (BEGIN, Slot(4)),
+    (Advance(0), Number("B1")),
+    (Advance(1), Number("B1")),
+    (Advance(2), Number("B1")),
+    (Advance(3), Number("B2")),
+    (Advance(4), GOING),
+    (Advance(4), Number("B3")),
+];
+
+#[test]
+fn a_program_that_is_refused_by_itself_is_so_at_the_first_step(
+    rt: HostRuntime,
+) -> Result<(), Fail> {
+    assert!(rt; happen(rt.alloc(), &empty(rt.alloc())?, WHOLE, 0, &REFUSED)?);
+    Ok(())
 }
 
 const SLOTS: [Row<'static>; 13] = [
@@ -149,13 +159,14 @@ const SLOTS: [Row<'static>; 13] = [
 
 #[test]
 fn there_are_eight_slots_and_the_lowest_free_is_taken(rt: HostRuntime) -> Result<(), Fail> {
-    let disk = with_a(&rt, rt.alloc())?;
-    happen(&rt, rt.alloc(), &disk, WHOLE, 8, &SLOTS)
+    let disk = with_a(rt.alloc())?;
+    assert!(rt; happen(rt.alloc(), &disk, WHOLE, 8, &SLOTS)?);
+    Ok(())
 }
 
 #[test]
 fn after_a_failed_write_slots_are_cancelled_alone(rt: HostRuntime) -> Result<(), Fail> {
-    let disk = with_a(&rt, rt.alloc())?;
+    let disk = with_a(rt.alloc())?;
     let other = absolute(0x1234);
     let rows = [
         (Advance(7), GOING),
@@ -171,26 +182,36 @@ fn after_a_failed_write_slots_are_cancelled_alone(rt: HostRuntime) -> Result<(),
     ];
     for call in 7..13 {
         for late in [false, true] {
-            happen(&rt, rt.alloc(), &disk, (call, late), 8, &rows)?;
+            assert!(rt; happen(rt.alloc(), &disk, (call, late), 8, &rows)?);
         }
     }
     Ok(())
 }
 
+// A replacement after which there is no room for another until each of eight binders is cancelled,
+// in this order.
+fn cancel_rows<'a>(replace: Event<'a>, order: [usize; 8]) -> [Row<'a>; 18] {
+    let mut rows = [(replace, OK); 18];
+    for (i, slot) in order.iter().enumerate() {
+        let at = i.wrapping_mul(2).wrapping_add(1);
+        if let Some(row) = rows.get_mut(at) {
+            *row = (replace, FULL);
+        }
+        if let Some(row) = rows.get_mut(at.wrapping_add(1)) {
+            *row = (Cancel(*slot), OK);
+        }
+    }
+    rows
+}
+
 // The version that all eight have keeps its sectors until the last of them is cancelled.
 #[test]
 fn a_version_goes_with_the_last_of_eight_binders(rt: HostRuntime) -> Result<(), Fail> {
-    let disk = with_a(&rt, rt.alloc())?;
+    let disk = with_a(rt.alloc())?;
     let other = absolute(0x1234);
-    let replace = Apply(Command::Replace(&other));
     for order in [[0, 1, 2, 3, 4, 5, 6, 7], [5, 0, 7, 2, 6, 1, 4, 3]] {
-        let mut rows: Vec<Row<'_>> = Vec::new(rt.alloc());
-        rows.push((replace, OK))?;
-        for slot in order {
-            rows.extend_from_slice(&[(replace, FULL), (Cancel(slot), OK)])?;
-        }
-        rows.push((replace, OK))?;
-        happen(&rt, rt.alloc(), &disk, WHOLE, 8, &rows)?;
+        let rows = cancel_rows(Apply(Command::Replace(&other)), order);
+        assert!(rt; happen(rt.alloc(), &disk, WHOLE, 8, &rows)?);
     }
     Ok(())
 }

@@ -5,14 +5,13 @@ ghost use Rattle.store.specs.Names.{IsNoPreload};
 ghost use Rattle.store.specs.Stands.{name_of};
 
 use crate::disks::numbered_name;
+use crate::sectors::memory;
 use sector_disk::{Disk, Memory};
-use std::alloc::Global;
 use std::process::Abort;
-use std::test::Fail;
 use store::{Store, StoreRefusal};
 
 /// A change of a store. Byte strings have the names of their numbers.
-#[derive(Clone, Copy, Debug)]
+#[derive(Clone, Copy, Debug, PartialEq)]
 pub(crate) enum Change {
     /// So many bytes of this value under a name that is there or isn't.
     Put(u32, u8, usize),
@@ -25,18 +24,18 @@ pub(crate) enum Change {
 }
 
 /// A new store on a disk of so many sectors.
-pub(crate) fn formatted(alloc: Global, sectors: u32) -> Result<Store<Memory>, Fail> {
-    match Store::format(alloc, Memory::new(alloc, sectors)?) {
-        Ok(store) => Ok(store),
-        Err(_) => Err("format refused".into()),
+pub(crate) fn formatted(rt: &(impl Abort + AllocGlobal), sectors: u32) -> Store<Memory> {
+    match Store::format(rt.alloc(), memory(rt, sectors)) {
+        Ok(store) => store,
+        Err(_) => panic!(rt; "format refused"),
     }
 }
 
 /// The store on a disk.
-pub(crate) fn opened<D: Disk + Drop>(alloc: Global, disk: D) -> Result<Store<D>, Fail> {
-    match Store::open(alloc, disk) {
-        Ok(store) => Ok(store),
-        Err(_) => Err("open refused".into()),
+pub(crate) fn opened<D: Disk + Drop>(rt: &(impl Abort + AllocGlobal), disk: D) -> Store<D> {
+    match Store::open(rt.alloc(), disk) {
+        Ok(store) => store,
+        Err(_) => panic!(rt; "open refused"),
     }
 }
 
@@ -88,80 +87,73 @@ fn choose<D: Disk>(rt: &impl Abort, store: &mut Store<D>, at: usize) -> Option<S
     store.set_preloads(&[at]).err()
 }
 
+// So many bytes of one value.
+fn bytes_of(rt: &(impl Abort + AllocGlobal), byte: u8, length: usize) -> Vec<u8> {
+    let bytes = vec![in rt.alloc(); byte; length];
+    bytes.expect(rt, "the bytes of a put")
+}
+
 /// The refusal of a change, if it is refused.
 pub(crate) fn make<D: Disk>(
-    rt: &impl Abort,
-    alloc: Global,
+    rt: &(impl Abort + AllocGlobal),
     store: &mut Store<D>,
     change: Change,
-) -> Result<Option<StoreRefusal>, Fail> {
-    Ok(match change {
+) -> Option<StoreRefusal> {
+    match change {
         Change::Put(number, byte, length) => put(
             rt,
             store,
             &numbered_name(number),
-            &vec![in alloc; byte; length]?,
+            &bytes_of(rt, byte, length),
         ),
         Change::Delete(number) => delete(rt, store, &numbered_name(number)),
         Change::Choose(at) => choose(rt, store, at),
         Change::ChooseNone => store.set_preloads(&[]).err(),
-    })
+    }
 }
 
 /// Makes the changes one after the other. Each is refused so, or not at all.
 pub(crate) fn make_all<D: Disk>(
-    rt: &impl Abort,
-    alloc: Global,
+    rt: &(impl Abort + AllocGlobal),
     store: &mut Store<D>,
     changes: &[(Change, Option<StoreRefusal>)],
-) -> Result<(), Fail> {
-    for (i, (change, wanted)) in changes.iter().enumerate() {
-        assert_eq!(rt; make(rt, alloc, store, *change)?, *wanted, "change {i}");
+) {
+    for (change, wanted) in changes {
+        let refusal = make(rt, store, *change);
+        assert_eq!(rt; (*change, refusal), (*change, *wanted));
     }
-    Ok(())
 }
 
 /// The disk of a new store of so many sectors after these changes.
 pub(crate) fn disk_after(
-    rt: &impl Abort,
-    alloc: Global,
+    rt: &(impl Abort + AllocGlobal),
     sectors: u32,
     changes: &[(Change, Option<StoreRefusal>)],
-) -> Result<Memory, Fail> {
-    let mut store = formatted(alloc, sectors)?;
-    let made = make_all(rt, alloc, &mut store, changes);
-    let disk = store.into_disk();
-    made?;
-    Ok(disk)
-}
-
-// Puts so many byte strings, from number 0 on.
-fn put_all<D: Disk>(
-    rt: &impl Abort,
-    alloc: Global,
-    store: &mut Store<D>,
-    count: u32,
-    length: usize,
-) -> Result<(), Fail> {
-    for number in 0..count {
-        let change = Change::Put(number, (number % 251) as u8, length);
-        assert_eq!(rt; make(rt, alloc, store, change)?, None, "{number}");
-    }
-    Ok(())
+) -> Memory {
+    let mut store = formatted(rt, sectors);
+    make_all(rt, &mut store, changes);
+    store.into_disk()
 }
 
 /// The disk of a new store of so many sectors with so many byte strings of one length, each of the
 /// value of its number modulo 251.
 pub(crate) fn put_many(
-    rt: &impl Abort,
-    alloc: Global,
+    rt: &(impl Abort + AllocGlobal),
     sectors: u32,
     count: u32,
     length: usize,
-) -> Result<Memory, Fail> {
-    let mut store = formatted(alloc, sectors)?;
-    let put = put_all(rt, alloc, &mut store, count, length);
-    let disk = store.into_disk();
-    put?;
-    Ok(disk)
+) -> Memory {
+    let mut store = formatted(rt, sectors);
+    for number in 0..count {
+        let change = Change::Put(number, (number % 251) as u8, length);
+        make_all(rt, &mut store, &[(change, None)]);
+    }
+    store.into_disk()
+}
+
+/// How many byte strings a store has; it is of no further use.
+pub(crate) fn count_of<D: Disk + Drop>(store: Store<D>) -> usize {
+    let count = store.count();
+    let _ = store.into_disk();
+    count
 }

@@ -2,10 +2,9 @@
 use crate::calls::Change::{Choose, Delete, Put};
 use crate::calls::{Change, disk_after, formatted, make_all, opened};
 use crate::disks::{numbered_name, version_2, write_last_roots};
-use crate::sectors::{are_same, holds, sector};
-use sector_disk::SECTOR_BYTES;
-use std::test::Fail;
-use store::StoreRefusal;
+use crate::sectors::{are_same, copy, holds, sector};
+use sector_disk::{Memory, SECTOR_BYTES};
+use store::{Store, StoreRefusal};
 
 // The root in sector 1, the bytes in 2 and 3, the entry in 4, the catalogue in 5.
 const PUT: [(u32, usize, u8); 24] = [
@@ -36,10 +35,9 @@ const PUT: [(u32, usize, u8); 24] = [
 ];
 
 #[test]
-fn a_put_writes_its_sectors_the_catalogue_and_the_other_root(rt: HostRuntime) -> Result<(), Fail> {
-    let mut disk = disk_after(&rt, rt.alloc(), 8, &[(Put(0, 7, 600), None)])?;
+fn a_put_writes_its_sectors_the_catalogue_and_the_other_root(rt: HostRuntime) {
+    let mut disk = disk_after(&rt, 8, &[(Put(0, 7, 600), None)]);
     holds(&rt, &mut disk, &PUT);
-    Ok(())
 }
 
 // The sectors of the first bytes are free again for the third ones.
@@ -82,12 +80,11 @@ const AFTER_THREE: [(u32, usize, u8); 12] = [
 ];
 
 #[test]
-fn a_replacement_goes_into_free_sectors(rt: HostRuntime) -> Result<(), Fail> {
-    let mut disk = disk_after(&rt, rt.alloc(), 8, &REPLACED[..2])?;
+fn a_replacement_goes_into_free_sectors(rt: HostRuntime) {
+    let mut disk = disk_after(&rt, 8, &REPLACED[..2]);
     holds(&rt, &mut disk, &AFTER_TWO);
-    let mut disk = disk_after(&rt, rt.alloc(), 8, &REPLACED)?;
+    let mut disk = disk_after(&rt, 8, &REPLACED);
     holds(&rt, &mut disk, &AFTER_THREE);
-    Ok(())
 }
 
 // Two byte strings of two sectors fill the disk, and after a removal there is room for a third.
@@ -100,36 +97,32 @@ const REMOVED: [(Change, Option<StoreRefusal>); 5] = [
 ];
 
 #[test]
-fn a_removal_frees_its_sectors(rt: HostRuntime) -> Result<(), Fail> {
-    let mut store = formatted(rt.alloc(), 10)?;
-    let made = make_all(&rt, rt.alloc(), &mut store, &REMOVED);
-    let positions = (
-        store.position(&numbered_name(0)),
-        store.position(&numbered_name(1)),
-        store.position(&numbered_name(2)),
-    );
+fn a_removal_frees_its_sectors(rt: HostRuntime) {
+    let mut store = formatted(&rt, 10);
+    make_all(&rt, &mut store, &REMOVED);
+    let first = store.position(&numbered_name(0));
+    let second = store.position(&numbered_name(1));
+    let third = store.position(&numbered_name(2));
     let _ = store.into_disk();
-    made?;
-    assert_eq!(rt; positions, (None, Some(0), Some(1)));
-    Ok(())
+    assert!(rt; (first, second, third) == (None, Some(0), Some(1)));
 }
 
 // The last removal leaves a root without catalogues, and writes no other sector.
 const EMPTIED: [(Change, Option<StoreRefusal>); 2] = [(Put(0, 7, 344), None), (Delete(0), None)];
 
+const AFTER_EMPTIED: [(u32, usize, u8); 6] = [
+    (0, 8, 2),
+    (0, 20, 0),
+    (0, 56, 0),
+    (0, 64, 0),
+    (4, 16, 3),
+    (5, 0, 0),
+];
+
 #[test]
-fn the_last_removal_leaves_no_catalogue(rt: HostRuntime) -> Result<(), Fail> {
-    let mut disk = disk_after(&rt, rt.alloc(), 8, &EMPTIED)?;
-    let table = [
-        (0, 8, 2),
-        (0, 20, 0),
-        (0, 56, 0),
-        (0, 64, 0),
-        (4, 16, 3),
-        (5, 0, 0),
-    ];
-    holds(&rt, &mut disk, &table);
-    Ok(())
+fn the_last_removal_leaves_no_catalogue(rt: HostRuntime) {
+    let mut disk = disk_after(&rt, 8, &EMPTIED);
+    holds(&rt, &mut disk, &AFTER_EMPTIED);
 }
 
 const PRELOADED: [(Change, Option<StoreRefusal>); 3] = [
@@ -138,46 +131,45 @@ const PRELOADED: [(Change, Option<StoreRefusal>); 3] = [
     (Choose(1), None),
 ];
 
+const AFTER_PRELOADED: [(u32, usize, u8); 9] = [
+    (1, 8, 3),
+    (1, 20, 2),
+    (1, 22, 1),
+    (1, 24, 1),
+    (1, 26, 0),
+    (1, 56, 1),
+    (1, 64, 7),
+    (7, 16, 3),
+    (7, 20, 6),
+];
+
 #[test]
-fn preloads_are_written_by_position(rt: HostRuntime) -> Result<(), Fail> {
-    let mut disk = disk_after(&rt, rt.alloc(), 8, &PRELOADED)?;
-    let table = [
-        (1, 8, 3),
-        (1, 20, 2),
-        (1, 22, 1),
-        (1, 24, 1),
-        (1, 26, 0),
-        (1, 56, 1),
-        (1, 64, 7),
-        (7, 16, 3),
-        (7, 20, 6),
-    ];
-    holds(&rt, &mut disk, &table);
-    Ok(())
+fn preloads_are_written_by_position(rt: HostRuntime) {
+    let mut disk = disk_after(&rt, 8, &PRELOADED);
+    holds(&rt, &mut disk, &AFTER_PRELOADED);
+}
+
+// Makes the third byte string and the first one the preloads.
+fn choose_two(store: &mut Store<Memory>) -> bool {
+    store.count() == 3 && store.set_preloads(&[2, 0]).is_ok()
 }
 
 #[test]
-fn new_preloads_keep_the_catalogues(rt: HostRuntime) -> Result<(), Fail> {
-    let mut store = opened(rt.alloc(), version_2(&rt, rt.alloc(), 3, 2)?)?;
-    let done = if store.count() == 3 {
-        store.set_preloads(&[2, 0])
-    } else {
-        Err(StoreRefusal::Damaged)
-    };
+fn new_preloads_keep_the_catalogues(rt: HostRuntime) {
+    let mut store = opened(&rt, version_2(&rt, 3, 2));
+    let chosen = choose_two(&mut store);
     let mut disk = store.into_disk();
-    assert_eq!(rt; done, Ok(()));
 
     // The new root differs in its generation, and in the preloads and their number.
     let mut root = sector(&rt, &mut disk, 0);
     root[8] = 1;
     root[22] = 2;
     root[24] = 2;
-    assert_eq!(rt; sector(&rt, &mut disk, 1), root);
-    let store = opened(rt.alloc(), disk)?;
+    let written = sector(&rt, &mut disk, 1) == root;
+    let store = opened(&rt, disk);
     let preloads = store.preloads() == [2, 0].as_slice();
     let _ = store.into_disk();
-    assert!(rt; preloads);
-    Ok(())
+    assert!(rt; chosen && written && preloads);
 }
 
 // At the greatest generation, where there would be room and where there wouldn't: each change is
@@ -191,16 +183,14 @@ const AT_THE_END: [(Change, Option<StoreRefusal>); 5] = [
 ];
 
 #[test]
-fn the_last_generation_is_not_followed(rt: HostRuntime) -> Result<(), Fail> {
-    let mut disk = version_2(&rt, rt.alloc(), 3, 20)?;
-    write_last_roots(&rt, &mut disk)?;
-    let mut before = disk.copy()?;
-    let mut store = opened(rt.alloc(), disk)?;
-    let made = make_all(&rt, rt.alloc(), &mut store, &AT_THE_END);
+fn the_last_generation_is_not_followed(rt: HostRuntime) {
+    let mut disk = version_2(&rt, 3, 20);
+    write_last_roots(&rt, &mut disk);
+    let mut before = copy(&rt, &disk);
+    let mut store = opened(&rt, disk);
+    make_all(&rt, &mut store, &AT_THE_END);
     let failed = store.has_failed();
     let mut after = store.into_disk();
-    made?;
-    assert!(rt; !failed);
     are_same(&rt, &mut before, &mut after);
-    Ok(())
+    assert!(rt; !failed);
 }

@@ -1,14 +1,12 @@
 // Disks that are written by hand. Library i has its entry in sector 2 + 2i and its one sector of
 // bytes behind that; catalogues come behind the libraries.
-use crate::sectors::{sector, write};
+use crate::sectors::{memory, sector, write};
 use extents::Extent;
 use roots::{
     Catalogue, Entry, Root, Slot, decode_root, encode_catalogue, encode_entry, encode_root,
 };
-use sector_disk::{Memory, SECTOR_BYTES};
-use std::alloc::Global;
+use sector_disk::{Disk, Memory, SECTOR_BYTES};
 use std::process::Abort;
-use std::test::Fail;
 use store::{Store, StoreRefusal};
 
 /// The name of library i: two characters, each for 6 bits of the number.
@@ -54,86 +52,93 @@ pub(crate) fn write_root(rt: &impl Abort, disk: &mut Memory, root: &Root) {
     write(rt, disk, (root.generation % 2) as u32, &encode_root(root));
 }
 
-/// The entries of so many libraries.
-fn entries_of(rt: &impl Abort, alloc: Global, count: u32) -> Result<Vec<u32>, Fail> {
-    let mut entries = Vec::new(alloc);
+// Writes so many libraries.
+fn write_libraries(rt: &impl Abort, disk: &mut Memory, count: u32) {
     for i in 0..count {
-        entries.push(entry_at(rt, i))?;
+        write_library(rt, disk, i, &numbered_name(i));
     }
-    Ok(entries)
+}
+
+/// The entries of the libraries from the first on.
+pub(crate) fn entries_from<const N: usize>(rt: &impl Abort, first: u32) -> [u32; N] {
+    let mut entries = [0; N];
+    let mut i = first;
+    for entry in &mut entries {
+        *entry = entry_at(rt, i);
+        i = i.saturating_add(1);
+    }
+    entries
+}
+
+// Writes the catalogues of so many libraries behind them, and says where they are.
+fn write_catalogues(rt: &impl Abort, disk: &mut Memory, count: u32) -> [u32; 32] {
+    let mut listed = [0; 32];
+    let mut first = 0u32;
+    let behind = entry_at(rt, count);
+    for (number, at) in listed.iter_mut().enumerate() {
+        if first < count {
+            let entries = entries_from::<64>(rt, first);
+            let most = count.saturating_sub(first).min(64) as usize;
+            *at = behind.saturating_add(number as u32);
+            write_catalogue(rt, disk, *at, &entries[..most]);
+        }
+        first = first.saturating_add(64);
+    }
+    listed
 }
 
 /// A disk of version 2 with so many libraries, the first of them a preload, and so many sectors
 /// more than libraries, roots and catalogues take.
-pub(crate) fn version_2(
-    rt: &impl Abort,
-    alloc: Global,
-    count: u32,
-    spare: u32,
-) -> Result<Memory, Fail> {
-    assert!(rt; 1 <= count && count <= 2048 && spare <= 100);
-    let first = entry_at(rt, count);
-    let catalogues = count.div_ceil(64);
-    assert!(rt; first < 30_000 && catalogues <= 32);
-    let mut disk = Memory::new(alloc, first + catalogues + spare)?;
-    for i in 0..count {
-        write_library(rt, &mut disk, i, &numbered_name(i));
-    }
-    let entries = entries_of(rt, alloc, count)?;
-    let mut listed = Vec::new(alloc);
-    for (number, part) in entries.chunks(64).enumerate() {
-        assert!(rt; number < 32);
-        let at = first + number as u32;
-        write_catalogue(rt, &mut disk, at, part);
-        listed.push(at)?;
-    }
-    assert!(rt; listed.len() <= 32);
-    let sectors = first + catalogues + spare;
-    let root = Root::over_catalogues(0, sectors, count as u16, &listed, &[0]);
-    write_root(rt, &mut disk, &root);
-    Ok(disk)
+pub(crate) fn version_2(rt: &(impl Abort + AllocGlobal), count: u16, spare: u32) -> Memory {
+    let libraries = u32::from(count);
+    let catalogues = libraries.div_ceil(64);
+    assert!(rt; 1 <= count && catalogues <= 32 && spare <= 100);
+    let behind = entry_at(rt, libraries);
+    assert!(rt; behind < 30_000);
+    let sectors = behind + catalogues + spare;
+    let mut disk = memory(rt, sectors);
+    write_libraries(rt, &mut disk, libraries);
+    let listed = write_catalogues(rt, &mut disk, libraries);
+    let listed = &listed[..catalogues as usize];
+    write_root(
+        rt,
+        &mut disk,
+        &Root::over_catalogues(0, sectors, count, listed, &[0]),
+    );
+    disk
 }
 
 /// A disk of version 1 with so many libraries, the first of them a preload, and so many sectors
 /// more than libraries and roots take.
-pub(crate) fn version_1(
-    rt: &impl Abort,
-    alloc: Global,
-    count: u32,
-    spare: u32,
-) -> Result<Memory, Fail> {
+pub(crate) fn version_1(rt: &(impl Abort + AllocGlobal), count: u32, spare: u32) -> Memory {
     assert!(rt; 3 <= count && count <= 100 && spare <= 100);
     let behind = entry_at(rt, count);
     assert!(rt; behind < 30_000);
     let sectors = behind + spare;
-    let mut disk = Memory::new(alloc, sectors)?;
-    for i in 0..count {
-        write_library(rt, &mut disk, i, &numbered_name(i));
-    }
-    let entries = entries_of(rt, alloc, count)?;
-    assert!(rt; entries.len() <= 100);
-    write_root(
-        rt,
-        &mut disk,
-        &Root::over_entries(0, sectors, &entries, &[0]),
-    );
-    Ok(disk)
+    let mut disk = memory(rt, sectors);
+    write_libraries(rt, &mut disk, count);
+    let entries = entries_from::<100>(rt, 0);
+    let root = Root::over_entries(0, sectors, &entries[..count as usize], &[0]);
+    write_root(rt, &mut disk, &root);
+    disk
 }
 
 /// Writes the last two roots that there can be in the place of the first one.
-pub(crate) fn write_last_roots(rt: &impl Abort, disk: &mut Memory) -> Result<(), Fail> {
+pub(crate) fn write_last_roots(rt: &impl Abort, disk: &mut Memory) {
     let Slot::Good(root) = decode_root(&sector(rt, disk, 0)) else {
-        return Err("no root".into());
+        panic!(rt; "no root");
     };
     for generation in [u64::MAX - 1, u64::MAX] {
         write_root(rt, disk, &Root { generation, ..root });
     }
-    Ok(())
 }
 
 /// How `open` refuses a disk, if it refuses.
-pub(crate) fn refusal_of_open(alloc: Global, disk: Memory) -> Option<StoreRefusal> {
-    match Store::open(alloc, disk) {
+pub(crate) fn refusal_of_open<D: Disk + Drop>(
+    rt: &impl AllocGlobal,
+    disk: D,
+) -> Option<StoreRefusal> {
+    match Store::open(rt.alloc(), disk) {
         Ok(store) => {
             let _ = store.into_disk();
             None

@@ -3,31 +3,34 @@
 use crate::calls::Change::{Choose, ChooseNone, Delete, Put};
 use crate::calls::{Change, make, opened};
 use crate::disks::{version_1, version_2};
-use crate::sectors::are_same;
+use crate::sectors::{are_same, copy};
 use crate::seen::{Seen, Told, look, tell};
 use sector_disk::{Disk, Fuse, Memory};
-use std::alloc::Global;
 use std::process::Abort;
-use std::test::Fail;
 use store::{Look, Store, StoreRefusal};
 
-#[test]
-fn each_call_of_a_look_may_fail(rt: HostRuntime) -> Result<(), Fail> {
-    // A sync, two roots, two catalogues and 65 entries: 70 calls, and the next isn't made.
-    for call in 1..72 {
-        let disk: Fuse<Memory> = Fuse::new(version_2(&rt, rt.alloc(), 65, 2)?, call, false, false);
-        let want = if call <= 70 {
-            Seen::Refused(StoreRefusal::Device)
-        } else {
-            Seen::Current(65)
-        };
-        assert_eq!(rt; look(rt.alloc(), disk), want, "{call}");
+// The first call whose failure a look at this disk doesn't answer: 70 are made.
+fn unanswered(rt: &(impl Abort + AllocGlobal), disk: &Memory) -> Option<u64> {
+    for call in 1..71 {
+        let fuse: Fuse<Memory> = Fuse::new(copy(rt, disk), call, false, false);
+        if look(rt, fuse) != Seen::Refused(StoreRefusal::Device) {
+            return Some(call);
+        }
     }
-    Ok(())
+    None
+}
+
+#[test]
+fn each_call_of_a_look_may_fail(rt: HostRuntime) {
+    // A sync, two roots, two catalogues and 65 entries: 70 calls, and the next isn't made.
+    let disk = version_2(&rt, 65, 2);
+    let unanswered = unanswered(&rt, &disk);
+    let further = look(&rt, Fuse::new(disk, 71, false, false));
+    assert!(rt; unanswered.is_none() && further == Seen::Current(65));
 }
 
 // A call of the disk that fails: its number, counted from 1, and whether it reaches the disk first.
-#[derive(Clone, Copy, Debug)]
+#[derive(Clone, Copy, Debug, PartialEq)]
 struct Fault {
     call: u64,
     late: bool,
@@ -109,64 +112,62 @@ const OPENING: u64 = 7;
 
 // Makes a change on a disk that fails: the refusal, that of a change behind it, and the disk.
 fn failed(
-    rt: &impl Abort,
-    alloc: Global,
+    rt: &(impl Abort + AllocGlobal),
     disk: Fuse<Memory>,
     change: Change,
-) -> Result<(Option<StoreRefusal>, Option<StoreRefusal>, Memory), Fail> {
-    let mut store = opened(alloc, disk)?;
-    let made = make(rt, alloc, &mut store, change);
+) -> (Option<StoreRefusal>, Option<StoreRefusal>, Memory) {
+    let mut store = opened(rt, disk);
+    let made = make(rt, &mut store, change);
     let next = store.set_preloads(&[]).err();
-    let disk = store.into_disk().into_inner();
-    Ok((made?, next, disk))
+    (made, next, store.into_disk().into_inner())
 }
 
 // What the store on a disk tells.
-fn told_of(alloc: Global, disk: Memory) -> Result<Told, Fail> {
-    let store = opened(alloc, disk)?;
+fn told_of(rt: &(impl Abort + AllocGlobal), disk: Memory) -> Told {
+    let store = opened(rt, disk);
     let told = tell(&store);
     let _ = store.into_disk();
-    Ok(told)
+    told
+}
+
+// A change with one call that fails: it is answered so, a change behind it too, and the old state
+// or the new one stands.
+fn fails(rt: &(impl Abort + AllocGlobal), disk: &Memory, row: (Change, u64, Told), fault: Fault) {
+    let (change, calls, new) = row;
+    let (refusal, next, left) = failed(rt, fault.of(copy(rt, disk), OPENING), change);
+    let wanted = if fault.is_behind_the_root(calls) {
+        new
+    } else {
+        THREE
+    };
+    let told = told_of(rt, left);
+    assert!(rt; refusal == Some(StoreRefusal::Device) && next == Some(StoreRefusal::Reopen));
+    assert_eq!(rt; (change, told), (change, wanted));
+}
+
+// A change makes no further call.
+fn goes_through(rt: &(impl Abort + AllocGlobal), disk: &Memory, row: (Change, u64, Told)) {
+    let (change, calls, new) = row;
+    let fault = Fault {
+        call: calls.saturating_add(1),
+        late: false,
+    };
+    let mut store = opened(rt, fault.of(copy(rt, disk), OPENING));
+    let made = make(rt, &mut store, change);
+    let told = told_of(rt, store.into_disk().into_inner());
+    assert_eq!(rt; (change, made, told), (change, None, new));
 }
 
 #[test]
-fn each_call_of_a_change_may_fail(rt: HostRuntime) -> Result<(), Fail> {
-    let disk = version_2(&rt, rt.alloc(), 3, 8)?;
-    for (change, calls, new) in CHANGES {
-        for call in 1..=calls {
-            for late in [false, true] {
-                let fault = Fault { call, late };
-                let fuse = fault.of(disk.copy()?, OPENING);
-                let (refusal, next, left) = failed(&rt, rt.alloc(), fuse, change)?;
-                let answers = (Some(StoreRefusal::Device), Some(StoreRefusal::Reopen));
-                assert_eq!(rt; (refusal, next), answers, "{change:?} {fault:?}");
-                let wanted = if fault.is_behind_the_root(calls) {
-                    new
-                } else {
-                    THREE
-                };
-                assert_eq!(rt; told_of(rt.alloc(), left)?, wanted, "{change:?} {fault:?}");
-            }
+fn each_call_of_a_change_may_fail(rt: HostRuntime) {
+    let disk = version_2(&rt, 3, 8);
+    for row in &CHANGES {
+        for call in 1..row.1.saturating_add(1) {
+            fails(&rt, &disk, *row, Fault { call, late: false });
+            fails(&rt, &disk, *row, Fault { call, late: true });
         }
+        goes_through(&rt, &disk, *row);
     }
-    Ok(())
-}
-
-#[test]
-fn a_change_makes_no_further_call(rt: HostRuntime) -> Result<(), Fail> {
-    let disk = version_2(&rt, rt.alloc(), 3, 8)?;
-    for (change, calls, new) in CHANGES {
-        let fault = Fault {
-            call: calls.saturating_add(1),
-            late: false,
-        };
-        let mut store = opened(rt.alloc(), fault.of(disk.copy()?, OPENING))?;
-        let made = make(&rt, rt.alloc(), &mut store, change);
-        let left = store.into_disk().into_inner();
-        assert_eq!(rt; made?, None, "{change:?}");
-        assert_eq!(rt; told_of(rt.alloc(), left)?, new, "{change:?}");
-    }
-    Ok(())
 }
 
 // The calls of a look at three byte strings of version 1, and those of its commit: the catalogue,
@@ -176,17 +177,17 @@ const LOOK: u64 = 6;
 const COMMIT: u64 = 4;
 
 /// How a disk becomes one of version 2.
-#[derive(Clone, Copy, Debug)]
+#[derive(Clone, Copy)]
 enum By {
     Upgrade,
     LookAndCommit,
 }
 
 // Upgrades a disk: the refusal, if it is refused, and the disk.
-fn upgrade<D: Disk + Drop>(alloc: Global, disk: D, by: By) -> (Option<StoreRefusal>, D) {
+fn upgrade<D: Disk + Drop>(rt: &impl AllocGlobal, disk: D, by: By) -> (Option<StoreRefusal>, D) {
     let result = match by {
-        By::Upgrade => Store::upgrade(alloc, disk),
-        By::LookAndCommit => match Store::look(alloc, disk) {
+        By::Upgrade => Store::upgrade(rt.alloc(), disk),
+        By::LookAndCommit => match Store::look(rt.alloc(), disk) {
             Ok(Look::Old(store)) => store.commit(),
             Ok(Look::Current(store)) => Ok(store),
             Err(refused) => Err(refused),
@@ -198,50 +199,50 @@ fn upgrade<D: Disk + Drop>(alloc: Global, disk: D, by: By) -> (Option<StoreRefus
     }
 }
 
+// An upgrade of what is left goes through.
+fn goes_on(rt: &(impl Abort + AllocGlobal), left: Memory, by: By) {
+    let (refusal, again) = upgrade(rt, left, by);
+    let told = told_of(rt, again);
+    assert_eq!(rt; (refusal, told), (None, THREE));
+}
+
 // What is left of an upgrade with a call that fails is the old disk or the new one, and an upgrade
 // of that goes through.
-fn upgrades_again(
-    rt: &impl Abort,
-    alloc: Global,
-    disk: &Memory,
-    fault: Fault,
-    by: By,
-) -> Result<(), Fail> {
-    let (refusal, left) = upgrade(alloc, fault.of(disk.copy()?, 0), by);
-    assert_eq!(rt; refusal, Some(StoreRefusal::Device), "{fault:?}");
+fn upgrades_again(rt: &(impl Abort + AllocGlobal), disk: &Memory, fault: Fault, by: By) {
+    let (refusal, left) = upgrade(rt, fault.of(copy(rt, disk), 0), by);
     let mut left = left.into_inner();
-    let is_new = fault.is_behind_the_root(LOOK + COMMIT);
-    let wanted = if is_new {
+    let wanted = if fault.is_behind_the_root(LOOK + COMMIT) {
         Seen::Current(3)
     } else {
         Seen::Old(3)
     };
-    assert_eq!(rt; look(alloc, left.copy()?), wanted, "{fault:?}");
+    let seen = look(rt, copy(rt, &left));
     if fault.call <= LOOK {
-        are_same(rt, &mut disk.copy()?, &mut left);
+        are_same(rt, &mut copy(rt, disk), &mut left);
     }
-    let (refusal, again) = upgrade(alloc, left, by);
-    assert_eq!(rt; refusal, None, "{fault:?}");
-    assert_eq!(rt; told_of(alloc, again)?, THREE, "{fault:?}");
-    Ok(())
+    goes_on(rt, left, by);
+    let device = Some(StoreRefusal::Device);
+    assert_eq!(rt; (fault, refusal, seen), (fault, device, wanted));
+}
+
+// Each call of an upgrade in this way fails, and then none.
+fn upgrades(rt: &(impl Abort + AllocGlobal), disk: &Memory, by: By) {
+    for call in 1..=LOOK + COMMIT {
+        upgrades_again(rt, disk, Fault { call, late: false }, by);
+        upgrades_again(rt, disk, Fault { call, late: true }, by);
+    }
+    let further = Fault {
+        call: LOOK + COMMIT + 1,
+        late: false,
+    };
+    let (refusal, left) = upgrade(rt, further.of(copy(rt, disk), 0), by);
+    let told = told_of(rt, left.into_inner());
+    assert!(rt; refusal.is_none() && told == THREE);
 }
 
 #[test]
-fn each_call_of_an_upgrade_may_fail(rt: HostRuntime) -> Result<(), Fail> {
-    let disk = version_1(&rt, rt.alloc(), 3, 2)?;
-    for by in [By::Upgrade, By::LookAndCommit] {
-        for call in 1..=LOOK + COMMIT {
-            for late in [false, true] {
-                upgrades_again(&rt, rt.alloc(), &disk, Fault { call, late }, by)?;
-            }
-        }
-        let further = Fault {
-            call: LOOK + COMMIT + 1,
-            late: false,
-        };
-        let (refusal, left) = upgrade(rt.alloc(), further.of(disk.copy()?, 0), by);
-        assert_eq!(rt; refusal, None);
-        assert_eq!(rt; told_of(rt.alloc(), left.into_inner())?, THREE);
-    }
-    Ok(())
+fn each_call_of_an_upgrade_may_fail(rt: HostRuntime) {
+    let disk = version_1(&rt, 3, 2);
+    upgrades(&rt, &disk, By::Upgrade);
+    upgrades(&rt, &disk, By::LookAndCommit);
 }

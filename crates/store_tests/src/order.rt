@@ -2,10 +2,9 @@
 use crate::calls::Change::{Delete, Put};
 use crate::calls::{Change, make_all, opened, put_many};
 use crate::disks::{numbered_name, version_2};
+use crate::seen::last_byte;
 use sector_disk::Memory;
-use std::alloc::Global;
 use std::process::Abort;
-use std::test::Fail;
 use store::Store;
 
 /// A byte string of a plain list: its number, and the value of its bytes.
@@ -16,49 +15,36 @@ struct Listed {
 }
 
 // So many byte strings, as they are put one behind the other.
-fn first_list(alloc: Global, count: u32) -> Result<Vec<Listed>, Fail> {
-    let mut list = Vec::new(alloc);
+fn first_list(rt: &(impl Abort + AllocGlobal), count: u32) -> Vec<Listed> {
+    let mut list = Vec::new(rt.alloc());
     for number in 0..count {
-        list.push(Listed {
-            number,
-            value: (number % 251) as u8,
-        })?;
+        let value = (number % 251) as u8;
+        list.push(Listed { number, value }).expect(rt, "a list");
     }
-    Ok(list)
+    list
 }
 
 // Makes a change of the plain list.
-fn follow(list: &mut Vec<Listed>, change: Change) -> Result<(), Fail> {
+fn follow(rt: &(impl Abort + AllocGlobal), list: &mut Vec<Listed>, change: Change) {
     match change {
         Put(number, value, _) => match list.iter_mut().find(|listed| listed.number == number) {
             Some(listed) => listed.value = value,
-            None => list.push(Listed { number, value })?,
+            None => list.push(Listed { number, value }).expect(rt, "a list"),
         },
         Delete(number) => list.retain(|listed| listed.number != number),
         _ => {}
     }
-    Ok(())
 }
 
-// The store has these byte strings in this order.
-fn has_list(
-    rt: &impl Abort,
-    alloc: Global,
-    store: &mut Store<Memory>,
-    list: &[Listed],
-) -> Result<(), Fail> {
-    assert_eq!(rt; store.count(), list.len());
+// Whether the store has these byte strings in this order.
+fn has_list(rt: &impl AllocGlobal, store: &mut Store<Memory>, list: &[Listed]) -> bool {
     for (position, listed) in list.iter().enumerate() {
-        assert!(rt; position < store.count());
         let name = numbered_name(listed.number);
-        assert_eq!(rt; store.name(position), name.as_slice(), "{position}");
-        assert_eq!(rt; store.position(&name), Some(position));
-        let Ok(bytes) = store.read_blob(alloc, position) else {
-            return Err("it isn't read".into());
-        };
-        assert_eq!(rt; bytes.last(), Some(&listed.value), "{position}");
+        if last_byte(rt, store, position, &name) != Some(listed.value) {
+            return false;
+        }
     }
-    Ok(())
+    store.count() == list.len()
 }
 
 // How many byte strings there are at first, and what is changed around the edges of catalogues.
@@ -101,47 +87,53 @@ const CHANGES: [(u32, [Change; 7]); 3] = [
     ),
 ];
 
-// Makes a change, and compares before and after it.
+// Makes a change on a disk, and compares before and after it: the disk then.
 fn keeps_order(
-    rt: &impl Abort,
-    alloc: Global,
-    store: &mut Store<Memory>,
+    rt: &(impl Abort + AllocGlobal),
+    disk: Memory,
     list: &mut Vec<Listed>,
     change: Change,
-) -> Result<(), Fail> {
-    has_list(rt, alloc, store, list)?;
-    make_all(rt, alloc, store, &[(change, None)])?;
-    follow(list, change)?;
-    has_list(rt, alloc, store, list)
+) -> Memory {
+    let mut store = opened(rt, disk);
+    let before = has_list(rt, &mut store, list);
+    make_all(rt, &mut store, &[(change, None)]);
+    follow(rt, list, change);
+    let after = has_list(rt, &mut store, list);
+    let disk = store.into_disk();
+    assert!(rt; before && after);
+    disk
+}
+
+// Makes the changes on a disk with so many byte strings.
+fn keep_order(rt: &(impl Abort + AllocGlobal), count: u32, changes: &[Change]) {
+    let mut disk = put_many(rt, 600, count, 100);
+    let mut list = first_list(rt, count);
+    for change in changes {
+        disk = keeps_order(rt, disk, &mut list, *change);
+    }
+    let mut store = opened(rt, disk);
+    let kept = has_list(rt, &mut store, &list);
+    let _ = store.into_disk();
+    assert!(rt; kept);
 }
 
 #[test]
-fn the_order_is_kept_over_the_edges_of_catalogues(rt: HostRuntime) -> Result<(), Fail> {
-    for (count, changes) in CHANGES {
-        let mut disk = put_many(&rt, rt.alloc(), 600, count, 100)?;
-        let mut list = first_list(rt.alloc(), count)?;
-        for change in changes {
-            let mut store = opened(rt.alloc(), disk)?;
-            let kept = keeps_order(&rt, rt.alloc(), &mut store, &mut list, change);
-            disk = store.into_disk();
-            kept?;
-        }
-        let mut store = opened(rt.alloc(), disk)?;
-        let kept = has_list(&rt, rt.alloc(), &mut store, &list);
-        let _ = store.into_disk();
-        kept?;
+fn the_order_is_kept_over_the_edges_of_catalogues(rt: HostRuntime) {
+    for (count, changes) in &CHANGES {
+        keep_order(&rt, *count, changes);
     }
-    Ok(())
 }
 
-// The preloads are the byte strings of these numbers, in this order.
-fn preloads_are(rt: &impl Abort, store: &Store<Memory>, numbers: &[u32]) {
-    assert_eq!(rt; store.preloads().len(), numbers.len());
-    for (position, number) in store.preloads().iter().zip(numbers) {
-        let position = usize::from(*position);
-        assert!(rt; position < store.count());
-        assert_eq!(rt; store.name(position), numbered_name(*number).as_slice());
-    }
+// Whether the preloads are the byte strings 3 and 1.
+fn are_preloads(store: &Store<Memory>) -> bool {
+    let [first, second] = store.preloads() else {
+        return false;
+    };
+    let (first, second) = (usize::from(*first), usize::from(*second));
+    first < store.count()
+        && second < store.count()
+        && store.name(first) == numbered_name(3).as_slice()
+        && store.name(second) == numbered_name(1).as_slice()
 }
 
 // What is changed while 3 and 1 are the preloads.
@@ -153,34 +145,35 @@ const BESIDE_PRELOADS: [Change; 5] = [
     Delete(4),
 ];
 
-// Makes a change, and looks at the preloads before and after it.
-fn keeps_preloads(
-    rt: &impl Abort,
-    alloc: Global,
-    store: &mut Store<Memory>,
-    change: Change,
-) -> Result<(), Fail> {
-    preloads_are(rt, store, &[3, 1]);
-    make_all(rt, alloc, store, &[(change, None)])?;
-    preloads_are(rt, store, &[3, 1]);
-    Ok(())
+// Makes a change on a disk, and looks at the preloads before and after it: the disk then.
+fn keeps_preloads(rt: &(impl Abort + AllocGlobal), disk: Memory, change: Change) -> Memory {
+    let mut store = opened(rt, disk);
+    let before = are_preloads(&store);
+    make_all(rt, &mut store, &[(change, None)]);
+    let after = are_preloads(&store);
+    let disk = store.into_disk();
+    assert!(rt; before && after);
+    disk
+}
+
+// Makes 3 and 1 of five byte strings the preloads.
+fn with_preloads(rt: &(impl Abort + AllocGlobal)) -> Memory {
+    let mut store = opened(rt, version_2(rt, 5, 20));
+    assert!(rt; store.count() == 5);
+    let chosen = store.set_preloads(&[3, 1]).is_ok();
+    let disk = store.into_disk();
+    assert!(rt; chosen);
+    disk
 }
 
 #[test]
-fn preloads_keep_their_names_over_removals(rt: HostRuntime) -> Result<(), Fail> {
-    let mut store = opened(rt.alloc(), version_2(&rt, rt.alloc(), 5, 20)?)?;
-    assert_eq!(rt; store.count(), 5);
-    let chosen = store.set_preloads(&[3, 1]);
-    let mut disk = store.into_disk();
-    assert_eq!(rt; chosen, Ok(()));
-    for change in BESIDE_PRELOADS {
-        let mut store = opened(rt.alloc(), disk)?;
-        let kept = keeps_preloads(&rt, rt.alloc(), &mut store, change);
-        disk = store.into_disk();
-        kept?;
+fn preloads_keep_their_names_over_removals(rt: HostRuntime) {
+    let mut disk = with_preloads(&rt);
+    for change in &BESIDE_PRELOADS {
+        disk = keeps_preloads(&rt, disk, *change);
     }
-    let store = opened(rt.alloc(), disk)?;
-    preloads_are(&rt, &store, &[3, 1]);
+    let store = opened(&rt, disk);
+    let kept = are_preloads(&store);
     let _ = store.into_disk();
-    Ok(())
+    assert!(rt; kept);
 }

@@ -1,10 +1,9 @@
 // Disks that are full to the last sector, and the most byte strings that there can be.
 use crate::calls::Change::{Choose, ChooseNone, Delete, Put};
-use crate::calls::{Change, disk_after, formatted, make_all, opened, put_many};
+use crate::calls::{Change, count_of, disk_after, formatted, make_all, opened, put_many};
+use crate::sectors::copy;
 use sector_disk::{Memory, SECTOR_BYTES};
-use std::alloc::Global;
 use std::process::Abort;
-use std::test::Fail;
 use store::{Store, StoreRefusal};
 
 const FULL: Option<StoreRefusal> = Some(StoreRefusal::Full);
@@ -21,51 +20,39 @@ const SMALL: [(Change, Option<StoreRefusal>); 7] = [
 ];
 
 #[test]
-fn a_small_disk_is_filled_and_emptied(rt: HostRuntime) -> Result<(), Fail> {
-    disk_after(&rt, rt.alloc(), 8, &SMALL)?;
-    Ok(())
+fn a_small_disk_is_filled_and_emptied(rt: HostRuntime) {
+    let _ = disk_after(&rt, 8, &SMALL);
 }
 
-// Puts so many byte strings of two sectors each, and then makes these changes: the disk.
-fn put_and_make(
-    rt: &impl Abort,
-    alloc: Global,
-    sectors: u32,
-    count: u32,
+// Makes these changes on a disk: the disk.
+fn make_on(
+    rt: &(impl Abort + AllocGlobal),
+    disk: Memory,
     changes: &[(Change, Option<StoreRefusal>)],
-) -> Result<Memory, Fail> {
-    let disk = put_many(rt, alloc, sectors, count, 512)?;
-    let mut store = opened(alloc, disk)?;
-    let made = make_all(rt, alloc, &mut store, changes);
-    let disk = store.into_disk();
-    made?;
-    Ok(disk)
+) -> Memory {
+    let mut store = opened(rt, disk);
+    make_all(rt, &mut store, changes);
+    store.into_disk()
 }
 
 #[test]
-fn byte_string_65_takes_two_sectors_for_its_catalogue(rt: HostRuntime) -> Result<(), Fail> {
-    for (sectors, wanted) in [(135, FULL), (136, None)] {
-        put_and_make(&rt, rt.alloc(), sectors, 64, &[(Put(64, 7, 512), wanted)])?;
-    }
-    Ok(())
+fn byte_string_65_takes_two_sectors_for_its_catalogue(rt: HostRuntime) {
+    let _ = make_on(&rt, put_many(&rt, 135, 64, 512), &[(Put(64, 7, 512), FULL)]);
+    let _ = make_on(&rt, put_many(&rt, 136, 64, 512), &[(Put(64, 7, 512), None)]);
 }
 
 #[test]
-fn any_removal_goes_through_on_a_full_disk(rt: HostRuntime) -> Result<(), Fail> {
-    let disk = put_many(&rt, rt.alloc(), 136, 65, 512)?;
+fn any_removal_goes_through_on_a_full_disk(rt: HostRuntime) {
+    let disk = put_many(&rt, 136, 65, 512);
     for gone in 0..65 {
-        let mut store = opened(rt.alloc(), disk.copy()?)?;
         let changes = [
             (Put(65, 7, 64), FULL),
             (Delete(gone), None),
             (Put(65, 7, 512), None),
             (Put(66, 7, 64), FULL),
         ];
-        let made = make_all(&rt, rt.alloc(), &mut store, &changes);
-        let _ = store.into_disk();
-        made?;
+        let _ = make_on(&rt, copy(&rt, &disk), &changes);
     }
-    Ok(())
 }
 
 // Changes of a store on 30 sectors, and how many sectors are free after each: what costs and
@@ -82,13 +69,8 @@ const FREE: [(Change, usize); 9] = [
     (Delete(1), 24),
 ];
 
-// So many sectors are free: a byte string takes them all, and is taken out again.
-fn has_free(
-    rt: &impl Abort,
-    alloc: Global,
-    store: &mut Store<Memory>,
-    free: usize,
-) -> Result<(), Fail> {
+/// So many sectors are free: a byte string takes them all, and is taken out again.
+pub(crate) fn has_free(rt: &(impl Abort + AllocGlobal), store: &mut Store<Memory>, free: usize) {
     assert!(rt; 2 <= free && free <= 100);
     let changes = [
         (Put(99, 7, (free - 1) * SECTOR_BYTES + 1), FULL),
@@ -96,39 +78,36 @@ fn has_free(
         (Put(98, 7, 64), FULL),
         (Delete(99), None),
     ];
-    make_all(rt, alloc, store, &changes)
+    make_all(rt, store, &changes);
 }
 
-// Makes the changes, and fills the disk after each.
-fn fills_after_each(
-    rt: &impl Abort,
-    alloc: Global,
-    store: &mut Store<Memory>,
-    changes: &[(Change, usize)],
-) -> Result<(), Fail> {
-    for (change, free) in changes {
-        make_all(rt, alloc, store, &[(*change, None)])?;
-        has_free(rt, alloc, store, *free)?;
-    }
-    Ok(())
+// Makes a change on a disk, and fills it: the disk then.
+fn change_and_fill(
+    rt: &(impl Abort + AllocGlobal),
+    disk: Memory,
+    change: Change,
+    free: usize,
+) -> Memory {
+    let mut store = opened(rt, disk);
+    make_all(rt, &mut store, &[(change, None)]);
+    has_free(rt, &mut store, free);
+    store.into_disk()
 }
 
 #[test]
-fn what_a_change_no_longer_uses_is_free(rt: HostRuntime) -> Result<(), Fail> {
-    let mut store = formatted(rt.alloc(), 30)?;
-    let filled = fills_after_each(&rt, rt.alloc(), &mut store, &FREE);
+fn what_a_change_no_longer_uses_is_free(rt: HostRuntime) {
+    let mut store = formatted(&rt, 30);
+    for (change, free) in &FREE {
+        make_all(&rt, &mut store, &[(*change, None)]);
+        has_free(&rt, &mut store, *free);
+    }
     let _ = store.into_disk();
-    filled?;
 
     // The same with an opening between.
-    let mut disk = disk_after(&rt, rt.alloc(), 30, &[])?;
-    for row in FREE {
-        let mut store = opened(rt.alloc(), disk)?;
-        let filled = fills_after_each(&rt, rt.alloc(), &mut store, &[row]);
-        disk = store.into_disk();
-        filled?;
+    let mut disk = disk_after(&rt, 30, &[]);
+    for (change, free) in &FREE {
+        disk = change_and_fill(&rt, disk, *change, *free);
     }
-    Ok(())
 }
 
 // The most byte strings there can be, and what is refused beside them.
@@ -141,11 +120,8 @@ const MOST: [(Change, Option<StoreRefusal>); 5] = [
 ];
 
 #[test]
-fn there_are_2048_byte_strings_and_no_more(rt: HostRuntime) -> Result<(), Fail> {
-    let disk = put_and_make(&rt, rt.alloc(), 5000, 2048, &MOST)?;
-    let store = opened(rt.alloc(), disk)?;
-    let count = store.count();
-    let _ = store.into_disk();
-    assert_eq!(rt; count, 2048);
-    Ok(())
+fn there_are_2048_byte_strings_and_no_more(rt: HostRuntime) {
+    let disk = make_on(&rt, put_many(&rt, 5000, 2048, 512), &MOST);
+    let count = count_of(opened(&rt, disk));
+    assert!(rt; count == 2048);
 }

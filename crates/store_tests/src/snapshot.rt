@@ -2,46 +2,41 @@
 use crate::calls::Change::{Choose, ChooseNone, Delete, Put};
 use crate::calls::{Change, formatted, make_all};
 use crate::disks::numbered_name;
-use sector_disk::{Disk, SECTOR_BYTES};
+use crate::seen::given;
+use sector_disk::{Memory, SECTOR_BYTES};
 use snapshots::Snapshot;
-use std::alloc::Global;
 use std::process::Abort;
-use std::test::Fail;
 use store::{Store, StoreRefusal};
 
 // A snapshot of the store after these changes.
-fn taken<D: Disk>(
-    rt: &impl Abort,
-    alloc: Global,
-    store: &mut Store<D>,
+fn taken(
+    rt: &(impl Abort + AllocGlobal),
+    store: &mut Store<Memory>,
     changes: &[(Change, Option<StoreRefusal>)],
-) -> Result<Snapshot, Fail> {
-    make_all(rt, alloc, store, changes)?;
-    match Snapshot::take(alloc, store) {
-        Ok(snapshot) => Ok(snapshot),
-        Err(_) => Err("no snapshot".into()),
+) -> Snapshot {
+    make_all(rt, store, changes);
+    match Snapshot::take(rt.alloc(), store) {
+        Ok(snapshot) => snapshot,
+        Err(_) => panic!(rt; "no snapshot"),
     }
 }
 
-// The snapshot has so many bytes of this value under the name of a number, at this position.
-fn has<D: Disk>(
-    rt: &impl Abort,
-    alloc: Global,
-    store: &mut Store<D>,
+// Whether the snapshot has so many bytes of this value under the name of a number, at this
+// position.
+fn has(
+    rt: &impl AllocGlobal,
+    store: &mut Store<Memory>,
     snapshot: &Snapshot,
     row: (u32, usize, u8, usize),
-) -> Result<(), Fail> {
+) -> bool {
     let (number, position, byte, length) = row;
     let name = numbered_name(number);
-    assert_eq!(rt; snapshot.position(store, &name), Some(position));
-    assert!(rt; position < snapshot.count());
-    assert!(rt; snapshot.name(store, position) == name.as_slice());
-    let Ok(bytes) = snapshot.read(alloc, store, position) else {
-        return Err("not read".into());
-    };
-    let wanted = vec![in alloc; byte; length]?;
-    assert!(rt; bytes.as_slice() == wanted.as_slice());
-    Ok(())
+    if snapshot.position(store, &name) != Some(position) || position >= snapshot.count() {
+        return false;
+    }
+    let named = snapshot.name(store, position) == name.as_slice();
+    let read = snapshot.read(rt.alloc(), store, position);
+    named && given(read) == Ok((length, Some(byte)))
 }
 
 // The names stand in another order than the positions.
@@ -59,25 +54,29 @@ const AFTER: [(Change, Option<StoreRefusal>); 4] = [
     (Put(2, 5, 400), None),
 ];
 
-fn changed<D: Disk>(rt: &impl Abort, alloc: Global, store: &mut Store<D>) -> Result<(), Fail> {
-    let snapshot = taken(rt, alloc, store, &BEFORE)?;
-    make_all(rt, alloc, store, &AFTER)?;
-    assert_eq!(rt; snapshot.count(), 3);
-    assert!(rt; snapshot.preloads() == [1].as_slice());
-    assert_eq!(rt; snapshot.position(store, &numbered_name(2)), None);
-    has(rt, alloc, store, &snapshot, (5, 0, 1, 400))?;
-    has(rt, alloc, store, &snapshot, (3, 1, 2, 700))?;
-    has(rt, alloc, store, &snapshot, (4, 2, 3, 64))?;
-    snapshot.let_go(store);
-    Ok(())
+// The numbers, positions, values and lengths of what the snapshot is to have.
+const KEPT: [(u32, usize, u8, usize); 3] = [(5, 0, 1, 400), (3, 1, 2, 700), (4, 2, 3, 64)];
+
+// Whether a snapshot is as it was before these changes.
+fn is_as_before(rt: &impl AllocGlobal, store: &mut Store<Memory>, snapshot: &Snapshot) -> bool {
+    for row in &KEPT {
+        if !has(rt, store, snapshot, *row) {
+            return false;
+        }
+    }
+    let new = snapshot.position(store, &numbered_name(2));
+    snapshot.count() == 3 && snapshot.preloads() == [1].as_slice() && new.is_none()
 }
 
 #[test]
-fn a_snapshot_is_as_it_was(rt: HostRuntime) -> Result<(), Fail> {
-    let mut store = formatted(rt.alloc(), 64)?;
-    let told = changed(&rt, rt.alloc(), &mut store);
+fn a_snapshot_is_as_it_was(rt: HostRuntime) {
+    let mut store = formatted(&rt, 64);
+    let snapshot = taken(&rt, &mut store, &BEFORE);
+    make_all(&rt, &mut store, &AFTER);
+    let kept = is_as_before(&rt, &mut store, &snapshot);
+    snapshot.let_go(&mut store);
     let _ = store.into_disk();
-    told
+    assert!(rt; kept);
 }
 
 // On 8 sectors: a byte string of one sector, with its entry and a catalogue twice, leaves two.
@@ -93,34 +92,26 @@ const FREE: [(Change, Option<StoreRefusal>); 2] = [
     (Put(1, 5, 3 * SECTOR_BYTES), None),
 ];
 
-fn freed<D: Disk>(rt: &impl Abort, alloc: Global, store: &mut Store<D>) -> Result<(), Fail> {
-    let snapshot = taken(rt, alloc, store, &ALONE)?;
-    make_all(rt, alloc, store, &FULL)?;
-    snapshot.let_go(store);
-    make_all(rt, alloc, store, &FREE)
-}
-
 #[test]
-fn sectors_are_free_once_a_snapshot_is_let_go(rt: HostRuntime) -> Result<(), Fail> {
-    let mut store = formatted(rt.alloc(), 8)?;
-    let told = freed(&rt, rt.alloc(), &mut store);
+fn sectors_are_free_once_a_snapshot_is_let_go(rt: HostRuntime) {
+    let mut store = formatted(&rt, 8);
+    let snapshot = taken(&rt, &mut store, &ALONE);
+    make_all(&rt, &mut store, &FULL);
+    snapshot.let_go(&mut store);
+    make_all(&rt, &mut store, &FREE);
     let _ = store.into_disk();
-    told
 }
 
 // No byte string is there to be held.
-fn empty<D: Disk>(rt: &impl Abort, alloc: Global, store: &mut Store<D>) -> Result<(), Fail> {
-    let snapshot = taken(rt, alloc, store, &[])?;
-    assert_eq!(rt; snapshot.count(), 0);
-    assert_eq!(rt; snapshot.position(store, &numbered_name(0)), None);
-    snapshot.let_go(store);
-    Ok(())
-}
-
 #[test]
-fn an_empty_store_has_a_snapshot(rt: HostRuntime) -> Result<(), Fail> {
-    let mut store = formatted(rt.alloc(), 8)?;
-    let told = empty(&rt, rt.alloc(), &mut store);
+fn an_empty_store_has_a_snapshot(rt: HostRuntime) {
+    let mut store = formatted(&rt, 8);
+    let snapshot = taken(&rt, &mut store, &[]);
+    let found = (
+        snapshot.count(),
+        snapshot.position(&store, &numbered_name(2)),
+    );
+    snapshot.let_go(&mut store);
     let _ = store.into_disk();
-    told
+    assert!(rt; found == (0, None));
 }

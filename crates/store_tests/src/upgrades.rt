@@ -3,19 +3,17 @@ use crate::calls::opened;
 use crate::disks::{
     numbered_name, version_1, version_2, write_entry, write_last_roots, write_root,
 };
-use crate::sectors::{are_same, eight_sectors, holds, write};
-use crate::seen::{Seen, look, old_store};
+use crate::sectors::{are_same, copy, eight_sectors, holds, memory, write};
+use crate::seen::{Seen, has, look, old_store};
 use extents::Extent;
 use roots::{Entry, Root};
 use sector_disk::{Disk, Fuse, Memory, SECTOR_BYTES};
-use std::alloc::Global;
 use std::process::Abort;
-use std::test::Fail;
 use store::{Store, StoreRefusal};
 
 // The refusal of an upgrade, if it refuses, and the disk.
-fn upgrade<D: Disk + Drop>(alloc: Global, disk: D) -> (Option<StoreRefusal>, D) {
-    match Store::upgrade(alloc, disk) {
+fn upgrade<D: Disk + Drop>(rt: &impl AllocGlobal, disk: D) -> (Option<StoreRefusal>, D) {
+    match Store::upgrade(rt.alloc(), disk) {
         Ok(store) => (None, store.into_disk()),
         Err((refusal, disk)) => (Some(refusal), disk),
     }
@@ -23,104 +21,104 @@ fn upgrade<D: Disk + Drop>(alloc: Global, disk: D) -> (Option<StoreRefusal>, D) 
 
 // A disk of version 1 and of 8 sectors with one byte string, in the sectors from 2 on, and its
 // entry behind it: as the first put left it.
-fn one_put(rt: &impl Abort, alloc: Global, length: u32) -> Result<Memory, Fail> {
+fn one_put(rt: &(impl Abort + AllocGlobal), length: u32) -> Memory {
     assert!(rt; 64 <= length && length <= 2560);
-    let mut disk = Memory::new(alloc, 8)?;
+    let mut disk = memory(rt, 8);
     let count = length.div_ceil(512);
     for at in 2..2 + count {
         write(rt, &mut disk, at, &[7; SECTOR_BYTES]);
     }
-    let extent = Extent { start: 2, count };
-    write_entry(
-        rt,
-        &mut disk,
-        2 + count,
-        &Entry::new(b"a", length, &[extent]),
-    );
+    let entry = Entry::new(b"a", length, &[Extent { start: 2, count }]);
+    write_entry(rt, &mut disk, 2 + count, &entry);
     write_root(rt, &mut disk, &Root::over_entries(0, 8, &[], &[]));
     let root = Root::over_entries(1, 8, &[2 + count], &[0]);
     write_root(rt, &mut disk, &root);
-    Ok(disk)
+    disk
+}
+
+// What the other root and the catalogue hold behind the upgrade, each of its bytes but for zeros.
+const ROOT: [(usize, u8); 6] = [(8, 2), (16, 8), (20, 1), (22, 1), (56, 1), (64, 4)];
+
+// The sectors of a small disk after its upgrade.
+fn upgraded(before: &[[u8; SECTOR_BYTES]; 8]) -> [[u8; SECTOR_BYTES]; 8] {
+    let mut root = [0; SECTOR_BYTES];
+    root[..8].copy_from_slice(b"RLIBREG2");
+    for (byte, value) in &ROOT {
+        if let Some(place) = root.get_mut(*byte) {
+            *place = *value;
+        }
+    }
+    let mut wanted = *before;
+    wanted[0] = root;
+    wanted[4][..5].copy_from_slice(b"LIBC\x01");
+    wanted[4][16] = 3;
+    wanted
 }
 
 #[test]
-fn an_upgrade_writes_the_catalogue_and_the_other_root(rt: HostRuntime) -> Result<(), Fail> {
-    let mut disk = one_put(&rt, rt.alloc(), 344)?;
-    let mut wanted = eight_sectors(&rt, &mut disk);
-    wanted[0] = [0; SECTOR_BYTES];
-    wanted[0][..8].copy_from_slice(b"RLIBREG2");
-    for (byte, value) in [(8, 2), (16, 8), (20, 1), (22, 1), (56, 1), (64, 4)] {
-        wanted[0][byte] = value;
-    }
-    wanted[4][..5].copy_from_slice(b"LIBC\x01");
-    wanted[4][16] = 3;
-    let (refusal, mut disk) = upgrade(rt.alloc(), disk);
-    assert_eq!(rt; refusal, None);
-    assert_eq!(rt; eight_sectors(&rt, &mut disk), wanted);
-    assert_eq!(rt; look(rt.alloc(), disk), Seen::Current(1));
-    Ok(())
+fn an_upgrade_writes_the_catalogue_and_the_other_root(rt: HostRuntime) {
+    let mut disk = one_put(&rt, 344);
+    let wanted = upgraded(&eight_sectors(&rt, &mut disk));
+    let (refusal, mut disk) = upgrade(&rt, disk);
+    let written = eight_sectors(&rt, &mut disk) == wanted;
+    let seen = look(&rt, disk);
+    assert!(rt; refusal.is_none() && written && seen == Seen::Current(1));
 }
 
 // An upgrade of the disk is refused so, and leaves it as it was.
-fn refuses(rt: &impl Abort, alloc: Global, disk: Memory, want: StoreRefusal) -> Result<(), Fail> {
-    let mut before = disk.copy()?;
-    let (refusal, mut after) = upgrade(alloc, disk);
-    assert_eq!(rt; refusal, Some(want));
+fn refuses(rt: &(impl Abort + AllocGlobal), disk: Memory, want: StoreRefusal) {
+    let mut before = copy(rt, &disk);
+    let (refusal, mut after) = upgrade(rt, disk);
     are_same(rt, &mut before, &mut after);
-    Ok(())
+    assert_eq!(rt; refusal, Some(want));
 }
 
+// An upgrade of the disk goes through, and so many byte strings are seen.
+fn goes_through(rt: &(impl Abort + AllocGlobal), disk: Memory, count: usize) {
+    let (refusal, disk) = upgrade(rt, disk);
+    let seen = look(rt, disk);
+    assert!(rt; refusal.is_none() && seen == Seen::Current(count));
+}
+
+// How many byte strings there are, and how many sectors they have to leave.
+const ROOMS: [(u32, u32); 4] = [(3, 2), (64, 2), (65, 4), (100, 4)];
+
 #[test]
-fn an_upgrade_needs_room_for_its_catalogues_twice(rt: HostRuntime) -> Result<(), Fail> {
-    refuses(
-        &rt,
-        rt.alloc(),
-        one_put(&rt, rt.alloc(), 2560)?,
-        StoreRefusal::Full,
-    )?;
-    refuses(
-        &rt,
-        rt.alloc(),
-        one_put(&rt, rt.alloc(), 2048)?,
-        StoreRefusal::Full,
-    )?;
-    let (refusal, _) = upgrade(rt.alloc(), one_put(&rt, rt.alloc(), 1536)?);
-    assert_eq!(rt; refusal, None);
-    for (count, spare) in [(3, 2), (64, 2), (65, 4), (100, 4)] {
-        let fewer = version_1(&rt, rt.alloc(), count, spare - 1)?;
-        refuses(&rt, rt.alloc(), fewer, StoreRefusal::Full)?;
-        let (refusal, disk) = upgrade(rt.alloc(), version_1(&rt, rt.alloc(), count, spare)?);
-        assert_eq!(rt; refusal, None, "{count}");
-        assert_eq!(rt; look(rt.alloc(), disk), Seen::Current(count as usize));
+fn an_upgrade_needs_room_for_its_catalogues_twice(rt: HostRuntime) {
+    refuses(&rt, one_put(&rt, 2560), StoreRefusal::Full);
+    refuses(&rt, one_put(&rt, 2048), StoreRefusal::Full);
+    goes_through(&rt, one_put(&rt, 1536), 1);
+    for (count, spare) in &ROOMS {
+        let fewer = spare.saturating_sub(1);
+        refuses(&rt, version_1(&rt, *count, fewer), StoreRefusal::Full);
+        goes_through(&rt, version_1(&rt, *count, *spare), *count as usize);
     }
-    Ok(())
+}
+
+// A disk of version 1 at the last generation.
+fn last(rt: &(impl Abort + AllocGlobal), spare: u32) -> Memory {
+    let mut disk = version_1(rt, 3, spare);
+    write_last_roots(rt, &mut disk);
+    disk
+}
+
+// One with an entry that spells none.
+fn broken(rt: &(impl Abort + AllocGlobal), spare: u32) -> Memory {
+    let mut disk = version_1(rt, 3, spare);
+    write(rt, &mut disk, 2, &[7; SECTOR_BYTES]);
+    disk
 }
 
 #[test]
-fn the_last_generation_is_not_followed(rt: HostRuntime) -> Result<(), Fail> {
+fn what_is_no_store_or_the_last_generation_is_not_upgraded(rt: HostRuntime) {
+    refuses(&rt, memory(&rt, 7), StoreRefusal::BadGeometry);
+    refuses(&rt, memory(&rt, 8), StoreRefusal::NotFormatted);
+
     // Whether there is room or not.
-    for spare in [0, 20] {
-        let mut disk = version_1(&rt, rt.alloc(), 3, spare)?;
-        write_last_roots(&rt, &mut disk)?;
-        refuses(&rt, rt.alloc(), disk, StoreRefusal::GenerationEnd)?;
-    }
-    Ok(())
-}
-
-#[test]
-fn what_is_no_store_is_not_upgraded(rt: HostRuntime) -> Result<(), Fail> {
-    let small = Memory::new(rt.alloc(), 7)?;
-    refuses(&rt, rt.alloc(), small, StoreRefusal::BadGeometry)?;
-    let empty = Memory::new(rt.alloc(), 8)?;
-    refuses(&rt, rt.alloc(), empty, StoreRefusal::NotFormatted)?;
-
-    // An entry that spells none, with room and without.
-    for spare in [0, 20] {
-        let mut broken = version_1(&rt, rt.alloc(), 3, spare)?;
-        write(&rt, &mut broken, 2, &[7; SECTOR_BYTES]);
-        refuses(&rt, rt.alloc(), broken, StoreRefusal::Damaged)?;
-    }
-    Ok(())
+    refuses(&rt, last(&rt, 0), StoreRefusal::GenerationEnd);
+    refuses(&rt, last(&rt, 20), StoreRefusal::GenerationEnd);
+    refuses(&rt, broken(&rt, 0), StoreRefusal::Damaged);
+    refuses(&rt, broken(&rt, 20), StoreRefusal::Damaged);
 }
 
 // The root of 100 byte strings in sector 1, and the catalogues in the lowest free sectors.
@@ -142,69 +140,60 @@ const HUNDRED: [(u32, usize, u8); 15] = [
     (204, 0, 0),
 ];
 
-// The store has the byte strings of `version_1`, so many of them.
-fn has_all(
-    rt: &impl Abort,
-    alloc: Global,
-    store: &mut Store<Memory>,
-    count: u32,
-) -> Result<(), Fail> {
-    assert_eq!(rt; store.count(), count as usize);
+// Whether the store has the byte strings of `version_1`, so many of them.
+fn has_all(rt: &impl AllocGlobal, store: &mut Store<Memory>, count: u32) -> bool {
     for i in 0..count {
-        let position = i as usize;
-        assert!(rt; position < store.count());
-        assert_eq!(rt; store.name(position), numbered_name(i).as_slice());
-        let Ok(bytes) = store.read_blob(alloc, position) else {
-            return Err("it isn't read".into());
-        };
-        assert_eq!(rt; bytes.as_slice(), [(i % 10) as u8; 64].as_slice());
-    }
-    Ok(())
-}
-
-#[test]
-fn a_hundred_byte_strings_keep_their_order(rt: HostRuntime) -> Result<(), Fail> {
-    let (refusal, mut disk) = upgrade(rt.alloc(), version_1(&rt, rt.alloc(), 100, 4)?);
-    assert_eq!(rt; refusal, None);
-    holds(&rt, &mut disk, &HUNDRED);
-    let mut store = opened(rt.alloc(), disk)?;
-    let all = has_all(&rt, rt.alloc(), &mut store, 100);
-    let _ = store.into_disk();
-    all
-}
-
-#[test]
-fn what_was_looked_at_is_committed(rt: HostRuntime) -> Result<(), Fail> {
-    let store = old_store(rt.alloc(), version_1(&rt, rt.alloc(), 3, 2)?)?;
-    let Ok(store) = store.commit() else {
-        return Err("the commit is refused".into());
-    };
-    assert_eq!(rt; store.count(), 3);
-    let seen = look(rt.alloc(), store.into_disk());
-    assert_eq!(rt; seen, Seen::Current(3));
-    let full = old_store(rt.alloc(), version_1(&rt, rt.alloc(), 3, 1)?)?;
-    match full.commit() {
-        Ok(store) => {
-            let _ = store.into_disk();
-            return Err("it is committed".into());
+        let read = (64, (i % 10) as u8);
+        if !has(rt, store, i as usize, &numbered_name(i), read) {
+            return false;
         }
-        Err((refusal, _)) => assert_eq!(rt; refusal, StoreRefusal::Full),
     }
-    Ok(())
+    store.count() == count as usize
 }
 
 #[test]
-fn a_disk_of_version_2_is_opened_and_not_written(rt: HostRuntime) -> Result<(), Fail> {
+fn a_hundred_byte_strings_keep_their_order(rt: HostRuntime) {
+    let (refusal, mut disk) = upgrade(&rt, version_1(&rt, 100, 4));
+    holds(&rt, &mut disk, &HUNDRED);
+    let mut store = opened(&rt, disk);
+    let all = has_all(&rt, &mut store, 100);
+    let _ = store.into_disk();
+    assert!(rt; refusal.is_none() && all);
+}
+
+// How many byte strings there are once the store of version 1 on a disk is committed, or its
+// refusal.
+fn committed(rt: &(impl Abort + AllocGlobal), disk: Memory) -> Result<(usize, Seen), StoreRefusal> {
+    match old_store(rt, disk).commit() {
+        Ok(store) => Ok((store.count(), look(rt, store.into_disk()))),
+        Err((refusal, _)) => Err(refusal),
+    }
+}
+
+#[test]
+fn what_was_looked_at_is_committed(rt: HostRuntime) {
+    let enough = committed(&rt, version_1(&rt, 3, 2));
+    let full = committed(&rt, version_1(&rt, 3, 1));
+    assert!(rt; enough == Ok((3, Seen::Current(3))) && full == Err(StoreRefusal::Full));
+}
+
+// Whether a stop leaves nothing but what the disk holds.
+fn is_synced(disk: &Memory) -> bool {
+    for at in 0..disk.sectors() {
+        if at < disk.sectors() && disk.choices(at) != 1 {
+            return false;
+        }
+    }
+    true
+}
+
+#[test]
+fn a_disk_of_version_2_is_opened_and_not_written(rt: HostRuntime) {
     // A sync, two roots, two catalogues and 65 entries: 70 calls, and no other one is made.
-    let disk = version_2(&rt, rt.alloc(), 65, 2)?;
-    let mut before = disk.copy()?;
-    let (refusal, after) = upgrade(rt.alloc(), Fuse::new(disk, 71, true, false));
-    assert_eq!(rt; refusal, None);
+    let disk = version_2(&rt, 65, 2);
+    let mut before = copy(&rt, &disk);
+    let (refusal, after) = upgrade(&rt, Fuse::new(disk, 71, true, false));
     let mut after = after.into_inner();
     are_same(&rt, &mut before, &mut after);
-    for at in 0..after.sectors() {
-        assert!(rt; at < after.sectors());
-        assert_eq!(rt; after.choices(at), 1, "sector {at}");
-    }
-    Ok(())
+    assert!(rt; refusal.is_none() && is_synced(&after));
 }

@@ -1,42 +1,28 @@
 // The same calls on a disk over a file and on one in memory.
 
-use crate::files::fake::{Fake, Plan, WELL, disk};
-use crate::random::next;
-use crate::stops::{read, write};
-use file_disk::FileDisk;
+use crate::alike::{are_same, call_both};
+use crate::files::fake::{Fake, Plan, WELL, disk, reopened};
+use crate::stops::{fill, is_filled, read, write};
 use sector_disk::{Disk, Memory, SECTOR_BYTES};
-use std::process::Abort;
+use std::alloc::Global;
 use std::test::Fail;
 
-// One call of both: a write in ten is a sync, a third are reads, and of both kinds three in four
-// go to the sector behind the last one.
-fn one_call(
-    rt: &impl Abort,
-    file: &mut FileDisk<Fake>,
-    memory: &mut Memory,
-    state: &mut u64,
-    last: u32,
-) -> Result<u32, Fail> {
-    let sectors = memory.sectors();
-    assert!(rt; sectors > 0);
-    let at = if next(state) % 4 == 0 {
-        next(state) % sectors
-    } else {
-        last.wrapping_add(1) % sectors
-    };
-    let content = (next(state) % 251) as u8;
-    match next(state) % 30 {
-        0..10 => assert_eq!(rt; read(rt, file, at), read(rt, memory, at), "sector {at}"),
-        10..28 => {
-            write(rt, file, at, content)?;
-            write(rt, memory, at, content)?;
-        }
-        _ => {
-            file.sync()?;
-            memory.sync()?;
-        }
+// Whether the file, opened again, holds what the disk in memory does.
+fn holds(alloc: Global, file: Fake, memory: &mut Memory) -> bool {
+    match reopened(alloc, file) {
+        Some(mut again) => are_same(&mut again, memory),
+        None => false,
     }
-    Ok(at)
+}
+
+// Whether a disk over such a file answers so many calls as one in memory does, and keeps the same.
+fn is_as_memory(alloc: Global, sectors: u32, plan: Plan, calls: u32) -> Result<bool, Fail> {
+    let mut memory = Memory::new(alloc, sectors)?;
+    let mut file = disk(alloc, sectors, plan)?;
+    let alike = call_both(&mut file, &mut memory, calls).is_some();
+    let synced = file.sync().is_ok();
+    let held = holds(alloc, file.into_file(), &mut memory);
+    Ok(alike && synced && held)
 }
 
 #[test]
@@ -46,61 +32,54 @@ fn the_buffers_give_what_a_disk_in_memory_gives(rt: HostRuntime) -> Result<(), F
         interrupts: true,
         fails: 0,
     };
-    for (sectors, plan, calls) in [(9, WELL, 2_000), (200, short, 3_000)] {
-        let mut state = 88_172_645_463_325_252;
-        let mut file = disk(rt.alloc(), sectors, plan)?;
-        let mut memory = Memory::new(rt.alloc(), sectors)?;
-        let mut last = 0;
-        for _ in 0..calls {
-            last = one_call(&rt, &mut file, &mut memory, &mut state, last)?;
-        }
-        file.sync()?;
-        let mut again = FileDisk::over(rt.alloc(), file.into_file())?;
-        assert_eq!(rt; again.sectors(), sectors);
-        for at in 0..sectors {
-            let content = read(&rt, &mut memory, at);
-            assert_eq!(rt; read(&rt, &mut again, at), content, "sector {at}");
-        }
-    }
+    let small = is_as_memory(rt.alloc(), 9, WELL, 2_000)?;
+    let large = is_as_memory(rt.alloc(), 200, short, 3_000)?;
+    assert!(rt; small && large);
     Ok(())
+}
+
+// Reads a file of 5,000 sectors: how many calls that takes, if they are as they were filled.
+fn read_all(alloc: Global, file: Fake) -> Option<u64> {
+    let mut disk = reopened(alloc, file)?;
+    let filled = disk.sectors() == 5_000 && is_filled(&mut disk);
+    let reads = disk.into_file().reads;
+    filled.then_some(reads)
 }
 
 #[test]
 fn neighbours_go_out_together_and_are_read_together(rt: HostRuntime) -> Result<(), Fail> {
     let mut disk = disk(rt.alloc(), 5_000, WELL)?;
-    for at in 0..5_000 {
-        write(&rt, &mut disk, at, (at % 251) as u8)?;
-    }
-    disk.sync()?;
+    let filled = fill(&mut disk) && disk.sync().is_ok();
     let file = disk.into_file();
-    // Two of 1 MiB, and one of the rest.
-    assert_eq!(rt; file.writes, 3);
-    assert_eq!(rt; file.reads, 0);
-    let mut disk = FileDisk::over(rt.alloc(), file)?;
-    for at in 0..5_000 {
-        assert_eq!(rt;
-            read(&rt, &mut disk, at),
-            Some((at % 251) as u8),
-            "sector {at}"
-        );
-    }
-    // 8, 16, .. 1,024 sectors, then 2,048, and then the rest.
-    assert_eq!(rt; disk.into_file().reads, 10);
+    let calls = (file.writes, file.reads);
+    let reads = read_all(rt.alloc(), file);
+
+    // Two writes of 1 MiB, and one of the rest. Reads of 8, 16, .. 1,024 sectors, then of 2,048,
+    // and then of the rest.
+    assert!(rt; filled && calls == (3, 0) && reads == Some(10));
     Ok(())
+}
+
+// What sectors 3 and 4 hold when the file is opened again.
+fn three_and_four(alloc: Global, file: Fake) -> Option<(u8, u8)> {
+    let mut again = reopened(alloc, file)?;
+    let both = (read(&mut again, 3), read(&mut again, 4));
+    match both {
+        (Some(three), Some(four)) => Some((three, four)),
+        _ => None,
+    }
 }
 
 #[test]
 fn what_is_not_synced_is_lost_and_what_is_stays(rt: HostRuntime) -> Result<(), Fail> {
     let mut first = disk(rt.alloc(), 8, WELL)?;
-    write(&rt, &mut first, 3, 7)?;
-    write(&rt, &mut first, 4, 8)?;
-    first.sync()?;
-    write(&rt, &mut first, 4, 9)?;
-    assert_eq!(rt; read(&rt, &mut first, 4), Some(9));
+    let written = write(&mut first, 3, 7) && write(&mut first, 4, 8);
+    let synced = first.sync().is_ok() && write(&mut first, 4, 9);
+    let waits = read(&mut first, 4);
     let file = first.into_file();
-    assert_eq!(rt; file.bytes.get(3 * SECTOR_BYTES), Some(&7));
-    let mut again = FileDisk::over(rt.alloc(), file)?;
-    assert_eq!(rt; read(&rt, &mut again, 3), Some(7));
-    assert_eq!(rt; read(&rt, &mut again, 4), Some(8));
+    let given = file.bytes.get(3 * SECTOR_BYTES).copied();
+    let kept = three_and_four(rt.alloc(), file);
+    assert!(rt; written && synced);
+    assert_eq!(rt; (waits, given, kept), (Some(9), Some(7), Some((7, 8))));
     Ok(())
 }

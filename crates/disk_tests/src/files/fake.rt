@@ -132,7 +132,12 @@ impl OpenFile for Fake {
     }
 }
 
-/// A disk over such a file.
+/// The disk over a file that is there.
+pub(crate) fn reopened(alloc: Global, file: Fake) -> Option<FileDisk<Fake>> {
+    FileDisk::over(alloc, file).ok()
+}
+
+/// A disk over a new file of zeros.
 pub(crate) fn disk(alloc: Global, sectors: u32, plan: Plan) -> Result<FileDisk<Fake>, Fail> {
     Ok(FileDisk::over(alloc, Fake::of(alloc, sectors, plan)?)?)
 }

@@ -6,11 +6,6 @@ use sector_disk::Disk;
 use std::fs;
 use std::fs::File;
 use std::os::unix::fs::PermissionsExt;
-use std::test::Fail;
-
-const FOLDER: &str = "file_disk_test";
-
-const DISK: &str = "file_disk_test/disk";
 
 // What opening answers: how many sectors there are.
 fn sectors(rt: &HostRuntime, path: &str) -> Result<u32, OpenFault> {
@@ -23,125 +18,198 @@ fn made(rt: &HostRuntime, path: &str, sectors: u32) -> Result<u32, OpenFault> {
     Ok(disk.sectors())
 }
 
-fn with_length(rt: &HostRuntime, length: u64) -> Result<Result<u32, OpenFault>, Fail> {
-    let path = "file_disk_test/length";
-    File::create(rt, path)?.set_len(length)?;
-    Ok(sectors(rt, path))
+// Makes a folder anew.
+fn make_folder(rt: &HostRuntime, path: &str) -> bool {
+    let _ = fs::remove_dir_all(rt, path);
+    fs::create_dir(rt, path).is_ok()
+}
+
+// Makes a file of so many zeros, or leaves so many bytes of one.
+fn set_length(rt: &HostRuntime, path: &str, length: u64) -> bool {
+    match File::create(rt, path) {
+        Ok(file) => file.set_len(length).is_ok(),
+        Err(_) => false,
+    }
+}
+
+// Whether a file has so many bytes, each of sector 1 of this value and the others zero.
+fn is_file(rt: &HostRuntime, path: &str, length: usize, content: u8) -> bool {
+    let Ok(bytes) = fs::read(rt, path) else {
+        return false;
+    };
+    for (at, byte) in bytes.iter().enumerate() {
+        let wanted = if at / 512 == 1 { content } else { 0 };
+        if *byte != wanted {
+            return false;
+        }
+    }
+    bytes.len() == length
+}
+
+// Makes a disk of eight sectors and writes two of them; then a third, which isn't synced. What
+// the last one holds at first and then.
+fn make_and_write(rt: &HostRuntime, path: &str) -> Result<[Option<u8>; 2], OpenFault> {
+    let mut disk: FileDisk<File> = FileDisk::make(rt, rt.alloc(), path, 8)?;
+    let before = read(&mut disk, 7);
+    let written = write(&mut disk, 7, 17) && write(&mut disk, 6, 16);
+    let after = read(&mut disk, 7);
+    let synced = disk.sync().is_ok() && write(&mut disk, 5, 15);
+    Ok(if written && synced {
+        [before, after]
+    } else {
+        [None; 2]
+    })
+}
+
+// What the last three of the sectors hold, where the disk can be synced.
+fn last_three(rt: &HostRuntime, path: &str) -> Result<[Option<u8>; 3], OpenFault> {
+    let mut disk: FileDisk<File> = FileDisk::open(rt, rt.alloc(), path)?;
+    let contents = [read(&mut disk, 5), read(&mut disk, 6), read(&mut disk, 7)];
+    Ok(if disk.sync().is_ok() {
+        contents
+    } else {
+        [None; 3]
+    })
 }
 
 #[test]
-fn a_disk_is_made_written_and_opened_again(rt: HostRuntime) -> Result<(), Fail> {
-    let _ = fs::remove_dir_all(&rt, FOLDER);
-    fs::create_dir(&rt, FOLDER)?;
-    let mut disk: FileDisk<File> = FileDisk::make(&rt, rt.alloc(), DISK, 8)?;
-    assert_eq!(rt; read(&rt, &mut disk, 7), Some(0));
-    write(&rt, &mut disk, 7, 17)?;
-    write(&rt, &mut disk, 6, 16)?;
-    assert_eq!(rt; read(&rt, &mut disk, 7), Some(17));
-    disk.sync()?;
-    write(&rt, &mut disk, 5, 15)?;
-    drop(disk);
-    let mut disk: FileDisk<File> = FileDisk::open(&rt, rt.alloc(), DISK)?;
-    for (at, content) in [(5, 0), (6, 16), (7, 17)] {
-        assert_eq!(rt; read(&rt, &mut disk, at), Some(content), "sector {at}");
-    }
+fn a_disk_is_made_written_and_opened_again(rt: HostRuntime) {
+    let folder = "file_disk_test";
+    let path = "file_disk_test/disk";
+    let begun = make_folder(&rt, folder);
+    let written = make_and_write(&rt, path);
+    let kept = last_three(&rt, path);
+
     // What stands is left as it is.
-    assert_eq!(rt; made(&rt, DISK, 8), Ok(8));
-    assert_eq!(rt; read(&rt, &mut disk, 7), Some(17));
-    assert_eq!(rt; made(&rt, DISK, 16), Err(OpenFault::BadLength));
+    let again = (made(&rt, path, 8), made(&rt, path, 16));
+    let left = last_three(&rt, path);
 
     // A file that may not be written is read; so as root may write it, no more is asked of it.
-    fs::set_permissions(&rt, DISK, fs::Permissions::from_mode(0o444))?;
-    let mut disk: FileDisk<File> = FileDisk::open(&rt, rt.alloc(), DISK)?;
-    disk.sync()?;
-    assert_eq!(rt; read(&rt, &mut disk, 7), Some(17));
-    fs::remove_dir_all(&rt, FOLDER)?;
-    Ok(())
+    let closed = fs::set_permissions(&rt, path, fs::Permissions::from_mode(0o444)).is_ok();
+    let opened = last_three(&rt, path);
+    let ended = fs::remove_dir_all(&rt, folder).is_ok();
+    assert!(rt; begun && closed && ended && written == Ok([Some(0), Some(17)]));
+    assert!(rt; again == (Ok(8), Err(OpenFault::BadLength)));
+    let synced = Ok([Some(0), Some(16), Some(17)]);
+    assert!(rt; kept == synced && left == synced && opened == synced);
+}
+
+// Makes a disk of eight sectors of which sector 1 holds fives: whether that succeeds.
+fn make_of_five(rt: &HostRuntime, path: &str) -> Result<bool, OpenFault> {
+    let mut disk: FileDisk<File> = FileDisk::make(rt, rt.alloc(), path, 8)?;
+    Ok(write(&mut disk, 1, 5) && disk.sync().is_ok())
+}
+
+// Opens such a disk for reading: whether it reads and syncs, and whether it syncs after a write.
+fn read_and_write(rt: &HostRuntime, path: &str) -> Result<(bool, bool), OpenFault> {
+    let mut disk: FileDisk<File> = FileDisk::open_read_only(rt, rt.alloc(), path)?;
+    let reads = disk.sectors() == 8 && disk.sync().is_ok() && read(&mut disk, 1) == Some(5);
+    let writes = write(&mut disk, 1, 6);
+    Ok((reads && writes, disk.sync().is_ok()))
 }
 
 #[test]
-fn a_disk_that_is_opened_for_reading_is_not_written(rt: HostRuntime) -> Result<(), Fail> {
+fn a_disk_that_is_opened_for_reading_is_not_written(rt: HostRuntime) {
     let folder = "file_disk_test_reading";
     let path = "file_disk_test_reading/disk";
-    let _ = fs::remove_dir_all(&rt, folder);
-    fs::create_dir(&rt, folder)?;
-    let mut disk: FileDisk<File> = FileDisk::make(&rt, rt.alloc(), path, 8)?;
-    write(&rt, &mut disk, 1, 5)?;
-    disk.sync()?;
-    let before = fs::read(&rt, path)?;
-    let mut disk: FileDisk<File> = FileDisk::open_read_only(&rt, rt.alloc(), path)?;
-    assert_eq!(rt; disk.sectors(), 8);
-    disk.sync()?;
-    assert_eq!(rt; read(&rt, &mut disk, 1), Some(5));
-    write(&rt, &mut disk, 1, 6)?;
-    assert!(rt; disk.sync().is_err());
-    let after = fs::read(&rt, path)?;
-    assert_eq!(rt; after.as_slice(), before.as_slice());
-    for none in [folder, "file_disk_test_reading/none", "/dev/null"] {
-        let opened: Result<FileDisk<File>, OpenFault> = FileDisk::open_read_only(
-            &rt,
-            rt.alloc(),
-            none,
-        );
-        assert_eq!(rt; opened.err(), Some(OpenFault::CannotOpen), "{none}");
-    }
-    fs::remove_dir_all(&rt, folder)?;
-    Ok(())
+    let begun = make_folder(&rt, folder) && make_of_five(&rt, path) == Ok(true);
+    let answers = read_and_write(&rt, path);
+    let kept = is_file(&rt, path, 8 * 512, 5);
+    let none = read_and_write(&rt, "file_disk_test_reading/none");
+    let others = (
+        read_and_write(&rt, folder),
+        read_and_write(&rt, "/dev/null"),
+    );
+    let ended = fs::remove_dir_all(&rt, folder).is_ok();
+    assert!(rt; begun && kept && ended && answers == Ok((true, false)));
+    let refused = Err(OpenFault::CannotOpen);
+    assert!(rt; none == refused && others == (refused, refused));
+}
+
+// Makes a disk, writes sector 1, and leaves three sectors of its file and half of one: what the
+// sectors 1 to 4 hold then, and whether a sync and a write succeed; the write waits.
+fn cut(rt: &HostRuntime, path: &str) -> Result<([Option<u8>; 4], [bool; 2]), OpenFault> {
+    let mut disk: FileDisk<File> = FileDisk::make(rt, rt.alloc(), path, 8)?;
+    let begun = write(&mut disk, 1, 5) && set_length(rt, path, 3 * 512 + 256);
+    let first = [read(&mut disk, 1), read(&mut disk, 2)];
+    let last = [read(&mut disk, 3), read(&mut disk, 4)];
+    let synced = disk.sync().is_ok();
+    let written = write(&mut disk, 2, 6);
+    let waits = begun && read(&mut disk, 1) == first[0];
+    let one = if waits { first[0] } else { None };
+    Ok(([one, first[1], last[0], last[1]], [synced, written]))
 }
 
 #[test]
-fn a_file_that_was_cut_is_not_written(rt: HostRuntime) -> Result<(), Fail> {
+fn a_file_that_was_cut_is_not_written(rt: HostRuntime) {
     let folder = "file_disk_test_cut";
     let path = "file_disk_test_cut/disk";
-    let _ = fs::remove_dir_all(&rt, folder);
-    fs::create_dir(&rt, folder)?;
-    let mut disk: FileDisk<File> = FileDisk::make(&rt, rt.alloc(), path, 8)?;
-    write(&rt, &mut disk, 1, 5)?;
-    // Three sectors are left, and half of one.
-    File::create(&rt, path)?.set_len(3 * 512 + 256)?;
-    for (at, content) in [(1, Some(5)), (2, Some(0)), (3, None), (4, None)] {
-        assert_eq!(rt; read(&rt, &mut disk, at), content, "sector {at}");
+    let begun = make_folder(&rt, folder);
+    let answers = cut(&rt, path);
+    let kept = is_file(&rt, path, 3 * 512 + 256, 0);
+    let ended = fs::remove_dir_all(&rt, folder).is_ok();
+    assert!(rt; begun && kept && ended);
+    assert!(rt; answers == Ok(([Some(5), Some(0), None, None], [false, false])));
+}
+
+// What can't be opened, and what can't be made.
+const OPENED: [&str; 5] = [
+    "/dev/full",
+    "/dev/null",
+    "/dev/zero",
+    "file_disk_test_refused",
+    "file_disk_test_refused/none",
+];
+
+const MADE: [&str; 3] = [
+    "/dev/full",
+    "file_disk_test_refused",
+    "file_disk_test_refused/none/disk",
+];
+
+// Lengths of files, and how a disk over one is opened.
+const LENGTHS: [(u64, Result<u32, OpenFault>); 8] = [
+    (0, Ok(0)),
+    (511, Err(OpenFault::BadLength)),
+    (512, Ok(1)),
+    (7 * 512, Ok(7)),
+    (8 * 512 + 1, Err(OpenFault::BadLength)),
+    (4_194_305 * 512, Ok(4_194_305)),
+    (4_294_967_295 * 512, Ok(u32::MAX)),
+    (4_294_967_296 * 512, Err(OpenFault::BadLength)),
+];
+
+// The first that is opened or made otherwise.
+fn opened_otherwise(rt: &HostRuntime) -> Option<&'static str> {
+    for path in &OPENED {
+        if sectors(rt, path) != Err(OpenFault::CannotOpen) {
+            return Some(*path);
+        }
     }
-    assert!(rt; disk.sync().is_err());
-    assert!(rt; write(&rt, &mut disk, 2, 6).is_err());
-    assert_eq!(rt; read(&rt, &mut disk, 1), Some(5), "it waits");
-    let bytes = fs::read(&rt, path)?;
-    assert_eq!(rt; bytes.as_slice(), [0; 3 * 512 + 256].as_slice());
-    fs::remove_dir_all(&rt, folder)?;
-    Ok(())
+    for path in &MADE {
+        if made(rt, path, 8) != Err(OpenFault::CannotOpen) {
+            return Some(*path);
+        }
+    }
+    None
+}
+
+// The first length that is answered otherwise.
+fn measured_otherwise(rt: &HostRuntime, path: &str) -> Option<u64> {
+    for (length, answer) in &LENGTHS {
+        if !set_length(rt, path, *length) || sectors(rt, path) != *answer {
+            return Some(*length);
+        }
+    }
+    None
 }
 
 #[test]
-fn other_files_and_lengths_are_refused(rt: HostRuntime) -> Result<(), Fail> {
-    let folder = "file_disk_test_refused";
-    let _ = fs::remove_dir_all(&rt, folder);
-    fs::create_dir(&rt, folder)?;
-    for path in [
-        "/dev/full",
-        "/dev/null",
-        "/dev/zero",
-        folder,
-        "file_disk_test_refused/none",
-    ] {
-        assert_eq!(rt; sectors(&rt, path), Err(OpenFault::CannotOpen), "{path}");
-    }
-    for path in ["/dev/full", folder, "file_disk_test_refused/none/disk"] {
-        assert_eq!(rt; made(&rt, path, 8), Err(OpenFault::CannotOpen), "{path}");
-    }
-    let path = "file_disk_test_refused/length";
-    for (length, answer) in [
-        (0, Ok(0)),
-        (511, Err(OpenFault::BadLength)),
-        (512, Ok(1)),
-        (7 * 512, Ok(7)),
-        (8 * 512 + 1, Err(OpenFault::BadLength)),
-        (4_194_305 * 512, Ok(4_194_305)),
-        (4_294_967_295 * 512, Ok(u32::MAX)),
-        (4_294_967_296 * 512, Err(OpenFault::BadLength)),
-    ] {
-        File::create(&rt, path)?.set_len(length)?;
-        assert_eq!(rt; sectors(&rt, path), answer, "{length} bytes");
-    }
-    fs::remove_dir_all(&rt, folder)?;
-    Ok(())
+fn other_files_and_lengths_are_refused(rt: HostRuntime) {
+    let begun = make_folder(&rt, "file_disk_test_refused");
+    let other = opened_otherwise(&rt);
+    let length = measured_otherwise(&rt, "file_disk_test_refused/length");
+    let ended = fs::remove_dir_all(&rt, "file_disk_test_refused").is_ok();
+    assert!(rt; begun && ended);
+    assert_eq!(rt; (other, length), (None, None));
 }

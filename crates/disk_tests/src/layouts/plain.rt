@@ -10,11 +10,6 @@ pub(crate) struct Plain {
     claimed: Vec<bool>,
 }
 
-/// Whether the sector is one of the extent's.
-fn has(extent: Extent, sector: u32) -> bool {
-    sector >= extent.start && sector - extent.start < extent.count
-}
-
 impl Plain {
     /// A layout of so many sectors, none of which is claimed.
     pub(crate) fn new(alloc: Global, sectors: u32) -> Result<Plain, AllocError> {
@@ -29,48 +24,51 @@ impl Plain {
         self.sectors
     }
 
-    /// Whether a sector behind the roots has this flag.
-    fn has_flag(&self, sector: u32, flag: bool) -> bool {
-        sector >= ROOT_SECTORS && self.claimed.get(sector as usize) == Some(&flag)
-    }
-
     /// Whether a sector was claimed or given out, and not released since.
     pub(crate) fn is_claimed(&self, sector: u32) -> bool {
-        self.has_flag(sector, true)
+        sector >= ROOT_SECTORS && self.claimed.get(sector as usize) == Some(&true)
     }
 
     /// Whether a sector can be given out.
     fn is_free(&self, sector: u32) -> bool {
-        self.has_flag(sector, false)
+        sector >= ROOT_SECTORS && self.claimed.get(sector as usize) == Some(&false)
     }
 
     /// How many sectors are free, counted.
-    pub(crate) fn free_count(&self) -> usize {
-        (0..self.sectors).filter(|s| self.is_free(*s)).count()
+    pub(crate) fn free_count(&self) -> u32 {
+        let mut free = 0u32;
+        for sector in 0..self.sectors {
+            if self.is_free(sector) {
+                free = free.saturating_add(1);
+            }
+        }
+        free
     }
 
     /// Sets the flag of each of an extent's sectors.
     fn set(&mut self, extent: Extent, flag: bool) {
-        for sector in 0..self.sectors {
-            if has(extent, sector)
-                && let Some(claimed) = self.claimed.get_mut(sector as usize)
-            {
+        for i in 0..extent.count {
+            let sector = extent.start.saturating_add(i);
+            if let Some(claimed) = self.claimed.get_mut(sector as usize) {
                 *claimed = flag;
             }
         }
     }
 
-    /// Claims an extent that lies behind the roots and on the disk, and has no claimed sector.
-    pub(crate) fn claim(&mut self, extent: Extent) -> Result<(), ClaimRefusal> {
+    /// Claims an extent that lies behind the roots and on the disk, and has no claimed sector; or
+    /// says why not.
+    pub(crate) fn claim(&mut self, extent: Extent) -> Option<ClaimRefusal> {
         let end = u64::from(extent.start) + u64::from(extent.count);
         if extent.count == 0 || extent.start < ROOT_SECTORS || end > u64::from(self.sectors) {
-            return Err(ClaimRefusal::OutOfRange);
+            return Some(ClaimRefusal::OutOfRange);
         }
-        if (0..self.sectors).any(|s| has(extent, s) && self.is_claimed(s)) {
-            return Err(ClaimRefusal::Overlap);
+        for i in 0..extent.count {
+            if self.is_claimed(extent.start.saturating_add(i)) {
+                return Some(ClaimRefusal::Overlap);
+            }
         }
         self.set(extent, true);
-        Ok(())
+        None
     }
 
     /// Frees an extent.
@@ -90,7 +88,7 @@ impl Plain {
             if run.count == 0 {
                 run.start = sector;
             }
-            run.count += 1;
+            run.count = run.count.saturating_add(1);
             if run.count > longest.count {
                 longest = run;
             }
@@ -99,49 +97,44 @@ impl Plain {
     }
 
     /// Gives out `need` sectors: the longest run that is left, as often as it takes, and of the
-    /// last one the front.
-    pub(crate) fn take(
-        &mut self,
-        alloc: Global,
-        need: u32,
-    ) -> Result<Result<Vec<Extent>, TakeRefusal>, AllocError> {
-        if self.free_count() < need as usize {
-            return Ok(Err(TakeRefusal::Full));
+    /// last one the front. Unused places of the answer have no sectors.
+    pub(crate) fn take(&mut self, need: u32) -> Result<[Extent; MOST_EXTENTS], TakeRefusal> {
+        if self.free_count() < need {
+            return Err(TakeRefusal::Full);
         }
-        let mut given = Vec::new(alloc);
+        let mut given = [Extent::default(); MOST_EXTENTS];
         let mut rest = need;
-        for _ in 0..MOST_EXTENTS {
-            if rest == 0 {
-                break;
-            }
+        for place in &mut given {
             let run = self.longest_run();
             let count = run.count.min(rest);
-            let extent = Extent { count, ..run };
-            self.set(extent, true);
-            given.push(extent)?;
+            *place = Extent { count, ..run };
+            self.set(*place, true);
             rest -= count;
         }
         if rest == 0 {
-            return Ok(Ok(given));
+            return Ok(given);
         }
         for extent in &given {
             self.set(*extent, false);
         }
-        Ok(Err(TakeRefusal::Fragmented))
+        Err(TakeRefusal::Fragmented)
     }
 
     /// Gives out the lowest free sector.
     pub(crate) fn take_one(&mut self) -> Result<u32, TakeRefusal> {
-        let lowest = (0..self.sectors).find(|s| self.is_free(*s));
-        let sector = lowest.ok_or(TakeRefusal::Full)?;
-        self.set(
-            Extent {
-                start: sector,
-                count: 1,
-            },
-            true,
-        );
-        Ok(sector)
+        for sector in 0..self.sectors {
+            if self.is_free(sector) {
+                self.set(
+                    Extent {
+                        start: sector,
+                        count: 1,
+                    },
+                    true,
+                );
+                return Ok(sector);
+            }
+        }
+        Err(TakeRefusal::Full)
     }
 
     /// An extent's front, up to its first sector that isn't claimed.

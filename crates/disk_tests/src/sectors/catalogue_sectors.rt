@@ -1,98 +1,80 @@
-use super::changed;
+use super::{Reading, sector_of};
 use roots::{Catalogue, decode_catalogue, encode_catalogue};
 use sector_disk::SECTOR_BYTES;
 
 // One library, whose entry is in sector 3.
-fn small_sector() -> [u8; SECTOR_BYTES] {
-    let mut sector = [0; SECTOR_BYTES];
-    sector[..20].copy_from_slice(&[
-        0x4c, 0x49, 0x42, 0x43, 1, 0, 0, 0, 0, 0, 0, 0, 0, 0, 0, 0, 3, 0, 0, 0,
-    ]);
-    sector
+const ONE: [(usize, &[u8]); 2] = [(0, &[0x4c, 0x49, 0x42, 0x43, 1]), (16, &[3])];
+
+// Three libraries, whose entries are in sectors 3, 5 and 4.
+const THREE: [(usize, &[u8]); 2] = [
+    (0, &[0x4c, 0x49, 0x42, 0x43, 3]),
+    (16, &[3, 0, 0, 0, 5, 0, 0, 0, 4]),
+];
+
+// Whether the sector is the one spelling of the catalogue that lists these entries.
+fn is_spelt(entries: &[u32], sector: &[u8; SECTOR_BYTES]) -> bool {
+    if entries.len() > 64 {
+        return false;
+    }
+    let catalogue = Catalogue::new(entries);
+    catalogue.has_spelling()
+        && catalogue.sectors() == entries
+        && encode_catalogue(&catalogue) == *sector
+        && decode_catalogue(sector) == Some(catalogue)
 }
 
-#[test]
-fn the_catalogue_of_one_library_is_spelt_as_written_down(rt: HostRuntime) {
-    let catalogue = Catalogue::new(&[3]);
-    assert!(rt; catalogue.has_spelling());
-    assert_eq!(rt; catalogue.sectors(), [3].as_slice());
-    assert_eq!(rt; encode_catalogue(&catalogue), small_sector());
-    assert_eq!(rt; decode_catalogue(&small_sector()), Some(catalogue));
-}
+const REFUSED: [(&str, usize, u8); 9] = [
+    ("no entry", 4, 0),
+    ("an entry sector past the count", 4, 2),
+    ("an empty place that counts", 4, 4),
+    ("65 entries", 4, 65),
+    ("259 entries", 5, 1),
+    ("an entry in sector 0", 16, 0),
+    ("an entry sector that is listed twice", 16, 5),
+    ("the first and the last entry in one sector", 24, 3),
+    ("an entry sector far past the largest disk", 19, 0x80),
+];
 
 #[test]
-fn a_changed_byte_is_read_as_the_format_says(rt: HostRuntime) {
-    // Three libraries, whose entries are in sectors 3, 5 and 4.
-    let mut sector = small_sector();
-    sector[4] = 3;
-    sector[20] = 5;
-    sector[24] = 4;
-    assert_eq!(rt; decode_catalogue(&sector), Some(Catalogue::new(&[3, 5, 4])));
-    for at in (0..4).chain(6..16).chain(28..SECTOR_BYTES) {
-        assert_eq!(rt;
-            decode_catalogue(&changed(&rt, &sector, at, 6)),
-            None,
-            "magic or unused byte {at}"
-        );
-    }
-    for (what, at, byte) in [
-        ("no entry", 4, 0),
-        ("an entry sector past the count", 4, 2),
-        ("an empty place that counts", 4, 4),
-        ("65 entries", 4, 65),
-        ("259 entries", 5, 1),
-        ("an entry in sector 0", 16, 0),
-        ("an entry sector that is listed twice", 16, 5),
-        ("the first and the last entry in one sector", 24, 3),
-        ("an entry sector far past the largest disk", 19, 0x80),
-    ] {
-        assert_eq!(rt;
-            decode_catalogue(&changed(&rt, &sector, at, byte)),
-            None,
-            "{what}"
-        );
-    }
+fn a_catalogue_is_spelt_as_written_down(rt: HostRuntime) {
+    assert!(rt; is_spelt(&[3], &sector_of(&ONE)));
+    let sector = sector_of(&THREE);
+    assert!(rt; is_spelt(&[3, 5, 4], &sector));
+    let no_field = [(0, 4), (6, 16), (28, SECTOR_BYTES)];
+    assert_eq!(rt;
+        Reading::NoCatalogue.fails_among(&sector, &no_field, 6),
+        None
+    );
+    assert_eq!(rt; Reading::NoCatalogue.fails_at(&sector, &REFUSED), None);
+}
+
+// Whether a catalogue may list an entry in this sector: both ways say the same.
+fn is_listed(entry_sector: u32) -> Option<bool> {
+    let mut sector = sector_of(&ONE);
+    sector[16..20].copy_from_slice(&entry_sector.to_le_bytes());
+    let catalogue = Catalogue::new(&[entry_sector]);
+    let spelt = catalogue.has_spelling();
+    (decode_catalogue(&sector) == spelt.then_some(catalogue)).then_some(spelt)
 }
 
 #[test]
 fn the_sectors_of_a_catalogue_are_those_of_the_largest_disk(rt: HostRuntime) {
-    for (entry_sector, spelt) in [
-        (1u32, false),
-        (2, true),
-        (4_194_303, true),
-        (4_194_304, false),
-    ] {
-        let mut sector = small_sector();
-        sector[16..20].copy_from_slice(&entry_sector.to_le_bytes());
-        let catalogue = Catalogue::new(&[entry_sector]);
-        assert_eq!(rt; catalogue.has_spelling(), spelt, "sector {entry_sector}");
-        assert_eq!(rt;
-            decode_catalogue(&sector),
-            spelt.then_some(catalogue),
-            "sector {entry_sector}"
-        );
-    }
+    let first = (is_listed(1), is_listed(2));
+    let last = (is_listed(4_194_303), is_listed(4_194_304));
+    assert!(rt; first == (Some(false), Some(true)) && last == (Some(true), Some(false)));
 }
+
+const PAST_FULL: [(&str, usize, u8); 3] = [("none", 4, 0), ("63", 4, 63), ("65", 4, 65)];
 
 #[test]
 fn a_full_catalogue_is_read_and_no_larger_one(rt: HostRuntime) {
     let mut entry_sectors = [0; 64];
-    let mut sector = small_sector();
+    let mut sector = sector_of(&ONE);
     sector[4] = 64;
     for i in 0..64u8 {
         entry_sectors[usize::from(i)] = 2 + u32::from(i);
         sector[16 + 4 * usize::from(i)] = 2 + i;
     }
-    let catalogue = Catalogue::new(&entry_sectors);
-    assert!(rt; catalogue.has_spelling());
-    assert_eq!(rt; catalogue.sectors(), entry_sectors.as_slice());
-    assert_eq!(rt; encode_catalogue(&catalogue), sector);
-    assert_eq!(rt; decode_catalogue(&sector), Some(catalogue));
-    for count in [0, 63, 65] {
-        assert_eq!(rt;
-            decode_catalogue(&changed(&rt, &sector, 4, count)),
-            None,
-            "{count} entries"
-        );
-    }
+    assert!(rt; is_spelt(&entry_sectors, &sector));
+    assert_eq!(rt; Reading::NoCatalogue.fails_at(&sector, &PAST_FULL), None);
 }

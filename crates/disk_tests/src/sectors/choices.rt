@@ -1,84 +1,97 @@
 use roots::{ChooseRefusal, Root, Slot, choose, slot_of};
 
-fn root(generation: u64) -> Root {
-    Root::over_entries(generation, 8, &[], &[])
+/// What stands in a root's sector.
+#[derive(Clone, Copy)]
+enum Stands {
+    /// An empty root of version 1 and of this generation.
+    One(u64),
+    /// One of version 2.
+    Two(u64),
+    Empty,
+    Bad,
 }
 
-fn good(generation: u64) -> Slot {
-    Slot::Good(root(generation))
-}
-
-fn root_2(generation: u64) -> Root {
-    Root::over_catalogues(generation, 8, 0, &[], &[])
-}
-
-#[test]
-fn no_root_of_version_1_follows_one_of_version_2(rt: HostRuntime) {
-    for (what, even, odd, answer) in [
-        ("1, then 1", root(4), root(5), Ok(root(5))),
-        ("1, then 2", root(4), root_2(5), Ok(root_2(5))),
-        ("2, then 2", root_2(4), root_2(5), Ok(root_2(5))),
-        ("2, then 1", root_2(4), root(5), Err(ChooseRefusal::Damaged)),
-        ("1, then 1, in slot 0", root(6), root(5), Ok(root(6))),
-        ("1, then 2, in slot 0", root_2(6), root(5), Ok(root_2(6))),
-        ("2, then 2, in slot 0", root_2(6), root_2(5), Ok(root_2(6))),
-        (
-            "2, then 1, in slot 0",
-            root(6),
-            root_2(5),
-            Err(ChooseRefusal::Damaged),
-        ),
-    ] {
-        assert_eq!(rt; choose(Slot::Good(even), Slot::Good(odd)), answer, "{what}");
-    }
-    assert_eq!(rt; choose(Slot::Good(root_2(0)), Slot::Empty), Ok(root_2(0)));
-    assert_eq!(rt;
-        choose(Slot::Good(root_2(2)), Slot::Empty),
-        Err(ChooseRefusal::Damaged)
-    );
-}
-
-#[test]
-fn a_current_root_is_chosen(rt: HostRuntime) {
-    assert_eq!(rt; choose(good(0), Slot::Empty), Ok(root(0)));
-    for (even, odd, current) in [
-        (0, 1, 1),
-        (2, 1, 2),
-        (2, 3, 3),
-        (u64::MAX - 1, u64::MAX - 2, u64::MAX - 1),
-        (u64::MAX - 1, u64::MAX, u64::MAX),
-    ] {
-        assert_eq!(rt;
-            choose(good(even), good(odd)),
-            Ok(root(current)),
-            "{even} and {odd}"
-        );
-        assert_eq!(rt; (slot_of(even), slot_of(odd)), (0, 1));
+impl Stands {
+    fn slot(self) -> Slot {
+        match self {
+            One(generation) => Slot::Good(Root::over_entries(generation, 8, &[], &[])),
+            Two(generation) => Slot::Good(Root::over_catalogues(generation, 8, 0, &[], &[])),
+            Empty => Slot::Empty,
+            Bad => Slot::Bad,
+        }
     }
 }
 
-#[test]
-fn other_slots_are_refused(rt: HostRuntime) {
-    assert_eq!(rt;
-        choose(Slot::Empty, Slot::Empty),
-        Err(ChooseRefusal::NotFormatted)
-    );
-    for (what, slot0, slot1) in [
-        ("three commits apart", good(4), good(7)),
-        ("no commit apart", good(4), good(4)),
-        ("as far apart as can be", good(0), good(u64::MAX)),
-        ("each in the other's slot", good(1), good(2)),
-        ("generation 1 in slot 0, alone", good(1), Slot::Empty),
-        ("generation 1 in slot 0, beside 1", good(1), good(1)),
-        ("generation 0 in slot 1", Slot::Empty, good(0)),
-        ("generation 1 alone", Slot::Empty, good(1)),
-        ("generation 2 alone", good(2), Slot::Empty),
-        ("a bad sector beside a good one", good(0), Slot::Bad),
-        ("a good sector beside a bad one", Slot::Bad, good(1)),
-        ("a bad sector beside an empty one", Slot::Bad, Slot::Empty),
-        ("an empty sector beside a bad one", Slot::Empty, Slot::Bad),
-        ("two bad sectors", Slot::Bad, Slot::Bad),
-    ] {
-        assert_eq!(rt; choose(slot0, slot1), Err(ChooseRefusal::Damaged), "{what}");
+/// Which of two roots is chosen, or why none is.
+#[derive(Clone, Copy, PartialEq, Debug)]
+enum Choice {
+    Even,
+    Odd,
+    Damaged,
+    NotFormatted,
+}
+
+use Choice::{Damaged, Even, NotFormatted, Odd};
+use Stands::{Bad, Empty, One, Two};
+
+// Which of the two is chosen, if it is one of them.
+fn chosen(even: Slot, odd: Slot) -> Option<Choice> {
+    match choose(even, odd) {
+        Ok(root) if even == Slot::Good(root) => Some(Even),
+        Ok(root) if odd == Slot::Good(root) => Some(Odd),
+        Ok(_) => None,
+        Err(ChooseRefusal::Damaged) => Some(Damaged),
+        Err(ChooseRefusal::NotFormatted) => Some(NotFormatted),
     }
+}
+
+const CHOICES: [(&str, Stands, Stands, Choice); 30] = [
+    ("version 1, then 1", One(4), One(5), Odd),
+    ("version 1, then 2", One(4), Two(5), Odd),
+    ("version 2, then 2", Two(4), Two(5), Odd),
+    ("version 2, then 1", Two(4), One(5), Damaged),
+    ("version 1, then 1, in slot 0", One(6), One(5), Even),
+    ("version 1, then 2, in slot 0", Two(6), One(5), Even),
+    ("version 2, then 2, in slot 0", Two(6), Two(5), Even),
+    ("version 2, then 1, in slot 0", One(6), Two(5), Damaged),
+    ("the first one of version 2 alone", Two(0), Empty, Even),
+    ("another of version 2 alone", Two(2), Empty, Damaged),
+    ("the first one alone", One(0), Empty, Even),
+    ("the first two", One(0), One(1), Odd),
+    ("1 and 2", One(2), One(1), Even),
+    ("2 and 3", One(2), One(3), Odd),
+    (
+        "the last two but one",
+        One(u64::MAX - 1),
+        One(u64::MAX - 2),
+        Even,
+    ),
+    ("the last two", One(u64::MAX - 1), One(u64::MAX), Odd),
+    ("no root", Empty, Empty, NotFormatted),
+    ("three commits apart", One(4), One(7), Damaged),
+    ("no commit apart", One(4), One(4), Damaged),
+    ("as far apart as can be", One(0), One(u64::MAX), Damaged),
+    ("each in the other's slot", One(1), One(2), Damaged),
+    ("generation 1 in slot 0, alone", One(1), Empty, Damaged),
+    ("generation 1 in slot 0, beside 1", One(1), One(1), Damaged),
+    ("generation 0 in slot 1", Empty, One(0), Damaged),
+    ("generation 1 alone", Empty, One(1), Damaged),
+    ("generation 2 alone", One(2), Empty, Damaged),
+    ("a bad sector beside a good one", One(0), Bad, Damaged),
+    ("a good sector beside a bad one", Bad, One(1), Damaged),
+    ("a bad sector beside an empty one", Bad, Empty, Damaged),
+    ("an empty sector beside a bad one", Empty, Bad, Damaged),
+];
+
+#[test]
+fn the_current_root_is_chosen(rt: HostRuntime) {
+    let mut wrong = None;
+    for (what, even, odd, answer) in &CHOICES {
+        if chosen(even.slot(), odd.slot()) != Some(*answer) {
+            wrong = Some(*what);
+        }
+    }
+    assert_eq!(rt; wrong, None);
+    let bad = chosen(Slot::Bad, Slot::Bad);
+    assert!(rt; bad == Some(Damaged) && slot_of(4) == 0 && slot_of(u64::MAX) == 1);
 }

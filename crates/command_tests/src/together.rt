@@ -2,13 +2,13 @@
 
 ghost use Rattle.std.specs.Prelude.{⊤};
 
-use crate::{Summary, TakesEvents, run_script};
 use binders::{Event, EventReply};
+use commands::{ScriptFault, Summary, TakesEvents, run_script};
 use requests::{Command, Reply};
+use std::alloc::Global;
 use std::cell::Cell;
 use std::io;
 use std::io::{ErrorKind, Read, Write};
-use std::test::Fail;
 
 /// A reader that gives these texts, and fails where an answer to a line that it gave is missing.
 #[derive(Drop)]
@@ -81,41 +81,42 @@ impl TakesEvents for Watching<'_> {
     }
 }
 
-#[test]
-fn no_answer_is_missing_when_more_is_read_or_changed(rt: HostRuntime) -> Result<(), Fail> {
-    let answered = Cell::new(0usize);
-    let texts = [
-        // One line, and three that are answered with one write.
-        ("list\n", 0),
-        ("list\nlist\nlist\n", 1),
-        // Two changes among listings: what waits, `ok`, what waits, `ok`.
-        ("list\nremove a\nlist\npreload\nli", 4),
-        // The rest of a line, two lines more, and one without a newline.
-        ("st\nlist\nno line\nlist", 8),
-    ];
+/// What is read, each text with the number of lines that end before it: one line, and three that are
+/// answered with one write; two changes among listings, so what waits, `ok`, what waits, `ok`; the
+/// rest of a line, two lines more, and one without a newline.
+const TEXTS: [(&str, usize); 4] = [
+    ("list\n", 0),
+    ("list\nlist\nlist\n", 1),
+    ("list\nremove a\nlist\npreload\nli", 4),
+    ("st\nlist\nno line\nlist", 8),
+];
+
+/// What a script over these texts ends with, how many calls of its writer it takes, and whether a
+/// change was made while an answer was missing.
+fn watched(alloc: Global, answered: &Cell<usize>) -> (Result<Summary, ScriptFault>, usize, bool) {
     let mut reader = Asking {
-        texts: &texts,
+        texts: &TEXTS,
         given: 0,
-        answered: &answered,
+        answered,
     };
-    let mut writer = Answers {
-        calls: 0,
-        answered: &answered,
-    };
+    let mut writer = Answers { calls: 0, answered };
     let mut registry = Watching {
         asked: 0,
         is_early: false,
-        answered: &answered,
+        answered,
     };
-    let summary = run_script(rt.alloc(), &mut reader, &mut writer, &mut registry)?;
+    let ended = run_script(alloc, &mut reader, &mut writer, &mut registry);
+    (ended, writer.calls, registry.is_early)
+}
+
+#[test]
+fn no_answer_is_missing_when_more_is_read_or_changed(rt: HostRuntime) {
+    let answered = Cell::new(0usize);
+    let found = watched(rt.alloc(), &answered);
     let wanted = Summary {
         lines: 12,
         refused: 2,
     };
-    assert_eq!(rt; summary, wanted);
-    assert!(rt; !registry.is_early);
-    assert_eq!(rt; answered.get(), 12);
     // The line without a newline is answered by itself, since the reader was asked for its end.
-    assert_eq!(rt; writer.calls, 8);
-    Ok(())
+    assert_eq!(rt; (found, answered.get()), ((Ok(wanted), 8, false), 12));
 }

@@ -1,0 +1,112 @@
+// Lines of refusals: each goes out whole, with one write.
+
+use crate::streams::Full;
+use commands::{write_file_refusal, write_refusal};
+use elf_dynamic::ObjectRefusal;
+use hash_check::FileRefusal;
+use image::BindRefusal;
+use names::Name;
+use std::alloc::{AllocError, Global};
+use std::test::Fail;
+
+/// The refusal of a library that isn't there, with copies of the names.
+fn missing(alloc: Global, needer: &[u8], name: &[u8]) -> Result<BindRefusal, AllocError> {
+    Ok(BindRefusal::Missing {
+        needer: Name::copy_of(alloc, needer)?,
+        name: Name::copy_of(alloc, name)?,
+    })
+}
+
+/// How many calls of a writer a line takes that is written, and how many bytes it has.
+fn calls_of(refusal: &BindRefusal) -> Option<(u64, usize)> {
+    let mut out = Full::with_room(4096);
+    match write_refusal(&mut out, refusal) {
+        Ok(()) => Some((out.calls, 4096_usize.saturating_sub(out.room))),
+        Err(_) => None,
+    }
+}
+
+/// Refusals that name no object, and the lengths of their lines.
+const NAMELESS: [(BindRefusal, usize); 6] = [
+    (
+        BindRefusal::Program(FileRefusal::Object(ObjectRefusal::TooShort)),
+        23,
+    ),
+    (
+        BindRefusal::Program(FileRefusal::Object(ObjectRefusal::RelocationType(u32::MAX))),
+        41,
+    ),
+    (BindRefusal::Program(FileRefusal::DuplicateDefinition), 35),
+    (BindRefusal::BadBase, 19),
+    (BindRefusal::NoRoom, 18),
+    (BindRefusal::OutOfMemory, 24),
+];
+
+#[test]
+fn a_line_without_names_is_one_write(rt: HostRuntime) {
+    for (refusal, length) in &NAMELESS {
+        assert_eq!(rt; calls_of(refusal), Some((1, *length)));
+    }
+}
+
+#[test]
+fn a_line_with_names_is_one_write(rt: HostRuntime) -> Result<(), Fail> {
+    let alloc = rt.alloc();
+    let name = [b'x'; 240];
+    let long = calls_of(&missing(alloc, b"/program", &name)?);
+    let zeros = calls_of(&missing(alloc, &[0; 240], b"")?);
+    let undefined = calls_of(&BindRefusal::undefined(alloc, &name, &[0xff; 240]));
+    // A byte that isn't visible has four in the text.
+    let wanted = [Some((1, 269)), Some((1, 983)), Some((1, 1223))];
+    assert_eq!(rt; [long, zeros, undefined], wanted);
+    Ok(())
+}
+
+#[test]
+fn the_refusal_of_a_file_is_one_write(rt: HostRuntime) {
+    let refusal = FileRefusal::Object(ObjectRefusal::RelocationType(7));
+    let mut out = Full::with_room(40);
+    let is_written = write_file_refusal(&mut out, refusal).is_ok();
+    assert_eq!(rt; (is_written, out.calls, out.room), (true, 1, 20));
+}
+
+/// The text of a refusal.
+fn text_of(alloc: Global, refusal: &BindRefusal) -> Vec<u8> {
+    let mut text = Vec::new(alloc);
+    let _ = write_refusal(&mut text, refusal);
+    text
+}
+
+#[test]
+fn a_name_is_spelt(rt: HostRuntime) -> Result<(), Fail> {
+    let alloc = rt.alloc();
+    let blank = text_of(alloc, &missing(alloc, b"/program", b"a b")?);
+    assert_eq!(rt;
+        blank.as_slice(),
+        b"refused B3 Missing /program a\\x20b\n".as_slice()
+    );
+    let empty = text_of(alloc, &missing(alloc, b"", b"\\")?);
+    assert_eq!(rt;
+        empty.as_slice(),
+        b"refused B3 Missing \\e \\x5c\n".as_slice()
+    );
+    let plain = text_of(alloc, &BindRefusal::undefined(alloc, b"liba.so", b"f"));
+    assert_eq!(rt;
+        plain.as_slice(),
+        b"refused B5 Undefined liba.so f\n".as_slice()
+    );
+    Ok(())
+}
+
+// A name that is longer than any buffer.
+#[test]
+fn a_name_of_100000_bytes_is_spelt(rt: HostRuntime) -> Result<(), Fail> {
+    let name = vec![in rt.alloc(); b'x'; 100_000]?;
+    let text = text_of(rt.alloc(), &BindRefusal::undefined(rt.alloc(), b"a", &name));
+    let front = b"refused B5 Undefined a ";
+    let is_spelt = text.starts_with(front)
+        && text.ends_with(b"x\n")
+        && text.iter().filter(|byte| **byte == b'x').count() == 100_000;
+    assert_eq!(rt; (is_spelt, text.len()), (true, front.len() + 100_001));
+    Ok(())
+}

@@ -1,0 +1,51 @@
+// Reading to the end, or not.
+
+use crate::streams::Turn::{Fails, Gives};
+use crate::streams::{Turn, Turns};
+use commands::{FileFault, read_all};
+use std::alloc::Global;
+use std::io::ErrorKind;
+
+const CANNOT: Result<usize, FileFault> = Err(FileFault::CannotRead);
+
+/// What a reader does, the limit, and how many bytes are read.
+const ROWS: [(&[Turn], usize, Result<usize, FileFault>); 11] = [
+    (&[], 1, Ok(0)),
+    (&[Gives(9)], 10, Ok(9)),
+    // A read that is interrupted is made again.
+    (
+        &[Gives(4), Fails(ErrorKind::Interrupted), Gives(5)],
+        10,
+        Ok(9),
+    ),
+    // As many bytes as the limit, at once and one after the other.
+    (&[Gives(10)], 10, CANNOT),
+    (&[Gives(9), Gives(1)], 10, CANNOT),
+    (&[Gives(9), Gives(100_000)], 10, CANNOT),
+    // Reads that fail at once, in mid-stream and for want of the system's memory.
+    (&[Fails(ErrorKind::Other)], 10, CANNOT),
+    (&[Gives(9), Fails(ErrorKind::Other)], 10, CANNOT),
+    (&[Fails(ErrorKind::OutOfMemory)], 10, CANNOT),
+    (&[Gives(9), Fails(ErrorKind::OutOfMemory)], 10, CANNOT),
+    // A long file, page by page.
+    (
+        &[Gives(100_000), Gives(100_000), Gives(3)],
+        200_000,
+        Ok(131_075),
+    ),
+];
+
+/// How many bytes are read.
+fn length_read(alloc: Global, turns: &[Turn], limit: usize) -> Result<usize, FileFault> {
+    match read_all(alloc, &mut Turns(turns), limit) {
+        Ok(bytes) => Ok(bytes.len()),
+        Err(fault) => Err(fault),
+    }
+}
+
+#[test]
+fn reads_end_or_fail(rt: HostRuntime) {
+    for (turns, limit, wanted) in ROWS {
+        assert_eq!(rt; length_read(rt.alloc(), turns, limit), wanted);
+    }
+}

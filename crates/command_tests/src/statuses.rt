@@ -1,0 +1,114 @@
+// The status where a stream takes or gives fewer bytes than there are.
+
+use crate::programs::of_segments;
+use crate::runs::{ends, words_of};
+use crate::streams::{Full, Turn, Turns};
+use commands::run_arguments;
+use std::io::ErrorKind;
+use std::test::Fail;
+use std::{fs, io};
+
+/// The words of a command line, or none where memory was refused for them.
+fn words_or(rt: &HostRuntime, words: &[&str]) -> io::Result<Vec<String>> {
+    if words.is_empty() {
+        return Err(io::Error::from(ErrorKind::OutOfMemory));
+    }
+    words_of(rt, words)
+}
+
+/// How a command line ends whose output and standard error have room for so many bytes: the status,
+/// the room that is left of the output, and the calls and the room that is left of standard error.
+fn told(rt: &HostRuntime, words: &[&str], rooms: (usize, usize)) -> (u8, usize, u64, usize) {
+    let words = words_or(rt, words);
+    let mut input = b"list\n".as_slice();
+    let mut output = Full::with_room(rooms.0);
+    let mut errors = Full::with_room(rooms.1);
+    let status = run_arguments(rt, rt.alloc(), words, &mut input, &mut output, &mut errors);
+    (status, output.room, errors.calls, errors.room)
+}
+
+/// A file that isn't there, words that are no command, and a base that isn't read.
+const UNREAD: &[&str] = &["image", "no such file", "0x0"];
+
+const NO_COMMAND: &[&str] = &["help"];
+
+const BAD_BASE: &[&str] = &["image", "no such file", "10"];
+
+#[test]
+fn a_message_is_one_write_that_changes_no_status(rt: HostRuntime) {
+    for (words, rooms, wanted) in [
+        (UNREAD, (100, 100), (3, 100, 1, 66)),
+        (UNREAD, (0, 100), (3, 0, 1, 66)),
+        (UNREAD, (100, 0), (3, 100, 1, 0)),
+        (NO_COMMAND, (100, 100), (2, 100, 1, 74)),
+        (NO_COMMAND, (100, 0), (2, 100, 1, 0)),
+        (BAD_BASE, (100, 100), (2, 100, 1, 82)),
+        (BAD_BASE, (100, 0), (2, 100, 1, 0)),
+        // No memory for the words: that is said on the output.
+        (&[], (24, 100), (4, 0, 0, 100)),
+        (&[], (23, 100), (3, 23, 0, 100)),
+    ] {
+        assert_eq!(rt; told(&rt, words, rooms), wanted);
+    }
+}
+
+/// Whether the status of these words is 3 for each room below the length of their text, and this
+/// one for that length and one byte more. Nothing is said on standard error.
+fn needs_room(rt: &HostRuntime, words: &[&str], length: usize, status: u8) -> bool {
+    let mut holds = true;
+    for room in 0..length.saturating_add(2) {
+        let wanted = if room < length { 3 } else { status };
+        let (found, _, calls, _) = told(rt, words, (room, 100));
+        holds &= (found, calls) == (wanted, 0);
+    }
+    holds
+}
+
+/// Command lines with the lengths of their texts, and their statuses: an image, a refusal of one, a
+/// listing of nothing, a refusal of a command, and a script of one listing.
+const TEXTS: [(&[&str], usize, u8); 5] = [
+    (&["image", "nine.so", "0x0"], 496, 0),
+    (&["image", "nine.so", "0x1"], 19, 1),
+    (&["list", "empty.disk"], 4, 0),
+    (&["remove", "empty.disk", "a"], 24, 1),
+    (&["script", "empty.disk"], 4, 0),
+];
+
+#[test]
+fn output_that_fails_is_status_3(rt: HostRuntime) -> Result<(), Fail> {
+    fs::write(&rt, "nine.so", of_segments(rt.alloc(), 9)?.as_slice())?;
+    let format = words_of(&rt, &["format", "empty.disk", "8"]);
+    assert!(rt; ends(&rt, format, (0, "ok\n", "")));
+    for (words, length, status) in TEXTS {
+        assert!(rt; needs_room(&rt, words, length, status));
+    }
+    fs::remove_file(&rt, "nine.so")?;
+    fs::remove_file(&rt, "empty.disk")?;
+    Ok(())
+}
+
+/// The status of a script over a disk whose input takes these turns.
+fn script_status(rt: &HostRuntime, disk: &str, turns: &[Turn]) -> u8 {
+    let words = words_of(rt, &["script", disk]);
+    let mut input = Turns(turns);
+    let mut output = Vec::new(rt.alloc());
+    let mut errors = Vec::new(rt.alloc());
+    run_arguments(rt, rt.alloc(), words, &mut input, &mut output, &mut errors)
+}
+
+#[test]
+fn input_that_fails_is_status_3_or_4(rt: HostRuntime) -> Result<(), Fail> {
+    let format = words_of(&rt, &["format", "input.disk", "8"]);
+    assert!(rt; ends(&rt, format, (0, "ok\n", "")));
+    for (turns, status) in [
+        ([].as_slice(), 0),
+        // A line that isn't whole.
+        (&[Turn::Gives(9)], 1),
+        (&[Turn::Fails(ErrorKind::Other)], 3),
+        (&[Turn::Fails(ErrorKind::OutOfMemory)], 4),
+    ] {
+        assert_eq!(rt; script_status(&rt, "input.disk", turns), status);
+    }
+    fs::remove_file(&rt, "input.disk")?;
+    Ok(())
+}

@@ -1,0 +1,71 @@
+// The same random calls of a disk and of one in memory.
+use crate::random::next;
+use crate::stops::{read, write};
+use sector_disk::{Disk, Memory};
+
+/// A call of a disk.
+#[derive(Clone, Copy)]
+enum Call {
+    Read,
+    Write(u8),
+    Sync,
+}
+
+// One call of both disks: whether they answer the same, and that no write and no sync fails.
+fn is_alike<D: Disk>(disk: &mut D, memory: &mut Memory, at: u32, call: Call) -> bool {
+    match call {
+        Call::Read => read(disk, at) == read(memory, at),
+        Call::Write(content) => write(disk, at, content) && write(memory, at, content),
+        Call::Sync => disk.sync().is_ok() && memory.sync().is_ok(),
+    }
+}
+
+// The next call: a third are reads, one in fifteen is a sync.
+fn next_call(state: &mut u64) -> Call {
+    let content = (next(state) % 251) as u8;
+    match next(state) % 30 {
+        0..10 => Call::Read,
+        10..28 => Call::Write(content),
+        _ => Call::Sync,
+    }
+}
+
+/// So many calls of both disks, three in four of them of the sector behind the last one: how many
+/// of them were writes, and how many syncs; or none where the answers differ.
+pub(crate) fn call_both<D: Disk>(
+    disk: &mut D,
+    memory: &mut Memory,
+    calls: u32,
+) -> Option<(usize, usize)> {
+    let mut state = 88_172_645_463_325_252;
+    let mut at = 0u32;
+    let mut writes = 0usize;
+    let mut syncs = 0usize;
+    for _ in 0..calls {
+        let far = next(&mut state) % memory.sectors().max(1);
+        at = at.saturating_add(1);
+        if at >= memory.sectors() || next(&mut state) % 4 == 0 {
+            at = far;
+        }
+        let call = next_call(&mut state);
+        if !is_alike(disk, memory, at, call) {
+            return None;
+        }
+        match call {
+            Call::Read => {}
+            Call::Write(_) => writes = writes.saturating_add(1),
+            Call::Sync => syncs = syncs.saturating_add(1),
+        }
+    }
+    Some((writes, syncs))
+}
+
+/// Whether both disks have as many sectors, which hold the same.
+pub(crate) fn are_same<D: Disk>(disk: &mut D, memory: &mut Memory) -> bool {
+    for at in 0..memory.sectors() {
+        if read(disk, at) != read(memory, at) {
+            return false;
+        }
+    }
+    disk.sectors() == memory.sectors()
+}
