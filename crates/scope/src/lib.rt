@@ -7,7 +7,10 @@
 #![tactic(auto)]
 
 mod ahead;
+mod classed;
+mod classes;
 mod compared;
+mod endings;
 mod entry;
 mod installed;
 mod level;

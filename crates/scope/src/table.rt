@@ -8,6 +8,7 @@ ghost use Rattle.scope.specs.Objects.{IsTaken};
 ghost use Rattle.scope.specs.Lookup.{all_places, definition_at};
 ghost use Rattle.scope.specs.inside.Entries.{entries_in, entries_before, IsTableOf};
 
+use crate::classed::sorted_by_classes;
 use crate::entry::{Entry, compare, compare_to};
 use crate::loaded::LoadedObject;
 use crate::target::Target;
@@ -46,8 +47,27 @@ fn all_entries(alloc: Global, objects: &[LoadedObject<'_>]) -> Result<Vec<Entry>
     Ok(entries)
 }
 
+/// Whether names have more bytes than twice the string tables and 64 KiB, so that many of them are
+/// tails of others.
+fn share_bytes(objects: &[LoadedObject<'_>], names: &[Entry]) -> bool {
+    let mut left: usize = 65_536;
+    for object in objects {
+        let size = object.object().object().string_table().len();
+        left = left.saturating_add(size.saturating_mul(2));
+    }
+    for name in names {
+        let length = name.name.length as usize;
+        if length > left {
+            return true;
+        }
+        left -= length;
+    }
+    false
+}
+
 /// The exported names of all objects, sorted. It takes 24 bytes a name, and up to twice as much
-/// while it grows.
+/// while it grows; where names share bytes some 100 bytes a name, and eight bytes for each byte of
+/// the longest string.
 pub(crate) fn sorted_entries(
     alloc: Global,
     objects: &[LoadedObject<'_>],
@@ -55,6 +75,11 @@ pub(crate) fn sorted_entries(
     ensures { IfOk result (λ v. IsTableOf objects.now v.items) }
 {
     let mut entries = all_entries(alloc, objects)?;
+    if share_bytes(objects, &entries) {
+        if let Some(sorted) = sorted_by_classes(alloc, objects, &entries)? {
+            return Ok(sorted);
+        }
+    }
     entries.sort_unstable_by(|a, b| compare(objects, *a, *b));
     Ok(entries)
 }
