@@ -8,6 +8,9 @@ pub mod Tails
 pub mod NameSearch
 pub mod Apart
 pub mod Naming
+pub mod Backs
+pub mod Numbering
+pub mod Ranking
 pub mod Missing
 pub mod Queueing
 pub mod DistinctLevels

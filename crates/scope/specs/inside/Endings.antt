@@ -45,6 +45,7 @@ pub record IsString (objects : List Named) (e : Ending) : Type 0 where
 
 -- names that are tails of one string
 pub record IsEnding (objects : List Named) (entries : List Entry) (e : Ending) : Type 0 where
+  pub range : e.first ≤ e.past
   pub within : e.past ≤ length entries
   pub tails : (k : ℕ) → IsIn k e → take (length (back objects entries k)) (ending_back objects e) ≡ back objects entries k
 
@@ -78,7 +79,7 @@ pub record AreNumbered (objects : List Named) (entries : List Entry) (first past
   pub others : (k : ℕ) → (first ≤ k → k < past → ⊥) → nth_number classes k ≡ nth_number old k
   pub marked : (k : ℕ) → first ≤ k → k < past → nth_number marks (length (back objects entries k)) ≡ pick fresh (nth_number old_marks (length (back objects entries k)))
   pub picked : (n : ℕ) → pick fresh (nth_number marks n) ≡ pick fresh (nth_number old_marks n)
-  pub rest : (n : ℕ) → (HasLength objects entries first past n → ⊥) → nth_number marks n ≡ nth_number old_marks n
+  pub rest : (n : ℕ) → (nth_number marks n ≡ nth_number old_marks n → ⊥) → HasLength objects entries first past n
   pub long : (k : ℕ) → first ≤ k → k < past → length (back objects entries k) ≡ (nth_entry entries k).name.length
 
 -- numbers of names that are ordered, for names of one length, as their bytes are from the last one on
