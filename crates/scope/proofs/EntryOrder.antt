@@ -1,5 +1,5 @@
 -- The order of entries by parts.
-use Rattle.std.proofs.Common.{◌≡◌, ℕ, ◌%◌, ◌^◌, List, length, refl, ◌∙◌, sym, ap}
+use Rattle.std.proofs.Common.{◌≡◌, ℕ, ◌%◌, ◌^◌, List, length, reverse, refl, ◌∙◌, sym, ap}
 use Rattle.std.specs.Cmp.Lexicographic.{slice_cmp}
 use Rattle.std.specs.Ordering.{nat_cmp, ordering_then}
 use Rattle.std.specs.declared.cmp.Ordering.{Ordering}
@@ -7,7 +7,7 @@ use Rattle.std.specs.declared.cmp.Ordering.TheVariants.{Less, Equal, Greater}
 use Rattle.hash_check.specs.Key.{key_of}
 use Rattle.scope.specs.Objects.{Named}
 use Rattle.scope.specs.declared.entry.Entry.{Entry}
-use Rattle.scope.specs.inside.Compared.{place_order}
+use Rattle.scope.specs.inside.Compared.{bytes_order, place_order}
 use Rattle.scope.specs.inside.Entries.{text_at, text, text_order, rank, name_order, order, text_of_name, text_order_to, rank_of_name, order_to}
 
 -- the second answer where the first is `Equal`, and the first where it isn't
@@ -23,16 +23,16 @@ by-first : (o p s w : Ordering) → w ≡ ordering_then p s → o ≡ p → (o �
 by-first o p s w is first other = stays o s other ∙ ap (λ x. ordering_then x s) first ∙ sym is
 
 text-order-is : (objects : List Named) (a b : Entry) → text_order objects a b
-    ≡ ordering_then (nat_cmp a.name.length b.name.length) (slice_cmp nat_cmp (text_at objects a) (text_at objects b))
+    ≡ ordering_then (nat_cmp a.name.length b.name.length) (bytes_order objects a b)
 unfolding text
 text-order-is objects a b = refl
 
 pub texts-bytes : (objects : List Named) (a b : Entry) (o r : Ordering) → o ≡ nat_cmp a.name.length b.name.length → o ≡ Equal
-    → r ≡ slice_cmp nat_cmp (text_at objects a) (text_at objects b) → r ≡ text_order objects a b
-texts-bytes objects a b o r = by-second o (nat_cmp a.name.length b.name.length) r (slice_cmp nat_cmp (text_at objects a) (text_at objects b)) (text_order objects a b) (text-order-is objects a b)
+    → r ≡ bytes_order objects a b → r ≡ text_order objects a b
+texts-bytes objects a b o r = by-second o (nat_cmp a.name.length b.name.length) r (bytes_order objects a b) (text_order objects a b) (text-order-is objects a b)
 
 pub texts-lengths : (objects : List Named) (a b : Entry) (o : Ordering) → o ≡ nat_cmp a.name.length b.name.length → (o ≡ Equal → ⊥) → o ≡ text_order objects a b
-texts-lengths objects a b o = by-first o (nat_cmp a.name.length b.name.length) (slice_cmp nat_cmp (text_at objects a) (text_at objects b)) (text_order objects a b) (text-order-is objects a b)
+texts-lengths objects a b o = by-first o (nat_cmp a.name.length b.name.length) (bytes_order objects a b) (text_order objects a b) (text-order-is objects a b)
 
 name-order-is : (objects : List Named) (a b : Entry) → name_order objects a b ≡ ordering_then (nat_cmp a.name.key b.name.key) (text_order objects a b)
 unfolding rank
@@ -54,17 +54,21 @@ entries-objects objects a b o r = by-second o (name_order objects a b) r (nat_cm
 pub entries-names : (objects : List Named) (a b : Entry) (o : Ordering) → o ≡ name_order objects a b → (o ≡ Equal → ⊥) → o ≡ order objects a b
 entries-names objects a b o = by-first o (name_order objects a b) (nat_cmp a.object b.object) (order objects a b) (order-is objects a b)
 
+-- the name of an entry and a name that is looked for, by their bytes from the last one on
+abbrev pub bytes_order_to : List Named → Entry → List ℕ → Ordering
+bytes_order_to objects e name = slice_cmp nat_cmp (reverse (text_at objects e)) (reverse name)
+
 text-order-to-is : (objects : List Named) (e : Entry) (name : List ℕ) → text_order_to objects e name
-    ≡ ordering_then (nat_cmp e.name.length (length name % 2 ^ 32)) (slice_cmp nat_cmp (text_at objects e) name)
+    ≡ ordering_then (nat_cmp e.name.length (length name % 2 ^ 32)) (bytes_order_to objects e name)
 unfolding text text_of_name
 text-order-to-is objects e name = refl
 
 pub to-bytes : (objects : List Named) (e : Entry) (name : List ℕ) (o r : Ordering) → o ≡ nat_cmp e.name.length (length name % 2 ^ 32) → o ≡ Equal
-    → r ≡ slice_cmp nat_cmp (text_at objects e) name → r ≡ text_order_to objects e name
-to-bytes objects e name o r = by-second o (nat_cmp e.name.length (length name % 2 ^ 32)) r (slice_cmp nat_cmp (text_at objects e) name) (text_order_to objects e name) (text-order-to-is objects e name)
+    → r ≡ bytes_order_to objects e name → r ≡ text_order_to objects e name
+to-bytes objects e name o r = by-second o (nat_cmp e.name.length (length name % 2 ^ 32)) r (bytes_order_to objects e name) (text_order_to objects e name) (text-order-to-is objects e name)
 
 pub to-lengths : (objects : List Named) (e : Entry) (name : List ℕ) (o : Ordering) → o ≡ nat_cmp e.name.length (length name % 2 ^ 32) → (o ≡ Equal → ⊥) → o ≡ text_order_to objects e name
-to-lengths objects e name o = by-first o (nat_cmp e.name.length (length name % 2 ^ 32)) (slice_cmp nat_cmp (text_at objects e) name) (text_order_to objects e name) (text-order-to-is objects e name)
+to-lengths objects e name o = by-first o (nat_cmp e.name.length (length name % 2 ^ 32)) (bytes_order_to objects e name) (text_order_to objects e name) (text-order-to-is objects e name)
 
 order-to-is : (objects : List Named) (e : Entry) (name : List ℕ) → order_to objects e name ≡ ordering_then (nat_cmp e.name.key (key_of name)) (text_order_to objects e name)
 unfolding rank rank_of_name

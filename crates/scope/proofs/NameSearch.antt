@@ -1,5 +1,5 @@
 -- The search for a name whose key and length are known.
-use Rattle.std.proofs.Common.{◌≡◌, ℕ, zero, suc, None, Some, ⊎_elim, ◌+◌, ◌<◌, ◌≤◌, ◌%◌, ◌^◌, Bool, true, false, List, ◌∷◌, length, arith, refl, sym, ap, ◌∙◌, subst, get_or}
+use Rattle.std.proofs.Common.{◌≡◌, ℕ, zero, suc, None, Some, ⊎_elim, ◌+◌, ◌<◌, ◌≤◌, ◌%◌, ◌^◌, Bool, true, false, List, ◌∷◌, length, reverse, arith, refl, sym, ap, ◌∙◌, subst, get_or}
 use Rattle.std.specs.List.{All, AllWithin}
 use Rattle.std.specs.List.Sorted.{IsPartitionedBy, IsPartitionPoint}
 use Rattle.std.specs.Option.{option_map}
@@ -61,8 +61,8 @@ wanted-rank : (objects : List Named) (w : Entry) → IsNameOf objects w → rank
 unfolding rank text rank_of_name text_of_name named
 wanted-rank objects w is =
     let name : List ℕ = name_of (file_at objects w.object) w.name.symbol in
-    ap (λ (n : KeyedName). n.key ∷ n.length ∷ text_at objects w) is.is
-    ∙ ap (λ t. key_of (name_of (file_at objects w.object) w.name.symbol) ∷ (length (name_of (file_at objects w.object) w.name.symbol) % 2 ^ 32) ∷ t) (text-is objects w is.there)
+    ap (λ (n : KeyedName). n.key ∷ n.length ∷ reverse (text_at objects w)) is.is
+    ∙ ap (λ t. key_of (name_of (file_at objects w.object) w.name.symbol) ∷ (length (name_of (file_at objects w.object) w.name.symbol) % 2 ^ 32) ∷ reverse t) (text-is objects w is.there)
 
 -- the order of an entry and of a symbol's name
 pub wanted-order : (objects : List Named) (e w : Entry) → IsNameOf objects w

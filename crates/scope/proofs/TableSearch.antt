@@ -1,5 +1,5 @@
 -- What a search in a table of all exported names finds.
-use Rattle.std.proofs.Common.{◌≡◌, ℕ, ◌+◌, ◌<◌, ◌≤◌, ◌%◌, ◌^◌, Bool, true, false, cond, List, [], ◌∷◌, length, map, arith, refl, sym, ap, ◌∙◌, subst, get_or, Some, None, ⊎_elim}
+use Rattle.std.proofs.Common.{◌≡◌, ℕ, ◌+◌, ◌<◌, ◌≤◌, ◌%◌, ◌^◌, Bool, true, false, cond, List, [], ◌∷◌, length, map, reverse, arith, refl, sym, ap, ◌∙◌, subst, get_or, Some, None, ⊎_elim}
 use Rattle.std.specs.List.{All}
 use Rattle.std.specs.List.Sorted.{IsSortedBy, IsPartitionedBy, IsPartitionPoint}
 use Rattle.std.specs.Option.{option_map}
@@ -10,7 +10,7 @@ use Rattle.std.specs.declared.cmp.Ordering.TheVariants.{Less, Equal, Greater}
 use Rattle.std.proofs.lemmas.Bool.{cases_lt, lt-ltb, false≢true}
 use Rattle.std.proofs.lemmas.Map.Keys.{ge_from_not_lt}
 use Rattle.std.proofs.lemmas.Cmp.{nat_list_cmp_total, nat_cmp_total, then_total, on_total, tied_itself}
-use Rattle.std.proofs.lemmas.List.{get_or-map}
+use Rattle.std.proofs.lemmas.List.{get_or-map, reverse-reverse}
 use Rattle.std.proofs.lemmas.List.Elements.{All-from_get_or}
 use Rattle.std.proofs.lemmas.Map.Lookups.{exact_bytes}
 use Rattle.std.proofs.lemmas.List.Sorted.{All-permutation, IsPermutation-sym, searchable_from_sorted, sorted_far, ranks_by}
@@ -83,7 +83,10 @@ IsNamed objects name e = order_to objects e name ≡ Equal
 -- its text is that name
 named-text : (objects : List Named) (name : List ℕ) (e : Entry) → IsNamed objects name e → text_at objects e ≡ name
 unfolding rank text rank_of_name text_of_name
-named-text objects name e is = let same = exact_bytes (rank objects e) (rank_of_name name) is in cc
+named-text objects name e is =
+    let same = exact_bytes (rank objects e) (rank_of_name name) is in
+    let backs : reverse (text_at objects e) ≡ reverse name = cc in
+    sym (reverse-reverse (text_at objects e)) ∙ ap reverse backs ∙ reverse-reverse name
 
 -- Where a search ends, and what stands there. An entry of the name that is looked for stands at or behind that place; then
 -- the entry at the place has that name too, and its object comes no later.
@@ -132,8 +135,8 @@ unfolding rank text rank_of_name text_of_name named
 named-entry objects name place i lt same =
     let text = text-is objects (entry_at place (named (file_at objects place) i)) lt ∙ same in
     let ranks : rank objects (entry_at place (named (file_at objects place) i)) ≡ rank_of_name name =
-    ap (λ t. key_of (name_of (file_at objects place) i) ∷ (length (name_of (file_at objects place) i) % 2 ^ 32) ∷ t) text
-    ∙ ap (λ n. key_of n ∷ (length n % 2 ^ 32) ∷ name) same in
+    ap (λ t. key_of (name_of (file_at objects place) i) ∷ (length (name_of (file_at objects place) i) % 2 ^ 32) ∷ reverse t) text
+    ∙ ap (λ n. key_of n ∷ (length n % 2 ^ 32) ∷ reverse name) same in
     ap (λ l. slice_cmp nat_cmp l (rank_of_name name)) ranks ∙ tied_itself nat_list_cmp_total (rank_of_name name)
 
 pub taken-at : (objects : List Named) (place : ℕ) → All (λ (o : Named). IsTaken o.file) objects → place < length objects → IsTaken (file_at objects place)

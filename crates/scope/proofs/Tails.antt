@@ -1,18 +1,22 @@
 -- Names that are tails of names, and their order.
-use Rattle.std.proofs.Common.{◌≡◌, ℕ, ◌<◌, ◌≤◌, ◌+◌, Bool, true, false, cond, List, [], ◌∷◌, length, take, drop, arith, refl, sym, ap, ◌∙◌, suc, zero, eqb, get_or, Some}
-use Rattle.std.specs.Prelude.{not, slice_get}
+use Rattle.std.proofs.Common.{◌≡◌, ◌≢◌, ℕ, ◌<◌, ◌≤◌, ◌+◌, Bool, true, false, cond, List, [], ◌∷◌, length, take, drop, arith, refl, sym, ap, ◌∙◌, suc, zero, eqb, get_or, Some, ⊎_elim}
+use Rattle.std.specs.Prelude.{not, reverse, slice_get}
 use Rattle.std.specs.List.{prefix_len}
 use Rattle.std.specs.Cmp.Lexicographic.{slice_cmp}
+use Rattle.std.specs.Cmp.{nat_cmp_is}
 use Rattle.std.specs.Ordering.{nat_cmp, ordering_then}
-use Rattle.std.specs.declared.cmp.Ordering.TheVariants.{Equal}
-use Rattle.std.proofs.lemmas.Cmp.{nat_cmp_total, tied_itself}
-use Rattle.std.proofs.lemmas.List.{drop-drop}
+use Rattle.std.specs.declared.cmp.Ordering.{Ordering}
+use Rattle.std.specs.declared.cmp.Ordering.TheVariants.{Less, Equal, Greater}
+use Rattle.std.proofs.lemmas.Bool.{cases_lt}
+use Rattle.std.proofs.lemmas.Cmp.{nat_list_cmp_total, tied_itself}
+use Rattle.std.proofs.lemmas.List.{drop-drop, length-reverse}
 use Rattle.elf_dynamic.specs.Symbol.{symbols}
 use Rattle.elf_dynamic.specs.declared.symbol.Symbol.{Symbol}
 use Rattle.elf_dynamic.specs.Strings.{string_table, string_at}
 use Rattle.hash_check.proofs.NameLengths.{name-by-symbol}
 use Rattle.scope.specs.Objects.{Named, file_at}
 use Rattle.scope.specs.declared.entry.Entry.{Entry}
+use Rattle.scope.specs.inside.Compared.{IsCommonEnd, IsTail}
 use Rattle.scope.specs.inside.Entries.{text_at}
 use Rattle.scope.proofs.TableSearch.{text-is}
 
@@ -44,15 +48,59 @@ string-tail table at d le =
     let p : ℕ → Bool = λ b. not (eqb b 0) in
     ap (λ l. take (prefix_len (λ b. not (eqb b 0)) l) l) (sym (drop-drop d at table)) ∙ tail-passes (λ b. not (eqb b 0)) (drop at table) d le
 
--- two lists that agree in front are in the order of their tails
-pub tails-order : (xs ys : List ℕ) (n d : ℕ) → d ≤ n → n ≤ length xs → n ≤ length ys → ((k : ℕ) → k < n → get_or xs k 0 ≡ get_or ys k 0)
-    → slice_cmp nat_cmp (drop d xs) (drop d ys) ≡ slice_cmp nat_cmp xs ys
-tails-order xs ys n zero le first second agree = refl
-tails-order [] ys n (suc d) le first second agree = absurd (omega (arith, le, first))
-tails-order (x ∷ xs) [] n (suc d) le first second agree = absurd (omega (arith, le, second))
-tails-order (x ∷ xs) (y ∷ ys) zero (suc d) le first second agree = absurd (omega (arith, le))
-tails-order (x ∷ xs) (y ∷ ys) (suc n) (suc d) le first second agree =
-    let same : x ≡ y = agree zero (omega arith) in
-    let equal : nat_cmp x y ≡ Equal = ap (nat_cmp x) (sym same) ∙ tied_itself nat_cmp_total x in
-    tails-order xs ys n d (omega (arith, le)) (omega (arith, first)) (omega (arith, second)) (λ k lt. agree (suc k) (omega (arith, lt)))
-    ∙ sym (ap (λ o. ordering_then o (slice_cmp nat_cmp xs ys)) equal)
+differ-first : (x y : ℕ) (r s : Ordering) → x ≢ y → ordering_then (nat_cmp x y) r ≡ ordering_then (nat_cmp x y) s
+differ-first x y r s other = ⊎_elim
+    (λ lt. ap (λ o. ordering_then o r) (sym (nat_cmp_is x y Less lt)) ∙ ap (λ o. ordering_then o s) (nat_cmp_is x y Less lt))
+    (λ ge. let gt : y < x = omega (arith, ge, other) in ap (λ o. ordering_then o r) (sym (nat_cmp_is x y Greater gt)) ∙ ap (λ o. ordering_then o s) (nat_cmp_is x y Greater gt))
+    (cases_lt x y)
+
+-- fronts of two lists that are longer than what these agree in are in their order
+fronts-order : (xs ys : List ℕ) (n p q : ℕ) → n < p → n < q → p ≤ length xs → q ≤ length ys
+    → ((k : ℕ) → k < n → get_or xs k 0 ≡ get_or ys k 0) → get_or xs n 0 ≢ get_or ys n 0
+    → slice_cmp nat_cmp (take p xs) (take q ys) ≡ slice_cmp nat_cmp xs ys
+fronts-order xs ys n zero q low high first second agree differ = absurd (omega (arith, low))
+fronts-order xs ys n (suc p) zero low high first second agree differ = absurd (omega (arith, high))
+fronts-order [] ys n (suc p) (suc q) low high first second agree differ = absurd (omega (arith, first))
+fronts-order (x ∷ xs) [] n (suc p) (suc q) low high first second agree differ = absurd (omega (arith, second))
+fronts-order (x ∷ xs) (y ∷ ys) zero (suc p) (suc q) low high first second agree differ =
+    differ-first x y (slice_cmp nat_cmp (take p xs) (take q ys)) (slice_cmp nat_cmp xs ys) differ
+fronts-order (x ∷ xs) (y ∷ ys) (suc n) (suc p) (suc q) low high first second agree differ =
+    ap (ordering_then (nat_cmp x y))
+    (fronts-order xs ys n p q (omega (arith, low)) (omega (arith, high)) (omega (arith, first)) (omega (arith, second)) (λ k lt. agree (suc k) (omega (arith, lt))) differ)
+
+-- fronts of one length within what two lists agree in are equal
+fronts-equal : (xs ys : List ℕ) (n p : ℕ) → p ≤ n → n ≤ length xs → n ≤ length ys → ((k : ℕ) → k < n → get_or xs k 0 ≡ get_or ys k 0) → take p xs ≡ take p ys
+fronts-equal xs ys n zero le first second agree = refl
+fronts-equal [] ys n (suc p) le first second agree = absurd (omega (arith, le, first))
+fronts-equal (x ∷ xs) [] n (suc p) le first second agree = absurd (omega (arith, le, second))
+fronts-equal (x ∷ xs) (y ∷ ys) zero (suc p) le first second agree = absurd (omega (arith, le))
+fronts-equal (x ∷ xs) (y ∷ ys) (suc n) (suc p) le first second agree =
+    ap (λ l. l ∷ take p xs) (agree zero (omega arith))
+    ∙ ap (λ l. y ∷ l) (fronts-equal xs ys n p (omega (arith, le)) (omega (arith, first)) (omega (arith, second)) (λ k lt. agree (suc k) (omega (arith, lt))))
+
+-- texts by their bytes from the last one on
+abbrev pub back_order : List ℕ → List ℕ → Ordering
+back_order a b = slice_cmp nat_cmp (reverse a) (reverse b)
+
+fronts-of : (a b s t : List ℕ) (p q : ℕ) → IsTail a s p → IsTail b t q → slice_cmp nat_cmp (take p (reverse a)) (take q (reverse b)) ≡ back_order s t
+fronts-of a b s t p q first second = ap (λ l. slice_cmp nat_cmp l (take q (reverse b))) (sym first.is) ∙ ap (slice_cmp nat_cmp (reverse s)) (sym second.is)
+
+-- tails of one length within the last bytes in which two texts agree are equal
+pub tails-equal : (a b s t : List ℕ) (n p q : ℕ) → IsCommonEnd a b n → IsTail a s p → IsTail b t q → p ≡ q → p ≤ n → Equal ≡ back_order s t
+tails-equal a b s t n p q common first second same le =
+    let one : length (reverse a) ≡ length a = length-reverse a in
+    let other : length (reverse b) ≡ length b = length-reverse b in
+    let fronts : take p (reverse a) ≡ take p (reverse b) =
+    fronts-equal (reverse a) (reverse b) n p le (omega (arith, one, common.first)) (omega (arith, other, common.second)) common.agree in
+    let equal : reverse s ≡ reverse t = first.is ∙ fronts ∙ ap (λ k. take k (reverse b)) same ∙ sym second.is in
+    sym (tied_itself nat_list_cmp_total (reverse s)) ∙ ap (slice_cmp nat_cmp (reverse s)) equal
+
+-- tails that are longer than what two texts agree in are in the order of these
+pub tails-order : (a b s t : List ℕ) (n p q : ℕ) → IsCommonEnd a b n → IsTail a s p → IsTail b t q → n < p → n < q → back_order a b ≡ back_order s t
+tails-order a b s t n p q common first second low high =
+    let one : length (reverse a) ≡ length a = length-reverse a in
+    let other : length (reverse b) ≡ length b = length-reverse b in
+    let n_first : n < length a = omega (arith, low, first.within) in
+    let n_second : n < length b = omega (arith, high, second.within) in
+    sym (fronts-order (reverse a) (reverse b) n p q low high (omega (arith, one, first.within)) (omega (arith, other, second.within)) common.agree (common.differ n_first n_second))
+    ∙ fronts-of a b s t p q first second

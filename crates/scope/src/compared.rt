@@ -1,16 +1,17 @@
 // Comparisons of names that are kept for names that are tails of them.
 
-ghost use Rattle.std.specs.Prelude.{◌≡◌, ◌<◌, ◌≤◌, ℕ, length, drop, slice_index, IfSome};
+ghost use Rattle.std.specs.Prelude.{◌≡◌, ◌≤◌, length, drop, IfSome};
 ghost use Rattle.elf_dynamic.specs.Strings.{string_table, string_at};
 ghost use Rattle.scope.specs.Objects.{file_at};
-ghost use Rattle.scope.specs.inside.Compared.{IsCompared, IsKept, IsNameOf, bytes_order};
+ghost use Rattle.scope.specs.inside.Compared.{IsCommonEnd, IsTail, IsCompared};
+ghost use Rattle.scope.specs.inside.Compared.{IsKept, IsNameOf, bytes_order};
 ghost use Rattle.scope.specs.inside.Entries.{text_at};
 
 use crate::entry::{Entry, known_text_at};
 use crate::loaded::LoadedObject;
 use std::cmp::Ordering;
 
-/// Two names that were compared: how many of their first bytes are known to agree, and their order.
+/// Two names that were compared: in how many of their last bytes they agree, and their order.
 #[derive(Clone, Copy)]
 pub(crate) struct Compared {
     first: Entry,
@@ -51,44 +52,59 @@ fn shift(objects: &[LoadedObject<'_>], name: Entry, tail: Entry) -> Option<usize
     }
 }
 
-/// The order of two names, where they are tails of two that were compared, from one place on up to
-/// which those agree: it is that of the two.
+/// The length of a name that is a tail of another one; none where it isn't known to be one.
+fn tail_length(objects: &[LoadedObject<'_>], name: Entry, tail: Entry) -> Option<usize>
+    requires name { IsNameOf objects.now name }
+    requires tail { IsNameOf objects.now tail }
+    ensures { IfSome result (IsTail (text_at objects.now name) (text_at objects.now tail)) }
+{
+    let skipped = shift(objects, name, tail)?;
+    if skipped <= known_text_at(objects, name).len() {
+        Some(known_text_at(objects, tail).len())
+    } else {
+        None
+    }
+}
+
+/// The order of two names, where they are tails of two that were compared. Tails of one length
+/// within the bytes in which those two agree are equal; tails that are both longer differ where
+/// those two do.
 pub(crate) fn order_of_tails(
     objects: &[LoadedObject<'_>],
     known: Compared,
     first: Entry,
     second: Entry,
 ) -> Option<Ordering>
-    requires { IsCompared objects.now known }
+    requires known { IsCompared objects.now known }
+    requires first { IsNameOf objects.now first }
+    requires second { IsNameOf objects.now second }
     ensures { IfSome result (λ order. order ≡ bytes_order objects.now first second) }
 {
-    match (
-        shift(objects, known.first, first),
-        shift(objects, known.second, second),
-    ) {
-        (Some(skipped), Some(also)) if skipped == also && skipped <= known.same => {
-            Some(known.order)
-        }
-        _ => None,
+    let a = tail_length(objects, known.first, first)?;
+    let b = tail_length(objects, known.second, second)?;
+    if a == b && a <= known.same {
+        Some(Ordering::Equal)
+    } else if known.same < a && known.same < b {
+        Some(known.order)
+    } else {
+        None
     }
 }
 
-/// In how many of their first bytes two names agree.
-fn agreement(a: &[u8], b: &[u8]) -> usize
-    ensures first { result ≤ length a.now }
-    ensures second { result ≤ length b.now }
-    ensures agree { (k : ℕ) → k < result → slice_index a.now k ≡ slice_index b.now k }
+/// In how many of their last bytes two names agree.
+fn common_end(a: &[u8], b: &[u8]) -> usize
+    ensures { IsCommonEnd a.now b.now result }
 {
     let shorter = a.len().min(b.len());
     for i in 0..shorter {
-        if a[i] != b[i] {
+        if a[a.len() - 1 - i] != b[b.len() - 1 - i] {
             return i;
         }
     }
     shorter
 }
 
-/// Compares two names, byte by byte.
+/// Compares two names, byte by byte from the last ones on.
 pub(crate) fn compare_bytes(objects: &[LoadedObject<'_>], first: Entry, second: Entry) -> Compared
     requires first { IsNameOf objects.now first }
     requires second { IsNameOf objects.now second }
@@ -102,13 +118,13 @@ pub(crate) fn compare_bytes(objects: &[LoadedObject<'_>], first: Entry, second: 
     Compared {
         first,
         second,
-        same: agreement(a, b),
-        order: a.cmp(b),
+        same: common_end(a, b),
+        order: a.iter().rev().cmp(b.iter().rev()),
     }
 }
 
-/// The order of two names by their bytes. Where it follows from what is kept, none is read; else
-/// this comparison is kept.
+/// The order of two names by their bytes from the last one on. Where it follows from what is kept,
+/// none is read; else this comparison is kept.
 pub(crate) fn compare_kept(
     objects: &[LoadedObject<'_>],
     kept: &mut Option<Compared>,

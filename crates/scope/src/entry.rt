@@ -37,18 +37,22 @@ pub(crate) fn known_text_at<'a>(objects: &[LoadedObject<'a>], entry: Entry) -> &
     objects[entry.object].object().text_of(entry.name)
 }
 
-/// The order of two names of one key: by their lengths, then by their bytes. No byte of two names
-/// of different lengths is read.
+/// The order of two names of one key: by their lengths, then by their bytes from the last one on.
+/// No byte of two names of different lengths is read.
 fn compare_texts(objects: &[LoadedObject<'_>], a: Entry, b: Entry) -> Ordering
     ensures { result ≡ text_order objects.now a b }
 {
     match a.name.length.cmp(&b.name.length) {
-        Ordering::Equal => text_at(objects, a).cmp(text_at(objects, b)),
+        Ordering::Equal => {
+            let (a, b) = (text_at(objects, a), text_at(objects, b));
+            a.iter().rev().cmp(b.iter().rev())
+        }
         other => other,
     }
 }
 
-/// The order of two names: by their keys, then by their lengths, then by their bytes.
+/// The order of two names: by their keys, then by their lengths, then by their bytes from the last
+/// one on.
 fn compare_names(objects: &[LoadedObject<'_>], a: Entry, b: Entry) -> Ordering
     ensures { result ≡ name_order objects.now a b }
 {
@@ -68,12 +72,13 @@ pub(crate) fn compare(objects: &[LoadedObject<'_>], a: Entry, b: Entry) -> Order
     }
 }
 
-/// The order of the name of an entry and of a name of the same key that is looked for.
+/// The order of the name of an entry and of a name of the same key that is looked for: by their
+/// lengths, then by their bytes from the last one on.
 fn compare_text_to(objects: &[LoadedObject<'_>], entry: Entry, name: &[u8]) -> Ordering
     ensures { result ≡ text_order_to objects.now entry name.now }
 {
     match entry.name.length.cmp(&((name.len() % (1 << 32)) as u32)) {
-        Ordering::Equal => text_at(objects, entry).cmp(name),
+        Ordering::Equal => text_at(objects, entry).iter().rev().cmp(name.iter().rev()),
         other => other,
     }
 }

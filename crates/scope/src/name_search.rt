@@ -25,7 +25,8 @@ fn number_at(numbers: &[usize], place: usize) -> usize {
     }
 }
 
-/// The order of two names by their bytes, by the kept comparison of a number, if there is one.
+/// The order of two names by their bytes from the last one on, by the kept comparison of a number,
+/// if there is one.
 fn compare_in(
     objects: &[LoadedObject<'_>],
     kept: &mut Vec<Option<Compared>>,
@@ -50,7 +51,7 @@ fn compare_in(
     order
 }
 
-/// The order of two names of one key: by their lengths, then by their bytes.
+/// The order of two names of one key: by their lengths, then by their bytes from the last one on.
 fn compare_texts(
     objects: &[LoadedObject<'_>],
     kept: &mut Vec<Option<Compared>>,
@@ -71,8 +72,8 @@ fn compare_texts(
 }
 
 /// The order of the name of an entry and of a name that is looked for: by their keys, then by their
-/// lengths, then by their bytes, of which those are read that no kept comparison tells of. The one
-/// of this number is looked at.
+/// lengths, then by their bytes from the last one on, of which those are read that no kept
+/// comparison tells of. The one of this number is looked at.
 fn compare_names(
     objects: &[LoadedObject<'_>],
     kept: &mut Vec<Option<Compared>>,

@@ -1,5 +1,5 @@
 -- The exported names of all objects of an order, sorted to be searched. Nobody has to believe this.
-use Rattle.std.specs.Prelude.{ℕ, List, [], ◌∷◌, ◌%◌, ◌^◌, nat_lt, length, map, if◌then◌else◌}
+use Rattle.std.specs.Prelude.{ℕ, List, [], ◌∷◌, ◌%◌, ◌^◌, nat_lt, length, map, reverse, if◌then◌else◌}
 use Rattle.std.specs.List.{flat_map, range_with_len}
 use Rattle.std.specs.List.Sorted.{IsPermutation, IsSortedBy}
 use Rattle.std.specs.Cmp.Lexicographic.{slice_cmp}
@@ -29,14 +29,14 @@ entries_before objects place = flat_map (λ p. entries_in (file_at objects p) p)
 unfoldable pub text_at : List Named → Entry → List ℕ
 text_at objects e = if nat_lt e.object (length objects) then name_of (file_at objects e.object) e.name.symbol else []
 
--- names of one key by their lengths, then by their bytes
+-- names of one key by their lengths, then by their bytes from the last one on
 unfoldable pub text : List Named → Entry → List ℕ
-text objects e = e.name.length ∷ text_at objects e
+text objects e = e.name.length ∷ reverse (text_at objects e)
 
 abbrev pub text_order : List Named → Entry → Entry → Ordering
 text_order objects a b = slice_cmp nat_cmp (text objects a) (text objects b)
 
--- names by their keys, then by their lengths, then by their bytes
+-- names by their keys, then by their lengths, then by their bytes from the last one on
 unfoldable pub rank : List Named → Entry → List ℕ
 rank objects e = e.name.key ∷ text objects e
 
@@ -49,7 +49,7 @@ order objects a b = ordering_then (name_order objects a b) (nat_cmp a.object b.o
 
 -- a name that is looked for, in the same order
 unfoldable pub text_of_name : List ℕ → List ℕ
-text_of_name name = (length name % 2 ^ 32) ∷ name
+text_of_name name = (length name % 2 ^ 32) ∷ reverse name
 
 abbrev pub text_order_to : List Named → Entry → List ℕ → Ordering
 text_order_to objects e name = slice_cmp nat_cmp (text objects e) (text_of_name name)
