@@ -39,30 +39,28 @@ fn endings_of(
     ensures { IfOk result (λ v. AreEndings object.now names.now v.items) }
 {
     let mut endings = Vec::new(alloc);
-    let mut open: Option<Ending> = None;
+    if names.is_empty() {
+        return Ok(endings);
+    }
+    let mut open = Ending {
+        stretch: stretch_of(object, None, names[0].symbol),
+        first: 0,
+        past: 0,
+    };
     for number in 0..names.len() {
-        let last = match open {
-            Some(ending) => Some(ending.stretch),
-            None => None,
-        };
-        let stretch = stretch_of(object, last, names[number].symbol);
-        let mut first = number;
-        if let Some(ending) = open {
-            if ending.stretch.from == stretch.from {
-                first = ending.first;
-            } else {
-                endings.push(ending)?;
-            }
+        let stretch = stretch_of(object, Some(open.stretch), names[number].symbol);
+        let mut first = open.first;
+        if stretch.from != open.stretch.from {
+            endings.push(open)?;
+            first = number;
         }
-        open = Some(Ending {
+        open = Ending {
             stretch,
             first,
             past: number + 1,
-        });
+        };
     }
-    if let Some(ending) = open {
-        endings.push(ending)?;
-    }
+    endings.push(open)?;
     Ok(endings)
 }
 
