@@ -1,5 +1,5 @@
 #!/usr/bin/env python3
-"""Writes the list of programs whose names are tails of a few long strings, and its files.
+"""Writes the lists of libraries and programs whose names are tails of a few long strings, and their files.
 
     python3 crates/cases/make/tails.py
 
@@ -12,6 +12,7 @@ from dataclasses import dataclass
 
 import binds
 import samples
+from admission import admit
 from binder import Binder
 from binds import Bind, refused, text, write_list
 from samples import DEFINED, GLOBAL, OBJECT, R_64, R_GLOB_DAT, WEAK, Object, Symbol
@@ -103,6 +104,29 @@ def bound(bind, file, asker, words):
     return text(bind, file)
 
 
+def libraries():
+    """Libraries that export tails of strings which agree in all but one byte. The tails that begin behind it are equal."""
+    def exporting(name, *exports):
+        strings = tuple(of for _, of in exports)
+        return kept(name, giving(b'a', [gives(k, 0, n, of) for n, (tails, of) in enumerate(exports) for k in tails], strings))
+    bad, late = 'E28 DuplicateDefinition', BACK[0]
+    write_list('admission-tails.txt', [
+        ('Of two strings that differ in one byte the tails that have this byte are exported: no two are the same. A tail behind it is\n'
+         'the same of both strings, where both export it.', [
+             admit(exporting('tails-apart.so', (FRONT, STRING), (FRONT, OTHER)), ''),
+             admit(exporting('tails-behind.so', (FRONT, STRING), ([*FRONT, late], OTHER)), ''),
+             admit(exporting('tails-behind-both.so', ([*FRONT, late], STRING), ([*FRONT, late + 1], OTHER)), ''),
+             admit(exporting('tails-equal.so', ([*FRONT, late], STRING), ([*FRONT, late], OTHER)), bad)]),
+        ('Of two equal strings the tails are exported in turn; then one of both.', [
+            admit(exporting('tails-in-turn.so', (FRONT[::2], STRING), (FRONT[1::2], STRING)), ''),
+            admit(exporting('tails-in-turn-equal.so', (FRONT[::2], STRING), ([*FRONT[1::2], 8], STRING)), bad)]),
+        ('A third string that differs in one byte from two equal ones: the same tail of the first and the last, and of all three.', [
+             admit(exporting('tails-between.so', (FRONT[::2], STRING), (FRONT, OTHER), (FRONT[1::2], STRING)), ''),
+             admit(exporting('tails-around.so', ([*FRONT[::2], late], STRING), (FRONT, OTHER), ([*FRONT[1::2], late], STRING)), bad),
+             admit(exporting('tails-all-three.so', (FRONT[::2], STRING), ([*FRONT, late + 2], OTHER), ([*FRONT[1::2], late + 2], STRING)), bad)]),
+    ])
+
+
 def lists():
     all_tails = [*FRONT, *BACK]
     at = {k: 8 * i for i, k in enumerate(all_tails)}
@@ -141,4 +165,5 @@ def lists():
 
 
 if __name__ == '__main__':
+    libraries()
     lists()

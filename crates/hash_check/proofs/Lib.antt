@@ -5,6 +5,11 @@ pub mod Climbing
 pub mod StepsLeft
 pub mod Joining
 pub mod Hashing
+pub mod Backs
+pub mod Stretches
+pub mod Taking
+pub mod Marking
+pub mod Gathering
 pub mod Starting
 pub mod Sorting
 pub mod Exported

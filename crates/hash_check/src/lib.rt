@@ -11,6 +11,7 @@ mod admitted_file;
 mod buckets;
 mod chains;
 mod duplicates;
+mod endings;
 mod export;
 mod exported_names;
 mod file;
@@ -29,6 +30,7 @@ mod refusal;
 mod search;
 mod soname;
 mod table;
+mod twins;
 mod walk;
 
 pub use admitted::Admitted;

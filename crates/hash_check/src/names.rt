@@ -7,20 +7,22 @@ ghost use Rattle.elf_dynamic.specs.Strings.{name_of};
 ghost use Rattle.hash_check.specs.KeyedName.{named};
 ghost use Rattle.hash_check.specs.inside.Names.{IsSymbol, IsLengthOf, offset_of, IsStretch};
 ghost use Rattle.hash_check.specs.inside.Names.{BeginsIn, text_order, order, Rises, AllDiffer};
-ghost use Rattle.hash_check.specs.inside.Names.{IsTableOf};
+ghost use Rattle.std.specs.List.Sorted.{IsPermutation, IsSortedBy};
+ghost use Rattle.std.specs.Ordering.{is_lt};
 ghost use Rattle.hash_check.specs.Key.{key_of};
 
 use crate::key::key_of;
 use crate::keyed_name::KeyedName;
+use crate::twins::differ;
 use elf_dynamic::Object;
 use std::alloc::{AllocError, Global};
 use std::cmp::Ordering;
 
 /// A string of the string table: where it begins, and how many bytes it has.
 #[derive(Clone, Copy)]
-struct Stretch {
-    from: u32,
-    length: usize,
+pub(crate) struct Stretch {
+    pub(crate) from: u32,
+    pub(crate) length: usize,
 }
 
 /// Where the name of a symbol begins in the string table; 0 for a number that is no symbol's.
@@ -47,7 +49,7 @@ pub(crate) fn name_at<'a>(object: &Object<'a>, i: u32) -> &'a [u8]
 
 /// A stretch in which the name of a symbol begins: that of the symbol before, where it does, and
 /// else its own.
-fn stretch_of(object: &Object<'_>, last: Option<Stretch>, i: u32) -> Stretch
+pub(crate) fn stretch_of(object: &Object<'_>, last: Option<Stretch>, i: u32) -> Stretch
     requires symbol { IsSymbol object.now i }
     requires last { ForSome last (IsStretch object.now) }
     ensures stretch { IsStretch object.now result }
@@ -161,23 +163,37 @@ fn rise(object: &Object<'_>, names: &[KeyedName]) -> bool
     true
 }
 
-/// The names of symbols in their order. It takes 16 bytes a name. Names of one key and one length
-/// at different places share no byte, so where the symbols are sorted by the places of their
-/// names, and all of these differ, each byte of the string table is compared some log n times.
-fn sorted_names(
-    alloc: Global,
-    object: &Object<'_>,
-    symbols: &[u32],
-) -> Result<Vec<KeyedName>, AllocError>
-    requires { All (IsSymbol object.now) symbols.now }
-    ensures { IfOk result (λ names. IsTableOf object.now symbols.now names.items) }
+/// Names in their order. Names of one key and one length at different places share no byte: so
+/// where names share none with shorter ones, each byte of the string table is compared some log n
+/// times.
+fn sorted_names(object: &Object<'_>, mut names: Vec<KeyedName>) -> Vec<KeyedName>
+    ensures moved { IsPermutation names.items result.items }
+    ensures sorted { IsSortedBy (λ a b. is_lt (order object.now a b)) result.items }
 {
-    let mut names = names_of(alloc, object, symbols)?;
     names.sort_unstable_by(|a, b| compare(object, *a, *b));
-    Ok(names)
+    names
 }
 
-/// Whether no two of some symbols have the same name, by sorting the names.
+/// Whether names have more bytes than twice the string table and 64 KiB, so that many of them are
+/// tails of others.
+fn share_bytes(object: &Object<'_>, names: &[KeyedName]) -> bool {
+    let mut left = object
+        .string_table()
+        .len()
+        .saturating_mul(2)
+        .saturating_add(65_536);
+    for name in names {
+        let length = name.length as usize;
+        if length > left {
+            return true;
+        }
+        left -= length;
+    }
+    false
+}
+
+/// Whether no two of some symbols have the same name, by sorting the names, or the strings that
+/// they are tails of. Names take 16 bytes each.
 pub(crate) fn all_differ(
     alloc: Global,
     object: &Object<'_>,
@@ -186,6 +202,12 @@ pub(crate) fn all_differ(
     requires { All (IsSymbol object.now) symbols.now }
     ensures { IfOk result (λ differ. IsTrue differ ↔ AllDiffer object.now symbols.now) }
 {
-    let names = sorted_names(alloc, object, symbols)?;
+    let names = names_of(alloc, object, symbols)?;
+    if share_bytes(object, &names) {
+        if let Some(differ) = differ(alloc, object, &names)? {
+            return Ok(differ);
+        }
+    }
+    let names = sorted_names(object, names);
     Ok(rise(object, &names))
 }
