@@ -3,7 +3,7 @@ use Rattle.std.proofs.Common.{◌≡◌, ◌≢◌, ℕ, ◌<◌, ◌≤◌, ◌
 use Rattle.std.specs.Prelude.{not}
 use Rattle.std.specs.List.{take_while, prefix_len}
 use Rattle.std.specs.Str.{bytes_eq}
-use Rattle.std.proofs.lemmas.Bool.{cases_lt}
+use Rattle.std.proofs.lemmas.Bool.{cases_lt, cases_eq}
 use Rattle.std.proofs.lemmas.Bool.Decides.{eqb_tells}
 use Rattle.std.proofs.lemmas.List.{take_rest, drop_min, take_all, take_min, length-take-le}
 use Rattle.std.proofs.lemmas.List.Sums.{prefix_len-le-length}
@@ -119,3 +119,27 @@ pub front_tells : (s name : List ℕ) → bytes_eq (take (length name + 1) s) na
 front_tells s name = both-ways (bytes_eq (take (length name + 1) s) name) (bytes_eq s name)
     (λ e. (bytes_eq-Decides s name).1 (whole-from-front s name ((bytes_eq-Decides (take (length name + 1) s) name).0 e)))
     (λ e. (bytes_eq-Decides (take (length name + 1) s) name).1 (front-from-whole s name ((bytes_eq-Decides s name).0 e)))
+
+ends-step : (b : Bool) (x n m : ℕ) (xs : List ℕ) → is_text x ≡ b → cond b (1 + m) 0 ≡ n → n < length (x ∷ xs) → (m < length xs → get_or xs m 0 ≡ 0) → get_or (x ∷ xs) n 0 ≡ 0
+ends-step true x n m xs b is lt rest = let at : n ≡ suc m = omega (arith, is) in ap (λ k. get_or (x ∷ xs) k 0) at ∙ rest (omega (arith, lt, at))
+ends-step false x n m xs b is lt rest =
+    ap (λ k. get_or (x ∷ xs) k 0) (sym is) ∙ elim (cases_eq x 0) [ inl e ↦ e | inr ne ↦ let wrong : true ≡ false = sym (text-other x ne) ∙ b in absurd (cc) ]
+
+-- what stands behind the bytes before the first zero byte
+ends-there : (xs : List ℕ) → prefix_len is_text xs < length xs → get_or xs (prefix_len is_text xs) 0 ≡ 0
+ends-there [] lt = absurd (omega (arith, lt))
+ends-there (x ∷ xs) lt = ends-step (is_text x) x (prefix_len is_text (x ∷ xs)) (prefix_len is_text xs) xs refl refl lt (ends-there xs)
+
+-- a string that ends before the table does has a zero byte behind it
+pub no-end : (table : List ℕ) (off m size : ℕ) → m ≡ min off (length table) → size < length (take (length table - m) (drop m table)) → eqb (get_or (take (length table - m) (drop m table)) size 0) 0 ≡ false
+    → length (string_at table off) ≡ size → ⊥
+unfolding string_at is_text
+no-end table off m size at lt other is =
+    let rest : take (length table - m) (drop m table) ≡ drop off table = take_rest table m ∙ ap (λ k. drop k table) at ∙ drop_min off table in
+    let d : List ℕ = drop off table in
+    let whole : length (take (prefix_len (λ b. not (eqb b 0)) (drop off table)) (drop off table)) ≡ prefix_len (λ b. not (eqb b 0)) (drop off table) =
+    length-take-le (prefix_len (λ b. not (eqb b 0)) (drop off table)) (drop off table) (prefix_len-le-length (λ b. not (eqb b 0)) (drop off table)) in
+    let here : prefix_len (λ b. not (eqb b 0)) (drop off table) ≡ size = sym whole ∙ is in
+    let zero-byte : get_or (drop off table) size 0 ≡ 0 = ap (λ k. get_or (drop off table) k 0) (sym here) ∙ ends-there d (omega (arith, lt, ap length rest, here)) in
+    let wrong : true ≡ false = ap (λ b. eqb b 0) (sym (ap (λ l. get_or l size 0) rest ∙ zero-byte)) ∙ other in
+    absurd (cc)

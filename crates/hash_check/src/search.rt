@@ -1,6 +1,6 @@
 // The search for a name by the hash table.
 
-ghost use Rattle.std.specs.Prelude.{◌≡◌, take};
+ghost use Rattle.std.specs.Prelude.{◌≡◌, ◌≢◌, false, length, take};
 ghost use Rattle.std.specs.Str.{bytes_eq};
 ghost use Rattle.elf_dynamic.specs.Strings.{string_at, name_of};
 ghost use Rattle.hash_check.specs.Hash.{elf_hash};
@@ -37,14 +37,26 @@ fn string_front(table: &[u8], offset: u32, limit: usize) -> &[u8]
     front
 }
 
-/// Whether the name of the symbol number `i` is this one. No byte is read past its length, also
-/// where the symbol's name is longer.
+/// Whether a string at an offset of a string table may have so many bytes: where one more stands,
+/// it is 0.
+fn may_end(table: &[u8], offset: u32, size: usize) -> bool
+    ensures { result ≡ false → length (string_at table.now offset) ≢ size }
+{
+    let rest = &table[(offset as usize).min(table.len())..];
+    size >= rest.len() || rest[size] == 0
+}
+
+/// Whether the name of the symbol number `i` is this one. One byte tells most names of other
+/// lengths: so of names that are tails of one string, one alone is read.
 fn is_named(object: &Object<'_>, i: u32, name: &[u8]) -> bool
     requires { IsSymbol object.now i }
     ensures { result ≡ bytes_eq (name_of object.now i) name.now }
 {
-    let limit = name.len() + 1;
-    string_front(object.string_table(), object.symbol(i).name, limit) == name
+    let (table, offset) = (object.string_table(), object.symbol(i).name);
+    if !may_end(table, offset, name.len()) {
+        return false;
+    }
+    string_front(table, offset, name.len() + 1) == name
 }
 
 /// Whether the symbol number `i` is exported under the name.
