@@ -6,6 +6,7 @@ pub mod AllEntries
 pub mod TableSearch
 pub mod Tails
 pub mod Classing
+pub mod Gathering
 pub mod NameSearch
 pub mod Apart
 pub mod Naming

@@ -45,6 +45,7 @@ pub record IsString (objects : List Named) (e : Ending) : Type 0 where
 
 -- names that are tails of one string
 pub record IsEnding (objects : List Named) (entries : List Entry) (e : Ending) : Type 0 where
+  pub range : e.first ≤ e.past
   pub within : e.past ≤ length entries
   pub tails : (k : ℕ) → IsIn k e → take (length (back objects entries k)) (ending_back objects e) ≡ back objects entries k
 
