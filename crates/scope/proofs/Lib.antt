@@ -5,6 +5,8 @@ pub mod EntryOrder
 pub mod AllEntries
 pub mod TableSearch
 pub mod Tails
+pub mod Classing
+pub mod Gathering
 pub mod NameSearch
 pub mod Apart
 pub mod Naming

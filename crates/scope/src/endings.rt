@@ -58,6 +58,7 @@ fn ending_of(objects: &[LoadedObject<'_>], name: Entry, number: usize) -> Option
     ensures tail { IfSome result (λ e. take (length (text_at objects.now name))
         (ending_back objects.now e) ≡ reverse (text_at objects.now name)) }
     ensures first { IfSome result (λ e. e.first ≡ number) }
+    ensures past { IfSome result (λ e. e.past ≡ number) }
 {
     let from = offset_of(objects, name)?;
     Some(Ending {
