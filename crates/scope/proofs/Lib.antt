@@ -10,7 +10,6 @@ pub mod Gathering
 pub mod NameSearch
 pub mod Apart
 pub mod Naming
-pub mod Backs
 pub mod Numbering
 pub mod Ranking
 pub mod Missing

@@ -1,12 +1,12 @@
 -- Names of an ending while they are given their numbers.
-use Rattle.std.proofs.Common.{◌≡◌, ◌≢◌, ℕ, zero, suc, eqb, ◌<◌, ◌≤◌, ◌+◌, Bool, true, false, cond, List, reverse, length, set, arith, refl, ◌∙◌, sym, ap, inl, inr, get_or, subst}
+use Rattle.std.proofs.Common.{◌≡◌, ◌≢◌, ℕ, zero, suc, eqb, ◌<◌, ◌≤◌, ◌+◌, false, cond, List, length, set, arith, refl, ◌∙◌, sym, ap, inl, inr, get_or, subst}
 use Rattle.std.proofs.lemmas.Bool.{cases_lt, cases_eq}
 use Rattle.std.proofs.lemmas.Bool.Decides.{eqb_tells}
 use Rattle.std.proofs.lemmas.List.{length-reverse, get_or-set_same, get_or-set_other}
 use Rattle.scope.specs.Objects.{Named}
 use Rattle.scope.specs.declared.entry.Entry.{Entry}
 use Rattle.scope.specs.inside.Entries.{text_at}
-use Rattle.scope.specs.inside.Endings.{nth_entry, back, pick, nth_number, HasLength, AreNumbered}
+use Rattle.scope.specs.inside.Endings.{nth_entry, back, pick, nth_number, AreNumbered}
 
 pub back-length : (objects : List Named) (entries : List Entry) (k : ℕ) → length (back objects entries k) ≡ length (text_at objects (nth_entry entries k))
 unfolding back

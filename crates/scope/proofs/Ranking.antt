@@ -1,20 +1,19 @@
 -- What the numbers of names say that were given from ending to ending.
-use Rattle.std.proofs.Common.{◌≡◌, ◌≢◌, ℕ, [], ◌∷◌, zero, suc, ◌<◌, ◌≤◌, ◌+◌, ◌-◌, true, false, List, take, reverse, length, arith, refl, ◌∙◌, sym, ap, inl, inr, ◌⊎◌, min, get_or, subst}
+use Rattle.std.proofs.Common.{◌≡◌, ◌≢◌, ℕ, [], ◌∷◌, zero, suc, ◌<◌, ◌≤◌, ◌+◌, ◌-◌, false, List, take, reverse, length, arith, refl, ◌∙◌, sym, ap, inl, inr, ◌⊎◌, min, get_or, subst}
 use Rattle.std.specs.Cmp.Lexicographic.{slice_cmp}
 use Rattle.std.specs.Cmp.{nat_cmp_is}
 use Rattle.std.specs.Ordering.{nat_cmp, ordering_then, ordering_reverse, is_lt}
 use Rattle.std.specs.declared.cmp.Ordering.{Ordering}
 use Rattle.std.specs.declared.cmp.Ordering.TheVariants.{Less, Equal, Greater}
-use Rattle.std.specs.List.{All, Any}
 use Rattle.std.proofs.lemmas.Bool.{cases_lt, cases_eq}
 use Rattle.std.proofs.lemmas.Cmp.{nat_cmp_total, nat_list_cmp_total, tied_itself}
 use Rattle.std.proofs.lemmas.List.{length-take, length-reverse, get_or_default}
 use Rattle.scope.specs.Objects.{Named}
 use Rattle.scope.specs.declared.entry.Entry.{Entry}
 use Rattle.scope.specs.declared.endings.Ending.{Ending}
-use Rattle.scope.specs.inside.Endings.{nth_entry, back, ending_bytes, ending_back, IsIn, IsEnding, AreEndings, AreSorted, pick, nth_number, HasLength, AreNumbered, AreClasses}
+use Rattle.scope.specs.inside.Endings.{nth_entry, back, ending_bytes, ending_back, IsIn, IsEnding, AreSorted, pick, nth_number, AreNumbered, AreClasses}
 use Rattle.scope.proofs.Numbering.{pick-none, pick-some}
-use Rattle.scope.proofs.Backs.{front-stays, front-before, order-through}
+use Rattle.hash_check.proofs.Backs.{front-stays, front-before, order-through}
 
 abbrev pub nth : List Ending → ℕ → Ending
 nth endings i = get_or endings i (record { object = 0; from = 0; length = 0; first = 0; past = 0 })

@@ -1,4 +1,4 @@
-use Rattle.std.proofs.Common.{◌≡◌, ◌+◌, ◌∙◌, ℕ, Bool, true, false, List, length, take, ap, sym, refl}
+use Rattle.std.proofs.Common.{◌≡◌, ◌+◌, ◌∙◌, ℕ, true, false, List, length, take, ap, sym, refl}
 use Rattle.std.specs.Str.{bytes_eq}
 use Rattle.std.proofs.lemmas.Slice.Eq.{bytes_eq-Decides}
 use Rattle.elf_dynamic.specs.Strings.{string_table, string_at, name_of}
@@ -13,7 +13,7 @@ returns-then-not-may_end c =
     let is : name_of file c.args.i ≡ string_at (string_table file) c.symbol.result.name = name-by-symbol file c.args.i c.symbol.result c.requires c.symbol.ensures.symbol in
     let other : bytes_eq (name_of file c.args.i) name ≡ true → ⊥ =
     λ e. c.may_end.ensures c.if-not-may_end.true
-      (ap (λ t. length (string_at t c.symbol.result.name)) c.string_table-table.ensures.table ∙ ap length (sym is) ∙ ap length ((bytes_eq-Decides (name_of file c.args.i) name).0 e)) in
+    (ap (λ t. length (string_at t c.symbol.result.name)) c.string_table-table.ensures.table ∙ ap length (sym is) ∙ ap length ((bytes_eq-Decides (name_of file c.args.i) name).0 e)) in
     elim (bytes_eq (name_of file c.args.i) name) as (λ b. bytes_eq (name_of file c.args.i) name ≡ b → false ≡ b) [ true ↦ λ e. absurd (other e) | false ↦ λ e. refl ] refl
 
 pub returns : goal.returns

@@ -1,4 +1,4 @@
-use Rattle.std.proofs.Common.{arith, sym}
+use Rattle.std.proofs.Common.{arith}
 use Rattle.hash_check.proofs.Fronts.{no-end}
 use Rattle.hash_check.proofs.search.may_end.Goals as goal
 

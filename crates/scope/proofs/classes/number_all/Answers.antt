@@ -1,4 +1,4 @@
-use Rattle.std.proofs.Common.{◌≡◌, ◌+◌, ◌-◌, ℕ, ap, sym, subst, arith, ◌∙◌}
+use Rattle.std.proofs.Common.{◌≡◌, ◌+◌, ◌-◌, ℕ, sym, subst, arith}
 use Rattle.scope.proofs.Ranking.{AreRanked, ranked-none, ranked-first, ranked-cut, ranked-on, classes-from-ranked}
 use Rattle.scope.proofs.classes.number_all.Goals.{then-i-gt0, else-i-gt0}
 use Rattle.scope.proofs.classes.number_all.Goals as goal

@@ -1,4 +1,4 @@
-use Rattle.std.proofs.Common.{◌≤◌, ◌≡◌, length}
+use Rattle.std.proofs.Common.{◌≤◌}
 use Rattle.scope.specs.inside.Endings.{AreNumbered}
 use Rattle.scope.proofs.classes.number_ending.Given as goal
 
