@@ -40,8 +40,8 @@ pub(crate) fn ending_bytes<'a>(objects: &[LoadedObject<'a>], ending: Ending) -> 
 /// Whether a name is a tail of a string.
 fn is_tail(objects: &[LoadedObject<'_>], ending: Ending, name: Entry) -> bool
     requires { IsString objects.now ending }
-    ensures { IsTrue result → take (length (text_at objects.now name)) (ending_back objects.now ending)
-        ≡ reverse (text_at objects.now name) }
+    ensures { IsTrue result → take (length (text_at objects.now name))
+        (ending_back objects.now ending) ≡ reverse (text_at objects.now name) }
 {
     match offset_of(objects, name) {
         Some(at) if name.object == ending.object && ending.from <= at => {
