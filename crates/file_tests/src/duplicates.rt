@@ -1,7 +1,7 @@
 // Two exported names beside each other: which are one name, and which are alike only.
 
 use crate::searches::library;
-use hash_check::{Admitted, FileRefusal, ReadRefusal};
+use hash_check::{Admitted, FileRefusal, ReadRefusal, common_end};
 use std::alloc::{AllocError, Global};
 use std::test::Fail;
 
@@ -90,4 +90,15 @@ fn refuses_equal_names(rt: HostRuntime) -> Result<(), Fail> {
         assert_eq!(rt; refusal, expected, "{first} and {second} of {strings:?}");
     }
     Ok(())
+}
+
+#[test]
+fn tells_what_strings_have_in_common(rt: HostRuntime) {
+    let told = (
+        common_end(b"abcd", b"xbcd"),
+        common_end(b"bcd", b"abcd"),
+        common_end(b"ab", b"ac"),
+        common_end(b"", b"a"),
+    );
+    assert_eq!(rt; told, (3, 3, 0, 0));
 }

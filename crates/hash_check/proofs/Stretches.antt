@@ -14,12 +14,12 @@ own-front : (n : ℕ) (xs : List ℕ) → take n xs ≡ take (length (take n xs)
 own-front n xs = sym (take_min n xs) ∙ ap (λ k. take k xs) (sym (length-take n xs))
 
 -- a string of the table is so many bytes of it as it is long
-string-bytes : (t : List ℕ) (at : ℕ) → string_at t at ≡ take (length (string_at t at)) (drop at t)
+pub string-bytes : (t : List ℕ) (at : ℕ) → string_at t at ≡ take (length (string_at t at)) (drop at t)
 unfolding string_at
 string-bytes t at = own-front _ (drop at t)
 
 -- the last bytes, read from the last one on, are the first ones so read
-reverse-drop : (k : ℕ) (xs : List ℕ) → reverse (drop k xs) ≡ take (length (drop k xs)) (reverse xs)
+pub reverse-drop : (k : ℕ) (xs : List ℕ) → reverse (drop k xs) ≡ take (length (drop k xs)) (reverse xs)
 reverse-drop k xs =
     let parts : reverse (drop k xs) ++ reverse (take k xs) ≡ reverse xs = sym (reverse-append (take k xs) (drop k xs)) ∙ ap reverse (take-append-drop k xs) in
     sym (take-append_seam (reverse (drop k xs)) (reverse (take k xs)))

@@ -8,6 +8,7 @@
 
 mod admitted;
 mod admitted_file;
+mod agreement;
 mod buckets;
 mod chains;
 mod duplicates;
@@ -35,6 +36,7 @@ mod walk;
 
 pub use admitted::Admitted;
 pub use admitted_file::AdmittedFile;
+pub use agreement::common_end;
 pub use file_refusal::{FileRefusal, ReadRefusal};
 pub use hash::elf_hash;
 pub use key::key_of;

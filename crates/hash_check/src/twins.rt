@@ -1,6 +1,6 @@
 // Whether names that share bytes differ.
 
-ghost use Rattle.std.specs.Prelude.{◌≡◌, ◌<◌, ◌≤◌, ◌↔◌, ℕ, length, take, reverse};
+ghost use Rattle.std.specs.Prelude.{◌≡◌, ◌<◌, ◌↔◌, ℕ, length};
 ghost use Rattle.std.specs.Prelude.{slice_index_or, false};
 ghost use Rattle.std.specs.Prelude.{IsTrue, None, IfOk, IfSome};
 ghost use Rattle.std.specs.List.{All};
@@ -9,6 +9,7 @@ ghost use Rattle.hash_check.specs.inside.Names.{AllDiffer};
 ghost use Rattle.hash_check.specs.inside.Endings.{IsNamed, IsEnding, AreSorted, DifferIn};
 ghost use Rattle.hash_check.specs.inside.Endings.{AreMarked, HasTwin, symbols_of};
 
+use crate::agreement::common_end;
 use crate::endings::{Ending, sorted_endings, stretch_bytes};
 use crate::keyed_name::KeyedName;
 use crate::names::text_of_name;
@@ -21,21 +22,6 @@ fn length_of(object: &Object<'_>, name: KeyedName) -> usize
     ensures { result ≡ length (name_of object.now name.symbol) }
 {
     text_of_name(object, name).len()
-}
-
-/// In how many of their last bytes two strings agree.
-fn common_end(a: &[u8], b: &[u8]) -> usize
-    ensures within { result ≤ length a.now }
-    ensures most { (n : ℕ) → n ≤ length a.now → n ≤ length b.now
-        → take n (reverse a.now) ≡ take n (reverse b.now) → n ≤ result }
-{
-    let shorter = a.len().min(b.len());
-    for i in 0..shorter {
-        if a[a.len() - 1 - i] != b[b.len() - 1 - i] {
-            return i;
-        }
-    }
-    shorter
 }
 
 /// Takes the marks of a range away, as far as there are any.

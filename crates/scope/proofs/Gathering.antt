@@ -3,34 +3,18 @@ use Rattle.std.proofs.Common.{◌≡◌, ℕ, ◌<◌, ◌≤◌, ◌+◌, ◌-�
 use Rattle.std.specs.List.{All, Any}
 use Rattle.std.specs.List.Sorted.{IsPermutation}
 use Rattle.std.proofs.lemmas.Bool.{cases_lt, lt-ltb}
-use Rattle.std.proofs.lemmas.List.{get_or_append_left, length-append, length-reverse, length-take, reverse-append, take-append-drop, take_all, take_min}
+use Rattle.std.proofs.lemmas.List.{get_or_append_left, length-append, length-reverse, take_all}
 use Rattle.std.proofs.lemmas.List.Quantifiers.{Any-push}
 use Rattle.std.proofs.lemmas.List.Elements.{All-nil, All-push}
 use Rattle.std.proofs.lemmas.List.Sorted.{All-permutation, Contains-permutation}
-use Rattle.std.proofs.Math.Seq.{take-append_seam}
 use Rattle.elf_dynamic.specs.Strings.{string_table, string_at}
 use Rattle.scope.specs.Objects.{Named, file_at}
 use Rattle.scope.specs.declared.entry.Entry.{Entry}
 use Rattle.scope.specs.declared.endings.Ending.{Ending}
 use Rattle.scope.specs.inside.Entries.{text_at}
 use Rattle.scope.specs.inside.Endings.{nth_entry, back, string_bytes, ending_back, IsIn, IsString, IsEnding, AreEndings}
+use Rattle.hash_check.proofs.Stretches.{string-bytes, reverse-drop}
 use Rattle.scope.proofs.Tails.{string-tail}
-
-own-front : (n : ℕ) (xs : List ℕ) → take n xs ≡ take (length (take n xs)) xs
-own-front n xs = sym (take_min n xs) ∙ ap (λ k. take k xs) (sym (length-take n xs))
-
--- a string of a table is so many bytes of it as it is long
-string-bytes : (table : List ℕ) (at : ℕ) → string_at table at ≡ take (length (string_at table at)) (drop at table)
-unfolding string_at
-string-bytes table at = own-front _ (drop at table)
-
--- the last bytes, read from the last one on, are the first ones so read
-reverse-drop : (k : ℕ) (xs : List ℕ) → reverse (drop k xs) ≡ take (length (drop k xs)) (reverse xs)
-reverse-drop k xs =
-    let parts : reverse (drop k xs) ++ reverse (take k xs) ≡ reverse xs = sym (reverse-append (take k xs) (drop k xs)) ∙ ap reverse (take-append-drop k xs) in
-    sym (take-append_seam (reverse (drop k xs)) (reverse (take k xs)))
-    ∙ ap (λ n. take n (reverse (drop k xs) ++ reverse (take k xs))) (length-reverse (drop k xs))
-    ∙ ap (take (length (drop k xs))) parts
 
 -- a name that begins within a string is its tail
 pub begins-within : (table name bytes : List ℕ) (from at : ℕ) → name ≡ string_at table at → bytes ≡ string_at table from → from ≤ at → at - from ≤ length bytes

@@ -9,7 +9,7 @@ use Rattle.std.specs.declared.cmp.Ordering.{Ordering}
 use Rattle.std.specs.declared.cmp.Ordering.TheVariants.{Less, Equal, Greater}
 use Rattle.std.proofs.lemmas.Bool.{cases_lt}
 use Rattle.std.proofs.lemmas.Cmp.{nat_list_cmp_total, tied_itself}
-use Rattle.std.proofs.lemmas.List.{drop-drop, length-reverse}
+use Rattle.std.proofs.lemmas.List.{drop-drop, length-reverse, get_or-take, take_more_same}
 use Rattle.elf_dynamic.specs.Symbol.{symbols}
 use Rattle.elf_dynamic.specs.declared.symbol.Symbol.{Symbol}
 use Rattle.elf_dynamic.specs.Strings.{string_table, string_at}
@@ -104,3 +104,16 @@ tails-order a b s t n p q common first second low high =
     let n_second : n < length b = omega (arith, high, second.within) in
     sym (fronts-order (reverse a) (reverse b) n p q low high (omega (arith, one, first.within)) (omega (arith, other, second.within)) common.agree (common.differ n_first n_second))
     ∙ fronts-of a b s t p q first second
+
+-- in how many of their last bytes two texts agree, element by element
+pub common-end-is : (a b : List ℕ) (n : ℕ) → n ≤ length a → n ≤ length b → take n (reverse a) ≡ take n (reverse b)
+    → ((m : ℕ) → m ≤ length a → m ≤ length b → take m (reverse a) ≡ take m (reverse b) → m ≤ n) → IsCommonEnd a b n
+common-end-is a b n first second agree most = record {
+  first = first;
+  second = second;
+  agree = λ k lt. sym (get_or-take n (reverse a) k 0 lt) ∙ ap (λ l. get_or l k 0) agree ∙ get_or-take n (reverse b) k 0 lt;
+  differ = λ la lb e.
+      let more : n + 1 ≤ n = most (n + 1) (omega (arith, la)) (omega (arith, lb))
+      (take_more_same (reverse a) (reverse b) n 0 (omega (arith, la, length-reverse a)) (omega (arith, lb, length-reverse b)) agree e) in
+      absurd (omega (arith, more));
+}

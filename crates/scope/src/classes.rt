@@ -1,6 +1,6 @@
 // Numbers that tell exported names of one length apart as their bytes do, from the last ones on.
 
-ghost use Rattle.std.specs.Prelude.{◌≡◌, ◌≢◌, ◌<◌, ◌≤◌, ◌+◌, ℕ, length, take, reverse};
+ghost use Rattle.std.specs.Prelude.{◌≡◌, ◌≢◌, ◌<◌, ◌≤◌, ◌+◌, ℕ, length};
 ghost use Rattle.std.specs.Prelude.{IsTrue, IfOk, IfSome};
 ghost use Rattle.std.specs.List.{All};
 ghost use Rattle.scope.specs.inside.Compared.{IsNameOf};
@@ -10,23 +10,8 @@ ghost use Rattle.scope.specs.inside.Endings.{AreNumbered, AreClasses};
 use crate::endings::{Ending, ending_bytes, sorted_endings};
 use crate::entry::{Entry, known_text_at};
 use crate::loaded::LoadedObject;
+use hash_check::common_end;
 use std::alloc::{AllocError, Global};
-
-/// In how many of their last bytes two strings agree.
-fn common_end(a: &[u8], b: &[u8]) -> usize
-    ensures first { result ≤ length a.now }
-    ensures agree { take result (reverse a.now) ≡ take result (reverse b.now) }
-    ensures most { (n : ℕ) → n ≤ length a.now → n ≤ length b.now
-        → take n (reverse a.now) ≡ take n (reverse b.now) → n ≤ result }
-{
-    let shorter = a.len().min(b.len());
-    for i in 0..shorter {
-        if a[a.len() - 1 - i] != b[b.len() - 1 - i] {
-            return i;
-        }
-    }
-    shorter
-}
 
 /// Takes the marks of a range away, as far as there are any.
 fn unmark(marks: &mut Vec<usize>, from: usize, past: usize)

@@ -9,6 +9,7 @@ ghost use Rattle.scope.specs.inside.Entries.{text_at};
 
 use crate::entry::{Entry, known_text_at};
 use crate::loaded::LoadedObject;
+use hash_check::common_end;
 use std::cmp::Ordering;
 
 /// Two names that were compared: in how many of their last bytes they agree, and their order.
@@ -89,19 +90,6 @@ pub(crate) fn order_of_tails(
     } else {
         None
     }
-}
-
-/// In how many of their last bytes two names agree.
-fn common_end(a: &[u8], b: &[u8]) -> usize
-    ensures { IsCommonEnd a.now b.now result }
-{
-    let shorter = a.len().min(b.len());
-    for i in 0..shorter {
-        if a[a.len() - 1 - i] != b[b.len() - 1 - i] {
-            return i;
-        }
-    }
-    shorter
 }
 
 /// Compares two names, byte by byte from the last ones on.

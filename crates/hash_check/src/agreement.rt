@@ -1,0 +1,20 @@
+// What two strings have in common at their ends.
+
+ghost use Rattle.std.specs.Prelude.{◌≡◌, ◌≤◌, ℕ, length, take, reverse};
+
+/// In how many of their last bytes two strings agree.
+pub fn common_end(a: &[u8], b: &[u8]) -> usize
+    ensures first { result ≤ length a.now }
+    ensures second { result ≤ length b.now }
+    ensures agree { take result (reverse a.now) ≡ take result (reverse b.now) }
+    ensures most { (n : ℕ) → n ≤ length a.now → n ≤ length b.now
+        → take n (reverse a.now) ≡ take n (reverse b.now) → n ≤ result }
+{
+    let shorter = a.len().min(b.len());
+    for i in 0..shorter {
+        if a[a.len() - 1 - i] != b[b.len() - 1 - i] {
+            return i;
+        }
+    }
+    shorter
+}
