@@ -1,8 +1,9 @@
 // Two exported names beside each other: which are one name, and which are alike only.
 
 use crate::searches::library;
-use hash_check::{Admitted, FileRefusal, ReadRefusal, common_end};
+use hash_check::{Admitted, FileRefusal, ReadRefusal, common_end, compare_ends};
 use std::alloc::{AllocError, Global};
+use std::cmp::Ordering;
 use std::test::Fail;
 
 /// Writes bytes at a place of a file.
@@ -101,4 +102,14 @@ fn tells_what_strings_have_in_common(rt: HostRuntime) {
         common_end(b"", b"a"),
     );
     assert_eq!(rt; told, (3, 3, 0, 0));
+}
+
+#[test]
+fn orders_strings_from_their_ends(rt: HostRuntime) {
+    let told = (
+        compare_ends(b"za", b"ab"),
+        compare_ends(b"cab", b"ab"),
+        compare_ends(b"ab", b"ab"),
+    );
+    assert_eq!(rt; told, (Ordering::Less, Ordering::Greater, Ordering::Equal));
 }

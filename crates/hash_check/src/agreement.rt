@@ -1,6 +1,10 @@
-// What two strings have in common at their ends.
+// Strings compared from their last bytes on.
 
 ghost use Rattle.std.specs.Prelude.{◌≡◌, ◌≤◌, ℕ, length, take, reverse};
+ghost use Rattle.std.specs.Cmp.Lexicographic.{slice_cmp};
+ghost use Rattle.std.specs.Ordering.{nat_cmp};
+
+use std::cmp::Ordering;
 
 /// In how many of their last bytes two strings agree.
 pub fn common_end(a: &[u8], b: &[u8]) -> usize
@@ -17,4 +21,15 @@ pub fn common_end(a: &[u8], b: &[u8]) -> usize
         }
     }
     shorter
+}
+
+/// The order of two strings by their bytes from the last one on.
+pub fn compare_ends(a: &[u8], b: &[u8]) -> Ordering
+    ensures { result ≡ slice_cmp nat_cmp (reverse a.now) (reverse b.now) }
+{
+    if a == b {
+        Ordering::Equal
+    } else {
+        a.iter().rev().cmp(b.iter().rev())
+    }
 }

@@ -5,6 +5,7 @@ ghost use Rattle.std.specs.List.{All};
 ghost use Rattle.hash_check.specs.inside.Endings.{stretch_bytes, back_order};
 ghost use Rattle.hash_check.specs.inside.Endings.{IsNamed, AreEndings, AreSorted};
 
+use crate::agreement::compare_ends;
 use crate::keyed_name::KeyedName;
 use crate::names::{Stretch, stretch_of};
 use elf_dynamic::Object;
@@ -68,11 +69,10 @@ fn endings_of(
 fn compare(object: &Object<'_>, a: Ending, b: Ending) -> Ordering
     ensures { result ≡ back_order object.now a b }
 {
-    let (a, b) = (
+    compare_ends(
         stretch_bytes(object, a.stretch),
         stretch_bytes(object, b.stretch),
-    );
-    a.iter().rev().cmp(b.iter().rev())
+    )
 }
 
 /// The endings of names in their order. Stretches share no byte, so each byte of the string table

@@ -36,7 +36,7 @@ mod walk;
 
 pub use admitted::Admitted;
 pub use admitted_file::AdmittedFile;
-pub use agreement::common_end;
+pub use agreement::{common_end, compare_ends};
 pub use file_refusal::{FileRefusal, ReadRefusal};
 pub use hash::elf_hash;
 pub use key::key_of;

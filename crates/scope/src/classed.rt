@@ -18,7 +18,7 @@ use std::cmp::Ordering;
 #[derive(Clone, Copy)]
 pub(crate) struct Classed {
     pub(crate) entry: Entry,
-    pub(crate) class: usize,
+    pub(crate) class: u32,
 }
 
 /// The order of two names: by keys, lengths and numbers, those of one name by load order.
@@ -33,11 +33,7 @@ fn compare(a: Classed, b: Classed) -> Ordering
 }
 
 /// Names with their numbers.
-fn with_classes(
-    alloc: Global,
-    names: &[Entry],
-    classes: &[usize],
-) -> Result<Vec<Classed>, AllocError>
+fn with_classes(alloc: Global, names: &[Entry], classes: &[u32]) -> Result<Vec<Classed>, AllocError>
     ensures { IfOk result (λ v. IsClassed names.now classes.now v.items) }
 {
     let mut all = Vec::with_capacity(alloc, names.len())?;

@@ -14,7 +14,7 @@ use hash_check::common_end;
 use std::alloc::{AllocError, Global};
 
 /// Takes the marks of a range away, as far as there are any.
-fn unmark(marks: &mut Vec<usize>, from: usize, past: usize)
+fn unmark(marks: &mut Vec<u32>, from: usize, past: usize)
     ensures cleared { (n : ℕ) → from ≤ n → n < past → nth_number marks.new.items n ≡ 0 }
     ensures low { (n : ℕ) → n < from
         → nth_number marks.new.items n ≡ nth_number marks.old.items n }
@@ -28,7 +28,7 @@ fn unmark(marks: &mut Vec<usize>, from: usize, past: usize)
 
 /// The number of a name: the one that is marked for its length, or else a new one.
 #[tactic(auto, unfolding(crate::specs::inside::Endings::pick))]
-fn picked(fresh: usize, mark: usize) -> usize
+fn picked(fresh: u32, mark: u32) -> u32
     ensures { result ≡ pick fresh mark }
 {
     if mark == 0 { fresh } else { mark }
@@ -40,9 +40,9 @@ fn number_ending(
     objects: &[LoadedObject<'_>],
     names: &[Entry],
     ending: Ending,
-    fresh: usize,
-    marks: &mut Vec<usize>,
-    classes: &mut Vec<usize>,
+    fresh: u32,
+    marks: &mut Vec<u32>,
+    classes: &mut Vec<u32>,
 ) -> bool
     requires names { All (IsNameOf objects.now) names.now }
     requires ending { IsEnding objects.now names.now ending }
@@ -70,8 +70,8 @@ fn number_all(
     objects: &[LoadedObject<'_>],
     names: &[Entry],
     endings: &[Ending],
-    marks: &mut Vec<usize>,
-    classes: &mut Vec<usize>,
+    marks: &mut Vec<u32>,
+    classes: &mut Vec<u32>,
 ) -> bool
     requires names { All (IsNameOf objects.now) names.now }
     requires endings { AreSorted objects.now names.now endings.now }
@@ -84,7 +84,10 @@ fn number_all(
             let next = ending_bytes(objects, endings[i]);
             unmark(marks, common_end(last, next) + 1, last.len() + 1);
         }
-        if !number_ending(objects, names, endings[i], i + 1, marks, classes) {
+        let Ok(fresh) = u32::try_from(i + 1) else {
+            return false;
+        };
+        if !number_ending(objects, names, endings[i], fresh, marks, classes) {
             return false;
         }
     }
@@ -92,7 +95,7 @@ fn number_all(
 }
 
 /// No marks, for lengths up to that of the longest string.
-fn no_marks(alloc: Global, endings: &[Ending]) -> Result<Vec<usize>, AllocError>
+fn no_marks(alloc: Global, endings: &[Ending]) -> Result<Vec<u32>, AllocError>
     ensures { IfOk result (λ v. (n : ℕ) → nth_number v.items n ≡ 0) }
 {
     let mut longest = 0;
@@ -110,7 +113,7 @@ pub(crate) fn classes_of(
     alloc: Global,
     objects: &[LoadedObject<'_>],
     names: &[Entry],
-) -> Result<Option<Vec<usize>>, AllocError>
+) -> Result<Option<Vec<u32>>, AllocError>
     requires { All (IsNameOf objects.now) names.now }
     ensures { IfOk result (λ found. IfSome found (λ v.
         AreClasses objects.now names.now v.items)) }

@@ -9,7 +9,7 @@ ghost use Rattle.scope.specs.inside.Entries.{text_at};
 
 use crate::entry::{Entry, known_text_at};
 use crate::loaded::LoadedObject;
-use hash_check::common_end;
+use hash_check::{common_end, compare_ends};
 use std::cmp::Ordering;
 
 /// Two names that were compared: in how many of their last bytes they agree, and their order.
@@ -107,7 +107,7 @@ pub(crate) fn compare_bytes(objects: &[LoadedObject<'_>], first: Entry, second: 
         first,
         second,
         same: common_end(a, b),
-        order: a.iter().rev().cmp(b.iter().rev()),
+        order: compare_ends(a, b),
     }
 }
 

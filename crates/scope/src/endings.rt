@@ -10,6 +10,7 @@ ghost use Rattle.scope.specs.inside.Entries.{text_at};
 use crate::compared::offset_of;
 use crate::entry::{Entry, known_text_at};
 use crate::loaded::LoadedObject;
+use hash_check::compare_ends;
 use std::alloc::{AllocError, Global};
 use std::cmp::Ordering;
 
@@ -110,8 +111,7 @@ fn endings_of(
 fn compare(objects: &[LoadedObject<'_>], a: Ending, b: Ending) -> Ordering
     ensures { result ≡ back_order objects.now a b }
 {
-    let (a, b) = (ending_bytes(objects, a), ending_bytes(objects, b));
-    a.iter().rev().cmp(b.iter().rev())
+    compare_ends(ending_bytes(objects, a), ending_bytes(objects, b))
 }
 
 /// The endings of names in the order of their strings. Strings share no byte, so each byte of the

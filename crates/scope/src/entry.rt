@@ -7,7 +7,7 @@ ghost use Rattle.scope.specs.inside.Entries.{text_order_to, order_to};
 ghost use Rattle.scope.specs.inside.Compared.{IsNameOf};
 
 use crate::loaded::LoadedObject;
-use hash_check::KeyedName;
+use hash_check::{KeyedName, compare_ends};
 use std::cmp::Ordering;
 
 /// An exported name and the place of its object in load order.
@@ -43,10 +43,7 @@ fn compare_texts(objects: &[LoadedObject<'_>], a: Entry, b: Entry) -> Ordering
     ensures { result ≡ text_order objects.now a b }
 {
     match a.name.length.cmp(&b.name.length) {
-        Ordering::Equal => {
-            let (a, b) = (text_at(objects, a), text_at(objects, b));
-            a.iter().rev().cmp(b.iter().rev())
-        }
+        Ordering::Equal => compare_ends(text_at(objects, a), text_at(objects, b)),
         other => other,
     }
 }
@@ -78,7 +75,7 @@ fn compare_text_to(objects: &[LoadedObject<'_>], entry: Entry, name: &[u8]) -> O
     ensures { result ≡ text_order_to objects.now entry name.now }
 {
     match entry.name.length.cmp(&((name.len() % (1 << 32)) as u32)) {
-        Ordering::Equal => text_at(objects, entry).iter().rev().cmp(name.iter().rev()),
+        Ordering::Equal => compare_ends(text_at(objects, entry), name),
         other => other,
     }
 }

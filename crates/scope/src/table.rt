@@ -66,7 +66,7 @@ fn share_bytes(objects: &[LoadedObject<'_>], names: &[Entry]) -> bool {
 }
 
 /// The exported names of all objects, sorted. It takes 24 bytes a name, and up to twice as much
-/// while it grows; where names share bytes some 100 bytes a name, and eight bytes for each byte of
+/// while it grows; where names share bytes some 100 bytes a name, and four bytes for each byte of
 /// the longest string.
 pub(crate) fn sorted_entries(
     alloc: Global,

@@ -1,5 +1,6 @@
 use Rattle.std.proofs.Common.{◌≡◌, ◌+◌, ◌-◌, ℕ, sym, subst, arith}
-use Rattle.scope.proofs.Ranking.{AreRanked, ranked-none, ranked-first, ranked-cut, ranked-on, classes-from-ranked}
+use Rattle.scope.specs.inside.Endings.{AreNumbered}
+use Rattle.scope.proofs.Ranking.{nth, AreRanked, ranked-none, ranked-first, ranked-cut, ranked-on, classes-from-ranked}
 use Rattle.scope.proofs.classes.number_all.Goals.{then-i-gt0, else-i-gt0}
 use Rattle.scope.proofs.classes.number_all.Goals as goal
 
@@ -21,7 +22,10 @@ loop-i-preserved c =
     ] in
     subst (λ p. AreRanked c.args.objects.now c.args.names.now c.args.endings.now (c.loop-i.i + 1) p c.number_ending.new.marks.items c.number_ending.new.classes.items) here
     (ranked-on c.args.objects.now c.args.names.now c.args.endings.now i c.if-i-gt0.marks.items c.number_ending.new.marks.items c.loop-i.classes.items c.number_ending.new.classes.items c.requires.endings (omega arith) cut
-    (c.number_ending.ensures c.if-not-number_ending.false))
+    (subst
+    (λ f. AreNumbered c.args.objects.now c.args.names.now (nth c.args.endings.now c.loop-i.i).first (nth c.args.endings.now c.loop-i.i).past f c.if-i-gt0.marks.items c.number_ending.new.marks.items c.loop-i.classes.items
+    c.number_ending.new.classes.items)
+    c.in-Ok.ensures.1 (c.number_ending.ensures c.if-not-number_ending.false)))
 
 pub returns : goal.returns
 returns c = λ t.
