@@ -162,6 +162,8 @@ def main():
     beginnings, begun = placed(numbered(100_000, b'n' * 100))
     tails = b'n' * 16_000 + b'\0'
     many_tails = b'n' * 74_880 + b'\0'
+    alike, begins = placed([b'n' * 1_200_000 + last + b'endofstr' for last in (b'a', b'b')])
+    of_both = [begin + i for begin in begins for i in range(40_000)]
     made = {
         'one_bucket.so': one_bucket(300_000),
         'own_buckets.so': own_buckets(300_000),
@@ -178,6 +180,7 @@ def main():
         'many_hashed.so': library(many_tails, exported(range(74_880)), [1, 0], line(74_880)),
         'far_hashed.so': library(b'n' * 8_000_000 + b'\0', exported(random.Random(0).sample(range(0, 8_000_000, 2_000), 4_000)), [1, 0], line(4_000)),
         'long_tails.so': library(b'n' * 8_000_000 + b'\0', exported(range(300_000)), [1], line(300_000)),
+        'two_strings.so': library(alike, exported(of_both), [1], line(80_000)),
         'needed.so': library(b'', [], [0], [0], needed=1_000_000),
     }
     for name, file in made.items():
