@@ -19,8 +19,8 @@ EXPORT, ASKED, SYMBOLIC = (0x12, 1), (0x10, 0), (16, 0)
 RUNS, SECTORS = 5, '65536'
 
 
-def string(length, seed):
-    return bytes(random.Random(seed).choices(b'abcdefghi', k=length))
+def string(length, kind):
+    return bytes(random.Random(kind).choices(b'abcdefghi', k=length))
 
 
 def made(strings, symbols, soname=b'', needed=(), tags=()):
