@@ -30,7 +30,7 @@ use std::alloc::{AllocError, Global};
 
 /// From how many bytes on a name is hashed together with others: a shorter one is hashed sooner
 /// than it is given a lane.
-const LONG: usize = 64;
+const LONG: usize = 24;
 
 /// Whether there is a bucket, and every word of the table is the index of a symbol.
 fn has_index_words(object: &Object<'_>) -> bool
