@@ -2,15 +2,10 @@
 
 use crate::file::changed_file;
 use anyhow::Result;
-use std::rt::Files;
 
 /// Whether bytes are the answer that is wanted: `file FILE`, the bytes of a file; `nothing`; else
 /// a line.
-pub(crate) fn is_wanted<R: Files + AllocGlobal>(
-    rt: &R,
-    answer: &[u8],
-    wanted: &str,
-) -> Result<bool> {
+pub(crate) fn is_wanted(rt: &HostRuntime, answer: &[u8], wanted: &str) -> Result<bool> {
     if let Some(file) = wanted.strip_prefix("file ") {
         return Ok(answer == changed_file(rt, file)?.as_slice());
     }

@@ -10,13 +10,12 @@ use image::{BindRefusal, Image, bind_program};
 use plain_registry::{are_preloads, have_distinct_names};
 use std::alloc::Global;
 use std::io::Write;
-use std::rt::Files;
 
 /// What a bind gives.
 type Bound = std::result::Result<Image, BindRefusal>;
 
 /// Binds the program `FILE BASE [preload NAME ..] [+ LIBRARY] ..`.
-fn bound<R: Files + AllocGlobal>(rt: &R, words: &str) -> Result<Bound> {
+fn bound(rt: &HostRuntime, words: &str) -> Result<Bound> {
     let (front, rest) = words.split_once(" + ").unwrap_or((words, ""));
     let (program, names) = front.split_once(" preload ").unwrap_or((front, ""));
     let (file, base) = program.rsplit_once(' ').context("a bind without a base")?;
@@ -45,13 +44,13 @@ fn text_of(alloc: Global, bound: &Bound) -> Result<Vec<u8>> {
 }
 
 /// `bind FILE BASE ..`: the text of the image of a program with libraries, or of its refusal.
-pub(crate) fn bind_text<R: Files + AllocGlobal>(rt: &R, words: &str) -> Result<Vec<u8>> {
+pub(crate) fn bind_text(rt: &HostRuntime, words: &str) -> Result<Vec<u8>> {
     text_of(rt.alloc(), &bound(rt, words)?)
 }
 
 /// `order FILE BASE ..`: the bases and the names of the objects of this image in one line, or the
 /// refusal.
-pub(crate) fn order_text<R: Files + AllocGlobal>(rt: &R, words: &str) -> Result<Vec<u8>> {
+pub(crate) fn order_text(rt: &HostRuntime, words: &str) -> Result<Vec<u8>> {
     let bound = bound(rt, words)?;
     let whole = String::from_utf8(text_of(rt.alloc(), &bound)?)?;
     let mut text = Vec::new(rt.alloc());
@@ -80,7 +79,7 @@ fn word_at(image: &Image, address: u64) -> Option<u64> {
 
 /// `word ADDRESS FILE BASE ..`: the eight bytes that this image has from an address on, as a
 /// number, or `none`, or the refusal.
-pub(crate) fn word_text<R: Files + AllocGlobal>(rt: &R, words: &str) -> Result<Vec<u8>> {
+pub(crate) fn word_text(rt: &HostRuntime, words: &str) -> Result<Vec<u8>> {
     let (address, words) = words.split_once(' ').context("a word of no program")?;
     let address = parse_number(address)?;
     let image = match bound(rt, words)? {

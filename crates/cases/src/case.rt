@@ -13,10 +13,9 @@ use anyhow::{Context, Result, bail};
 use commands::run_image;
 use image::bind_alone;
 use std::io::Write;
-use std::rt::Files;
 
 /// `image FILE BASE`: the text of the image of a file, or of its refusal.
-fn image_text<R: Files + AllocGlobal>(rt: &R, words: &str) -> Result<Vec<u8>> {
+fn image_text(rt: &HostRuntime, words: &str) -> Result<Vec<u8>> {
     let (file, base) = words.rsplit_once(' ').context("an image without a base")?;
     let bytes = changed_file(rt, file)?;
     let mut text = Vec::new(rt.alloc());
@@ -26,7 +25,7 @@ fn image_text<R: Files + AllocGlobal>(rt: &R, words: &str) -> Result<Vec<u8>> {
 
 /// `byte FILE BASE ADDRESS`: the byte that the image of a file has at an address, in two digits, or
 /// `none`.
-fn byte_text<R: Files + AllocGlobal>(rt: &R, words: &str) -> Result<Vec<u8>> {
+fn byte_text(rt: &HostRuntime, words: &str) -> Result<Vec<u8>> {
     let (place, address) = words.rsplit_once(' ').context("a byte without an address")?;
     let (file, base) = place.rsplit_once(' ').context("a byte without a base")?;
     let bytes = changed_file(rt, file)?;
@@ -41,25 +40,26 @@ fn byte_text<R: Files + AllocGlobal>(rt: &R, words: &str) -> Result<Vec<u8>> {
     Ok(text)
 }
 
-/// What a call gives.
-fn answer<R: Files + AllocGlobal>(rt: &R, call: &str) -> Result<Vec<u8>> {
-    match call.split_once(' ') {
-        Some(("image", words)) => image_text(rt, words),
-        Some(("byte", words)) => byte_text(rt, words),
-        Some(("bind", words)) => bind_text(rt, words),
-        Some(("order", words)) => order_text(rt, words),
-        Some(("word", words)) => word_text(rt, words),
-        Some(("admit", words)) => admit_text(rt, words),
-        Some(("library", words)) => library_text(rt, words),
-        Some(("view", words)) => view_text(rt, words),
-        Some(("find", words)) => find_text(rt, words),
-        Some(("hash", word)) => hash_text(rt.alloc(), word),
+/// What a call gives: its name and its words.
+fn answer(rt: &HostRuntime, call: &str) -> Result<Vec<u8>> {
+    let (name, words) = call.split_once(' ').context("a call without words")?;
+    match name {
+        "image" => image_text(rt, words),
+        "byte" => byte_text(rt, words),
+        "bind" => bind_text(rt, words),
+        "order" => order_text(rt, words),
+        "word" => word_text(rt, words),
+        "admit" => admit_text(rt, words),
+        "library" => library_text(rt, words),
+        "view" => view_text(rt, words),
+        "find" => find_text(rt, words),
+        "hash" => hash_text(rt.alloc(), words),
         _ => bail!("the call {call}"),
     }
 }
 
 /// Whether a call gives an answer.
-fn gives<R: Files + AllocGlobal>(rt: &R, call: &str, wanted: &str) -> Result<bool> {
+fn gives(rt: &HostRuntime, call: &str, wanted: &str) -> Result<bool> {
     if let Some(words) = call.strip_prefix("script ") {
         return runs_so(rt, words, wanted);
     }
@@ -74,7 +74,7 @@ fn gives<R: Files + AllocGlobal>(rt: &R, call: &str, wanted: &str) -> Result<boo
 
 /// Whether a case stands: `CALL => ANSWER`, or `CALL =/> ANSWER` where the call gives another
 /// answer.
-pub(crate) fn stands<R: Files + AllocGlobal>(rt: &R, case: &str) -> Result<bool> {
+pub(crate) fn stands(rt: &HostRuntime, case: &str) -> Result<bool> {
     if let Some((call, wanted)) = case.split_once(" => ") {
         return gives(rt, call, wanted);
     }

@@ -4,13 +4,12 @@ use crate::file::changed_file;
 use crate::words::ends_so;
 use anyhow::{Context, Result};
 use std::fs;
-use std::rt::Files;
 
 /// The file that is the disk.
 const DISK: &str = "disk";
 
 /// The disk that words say: `none` where there is none, else a file with its changes.
-fn disk_of<R: Files + AllocGlobal>(rt: &R, words: &str) -> Result<Option<Vec<u8>>> {
+fn disk_of(rt: &HostRuntime, words: &str) -> Result<Option<Vec<u8>>> {
     if words == "none" {
         return Ok(None);
     }
@@ -18,7 +17,7 @@ fn disk_of<R: Files + AllocGlobal>(rt: &R, words: &str) -> Result<Option<Vec<u8>
 }
 
 /// Takes the disk away, where there is one.
-fn take_disk<R: Files + AllocGlobal>(rt: &R) -> Result<Option<Vec<u8>>> {
+fn take_disk(rt: &HostRuntime) -> Result<Option<Vec<u8>>> {
     if !fs::exists(rt, DISK)? {
         return Ok(None);
     }
@@ -28,7 +27,7 @@ fn take_disk<R: Files + AllocGlobal>(rt: &R) -> Result<Option<Vec<u8>>> {
 }
 
 /// Puts this disk in the place of the one that is there.
-fn put_disk<R: Files + AllocGlobal>(rt: &R, words: &str) -> Result<()> {
+fn put_disk(rt: &HostRuntime, words: &str) -> Result<()> {
     take_disk(rt)?;
     if let Some(bytes) = disk_of(rt, words)? {
         fs::write(rt, DISK, bytes.as_slice())?;
@@ -37,7 +36,7 @@ fn put_disk<R: Files + AllocGlobal>(rt: &R, words: &str) -> Result<()> {
 }
 
 /// Whether `WORD .. [< INPUT]` ends as it is wanted. Without INPUT the input is empty.
-fn runs_to<R: Files + AllocGlobal>(rt: &R, words: &str, wanted: &str) -> Result<bool> {
+fn runs_to(rt: &HostRuntime, words: &str, wanted: &str) -> Result<bool> {
     let Some((words, file)) = words.split_once(" < ") else {
         return ends_so(rt, words, &[], wanted);
     };
@@ -47,7 +46,7 @@ fn runs_to<R: Files + AllocGlobal>(rt: &R, words: &str, wanted: &str) -> Result<
 
 /// Takes the disk away, and tells whether it was this one: `same` is the one before, with the
 /// changes behind it.
-fn is_left<R: Files + AllocGlobal>(rt: &R, before: &str, after: &str) -> Result<bool> {
+fn is_left(rt: &HostRuntime, before: &str, after: &str) -> Result<bool> {
     let left = take_disk(rt)?;
     let wanted = match after.strip_prefix("same") {
         Some(changes) => disk_of(rt, &format!(in rt.alloc(); "{before}{changes}")?)?,
@@ -58,7 +57,7 @@ fn is_left<R: Files + AllocGlobal>(rt: &R, before: &str, after: &str) -> Result<
 
 /// Whether a command line ends as it is wanted and leaves the disk so: `BEFORE run WORD ..
 /// [< INPUT]`, wanted as `STATUS ANSWER then AFTER`. The file `disk` is the disk.
-pub(crate) fn leaves_so<R: Files + AllocGlobal>(rt: &R, words: &str, wanted: &str) -> Result<bool> {
+pub(crate) fn leaves_so(rt: &HostRuntime, words: &str, wanted: &str) -> Result<bool> {
     let (before, words) = words.split_once(" run").context("a disk without words")?;
     let (ending, after) = wanted.rsplit_once(" then ").context("no disk after it")?;
     put_disk(rt, before)?;

@@ -6,7 +6,6 @@ use commands::write_file_refusal;
 use hash_check::{Admitted, FileRefusal, ReadRefusal, elf_hash};
 use std::alloc::Global;
 use std::io::Write;
-use std::rt::Files;
 use text_output::write_name;
 
 /// The line of the refusal of a file.
@@ -31,7 +30,7 @@ pub(crate) fn admitted<'a>(
 }
 
 /// `admit FILE`: `admitted`, or the refusal.
-pub(crate) fn admit_text<R: Files + AllocGlobal>(rt: &R, words: &str) -> Result<Vec<u8>> {
+pub(crate) fn admit_text(rt: &HostRuntime, words: &str) -> Result<Vec<u8>> {
     let bytes = changed_file(rt, words)?;
     match admitted(rt.alloc(), &bytes)? {
         Ok(_) => Ok(Vec::from_slice(rt.alloc(), b"admitted\n")?),
@@ -40,7 +39,7 @@ pub(crate) fn admit_text<R: Files + AllocGlobal>(rt: &R, words: &str) -> Result<
 }
 
 /// `library FILE`: `library NAME`, or the refusal as a library.
-pub(crate) fn library_text<R: Files + AllocGlobal>(rt: &R, words: &str) -> Result<Vec<u8>> {
+pub(crate) fn library_text(rt: &HostRuntime, words: &str) -> Result<Vec<u8>> {
     let bytes = changed_file(rt, words)?;
     let object = match admitted(rt.alloc(), &bytes)? {
         Ok(object) => object,
@@ -67,7 +66,7 @@ pub(crate) fn name_bytes(alloc: Global, word: &str) -> Result<Vec<u8>> {
 
 /// `find FILE NAME`: the symbol that is exported under a name, and how many names a search
 /// compares.
-pub(crate) fn find_text<R: Files + AllocGlobal>(rt: &R, words: &str) -> Result<Vec<u8>> {
+pub(crate) fn find_text(rt: &HostRuntime, words: &str) -> Result<Vec<u8>> {
     let (file, word) = words.rsplit_once(' ').context("a search without a name")?;
     let bytes = changed_file(rt, file)?;
     let object = match admitted(rt.alloc(), &bytes)? {

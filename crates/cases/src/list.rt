@@ -4,7 +4,6 @@ use crate::case::stands;
 use crate::number::parse_number;
 use anyhow::{Context, Result};
 use std::fs;
-use std::rt::Files;
 
 /// How many cases were run, and how many of them differ.
 #[derive(Default, Drop)]
@@ -14,12 +13,7 @@ pub(crate) struct Tally {
 }
 
 /// Runs a case, and prints it where it differs.
-fn run_case<R: Files + Print + AllocGlobal>(
-    rt: &R,
-    list: &str,
-    case: &str,
-    tally: &mut Tally,
-) -> Result<()> {
+fn run_case(rt: &HostRuntime, list: &str, case: &str, tally: &mut Tally) -> Result<()> {
     tally.count = tally.count.saturating_add(1);
     if !stands(rt, case).context(format_args!("{list}: {case}"))? {
         tally.differ = tally.differ.saturating_add(1);
@@ -29,12 +23,7 @@ fn run_case<R: Files + Print + AllocGlobal>(
 }
 
 /// Runs the case of a line, or where it has `cut=FIRST..LAST` one for each length.
-fn run_line<R: Files + Print + AllocGlobal>(
-    rt: &R,
-    list: &str,
-    line: &str,
-    tally: &mut Tally,
-) -> Result<()> {
+fn run_line(rt: &HostRuntime, list: &str, line: &str, tally: &mut Tally) -> Result<()> {
     let Some((front, rest)) = line.split_once("..") else {
         return run_case(rt, list, line, tally);
     };
@@ -48,11 +37,7 @@ fn run_line<R: Files + Print + AllocGlobal>(
 }
 
 /// Runs the cases of a list, one a line. Empty lines and those that begin with # are none.
-pub(crate) fn run_list<R: Files + Print + AllocGlobal>(
-    rt: &R,
-    name: &str,
-    tally: &mut Tally,
-) -> Result<()> {
+pub(crate) fn run_list(rt: &HostRuntime, name: &str, tally: &mut Tally) -> Result<()> {
     let text = fs::read_to_string(rt, name).context(format_args!("the list {name}"))?;
     for line in text.lines() {
         if !line.is_empty() && !line.starts_with('#') {

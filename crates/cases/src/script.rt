@@ -9,7 +9,6 @@ use commands::{ScriptFault, Summary, run_script};
 use registry::Registry;
 use sector_disk::Memory;
 use std::alloc::Global;
-use std::rt::Files;
 
 /// Runs a script on an empty registry.
 fn ran(
@@ -32,7 +31,7 @@ fn ran(
 
 /// Whether a script ends as it is wanted: `SECTORS FILE` on an empty registry on a disk of so many
 /// sectors, wanted as `LINES REFUSED ANSWER`.
-pub(crate) fn runs_so<R: Files + AllocGlobal>(rt: &R, words: &str, wanted: &str) -> Result<bool> {
+pub(crate) fn runs_so(rt: &HostRuntime, words: &str, wanted: &str) -> Result<bool> {
     let (sectors, file) = words.split_once(' ').context("a script without a file")?;
     let text = changed_file(rt, file)?;
     let disk = Memory::new(rt.alloc(), u32::try_from(parse_number(sectors)?)?)?;

@@ -5,7 +5,6 @@ use crate::library::{admitted, name_bytes};
 use anyhow::{Result, bail};
 use scope::Library;
 use std::alloc::Global;
-use std::rt::Files;
 
 /// The file of a library, and the name that is given to it.
 #[derive(Drop)]
@@ -15,7 +14,7 @@ pub(crate) struct LibraryFile {
 }
 
 /// Reads `FILE`, which goes by its SONAME, or `FILE as NAME`.
-fn read_library<R: Files + AllocGlobal>(rt: &R, words: &str) -> Result<LibraryFile> {
+fn read_library(rt: &HostRuntime, words: &str) -> Result<LibraryFile> {
     let (file, name) = match words.rsplit_once(" as ") {
         Some((file, name)) => (file, Some(name_bytes(rt.alloc(), name)?)),
         None => (words, None),
@@ -25,10 +24,7 @@ fn read_library<R: Files + AllocGlobal>(rt: &R, words: &str) -> Result<LibraryFi
 }
 
 /// Reads the libraries of a case, between which ` + ` stands.
-pub(crate) fn read_libraries<R: Files + AllocGlobal>(
-    rt: &R,
-    words: &str,
-) -> Result<Vec<LibraryFile>> {
+pub(crate) fn read_libraries(rt: &HostRuntime, words: &str) -> Result<Vec<LibraryFile>> {
     let mut files = Vec::new(rt.alloc());
     if !words.is_empty() {
         for library in words.split(" + ") {

@@ -6,7 +6,6 @@ use anyhow::Result;
 use elf_dynamic::{Object, Symbol};
 use hash_check::Admitted;
 use std::io::Write;
-use std::rt::Files;
 use text_output::write_name;
 
 /// The line of the SONAME, and those of the needed libraries.
@@ -64,7 +63,7 @@ fn put_symbols(text: &mut Vec<u8>, admitted: &Admitted) -> Result<()> {
 }
 
 /// `view FILE`: the SONAME, the needed names and the symbols, or the refusal.
-pub(crate) fn view_text<R: Files + AllocGlobal>(rt: &R, words: &str) -> Result<Vec<u8>> {
+pub(crate) fn view_text(rt: &HostRuntime, words: &str) -> Result<Vec<u8>> {
     let bytes = changed_file(rt, words)?;
     let object = match admitted(rt.alloc(), &bytes)? {
         Ok(object) => object,

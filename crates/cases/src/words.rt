@@ -5,7 +5,6 @@ use crate::number::parse_number;
 use anyhow::{Context, Result};
 use commands::run_words;
 use std::alloc::Global;
-use std::rt::Files;
 
 /// The words of a command line: each stands behind a space.
 fn listed(alloc: Global, words: &str) -> Result<Vec<String>> {
@@ -19,12 +18,7 @@ fn listed(alloc: Global, words: &str) -> Result<Vec<String>> {
 /// Whether a command line ends over an input as it is wanted: `STATUS ANSWER` where ANSWER goes to
 /// the output and nothing to standard error, `STATUS error ANSWER` where it goes to standard error
 /// alone.
-pub(crate) fn ends_so<R: Files + AllocGlobal>(
-    rt: &R,
-    words: &str,
-    input: &[u8],
-    wanted: &str,
-) -> Result<bool> {
+pub(crate) fn ends_so(rt: &HostRuntime, words: &str, input: &[u8], wanted: &str) -> Result<bool> {
     let list = listed(rt.alloc(), words)?;
     let mut input = input;
     let mut output = Vec::new(rt.alloc());

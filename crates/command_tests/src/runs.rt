@@ -70,7 +70,7 @@ const ROWS: [Row; 19] = [
 #[test]
 fn command_lines_end_so(rt: HostRuntime) -> Result<(), Fail> {
     File::create(&rt, "sectors.disk")?.set_len(4_194_305 * 512)?;
-    for (words, wanted) in ROWS {
+    for &(words, wanted) in &ROWS {
         assert!(rt; ends(&rt, words_of(&rt, words), wanted));
     }
     fs::remove_file(&rt, "sectors.disk")?;

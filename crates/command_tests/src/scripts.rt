@@ -144,7 +144,7 @@ fn is_cut(alloc: Global, texts: &[&str], last: ErrorKind, asked: &str, fault: Sc
 
 #[test]
 fn a_reader_fails_after_these_lines(rt: HostRuntime) {
-    for (texts, last, asked, fault) in CUT {
+    for &(texts, last, asked, fault) in &CUT {
         assert!(rt; is_cut(rt.alloc(), texts, last, asked, fault));
     }
 }

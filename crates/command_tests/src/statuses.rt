@@ -79,7 +79,7 @@ fn output_that_fails_is_status_3(rt: HostRuntime) -> Result<(), Fail> {
     fs::write(&rt, "nine.so", of_segments(rt.alloc(), 9)?.as_slice())?;
     let format = words_of(&rt, &["format", "empty.disk", "8"]);
     assert!(rt; ends(&rt, format, (0, "ok\n", "")));
-    for (words, length, status) in TEXTS {
+    for &(words, length, status) in &TEXTS {
         assert!(rt; needs_room(&rt, words, length, status));
     }
     fs::remove_file(&rt, "nine.so")?;

@@ -33,9 +33,9 @@ impl Tally {
     }
 
     /// Counts an opening, and prints where it was wrong.
-    pub fn count<R: Print>(
+    pub fn count(
         &mut self,
-        rt: &R,
+        rt: &HostRuntime,
         right: bool,
         place: &impl Debug,
         what: &str,
@@ -53,14 +53,14 @@ impl Tally {
     }
 
     /// Prints a group's line, and adds what it counted.
-    pub fn end<R: Print>(&mut self, rt: &R, group: &Tally) -> Result<()> {
+    pub fn end(&mut self, rt: &HostRuntime, group: &Tally) -> Result<()> {
         self.openings = self.openings.saturating_add(group.openings);
         self.wrong = self.wrong.saturating_add(group.wrong);
         group.print(rt)
     }
 
     /// Prints the group's line.
-    pub fn print<R: Print>(&self, rt: &R) -> Result<()> {
+    pub fn print(&self, rt: &HostRuntime) -> Result<()> {
         let Tally {
             group,
             prints: _,

@@ -74,7 +74,7 @@ const EQUAL: [Row; 7] = [
 
 #[test]
 fn admits_names_that_differ(rt: HostRuntime) -> Result<(), Fail> {
-    for (strings, first, second) in DIFFERENT {
+    for &(strings, first, second) in &DIFFERENT {
         let file = named(rt.alloc(), strings, first, second)?;
         let refusal = Admitted::read(rt.alloc(), &file).err();
         assert_eq!(rt; refusal, None, "{first} and {second} of {strings:?}");
@@ -84,7 +84,7 @@ fn admits_names_that_differ(rt: HostRuntime) -> Result<(), Fail> {
 
 #[test]
 fn refuses_equal_names(rt: HostRuntime) -> Result<(), Fail> {
-    for (strings, first, second) in EQUAL {
+    for &(strings, first, second) in &EQUAL {
         let file = named(rt.alloc(), strings, first, second)?;
         let refusal = Admitted::read(rt.alloc(), &file).err();
         let expected = Some(ReadRefusal::File(FileRefusal::DuplicateDefinition));

@@ -14,8 +14,8 @@ use store::StoreRefusal;
 const VERSIONS: [(u8, Way); 2] = [(b'1', Way::Look), (b'2', Way::Open)];
 
 // Counts whether a disk is damaged exactly where it is to be.
-fn open<R: Print + AllocGlobal>(
-    rt: &R,
+fn open(
+    rt: &HostRuntime,
     tally: &mut Tally,
     way: Way,
     disk: Memory,
@@ -86,9 +86,9 @@ const ENTRIES: [Row; 9] = [
 ];
 
 /// Extents that are good, and those that clash with something.
-fn open_entries<R: Print + AllocGlobal>(rt: &R, tally: &mut Tally) -> Result<()> {
-    for (version, way) in VERSIONS {
-        for (what, first, old, new) in ENTRIES {
+fn open_entries(rt: &HostRuntime, tally: &mut Tally) -> Result<()> {
+    for &(version, way) in &VERSIONS {
+        for &(what, first, old, new) in &ENTRIES {
             let disk = with_entries(rt.alloc(), version, 16, first)?;
             let opens = if version == b'1' { old } else { new };
             open(rt, tally, way, disk, opens, what)?;
@@ -98,8 +98,8 @@ fn open_entries<R: Print + AllocGlobal>(rt: &R, tally: &mut Tally) -> Result<()>
 }
 
 // Roots that say another size than the disk has.
-fn open_sizes<R: Print + AllocGlobal>(rt: &R, tally: &mut Tally) -> Result<()> {
-    for (version, way) in VERSIONS {
+fn open_sizes(rt: &HostRuntime, tally: &mut Tally) -> Result<()> {
+    for &(version, way) in &VERSIONS {
         for sectors in [15, 16, 17, 4_194_304] {
             let disk = with_entries(rt.alloc(), version, sectors, (b'a', 64, &[2, 1]))?;
             open(rt, tally, way, disk, sectors == 16, "the size in the roots")?;
@@ -109,7 +109,7 @@ fn open_sizes<R: Print + AllocGlobal>(rt: &R, tally: &mut Tally) -> Result<()> {
 }
 
 // Disks of zeros.
-fn open_empty<R: Print + AllocGlobal>(rt: &R, tally: &mut Tally) -> Result<()> {
+fn open_empty(rt: &HostRuntime, tally: &mut Tally) -> Result<()> {
     for way in [Way::Open, Way::Look, Way::Upgrade] {
         for sectors in [0, 1, 2, 7, 8, 9, 1000] {
             let disk = Memory::new(rt.alloc(), sectors)?;
@@ -163,9 +163,9 @@ fn with_roots(alloc: Global, version: u8, even: Option<u64>, odd: Option<u64>) -
 }
 
 // Roots of any generations. One alone stands only where it is the first one, in its sector.
-fn open_generations<R: Print + AllocGlobal>(rt: &R, tally: &mut Tally) -> Result<()> {
-    for (version, way) in VERSIONS {
-        for (even, odd, opens) in GENERATIONS {
+fn open_generations(rt: &HostRuntime, tally: &mut Tally) -> Result<()> {
+    for &(version, way) in &VERSIONS {
+        for &(even, odd, opens) in &GENERATIONS {
             let disk = with_roots(rt.alloc(), version, even, odd)?;
             open(rt, tally, way, disk, opens, "the generations of roots")?;
         }
@@ -174,7 +174,7 @@ fn open_generations<R: Print + AllocGlobal>(rt: &R, tally: &mut Tally) -> Result
 }
 
 /// Opens all of these disks.
-pub(crate) fn open_crafted<R: Print + AllocGlobal>(rt: &R, tally: &mut Tally) -> Result<()> {
+pub(crate) fn open_crafted(rt: &HostRuntime, tally: &mut Tally) -> Result<()> {
     open_entries(rt, tally)?;
     open_sizes(rt, tally)?;
     open_empty(rt, tally)?;

@@ -97,12 +97,7 @@ impl Original {
     }
 
     // Changes each byte of a sector.
-    fn change_all<R: Print + AllocGlobal>(
-        &self,
-        rt: &R,
-        tally: &mut Tally,
-        part: Part,
-    ) -> Result<()> {
+    fn change_all(&self, rt: &HostRuntime, tally: &mut Tally, part: Part) -> Result<()> {
         let content = self.content(part)?;
         for (byte, old) in content.iter().enumerate() {
             for value in values(*old) {
@@ -118,11 +113,7 @@ impl Original {
 }
 
 // Changes each byte of the current root and of each entry.
-fn change_disk<R: Print + AllocGlobal>(
-    rt: &R,
-    tally: &mut Tally,
-    original: &Original,
-) -> Result<()> {
+fn change_disk(rt: &HostRuntime, tally: &mut Tally, original: &Original) -> Result<()> {
     original.change_all(rt, tally, Part::Root)?;
     for position in 0..original.places.len() {
         original.change_all(rt, tally, Part::Entry(position))?;
@@ -131,12 +122,8 @@ fn change_disk<R: Print + AllocGlobal>(
 }
 
 /// Changes bytes of each disk of this version.
-pub(crate) fn change_bytes<R: Print + AllocGlobal>(
-    rt: &R,
-    tally: &mut Tally,
-    version: u8,
-) -> Result<()> {
-    for (generation, blobs, preloads) in ROWS {
+pub(crate) fn change_bytes(rt: &HostRuntime, tally: &mut Tally, version: u8) -> Result<()> {
+    for &(generation, blobs, preloads) in &ROWS {
         let state = State::of(rt.alloc(), generation, blobs, preloads)?;
         change_disk(rt, tally, &Original::of(rt.alloc(), version, state)?)?;
     }

@@ -9,8 +9,8 @@ use anyhow::Result;
 use cuts::Tally;
 
 // The groups that cut changes.
-fn change_groups<R: Print + AllocGlobal>(rt: &R, all: &mut Tally) -> Result<()> {
-    for (group, changes) in CHANGES {
+fn change_groups(rt: &HostRuntime, all: &mut Tally) -> Result<()> {
+    for &(group, changes) in &CHANGES {
         let mut tally = Tally::new(group);
         cut_changes(rt, &mut tally, false, changes)?;
         all.end(rt, &tally)?;
@@ -26,8 +26,8 @@ const WAYS: [(&str, Way); 3] = [
 ];
 
 // The groups that cut upgrades.
-fn upgrade_groups<R: Print + AllocGlobal>(rt: &R, all: &mut Tally) -> Result<()> {
-    for (group, way) in WAYS {
+fn upgrade_groups(rt: &HostRuntime, all: &mut Tally) -> Result<()> {
+    for &(group, way) in &WAYS {
         let mut tally = Tally::new(group);
         cut_upgrades(rt, &mut tally, false, way)?;
         all.end(rt, &tally)?;
@@ -36,7 +36,7 @@ fn upgrade_groups<R: Print + AllocGlobal>(rt: &R, all: &mut Tally) -> Result<()>
 }
 
 // The groups that change bytes.
-fn byte_groups<R: Print + AllocGlobal>(rt: &R, all: &mut Tally) -> Result<()> {
+fn byte_groups(rt: &HostRuntime, all: &mut Tally) -> Result<()> {
     for (group, version) in [
         ("changed bytes of version 2", b'2'),
         ("changed bytes of version 1", b'1'),
@@ -49,7 +49,7 @@ fn byte_groups<R: Print + AllocGlobal>(rt: &R, all: &mut Tally) -> Result<()> {
 }
 
 // The groups of one row, of disks that are made by hand, and of formats.
-fn first_groups<R: Print + AllocGlobal>(rt: &R, all: &mut Tally) -> Result<()> {
+fn first_groups(rt: &HostRuntime, all: &mut Tally) -> Result<()> {
     let mut tally = Tally::new("stops before the first sync");
     stop_early(rt, &mut tally)?;
     all.end(rt, &tally)?;
@@ -62,7 +62,7 @@ fn first_groups<R: Print + AllocGlobal>(rt: &R, all: &mut Tally) -> Result<()> {
 }
 
 // What is wrong on purpose: old and new are exchanged, and that has to be seen.
-fn wrong_groups<R: Print + AllocGlobal>(rt: &R) -> Result<()> {
+fn wrong_groups(rt: &HostRuntime) -> Result<()> {
     let mut tally = Tally::quiet("old and new exchanged, on purpose");
     cut_formats(rt, &mut tally, true)?;
     cut_changes(rt, &mut tally, true, &DELETIONS)?;
@@ -73,7 +73,7 @@ fn wrong_groups<R: Print + AllocGlobal>(rt: &R) -> Result<()> {
 }
 
 /// Runs all groups.
-pub(crate) fn run<R: Print + AllocGlobal>(rt: &R) -> Result<()> {
+pub(crate) fn run(rt: &HostRuntime) -> Result<()> {
     let mut all = Tally::new("total");
     first_groups(rt, &mut all)?;
     byte_groups(rt, &mut all)?;

@@ -64,9 +64,9 @@ impl Sides {
     }
 
     /// Opens all that a stop of the disk may leave.
-    pub(crate) fn open_mixtures<R: Print + AllocGlobal>(
+    pub(crate) fn open_mixtures(
         &self,
-        rt: &R,
+        rt: &HostRuntime,
         tally: &mut Tally,
         disk: &Memory,
         cut: Cut,
@@ -89,9 +89,9 @@ impl Sides {
     }
 
     // Cuts one call of the opening: the same stands afterwards.
-    fn cut_opening<R: Print + AllocGlobal>(
+    fn cut_opening(
         &self,
-        rt: &R,
+        rt: &HostRuntime,
         tally: &mut Tally,
         disk: &Memory,
         cut: Cut,
@@ -107,9 +107,9 @@ impl Sides {
 
     /// Opens a disk that a cut has left, at once, after each stop, and with each call of an opening
     /// cut.
-    pub(crate) fn open_left<R: Print + AllocGlobal>(
+    pub(crate) fn open_left(
         &self,
-        rt: &R,
+        rt: &HostRuntime,
         tally: &mut Tally,
         disk: &Memory,
         cut: Cut,

@@ -144,12 +144,8 @@ fn change_trial(
 }
 
 /// Cuts `format` at each of its calls.
-pub(crate) fn cut_formats<R: Print + AllocGlobal>(
-    rt: &R,
-    tally: &mut Tally,
-    wrong: bool,
-) -> Result<()> {
-    for sectors in SIZES {
+pub(crate) fn cut_formats(rt: &HostRuntime, tally: &mut Tally, wrong: bool) -> Result<()> {
+    for &sectors in &SIZES {
         format_trial(rt.alloc(), sectors)?.cut_all(rt, tally, wrong)?;
     }
     Ok(())
@@ -165,8 +161,8 @@ fn trial(alloc: Global, sectors: u32, start: &[Change], change: Change) -> Resul
 }
 
 // Cuts a change on a disk of this size after these others, where it is allowed.
-fn cut_after<R: Print + AllocGlobal>(
-    rt: &R,
+fn cut_after(
+    rt: &HostRuntime,
     tally: &mut Tally,
     wrong: bool,
     sectors: u32,
@@ -180,14 +176,14 @@ fn cut_after<R: Print + AllocGlobal>(
 }
 
 /// Cuts each of these changes on each disk at each of its calls.
-pub(crate) fn cut_changes<R: Print + AllocGlobal>(
-    rt: &R,
+pub(crate) fn cut_changes(
+    rt: &HostRuntime,
     tally: &mut Tally,
     wrong: bool,
     changes: &[Change],
 ) -> Result<()> {
-    for sectors in SIZES {
-        for start in STARTS {
+    for &sectors in &SIZES {
+        for &start in &STARTS {
             for change in changes {
                 cut_after(rt, tally, wrong, sectors, start, *change)?;
             }
@@ -205,7 +201,7 @@ fn early_disk(alloc: Global, cut: Cut) -> Result<Memory> {
 }
 
 /// All that may be left of it is the empty store.
-pub(crate) fn stop_early<R: Print + AllocGlobal>(rt: &R, tally: &mut Tally) -> Result<()> {
+pub(crate) fn stop_early(rt: &HostRuntime, tally: &mut Tally) -> Result<()> {
     let cut = Cut {
         opening: 3,
         call: 5,

@@ -40,13 +40,7 @@ impl Trial {
     }
 
     // Does it once, with one call cut, and opens what is left.
-    fn cut<R: Print + AllocGlobal>(
-        &self,
-        rt: &R,
-        tally: &mut Tally,
-        cut: Cut,
-        wanted: Wanted,
-    ) -> Result<()> {
+    fn cut(&self, rt: &HostRuntime, tally: &mut Tally, cut: Cut, wanted: Wanted) -> Result<()> {
         let (right, disk) = self.end(rt.alloc(), cut)?;
         tally.count(rt, right, &(self.deed, cut), "the answers")?;
         self.sides.open_left(rt, tally, &disk, cut, wanted)
@@ -59,12 +53,7 @@ impl Trial {
     }
 
     /// Cuts each call of the disk, early and late, for ever and once, and none.
-    pub(crate) fn cut_all<R: Print + AllocGlobal>(
-        &self,
-        rt: &R,
-        tally: &mut Tally,
-        wrong: bool,
-    ) -> Result<()> {
+    pub(crate) fn cut_all(&self, rt: &HostRuntime, tally: &mut Tally, wrong: bool) -> Result<()> {
         for cut in &Cut::all(rt.alloc(), self.opening, self.calls.saturating_add(1))? {
             let table = by_table(cut.call, self.calls, cut.late);
             let wanted = if wrong { table.exchanged() } else { table };

@@ -105,8 +105,8 @@ fn trial(alloc: Global, sectors: u32, way: Way, row: Row) -> Result<Option<Trial
 }
 
 // Cuts an upgrade at each of its calls.
-fn cut_upgrade<R: Print + AllocGlobal>(
-    rt: &R,
+fn cut_upgrade(
+    rt: &HostRuntime,
     tally: &mut Tally,
     wrong: bool,
     sectors: u32,
@@ -121,14 +121,14 @@ fn cut_upgrade<R: Print + AllocGlobal>(
 
 /// Cuts upgrades at each of their calls, on disks of each size that has room for the state. What is
 /// left is opened in this way.
-pub(crate) fn cut_upgrades<R: Print + AllocGlobal>(
-    rt: &R,
+pub(crate) fn cut_upgrades(
+    rt: &HostRuntime,
     tally: &mut Tally,
     wrong: bool,
     way: Way,
 ) -> Result<()> {
-    for sectors in SIZES {
-        for row in ROWS {
+    for &sectors in &SIZES {
+        for &row in &ROWS {
             cut_upgrade(rt, tally, wrong, sectors, way, row)?;
         }
     }

@@ -171,9 +171,9 @@ impl Course {
     }
 
     // Opens what is left, at once, after each stop, and with its opening cut.
-    fn open_states<R: Print + AllocGlobal>(
+    fn open_states(
         &self,
-        rt: &R,
+        rt: &HostRuntime,
         tally: &mut Tally,
         plain: &PlainBinders,
         disk: &Memory,
@@ -194,9 +194,9 @@ impl Course {
     }
 
     // Lets the first events happen, cut at a place, and opens what is left: the disk.
-    fn open<R: Print + AllocGlobal>(
+    fn open(
         &self,
-        rt: &R,
+        rt: &HostRuntime,
         tally: &mut Tally,
         plain: &mut PlainBinders,
         count: usize,
@@ -226,12 +226,7 @@ impl Course {
 
     /// Opens what is left behind each event, where no call is cut. What is no change leaves the
     /// disk as it was.
-    pub(crate) fn follow<R: Print + AllocGlobal>(
-        &self,
-        rt: &R,
-        tally: &mut Tally,
-        keeps: bool,
-    ) -> Result<()> {
+    pub(crate) fn follow(&self, rt: &HostRuntime, tally: &mut Tally, keeps: bool) -> Result<()> {
         let alloc = rt.alloc();
         let mut before = self.disk.copy()?;
         for count in 1..=self.asked.len() {
@@ -246,9 +241,9 @@ impl Course {
     }
 
     // Opens the disk that is left again, and binds there: no binder lives.
-    fn go_on<R: Print + AllocGlobal>(
+    fn go_on(
         &self,
-        rt: &R,
+        rt: &HostRuntime,
         tally: &mut Tally,
         plain: &PlainBinders,
         disk: Memory,
@@ -262,7 +257,7 @@ impl Course {
 
     // Cuts a call, and opens what is left. A change that failed leaves what it left, whatever comes
     // behind it, and a read that failed leaves what it found.
-    fn cut<R: Print + AllocGlobal>(&self, rt: &R, tally: &mut Tally, place: Place) -> Result<()> {
+    fn cut(&self, rt: &HostRuntime, tally: &mut Tally, place: Place) -> Result<()> {
         let alloc = rt.alloc();
         let mut plain = self.plain(alloc, true)?;
         let disk = self.open(rt, tally, &mut plain, self.asked.len(), place)?;
@@ -297,7 +292,7 @@ impl Course {
     }
 
     /// Cuts each call of each event.
-    pub(crate) fn cut_each<R: Print + AllocGlobal>(&self, rt: &R, tally: &mut Tally) -> Result<()> {
+    pub(crate) fn cut_each(&self, rt: &HostRuntime, tally: &mut Tally) -> Result<()> {
         for place in &self.places(rt.alloc())? {
             self.cut(rt, tally, *place)?;
         }

@@ -249,8 +249,8 @@ fn fill(alloc: Global) -> Result<Course> {
 
 /// Binds a program step by step over each disk, with each command in each place between the steps,
 /// and cuts each call.
-pub(crate) fn cut_flights<R: Print + AllocGlobal>(rt: &R, tally: &mut Tally) -> Result<()> {
-    for row in ROWS {
+pub(crate) fn cut_flights(rt: &HostRuntime, tally: &mut Tally) -> Result<()> {
+    for &row in &ROWS {
         for shift in 0..row.3.len() {
             let course = flight(rt.alloc(), row, shift)?;
             course.follow(rt, tally, true)?;
@@ -261,8 +261,8 @@ pub(crate) fn cut_flights<R: Print + AllocGlobal>(rt: &R, tally: &mut Tally) -> 
 }
 
 /// Ends eight binders in each order, and fills a disk with what they keep.
-pub(crate) fn end_flights<R: Print + AllocGlobal>(rt: &R, tally: &mut Tally) -> Result<()> {
-    for (order, holders) in ORDERS {
+pub(crate) fn end_flights(rt: &HostRuntime, tally: &mut Tally) -> Result<()> {
+    for &(order, holders) in &ORDERS {
         end_eight(rt.alloc(), order, holders)?.follow(rt, tally, true)?;
     }
     let course = fill(rt.alloc())?;
@@ -271,8 +271,8 @@ pub(crate) fn end_flights<R: Print + AllocGlobal>(rt: &R, tally: &mut Tally) -> 
 }
 
 /// The same where binders are taken to keep nothing, on purpose.
-pub(crate) fn keep_nothing<R: Print + AllocGlobal>(rt: &R, tally: &mut Tally) -> Result<()> {
-    for row in ROWS {
+pub(crate) fn keep_nothing(rt: &HostRuntime, tally: &mut Tally) -> Result<()> {
+    for &row in &ROWS {
         flight(rt.alloc(), row, 0)?.follow(rt, tally, false)?;
     }
     fill(rt.alloc())?.follow(rt, tally, false)

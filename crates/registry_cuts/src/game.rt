@@ -203,9 +203,9 @@ impl Game {
     }
 
     // Compares what is told and left where the round is stopped so, and keeps it for the next one.
-    fn stop<R: Print + AllocGlobal>(
+    fn stop(
         &mut self,
-        rt: &R,
+        rt: &HostRuntime,
         tally: &mut Tally,
         past: &Past,
         turn: Turn,
@@ -227,15 +227,15 @@ impl Game {
     }
 
     // Compares what is left where the picks are fewer than the sectors.
-    fn stop_short<R: Print + AllocGlobal>(
+    fn stop_short(
         &self,
-        rt: &R,
+        rt: &HostRuntime,
         tally: &mut Tally,
         past: &Past,
         moment: Moment,
         disk: &Memory,
     ) -> Result<()> {
-        for picks in SHORT {
+        for &picks in &SHORT {
             let left = disk.copy()?.stop(|at, _| pick(picks, at));
             let turns = past.turns_and(rt.alloc(), self.turn(rt.alloc(), moment, picks)?)?;
             compare(rt, tally, &self.lives, &turns, &left)?;
@@ -244,9 +244,9 @@ impl Game {
     }
 
     // Cuts the round that is played, and stops its disk with every pick.
-    fn cut<R: Print + AllocGlobal>(
+    fn cut(
         &mut self,
-        rt: &R,
+        rt: &HostRuntime,
         tally: &mut Tally,
         past: &Past,
         moment: Moment,
@@ -264,9 +264,9 @@ impl Game {
     }
 
     // Plays one more round behind these, cut at each of its calls.
-    fn extend<R: Print + AllocGlobal>(
+    fn extend(
         &mut self,
-        rt: &R,
+        rt: &HostRuntime,
         tally: &mut Tally,
         past: &Past,
         changes: &[Change],
@@ -282,12 +282,7 @@ impl Game {
     }
 
     // Plays one more round behind all that was played.
-    fn round<R: Print + AllocGlobal>(
-        &mut self,
-        rt: &R,
-        tally: &mut Tally,
-        changes: &[Change],
-    ) -> Result<()> {
+    fn round(&mut self, rt: &HostRuntime, tally: &mut Tally, changes: &[Change]) -> Result<()> {
         let pasts = std::mem::replace(&mut self.played, Vec::new(rt.alloc()));
         for past in &pasts {
             self.extend(rt, tally, past, changes)?;
@@ -297,8 +292,8 @@ impl Game {
 }
 
 /// Plays each of these rows, every round cut at each of its calls and stopped with every pick.
-pub(crate) fn play_rounds<R: Print + AllocGlobal>(
-    rt: &R,
+pub(crate) fn play_rounds(
+    rt: &HostRuntime,
     tally: &mut Tally,
     rows: &[Row],
     wrong: bool,

@@ -29,8 +29,8 @@ const LIFE: [Change; 11] = [
 ];
 
 // Runs a life once, cut at one place, and opens what is left; the disk as the cut left it.
-fn cut_life<R: Print + AllocGlobal>(
-    rt: &R,
+fn cut_life(
+    rt: &HostRuntime,
     tally: &mut Tally,
     life: &Life,
     place: Place,
@@ -45,8 +45,8 @@ fn cut_life<R: Print + AllocGlobal>(
 }
 
 /// Cuts the long life on each disk at each of its calls, and behind them all.
-pub(crate) fn cut_lives<R: Print + AllocGlobal>(rt: &R, tally: &mut Tally) -> Result<()> {
-    for sectors in SIZES {
+pub(crate) fn cut_lives(rt: &HostRuntime, tally: &mut Tally) -> Result<()> {
+    for &sectors in &SIZES {
         let life = Life::of(rt.alloc(), sectors, &LIFE)?;
         for place in &life.places(rt.alloc())? {
             let _ = cut_life(rt, tally, &life, *place, life.wanted(*place))?;
@@ -58,8 +58,8 @@ pub(crate) fn cut_lives<R: Print + AllocGlobal>(rt: &R, tally: &mut Tally) -> Re
 // Cuts a list at one place, and then each opening of what is left, before a stop and after it.
 // Where one call alone is cut, that is what is left where all behind it are: a change that failed
 // is followed by no call, and a bind that failed changes nothing.
-fn cut_list<R: Print + AllocGlobal>(
-    rt: &R,
+fn cut_list(
+    rt: &HostRuntime,
     tally: &mut Tally,
     life: &Life,
     place: Place,
@@ -77,8 +77,8 @@ fn cut_list<R: Print + AllocGlobal>(
 }
 
 /// Cuts each list at each of its calls, those of its opening too, and behind them all.
-pub(crate) fn cut_lists<R: Print + AllocGlobal>(
-    rt: &R,
+pub(crate) fn cut_lists(
+    rt: &HostRuntime,
     tally: &mut Tally,
     lists: &[List],
     wrong: bool,

@@ -27,8 +27,8 @@ impl Sides<'_> {
 }
 
 /// Opens all that a stop of the disk may leave.
-pub(crate) fn open_mixtures<R: Print + AllocGlobal>(
-    rt: &R,
+pub(crate) fn open_mixtures(
+    rt: &HostRuntime,
     tally: &mut Tally,
     disk: &Memory,
     cut: Cut,
@@ -53,12 +53,7 @@ pub(crate) fn open_mixtures<R: Print + AllocGlobal>(
 }
 
 // Opens a disk with one call cut: S1, and the disk behind its fuse.
-fn cut_open<R: Print + AllocGlobal>(
-    rt: &R,
-    tally: &mut Tally,
-    disk: &Memory,
-    cut: Cut,
-) -> Result<Powered> {
+fn cut_open(rt: &HostRuntime, tally: &mut Tally, disk: &Memory, cut: Cut) -> Result<Powered> {
     let (is_cut, disk) = match Registry::open(rt.alloc(), cut.of(disk.copy()?)) {
         Ok(registry) => (false, registry.into_disk()),
         Err((refusal, disk)) => (refusal == StoreRefusal::Device, disk),
@@ -68,8 +63,8 @@ fn cut_open<R: Print + AllocGlobal>(
 }
 
 // Cuts one call of the opening: the same stands afterwards.
-fn cut_opening<R: Print + AllocGlobal>(
-    rt: &R,
+fn cut_opening(
+    rt: &HostRuntime,
     tally: &mut Tally,
     disk: &Memory,
     cut: Cut,
@@ -87,8 +82,8 @@ fn cut_opening<R: Print + AllocGlobal>(
 }
 
 /// Cuts each call of an opening of this disk.
-pub(crate) fn cut_openings<R: Print + AllocGlobal>(
-    rt: &R,
+pub(crate) fn cut_openings(
+    rt: &HostRuntime,
     tally: &mut Tally,
     disk: &Memory,
     sides: Sides<'_>,
@@ -103,8 +98,8 @@ pub(crate) fn cut_openings<R: Print + AllocGlobal>(
 
 /// Cuts each call of an opening of all that a stop of the disk may leave: the same stands
 /// afterwards.
-pub(crate) fn cut_stopped<R: Print + AllocGlobal>(
-    rt: &R,
+pub(crate) fn cut_stopped(
+    rt: &HostRuntime,
     tally: &mut Tally,
     disk: &Memory,
     sides: Sides<'_>,
@@ -124,8 +119,8 @@ pub(crate) fn cut_stopped<R: Print + AllocGlobal>(
 }
 
 /// Opens a disk that a cut has left, at once and after each stop.
-pub(crate) fn open_left<R: Print + AllocGlobal>(
-    rt: &R,
+pub(crate) fn open_left(
+    rt: &HostRuntime,
     tally: &mut Tally,
     disk: &Memory,
     cut: Cut,

@@ -145,8 +145,8 @@ pub(crate) fn are_same(alloc: Global, disk: Memory, other: &Memory) -> Result<bo
 }
 
 /// Runs rounds from a disk, and compares what is told of them, and what is left at the end.
-pub(crate) fn compare<R: Print + AllocGlobal>(
-    rt: &R,
+pub(crate) fn compare(
+    rt: &HostRuntime,
     tally: &mut Tally,
     lives: &[Life],
     turns: &[Turn],

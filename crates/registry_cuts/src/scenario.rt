@@ -163,12 +163,8 @@ fn trial(alloc: Global, sectors: u32, start: &[Change], change: Change) -> Resul
 }
 
 /// Cuts `format` at each of its calls.
-pub(crate) fn cut_formats<R: Print + AllocGlobal>(
-    rt: &R,
-    tally: &mut Tally,
-    wrong: bool,
-) -> Result<()> {
-    for sectors in SIZES {
+pub(crate) fn cut_formats(rt: &HostRuntime, tally: &mut Tally, wrong: bool) -> Result<()> {
+    for &sectors in &SIZES {
         let states = format_states(rt.alloc(), sectors)?;
         let trial = Trial {
             disk: Memory::new(rt.alloc(), sectors)?,
@@ -189,8 +185,8 @@ pub(crate) struct Kind {
 }
 
 // Cuts each of these commands on a disk of this size after these others.
-fn cut_after<R: Print + AllocGlobal>(
-    rt: &R,
+fn cut_after(
+    rt: &HostRuntime,
     tally: &mut Tally,
     kind: Kind,
     start: (u32, &[Change]),
@@ -207,14 +203,14 @@ fn cut_after<R: Print + AllocGlobal>(
 }
 
 /// Cuts each of these commands on each disk at each of its calls.
-pub(crate) fn cut_commands<R: Print + AllocGlobal>(
-    rt: &R,
+pub(crate) fn cut_commands(
+    rt: &HostRuntime,
     tally: &mut Tally,
     kind: Kind,
     changes: &[Change],
 ) -> Result<()> {
-    for sectors in SIZES {
-        for start in STARTS {
+    for &sectors in &SIZES {
+        for &start in &STARTS {
             if least_sectors(start) <= sectors {
                 cut_after(rt, tally, kind, (sectors, start), changes)?;
             }

@@ -114,13 +114,7 @@ impl Trial {
     }
 
     // Does it once, with one call cut, and opens what is left.
-    fn cut<R: Print + AllocGlobal>(
-        &self,
-        rt: &R,
-        tally: &mut Tally,
-        cut: Cut,
-        wanted: Wanted,
-    ) -> Result<Memory> {
+    fn cut(&self, rt: &HostRuntime, tally: &mut Tally, cut: Cut, wanted: Wanted) -> Result<Memory> {
         let ending = self.end(rt.alloc(), cut)?;
         tally.count(rt, self.is_answered(&ending, cut), &cut, "the answers")?;
         let disk = ending.disk.into_inner();
@@ -129,13 +123,7 @@ impl Trial {
     }
 
     // Opens again on the disk that failed once, without taking it out of its fuse.
-    fn go_on<R: Print + AllocGlobal>(
-        &self,
-        rt: &R,
-        tally: &mut Tally,
-        cut: Cut,
-        wanted: Wanted,
-    ) -> Result<()> {
+    fn go_on(&self, rt: &HostRuntime, tally: &mut Tally, cut: Cut, wanted: Wanted) -> Result<()> {
         let ending = self.end(rt.alloc(), cut)?;
         let again = look_behind(rt.alloc(), ending.disk, &self.states.probe)?;
         let right = again == *self.sides().reopened(wanted);
@@ -143,7 +131,7 @@ impl Trial {
     }
 
     /// Cuts each call of the disk, early and late, for ever and once, and none.
-    pub(crate) fn cut_each<R: Print + AllocGlobal>(&self, rt: &R, tally: &mut Tally) -> Result<()> {
+    pub(crate) fn cut_each(&self, rt: &HostRuntime, tally: &mut Tally) -> Result<()> {
         let calls = self.calls();
         for cut in &Cut::all(rt.alloc(), self.opening(), calls.saturating_add(1))? {
             let wanted = by_table(cut.call, calls, cut.late);
@@ -153,12 +141,7 @@ impl Trial {
     }
 
     /// The same, and then each call of the next opening.
-    pub(crate) fn cut_all<R: Print + AllocGlobal>(
-        &self,
-        rt: &R,
-        tally: &mut Tally,
-        wrong: bool,
-    ) -> Result<()> {
+    pub(crate) fn cut_all(&self, rt: &HostRuntime, tally: &mut Tally, wrong: bool) -> Result<()> {
         let calls = self.calls();
         for cut in &Cut::all(rt.alloc(), self.opening(), calls.saturating_add(1))? {
             let table = by_table(cut.call, calls, cut.late);

@@ -111,7 +111,7 @@ fn trial(alloc: Global, changes: &[Change], disk: Memory, is_old: bool) -> Resul
 }
 
 // Compares what is seen of the registry that an upgrade gives.
-fn look_on<R: Print + AllocGlobal>(rt: &R, tally: &mut Tally, trial: &Trial) -> Result<()> {
+fn look_on(rt: &HostRuntime, tally: &mut Tally, trial: &Trial) -> Result<()> {
     let disk = whole(trial.disk.copy()?);
     let seen = look_upgraded(rt.alloc(), disk, &trial.states.probe)?;
     let right = seen == trial.states.new;
@@ -119,12 +119,7 @@ fn look_on<R: Print + AllocGlobal>(rt: &R, tally: &mut Tally, trial: &Trial) -> 
 }
 
 // Upgrades once more all that one cut of an upgrade has left, cut at each call.
-fn cut_again<R: Print + AllocGlobal>(
-    rt: &R,
-    tally: &mut Tally,
-    changes: &[Change],
-    disk: &Memory,
-) -> Result<()> {
+fn cut_again(rt: &HostRuntime, tally: &mut Tally, changes: &[Change], disk: &Memory) -> Result<()> {
     let alloc = rt.alloc();
     let probe = Probe::of_name(alloc, b'a')?;
     let mut mixtures = Mixtures::of(alloc, disk)?;
@@ -137,8 +132,8 @@ fn cut_again<R: Print + AllocGlobal>(
 }
 
 // Upgrades once more what each cut of an upgrade has left, unless that is what it found.
-fn cut_all_again<R: Print + AllocGlobal>(
-    rt: &R,
+fn cut_all_again(
+    rt: &HostRuntime,
     tally: &mut Tally,
     changes: &[Change],
     first: &Trial,
@@ -155,8 +150,8 @@ fn cut_all_again<R: Print + AllocGlobal>(
 }
 
 /// Cuts the upgrade of each of these disks at each of its calls.
-pub(crate) fn cut_old<R: Print + AllocGlobal>(
-    rt: &R,
+pub(crate) fn cut_old(
+    rt: &HostRuntime,
     tally: &mut Tally,
     rows: &[Old],
     wrong: bool,
@@ -194,12 +189,12 @@ fn full_trial(alloc: Global, row: Old) -> Result<Trial> {
 }
 
 /// Cuts upgrades that have no room, and those of disks of version 2: nothing is written.
-pub(crate) fn cut_unwritten<R: Print + AllocGlobal>(rt: &R, tally: &mut Tally) -> Result<()> {
+pub(crate) fn cut_unwritten(rt: &HostRuntime, tally: &mut Tally) -> Result<()> {
     let alloc = rt.alloc();
-    for row in FULL_DISKS {
+    for &row in &FULL_DISKS {
         cut_reads(rt, tally, &full_trial(alloc, row)?)?;
     }
-    for changes in NEW_DISKS {
+    for &changes in &NEW_DISKS {
         let disk = disk_after(alloc, 10, changes)?;
         cut_reads(rt, tally, &trial(alloc, changes, disk, false)?)?;
     }
@@ -207,7 +202,7 @@ pub(crate) fn cut_unwritten<R: Print + AllocGlobal>(rt: &R, tally: &mut Tally) -
 }
 
 // Cuts an upgrade that writes nothing, and sees that it does so.
-fn cut_reads<R: Print + AllocGlobal>(rt: &R, tally: &mut Tally, first: &Trial) -> Result<()> {
+fn cut_reads(rt: &HostRuntime, tally: &mut Tally, first: &Trial) -> Result<()> {
     first.cut_all(rt, tally, false)?;
     look_on(rt, tally, first)?;
     for cut in &Cut::all(rt.alloc(), 0, first.calls().saturating_add(1))? {

@@ -45,7 +45,7 @@ fn refusals(alloc: Global, sectors: &Sectors) -> Result<[Option<StoreRefusal>; 4
 #[test]
 fn a_disk_that_was_changed_is_told(rt: HostRuntime) -> Result<(), Fail> {
     let sectors = one_library(rt.alloc())?;
-    for (harms, [by_store, by_registry], liar) in ROWS {
+    for &(harms, [by_store, by_registry], liar) in &ROWS {
         let found = refusals(rt.alloc(), &harmed(&sectors, harms))?;
         assert_eq!(rt; found, [by_store, by_registry, by_registry, liar[2].err()]);
     }
