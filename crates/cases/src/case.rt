@@ -40,7 +40,7 @@ fn byte_text(rt: &HostRuntime, words: &str) -> Result<Vec<u8>> {
     Ok(text)
 }
 
-/// What a call gives: its name and its words.
+/// What a call gives, which is a name with words behind it.
 fn answer(rt: &HostRuntime, call: &str) -> Result<Vec<u8>> {
     let (name, words) = call.split_once(' ').context("a call without words")?;
     match name {
