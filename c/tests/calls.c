@@ -129,6 +129,20 @@ static void try_refusal(struct call it, uint32_t wanted, const char *line) {
     }
 }
 
+/* Names in a row: each has a byte 0 behind it, and the empty one is a name that nothing has. */
+static void try_names(const char *name) {
+    char names[600] = { 0 };
+    size_t one = strlen(name) + 1;
+    memcpy(names, name, one);
+    struct call empty = { 'p', "", 1 }, empty_behind = { 'p', names, one + 1 },
+                cut = { 'p', name, one - 1 }, cut_behind = { 'p', names, 2 * one - 1 };
+    try_refusal(empty, RLIBREG_NOT_INSTALLED, "refused C3 NotInstalled\n");
+    try_refusal(empty_behind, RLIBREG_NOT_INSTALLED, "refused C3 NotInstalled\n");
+    try_refusal(cut, RLIBREG_BAD_ARGUMENT, "");
+    memcpy(names + one, name, one);
+    try_refusal(cut_behind, RLIBREG_BAD_ARGUMENT, "");
+}
+
 /* ---- Looking, with every room */
 
 static void try_listing(uint64_t libraries, uint64_t preloads, uint64_t generation,
@@ -261,7 +275,7 @@ int main(int argc, char **argv) {
     struct call format = { 'f', NULL, 0 }, upgrade = { 'u', NULL, 0 },
                 install = { 'i', library.bytes, library.length },
                 replace = { 'r', other.bytes, other.length }, remove = { 'd', name, one - 1 },
-                preload = { 'p', name, one }, none = { 'p', NULL, 0 }, cut = { 'p', name, one - 1 },
+                preload = { 'p', name, one }, none = { 'p', NULL, 0 },
                 short_file = { 'i', library.bytes, 63 };
     snprintf(missing, sizeof missing, "refused B3 Missing /program %s\n", name);
     memcpy(names, name, one);
@@ -289,7 +303,7 @@ int main(int argc, char **argv) {
     snprintf(said, sizeof said, "library %s %zu\npreload %s\nend\n", name, other.length, name);
     try_listing(1, 1, 3, names, 2 * one, said);
     try_refusal(remove, RLIBREG_IN_PRELOADS, "refused C4 InPreloads\n");
-    try_refusal(cut, RLIBREG_BAD_ARGUMENT, "");
+    try_names(name);
     try_damaged(program, library);
     try_plan(none);
     try_plan(upgrade);

@@ -24,6 +24,3 @@ mod upgrade;
 pub use answer::Answer;
 pub use entry::EntryPlace;
 pub use place::SegmentPlace;
-
-#[cfg(test)]
-mod tests;
