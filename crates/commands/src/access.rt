@@ -7,7 +7,7 @@ ghost use Rattle.commands.specs.inside.Access.{access_of};
 use requests::Command;
 
 /// What a disk is opened for.
-#[derive(Clone, Copy, Debug, PartialEq, Eq)]
+#[derive(Clone, Copy)]
 pub(crate) enum Access {
     /// Nothing is written.
     Reading,

@@ -20,7 +20,7 @@ use std::rt::Files;
 use store::StoreRefusal;
 
 /// Why there is no registry to ask.
-#[derive(Clone, Copy, Debug, PartialEq, Eq)]
+#[derive(Clone, Copy)]
 pub(crate) enum NoRegistry {
     /// The file can't be opened or made.
     CannotOpen,

@@ -1,6 +1,7 @@
 // Reading a file.
 
-ghost use Rattle.std.specs.Prelude.{◌≡◌, ◌<◌, IfOk, IfSome, length};
+ghost use Rattle.std.specs.Prelude.{◌≡◌, ◌<◌, ◌≤◌, IfOk, IfSome, MatchOption, length, take};
+ghost use Rattle.std.specs.Io.KnownBytes.{Consumes, IsAtEnd, Keeps};
 ghost use Rattle.commands.specs.File.{read_limit};
 ghost use Rattle.commands.specs.declared.file.FileFault.TheVariants.{OutOfMemory};
 
@@ -35,6 +36,22 @@ pub(crate) fn read_file<R: Files>(rt: &R, alloc: Global, path: &str) -> Result<V
     }
 }
 
+// Reads once into a page: how many bytes came, none of them only at the end, or nothing where a
+// signal interrupted the read.
+fn read_page<F: Read>(file: &mut F, page: &mut [u8; PAGE]) -> Result<Option<usize>, FileFault>
+    ensures most { IfOk result (λ count. IfSome count (λ n. n ≤ 65536)) }
+    ensures bytes { IfOk result (λ count. MatchOption count
+        (Keeps (F.remaining file.old) (F.remaining file.new))
+        (λ n. Consumes (F.remaining file.old) (F.remaining file.new) (take n page.new)
+        × (n ≡ 0 → IsAtEnd (F.remaining file.new)))) }
+{
+    match file.read(page) {
+        Ok(count) => Ok(Some(count)),
+        Err(fault) if fault.kind() == ErrorKind::Interrupted => Ok(None),
+        Err(_) => Err(FileFault::CannotRead),
+    }
+}
+
 /// Reads to the end, where that comes before a limit, through a page on the stack, so that a growth
 /// that is refused is told from a read that fails, for whatever reason it fails.
 pub fn read_all<F: Read>(alloc: Global, file: &mut F, limit: usize) -> Result<Vec<u8>, FileFault>
@@ -46,12 +63,11 @@ pub fn read_all<F: Read>(alloc: Global, file: &mut F, limit: usize) -> Result<Ve
     let mut bytes = Vec::new(alloc);
     let mut page = [0u8; PAGE];
     for _ in 0..u64::MAX {
-        match file.read(&mut page) {
-            Ok(count) if count >= limit - bytes.len() => return Err(FileFault::CannotRead),
-            Ok(0) => return Ok(bytes),
-            Ok(count) => bytes.extend_from_slice(&page[..count])?,
-            Err(e) if e.kind() == ErrorKind::Interrupted => {}
-            Err(_) => return Err(FileFault::CannotRead),
+        match read_page(file, &mut page)? {
+            Some(count) if count >= limit - bytes.len() => return Err(FileFault::CannotRead),
+            Some(0) => return Ok(bytes),
+            Some(count) => bytes.extend_from_slice(&page[..count])?,
+            None => {}
         }
     }
     Err(FileFault::CannotRead)

@@ -13,7 +13,7 @@ use requests::{Refusal, Reply};
 use store::StoreRefusal;
 
 /// The exit status of the program.
-#[derive(Clone, Copy, Debug, PartialEq, Eq)]
+#[derive(Clone, Copy)]
 pub(crate) enum Status {
     /// Done.
     Done = 0,

@@ -66,7 +66,7 @@ fn open_three<R: Files>(rt: &R) -> io::Result<[R::File; 3]> {
 
 /// What stands behind the standard streams of the process, as seen from a path. Nothing is opened
 /// for it.
-#[derive(Clone, Copy, Debug, PartialEq, Eq)]
+#[derive(Clone, Copy)]
 pub(crate) enum Behind {
     /// Another file than the path's, or none.
     Other,
