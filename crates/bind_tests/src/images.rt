@@ -5,7 +5,7 @@ use bitflags::Flags;
 use hash_check::Admitted;
 use image::{Image, Permissions, bind_alone, good_base};
 use samples::put;
-use std::alloc::Global;
+use std::alloc::{AllocError, Global};
 use std::io::Write;
 use std::test::Fail;
 
@@ -41,46 +41,72 @@ fn sample(alloc: Global) -> Result<Vec<u8>, Fail> {
     Ok(hex::decode(alloc, SAMPLE)?)
 }
 
+/// Puts the words of an entry behind a file.
+fn put_words(file: &mut Vec<u8>, words: &[u64]) -> Result<(), AllocError> {
+    for word in words {
+        file.extend_from_slice(&word.to_le_bytes())?;
+    }
+    Ok(())
+}
+
+/// Puts a file's two program headers behind it once more.
+fn put_headers_again(alloc: Global, file: &mut Vec<u8>) -> Result<(), AllocError> {
+    let headers = file.as_slice().get(64..176).unwrap_or(&[]).to_vec(alloc)?;
+    file.extend_from_slice(&headers)
+}
+
+/// Puts the headers of 60,000 PT_LOADs of the file's first 17 bytes behind a file.
+fn put_headers(file: &mut Vec<u8>) -> Result<(), AllocError> {
+    for i in 0..60_000u64 {
+        let address = 0x1000 + 32 * i;
+        file.extend_from_slice(&1u32.to_le_bytes())?;
+        file.extend_from_slice(&6u32.to_le_bytes())?;
+        put_words(file, &[0, address, address, 17, 17, 1])?;
+    }
+    Ok(())
+}
+
 /// The sample with this size of memory, and with 60,000 PT_LOADs of the file's first 17 bytes
 /// behind its own two program headers, which are at the end.
 fn many_segments(alloc: Global, size: u64) -> Result<Vec<u8>, Fail> {
     let mut file = sample(alloc)?;
     put(&mut file, MEMORY_SIZE_AT, &size.to_le_bytes());
-    let headers = file.as_slice().get(64..176).unwrap_or(&[]).to_vec(alloc)?;
-    file.extend_from_slice(&headers)?;
-    for i in 0..60_000u64 {
-        let address = 0x1000 + 32 * i;
-        file.extend_from_slice(&1u32.to_le_bytes())?;
-        file.extend_from_slice(&6u32.to_le_bytes())?;
-        for field in [0, address, address, 17, 17, 1] {
-            file.extend_from_slice(&field.to_le_bytes())?;
-        }
-    }
+    put_headers_again(alloc, &mut file)?;
+    put_headers(&mut file)?;
     put(&mut file, HEADERS_AT, &400u64.to_le_bytes());
     put(&mut file, HEADER_COUNT_AT, &60_002u16.to_le_bytes());
     Ok(file)
+}
+
+/// Puts the text of the segment at an address behind a text.
+fn put_segment(text: &mut Vec<u8>, address: u64) -> Result<(), Fail> {
+    writeln!(text, "segment {address:#018x} 17 rw-")?;
+    text.extend_from_slice(b"7f454c46020101000000000000000000\n03\n")?;
+    Ok(())
 }
 
 /// The text of these segments and the end of it.
 fn text_of_many(alloc: Global) -> Result<Vec<u8>, Fail> {
     let mut text = Vec::new(alloc);
     for i in 0..60_000u64 {
-        let address = 0x11000 + 32 * i;
-        writeln!(text, "segment {address:#018x} 17 rw-")?;
-        text.extend_from_slice(b"7f454c46020101000000000000000000\n03\n")?;
+        put_segment(&mut text, 0x11000 + 32 * i)?;
     }
     text.extend_from_slice(b"end\n")?;
     Ok(text)
 }
 
-/// The sample with 20,000 relocations, the i-th of which writes base + i at 0x188.
+/// Puts 20,000 relocations behind a file, the i-th of which writes base + i at 0x188.
+fn put_relocations(file: &mut Vec<u8>) -> Result<(), AllocError> {
+    for i in 0..20_000u64 {
+        put_words(file, &[0x188, 8, i])?;
+    }
+    Ok(())
+}
+
+/// The sample with these relocations.
 fn many_relocations(alloc: Global) -> Result<Vec<u8>, Fail> {
     let mut file = sample(alloc)?;
-    for i in 0..20_000u64 {
-        for field in [0x188, 8, i] {
-            file.extend_from_slice(&field.to_le_bytes())?;
-        }
-    }
+    put_relocations(&mut file)?;
     let size = file.len() as u64;
     put(&mut file, FILE_SIZE_AT, &size.to_le_bytes());
     put(&mut file, MEMORY_SIZE_AT, &size.to_le_bytes());
@@ -89,23 +115,83 @@ fn many_relocations(alloc: Global) -> Result<Vec<u8>, Fail> {
     Ok(file)
 }
 
-/// How many bytes the text of an image has.
-fn text_length(alloc: Global, image: &Image) -> Result<usize, Fail> {
+/// The image of a program at 0x10000.
+fn bound(alloc: Global, file: &[u8]) -> Result<Image, Fail> {
+    match bind_alone(alloc, file, 0x10000) {
+        Ok(image) => Ok(image),
+        Err(_) => Err(Fail::from("refused")),
+    }
+}
+
+/// The image of the sample with this size of memory.
+fn image_of_size(alloc: Global, size: u64) -> Result<Image, Fail> {
+    let mut file = sample(alloc)?;
+    put(&mut file, MEMORY_SIZE_AT, &size.to_le_bytes());
+    bound(alloc, &file)
+}
+
+/// The text of an image.
+fn text_of(alloc: Global, image: &Image) -> Result<Vec<u8>, Fail> {
     let mut text = Vec::new(alloc);
     image.write_text(&mut text)?;
-    Ok(text.len())
+    Ok(text)
+}
+
+/// How many bytes the text of an image has.
+fn text_length(alloc: Global, image: &Image) -> Result<usize, Fail> {
+    Ok(text_of(alloc, image)?.len())
+}
+
+/// Whether 0x10000 is a good base of a program, which is admitted.
+fn is_good_base(alloc: Global, file: &[u8]) -> bool {
+    match Admitted::read(alloc, file) {
+        Ok(program) => good_base(&program, 0x10000),
+        Err(_) => false,
+    }
+}
+
+/// The byte above the lowest that the sample's relocation writes, and the one behind the memory.
+fn bytes_of_sample(image: &Image) -> [Option<u8>; 2] {
+    [image.byte(0x10189), image.byte(0x10190)]
+}
+
+/// Whether the sample has the base, those bytes of its image, and how many bytes the text has.
+fn seen_of_sample(alloc: Global) -> Result<(bool, [Option<u8>; 2], usize), Fail> {
+    let file = sample(alloc)?;
+    let is_good = is_good_base(alloc, &file);
+    let image = bound(alloc, &file)?;
+    let length = text_length(alloc, &image)?;
+    Ok((is_good, bytes_of_sample(&image), length))
 }
 
 #[test]
 fn binds(rt: HostRuntime) -> Result<(), Fail> {
-    let alloc = rt.alloc();
-    let file = sample(alloc)?;
-    assert!(rt; good_base(&Admitted::read(alloc, &file)?, 0x10000));
-    let image = bind_alone(alloc, &file, 0x10000)?;
-    assert_eq!(rt; image.byte(0x10189), Some(0x20));
-    assert_eq!(rt; image.byte(0x10190), None);
-    assert_eq!(rt; text_length(alloc, &image)?, 35 + 35 + 25 * 33 + 4);
+    let seen = seen_of_sample(rt.alloc())?;
+    assert_eq!(rt; seen, (true, [Some(0x20), None], 35 + 35 + 25 * 33 + 4));
     Ok(())
+}
+
+/// The first byte of the first of the many segments of an image, the last one of the last, and what
+/// is behind it.
+fn bytes_of_many(image: &Image) -> [Option<u8>; 3] {
+    let last = 0x11000 + 32 * 59_999;
+    [
+        image.byte(0x11000),
+        image.byte(last + 16),
+        image.byte(last + 17),
+    ]
+}
+
+/// Those bytes, with this size of memory; how many bytes the text has, and whether it ends so.
+fn seen_of_many(
+    alloc: Global,
+    size: u64,
+    end: &[u8],
+) -> Result<([Option<u8>; 3], usize, bool), Fail> {
+    let file = many_segments(alloc, size)?;
+    let image = bound(alloc, &file)?;
+    let text = text_of(alloc, &image)?;
+    Ok((bytes_of_many(&image), text.len(), text.ends_with(end)))
 }
 
 // A segment's lines have 70 bytes and the writer gets pieces of 65,536, so that of 60,000 segments
@@ -115,63 +201,95 @@ fn binds(rt: HostRuntime) -> Result<(), Fail> {
 fn binds_sixty_thousand_segments(rt: HostRuntime) -> Result<(), Fail> {
     let alloc = rt.alloc();
     let want = text_of_many(alloc)?;
-    for (size, own) in [(400, 35 + 25 * 33), (401, 35 + 25 * 33 + 3)] {
-        let image = bind_alone(alloc, &many_segments(alloc, size)?, 0x10000)?;
-        assert_eq!(rt; image.byte(0x11000), Some(0x7f));
-        assert_eq!(rt; image.byte(0x11000 + 32 * 59_999 + 16), Some(3));
-        assert_eq!(rt; image.byte(0x11000 + 32 * 59_999 + 17), None);
-        let mut text = Vec::new(alloc);
-        image.write_text(&mut text)?;
-        assert_eq!(rt; text.len(), 35 + own + want.len());
-        assert!(rt; text.ends_with(&want), "{size}");
-    }
+    let seen = [
+        seen_of_many(alloc, 400, &want)?,
+        seen_of_many(alloc, 401, &want)?,
+    ];
+    let bytes = [Some(0x7f), Some(3), None];
+    let length = 35 + 35 + 25 * 33 + want.len();
+    assert_eq!(rt; seen, [(bytes, length, true), (bytes, length + 3, true)]);
     Ok(())
+}
+
+/// The bytes that the last relocation writes.
+fn bytes_of_relocations(alloc: Global) -> Result<[Option<u8>; 4], Fail> {
+    let file = many_relocations(alloc)?;
+    let image = bound(alloc, &file)?;
+    Ok([
+        image.byte(0x10188),
+        image.byte(0x10189),
+        image.byte(0x1018a),
+        image.byte(0x1018b),
+    ])
 }
 
 #[test]
 fn binds_twenty_thousand_relocations(rt: HostRuntime) -> Result<(), Fail> {
-    let alloc = rt.alloc();
-    let image = bind_alone(alloc, &many_relocations(alloc)?, 0x10000)?;
+    let bytes = bytes_of_relocations(rt.alloc())?;
     // The last one writes 0x10000 + 19,999.
-    for (address, byte) in [(0x10188, 0x1f), (0x10189, 0x4e), (0x1018a, 1), (0x1018b, 0)] {
-        assert_eq!(rt; image.byte(address), Some(byte), "at {address}");
-    }
+    assert_eq!(rt; bytes, [Some(0x1f), Some(0x4e), Some(1), Some(0)]);
     Ok(())
+}
+
+/// The last byte of the largest memory, and what is behind it.
+fn end_of_largest(alloc: Global) -> Result<[Option<u8>; 2], Fail> {
+    let image = image_of_size(alloc, 0x400_0000)?;
+    Ok([
+        image.byte(0x10000 + 0x3ff_ffff),
+        image.byte(0x10000 + 0x400_0000),
+    ])
 }
 
 #[test]
 fn binds_the_largest_memory(rt: HostRuntime) -> Result<(), Fail> {
-    let alloc = rt.alloc();
-    let mut file = sample(alloc)?;
-    put(&mut file, MEMORY_SIZE_AT, &0x400_0000u64.to_le_bytes());
-    let image = bind_alone(alloc, &file, 0x10000)?;
-    assert_eq!(rt; image.byte(0x10000 + 0x3ff_ffff), Some(0));
-    assert_eq!(rt; image.byte(0x10000 + 0x400_0000), None);
+    assert_eq!(rt; end_of_largest(rt.alloc())?, [Some(0), None]);
     Ok(())
+}
+
+/// The text and the bits of the permissions of flags.
+fn permissions(flags: u32) -> ([u8; 3], u32) {
+    let permissions = Permissions::of_flags(flags);
+    (permissions.text(), u32::from(permissions.bits()))
 }
 
 #[test]
 fn shows_permissions(rt: HostRuntime) {
-    for (flags, want) in [(0, b"---"), (6, b"rw-"), (0x8000_000d, b"r-x")] {
-        let permissions = Permissions::of_flags(flags);
-        assert_eq!(rt; &permissions.text(), want, "flags {flags}");
-        assert_eq!(rt; u32::from(permissions.bits()), flags & 7, "flags {flags}");
+    let shown = [permissions(0), permissions(6), permissions(0x8000_000d)];
+    assert_eq!(rt; shown, [(*b"---", 0), (*b"rw-", 6), (*b"r-x", 5)]);
+}
+
+/// How long the text of 65,936 bytes of memory is, which has 4,121 lines.
+const LENGTH: usize = 35 + 37 + 2 * 65936 + 4121 + 4;
+
+/// Rooms in which that text has no place.
+const ROOMS: [usize; 5] = [0, 100, 65536, 65537, LENGTH - 1];
+
+/// Whether a text has a place in so much room.
+fn fits(alloc: Global, image: &Image, room: usize) -> Result<bool, AllocError> {
+    let mut held = vec![in alloc; 0u8; room]?;
+    let mut out = held.as_mut_slice();
+    Ok(image.write_text(&mut out).is_ok())
+}
+
+/// The first of the rooms in which a text has a place.
+fn first_fitting(alloc: Global, image: &Image) -> Result<Option<usize>, AllocError> {
+    for &room in &ROOMS {
+        if fits(alloc, image, room)? {
+            return Ok(Some(room));
+        }
     }
+    Ok(None)
+}
+
+/// How long that text is, and the first of the rooms in which it has a place.
+fn length_and_fitting(alloc: Global) -> Result<(usize, Option<usize>), Fail> {
+    let image = image_of_size(alloc, 0x10190)?;
+    let length = text_length(alloc, &image)?;
+    Ok((length, first_fitting(alloc, &image)?))
 }
 
 #[test]
 fn fails_where_the_writer_fails(rt: HostRuntime) -> Result<(), Fail> {
-    let alloc = rt.alloc();
-    let mut file = sample(alloc)?;
-    // 65,936 bytes of memory, in 4,121 lines.
-    put(&mut file, MEMORY_SIZE_AT, &0x10190u64.to_le_bytes());
-    let image = bind_alone(alloc, &file, 0x10000)?;
-    let length = text_length(alloc, &image)?;
-    assert_eq!(rt; length, 35 + 37 + 2 * 65936 + 4121 + 4);
-    for room in [0, 100, 65536, 65537, length - 1] {
-        let mut held = vec![in alloc; 0u8; room]?;
-        let mut out = held.as_mut_slice();
-        assert!(rt; image.write_text(&mut out).is_err(), "room {room}");
-    }
+    assert_eq!(rt; length_and_fitting(rt.alloc())?, (LENGTH, None));
     Ok(())
 }

@@ -6,7 +6,7 @@ ghost use Rattle.elf_dynamic.specs.Symbol.{symbols};
 ghost use Rattle.scope.specs.Objects.{file_at};
 
 use elf_dynamic::Symbol;
-use hash_check::Admitted;
+use hash_check::{Admitted, ReadRefusal};
 use samples::{needing_file, put};
 use scope::{Library, Order, Target, load_order, resolve};
 use std::alloc::{AllocError, Global};
@@ -107,29 +107,84 @@ fn plain_target(order: &Order<'_>, object: usize, symbol: u32) -> Option<Target>
     }
 }
 
-/// Whether `resolve` gives the plain target of each symbol of a program that needs a and b.
-fn resolves_plainly(alloc: Global, program: &[u8], a: &[u8], b: &[u8]) -> Result<bool, Fail> {
-    let program = Admitted::read(alloc, program)?;
-    let libraries = [
-        Library {
-            name: b"a",
-            object: Admitted::read(alloc, a)?,
-        },
-        Library {
-            name: b"b",
-            object: Admitted::read(alloc, b)?,
-        },
-    ];
-    let order = load_order(alloc, &program, &libraries, &[])?;
+/// Whether `resolve` gives the plain target of each symbol of the three objects of an order.
+fn is_plain(order: &Order<'_>) -> bool {
     for object in 0..order.count() {
         for symbol in 0..order.object(object).object().symbol_count() {
-            let plain = plain_target(&order, object, symbol);
-            if resolve(&order, object, symbol).ok() != plain {
-                return Ok(false);
+            let plain = plain_target(order, object, symbol);
+            if resolve(order, object, symbol).ok() != plain {
+                return false;
             }
         }
     }
-    Ok(order.count() == 3)
+    order.count() == 3
+}
+
+/// Whether `resolve` gives the plain target of each symbol of a program that needs a and b.
+fn resolves_plainly(
+    alloc: Global,
+    program: &Admitted<'_>,
+    a: Admitted<'_>,
+    b: Admitted<'_>,
+) -> bool {
+    let libraries = [
+        Library {
+            name: b"a",
+            object: a,
+        },
+        Library {
+            name: b"b",
+            object: b,
+        },
+    ];
+    match load_order(alloc, program, &libraries, &[]) {
+        Ok(order) => is_plain(&order),
+        Err(_) => false,
+    }
+}
+
+/// The same of files.
+fn files_resolve_plainly(
+    alloc: Global,
+    program: &[u8],
+    a: &[u8],
+    b: &[u8],
+) -> Result<bool, ReadRefusal> {
+    let program = Admitted::read(alloc, program)?;
+    let a = Admitted::read(alloc, a)?;
+    let b = Admitted::read(alloc, b)?;
+    Ok(resolves_plainly(alloc, &program, a, b))
+}
+
+/// The same with an a of a number and an entry.
+fn resolves_with(
+    alloc: Global,
+    program: &[u8],
+    number: u8,
+    entry: &[u8],
+    b: &[u8],
+) -> Result<bool, AllocError> {
+    let a = file_of_kind(alloc, b"", entry, number)?;
+    Ok(files_resolve_plainly(alloc, program, &a, b) == Ok(true))
+}
+
+const ENTRIES: [&[u8]; 2] = [b"", SYMBOLIC];
+
+/// The number and the entry of the first a with which a program of a number resolves otherwise.
+fn first_otherwise(
+    alloc: Global,
+    of_program: u8,
+    b: &[u8],
+) -> Result<Option<(u8, &'static [u8])>, AllocError> {
+    let program = file_of_kind(alloc, b"ab", b"", of_program)?;
+    for number in 0..24 {
+        for &entry in &ENTRIES {
+            if !resolves_with(alloc, &program, number, entry, b)? {
+                return Ok(Some((number, entry)));
+            }
+        }
+    }
+    Ok(None)
 }
 
 #[test]
@@ -137,45 +192,14 @@ fn resolves_as_the_plain_lookup_does(rt: HostRuntime) -> Result<(), Fail> {
     let alloc = rt.alloc();
     let b = file(alloc, b"")?;
     for of_program in 0..24 {
-        let program = file_of_kind(alloc, b"ab", b"", of_program)?;
-        for of_a in 0..24 {
-            for entry in [b"".as_slice(), SYMBOLIC] {
-                let a = file_of_kind(alloc, b"", entry, of_a)?;
-                assert!(rt;
-                    resolves_plainly(alloc, &program, &a, &b)?,
-                    "{of_program} {of_a} {entry:?}"
-                );
-            }
-        }
+        let otherwise = first_otherwise(alloc, of_program, &b)?;
+        assert_eq!(rt; otherwise, None, "program {of_program}");
     }
     Ok(())
 }
 
-/// The names in load order, one after another, of a program with the libraries a, b and c, the last
-/// of which is preloaded.
-fn names_in_order(
-    alloc: Global,
-    program: &[u8],
-    a: &[u8],
-    b: &[u8],
-    c: &[u8],
-) -> Result<Vec<u8>, Fail> {
-    let program = Admitted::read(alloc, program)?;
-    let libraries = [
-        Library {
-            name: b"a",
-            object: Admitted::read(alloc, a)?,
-        },
-        Library {
-            name: b"b",
-            object: Admitted::read(alloc, b)?,
-        },
-        Library {
-            name: b"c",
-            object: Admitted::read(alloc, c)?,
-        },
-    ];
-    let order = load_order(alloc, &program, &libraries, &[2])?;
+/// The names of an order, one after another.
+fn joined_names(alloc: Global, order: &Order<'_>) -> Result<Vec<u8>, AllocError> {
     let mut names = Vec::new(alloc);
     for i in 0..order.count() {
         names.extend_from_slice(order.name(i))?;
@@ -183,14 +207,63 @@ fn names_in_order(
     Ok(names)
 }
 
+/// The names in load order, one after another, of a program with the libraries a, b and c, the last
+/// of which is preloaded.
+fn names_in_order(
+    alloc: Global,
+    program: &Admitted<'_>,
+    a: Admitted<'_>,
+    b: Admitted<'_>,
+    c: Admitted<'_>,
+) -> Result<Vec<u8>, Fail> {
+    let libraries = [
+        Library {
+            name: b"a",
+            object: a,
+        },
+        Library {
+            name: b"b",
+            object: b,
+        },
+        Library {
+            name: b"c",
+            object: c,
+        },
+    ];
+    match load_order(alloc, program, &libraries, &[2]) {
+        Ok(order) => Ok(joined_names(alloc, &order)?),
+        Err(_) => Err(Fail::from("no order")),
+    }
+}
+
+/// The same of files.
+fn names_of_files(
+    alloc: Global,
+    program: &[u8],
+    a: &[u8],
+    b: &[u8],
+    c: &[u8],
+) -> Result<Vec<u8>, Fail> {
+    let program = Admitted::read(alloc, program)?;
+    let a = Admitted::read(alloc, a)?;
+    let b = Admitted::read(alloc, b)?;
+    let c = Admitted::read(alloc, c)?;
+    names_in_order(alloc, &program, a, b, c)
+}
+
+/// The same of a program and an a with a b that needs nothing and a c that needs b.
+fn names_by_levels(alloc: Global, program: &[u8], a: &[u8]) -> Result<Vec<u8>, Fail> {
+    let b = file(alloc, b"")?;
+    let c = file(alloc, b"b")?;
+    names_of_files(alloc, program, a, &b, &c)
+}
+
 #[test]
 fn orders_by_levels(rt: HostRuntime) -> Result<(), Fail> {
     let alloc = rt.alloc();
     let program = file(alloc, b"abba")?;
     let a = file(alloc, b"ca")?;
-    let b = file(alloc, b"")?;
-    let c = file(alloc, b"b")?;
-    let names = names_in_order(alloc, &program, &a, &b, &c)?;
+    let names = names_by_levels(alloc, &program, &a)?;
     assert_eq!(rt; names.as_slice(), b"/programcab".as_slice());
     Ok(())
 }

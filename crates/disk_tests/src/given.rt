@@ -5,7 +5,6 @@ use crate::stops::write;
 use byte_disk::{ByteDisk, Step};
 use sector_disk::{Disk, Memory};
 use std::alloc::Global;
-use std::test::Fail;
 
 // Carries a plan out on a disk in memory: how many writes and syncs it has, if each goes through.
 fn carry_out(disk: &ByteDisk<'_>, memory: &mut Memory) -> Option<(usize, usize)> {
@@ -29,34 +28,40 @@ fn carry_out(disk: &ByteDisk<'_>, memory: &mut Memory) -> Option<(usize, usize)>
     Some((writes, syncs))
 }
 
-// Calls both and carries the plan out: the number of writes and syncs that were called, and that
-// were planned, and whether all three disks are the same.
-fn called_and_planned(
-    given: &mut ByteDisk<'_>,
-    memory: &mut Memory,
-    carried: &mut Memory,
-) -> Option<[(usize, usize); 2]> {
-    let called = call_both(given, memory, 2_000)?;
-    let planned = carry_out(given, carried)?;
-    (are_same(given, memory) && are_same(given, carried)).then_some([called, planned])
+// Carries the plan out on a new disk in memory: the number of its writes and syncs, if all three
+// disks are the same then.
+fn planned(alloc: Global, given: &mut ByteDisk<'_>, memory: &mut Memory) -> Option<(usize, usize)> {
+    let mut carried = Memory::new(alloc, 16).ok()?;
+    let counts = carry_out(given, &mut carried);
+    let same = are_same(given, memory) && are_same(given, &mut carried);
+    if same { counts } else { None }
+}
+
+// Calls both a disk over given bytes and one in memory, and carries the plan out: the number of
+// writes and syncs that were called, and that were planned, if all three disks are the same.
+fn called_and_planned(alloc: Global, given: &mut ByteDisk<'_>) -> Option<[(usize, usize); 2]> {
+    let mut memory = Memory::new(alloc, 16).ok()?;
+    let called = call_both(given, &mut memory, 2_000)?;
+    let planned = planned(alloc, given, &mut memory)?;
+    Some([called, planned])
+}
+
+// The same of a disk over these bytes.
+fn counts_over(alloc: Global, bytes: &[u8]) -> Option<[(usize, usize); 2]> {
+    let mut given = ByteDisk::over(alloc, bytes)?;
+    called_and_planned(alloc, &mut given)
 }
 
 #[test]
-fn it_reads_as_a_disk_in_memory(rt: HostRuntime) -> Result<(), Fail> {
-    let bytes = [0u8; 8192];
-    let mut given = ByteDisk::over(rt.alloc(), &bytes).ok_or("whole sectors")?;
-    let mut memory = Memory::new(rt.alloc(), 16)?;
-    let mut carried = Memory::new(rt.alloc(), 16)?;
-    let counts = called_and_planned(&mut given, &mut memory, &mut carried);
+fn it_reads_as_a_disk_in_memory(rt: HostRuntime) {
+    let counts = counts_over(rt.alloc(), &[0; 8192]);
     let [called, planned] = counts.unwrap_or([(0, 0), (1, 1)]);
     assert!(rt; called == planned && called.0 > 1_000 && called.1 > 100);
-    Ok(())
 }
 
-// The sectors of a disk over so many bytes, if they are one.
-fn sectors_over(alloc: Global, length: usize) -> Option<u32> {
-    let bytes = [7u8; 1025];
-    let disk = ByteDisk::over(alloc, bytes.get(..length)?)?;
+// The sectors of a disk over these bytes, if they are one.
+fn sectors_over(alloc: Global, bytes: &[u8]) -> Option<u32> {
+    let disk = ByteDisk::over(alloc, bytes)?;
     Some(disk.sectors())
 }
 
@@ -72,13 +77,19 @@ const LENGTHS: [(usize, Option<u32>); 8] = [
     (1025, None),
 ];
 
-#[test]
-fn bytes_that_are_no_sectors_are_no_disk(rt: HostRuntime) {
-    let mut wrong = None;
+// The first length that is answered otherwise.
+fn measured_otherwise(alloc: Global) -> Option<usize> {
+    let bytes = [7u8; 1025];
     for (length, sectors) in &LENGTHS {
-        if sectors_over(rt.alloc(), *length) != *sectors {
-            wrong = Some(*length);
+        let given = bytes.get(..*length).unwrap_or(&[]);
+        if given.len() != *length || sectors_over(alloc, given) != *sectors {
+            return Some(*length);
         }
     }
-    assert_eq!(rt; wrong, None);
+    None
+}
+
+#[test]
+fn bytes_that_are_no_sectors_are_no_disk(rt: HostRuntime) {
+    assert_eq!(rt; measured_otherwise(rt.alloc()), None);
 }

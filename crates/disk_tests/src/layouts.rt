@@ -34,18 +34,39 @@ fn refuses(layout: &mut Layout, need: u32, refusal: TakeRefusal) -> bool {
     layout.take(need).err() == Some(refusal)
 }
 
-#[test]
-fn claims_and_takes_on_eight_sectors(rt: HostRuntime) -> Result<(), AllocError> {
-    let mut layout = Layout::new(rt.alloc(), 8)?;
-    let outside = Some(ClaimRefusal::OutOfRange);
-    let first = [claim(&mut layout, 1, 1), claim(&mut layout, 8, 1)];
-    let second = [claim(&mut layout, 3, 0), claim(&mut layout, u32::MAX, 2)];
-    let third = [claim(&mut layout, 2, 3), claim(&mut layout, 4, 1)];
+// Extents, each with its first sector and its count, and how their claims are answered on eight
+// sectors, one after another.
+const CLAIMS: [(u32, u32, Option<ClaimRefusal>); 6] = [
+    (1, 1, Some(ClaimRefusal::OutOfRange)),
+    (8, 1, Some(ClaimRefusal::OutOfRange)),
+    (3, 0, Some(ClaimRefusal::OutOfRange)),
+    (u32::MAX, 2, Some(ClaimRefusal::OutOfRange)),
+    (2, 3, None),
+    (4, 1, Some(ClaimRefusal::Overlap)),
+];
+
+// The first of these extents whose claim is answered otherwise.
+fn claimed_otherwise(layout: &mut Layout) -> Option<(u32, u32)> {
+    for (start, count, answer) in &CLAIMS {
+        if claim(layout, *start, *count) != *answer {
+            return Some((*start, *count));
+        }
+    }
+    None
+}
+
+// That, how many sectors are free then, and whether none are given and four are refused.
+fn claimed_and_taken(alloc: Global) -> Option<(Option<(u32, u32)>, u32, bool)> {
+    let mut layout = Layout::new(alloc, 8).ok()?;
+    let wrong = claimed_otherwise(&mut layout);
     let free = layout.free_count();
     let taken = gives(&mut layout, 0, &[]) && refuses(&mut layout, 4, TakeRefusal::Full);
-    assert!(rt; first == [outside, outside] && second == [outside, outside]);
-    assert!(rt; third == [None, Some(ClaimRefusal::Overlap)] && free == 3 && taken);
-    Ok(())
+    Some((wrong, free, taken))
+}
+
+#[test]
+fn claims_and_takes_on_eight_sectors(rt: HostRuntime) {
+    assert_eq!(rt; claimed_and_taken(rt.alloc()), Some((None, 3, true)));
 }
 
 // Claims every second sector, the odd ones, up to the last.
@@ -77,12 +98,12 @@ fn takes_at_most_thirty_two_runs(rt: HostRuntime) -> Result<(), AllocError> {
 
 // Of sixteen sectors 4, 8 and 11 are claimed, so that the free runs are 2 and 3, 5 to 7, 9 and 10,
 // and 12 to 15.
-fn sixteen_sectors(alloc: Global) -> Result<Layout, AllocError> {
-    let mut layout = Layout::new(alloc, 16)?;
+fn sixteen_sectors(alloc: Global) -> Option<Layout> {
+    let mut layout = Layout::new(alloc, 16).ok()?;
     let _ = claim(&mut layout, 4, 1);
     let _ = claim(&mut layout, 8, 1);
     let _ = claim(&mut layout, 11, 1);
-    Ok(layout)
+    Some(layout)
 }
 
 // So many sectors of these sixteen, and the extents that are given.
@@ -95,18 +116,28 @@ const LONGEST: [(u32, &[(u32, u32)]); 6] = [
     (11, &[(12, 4), (5, 3), (2, 2), (9, 2)]),
 ];
 
-#[test]
-fn takes_the_longest_runs_first(rt: HostRuntime) -> Result<(), AllocError> {
-    let mut wrong = None;
+// Whether these sixteen give so many sectors as these extents, and keep the others.
+fn gives_longest(alloc: Global, need: u32, wanted: &[(u32, u32)]) -> bool {
+    let Some(mut layout) = sixteen_sectors(alloc) else {
+        return false;
+    };
+    let given = gives(&mut layout, need, wanted);
+    given && layout.free_count().checked_add(need) == Some(11)
+}
+
+// The first need of the table that is given otherwise.
+fn given_otherwise(alloc: Global) -> Option<u32> {
     for (need, wanted) in &LONGEST {
-        let mut layout = sixteen_sectors(rt.alloc())?;
-        let given = gives(&mut layout, *need, wanted);
-        if !given || layout.free_count().checked_add(*need) != Some(11) {
-            wrong = Some(*need);
+        if !gives_longest(alloc, *need, wanted) {
+            return Some(*need);
         }
     }
-    assert_eq!(rt; wrong, None);
-    Ok(())
+    None
+}
+
+#[test]
+fn takes_the_longest_runs_first(rt: HostRuntime) {
+    assert_eq!(rt; given_otherwise(rt.alloc()), None);
 }
 
 // The next eleven sectors that are given, one by one; 0 for one that isn't.
@@ -118,13 +149,18 @@ fn eleven(layout: &mut Layout) -> [u32; 11] {
     given
 }
 
-#[test]
-fn gives_the_lowest_free_sector(rt: HostRuntime) -> Result<(), AllocError> {
-    let mut layout = sixteen_sectors(rt.alloc())?;
+// Those of these sixteen, and whether no other is free then.
+fn all_of_sixteen(alloc: Global) -> Option<([u32; 11], bool)> {
+    let mut layout = sixteen_sectors(alloc)?;
     let given = eleven(&mut layout);
     let full = layout.take_one() == Err(TakeRefusal::Full) && layout.free_count() == 0;
-    assert!(rt; full && given == [2, 3, 5, 6, 7, 9, 10, 12, 13, 14, 15]);
-    Ok(())
+    Some((given, full))
+}
+
+#[test]
+fn gives_the_lowest_free_sector(rt: HostRuntime) {
+    let given = [2, 3, 5, 6, 7, 9, 10, 12, 13, 14, 15];
+    assert_eq!(rt; all_of_sixteen(rt.alloc()), Some((given, true)));
 }
 
 // Claims and releases two sectors, and takes and releases one: how many are free then.
@@ -141,27 +177,38 @@ fn release_two_and_one(layout: &mut Layout) -> Option<u32> {
     Some(layout.free_count())
 }
 
-#[test]
-fn gives_released_sectors_again(rt: HostRuntime) -> Result<(), AllocError> {
-    let mut layout = sixteen_sectors(rt.alloc())?;
+// That number, for these sixteen; the sector that is given then; and whether seven more are.
+fn released(alloc: Global) -> Option<(Option<u32>, u32, bool)> {
+    let mut layout = sixteen_sectors(alloc)?;
     let free = release_two_and_one(&mut layout);
-    let lowest = layout.take_one();
-    let taken = gives(&mut layout, 7, &[(12, 4), (5, 3)]);
-    assert!(rt; free == Some(11) && lowest == Ok(2) && taken);
-    Ok(())
+    let lowest = layout.take_one().unwrap_or(0);
+    Some((free, lowest, gives(&mut layout, 7, &[(12, 4), (5, 3)])))
 }
 
-// The largest layout: as one run, and with every second sector claimed.
 #[test]
-fn lays_out_the_largest_disk(rt: HostRuntime) -> Result<(), AllocError> {
-    let mut layout = Layout::new(rt.alloc(), MOST_SECTORS)?;
+fn gives_released_sectors_again(rt: HostRuntime) {
+    assert_eq!(rt; released(rt.alloc()), Some((Some(11), 2, true)));
+}
+
+// The largest layout, as one run: how many sectors are free, and whether they are given as one run,
+// and none behind them.
+fn largest(alloc: Global) -> Option<(u32, bool)> {
+    let mut layout = Layout::new(alloc, MOST_SECTORS).ok()?;
     let behind_roots = layout.free_count();
     let whole = gives(&mut layout, behind_roots, &[(2, 4_194_302)]);
-    let full = layout.take_one() == Err(TakeRefusal::Full);
-    assert!(rt; behind_roots == MOST_SECTORS - ROOT_SECTORS && whole && full);
-    Ok(())
+    Some((
+        behind_roots,
+        whole && layout.take_one() == Err(TakeRefusal::Full),
+    ))
 }
 
+#[test]
+fn lays_out_the_largest_disk(rt: HostRuntime) {
+    let behind_roots = MOST_SECTORS - ROOT_SECTORS;
+    assert_eq!(rt; largest(rt.alloc()), Some((behind_roots, true)));
+}
+
+// The largest layout, with every second sector claimed.
 #[test]
 fn lays_out_the_largest_scattered_disk(rt: HostRuntime) -> Result<(), AllocError> {
     let mut layout = Layout::new(rt.alloc(), 4_194_304)?;

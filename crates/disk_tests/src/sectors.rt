@@ -46,8 +46,8 @@ impl Reading {
     // Whether a sector is read so.
     fn is_of(self, sector: &[u8; SECTOR_BYTES]) -> bool {
         match self {
-            Reading::Empty => decode_root(sector) == Slot::Empty,
-            Reading::BadRoot => decode_root(sector) == Slot::Bad,
+            Reading::Empty => matches!(decode_root(sector), Slot::Empty),
+            Reading::BadRoot => matches!(decode_root(sector), Slot::Bad),
             Reading::NoCatalogue => decode_catalogue(sector).is_none(),
             Reading::NoEntry => decode_entry(sector).is_none(),
         }

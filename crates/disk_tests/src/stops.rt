@@ -48,9 +48,14 @@ fn choices(disk: &Memory, at: u32) -> usize {
     }
 }
 
+// The disk behind a stop that picks the same number everywhere.
+fn stopped(disk: Memory, pick: usize) -> Memory {
+    disk.stop(|_, _| pick)
+}
+
 // What this sector holds after a stop that picks the same number everywhere. Then all is synced.
 fn left(disk: &Memory, at: u32, pick: usize) -> Option<u8> {
-    let mut stopped = disk.copy().ok()?.stop(|_, _| pick);
+    let mut stopped = stopped(disk.copy().ok()?, pick);
     if stopped.sectors() == disk.sectors() && choices(&stopped, at) == 1 {
         read(&mut stopped, at)
     } else {
@@ -90,25 +95,50 @@ fn write_all(disk: &mut Memory, writes: &[(u32, u8)]) -> bool {
     true
 }
 
-#[test]
-fn a_stop_leaves_the_synced_content_or_one_written_since(rt: HostRuntime) -> Result<(), Fail> {
-    let mut disk = Memory::new(rt.alloc(), 8)?;
-    let zeros = leave(&disk, [&[0], &[0], &[0]]);
-    let first = write(&mut disk, 1, 20) && disk.sync().is_ok();
+// Writes that aren't synced, and the choices that they leave with the synced content 20 in sector
+// 1. A content that is written again is a choice of its own.
+const LOOSE: [(u32, u8); 5] = [(2, 5), (1, 30), (1, 30), (2, 6), (1, 20)];
 
-    // A content that is written again is a choice of its own.
-    let second = write_all(&mut disk, &[(2, 5), (1, 30), (1, 30), (2, 6), (1, 20)]);
-    let reads = [read(&mut disk, 1), read(&mut disk, 2), read(&mut disk, 0)];
-    let loose = leave(&disk, [&[20, 30, 30, 20], &[0, 5, 6], &[0]]);
+const LEFT: [&[u8]; 3] = [&[20, 30, 30, 20], &[0, 5, 6], &[0]];
+
+// Whether the sectors of a new disk have zeros, and then, written, these choices.
+fn leaves_loose(disk: &mut Memory) -> [[bool; 3]; 2] {
+    let zeros = leave(disk, [&[0], &[0], &[0]]);
+    let synced = write(disk, 1, 20) && disk.sync().is_ok();
+    if synced && write_all(disk, &LOOSE) {
+        [zeros, leave(disk, LEFT)]
+    } else {
+        [[false; 3]; 2]
+    }
+}
+
+// Whether a sync leaves the last contents, and keeps the choices of a copy from before it.
+fn leaves_synced(disk: &mut Memory) -> [[bool; 3]; 2] {
+    let Ok(copy) = disk.copy() else {
+        return [[false; 3]; 2];
+    };
+    if disk.sync().is_ok() {
+        [leave(disk, [&[20], &[6], &[0]]), leave(&copy, LEFT)]
+    } else {
+        [[false; 3]; 2]
+    }
+}
+
+// All four, and between them what the sectors 1, 2 and 0 hold, and sector 2 after a stop that picks
+// the highest number.
+fn leaves_all(alloc: Global) -> Option<([[bool; 3]; 4], [Option<u8>; 4])> {
+    let mut disk = Memory::new(alloc, 8).ok()?;
+    let [zeros, loose] = leaves_loose(&mut disk);
+    let [one, two, none] = [read(&mut disk, 1), read(&mut disk, 2), read(&mut disk, 0)];
     let highest = left(&disk, 2, usize::MAX);
-    let copy = disk.copy()?;
-    let third = disk.sync().is_ok();
-    let synced = leave(&disk, [&[20], &[6], &[0]]);
-    let copied = leave(&copy, [&[20, 30, 30, 20], &[0, 5, 6], &[0]]);
-    assert!(rt; first && second && third);
-    assert_eq!(rt; (reads, highest), ([Some(20), Some(6), Some(0)], Some(0)));
-    assert_eq!(rt; [zeros, loose, synced, copied], [[true; 3]; 4]);
-    Ok(())
+    let [synced, copied] = leaves_synced(&mut disk);
+    Some(([zeros, loose, synced, copied], [one, two, none, highest]))
+}
+
+#[test]
+fn a_stop_leaves_the_synced_content_or_one_written_since(rt: HostRuntime) {
+    let contents = [Some(20), Some(6), Some(0), Some(0)];
+    assert_eq!(rt; leaves_all(rt.alloc()), Some(([[true; 3]; 4], contents)));
 }
 
 #[test]
@@ -117,7 +147,7 @@ fn a_disk_may_have_tens_of_thousands_of_sectors(rt: HostRuntime) -> Result<(), F
     let filled = fill(&mut disk) && disk.sync().is_ok();
     let more = write(&mut disk, 49_999, 255);
     let last = (choices(&disk, 49_999), left(&disk, 49_999, 1));
-    let mut stopped = disk.stop(|_, _| 0);
+    let mut stopped = stopped(disk, 0);
     let kept = stopped.sectors() == 50_000 && is_filled(&mut stopped);
     assert!(rt; filled && more && kept && last == (2, Some(255)));
     Ok(())
@@ -133,22 +163,41 @@ fn write_often(disk: &mut Memory) -> bool {
     true
 }
 
-#[test]
-fn a_sector_may_have_thousands_of_choices(rt: HostRuntime) -> Result<(), Fail> {
-    let mut disk = Memory::new(rt.alloc(), 2)?;
+// Some of the choices then, and the content that each leaves.
+const PICKS: [(usize, u8); 7] = [
+    (0, 0),
+    (1, 1),
+    (250, 250),
+    (251, 0),
+    (2_500, 241),
+    (4_999, 230),
+    (5_000, 231),
+];
+
+// The first of them that leaves another content.
+fn left_otherwise(disk: &Memory) -> Option<usize> {
+    for (pick, content) in &PICKS {
+        if left(disk, 1, *pick) != Some(*content) {
+            return Some(*pick);
+        }
+    }
+    None
+}
+
+// The number of choices of both sectors then, the first that leaves another content, and whether
+// all is written, and one is left by a sync.
+fn thousands(alloc: Global) -> Option<([usize; 2], Option<usize>, bool)> {
+    let mut disk = Memory::new(alloc, 2).ok()?;
     let written = write_often(&mut disk);
-    let counts = (choices(&disk, 0), choices(&disk, 1));
-    let first = [left(&disk, 1, 0), left(&disk, 1, 1), left(&disk, 1, 250)];
-    let middle = [left(&disk, 1, 251), left(&disk, 1, 2_500)];
-    let last = [left(&disk, 1, 4_999), left(&disk, 1, 5_000)];
+    let counts = [choices(&disk, 0), choices(&disk, 1)];
+    let wrong = left_otherwise(&disk);
     let synced = disk.sync().is_ok() && leaves(&disk, 1, &[231]);
-    assert!(rt; written && synced && counts == (1, 5_001));
-    assert_eq!(rt; first, [Some(0), Some(1), Some(250)]);
-    assert_eq!(rt;
-        (middle, last),
-        ([Some(0), Some(241)], [Some(230), Some(231)])
-    );
-    Ok(())
+    Some((counts, wrong, written && synced))
+}
+
+#[test]
+fn a_sector_may_have_thousands_of_choices(rt: HostRuntime) {
+    assert_eq!(rt; thousands(rt.alloc()), Some(([1, 5_001], None, true)));
 }
 
 #[test]
@@ -197,8 +246,10 @@ fn mixed_otherwise(disk: &Memory, choices: [u8; 3]) -> Option<[u8; 3]> {
 
 // Whether a disk that holds 10, 20 and 30, synced, and then has these writes, leaves just the
 // mixtures of so many choices of each sector.
-fn is_mixed(alloc: Global, writes: &[(u32, u8)], counts: [u8; 3]) -> Result<bool, Fail> {
-    let mut disk = Memory::new(alloc, 3)?;
+fn is_mixed(alloc: Global, writes: &[(u32, u8)], counts: [u8; 3]) -> bool {
+    let Ok(mut disk) = Memory::new(alloc, 3) else {
+        return false;
+    };
     let first = write_all(&mut disk, &[(0, 9), (0, 10), (1, 20), (2, 30)]);
     let synced = disk.sync().is_ok();
     let second = write_all(&mut disk, writes);
@@ -206,7 +257,7 @@ fn is_mixed(alloc: Global, writes: &[(u32, u8)], counts: [u8; 3]) -> Result<bool
     let [one, two, three] = counts;
     let counted = found == [usize::from(one), usize::from(two), usize::from(three)];
     let mixed = mixed_otherwise(&disk, counts).is_none();
-    Ok(first && synced && second && counted && mixed)
+    first && synced && second && counted && mixed
 }
 
 const THREE_EACH: [(u32, u8); 9] = [
@@ -222,12 +273,11 @@ const THREE_EACH: [(u32, u8); 9] = [
 ];
 
 #[test]
-fn each_sector_of_a_mixture_is_picked_by_itself(rt: HostRuntime) -> Result<(), Fail> {
-    let all = is_mixed(rt.alloc(), &THREE_EACH, [4, 4, 4])?;
-    let some = is_mixed(rt.alloc(), &[(2, 31), (1, 21), (2, 32), (2, 33)], [1, 2, 4])?;
-    let none = is_mixed(rt.alloc(), &[], [1, 1, 1])?;
+fn each_sector_of_a_mixture_is_picked_by_itself(rt: HostRuntime) {
+    let all = is_mixed(rt.alloc(), &THREE_EACH, [4, 4, 4]);
+    let some = is_mixed(rt.alloc(), &[(2, 31), (1, 21), (2, 32), (2, 33)], [1, 2, 4]);
+    let none = is_mixed(rt.alloc(), &[], [1, 1, 1]);
     assert!(rt; all && some && none);
-    Ok(())
 }
 
 // Writes 1 to sector 0, syncs, writes 2 to it and reads it: whether each call succeeded, and what
@@ -272,25 +322,31 @@ const FUSES: [Row; 18] = [
     (5, true, true, [true, true, true, true], Some(2), &[1, 2]),
 ];
 
-// Whether a fuse over this disk of two sectors is as its row says.
-fn is_row(disk: Memory, row: Row) -> bool {
+// Whether a fuse over a disk of two sectors is as its row says.
+fn is_row(alloc: Global, row: Row) -> bool {
     let (call, forever, late, succeed, content, left_inside) = row;
+    let Ok(disk) = Memory::new(alloc, 2) else {
+        return false;
+    };
     let mut fuse = Fuse::new(disk, call, forever, late);
     let two = fuse.sectors() == 2;
     let done = four_calls(&mut fuse);
     two && done == (succeed, content) && leaves(&fuse.into_inner(), 0, left_inside)
 }
 
-#[test]
-fn a_fuse_fails_the_planned_calls(rt: HostRuntime) -> Result<(), Fail> {
-    let mut wrong = None;
+// The first fuse that isn't as its row says.
+fn fused_otherwise(alloc: Global) -> Option<(u64, bool, bool)> {
     for row in &FUSES {
-        if !is_row(Memory::new(rt.alloc(), 2)?, *row) {
-            wrong = Some((row.0, row.1, row.2));
+        if !is_row(alloc, *row) {
+            return Some((row.0, row.1, row.2));
         }
     }
-    assert_eq!(rt; wrong, None);
-    Ok(())
+    None
+}
+
+#[test]
+fn a_fuse_fails_the_planned_calls(rt: HostRuntime) {
+    assert_eq!(rt; fused_otherwise(rt.alloc()), None);
 }
 
 #[test]

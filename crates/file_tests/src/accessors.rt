@@ -1,8 +1,8 @@
 // What a whole file gives: each accessor once, at a file made by hand, with the values that
 // `readelf -W -d --use-dynamic -s -r` prints of it.
 
-use elf_dynamic::{Object, R_X86_64_64, R_X86_64_RELATIVE};
-use std::test::Fail;
+use elf_dynamic::{Object, R_X86_64_64, R_X86_64_RELATIVE, Symbol};
+use std::process::Abort;
 
 /// A library `lib.so` that needs `a` and `bc`, with a function `f` and an absolute, weak, protected
 /// object `gg`, and with two relocations.
@@ -43,88 +43,162 @@ const LIBRARY: [u8; 544] = [
     0x00, 0x00, 0x00, 0x00, 0x00, 0x00, 0x00, 0x00, 0x00, 0x00, 0x00, 0x00, 0x00, 0x00, 0x00, 0x00,
 ];
 
-#[test]
-fn names_are_those_of_the_file(rt: HostRuntime) -> Result<(), Fail> {
-    let object = Object::read(&LIBRARY).ok().ok_or("refused")?;
-    assert_eq!(rt; object.soname(), Some(b"lib.so".as_slice()));
-    assert_eq!(rt; object.needed_count(), 2);
-    assert_eq!(rt; object.needed(0), b"a".as_slice());
-    assert_eq!(rt; object.needed(1), b"bc".as_slice());
+/// The library as an object.
+fn library_object(rt: &impl Abort) -> Object<'static> {
+    match Object::read(&LIBRARY) {
+        Ok(object) => object,
+        Err(_) => panic!(rt; "refused"),
+    }
+}
+
+/// Whether an object needs these two libraries, by their numbers.
+fn needs(object: &Object<'_>, first: &[u8], second: &[u8]) -> bool {
+    object.needed_count() == 2 && object.needed(0) == first && object.needed(1) == second
+}
+
+/// The first three answers of the pass over the names of the needed libraries.
+fn needed_in_turn<'a>(object: &Object<'a>) -> [Option<&'a [u8]>; 3] {
     let mut names = object.needed_names();
-    assert_eq!(rt; names.next(), Some(b"a".as_slice()));
-    assert_eq!(rt; names.next(), Some(b"bc".as_slice()));
-    assert_eq!(rt; names.next(), None);
-    assert_eq!(rt; object.string_table().len(), 18);
-    Ok(())
+    [names.next(), names.next(), names.next()]
+}
+
+/// Whether the pass over the names of the needed libraries gives these two.
+fn needs_in_turn(object: &Object<'_>, first: &[u8], second: &[u8]) -> bool {
+    let names = needed_in_turn(object);
+    names[0] == Some(first) && names[1] == Some(second) && names[2].is_none()
 }
 
 #[test]
-fn symbols_are_those_of_the_file(rt: HostRuntime) -> Result<(), Fail> {
-    let object = Object::read(&LIBRARY).ok().ok_or("refused")?;
-    assert_eq!(rt; object.symbol_count(), 3);
-    assert!(rt; object.name_of(0).is_empty());
-    assert_eq!(rt; object.name_of(1), b"f".as_slice());
-    assert_eq!(rt; object.name_of(2), b"gg".as_slice());
-    let f = object.symbol(1);
-    assert_eq!(rt; (f.binding(), f.kind(), f.visibility()), (1, 2, 0));
-    assert_eq!(rt; (f.section, f.value, f.size), (1, 0x218, 8));
-    let gg = object.symbol(2);
-    assert_eq!(rt; (gg.binding(), gg.kind(), gg.visibility()), (2, 1, 3));
-    assert_eq!(rt; (gg.section, gg.value, gg.size), (0xfff1, 0x1234, 4));
-    assert_eq!(rt; object.bucket_count(), 1);
-    assert_eq!(rt; object.bucket(0), 1);
-    assert_eq!(rt;
-        (object.chain(0), object.chain(1), object.chain(2)),
-        (0, 2, 0)
+fn names_are_those_of_the_file(rt: HostRuntime) {
+    let object = library_object(&rt);
+    let is_own = object.soname() == Some(b"lib.so".as_slice());
+    let needs = (
+        needs(&object, b"a", b"bc"),
+        needs_in_turn(&object, b"a", b"bc"),
     );
-    Ok(())
+    let seen = (is_own, needs, object.string_table().len());
+    assert_eq!(rt; seen, (true, (true, true), 18));
 }
 
-/// Whether a file is symbolic.
-fn is_symbolic(file: &[u8]) -> Result<bool, Fail> {
-    let object = Object::read(file).ok().ok_or("refused")?;
-    Ok(object.symbolic())
+/// What a symbol says: binding, kind, visibility, section, value and size.
+fn told(symbol: Symbol) -> (u8, u8, u8, u16, u64, u64) {
+    (
+        symbol.binding(),
+        symbol.kind(),
+        symbol.visibility(),
+        symbol.section,
+        symbol.value,
+        symbol.size,
+    )
+}
+
+/// The names of the three symbols of an object, and what the last two say.
+fn symbols<'a>(object: &Object<'a>) -> Option<([&'a [u8]; 3], [(u8, u8, u8, u16, u64, u64); 2])> {
+    if object.symbol_count() != 3 {
+        return None;
+    }
+    let names = [object.name_of(0), object.name_of(1), object.name_of(2)];
+    Some((names, [told(object.symbol(1)), told(object.symbol(2))]))
+}
+
+/// The word of the one bucket of an object, and the three chain words.
+fn hash_words(object: &Object<'_>) -> Option<(u32, [u32; 3])> {
+    if object.bucket_count() != 1 || object.symbol_count() != 3 {
+        return None;
+    }
+    let chains = [object.chain(0), object.chain(1), object.chain(2)];
+    Some((object.bucket(0), chains))
+}
+
+#[test]
+fn symbols_are_those_of_the_file(rt: HostRuntime) {
+    let object = library_object(&rt);
+    let symbols = symbols(&object);
+    let words = hash_words(&object);
+    let names = [b"".as_slice(), b"f", b"gg"];
+    let f = (1, 2, 0, 1, 0x218, 8);
+    let gg = (2, 1, 3, 0xfff1, 0x1234, 4);
+    assert_eq!(rt;
+        (symbols, words),
+        (Some((names, [f, gg])), Some((1, [0, 2, 0])))
+    );
+}
+
+/// Whether a file is symbolic; nothing where it is refused.
+fn is_symbolic(file: &[u8]) -> Option<bool> {
+    match Object::read(file) {
+        Ok(object) => Some(object.symbolic()),
+        Err(_) => None,
+    }
 }
 
 /// The tag of the first needed library, whose value is 8, and of the second one, whose value is
 /// 0xa, made `DT_SYMBOLIC` (16) and `DT_FLAGS` (30).
 #[test]
-fn symbolic_by_the_tag_or_the_flag(rt: HostRuntime) -> Result<(), Fail> {
-    assert!(rt; !is_symbolic(&LIBRARY)?);
+fn symbolic_by_the_tag_or_the_flag(rt: HostRuntime) {
+    let whole = is_symbolic(&LIBRARY);
     let mut changed = LIBRARY;
     changed[0x158] = 16;
-    assert!(rt; is_symbolic(&changed)?);
+    let by_tag = is_symbolic(&changed);
     changed[0x158] = 30;
-    assert!(rt; !is_symbolic(&changed)?);
+    let by_other_flags = is_symbolic(&changed);
     changed[0x158] = 1;
     changed[0x168] = 30;
-    assert!(rt; is_symbolic(&changed)?);
-    Ok(())
+    let by_flag = is_symbolic(&changed);
+    assert_eq!(rt;
+        [whole, by_tag, by_other_flags, by_flag],
+        [Some(false), Some(true), Some(false), Some(true)]
+    );
+}
+
+/// How many segments the pass over them gives, of an object that has one.
+fn segments_in_turn(object: &Object<'_>) -> Option<usize> {
+    if object.segment_count() != 1 {
+        return None;
+    }
+    Some(object.segments().count())
+}
+
+/// The address and the sizes in the file and in memory of the one segment of an object, and whether
+/// its contents are the whole library, by its number and by itself.
+fn segment(object: &Object<'_>) -> Option<((u64, u64, u64), bool, bool)> {
+    if object.segment_count() != 1 {
+        return None;
+    }
+    let load = object.segment(0);
+    Some((
+        (load.address, load.file_size, load.memory_size),
+        object.contents(0) == LIBRARY.as_slice(),
+        object.contents_of(load) == LIBRARY.as_slice(),
+    ))
+}
+
+/// Offset, kind and symbol of the first of two relocations of an object, and 0x10018 with its
+/// addend; offset, kind and addend of the second.
+fn relocations(object: &Object<'_>) -> Option<((u64, u32, u32, u64), (u64, u32, u64))> {
+    if object.rela_count() != 2 {
+        return None;
+    }
+    let first = object.rela(0);
+    let second = object.rela(1);
+    let sum = first.plus_addend(0x10018);
+    Some((
+        (first.offset, first.kind, first.symbol, sum),
+        (second.offset, second.kind, second.addend),
+    ))
 }
 
 #[test]
-fn segments_and_relocations_are_those_of_the_file(rt: HostRuntime) -> Result<(), Fail> {
-    let object = Object::read(&LIBRARY).ok().ok_or("refused")?;
-    assert_eq!(rt; object.segment_count(), 1);
-    let load = object.segment(0);
+fn segments_and_relocations_are_those_of_the_file(rt: HostRuntime) {
+    let object = library_object(&rt);
+    let segments = (segments_in_turn(&object), segment(&object));
+    let relocations = relocations(&object);
+    assert_eq!(rt; segments, (Some(1), Some(((0, 544, 544), true, true))));
     assert_eq!(rt;
-        (load.address, load.file_size, load.memory_size),
-        (0, 544, 544)
+        relocations,
+        Some((
+            (0x218, R_X86_64_64, 1, 0x10010),
+            (0x218, R_X86_64_RELATIVE, 0x20)
+        ))
     );
-    assert_eq!(rt; object.segments().count(), 1);
-    assert_eq!(rt; object.contents(0), LIBRARY.as_slice());
-    assert_eq!(rt; object.contents_of(load), LIBRARY.as_slice());
-    assert_eq!(rt; object.rela_count(), 2);
-    let first = object.rela(0);
-    assert_eq!(rt;
-        (first.offset, first.kind, first.symbol),
-        (0x218, R_X86_64_64, 1)
-    );
-    assert_eq!(rt; first.plus_addend(0x10018), 0x10010);
-    let second = object.rela(1);
-    assert_eq!(rt;
-        (second.offset, second.kind, second.addend),
-        (0x218, R_X86_64_RELATIVE, 0x20)
-    );
-    Ok(())
 }

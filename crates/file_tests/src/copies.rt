@@ -1,27 +1,51 @@
 // What no clause says: a copy that has its memory is made.
 
 use names::Name;
+use std::alloc::{AllocError, Global};
 use std::test::Fail;
+
+const NAMES: [&[u8]; 4] = [b"", b"libc.so", b"\x00\xff", &[b'n'; 240]];
+
+/// Whether a copy of these bytes has them.
+fn is_copied(alloc: Global, bytes: &[u8]) -> Result<bool, AllocError> {
+    let name = Name::copy_of(alloc, bytes)?;
+    Ok(name.as_bytes() == bytes)
+}
+
+/// The first of the names whose copy has other bytes.
+fn copied_otherwise(alloc: Global) -> Result<Option<&'static [u8]>, AllocError> {
+    for &name in &NAMES {
+        if !is_copied(alloc, name)? {
+            return Ok(Some(name));
+        }
+    }
+    Ok(None)
+}
 
 #[test]
 fn copies(rt: HostRuntime) -> Result<(), Fail> {
     let alloc = rt.alloc();
-    for bytes in [b"".as_slice(), b"libc.so", b"\x00\xff", &[b'n'; 240]] {
-        let name = Name::copy_of(alloc, bytes)?;
-        assert_eq!(rt; name.as_bytes(), bytes);
-    }
+    assert_eq!(rt; copied_otherwise(alloc)?, None);
     let long = vec![in alloc; b'n'; 65536]?;
-    let name = Name::copy_of(alloc, &long)?;
-    assert_eq!(rt; name.as_bytes(), long.as_slice());
+    assert!(rt; is_copied(alloc, &long)?);
     Ok(())
+}
+
+/// Whether a name equals a copy of these bytes, and whether it differs from that.
+fn compared(alloc: Global, name: &Name, bytes: &[u8]) -> Result<(bool, bool), AllocError> {
+    let other = Name::copy_of(alloc, bytes)?;
+    Ok((*name == other, *name != other))
 }
 
 #[test]
 fn compares_bytes(rt: HostRuntime) -> Result<(), Fail> {
     let alloc = rt.alloc();
     let name = Name::copy_of(alloc, b"libm.so")?;
-    assert!(rt; name == Name::copy_of(alloc, b"libm.so")?);
-    assert!(rt; name != Name::copy_of(alloc, b"libm.s")?);
-    assert!(rt; name != Name::copy_of(alloc, b"libM.so")?);
+    let told = [
+        compared(alloc, &name, b"libm.so")?,
+        compared(alloc, &name, b"libm.s")?,
+        compared(alloc, &name, b"libM.so")?,
+    ];
+    assert_eq!(rt; told, [(true, false), (false, true), (false, true)]);
     Ok(())
 }

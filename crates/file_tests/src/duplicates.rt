@@ -1,7 +1,7 @@
 // Two exported names beside each other: which are one name, and which are alike only.
 
-use crate::searches::library;
-use hash_check::{Admitted, FileRefusal, ReadRefusal, common_end, compare_ends};
+use crate::searches::{library, refusal_of};
+use hash_check::{FileRefusal, ReadRefusal, common_end, compare_ends};
 use std::alloc::{AllocError, Global};
 use std::cmp::Ordering;
 use std::test::Fail;
@@ -23,10 +23,10 @@ fn named(alloc: Global, strings: &[u8], first: u32, second: u32) -> Result<Vec<u
     file.extend_from_slice(strings)?;
     let whole = (file.len() as u64).to_le_bytes();
     let size = (strings.len() as u64).to_le_bytes();
-    for (place, bytes) in [(96, whole), (104, whole), (360, at), (392, size)] {
-        put(&mut file, place, &bytes);
+    for (place, bytes) in &[(96, whole), (104, whole), (360, at), (392, size)] {
+        put(&mut file, *place, bytes);
     }
-    for (place, word) in [(188, 1), (196, 2), (232, first), (256, second), (280, 0)] {
+    for &(place, word) in &[(188, 1), (196, 2), (232, first), (256, second), (280, 0)] {
         put(&mut file, place, &word.to_le_bytes());
     }
     Ok(file)
@@ -72,24 +72,31 @@ const EQUAL: [Row; 7] = [
     (b"\0abcdefghijklmnop\0ghijklmnop\0", 7, 18),
 ];
 
+/// The first of these rows whose file isn't refused so, or is where it is to be read.
+fn first_otherwise(
+    alloc: Global,
+    rows: &'static [Row],
+    expected: Option<ReadRefusal>,
+) -> Result<Option<Row>, AllocError> {
+    for &(strings, first, second) in rows {
+        let file = named(alloc, strings, first, second)?;
+        if refusal_of(alloc, &file) != expected {
+            return Ok(Some((strings, first, second)));
+        }
+    }
+    Ok(None)
+}
+
 #[test]
 fn admits_names_that_differ(rt: HostRuntime) -> Result<(), Fail> {
-    for &(strings, first, second) in &DIFFERENT {
-        let file = named(rt.alloc(), strings, first, second)?;
-        let refusal = Admitted::read(rt.alloc(), &file).err();
-        assert_eq!(rt; refusal, None, "{first} and {second} of {strings:?}");
-    }
+    assert_eq!(rt; first_otherwise(rt.alloc(), &DIFFERENT, None)?, None);
     Ok(())
 }
 
 #[test]
 fn refuses_equal_names(rt: HostRuntime) -> Result<(), Fail> {
-    for &(strings, first, second) in &EQUAL {
-        let file = named(rt.alloc(), strings, first, second)?;
-        let refusal = Admitted::read(rt.alloc(), &file).err();
-        let expected = Some(ReadRefusal::File(FileRefusal::DuplicateDefinition));
-        assert_eq!(rt; refusal, expected, "{first} and {second} of {strings:?}");
-    }
+    let expected = Some(ReadRefusal::File(FileRefusal::DuplicateDefinition));
+    assert_eq!(rt; first_otherwise(rt.alloc(), &EQUAL, expected)?, None);
     Ok(())
 }
 

@@ -3,7 +3,6 @@
 use elf_dynamic::{Object, ObjectRefusal};
 use hash_check::{AdmitRefusal, Admitted, FileRefusal, KeyedName, ReadRefusal, elf_hash, key_of};
 use std::alloc::Global;
-use std::test::Fail;
 
 /// A library named q with two buckets, which exports f and g and refers to u.
 pub(crate) fn library() -> &'static [u8] {
@@ -19,6 +18,11 @@ pub(crate) fn library() -> &'static [u8] {
         \0\xb0\0\0\0\0\0\0\0\x05\0\0\0\0\0\0\00\x01\0\0\0\0\0\0\x06\0\0\0\0\0\0\0\xd0\0\0\0\0\
         \0\0\0\x0a\0\0\0\0\0\0\0\x09\0\0\0\0\0\0\0\x0b\0\0\0\0\0\0\0\x18\0\0\0\0\0\0\0\0\0\0\
         \0\0\0\0\0\0\0\0\0\0\0\0\0"
+}
+
+/// The refusal of a file, where it isn't admitted.
+pub(crate) fn refusal_of(alloc: Global, file: &[u8]) -> Option<ReadRefusal> {
+    Admitted::read(alloc, file).err()
 }
 
 /// Where the buckets begin in it; the chain words follow.
@@ -136,66 +140,103 @@ fn compare(alloc: Global, file: &[u8]) -> Outcome {
 
 #[test]
 fn hashes_names(rt: HostRuntime) {
-    assert_eq!(rt; elf_hash(b""), 0);
-    assert_eq!(rt; elf_hash(b"a"), 0x61);
-    assert_eq!(rt; elf_hash(b"ab"), 0x672);
-    assert_eq!(rt; elf_hash(b"exit"), 0x6cf04);
-    assert_eq!(rt; elf_hash(b"printf"), 0x0779_05a6);
-    assert_eq!(rt; elf_hash(b"abcdefg"), 0x0789_aba7);
-    assert_eq!(rt; elf_hash(b"abcdefgh"), 0x089a_baa8);
+    let hashes = [
+        elf_hash(b""),
+        elf_hash(b"a"),
+        elf_hash(b"ab"),
+        elf_hash(b"exit"),
+        elf_hash(b"printf"),
+        elf_hash(b"abcdefg"),
+        elf_hash(b"abcdefgh"),
+    ];
+    let expected = [
+        0,
+        0x61,
+        0x672,
+        0x6cf04,
+        0x0779_05a6,
+        0x0789_aba7,
+        0x089a_baa8,
+    ];
+    assert_eq!(rt; hashes, expected);
 }
 
 #[test]
 fn makes_keys_of_names(rt: HostRuntime) {
-    assert_eq!(rt; key_of(b""), 0);
-    assert_eq!(rt; key_of(b"ab"), 0x6162);
-    assert_eq!(rt; key_of(b"abcdefg"), 0x0061_6263_6465_6667);
-    assert_eq!(rt; key_of(b"abcdefgh"), 0xf09c_bc5d_ba45_a70d);
-    assert_eq!(rt;
+    let keys = [
+        key_of(b""),
+        key_of(b"ab"),
+        key_of(b"abcdefg"),
+        key_of(b"abcdefgh"),
         key_of(b"abcdefghijklmnopqrstuvwxyz"),
-        0xb19e_71bd_eaf6_6dda
-    );
+    ];
+    let expected = [
+        0,
+        0x6162,
+        0x0061_6263_6465_6667,
+        0xf09c_bc5d_ba45_a70d,
+        0xb19e_71bd_eaf6_6dda,
+    ];
+    assert_eq!(rt; keys, expected);
+}
+
+/// What the library exports.
+const EXPORTED: [KeyedName; 2] = [
+    KeyedName {
+        key: 0x66,
+        symbol: 1,
+        length: 1,
+    },
+    KeyedName {
+        key: 0x67,
+        symbol: 2,
+        length: 1,
+    },
+];
+
+/// Whether an object exports these names, in this order.
+fn exports(alloc: Global, admitted: &Admitted<'_>, expected: &[KeyedName]) -> bool {
+    match admitted.exported_names(alloc) {
+        Ok(names) => names.as_slice() == expected,
+        Err(_) => false,
+    }
+}
+
+/// Whether the library exports its names, and the names of two of its symbols.
+fn names_of_library(alloc: Global) -> Option<(bool, &'static [u8], &'static [u8])> {
+    match Admitted::read(alloc, library()) {
+        Ok(admitted) => Some((
+            exports(alloc, &admitted, &EXPORTED),
+            admitted.name_at(2),
+            admitted.name_at(4),
+        )),
+        Err(_) => None,
+    }
 }
 
 #[test]
-fn exported_names_have_their_keys(rt: HostRuntime) -> Result<(), Fail> {
-    let admitted = Admitted::read(rt.alloc(), library());
-    let admitted = admitted.ok().ok_or("refused")?;
-    let names = admitted.exported_names(rt.alloc())?;
-    let expected = [(1, 0x66), (2, 0x67)];
-    assert_eq!(rt; names.len(), expected.len());
-    for (name, (symbol, key)) in names.iter().zip(expected) {
-        let length = 1;
-        assert_eq!(rt;
-            *name,
-            KeyedName {
-                key,
-                symbol,
-                length
-            }
-        );
-    }
-    assert_eq!(rt; admitted.name_at(2), b"g".as_slice());
-    assert_eq!(rt; admitted.name_at(4), b"".as_slice());
-    Ok(())
+fn exported_names_have_their_keys(rt: HostRuntime) {
+    let names = names_of_library(rt.alloc());
+    assert_eq!(rt; names, Some((true, b"g".as_slice(), b"".as_slice())));
 }
 
 #[test]
 fn reads_files(rt: HostRuntime) {
     let alloc = rt.alloc();
-    assert_eq!(rt; Admitted::read(alloc, library()).err(), None);
-    let refusal = FileRefusal::Object(ObjectRefusal::TooShort);
-    assert_eq!(rt;
-        Admitted::read(alloc, b"").err(),
-        Some(ReadRefusal::File(refusal))
-    );
     let mut file = Vec::from_slice(alloc, library()).unwrap_or(Vec::new(alloc));
     put_words(&mut file, 0);
-    let refusal = FileRefusal::BadHashTable;
-    assert_eq!(rt;
-        Admitted::read(alloc, &file).err(),
-        Some(ReadRefusal::File(refusal))
-    );
+    let refusals = [
+        refusal_of(alloc, library()),
+        refusal_of(alloc, b""),
+        refusal_of(alloc, &file),
+    ];
+    let too_short = FileRefusal::Object(ObjectRefusal::TooShort);
+    let expected = [
+        None,
+        Some(ReadRefusal::File(too_short)),
+        Some(ReadRefusal::File(FileRefusal::BadHashTable)),
+    ];
+    assert_eq!(rt; refusals, expected);
 }
 
 #[test]

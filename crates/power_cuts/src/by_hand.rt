@@ -30,8 +30,8 @@ fn put_blob(disk: &mut Memory, start: u32, blob: &Blob) -> Result<Place> {
     Ok(Place { start, entry: at })
 }
 
-/// Writes a root in the sector of its generation.
-pub(crate) fn put_root(disk: &mut Memory, root: &Root) -> Result<()> {
+// Writes a root in the sector of its generation.
+fn put_root(disk: &mut Memory, root: &Root) -> Result<()> {
     put_sector(disk, (root.generation % 2) as u32, &root.sector())
 }
 

@@ -1,7 +1,6 @@
 // Disks that no call of a store leaves, made sector by sector.
 
-use crate::by_hand::put_root;
-use crate::sectors::put_sector;
+use crate::sectors::{put_sector, put_sectors};
 use crate::seen::Way;
 use crate::spelling::{Root, catalogue_sector, entry_sector};
 use anyhow::Result;
@@ -48,16 +47,11 @@ fn with_entries(
     sectors: u32,
     first: (u8, u64, &[u32]),
 ) -> Result<Memory> {
-    let mut disk = Memory::new(alloc, 16)?;
     let older = Root {
         sectors,
         ..empty_root(version, 0)
     };
-    put_root(&mut disk, &older)?;
     let (name, length, extents) = first;
-    put_sector(&mut disk, 6, &entry_sector(name, length, extents))?;
-    put_sector(&mut disk, 7, &entry_sector(b'b', 512, &[5, 1]))?;
-    put_sector(&mut disk, 8, &catalogue_sector(&[6, 7]))?;
     let listed: &[u32] = if version == b'1' { &[6, 7] } else { &[8] };
     let root = Root {
         generation: 1,
@@ -65,7 +59,15 @@ fn with_entries(
         listed,
         ..older
     };
-    put_root(&mut disk, &root)?;
+    let contents = [
+        (0, older.sector()),
+        (6, entry_sector(name, length, extents)),
+        (7, entry_sector(b'b', 512, &[5, 1])),
+        (8, catalogue_sector(&[6, 7])),
+        (1, root.sector()),
+    ];
+    let mut disk = Memory::new(alloc, 16)?;
+    put_sectors(&mut disk, &contents)?;
     Ok(disk)
 }
 
@@ -85,22 +87,32 @@ const ENTRIES: [Row; 9] = [
     ("two of one name", (b'b', 64, &[2, 1]), false, false),
 ];
 
-/// Extents that are good, and those that clash with something.
+// Opens the disk of a row.
+fn open_entry(rt: &HostRuntime, tally: &mut Tally, version: (u8, Way), row: &Row) -> Result<()> {
+    let (version, way) = version;
+    let (what, first, old, new) = row;
+    let opens = if version == b'1' { *old } else { *new };
+    let disk = with_entries(rt.alloc(), version, 16, *first)?;
+    open(rt, tally, way, disk, opens, what)
+}
+
+// Extents that are good, and those that clash with something.
 fn open_entries(rt: &HostRuntime, tally: &mut Tally) -> Result<()> {
-    for &(version, way) in &VERSIONS {
-        for &(what, first, old, new) in &ENTRIES {
-            let disk = with_entries(rt.alloc(), version, 16, first)?;
-            let opens = if version == b'1' { old } else { new };
-            open(rt, tally, way, disk, opens, what)?;
+    for version in &VERSIONS {
+        for row in &ENTRIES {
+            open_entry(rt, tally, *version, row)?;
         }
     }
     Ok(())
 }
 
+// What the roots say of the size of the disk, which has 16 sectors.
+const SIZES: [u32; 4] = [15, 16, 17, 4_194_304];
+
 // Roots that say another size than the disk has.
 fn open_sizes(rt: &HostRuntime, tally: &mut Tally) -> Result<()> {
     for &(version, way) in &VERSIONS {
-        for sectors in [15, 16, 17, 4_194_304] {
+        for &sectors in &SIZES {
             let disk = with_entries(rt.alloc(), version, sectors, (b'a', 64, &[2, 1]))?;
             open(rt, tally, way, disk, sectors == 16, "the size in the roots")?;
         }
@@ -108,16 +120,24 @@ fn open_sizes(rt: &HostRuntime, tally: &mut Tally) -> Result<()> {
     Ok(())
 }
 
+const WAYS: [Way; 3] = [Way::Open, Way::Look, Way::Upgrade];
+
+// How many sectors there are of zeros, and how such a disk is refused.
+const ZEROS: [(u32, StoreRefusal); 7] = [
+    (0, StoreRefusal::BadGeometry),
+    (1, StoreRefusal::BadGeometry),
+    (2, StoreRefusal::BadGeometry),
+    (7, StoreRefusal::BadGeometry),
+    (8, StoreRefusal::NotFormatted),
+    (9, StoreRefusal::NotFormatted),
+    (1000, StoreRefusal::NotFormatted),
+];
+
 // Disks of zeros.
 fn open_empty(rt: &HostRuntime, tally: &mut Tally) -> Result<()> {
-    for way in [Way::Open, Way::Look, Way::Upgrade] {
-        for sectors in [0, 1, 2, 7, 8, 9, 1000] {
+    for way in &WAYS {
+        for &(sectors, wanted) in &ZEROS {
             let disk = Memory::new(rt.alloc(), sectors)?;
-            let wanted = if sectors < 8 {
-                StoreRefusal::BadGeometry
-            } else {
-                StoreRefusal::NotFormatted
-            };
             let (refusal, _) = way.answer(rt.alloc(), whole(disk));
             let right = refusal == Some(wanted);
             tally.count(rt, right, &sectors, "a disk of zeros")?;

@@ -57,10 +57,37 @@ impl Sides {
         self.goes_on(alloc, whole(disk.copy()?), wanted)
     }
 
-    // Whether a disk shows what stands on the old side, and on the new one.
-    fn sides_of(&self, alloc: Global, disk: Memory) -> Result<(bool, bool)> {
-        let seen = self.way.look(alloc, whole(disk))?;
+    // Whether the next mixture shows what stands on the old side, and on the new one.
+    fn next_sides(
+        &self,
+        alloc: Global,
+        mixtures: &mut Mixtures,
+        disk: &Memory,
+    ) -> Result<(bool, bool)> {
+        let mixture = mixtures.next(disk)?;
+        let seen = self.way.look(alloc, whole(mixture))?;
         Ok((seen == self.old.seen, seen == self.new.seen))
+    }
+
+    // Opens each mixture: whether the old side is seen, and whether the new one is.
+    fn open_each(
+        &self,
+        rt: &HostRuntime,
+        tally: &mut Tally,
+        mixtures: &mut Mixtures,
+        disk: &Memory,
+        cut: Cut,
+        which: Which,
+    ) -> Result<(bool, bool)> {
+        let mut old = false;
+        let mut new = false;
+        for _ in 0..mixtures.count()? {
+            let (is_old, is_new) = self.next_sides(rt.alloc(), mixtures, disk)?;
+            old = old || is_old;
+            new = new || is_new;
+            tally.count(rt, which.allows(is_old, is_new), &cut, "a mixture")?;
+        }
+        Ok((old, new))
     }
 
     /// Opens all that a stop of the disk may leave.
@@ -73,14 +100,8 @@ impl Sides {
         which: Which,
     ) -> Result<()> {
         let mut mixtures = Mixtures::of(rt.alloc(), disk)?;
-        let mut old = false;
-        let mut new = false;
-        for _ in 0..mixtures.count()? {
-            let (is_old, is_new) = self.sides_of(rt.alloc(), mixtures.next(disk)?)?;
-            old = old || is_old;
-            new = new || is_new;
-            tally.count(rt, which.allows(is_old, is_new), &cut, "a mixture")?;
-        }
+        let (old, new) = self.open_each(rt, tally, &mut mixtures, disk, cut, which)?;
+
         // Both are seen where both may stand.
         if which == Which::Either && !(old && new) {
             tally.count(rt, false, &cut, "one state alone")?;

@@ -13,6 +13,14 @@ pub(crate) fn put_sector(disk: &mut Memory, at: u32, content: &[u8; SECTOR_BYTES
     Ok(())
 }
 
+/// Writes these sectors one after the other.
+pub(crate) fn put_sectors(disk: &mut Memory, sectors: &[(u32, [u8; SECTOR_BYTES])]) -> Result<()> {
+    for (at, content) in sectors {
+        put_sector(disk, *at, content)?;
+    }
+    Ok(())
+}
+
 /// Writes over some bytes.
 pub(crate) fn put_bytes(sector: &mut [u8; SECTOR_BYTES], at: usize, bytes: &[u8]) {
     for (place, byte) in sector.iter_mut().skip(at).zip(bytes) {
@@ -23,16 +31,17 @@ pub(crate) fn put_bytes(sector: &mut [u8; SECTOR_BYTES], at: usize, bytes: &[u8]
 /// Writes a number of so many bytes, eight at most, lowest byte first.
 pub(crate) fn put_number(sector: &mut [u8; SECTOR_BYTES], at: usize, width: usize, value: u64) {
     let bytes = value.to_le_bytes();
-    for (place, byte) in sector.iter_mut().skip(at).take(width).zip(&bytes) {
-        *place = *byte;
-    }
+    put_bytes(sector, at, bytes.get(..width).unwrap_or(&bytes));
 }
 
 /// The number that some bytes say, lowest byte first.
 pub(crate) fn number(sector: &[u8; SECTOR_BYTES], at: usize, bytes: usize) -> u64 {
     let mut number = 0u64;
-    for byte in sector.iter().skip(at).take(bytes).rev() {
-        number = number.wrapping_mul(256).wrapping_add(u64::from(*byte));
+    let mut unit = 1u64;
+    for at in at..at.saturating_add(bytes) {
+        let byte = sector.get(at).copied().unwrap_or(0);
+        number = number.wrapping_add(unit.wrapping_mul(u64::from(byte)));
+        unit = unit.wrapping_mul(256);
     }
     number
 }

@@ -52,16 +52,22 @@ impl Trial {
         self.sides.goes_on(alloc, ending.disk, wanted)
     }
 
+    // Cuts one call, and opens again on the same disk where calls behind it are made.
+    fn cut_one(&self, rt: &HostRuntime, tally: &mut Tally, cut: Cut, wrong: bool) -> Result<()> {
+        let table = by_table(cut.call, self.calls, cut.late);
+        let wanted = if wrong { table.exchanged() } else { table };
+        self.cut(rt, tally, cut, wanted)?;
+        if cut.forever || cut.call > self.calls {
+            return Ok(());
+        }
+        let right = self.goes_on(rt.alloc(), cut, wanted)?;
+        tally.count(rt, right, &(self.deed, cut), "opened on the same disk")
+    }
+
     /// Cuts each call of the disk, early and late, for ever and once, and none.
     pub(crate) fn cut_all(&self, rt: &HostRuntime, tally: &mut Tally, wrong: bool) -> Result<()> {
         for cut in &Cut::all(rt.alloc(), self.opening, self.calls.saturating_add(1))? {
-            let table = by_table(cut.call, self.calls, cut.late);
-            let wanted = if wrong { table.exchanged() } else { table };
-            self.cut(rt, tally, *cut, wanted)?;
-            if !cut.forever && cut.call <= self.calls {
-                let right = self.goes_on(rt.alloc(), *cut, wanted)?;
-                tally.count(rt, right, &(self.deed, *cut), "opened on the same disk")?;
-            }
+            self.cut_one(rt, tally, *cut, wrong)?;
         }
         Ok(())
     }

@@ -5,7 +5,6 @@ use crate::files::fake::{Fake, Plan, WELL, disk, reopened};
 use crate::stops::{fill, is_filled, read, write};
 use sector_disk::{Disk, Memory, SECTOR_BYTES};
 use std::alloc::Global;
-use std::test::Fail;
 
 // Whether the file, opened again, holds what the disk in memory does.
 fn holds(alloc: Global, file: Fake, memory: &mut Memory) -> bool {
@@ -15,27 +14,36 @@ fn holds(alloc: Global, file: Fake, memory: &mut Memory) -> bool {
     }
 }
 
-// Whether a disk over such a file answers so many calls as one in memory does, and keeps the same.
-fn is_as_memory(alloc: Global, sectors: u32, plan: Plan, calls: u32) -> Result<bool, Fail> {
-    let mut memory = Memory::new(alloc, sectors)?;
-    let mut file = disk(alloc, sectors, plan)?;
-    let alike = call_both(&mut file, &mut memory, calls).is_some();
+// Whether a disk over a file of such a plan answers so many calls as this one in memory does, and
+// keeps the same.
+fn is_as(alloc: Global, memory: &mut Memory, plan: Plan, calls: u32) -> bool {
+    let Some(mut file) = disk(alloc, memory.sectors(), plan) else {
+        return false;
+    };
+    let alike = call_both(&mut file, memory, calls).is_some();
     let synced = file.sync().is_ok();
-    let held = holds(alloc, file.into_file(), &mut memory);
-    Ok(alike && synced && held)
+    let held = holds(alloc, file.into_file(), memory);
+    alike && synced && held
+}
+
+// Whether it is as a disk in memory of so many sectors.
+fn is_as_memory(alloc: Global, sectors: u32, plan: Plan, calls: u32) -> bool {
+    match Memory::new(alloc, sectors) {
+        Ok(mut memory) => is_as(alloc, &mut memory, plan, calls),
+        Err(_) => false,
+    }
 }
 
 #[test]
-fn the_buffers_give_what_a_disk_in_memory_gives(rt: HostRuntime) -> Result<(), Fail> {
+fn the_buffers_give_what_a_disk_in_memory_gives(rt: HostRuntime) {
     let short = Plan {
         most: 700,
         interrupts: true,
         fails: 0,
     };
-    let small = is_as_memory(rt.alloc(), 9, WELL, 2_000)?;
-    let large = is_as_memory(rt.alloc(), 200, short, 3_000)?;
+    let small = is_as_memory(rt.alloc(), 9, WELL, 2_000);
+    let large = is_as_memory(rt.alloc(), 200, short, 3_000);
     assert!(rt; small && large);
-    Ok(())
 }
 
 // Reads a file of 5,000 sectors: how many calls that takes, if they are as they were filled.
@@ -46,40 +54,52 @@ fn read_all(alloc: Global, file: Fake) -> Option<u64> {
     filled.then_some(reads)
 }
 
-#[test]
-fn neighbours_go_out_together_and_are_read_together(rt: HostRuntime) -> Result<(), Fail> {
-    let mut disk = disk(rt.alloc(), 5_000, WELL)?;
+// Fills such a file: how many writes and reads that takes, and then how many reads to read it all.
+fn fill_and_read(alloc: Global) -> Option<[u64; 3]> {
+    let mut disk = disk(alloc, 5_000, WELL)?;
     let filled = fill(&mut disk) && disk.sync().is_ok();
     let file = disk.into_file();
-    let calls = (file.writes, file.reads);
-    let reads = read_all(rt.alloc(), file);
+    let (writes, reads) = (file.writes, file.reads);
+    let again = read_all(alloc, file)?;
+    filled.then_some([writes, reads, again])
+}
 
+#[test]
+fn neighbours_go_out_together_and_are_read_together(rt: HostRuntime) {
     // Two writes of 1 MiB, and one of the rest. Reads of 8, 16, .. 1,024 sectors, then of 2,048,
     // and then of the rest.
-    assert!(rt; filled && calls == (3, 0) && reads == Some(10));
-    Ok(())
+    assert!(rt; fill_and_read(rt.alloc()) == Some([3, 0, 10]));
 }
 
 // What sectors 3 and 4 hold when the file is opened again.
-fn three_and_four(alloc: Global, file: Fake) -> Option<(u8, u8)> {
-    let mut again = reopened(alloc, file)?;
-    let both = (read(&mut again, 3), read(&mut again, 4));
-    match both {
-        (Some(three), Some(four)) => Some((three, four)),
-        _ => None,
+fn three_and_four(alloc: Global, file: Fake) -> [Option<u8>; 2] {
+    match reopened(alloc, file) {
+        Some(mut again) => [read(&mut again, 3), read(&mut again, 4)],
+        None => [None; 2],
     }
 }
 
-#[test]
-fn what_is_not_synced_is_lost_and_what_is_stays(rt: HostRuntime) -> Result<(), Fail> {
-    let mut first = disk(rt.alloc(), 8, WELL)?;
-    let written = write(&mut first, 3, 7) && write(&mut first, 4, 8);
-    let synced = first.sync().is_ok() && write(&mut first, 4, 9);
-    let waits = read(&mut first, 4);
+// Writes the sectors 3 and 4, syncs them, and writes 4 anew: what that reads as, if all goes
+// through.
+fn write_and_wait<D: Disk>(disk: &mut D) -> Option<u8> {
+    let written = write(disk, 3, 7) && write(disk, 4, 8);
+    let synced = disk.sync().is_ok() && write(disk, 4, 9);
+    let waits = read(disk, 4);
+    if written && synced { waits } else { None }
+}
+
+// What waits then, what the file has in sector 3, and what both hold when it is opened again.
+fn waiting_and_kept(alloc: Global) -> Option<[Option<u8>; 4]> {
+    let mut first = disk(alloc, 8, WELL)?;
+    let waits = write_and_wait(&mut first);
     let file = first.into_file();
     let given = file.bytes.get(3 * SECTOR_BYTES).copied();
-    let kept = three_and_four(rt.alloc(), file);
-    assert!(rt; written && synced);
-    assert_eq!(rt; (waits, given, kept), (Some(9), Some(7), Some((7, 8))));
-    Ok(())
+    let [three, four] = three_and_four(alloc, file);
+    Some([waits, given, three, four])
+}
+
+#[test]
+fn what_is_not_synced_is_lost_and_what_is_stays(rt: HostRuntime) {
+    let wanted = [Some(9), Some(7), Some(7), Some(8)];
+    assert_eq!(rt; waiting_and_kept(rt.alloc()), Some(wanted));
 }

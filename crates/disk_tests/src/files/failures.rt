@@ -5,7 +5,6 @@ use crate::stops::{read, write};
 use file_disk::FileDisk;
 use sector_disk::Disk;
 use std::alloc::Global;
-use std::test::Fail;
 
 // Writes, syncs and writes again; then nothing may succeed that fails once.
 fn seven_calls(disk: &mut FileDisk<Fake>) -> [bool; 7] {
@@ -50,13 +49,15 @@ fn works_again(alloc: Global, file: Fake, contents: [u8; 4]) -> bool {
 
 // Whether the calls of the disk fail from this one on where this call of the file fails, and its
 // sectors then read so.
-fn fails_so(alloc: Global, fails: u64, failed: usize, contents: [u8; 4]) -> Result<bool, Fail> {
-    let mut disk = disk(alloc, 8, Plan { fails, ..WELL })?;
+fn fails_so(alloc: Global, fails: u64, failed: usize, contents: [u8; 4]) -> bool {
+    let Some(mut disk) = disk(alloc, 8, Plan { fails, ..WELL }) else {
+        return false;
+    };
     let done = are_first(seven_calls(&mut disk), failed);
     let [one, two, three, six] = contents;
     let read = four_sectors(&mut disk) == [Some(one), Some(two), Some(three), Some(six)];
     let again = works_again(alloc, disk.into_file(), contents);
-    Ok(done && read && again)
+    done && read && again
 }
 
 // The file's calls are: seek and write of sectors 1 and 2, seek and write of 6, sync, seek and
@@ -75,38 +76,44 @@ const CALLS: [(u64, usize, [u8; 4]); 10] = [
     (0, 7, [11, 12, 13, 16]),
 ];
 
-#[test]
-fn a_failure_is_that_of_its_call_and_of_all_later_ones(rt: HostRuntime) -> Result<(), Fail> {
-    let mut wrong = None;
+// The first call of the table that fails otherwise.
+fn fails_otherwise(alloc: Global) -> Option<u64> {
     for (fails, failed, contents) in &CALLS {
-        if !fails_so(rt.alloc(), *fails, *failed, *contents)? {
-            wrong = Some(*fails);
+        if !fails_so(alloc, *fails, *failed, *contents) {
+            return Some(*fails);
         }
     }
-    assert_eq!(rt; wrong, None);
-    Ok(())
+    None
+}
+
+#[test]
+fn a_failure_is_that_of_its_call_and_of_all_later_ones(rt: HostRuntime) {
+    assert_eq!(rt; fails_otherwise(rt.alloc()), None);
+}
+
+// What sector 0 and then this one hold on a disk over such a file, and whether sector 1 is written
+// and synced then.
+fn read_and_write(alloc: Global, plan: Plan, second: u32) -> Option<([Option<u8>; 2], bool)> {
+    let mut disk = disk(alloc, 8, plan)?;
+    let reads = [read(&mut disk, 0), read(&mut disk, second)];
+    Some((reads, write(&mut disk, 1, 5) && disk.sync().is_ok()))
 }
 
 // A read that fails halfway gives the whole sectors before it: the second call of the file reads
 // 700 bytes, and the third fails.
 #[test]
-fn a_read_that_fails_halfway_gives_what_it_read(rt: HostRuntime) -> Result<(), Fail> {
+fn a_read_that_fails_halfway_gives_what_it_read(rt: HostRuntime) {
     let plan = Plan {
         most: 700,
         interrupts: true,
         fails: 3,
     };
-    let mut disk = disk(rt.alloc(), 8, plan)?;
-    let reads = (read(&mut disk, 0), read(&mut disk, 1));
-    assert!(rt; reads == (Some(0), Some(0)));
-    Ok(())
+    let answers = read_and_write(rt.alloc(), plan, 1);
+    assert!(rt; answers == Some(([Some(0), Some(0)], true)));
 }
 
 #[test]
-fn a_read_that_fails_lets_the_disk_be(rt: HostRuntime) -> Result<(), Fail> {
-    let mut disk = disk(rt.alloc(), 8, Plan { fails: 2, ..WELL })?;
-    let reads = (read(&mut disk, 0), read(&mut disk, 0));
-    let written = write(&mut disk, 1, 5) && disk.sync().is_ok();
-    assert!(rt; reads == (None, Some(0)) && written);
-    Ok(())
+fn a_read_that_fails_lets_the_disk_be(rt: HostRuntime) {
+    let answers = read_and_write(rt.alloc(), Plan { fails: 2, ..WELL }, 0);
+    assert!(rt; answers == Some(([None, Some(0)], true)));
 }

@@ -7,7 +7,6 @@ use std::cell::Cell;
 use std::fs::{Metadata, OpenFile};
 use std::io;
 use std::io::{ErrorKind, Read, Seek, SeekFrom, Write};
-use std::test::Fail;
 
 /// What befalls the calls of a file.
 #[derive(Clone, Copy)]
@@ -39,9 +38,9 @@ pub(crate) struct Fake {
 
 impl Fake {
     /// A file of so many sectors of zeros.
-    pub(crate) fn of(alloc: Global, sectors: u32, plan: Plan) -> Result<Fake, Fail> {
-        Ok(Fake {
-            bytes: vec![in alloc; 0; sectors as usize * SECTOR_BYTES]?,
+    pub(crate) fn of(alloc: Global, sectors: u32, plan: Plan) -> Option<Fake> {
+        Some(Fake {
+            bytes: vec![in alloc; 0; sectors as usize * SECTOR_BYTES].ok()?,
             plan,
             reads: 0,
             writes: 0,
@@ -138,6 +137,6 @@ pub(crate) fn reopened(alloc: Global, file: Fake) -> Option<FileDisk<Fake>> {
 }
 
 /// A disk over a new file of zeros.
-pub(crate) fn disk(alloc: Global, sectors: u32, plan: Plan) -> Result<FileDisk<Fake>, Fail> {
-    Ok(FileDisk::over(alloc, Fake::of(alloc, sectors, plan)?)?)
+pub(crate) fn disk(alloc: Global, sectors: u32, plan: Plan) -> Option<FileDisk<Fake>> {
+    reopened(alloc, Fake::of(alloc, sectors, plan)?)
 }

@@ -13,8 +13,13 @@ fn sectors(rt: &HostRuntime, path: &str) -> Result<u32, OpenFault> {
     Ok(disk.sectors())
 }
 
+// A disk of so many sectors over a new file, or over one that has as many.
+fn make(rt: &HostRuntime, path: &str, sectors: u32) -> Result<FileDisk<File>, OpenFault> {
+    FileDisk::make(rt, rt.alloc(), path, sectors)
+}
+
 fn made(rt: &HostRuntime, path: &str, sectors: u32) -> Result<u32, OpenFault> {
-    let disk: FileDisk<File> = FileDisk::make(rt, rt.alloc(), path, sectors)?;
+    let disk = make(rt, path, sectors)?;
     Ok(disk.sectors())
 }
 
@@ -49,7 +54,7 @@ fn is_file(rt: &HostRuntime, path: &str, length: usize, content: u8) -> bool {
 // Makes a disk of eight sectors and writes two of them; then a third, which isn't synced. What
 // the last one holds at first and then.
 fn make_and_write(rt: &HostRuntime, path: &str) -> Result<[Option<u8>; 2], OpenFault> {
-    let mut disk: FileDisk<File> = FileDisk::make(rt, rt.alloc(), path, 8)?;
+    let mut disk = make(rt, path, 8)?;
     let before = read(&mut disk, 7);
     let written = write(&mut disk, 7, 17) && write(&mut disk, 6, 16);
     let after = read(&mut disk, 7);
@@ -96,7 +101,7 @@ fn a_disk_is_made_written_and_opened_again(rt: HostRuntime) {
 
 // Makes a disk of eight sectors of which sector 1 holds fives: whether that succeeds.
 fn make_of_five(rt: &HostRuntime, path: &str) -> Result<bool, OpenFault> {
-    let mut disk: FileDisk<File> = FileDisk::make(rt, rt.alloc(), path, 8)?;
+    let mut disk = make(rt, path, 8)?;
     Ok(write(&mut disk, 1, 5) && disk.sync().is_ok())
 }
 
@@ -121,15 +126,16 @@ fn a_disk_that_is_opened_for_reading_is_not_written(rt: HostRuntime) {
         read_and_write(&rt, "/dev/null"),
     );
     let ended = fs::remove_dir_all(&rt, folder).is_ok();
-    assert!(rt; begun && kept && ended && answers == Ok((true, false)));
+    let right = answers == Ok((true, false));
     let refused = Err(OpenFault::CannotOpen);
-    assert!(rt; none == refused && others == (refused, refused));
+    let closed = none == refused && others == (refused, refused);
+    assert!(rt; begun && kept && ended && right && closed);
 }
 
 // Makes a disk, writes sector 1, and leaves three sectors of its file and half of one: what the
 // sectors 1 to 4 hold then, and whether a sync and a write succeed; the write waits.
 fn cut(rt: &HostRuntime, path: &str) -> Result<([Option<u8>; 4], [bool; 2]), OpenFault> {
-    let mut disk: FileDisk<File> = FileDisk::make(rt, rt.alloc(), path, 8)?;
+    let mut disk = make(rt, path, 8)?;
     let begun = write(&mut disk, 1, 5) && set_length(rt, path, 3 * 512 + 256);
     let first = [read(&mut disk, 1), read(&mut disk, 2)];
     let last = [read(&mut disk, 3), read(&mut disk, 4)];
@@ -148,8 +154,8 @@ fn a_file_that_was_cut_is_not_written(rt: HostRuntime) {
     let answers = cut(&rt, path);
     let kept = is_file(&rt, path, 3 * 512 + 256, 0);
     let ended = fs::remove_dir_all(&rt, folder).is_ok();
-    assert!(rt; begun && kept && ended);
-    assert!(rt; answers == Ok(([Some(5), Some(0), None, None], [false, false])));
+    let lost = answers == Ok(([Some(5), Some(0), None, None], [false, false]));
+    assert!(rt; begun && kept && ended && lost);
 }
 
 // What can't be opened, and what can't be made.
@@ -210,6 +216,5 @@ fn other_files_and_lengths_are_refused(rt: HostRuntime) {
     let other = opened_otherwise(&rt);
     let length = measured_otherwise(&rt, "file_disk_test_refused/length");
     let ended = fs::remove_dir_all(&rt, "file_disk_test_refused").is_ok();
-    assert!(rt; begun && ended);
-    assert_eq!(rt; (other, length), (None, None));
+    assert_eq!(rt; (begun && ended, other, length), (true, None, None));
 }

@@ -4,7 +4,7 @@ use crate::layouts::claimed::{all_claimed, is_claimed};
 use crate::layouts::plain::Plain;
 use crate::random::next;
 use extents::{ClaimRefusal, Extent, Layout, TakeRefusal};
-use std::alloc::{AllocError, Global};
+use std::alloc::Global;
 
 /// A call, and why it was refused where it was.
 #[derive(Clone, Copy, PartialEq)]
@@ -122,41 +122,39 @@ fn all_steps(layout: &mut Layout, plain: &mut Plain, most: u32, times: &mut [u32
 }
 
 // Two thousand calls of layouts of so many sectors.
-fn steps_of(
-    alloc: Global,
-    sectors: u32,
-    most: u32,
-    times: &mut [u32; 10],
-) -> Result<bool, AllocError> {
-    let mut layout = Layout::new(alloc, sectors)?;
-    let mut plain = Plain::new(alloc, sectors)?;
-    Ok(all_steps(&mut layout, &mut plain, most, times))
+fn steps_of(alloc: Global, sectors: u32, most: u32, times: &mut [u32; 10]) -> bool {
+    match (Layout::new(alloc, sectors), Plain::new(alloc, sectors)) {
+        (Ok(mut layout), Ok(mut plain)) => all_steps(&mut layout, &mut plain, most, times),
+        _ => false,
+    }
 }
 
 // Extents of a few sectors scatter a large disk, so that 32 runs don't hold what is free.
 const DISKS: [(u32, u32); 5] = [(8, 6), (9, 7), (64, 8), (1_000, 4), (1_000, 300)];
 
-#[test]
-fn a_layout_answers_as_the_plain_one(rt: HostRuntime) -> Result<(), AllocError> {
-    let mut times = [0; 10];
-    let mut wrong = None;
+// The sectors of the first layout that answers otherwise. Counts each answer.
+fn answered_otherwise(alloc: Global, times: &mut [u32; 10]) -> Option<u32> {
     for (sectors, most) in &DISKS {
-        if !steps_of(rt.alloc(), *sectors, *most, &mut times)? {
-            wrong = Some(*sectors);
+        if !steps_of(alloc, *sectors, *most, times) {
+            return Some(*sectors);
         }
     }
-    assert_eq!(rt; wrong, None);
-    let [a, b, c, d, e, f, g, h, i, j] = times;
-    let least = a
-        .min(b)
-        .min(c)
-        .min(d)
-        .min(e)
-        .min(f)
-        .min(g)
-        .min(h)
-        .min(i)
-        .min(j);
-    assert!(rt; least >= 10);
-    Ok(())
+    None
+}
+
+// Whether each of these is at least 10.
+fn are_many(times: &[u32; 10]) -> bool {
+    for count in times {
+        if *count < 10 {
+            return false;
+        }
+    }
+    true
+}
+
+#[test]
+fn a_layout_answers_as_the_plain_one(rt: HostRuntime) {
+    let mut times = [0; 10];
+    let wrong = answered_otherwise(rt.alloc(), &mut times);
+    assert_eq!(rt; (wrong, are_many(&times)), (None, true));
 }

@@ -86,15 +86,26 @@ const PAST_LIMITS: [(&str, usize, u8); 33] = [
     ("the last catalogue past any disk", 75, 0x80),
 ];
 
+const LATER: [(&str, usize, u8); 1] = [("version 3", 7, b'3')];
+
+// The bytes of the magic, and those of no field.
+const MAGIC_BYTES: [(usize, usize); 1] = [(0, 8)];
+
+const UNUSED: [(usize, usize); 3] = [(28, 56), (58, 64), (76, SECTOR_BYTES)];
+
+// The first byte of those, and the first row of the tables, that is refused otherwise.
+fn refused_otherwise() -> (Option<usize>, Option<&'static str>) {
+    let sector = sector_of(&MANY);
+    let magic = Reading::Empty.fails_among(&sector, &MAGIC_BYTES, 0);
+    let later = Reading::Empty.fails_at(&sector, &LATER);
+    let unused = Reading::BadRoot.fails_among(&sector, &UNUSED, 1);
+    let limits = Reading::BadRoot.fails_at(&sector, &PAST_LIMITS);
+    (magic.or(unused), later.or(limits))
+}
+
 #[test]
 fn a_changed_byte_is_refused_as_the_format_says(rt: HostRuntime) {
-    let sector = sector_of(&MANY);
-    let magic = Reading::Empty.fails_among(&sector, &[(0, 8)], 0);
-    let later = Reading::Empty.fails_at(&sector, &[("version 3", 7, b'3')]);
-    assert_eq!(rt; (magic, later), (None, None));
-    let unused = [(28, 56), (58, 64), (76, SECTOR_BYTES)];
-    assert_eq!(rt; Reading::BadRoot.fails_among(&sector, &unused, 1), None);
-    assert_eq!(rt; Reading::BadRoot.fails_at(&sector, &PAST_LIMITS), None);
+    assert_eq!(rt; refused_otherwise(), (None, None));
 }
 
 // A byte and what it becomes, or the first byte as it is; and the generation, the sectors, the
@@ -186,16 +197,20 @@ fn counts(libraries: u16) -> Option<usize> {
 // Libraries, and the catalogues that they need.
 const NEEDS: [(u16, usize); 5] = [(0, 0), (1, 1), (64, 1), (65, 2), (2_048, 32)];
 
-#[test]
-fn a_root_lists_as_many_catalogues_as_its_libraries_need(rt: HostRuntime) {
-    let mut wrong = None;
+// The first libraries of the table that need other catalogues, or 2,049 where these have room.
+fn needed_otherwise() -> Option<u16> {
     for (libraries, need) in &NEEDS {
         if catalogues_for(usize::from(*libraries)) != *need || counts(*libraries) != Some(*need) {
-            wrong = Some(*libraries);
+            return Some(*libraries);
         }
     }
-    assert_eq!(rt; wrong, None);
-    assert!(rt; catalogues_for(2_049) == 33 && !is_list(2_049, &catalogue_sectors()));
+    let none = catalogues_for(2_049) == 33 && !is_list(2_049, &catalogue_sectors());
+    if none { None } else { Some(2_049) }
+}
+
+#[test]
+fn a_root_lists_as_many_catalogues_as_its_libraries_need(rt: HostRuntime) {
+    assert_eq!(rt; needed_otherwise(), None);
 }
 
 const FULL: [(usize, &[u8]); 5] = [
@@ -213,14 +228,20 @@ const PAST_FULL: [(&str, usize, u8); 4] = [
     ("33 catalogues", 56, 33),
 ];
 
-// 2,048 libraries, on the smallest disk that has room for their catalogues.
-#[test]
-fn a_full_root_is_read_and_no_larger_one(rt: HostRuntime) {
+// The sector of 2,048 libraries, on the smallest disk that has room for their catalogues.
+fn full_sector() -> [u8; SECTOR_BYTES] {
     let mut sector = sector_of(&FULL);
     for i in 0..32u8 {
         sector[64 + 4 * usize::from(i)] = 2 + i;
     }
+    sector
+}
+
+#[test]
+fn a_full_root_is_read_and_no_larger_one(rt: HostRuntime) {
+    let sector = full_sector();
     let root = Root::over_catalogues(u64::MAX, 34, 2_048, &catalogue_sectors(), &[]);
-    assert!(rt; is_spelt(&root, &sector));
-    assert_eq!(rt; Reading::BadRoot.fails_at(&sector, &PAST_FULL), None);
+    let spelt = is_spelt(&root, &sector);
+    let larger = Reading::BadRoot.fails_at(&sector, &PAST_FULL);
+    assert_eq!(rt; (spelt, larger), (true, None));
 }

@@ -35,17 +35,22 @@ const REFUSED: [(&str, usize, u8); 9] = [
     ("an entry sector far past the largest disk", 19, 0x80),
 ];
 
+// The bytes of the magic, and those of no field.
+const FIXED: [(usize, usize); 3] = [(0, 4), (6, 16), (28, SECTOR_BYTES)];
+
+// The first byte of those, and the first row of the table, that is refused otherwise.
+fn refused_otherwise() -> (Option<usize>, Option<&'static str>) {
+    let sector = sector_of(&THREE);
+    let fixed = Reading::NoCatalogue.fails_among(&sector, &FIXED, 6);
+    (fixed, Reading::NoCatalogue.fails_at(&sector, &REFUSED))
+}
+
 #[test]
 fn a_catalogue_is_spelt_as_written_down(rt: HostRuntime) {
-    assert!(rt; is_spelt(&[3], &sector_of(&ONE)));
-    let sector = sector_of(&THREE);
-    assert!(rt; is_spelt(&[3, 5, 4], &sector));
-    let no_field = [(0, 4), (6, 16), (28, SECTOR_BYTES)];
-    assert_eq!(rt;
-        Reading::NoCatalogue.fails_among(&sector, &no_field, 6),
-        None
-    );
-    assert_eq!(rt; Reading::NoCatalogue.fails_at(&sector, &REFUSED), None);
+    let one = is_spelt(&[3], &sector_of(&ONE));
+    let three = is_spelt(&[3, 5, 4], &sector_of(&THREE));
+    assert!(rt; one && three);
+    assert_eq!(rt; refused_otherwise(), (None, None));
 }
 
 // Whether a catalogue may list an entry in this sector: both ways say the same.
@@ -75,6 +80,7 @@ fn a_full_catalogue_is_read_and_no_larger_one(rt: HostRuntime) {
         entry_sectors[usize::from(i)] = 2 + u32::from(i);
         sector[16 + 4 * usize::from(i)] = 2 + i;
     }
-    assert!(rt; is_spelt(&entry_sectors, &sector));
-    assert_eq!(rt; Reading::NoCatalogue.fails_at(&sector, &PAST_FULL), None);
+    let spelt = is_spelt(&entry_sectors, &sector);
+    let larger = Reading::NoCatalogue.fails_at(&sector, &PAST_FULL);
+    assert_eq!(rt; (spelt, larger), (true, None));
 }

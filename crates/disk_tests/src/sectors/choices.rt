@@ -45,7 +45,7 @@ fn chosen(even: Slot, odd: Slot) -> Option<Choice> {
     }
 }
 
-const CHOICES: [(&str, Stands, Stands, Choice); 30] = [
+const CHOICES: [(&str, Stands, Stands, Choice); 31] = [
     ("version 1, then 1", One(4), One(5), Odd),
     ("version 1, then 2", One(4), Two(5), Odd),
     ("version 2, then 2", Two(4), Two(5), Odd),
@@ -81,17 +81,21 @@ const CHOICES: [(&str, Stands, Stands, Choice); 30] = [
     ("a good sector beside a bad one", Bad, One(1), Damaged),
     ("a bad sector beside an empty one", Bad, Empty, Damaged),
     ("an empty sector beside a bad one", Empty, Bad, Damaged),
+    ("two bad sectors", Bad, Bad, Damaged),
 ];
+
+// The first row of which another root is chosen.
+fn chosen_otherwise() -> Option<&'static str> {
+    for (what, even, odd, answer) in &CHOICES {
+        if chosen(even.slot(), odd.slot()) != Some(*answer) {
+            return Some(*what);
+        }
+    }
+    None
+}
 
 #[test]
 fn the_current_root_is_chosen(rt: HostRuntime) {
-    let mut wrong = None;
-    for (what, even, odd, answer) in &CHOICES {
-        if chosen(even.slot(), odd.slot()) != Some(*answer) {
-            wrong = Some(*what);
-        }
-    }
-    assert_eq!(rt; wrong, None);
-    let bad = chosen(Slot::Bad, Slot::Bad);
-    assert!(rt; bad == Some(Damaged) && slot_of(4) == 0 && slot_of(u64::MAX) == 1);
+    assert_eq!(rt; chosen_otherwise(), None);
+    assert!(rt; slot_of(4) == 0 && slot_of(u64::MAX) == 1);
 }

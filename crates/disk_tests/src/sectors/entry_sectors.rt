@@ -36,10 +36,10 @@ fn the_entry_of_a_small_library_is_spelt_as_written_down(rt: HostRuntime) {
     entry.name[0] = b'a';
     let extent = Extent { start: 2, count: 1 };
     entry.extents[0] = extent;
-    assert!(rt; is_spelt(&entry, &sector_of(&SMALL)) && entry_of(344, 2, 1) == entry);
+    let spelt = is_spelt(&entry, &sector_of(&SMALL)) && entry_of(344, 2, 1) == entry;
     let named = entry.has_spelling() && entry.name_bytes() == b"a".as_slice();
     let placed = entry.has_spelling() && entry.file_extents() == [extent].as_slice();
-    assert!(rt; named && placed);
+    assert!(rt; spelt && named && placed);
 }
 
 // A library of 600 bytes in sectors 2 and 0x300000, under a name of this byte and `b`.
@@ -98,14 +98,23 @@ fn unread_name(bytes: &[u8]) -> Option<u8> {
     None
 }
 
+// The bytes of the magic, and those of no field.
+const MAGIC_BYTES: [(usize, usize); 1] = [(0, 4)];
+
+const UNUSED: [(usize, usize); 3] = [(12, 16), (18, 256), (272, SECTOR_BYTES)];
+
+// The first byte of those, and the first row of the table, that is refused otherwise.
+fn refused_otherwise() -> (Option<usize>, Option<&'static str>) {
+    let sector = sector_of(&SOME);
+    let magic = Reading::NoEntry.fails_among(&sector, &MAGIC_BYTES, 0);
+    let unused = Reading::NoEntry.fails_among(&sector, &UNUSED, 0x61);
+    let refused = Reading::NoEntry.fails_at(&sector, &REFUSED);
+    (magic.or(unused), refused)
+}
+
 #[test]
 fn a_changed_byte_is_read_as_the_format_says(rt: HostRuntime) {
-    let sector = sector_of(&SOME);
-    let magic = Reading::NoEntry.fails_among(&sector, &[(0, 4)], 0);
-    let unused = [(12, 16), (18, 256), (272, SECTOR_BYTES)];
-    let unused = Reading::NoEntry.fails_among(&sector, &unused, 0x61);
-    assert_eq!(rt; (magic, unused), (None, None));
-    assert_eq!(rt; Reading::NoEntry.fails_at(&sector, &REFUSED), None);
+    assert_eq!(rt; refused_otherwise(), (None, None));
     assert_eq!(rt; unread_name(&[b'a', 0x21, 0x2e, 0x30, 0x7e]), None);
 }
 
@@ -125,32 +134,42 @@ const LIMITS: [(u32, u32, u32, bool); 12] = [
     (344, u32::MAX, 1, false),
 ];
 
-#[test]
-fn an_entry_keeps_to_its_limits(rt: HostRuntime) {
-    let mut wrong = None;
+// The first row of the table of which it is otherwise.
+fn limited_otherwise() -> Option<(u32, u32, u32)> {
     for (length, start, count, spelt) in &LIMITS {
         if entry_of(*length, *start, *count).has_spelling() != *spelt {
-            wrong = Some((*length, *start, *count));
+            return Some((*length, *start, *count));
         }
     }
-    assert_eq!(rt; wrong, None);
+    None
+}
+
+#[test]
+fn an_entry_keeps_to_its_limits(rt: HostRuntime) {
+    assert_eq!(rt; limited_otherwise(), None);
 }
 
 const FULL: [(usize, &[u8]); 1] = [(0, &[0x4c, 0x49, 0x42, 0x45, 0, 0x40, 0, 0, 240, 0, 32])];
 
 const PAST_FULL: [(&str, usize, u8); 2] = [("a name of 241 bytes", 8, 241), ("33 extents", 10, 33)];
 
-// A name of 240 bytes, and a file in 32 extents.
-#[test]
-fn a_full_entry_is_read_and_no_larger_one(rt: HostRuntime) {
-    let extents = [Extent { start: 9, count: 1 }; MOST_EXTENTS];
-    let entry = Entry::new(&[b'n'; MOST_NAME_BYTES], 32 * 512, &extents);
+// The sector of a name of 240 bytes, and of a file in 32 extents.
+fn full_sector() -> [u8; SECTOR_BYTES] {
     let mut sector = sector_of(&FULL);
     sector[16..256].fill(b'n');
     for i in 0..32 {
         sector[256 + 8 * i] = 9;
         sector[260 + 8 * i] = 1;
     }
-    assert!(rt; is_spelt(&entry, &sector));
-    assert_eq!(rt; Reading::NoEntry.fails_at(&sector, &PAST_FULL), None);
+    sector
+}
+
+#[test]
+fn a_full_entry_is_read_and_no_larger_one(rt: HostRuntime) {
+    let extents = [Extent { start: 9, count: 1 }; MOST_EXTENTS];
+    let entry = Entry::new(&[b'n'; MOST_NAME_BYTES], 32 * 512, &extents);
+    let sector = full_sector();
+    let spelt = is_spelt(&entry, &sector);
+    let larger = Reading::NoEntry.fails_at(&sector, &PAST_FULL);
+    assert_eq!(rt; (spelt, larger), (true, None));
 }

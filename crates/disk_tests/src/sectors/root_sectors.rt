@@ -52,13 +52,23 @@ const PAST_LIMITS: [(&str, usize, u8); 17] = [
     ("an entry sector far past the disk", 71, 0x80),
 ];
 
+// The bytes of the magic, and those of no field.
+const MAGIC_BYTES: [(usize, usize); 1] = [(0, 8)];
+
+const UNUSED: [(usize, usize); 2] = [(28, 64), (76, SECTOR_BYTES)];
+
+// The first byte of those, and the first row of the table, that is refused otherwise.
+fn refused_otherwise() -> (Option<usize>, Option<&'static str>) {
+    let sector = sector_of(&THREE);
+    let magic = Reading::Empty.fails_among(&sector, &MAGIC_BYTES, 0);
+    let unused = Reading::BadRoot.fails_among(&sector, &UNUSED, 1);
+    let limits = Reading::BadRoot.fails_at(&sector, &PAST_LIMITS);
+    (magic.or(unused), limits)
+}
+
 #[test]
 fn a_changed_byte_is_refused_as_the_format_says(rt: HostRuntime) {
-    let sector = sector_of(&THREE);
-    let magic = Reading::Empty.fails_among(&sector, &[(0, 8)], 0);
-    let unused = Reading::BadRoot.fails_among(&sector, &[(28, 64), (76, SECTOR_BYTES)], 1);
-    assert_eq!(rt; (magic, unused), (None, None));
-    assert_eq!(rt; Reading::BadRoot.fails_at(&sector, &PAST_LIMITS), None);
+    assert_eq!(rt; refused_otherwise(), (None, None));
 }
 
 // A byte and what it becomes, or the first byte as it is; and the generation, the sectors and the
@@ -86,8 +96,9 @@ fn read_otherwise() -> Option<usize> {
 #[test]
 fn a_changed_field_within_its_limits_is_read(rt: HostRuntime) {
     let root = Root::over_entries(2, 16, &[3, 5, 4], &[0, 1]);
-    assert!(rt; lists(&root, &[3, 5, 4], &[0, 1]));
-    assert!(rt; root.version() == Version::One && root.list.version() == Version::One);
+    let listed = lists(&root, &[3, 5, 4], &[0, 1]);
+    let first = root.version() == Version::One && root.list.version() == Version::One;
+    assert!(rt; listed && first);
     assert_eq!(rt; read_otherwise(), None);
 }
 
