@@ -1,11 +1,11 @@
 // A bind beside that of a plain registry, which reads every file, and the reads that it makes.
-use crate::calls::{formatted, opened, whole};
+use crate::calls::{OnMemory, formatted, is_done, opened, whole};
 use crate::files::file;
+use image::Image;
 use plain_registry::PlainRegistry;
 use requests::{Command, Refusal, Reply};
 use sector_disk::{Fuse, Memory};
 use std::alloc::{AllocError, Global};
-use std::test::Fail;
 
 // A library: its name, what it needs, and how many sectors its file takes.
 type Made = (u8, &'static [u8], usize);
@@ -86,46 +86,48 @@ const CASES: [Case; 13] = [
     ),
 ];
 
-// The files of the libraries of a case.
-fn files(alloc: Global, case: &Case) -> Result<Vec<Vec<u8>>, AllocError> {
-    let mut files = Vec::new(alloc);
-    for (name, needs, sectors) in case.0 {
-        files.push(file(alloc, Some(*name), needs, sectors.wrapping_mul(512))?)?;
+// The file of a library of a case.
+fn file_of(alloc: Global, made: &Made) -> Result<Vec<u8>, AllocError> {
+    let (name, needs, sectors) = made;
+    file(alloc, Some(*name), needs, sectors.wrapping_mul(512))
+}
+
+// Whether a library of a case is installed.
+fn install(alloc: Global, kept: &mut OnMemory, made: &Made) -> bool {
+    match file_of(alloc, made) {
+        Ok(file) => is_done(&kept.apply(&Command::Install(&file))),
+        Err(_) => false,
     }
-    Ok(files)
+}
+
+// The same in a plain registry.
+fn install_plain(alloc: Global, kept: &mut PlainRegistry, made: &Made) -> bool {
+    match file_of(alloc, made) {
+        Ok(file) => is_done(&kept.apply(&Command::Install(&file))),
+        Err(_) => false,
+    }
 }
 
 // A disk with the registry of a case.
-fn on_disk(alloc: Global, case: &Case) -> Result<Memory, Fail> {
-    let files = files(alloc, case)?;
-    let mut kept = formatted(alloc, whole(Memory::new(alloc, 64)?))?;
+fn on_disk(alloc: Global, case: &Case) -> Option<Memory> {
+    let mut kept = formatted(alloc, whole(Memory::new(alloc, 64).ok()?))?;
     let mut done = true;
-    for file in files.iter() {
-        done &= matches!(kept.apply(&Command::Install(file)), Reply::Done);
+    for made in case.0 {
+        done &= install(alloc, &mut kept, made);
     }
-    done &= matches!(kept.apply(&Command::SetPreloads(case.1)), Reply::Done);
+    done &= is_done(&kept.apply(&Command::SetPreloads(case.1)));
     let disk = kept.into_disk().into_inner();
-    if done {
-        Ok(disk)
-    } else {
-        Err("another answer".into())
-    }
+    if done { Some(disk) } else { None }
 }
 
-// The plain registry of a case.
-fn plain(alloc: Global, case: &Case) -> Result<PlainRegistry, Fail> {
-    let files = files(alloc, case)?;
-    let mut kept = PlainRegistry::new(alloc, 64);
+// Whether a plain registry becomes that of a case.
+fn fill_plain(alloc: Global, kept: &mut PlainRegistry, case: &Case) -> bool {
     let mut done = true;
-    for file in files.iter() {
-        done &= matches!(kept.apply(&Command::Install(file)), Reply::Done);
+    for made in case.0 {
+        done &= install_plain(alloc, kept, made);
     }
-    done &= matches!(kept.apply(&Command::SetPreloads(case.1)), Reply::Done);
-    if done {
-        Ok(kept)
-    } else {
-        Err("another answer".into())
-    }
+    done &= is_done(&kept.apply(&Command::SetPreloads(case.1)));
+    done
 }
 
 // The bind of a program.
@@ -136,52 +138,86 @@ fn bind_of(program: &[u8]) -> Command<'_> {
     }
 }
 
-// The text of an image, or the refusal.
-type Told = Result<Vec<u8>, Refusal>;
+// What a bind over a disk is answered.
+#[derive(Clone, Copy, Debug, PartialEq, Eq)]
+enum Answer {
+    // What the plain registry answers.
+    AsPlain,
+    // S1.
+    Device,
+    // Something else.
+    Other,
+}
 
-// The text of an image, and the refusal where there is none.
-fn text_of(alloc: Global, reply: Reply) -> Result<Told, Fail> {
-    match reply {
-        Reply::Bound(image) => {
-            let mut text = Vec::new(alloc);
-            image.write_text(&mut text)?;
-            Ok(Ok(text))
-        }
-        Reply::Refused(refusal) => Ok(Err(refusal)),
-        _ => Err("no reply to a bind".into()),
+// Whether two images have one text.
+fn have_one_text(alloc: Global, image: &Image, other: &Image) -> bool {
+    let mut text = Vec::new(alloc);
+    let mut wanted = Vec::new(alloc);
+    let written = image.write_text(&mut text).is_ok() && other.write_text(&mut wanted).is_ok();
+    written && text == wanted
+}
+
+// Whether a bind is answered as another one: by an image with the same text, or the same refusal.
+fn is_same(alloc: Global, reply: &Reply, wanted: &Reply) -> bool {
+    match (reply, wanted) {
+        (Reply::Bound(image), Reply::Bound(other)) => have_one_text(alloc, image, other),
+        (Reply::Refused(refusal), Reply::Refused(other)) => refusal == other,
+        _ => false,
     }
 }
 
-// What a case's program is answered by the plain registry.
-fn wanted(alloc: Global, case: &Case, program: &[u8]) -> Result<Told, Fail> {
-    let mut kept = plain(alloc, case)?;
-    text_of(alloc, kept.apply(&bind_of(program)))
+// A reply to a bind, which the plain registry has answered so.
+fn reply_beside(alloc: Global, reply: &Reply, wanted: &Reply) -> Answer {
+    if is_same(alloc, reply, wanted) {
+        return Answer::AsPlain;
+    }
+    match reply {
+        Reply::Refused(Refusal::Device) => Answer::Device,
+        _ => Answer::Other,
+    }
+}
+
+// Binds a program, which the plain registry has answered so.
+fn bind(alloc: Global, kept: &mut OnMemory, program: &[u8], wanted: &Reply) -> Answer {
+    reply_beside(alloc, &kept.apply(&bind_of(program)), wanted)
 }
 
 // Opens a registry, binds a program and binds it again.
-fn bind_twice(alloc: Global, disk: Fuse<Memory>, program: &[u8]) -> Result<(Reply, Reply), Fail> {
+fn bind_twice(
+    alloc: Global,
+    disk: Fuse<Memory>,
+    program: &[u8],
+    wanted: &Reply,
+) -> Option<[Answer; 2]> {
     let mut registry = opened(alloc, disk)?;
-    let first = registry.apply(&bind_of(program));
-    let again = registry.apply(&bind_of(program));
+    let first = bind(alloc, &mut registry, program, wanted);
+    let again = bind(alloc, &mut registry, program, wanted);
     let _ = registry.into_disk();
-    Ok((first, again))
+    Some([first, again])
 }
 
-// Whether both binds are answered as the plain registry does.
-fn is_as_plain(alloc: Global, case: &Case) -> Result<bool, Fail> {
-    let program = file(alloc, None, case.2, 0)?;
-    let wanted = wanted(alloc, case, &program)?;
-    let (first, again) = bind_twice(alloc, whole(on_disk(alloc, case)?), &program)?;
-    let is_first = text_of(alloc, first)? == wanted;
-    Ok(is_first && text_of(alloc, again)? == wanted)
+// What both binds of a case's program are answered. The call of the disk with this number fails,
+// and none for 0.
+fn told(alloc: Global, case: &Case, call: u64) -> Option<[Answer; 2]> {
+    let disk = Fuse::new(on_disk(alloc, case)?, call, false, false);
+    told_beside_plain(alloc, case, disk)
+}
+
+// The same over the disk that such a case has.
+fn told_beside_plain(alloc: Global, case: &Case, disk: Fuse<Memory>) -> Option<[Answer; 2]> {
+    let program = file(alloc, None, case.2, 0).ok()?;
+    let mut kept = PlainRegistry::new(alloc, 64);
+    let filled = fill_plain(alloc, &mut kept, case);
+    let wanted = kept.apply(&bind_of(&program));
+    let told = bind_twice(alloc, disk, &program, &wanted);
+    if filled { told } else { None }
 }
 
 #[test]
-fn a_bind_is_that_of_a_plain_registry(rt: HostRuntime) -> Result<(), Fail> {
+fn a_bind_is_that_of_a_plain_registry(rt: HostRuntime) {
     for case in &CASES {
-        assert!(rt; is_as_plain(rt.alloc(), case)?);
+        assert_eq!(rt; told(rt.alloc(), case, 0), Some([Answer::AsPlain; 2]));
     }
-    Ok(())
 }
 
 // How many calls an opening makes: a sync, two roots, the catalogue unless there are no libraries,
@@ -194,38 +230,28 @@ fn opening_calls(case: &Case) -> u64 {
     calls
 }
 
-// Whether a bind is answered S1 over a disk of which a call fails. The same bind then is answered
-// as the plain registry does, and so is a first bind that isn't answered S1.
-fn fails(alloc: Global, disk: Fuse<Memory>, program: &[u8], wanted: &Told) -> Result<bool, Fail> {
-    let (first, again) = bind_twice(alloc, disk, program)?;
-    let failed = matches!(first, Reply::Refused(Refusal::Device));
-    let is_first = text_of(alloc, first)? == *wanted;
-    let is_again = text_of(alloc, again)? == *wanted;
-    if (failed && is_again) || (!failed && is_first) {
-        Ok(failed)
-    } else {
-        Err("another answer".into())
+// Whether a bind is answered S1 over a disk of which this call behind the opening fails. The same
+// bind then is answered as the plain registry does, and so is a first bind that isn't answered S1.
+fn fails(alloc: Global, case: &Case, call: u64) -> Option<bool> {
+    match told(alloc, case, opening_calls(case).wrapping_add(call))? {
+        [Answer::Device, Answer::AsPlain] => Some(true),
+        [Answer::AsPlain, _] => Some(false),
+        _ => None,
     }
 }
 
 // Whether a bind reads so many sectors, none of them twice.
-fn reads(alloc: Global, case: &Case) -> Result<bool, Fail> {
-    let program = file(alloc, None, case.2, 0)?;
-    let wanted = wanted(alloc, case, &program)?;
-    let disk = on_disk(alloc, case)?;
+fn reads(alloc: Global, case: &Case) -> bool {
     let mut same = true;
     for call in 1..10 {
-        let at = opening_calls(case).wrapping_add(call);
-        let fused = Fuse::new(disk.copy()?, at, false, false);
-        same &= fails(alloc, fused, &program, &wanted)? == (call <= case.3);
+        same &= fails(alloc, case, call) == Some(call <= case.3);
     }
-    Ok(same)
+    same
 }
 
 #[test]
-fn a_bind_reads_what_it_needs_once(rt: HostRuntime) -> Result<(), Fail> {
+fn a_bind_reads_what_it_needs_once(rt: HostRuntime) {
     for case in &CASES {
-        assert!(rt; reads(rt.alloc(), case)?);
+        assert!(rt; reads(rt.alloc(), case));
     }
-    Ok(())
 }

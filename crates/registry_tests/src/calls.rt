@@ -6,7 +6,6 @@ use registry::Registry;
 use requests::{Command, Refusal, Reply};
 use sector_disk::{Fuse, Memory};
 use std::alloc::Global;
-use std::test::Fail;
 
 /// A registry on a disk of which a call may fail.
 pub(crate) type OnMemory = Registry<Fuse<Memory>>;
@@ -16,24 +15,24 @@ pub(crate) fn whole(disk: Memory) -> Fuse<Memory> {
     Fuse::new(disk, 0, false, false)
 }
 
-/// A new registry.
-pub(crate) fn formatted(alloc: Global, disk: Fuse<Memory>) -> Result<OnMemory, Fail> {
+/// A new registry, unless the disk is refused.
+pub(crate) fn formatted(alloc: Global, disk: Fuse<Memory>) -> Option<OnMemory> {
     match Registry::format(alloc, disk) {
-        Ok(registry) => Ok(registry),
-        Err(_) => Err("format refused".into()),
+        Ok(registry) => Some(registry),
+        Err((_, _disk)) => None,
     }
 }
 
-/// The registry that a disk holds.
-pub(crate) fn opened(alloc: Global, disk: Fuse<Memory>) -> Result<OnMemory, Fail> {
+/// The registry that a disk holds, unless it is refused.
+pub(crate) fn opened(alloc: Global, disk: Fuse<Memory>) -> Option<OnMemory> {
     match Registry::open(alloc, disk) {
-        Ok(registry) => Ok(registry),
-        Err(_) => Err("open refused".into()),
+        Ok(registry) => Some(registry),
+        Err((_, _disk)) => None,
     }
 }
 
 /// The number of a refusal.
-fn number_of(refusal: &Refusal) -> &'static str {
+pub(crate) fn number_of(refusal: &Refusal) -> &'static str {
     match refusal {
         Refusal::Object(FileRefusal::Object(ObjectRefusal::BadMagic)) => "C1 E2",
         Refusal::Object(FileRefusal::Object(ObjectRefusal::BadType)) => "C1 E7",
@@ -66,14 +65,15 @@ pub(crate) fn number(reply: &Reply) -> &'static str {
     }
 }
 
-/// The disk of a new registry of so many sectors with this library.
-pub(crate) fn disk_with(alloc: Global, sectors: u32, library: &[u8]) -> Result<Memory, Fail> {
-    let mut registry = formatted(alloc, whole(Memory::new(alloc, sectors)?))?;
-    let done = matches!(registry.apply(&Command::Install(library)), Reply::Done);
+/// Whether a change was accepted.
+pub(crate) fn is_done(reply: &Reply) -> bool {
+    matches!(reply, Reply::Done)
+}
+
+/// The disk of a new registry of so many sectors with this library, if it is installed.
+pub(crate) fn disk_with(alloc: Global, sectors: u32, library: &[u8]) -> Option<Memory> {
+    let mut registry = formatted(alloc, whole(Memory::new(alloc, sectors).ok()?))?;
+    let done = is_done(&registry.apply(&Command::Install(library)));
     let disk = registry.into_disk().into_inner();
-    if done {
-        Ok(disk)
-    } else {
-        Err("not installed".into())
-    }
+    if done { Some(disk) } else { None }
 }

@@ -1,15 +1,14 @@
 // A registry on a disk that was changed by something else: which numbered refusal each call has.
-use crate::calls::{opened, whole};
+use crate::calls::{is_done, opened, whole};
 use crate::files::library;
 use crate::harms::{OLD_ROWS, OldRow, ROWS};
 use crate::opens::{format, open};
 use crate::sectors::Harm::{Byte, Zeros};
-use crate::sectors::{Sectors, disk_of, harmed, old_library, one_library, sectors_of};
+use crate::sectors::{Harm, Sectors, disk_of, harmed, old_library, one_library, sectors_of};
 use crate::upgrades::upgraded;
 use requests::{Command, Reply};
 use sector_disk::{Memory, SECTOR_BYTES};
 use std::alloc::Global;
-use std::test::Fail;
 use store::{Store, StoreRefusal};
 
 // How a store that is opened refuses a disk, or the name of its first byte string.
@@ -24,39 +23,36 @@ fn store_of(disk: Memory, alloc: Global) -> (Option<StoreRefusal>, Option<u8>) {
             let _ = store.into_disk();
             (None, name)
         }
-        Err((refusal, _)) => (Some(refusal), None),
+        Err((refusal, _disk)) => (Some(refusal), None),
     }
 }
 
 // How a disk of these sectors is refused by a store that is opened, by a registry that is opened or
 // upgraded, and by one that is formatted.
-fn refusals(alloc: Global, sectors: &Sectors) -> Result<[Option<StoreRefusal>; 4], Fail> {
+fn refusals(alloc: Global, sectors: &Sectors) -> Option<[Option<StoreRefusal>; 4]> {
     let by_store = store_of(disk_of(alloc, sectors)?, alloc).0;
-    let by_open = open(alloc, whole(disk_of(alloc, sectors)?)).0;
+    let by_open = open(alloc, disk_of(alloc, sectors)?);
     // An upgrade is an opening, and writes nothing.
     let (by_upgrade, left) = upgraded(alloc, sectors)?;
-    if left != *sectors {
-        return Err("it was written".into());
-    }
-    let by_format = format(alloc, whole(disk_of(alloc, sectors)?)).0;
-    Ok([by_store, by_open, by_upgrade, by_format])
+    let by_format = format(alloc, disk_of(alloc, sectors)?);
+    (left == *sectors).then_some([by_store, by_open, by_upgrade, by_format])
 }
 
 #[test]
-fn a_disk_that_was_changed_is_told(rt: HostRuntime) -> Result<(), Fail> {
-    let sectors = one_library(rt.alloc())?;
+fn a_disk_that_was_changed_is_told(rt: HostRuntime) {
+    let sectors = one_library(rt.alloc()).unwrap_or([[0; SECTOR_BYTES]; 8]);
     for &(harms, [by_store, by_registry], liar) in &ROWS {
-        let found = refusals(rt.alloc(), &harmed(&sectors, harms))?;
-        assert_eq!(rt; found, [by_store, by_registry, by_registry, liar[2].err()]);
+        let wanted = [by_store, by_registry, by_registry, liar[2].err()];
+        let found = refusals(rt.alloc(), &harmed(&sectors, harms));
+        assert_eq!(rt; found, Some(wanted));
     }
-    Ok(())
 }
 
-// How a store that is upgraded refuses a disk, and the disk.
-fn upgrade_store(alloc: Global, disk: Memory) -> (Option<StoreRefusal>, Memory) {
+// How a store that is upgraded refuses a disk, and what this holds then.
+fn upgrade_store(alloc: Global, disk: Memory) -> (Option<StoreRefusal>, Sectors) {
     match Store::upgrade(alloc, disk) {
-        Ok(store) => (None, store.into_disk()),
-        Err((refusal, disk)) => (Some(refusal), disk),
+        Ok(store) => (None, sectors_of(&mut store.into_disk())),
+        Err((refusal, mut disk)) => (Some(refusal), sectors_of(&mut disk)),
     }
 }
 
@@ -81,12 +77,11 @@ fn is_upgraded(
 
 // Whether a disk of version 1 is refused so, or upgraded, by a registry that is opened, and by a
 // store and a registry that are upgraded.
-fn is_told(alloc: Global, sectors: &Sectors, row: &OldRow) -> Result<bool, Fail> {
-    let by_open = open(alloc, whole(disk_of(alloc, sectors)?)).0;
-    let (by_store, mut disk) = upgrade_store(alloc, disk_of(alloc, sectors)?);
-    let of_store = (by_store, sectors_of(&mut disk));
+fn is_told(alloc: Global, sectors: &Sectors, row: &OldRow) -> Option<bool> {
+    let by_open = open(alloc, disk_of(alloc, sectors)?);
+    let of_store = upgrade_store(alloc, disk_of(alloc, sectors)?);
     let of_registry = upgraded(alloc, sectors)?;
-    Ok(
+    Some(
         by_open == row.1
             && is_upgraded(sectors, of_store, row.2[0])
             && is_upgraded(sectors, of_registry, row.2[1]),
@@ -94,50 +89,63 @@ fn is_told(alloc: Global, sectors: &Sectors, row: &OldRow) -> Result<bool, Fail>
 }
 
 #[test]
-fn a_disk_of_version_1_that_was_changed_is_told(rt: HostRuntime) -> Result<(), Fail> {
+fn a_disk_of_version_1_that_was_changed_is_told(rt: HostRuntime) {
     let sectors = old_library();
     for row in &OLD_ROWS {
-        assert!(rt; is_told(rt.alloc(), &harmed(&sectors, row.0), row)?);
+        let found = is_told(rt.alloc(), &harmed(&sectors, row.0), row);
+        assert_eq!(rt; found, Some(true));
     }
-    Ok(())
+}
+
+// What is changed, and the name under which the library stands then.
+const NAMES: [(Harm, u8); 2] = [(Byte(3, 16, b'b'), b'b'), (Zeros(2), b'a')];
+
+// How a store refuses a disk after this change, or the name that it finds. And the same of a disk
+// of version 1, once it is upgraded.
+fn found_names(alloc: Global, harm: Harm) -> Option<[(Option<StoreRefusal>, Option<u8>); 2]> {
+    let sectors = harmed(&one_library(alloc)?, &[harm]);
+    let new = store_of(disk_of(alloc, &sectors)?, alloc);
+    let old = disk_of(alloc, &harmed(&old_library(), &[harm]))?;
+    let (_, left) = upgrade_store(alloc, old);
+    Some([new, store_of(disk_of(alloc, &left)?, alloc)])
 }
 
 #[test]
-fn a_name_that_was_changed_opens_at_the_store(rt: HostRuntime) -> Result<(), Fail> {
-    let alloc = rt.alloc();
-    let sectors = one_library(alloc)?;
-    let old = old_library();
-    for (harm, name) in [(Byte(3, 16, b'b'), b'b'), (Zeros(2), b'a')] {
-        let new = store_of(disk_of(alloc, &harmed(&sectors, &[harm]))?, alloc);
-        // So it does once it is upgraded.
-        let disk = upgrade_store(alloc, disk_of(alloc, &harmed(&old, &[harm]))?).1;
+fn a_name_that_was_changed_opens_at_the_store(rt: HostRuntime) {
+    for &(harm, name) in &NAMES {
         let wanted = (None, Some(name));
-        assert_eq!(rt; [new, store_of(disk, alloc)], [wanted, wanted]);
+        assert_eq!(rt; found_names(rt.alloc(), harm), Some([wanted, wanted]));
     }
-    Ok(())
+}
+
+// Whether a reply lists nothing.
+fn lists_nothing(reply: &Reply) -> bool {
+    match reply {
+        Reply::Listing(listing) => listing.libraries.is_empty() && listing.preloads.is_empty(),
+        _ => false,
+    }
 }
 
 // Whether a registry is empty and b is installed, and the generation and the count of libraries in
 // its second root then.
-fn goes_on(alloc: Global, disk: Memory) -> Result<(bool, u8, u8), Fail> {
+fn goes_on(alloc: Global, disk: Memory) -> Option<(bool, u8, u8)> {
     let mut registry = opened(alloc, whole(disk))?;
-    let is_empty = match registry.apply(&Command::List) {
-        Reply::Listing(listing) => listing.libraries.is_empty() && listing.preloads.is_empty(),
-        _ => false,
-    };
-    let is_done = matches!(
-        registry.apply(&Command::Install(&library(b'b'))),
-        Reply::Done
-    );
+    let is_empty = lists_nothing(&registry.apply(&Command::List));
+    let file = library(b'b');
+    let is_installed = is_done(&registry.apply(&Command::Install(&file)));
     let sectors = sectors_of(&mut registry.into_disk().into_inner());
-    Ok((is_empty && is_done, sectors[1][8], sectors[1][20]))
+    Some((is_empty && is_installed, sectors[1][8], sectors[1][20]))
+}
+
+// The same of the registry with the library a, once its second root is all zeros.
+fn goes_on_without_a_root(alloc: Global) -> Option<(bool, u8, u8)> {
+    let sectors = harmed(&one_library(alloc)?, &[Zeros(1)]);
+    goes_on(alloc, disk_of(alloc, &sectors)?)
 }
 
 // The next change writes the root of generation 1.
 #[test]
-fn without_its_second_root_a_registry_is_empty(rt: HostRuntime) -> Result<(), Fail> {
-    let sectors = harmed(&one_library(rt.alloc())?, &[Zeros(1)]);
-    let found = goes_on(rt.alloc(), disk_of(rt.alloc(), &sectors)?)?;
-    assert_eq!(rt; found, (true, 1, 1));
-    Ok(())
+fn without_its_second_root_a_registry_is_empty(rt: HostRuntime) {
+    let found = goes_on_without_a_root(rt.alloc());
+    assert_eq!(rt; found, Some((true, 1, 1)));
 }

@@ -1,15 +1,14 @@
 // Events of a registry on a disk with binders, each with its answer.
-use crate::calls::{number, opened};
+use crate::calls::{number, number_of, opened};
 use crate::events::Told::{Number, Slot, Word};
 use crate::files::ASKING;
 use binders::Event::{Advance, Apply, Begin, Cancel};
 use binders::{Binders, Event, EventReply};
 use image::Image;
 use registry::Step;
-use requests::{Command, Reply};
+use requests::{Command, Refusal, Reply};
 use sector_disk::{Fuse, Memory};
 use std::alloc::Global;
-use std::test::Fail;
 
 /// What an event is answered.
 #[derive(Clone, Copy, Debug, PartialEq, Eq)]
@@ -63,22 +62,31 @@ fn answer_of(reply: &Reply) -> Told {
 /// An event and its answer.
 pub(crate) type Row<'a> = (Event<'a>, Told);
 
+// What a beginning is answered.
+fn beginning_of(begun: &Result<usize, Refusal>) -> Told {
+    match begun {
+        Ok(slot) => Slot(*slot),
+        Err(refusal) => Number(number_of(refusal)),
+    }
+}
+
+// What a step is answered.
+fn step_of(step: &Result<Step, Refusal>) -> Told {
+    match step {
+        Ok(Step::Going) => GOING,
+        Ok(Step::Final(answer)) => answer_of(answer),
+        Err(refusal) => Number(number_of(refusal)),
+    }
+}
+
 // What the call for an event is answered.
 fn told_by_call(binders: &mut Binders<Fuse<Memory>>, event: &Event<'_>) -> Told {
-    let refusal = match event {
-        Apply(command) => return answer_of(&binders.apply(command)),
-        Cancel(slot) => return answer_of(&binders.cancel(*slot)),
-        Begin { program, base } => match binders.begin(program, *base) {
-            Ok(slot) => return Slot(slot),
-            Err(refusal) => refusal,
-        },
-        Advance(slot) => match binders.advance(*slot) {
-            Ok(Step::Going) => return GOING,
-            Ok(Step::Final(answer)) => return answer_of(&answer),
-            Err(refusal) => refusal,
-        },
-    };
-    answer_of(&Reply::Refused(refusal))
+    match event {
+        Apply(command) => answer_of(&binders.apply(command)),
+        Cancel(slot) => answer_of(&binders.cancel(*slot)),
+        Begin { program, base } => beginning_of(&binders.begin(program, *base)),
+        Advance(slot) => step_of(&binders.advance(*slot)),
+    }
 }
 
 // What a reply of a run says.
@@ -90,20 +98,25 @@ fn told_of(reply: &EventReply) -> Told {
     }
 }
 
+// Whether these are the replies to the rows.
+fn are_told(replies: &[EventReply], rows: &[Row<'_>]) -> bool {
+    let mut same = replies.len() == rows.len();
+    for (reply, (_, wanted)) in replies.iter().zip(rows) {
+        same &= told_of(reply) == *wanted;
+    }
+    same
+}
+
 // Whether one run of the events is answered so.
 fn is_told_by_run(
     binders: &mut Binders<Fuse<Memory>>,
     events: &[Event<'_>],
     rows: &[Row<'_>],
 ) -> bool {
-    let Ok(replies) = binders.run_events(events) else {
-        return false;
-    };
-    let mut same = replies.len() == rows.len();
-    for (reply, (_, wanted)) in replies.iter().zip(rows) {
-        same &= told_of(reply) == *wanted;
+    match binders.run_events(events) {
+        Ok(replies) => are_told(&replies, rows),
+        Err(_) => false,
     }
-    same
 }
 
 // Whether a call for each event is answered so.
@@ -121,9 +134,9 @@ fn binders_of(
     alloc: Global,
     disk: &Memory,
     (call, late): (u64, bool),
-) -> Result<Binders<Fuse<Memory>>, Fail> {
-    let fused = Fuse::new(disk.copy()?, call, false, late);
-    Ok(Binders::new(alloc, opened(alloc, fused)?))
+) -> Option<Binders<Fuse<Memory>>> {
+    let fused = Fuse::new(disk.copy().ok()?, call, false, late);
+    Some(Binders::new(alloc, opened(alloc, fused)?))
 }
 
 // Whether these events are answered so, by a call for each, and from the start again by one run.
@@ -133,14 +146,30 @@ fn is_told(
     cut: (u64, bool),
     events: &[Event<'_>],
     rows: &[Row<'_>],
-) -> Result<bool, Fail> {
+) -> Option<bool> {
     let mut binders = binders_of(alloc, disk, cut)?;
     let by_calls = is_told_by_calls(&mut binders, rows);
     let _ = binders.into_registry().into_disk();
     let mut binders = binders_of(alloc, disk, cut)?;
     let by_run = is_told_by_run(&mut binders, events, rows);
     let _ = binders.into_registry().into_disk();
-    Ok(by_calls && by_run)
+    Some(by_calls && by_run)
+}
+
+// Adds the beginnings of so many binders, and then these rows.
+fn put_rows<'a>(rows: &mut Vec<Row<'a>>, begun: usize, others: &[Row<'a>]) -> Option<()> {
+    for slot in 0..begun {
+        rows.push((BEGIN, Slot(slot))).ok()?;
+    }
+    rows.extend_from_slice(others).ok()
+}
+
+// Adds the events of these rows.
+fn put_events<'a>(events: &mut Vec<Event<'a>>, rows: &[Row<'a>]) -> Option<()> {
+    for (event, _) in rows {
+        events.push(*event).ok()?;
+    }
+    Some(())
 }
 
 /// Begins so many binders over the registry of a disk, and then lets the events happen, by a call
@@ -152,15 +181,10 @@ pub(crate) fn happen(
     cut: (u64, bool),
     begun: usize,
     events: &[Row<'_>],
-) -> Result<bool, Fail> {
-    let mut rows: Vec<Row<'_>> = Vec::new(alloc);
-    for slot in 0..begun {
-        rows.push((BEGIN, Slot(slot)))?;
-    }
-    rows.extend_from_slice(events)?;
+) -> bool {
+    let mut rows = Vec::new(alloc);
     let mut asked = Vec::new(alloc);
-    for (event, _) in rows.iter() {
-        asked.push(*event)?;
-    }
-    is_told(alloc, disk, cut, &asked, &rows)
+    let filled = put_rows(&mut rows, begun, events).is_some()
+        && put_events(&mut asked, &rows).is_some();
+    filled && is_told(alloc, disk, cut, &asked, &rows) == Some(true)
 }

@@ -2,24 +2,37 @@
 use crate::calls::whole;
 use crate::files::{SIZE, library};
 use registry::Registry;
-use sector_disk::{Fuse, Memory};
+use sector_disk::Memory;
 use std::alloc::Global;
-use std::test::Fail;
 use store::{Store, StoreRefusal};
 
-/// How an opening refuses, if it does, and the disk.
-pub(crate) fn open(alloc: Global, disk: Fuse<Memory>) -> (Option<StoreRefusal>, Fuse<Memory>) {
-    match Registry::open(alloc, disk) {
-        Ok(registry) => (None, registry.into_disk()),
-        Err((refusal, disk)) => (Some(refusal), disk),
+/// How an opening refuses a disk, if it does.
+pub(crate) fn open(alloc: Global, disk: Memory) -> Option<StoreRefusal> {
+    match Registry::open(alloc, whole(disk)) {
+        Ok(registry) => {
+            let _ = registry.into_disk();
+            None
+        }
+        Err((refusal, _disk)) => Some(refusal),
     }
 }
 
-/// How a format refuses, if it does, and the disk.
-pub(crate) fn format(alloc: Global, disk: Fuse<Memory>) -> (Option<StoreRefusal>, Fuse<Memory>) {
-    match Registry::format(alloc, disk) {
-        Ok(registry) => (None, registry.into_disk()),
-        Err((refusal, disk)) => (Some(refusal), disk),
+/// How a format refuses a disk, if it does.
+pub(crate) fn format(alloc: Global, disk: Memory) -> Option<StoreRefusal> {
+    match Registry::format(alloc, whole(disk)) {
+        Ok(registry) => {
+            let _ = registry.into_disk();
+            None
+        }
+        Err((refusal, _disk)) => Some(refusal),
+    }
+}
+
+// A new store, unless the disk is refused.
+fn formatted(alloc: Global, disk: Memory) -> Option<Store<Memory>> {
+    match Store::format(alloc, disk) {
+        Ok(store) => Some(store),
+        Err((_, _disk)) => None,
     }
 }
 
@@ -32,35 +45,42 @@ fn put(store: &mut Store<Memory>, name: u8, bytes: &[u8; SIZE]) -> bool {
 }
 
 // A disk of 16 sectors with these files under the names a and b, whatever they are.
-fn filled(alloc: Global, a: &[u8; SIZE], b: &[u8; SIZE]) -> Result<Memory, Fail> {
-    let Ok(mut store) = Store::format(alloc, Memory::new(alloc, 16)?) else {
-        return Err("format refused".into());
-    };
+fn filled(alloc: Global, a: &[u8; SIZE], b: &[u8; SIZE]) -> Option<Memory> {
+    let mut store = formatted(alloc, Memory::new(alloc, 16).ok()?)?;
     let done = put(&mut store, b'a', a) && put(&mut store, b'b', b);
     let disk = store.into_disk();
-    if done {
-        Ok(disk)
+    if done { Some(disk) } else { None }
+}
+
+/// The files that stand under the names a and b, and whether each is the library of its name.
+pub(crate) const FILES: [([u8; 2], bool); 6] = [
+    (*b"ab", true),
+    (*b"aa", false),
+    (*b"bb", false),
+    (*b"ba", false),
+    (*b"0b", false),
+    (*b"a0", false),
+];
+
+/// Such a file: the library of this name, or zeros for 0.
+pub(crate) fn file_of(name: u8) -> [u8; SIZE] {
+    if name == b'0' {
+        [0; SIZE]
     } else {
-        Err("put refused".into())
+        library(name)
     }
 }
 
-const DAMAGED: Option<StoreRefusal> = Some(StoreRefusal::Damaged);
+// How a disk with these files is refused, if it is.
+fn refusal_of(alloc: Global, [a, b]: [u8; 2]) -> Option<Option<StoreRefusal>> {
+    let disk = filled(alloc, &file_of(a), &file_of(b))?;
+    Some(open(alloc, disk))
+}
 
 #[test]
-fn each_file_is_to_be_a_library_of_its_name(rt: HostRuntime) -> Result<(), Fail> {
-    let (a, b, none) = (library(b'a'), library(b'b'), [0; SIZE]);
-    for (first, second, wanted) in [
-        (&a, &b, None),
-        (&a, &a, DAMAGED),
-        (&b, &b, DAMAGED),
-        (&b, &a, DAMAGED),
-        (&none, &b, DAMAGED),
-        (&a, &none, DAMAGED),
-    ] {
-        let disk = filled(rt.alloc(), first, second)?;
-        let (refusal, _) = open(rt.alloc(), whole(disk));
-        assert_eq!(rt; refusal, wanted);
+fn each_file_is_to_be_a_library_of_its_name(rt: HostRuntime) {
+    for &(names, passes) in &FILES {
+        let wanted = (!passes).then_some(StoreRefusal::Damaged);
+        assert_eq!(rt; refusal_of(rt.alloc(), names), Some(wanted));
     }
-    Ok(())
 }

@@ -3,7 +3,6 @@ use crate::calls::disk_with;
 use crate::files::{library, put};
 use sector_disk::{Disk, Memory, SECTOR_BYTES};
 use std::alloc::Global;
-use std::test::Fail;
 
 /// What a disk of eight sectors holds.
 pub(crate) type Sectors = [[u8; SECTOR_BYTES]; 8];
@@ -29,24 +28,21 @@ pub(crate) fn sectors_of(disk: &mut Memory) -> Sectors {
 }
 
 /// A disk with these sectors, all synced.
-pub(crate) fn disk_of(alloc: Global, sectors: &Sectors) -> Result<Memory, Fail> {
-    let mut disk = Memory::new(alloc, 8)?;
+pub(crate) fn disk_of(alloc: Global, sectors: &Sectors) -> Option<Memory> {
+    let mut disk = Memory::new(alloc, 8).ok()?;
     let mut done = true;
     for at in 0..8_u32 {
         done &= at < disk.sectors() && disk.write(at, &sectors[at as usize]).is_ok();
     }
     done &= disk.sync().is_ok();
-    if done {
-        Ok(disk)
-    } else {
-        Err("no disk".into())
-    }
+    if done { Some(disk) } else { None }
 }
 
 /// The sectors of a disk that was made a registry and has the library a: its bytes in sector 2, its
 /// entry in 3, its catalogue in 4, the root of generation 1 in 1.
-pub(crate) fn one_library(alloc: Global) -> Result<Sectors, Fail> {
-    Ok(sectors_of(&mut disk_with(alloc, 8, &library(b'a'))?))
+pub(crate) fn one_library(alloc: Global) -> Option<Sectors> {
+    let mut disk = disk_with(alloc, 8, &library(b'a'))?;
+    Some(sectors_of(&mut disk))
 }
 
 // Puts bytes into a sector from a place on.

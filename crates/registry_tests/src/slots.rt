@@ -9,7 +9,6 @@ use binders::Event::{Advance, Apply, Begin, Cancel};
 use requests::Command;
 use sector_disk::Memory;
 use std::alloc::Global;
-use std::test::Fail;
 
 const OK: Told = Number("ok");
 
@@ -21,19 +20,30 @@ const NO_BINDER: Told = Number("C8");
 const WHOLE: (u64, bool) = (0, false);
 
 // The disk of a new registry of eight sectors. With a library of one sector two of them are free.
-fn empty(alloc: Global) -> Result<Memory, Fail> {
-    let registry = formatted(alloc, whole(Memory::new(alloc, 8)?))?;
-    Ok(registry.into_disk().into_inner())
+fn empty(alloc: Global) -> Option<Memory> {
+    let registry = formatted(alloc, whole(Memory::new(alloc, 8).ok()?))?;
+    Some(registry.into_disk().into_inner())
 }
 
-// The same with a. Its opening takes six calls: a sync, two roots, the catalogue, the entry, and
-// the file.
-fn with_a(alloc: Global) -> Result<Memory, Fail> {
-    disk_with(alloc, 8, DEFINING)
+// Whether these events are answered so over it.
+fn happen_over_none(alloc: Global, rows: &[Row<'_>]) -> bool {
+    match empty(alloc) {
+        Some(disk) => happen(alloc, &disk, WHOLE, 0, rows),
+        None => false,
+    }
+}
+
+// Whether these events are answered so over the same with a, where so many binders are begun. Its
+// opening takes six calls: a sync, two roots, the catalogue, the entry, and the file.
+fn happen_over_a(alloc: Global, cut: (u64, bool), begun: usize, rows: &[Row<'_>]) -> bool {
+    match disk_with(alloc, 8, DEFINING) {
+        Some(disk) => happen(alloc, &disk, cut, begun, rows),
+        None => false,
+    }
 }
 
 #[test]
-fn a_slot_is_free_after_the_last_step(rt: HostRuntime) -> Result<(), Fail> {
+fn a_slot_is_free_after_the_last_step(rt: HostRuntime) {
     let other = absolute(0x1234);
     let replace = Apply(Command::Replace(&other));
     let rows = [
@@ -54,14 +64,13 @@ fn a_slot_is_free_after_the_last_step(rt: HostRuntime) -> Result<(), Fail> {
         (Cancel(0), NO_BINDER),
         (BEGIN, Slot(0)),
     ];
-    assert!(rt; happen(rt.alloc(), &empty(rt.alloc())?, WHOLE, 0, &rows)?);
-    Ok(())
+    assert!(rt; happen_over_none(rt.alloc(), &rows));
 }
 
 const REMOVE: Event<'static> = Apply(Command::Remove(b"a"));
 
 #[test]
-fn a_binder_has_a_library_that_was_removed(rt: HostRuntime) -> Result<(), Fail> {
+fn a_binder_has_a_library_that_was_removed(rt: HostRuntime) {
     let other = absolute(0x1234);
     let replace = Apply(Command::Replace(&other));
     let rows = [
@@ -75,12 +84,11 @@ fn a_binder_has_a_library_that_was_removed(rt: HostRuntime) -> Result<(), Fail> 
         (replace, Number("C3")),
         (BIND, Number("B3")),
     ];
-    assert!(rt; happen(rt.alloc(), &with_a(rt.alloc())?, WHOLE, 0, &rows)?);
-    Ok(())
+    assert!(rt; happen_over_a(rt.alloc(), WHOLE, 0, &rows));
 }
 
 #[test]
-fn a_binder_ends_before_its_first_step(rt: HostRuntime) -> Result<(), Fail> {
+fn a_binder_ends_before_its_first_step(rt: HostRuntime) {
     let other = absolute(0x1234);
     let replace = Apply(Command::Replace(&other));
     let rows = [
@@ -90,8 +98,7 @@ fn a_binder_ends_before_its_first_step(rt: HostRuntime) -> Result<(), Fail> {
         (Cancel(0), OK),
         (replace, OK),
     ];
-    assert!(rt; happen(rt.alloc(), &with_a(rt.alloc())?, WHOLE, 0, &rows)?);
-    Ok(())
+    assert!(rt; happen_over_a(rt.alloc(), WHOLE, 0, &rows));
 }
 
 // What lacks a library is refused at the last step.
@@ -134,11 +141,8 @@ const REFUSED: [Row<'static>; 11] = [
 ];
 
 #[test]
-fn a_program_that_is_refused_by_itself_is_so_at_the_first_step(
-    rt: HostRuntime,
-) -> Result<(), Fail> {
-    assert!(rt; happen(rt.alloc(), &empty(rt.alloc())?, WHOLE, 0, &REFUSED)?);
-    Ok(())
+fn a_program_that_is_refused_by_itself_is_so_at_the_first_step(rt: HostRuntime) {
+    assert!(rt; happen_over_none(rt.alloc(), &REFUSED));
 }
 
 const SLOTS: [Row<'static>; 13] = [
@@ -158,15 +162,12 @@ const SLOTS: [Row<'static>; 13] = [
 ];
 
 #[test]
-fn there_are_eight_slots_and_the_lowest_free_is_taken(rt: HostRuntime) -> Result<(), Fail> {
-    let disk = with_a(rt.alloc())?;
-    assert!(rt; happen(rt.alloc(), &disk, WHOLE, 8, &SLOTS)?);
-    Ok(())
+fn there_are_eight_slots_and_the_lowest_free_is_taken(rt: HostRuntime) {
+    assert!(rt; happen_over_a(rt.alloc(), WHOLE, 8, &SLOTS));
 }
 
 #[test]
-fn after_a_failed_write_slots_are_cancelled_alone(rt: HostRuntime) -> Result<(), Fail> {
-    let disk = with_a(rt.alloc())?;
+fn after_a_failed_write_slots_are_cancelled_alone(rt: HostRuntime) {
     let other = absolute(0x1234);
     let rows = [
         (Advance(7), GOING),
@@ -181,37 +182,32 @@ fn after_a_failed_write_slots_are_cancelled_alone(rt: HostRuntime) -> Result<(),
         (Cancel(0), OK),
     ];
     for call in 7..13 {
-        for late in [false, true] {
-            assert!(rt; happen(rt.alloc(), &disk, (call, late), 8, &rows)?);
-        }
+        let early = happen_over_a(rt.alloc(), (call, false), 8, &rows);
+        let late = happen_over_a(rt.alloc(), (call, true), 8, &rows);
+        assert!(rt; early && late);
     }
-    Ok(())
 }
 
 // A replacement after which there is no room for another until each of eight binders is cancelled,
 // in this order.
-fn cancel_rows<'a>(replace: Event<'a>, order: [usize; 8]) -> [Row<'a>; 18] {
+fn cancel_rows<'a>(replace: Event<'a>, order: &[usize; 8]) -> [Row<'a>; 18] {
     let mut rows = [(replace, OK); 18];
-    for (i, slot) in order.iter().enumerate() {
-        let at = i.wrapping_mul(2).wrapping_add(1);
-        if let Some(row) = rows.get_mut(at) {
-            *row = (replace, FULL);
-        }
-        if let Some(row) = rows.get_mut(at.wrapping_add(1)) {
-            *row = (Cancel(*slot), OK);
-        }
+    for i in 0..8 {
+        rows[2 * i + 1] = (replace, FULL);
+        rows[2 * i + 2] = (Cancel(order[i]), OK);
     }
     rows
 }
 
+// In which order the eight are cancelled.
+const ORDERS: [[usize; 8]; 2] = [[0, 1, 2, 3, 4, 5, 6, 7], [5, 0, 7, 2, 6, 1, 4, 3]];
+
 // The version that all eight have keeps its sectors until the last of them is cancelled.
 #[test]
-fn a_version_goes_with_the_last_of_eight_binders(rt: HostRuntime) -> Result<(), Fail> {
-    let disk = with_a(rt.alloc())?;
+fn a_version_goes_with_the_last_of_eight_binders(rt: HostRuntime) {
     let other = absolute(0x1234);
-    for order in [[0, 1, 2, 3, 4, 5, 6, 7], [5, 0, 7, 2, 6, 1, 4, 3]] {
+    for order in &ORDERS {
         let rows = cancel_rows(Apply(Command::Replace(&other)), order);
-        assert!(rt; happen(rt.alloc(), &disk, WHOLE, 8, &rows)?);
+        assert!(rt; happen_over_a(rt.alloc(), WHOLE, 8, &rows));
     }
-    Ok(())
 }
