@@ -114,6 +114,15 @@ static void try_plan(struct call it) {
     carry_out(whole, answer.bytes);
 }
 
+/* How many steps a plan has. */
+static void try_steps(struct call it, uint64_t steps) {
+    static uint8_t out[ROOM];
+    char text[8];
+    rlibreg_answer answer;
+    WANT(plan(it, out, ROOM, text, sizeof text, &answer) == RLIBREG_DONE);
+    WANT(answer.count == steps);
+}
+
 /* A refusal, with every room for its text. */
 static void try_refusal(struct call it, uint32_t wanted, const char *line) {
     static uint8_t out[ROOM];
@@ -283,6 +292,7 @@ int main(int argc, char **argv) {
 
     try_lengths();
     try_refusal(install, RLIBREG_NOT_FORMATTED, "refused S3 NotFormatted\n");
+    try_steps(format, 3); /* a sync, the root, a sync */
     try_plan(format);
     try_refusal(format, RLIBREG_ALREADY_FORMATTED, "refused S4 AlreadyFormatted\n");
     try_listing(0, 0, 0, "", 0, "end\n");
