@@ -183,23 +183,15 @@ enum By {
     LookAndCommit,
 }
 
-// Looks at a disk, and commits what is of version 1.
-fn look_and_commit<D: Disk + Drop>(
-    rt: &impl AllocGlobal,
-    disk: D,
-) -> Result<Store<D>, (StoreRefusal, D)> {
-    match Store::look(rt.alloc(), disk) {
-        Ok(Look::Old(store)) => store.commit(),
-        Ok(Look::Current(store)) => Ok(store),
-        Err(refused) => Err(refused),
-    }
-}
-
 // Upgrades a disk: the refusal, if it is refused, and the disk.
 fn upgrade<D: Disk + Drop>(rt: &impl AllocGlobal, disk: D, by: By) -> (Option<StoreRefusal>, D) {
     let result = match by {
         By::Upgrade => Store::upgrade(rt.alloc(), disk),
-        By::LookAndCommit => look_and_commit(rt, disk),
+        By::LookAndCommit => match Store::look(rt.alloc(), disk) {
+            Ok(Look::Old(store)) => store.commit(),
+            Ok(Look::Current(store)) => Ok(store),
+            Err(refused) => Err(refused),
+        },
     };
     match result {
         Ok(store) => (None, store.into_disk()),

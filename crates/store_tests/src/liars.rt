@@ -42,9 +42,12 @@ fn both_changed(
     change: (usize, usize, u8),
 ) -> Both {
     let (answer, byte, to) = change;
-    assert!(rt; answer < 8 && byte < SECTOR_BYTES);
     let mut changed = *answers;
-    changed[answer][byte] = to;
+    if let Some(sector) = changed.get_mut(answer)
+        && let Some(place) = sector.get_mut(byte)
+    {
+        *place = to;
+    }
     both(rt, &changed)
 }
 
@@ -123,20 +126,15 @@ const CHANGES: [(Change, Option<StoreRefusal>); 4] = [
 
 const REMOVAL: [(Change, Option<StoreRefusal>); 2] = [(ChooseNone, None), (Delete(0), None)];
 
-// How many bytes a read gives, and the first one.
-fn first_given(read: Result<Vec<u8>, StoreRefusal>) -> Option<(usize, Option<u8>)> {
-    match read {
-        Ok(bytes) => Some((bytes.len(), bytes.first().copied())),
-        Err(_) => None,
-    }
-}
-
 // The first byte string: how many bytes it has, and the first one.
 fn first_blob(rt: &impl AllocGlobal, store: &mut Store<Liar>) -> Option<(usize, Option<u8>)> {
     if store.count() == 0 {
         return None;
     }
-    first_given(store.read_blob(rt.alloc(), 0))
+    match store.read_blob(rt.alloc(), 0) {
+        Ok(bytes) => Some((bytes.len(), bytes.first().copied())),
+        Err(_) => None,
+    }
 }
 
 // The store on a liar whose answers are zeros.

@@ -24,21 +24,13 @@ fn first_list(rt: &(impl Abort + AllocGlobal), count: u32) -> Vec<Listed> {
     list
 }
 
-// Puts a byte string in the place of the one of its number, or behind the others.
-fn put(rt: &(impl Abort + AllocGlobal), list: &mut Vec<Listed>, new: Listed) {
-    for listed in list.iter_mut() {
-        if listed.number == new.number {
-            *listed = new;
-            return;
-        }
-    }
-    list.push(new).expect(rt, "a list");
-}
-
 // Makes a change of the plain list.
 fn follow(rt: &(impl Abort + AllocGlobal), list: &mut Vec<Listed>, change: Change) {
     match change {
-        Put(number, value, _) => put(rt, list, Listed { number, value }),
+        Put(number, value, _) => match list.iter_mut().find(|listed| listed.number == number) {
+            Some(listed) => listed.value = value,
+            None => list.push(Listed { number, value }).expect(rt, "a list"),
+        },
         Delete(number) => list.retain(|listed| listed.number != number),
         _ => {}
     }

@@ -47,8 +47,7 @@ pub(crate) fn eight_sectors(rt: &impl Abort, disk: &mut Memory) -> [[u8; SECTOR_
 pub(crate) fn holds(rt: &impl Abort, disk: &mut Memory, table: &[(u32, usize, u8)]) {
     let mut wrong = None;
     for (at, byte, want) in table {
-        assert!(rt; *byte < SECTOR_BYTES);
-        if sector(rt, disk, *at)[*byte] != *want {
+        if sector(rt, disk, *at).get(*byte) != Some(want) {
             wrong = Some((*at, *byte));
         }
     }

@@ -1,5 +1,4 @@
 // What can be seen of a disk of either version.
-use crate::calls::count_of;
 use sector_disk::{Disk, Memory};
 use std::process::Abort;
 use store::{Look, OldStore, Store, StoreRefusal};
@@ -15,17 +14,18 @@ pub(crate) enum Seen {
 /// Looks at a disk.
 pub(crate) fn look<D: Disk + Drop>(rt: &impl AllocGlobal, disk: D) -> Seen {
     match Store::look(rt.alloc(), disk) {
-        Ok(Look::Current(store)) => Seen::Current(count_of(store)),
-        Ok(Look::Old(store)) => Seen::Old(count_of_old(store)),
+        Ok(Look::Current(store)) => {
+            let seen = Seen::Current(store.count());
+            let _ = store.into_disk();
+            seen
+        }
+        Ok(Look::Old(store)) => {
+            let seen = Seen::Old(store.count());
+            let _ = store.into_disk();
+            seen
+        }
         Err((refusal, _)) => Seen::Refused(refusal),
     }
-}
-
-// How many byte strings a store of version 1 has; it is of no further use.
-fn count_of_old<D: Disk + Drop>(store: OldStore<D>) -> usize {
-    let count = store.count();
-    let _ = store.into_disk();
-    count
 }
 
 /// The store of version 1 that is seen on a disk.
@@ -52,7 +52,7 @@ pub(crate) struct Told {
 }
 
 /// What a store tells.
-pub(crate) fn tell(store: &Store<Memory>) -> Told {
+pub(crate) fn tell<D: Disk>(store: &Store<D>) -> Told {
     let mut first = [(0, 0); 4];
     for (position, place) in first.iter_mut().enumerate() {
         if position < store.count() {
@@ -86,46 +86,38 @@ pub(crate) fn given(
     Ok((bytes.len(), value_of(&bytes)))
 }
 
-// Whether the byte string at this position has this name, and is found by it.
-fn is_named(store: &Store<Memory>, position: usize, name: &[u8]) -> bool {
-    position < store.count()
-        && store.name(position) == name
-        && store.position(name) == Some(position)
-}
-
 /// Whether the byte string at this position has this name, is found by it, and is so many bytes of
 /// one value.
-pub(crate) fn has(
+pub(crate) fn has<D: Disk>(
     rt: &impl AllocGlobal,
-    store: &mut Store<Memory>,
+    store: &mut Store<D>,
     position: usize,
     name: &[u8],
     read: (usize, u8),
 ) -> bool {
-    if position >= store.count() || !is_named(store, position, name) {
+    if position >= store.count() || store.name(position) != name {
         return false;
     }
+    let found = store.position(name) == Some(position);
     let (length, value) = read;
-    given(store.read_blob(rt.alloc(), position)) == Ok((length, Some(value)))
-}
-
-// The last byte that a read gives.
-fn last_given(read: Result<Vec<u8>, StoreRefusal>) -> Option<u8> {
-    match read {
-        Ok(bytes) => bytes.last().copied(),
-        Err(_) => None,
-    }
+    found && given(store.read_blob(rt.alloc(), position)) == Ok((length, Some(value)))
 }
 
 /// The last byte of the byte string at this position, which has this name and is found by it.
-pub(crate) fn last_byte(
+pub(crate) fn last_byte<D: Disk>(
     rt: &impl AllocGlobal,
-    store: &mut Store<Memory>,
+    store: &mut Store<D>,
     position: usize,
     name: &[u8],
 ) -> Option<u8> {
-    if position >= store.count() || !is_named(store, position, name) {
+    if position >= store.count() || store.name(position) != name {
         return None;
     }
-    last_given(store.read_blob(rt.alloc(), position))
+    if store.position(name) != Some(position) {
+        return None;
+    }
+    match store.read_blob(rt.alloc(), position) {
+        Ok(bytes) => bytes.last().copied(),
+        Err(_) => None,
+    }
 }

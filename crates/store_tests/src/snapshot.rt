@@ -35,8 +35,8 @@ fn has(
         return false;
     }
     let named = snapshot.name(store, position) == name.as_slice();
-    let read = given(snapshot.read(rt.alloc(), store, position));
-    named && read == Ok((length, Some(byte)))
+    let read = snapshot.read(rt.alloc(), store, position);
+    named && given(read) == Ok((length, Some(byte)))
 }
 
 // The names stand in another order than the positions.
