@@ -232,6 +232,15 @@ def laid_out(count, catalogue, *libraries):
     return with_sectors(count, sectors)
 
 
+def apart_file(file, *extents, turned=False):
+    """A disk of 12 sectors with the library none.so in these extents, in their order; the entry names them in it, or the other way round."""
+    sectors = {0: spelt_root(Root(2, 0, 12, 1, [], [8])), 8: spelt_catalogue([10]),
+               10: entry(b'none.so', len(file), *(reversed(extents) if turned else extents))}
+    places = [start + k for start, count in extents for k in range(count)]
+    sectors.update((at, file[SECTOR * k:SECTOR * (k + 1)]) for k, at in enumerate(places))
+    return with_sectors(12, sectors)
+
+
 def of_one_sector(*places):
     return [(k, 1) for k in places]
 
@@ -249,6 +258,8 @@ def room():
     # Free are 2 with 3, 6 with 7, and 9 with what follows.
     pairs = laid_out(11, 8, (5, b'a', a, [(4, 1)]))
     triple = laid_out(12, 8, (5, b'a', a, [(4, 1)]))
+    none = (DATA / 'real-none.so').read_bytes()
+    assert len(none) == 1456
     return [
         ('Free are the sectors 5 and 6, and 10 to 15: the data goes into the longer run, the entry and the catalogue into the lowest.', [
             on('gap.disk', f'install disk {exclamation}', '0 ok',
@@ -286,6 +297,10 @@ def room():
             on(apart, f'install disk {exclamation}', '0 ok', has='0x240=06 0x810=21 0x900=0200000001 0xc10=430000004700000004'),
             on(apart, 'remove disk q', '0 ok', has='0x214=01 0x240=02 0x410=43'),
             on(apart + ' 0x0=00', f'install disk {other}', '1 refused S3 NotFormatted', 'same')]),
+        ('A file of 1,456 bytes whose first sector is 9 and whose others are 4 and 5; in the order 4, 5 and 9 its bytes are no library.', [
+            listed(apart_file(none, (9, 1), (4, 2)), 'none.listing'),
+            on(apart_file(none, (9, 1), (4, 2)), 'upgrade disk', '0 ok', 'same'),
+            on(apart_file(none, (9, 1), (4, 2), turned=True), 'list disk', '1 refused S5 Damaged', 'same')]),
         ('33 sectors in 32 runs, of which one has two: that first. The entry is behind them all, and the catalogue behind it.', [
             on(nearer, f'install disk {other}', '0 ok', has='0x240=45 0x8604=78410000 0x860a=2000 0x8700=40000000020000000200000001'
                ' 0x87f8=3e00000001 0x8a00=4c49424303 0x8a10=440000004800000043')]),
@@ -318,7 +333,9 @@ def damaged():
             on('one.disk 0x8=04 0x208=07', 'list disk', s5, 'same'), on('one.disk 0x8=06 0x208=03', 'list disk', s5, 'same'),
             on('one.disk 0x0=00', 'list disk', s5, 'same'), on('formatted.disk 0x8=02', 'list disk', s5, 'same'),
             on('formatted.disk 0x8=01', 'list disk', s5, 'same'), on('one.disk 0x8=03 0x208=02', 'list disk', s5, 'same'),
-            on('one.disk 0x8=01 0x208=02', 'list disk', s5, 'same'),
+            on('one.disk 0x8=01 0x208=02', 'list disk', s5, 'same'), on('one.disk 0x8=01', 'list disk', s5, 'same'),
+            on('one.disk 0x8=04 0x208=04', 'list disk', s5, 'same'), on('one.disk 0x208=ffffffffffffffff', 'list disk', s5, 'same'),
+            on('one.disk 0x8=feffffffffffffff', 'list disk', s5, 'same'),
             on(f'bytes= pad=4096 0x200={ROOT}08', 'list disk', s5, 'same'), on(f'{EMPTY} 0x200={ROOT}08', 'list disk', s5, 'same')]),
         ('A root with one byte changed, or two; the older of two as well.', [on(f'one.disk {change}', 'list disk', s5, 'same') for change in bad_roots] + [
             on('one.disk 0x14=01', 'list disk', s5, 'same'), on('one.disk 0x1ff=01', 'list disk', s5, 'same'),

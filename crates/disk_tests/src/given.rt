@@ -58,38 +58,3 @@ fn it_reads_as_a_disk_in_memory(rt: HostRuntime) {
     let [called, planned] = counts.unwrap_or([(0, 0), (1, 1)]);
     assert!(rt; called == planned && called.0 > 1_000 && called.1 > 100);
 }
-
-// The sectors of a disk over these bytes, if they are one.
-fn sectors_over(alloc: Global, bytes: &[u8]) -> Option<u32> {
-    let disk = ByteDisk::over(alloc, bytes)?;
-    Some(disk.sectors())
-}
-
-// Lengths in bytes, and the sectors of a disk over so many.
-const LENGTHS: [(usize, Option<u32>); 8] = [
-    (0, Some(0)),
-    (1, None),
-    (511, None),
-    (512, Some(1)),
-    (513, None),
-    (1023, None),
-    (1024, Some(2)),
-    (1025, None),
-];
-
-// The first length that is answered otherwise.
-fn measured_otherwise(alloc: Global) -> Option<usize> {
-    let bytes = [7u8; 1025];
-    for (length, sectors) in &LENGTHS {
-        let given = bytes.get(..*length).unwrap_or(&[]);
-        if given.len() != *length || sectors_over(alloc, given) != *sectors {
-            return Some(*length);
-        }
-    }
-    None
-}
-
-#[test]
-fn bytes_that_are_no_sectors_are_no_disk(rt: HostRuntime) {
-    assert_eq!(rt; measured_otherwise(rt.alloc()), None);
-}

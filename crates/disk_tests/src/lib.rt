@@ -14,6 +14,4 @@ mod random;
 #[cfg(test)]
 mod sectors;
 #[cfg(test)]
-mod staging;
-#[cfg(test)]
 mod stops;

@@ -75,72 +75,6 @@ fn leaves(disk: &Memory, at: u32, contents: &[u8]) -> bool {
     choices(disk, at) == contents.len()
 }
 
-// Whether the sectors 1, 2 and 3 have these choices.
-fn leave(disk: &Memory, contents: [&[u8]; 3]) -> [bool; 3] {
-    let [one, two, three] = contents;
-    [
-        leaves(disk, 1, one),
-        leaves(disk, 2, two),
-        leaves(disk, 3, three),
-    ]
-}
-
-// Whether each of these writes succeeds.
-fn write_all(disk: &mut Memory, writes: &[(u32, u8)]) -> bool {
-    for (at, content) in writes {
-        if !write(disk, *at, *content) {
-            return false;
-        }
-    }
-    true
-}
-
-// Writes that aren't synced, and the choices that they leave with the synced content 20 in sector
-// 1. A content that is written again is a choice of its own.
-const LOOSE: [(u32, u8); 5] = [(2, 5), (1, 30), (1, 30), (2, 6), (1, 20)];
-
-const LEFT: [&[u8]; 3] = [&[20, 30, 30, 20], &[0, 5, 6], &[0]];
-
-// Whether the sectors of a new disk have zeros, and then, written, these choices.
-fn leaves_loose(disk: &mut Memory) -> [[bool; 3]; 2] {
-    let zeros = leave(disk, [&[0], &[0], &[0]]);
-    let synced = write(disk, 1, 20) && disk.sync().is_ok();
-    if synced && write_all(disk, &LOOSE) {
-        [zeros, leave(disk, LEFT)]
-    } else {
-        [[false; 3]; 2]
-    }
-}
-
-// Whether a sync leaves the last contents, and keeps the choices of a copy from before it.
-fn leaves_synced(disk: &mut Memory) -> [[bool; 3]; 2] {
-    let Ok(copy) = disk.copy() else {
-        return [[false; 3]; 2];
-    };
-    if disk.sync().is_ok() {
-        [leave(disk, [&[20], &[6], &[0]]), leave(&copy, LEFT)]
-    } else {
-        [[false; 3]; 2]
-    }
-}
-
-// All four, and between them what the sectors 1, 2 and 0 hold, and sector 2 after a stop that picks
-// the highest number.
-fn leaves_all(alloc: Global) -> Option<([[bool; 3]; 4], [Option<u8>; 4])> {
-    let mut disk = Memory::new(alloc, 8).ok()?;
-    let [zeros, loose] = leaves_loose(&mut disk);
-    let [one, two, none] = [read(&mut disk, 1), read(&mut disk, 2), read(&mut disk, 0)];
-    let highest = left(&disk, 2, usize::MAX);
-    let [synced, copied] = leaves_synced(&mut disk);
-    Some(([zeros, loose, synced, copied], [one, two, none, highest]))
-}
-
-#[test]
-fn a_stop_leaves_the_synced_content_or_one_written_since(rt: HostRuntime) {
-    let contents = [Some(20), Some(6), Some(0), Some(0)];
-    assert_eq!(rt; leaves_all(rt.alloc()), Some(([[true; 3]; 4], contents)));
-}
-
 #[test]
 fn a_disk_may_have_tens_of_thousands_of_sectors(rt: HostRuntime) -> Result<(), Fail> {
     let mut disk = Memory::new(rt.alloc(), 50_000)?;
@@ -153,131 +87,12 @@ fn a_disk_may_have_tens_of_thousands_of_sectors(rt: HostRuntime) -> Result<(), F
     Ok(())
 }
 
-// Writes 1, 2 .. 5,000 modulo 251 to sector 1.
-fn write_often(disk: &mut Memory) -> bool {
-    for nth in 1_u32..5_001 {
-        if !write(disk, 1, (nth % 251) as u8) {
-            return false;
-        }
-    }
-    true
-}
-
-// Some of the choices then, and the content that each leaves.
-const PICKS: [(usize, u8); 7] = [
-    (0, 0),
-    (1, 1),
-    (250, 250),
-    (251, 0),
-    (2_500, 241),
-    (4_999, 230),
-    (5_000, 231),
-];
-
-// The first of them that leaves another content.
-fn left_otherwise(disk: &Memory) -> Option<usize> {
-    for (pick, content) in &PICKS {
-        if left(disk, 1, *pick) != Some(*content) {
-            return Some(*pick);
-        }
-    }
-    None
-}
-
-// The number of choices of both sectors then, the first that leaves another content, and whether
-// all is written, and one is left by a sync.
-fn thousands(alloc: Global) -> Option<([usize; 2], Option<usize>, bool)> {
-    let mut disk = Memory::new(alloc, 2).ok()?;
-    let written = write_often(&mut disk);
-    let counts = [choices(&disk, 0), choices(&disk, 1)];
-    let wrong = left_otherwise(&disk);
-    let synced = disk.sync().is_ok() && leaves(&disk, 1, &[231]);
-    Some((counts, wrong, written && synced))
-}
-
-#[test]
-fn a_sector_may_have_thousands_of_choices(rt: HostRuntime) {
-    assert_eq!(rt; thousands(rt.alloc()), Some(([1, 5_001], None, true)));
-}
-
 #[test]
 fn a_count_of_calls_has_no_bytes(rt: HostRuntime) {
     let mut calls = CallCount::new();
     calls.end_call(&Ok(()));
     calls.end_call(&Err(DiskFault::Failed));
     assert!(rt; size_of::<CallCount>() == 0);
-}
-
-// What the three sectors of a disk hold after a stop with these picks.
-fn mixture(disk: &Memory, picks: [u8; 3]) -> [Option<u8>; 3] {
-    let Ok(copy) = disk.copy() else {
-        return [None; 3];
-    };
-    let mut stopped = copy.stop(|at, _| match at {
-        0 => usize::from(picks[0]),
-        1 => usize::from(picks[1]),
-        _ => usize::from(picks[2]),
-    });
-    [
-        read(&mut stopped, 0),
-        read(&mut stopped, 1),
-        read(&mut stopped, 2),
-    ]
-}
-
-// The first mixture that isn't as it is to be: choice k of the sectors is 10, 20 and 30 and k more.
-fn mixed_otherwise(disk: &Memory, choices: [u8; 3]) -> Option<[u8; 3]> {
-    for first in 0..choices[0] {
-        for second in 0..choices[1] {
-            for third in 0..choices[2] {
-                let contents = [
-                    first.checked_add(10),
-                    second.checked_add(20),
-                    third.checked_add(30),
-                ];
-                if mixture(disk, [first, second, third]) != contents {
-                    return Some([first, second, third]);
-                }
-            }
-        }
-    }
-    None
-}
-
-// Whether a disk that holds 10, 20 and 30, synced, and then has these writes, leaves just the
-// mixtures of so many choices of each sector.
-fn is_mixed(alloc: Global, writes: &[(u32, u8)], counts: [u8; 3]) -> bool {
-    let Ok(mut disk) = Memory::new(alloc, 3) else {
-        return false;
-    };
-    let first = write_all(&mut disk, &[(0, 9), (0, 10), (1, 20), (2, 30)]);
-    let synced = disk.sync().is_ok();
-    let second = write_all(&mut disk, writes);
-    let found = [choices(&disk, 0), choices(&disk, 1), choices(&disk, 2)];
-    let [one, two, three] = counts;
-    let counted = found == [usize::from(one), usize::from(two), usize::from(three)];
-    let mixed = mixed_otherwise(&disk, counts).is_none();
-    first && synced && second && counted && mixed
-}
-
-const THREE_EACH: [(u32, u8); 9] = [
-    (0, 11),
-    (1, 21),
-    (1, 22),
-    (2, 31),
-    (0, 12),
-    (2, 32),
-    (0, 13),
-    (2, 33),
-    (1, 23),
-];
-
-#[test]
-fn each_sector_of_a_mixture_is_picked_by_itself(rt: HostRuntime) {
-    let all = is_mixed(rt.alloc(), &THREE_EACH, [4, 4, 4]);
-    let some = is_mixed(rt.alloc(), &[(2, 31), (1, 21), (2, 32), (2, 33)], [1, 2, 4]);
-    let none = is_mixed(rt.alloc(), &[], [1, 1, 1]);
-    assert!(rt; all && some && none);
 }
 
 // Writes 1 to sector 0, syncs, writes 2 to it and reads it: whether each call succeeded, and what
@@ -370,14 +185,6 @@ fn a_liar_gives_its_answers_in_turn_and_keeps_nothing(rt: HostRuntime) -> Result
     assert_eq!(rt; (first, second), ([Some(3), Some(1)], [Some(2), Some(3)]));
     assert!(rt; liar.sectors() == 2 && written && fifth == Some(1));
     Ok(())
-}
-
-#[test]
-fn a_liar_without_answers_gives_zeros(rt: HostRuntime) {
-    let mut silent = Liar::new(1, Vec::new(rt.alloc()));
-    let written = write(&mut silent, 0, 7);
-    let reads = [read(&mut silent, 0), read(&mut silent, 0)];
-    assert!(rt; written && reads == [Some(0), Some(0)]);
 }
 
 #[test]

@@ -1,4 +1,4 @@
-use super::{Reading, sector_of};
+use super::sector_of;
 use roots::{Catalogue, decode_catalogue, encode_catalogue};
 use sector_disk::SECTOR_BYTES;
 
@@ -23,34 +23,11 @@ fn is_spelt(entries: &[u32], sector: &[u8; SECTOR_BYTES]) -> bool {
         && decode_catalogue(sector) == Some(catalogue)
 }
 
-const REFUSED: [(&str, usize, u8); 9] = [
-    ("no entry", 4, 0),
-    ("an entry sector past the count", 4, 2),
-    ("an empty place that counts", 4, 4),
-    ("65 entries", 4, 65),
-    ("259 entries", 5, 1),
-    ("an entry in sector 0", 16, 0),
-    ("an entry sector that is listed twice", 16, 5),
-    ("the first and the last entry in one sector", 24, 3),
-    ("an entry sector far past the largest disk", 19, 0x80),
-];
-
-// The bytes of the magic, and those of no field.
-const FIXED: [(usize, usize); 3] = [(0, 4), (6, 16), (28, SECTOR_BYTES)];
-
-// The first byte of those, and the first row of the table, that is refused otherwise.
-fn refused_otherwise() -> (Option<usize>, Option<&'static str>) {
-    let sector = sector_of(&THREE);
-    let fixed = Reading::NoCatalogue.fails_among(&sector, &FIXED, 6);
-    (fixed, Reading::NoCatalogue.fails_at(&sector, &REFUSED))
-}
-
 #[test]
 fn a_catalogue_is_spelt_as_written_down(rt: HostRuntime) {
     let one = is_spelt(&[3], &sector_of(&ONE));
     let three = is_spelt(&[3, 5, 4], &sector_of(&THREE));
     assert!(rt; one && three);
-    assert_eq!(rt; refused_otherwise(), (None, None));
 }
 
 // Whether a catalogue may list an entry in this sector: both ways say the same.
@@ -67,20 +44,4 @@ fn the_sectors_of_a_catalogue_are_those_of_the_largest_disk(rt: HostRuntime) {
     let first = (is_listed(1), is_listed(2));
     let last = (is_listed(4_194_303), is_listed(4_194_304));
     assert!(rt; first == (Some(false), Some(true)) && last == (Some(true), Some(false)));
-}
-
-const PAST_FULL: [(&str, usize, u8); 3] = [("none", 4, 0), ("63", 4, 63), ("65", 4, 65)];
-
-#[test]
-fn a_full_catalogue_is_read_and_no_larger_one(rt: HostRuntime) {
-    let mut entry_sectors = [0; 64];
-    let mut sector = sector_of(&ONE);
-    sector[4] = 64;
-    for i in 0..64u8 {
-        entry_sectors[usize::from(i)] = 2 + u32::from(i);
-        sector[16 + 4 * usize::from(i)] = 2 + i;
-    }
-    let spelt = is_spelt(&entry_sectors, &sector);
-    let larger = Reading::NoCatalogue.fails_at(&sector, &PAST_FULL);
-    assert_eq!(rt; (spelt, larger), (true, None));
 }
