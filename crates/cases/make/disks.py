@@ -14,7 +14,7 @@ import catalogues
 import upgrades
 from make import DATA, write_list
 from on_disk import (
-    A, B_520, CASES, NAMED_Q, bytes_of, changed, each_command, each_opening, find_files, keep, library, listed, on, put, spelt)
+    A, B_520, CASES, NAMED_Q, bytes_of, changed, each_command, each_opening, find_files, keep, library, listed, on, other_files, put, spelt)
 from samples import DEFINED, FUNC, GLOBAL, Object, Symbol, build
 from scripts import ABSOLUTE_F, SECTOR
 from sectors import Entry, Root, padded, spelt_catalogue, spelt_entry, spelt_root
@@ -317,7 +317,11 @@ def damaged():
                    '0x60a=00', '0x60a=02', '0x60a=21', '0x60c=01', '0x60f=01', '0x610=00', '0x610=62', '0x610=20', '0x610=2f', '0x610=7f',
                    '0x611=61', '0x611=01', '0x6ff=01', '0x700=00', '0x700=01', '0x700=03', '0x700=04', '0x700=05', '0x700=08', '0x702=01', '0x704=00',
                    '0x704=02', '0x708=01', '0x7ff=01']
-    none = f'one.disk 0x200={bytes(25).hex()} 0x238=00 0x240=00'  # zeros in sector 1
+    no_root = f'0x200={bytes(25).hex()} 0x238=00 0x240=00'  # zeros in sector 1
+    none, no_older = f'one.disk {no_root}', f'0x0={bytes(24).hex()}'  # and in sector 0
+    new_changes = [no_older, '0x207=31', '0x800=0000000000 0x810=00', '0x804=02 0x814=05', '0x810=08']
+    told_changes = ['0x210=09', '0x238=00', '0x238=02', '0x240=08', '0x240=03', '0x810=04', '0x700=03', '0x700=04', '0x610=62', f'0x400={zeros}']
+    s4 = '1 refused S4 AlreadyFormatted'
     return [
         ('Sector 1 has no root: the registry of generation 0, and what is installed is of generation 1 again.', [
             on('one.disk 0x200=00', 'list disk', '0 end', 'same'), on(none, 'list disk', '0 end', 'same'),
@@ -350,6 +354,8 @@ def damaged():
             on('one.disk 0x400=00', 'list disk', s5, 'same'), on(f'one.disk 0x400={zeros}', 'list disk', s5, 'same'),
             on('one.disk 0x410=02', 'list disk', s5, 'same'), on('full.disk 0x412=28', 'list disk', s5, 'same'),
             listed('one.disk 0x550=ffffffffffffffff', 'one.listing'), listed('one.disk 0x558=ff 0x5ff=ff 0xa00=ff 0xfff=ff', 'one.listing')]),
+        ('Two libraries whose files are those of one name, the other\'s, or zeros: an opening and an upgrade find each of them.', [
+            on(f'pair.disk {change}', words, s5, 'same') for change in other_files('0x400', '0xa00') for words in ('list disk', 'upgrade disk')]),
         ('Two libraries: a sector that is used twice, one name, an entry that is the other\'s; the list the other way round.', [
             on(f'pair.disk {change}', 'list disk', s5, 'same') for change in (
                 '0xe14=03', '0xe14=02', '0xe14=07', '0xd00=02', '0xd00=03', '0xd00=07', '0x700=05', '0x710=01', '0xc10=61', '0x610=62',
@@ -363,6 +369,17 @@ def damaged():
                 '02000000020000000300000001', '02000000020000000500000001', '02000000020000000600000001', '02000000020000000800000001',
                 '02000000020000000100000001', '02000000020000000400000002', '02000000010000000300000001', '03000000020000000200000001',
                 '02000000030000000400000000')]),
+        ('What is damaged is so for an upgrade too, and was formatted before: a root that is gone, has another number of sectors, no catalogue or two,\n'
+         'one behind the disk or the entry as one, or is of version 1; a catalogue that is none, lists two entries, one behind the disk or itself; an\n'
+         'entry whose file has the entry\'s own sector or the catalogue\'s; another name; a file that is none.', [
+            on(f'one.disk {change}', 'list disk', s5, 'same') for change in new_changes] + [
+            on(f'one.disk {change}', words, wanted, 'same') for change in new_changes + told_changes
+            for words, wanted in (('upgrade disk', s5), ('format disk 8', s4))]),
+        ('The same without the root of generation 1, which is no damage; and without either.', [
+            on(none, 'upgrade disk', '0 ok', 'same'), on(none, 'format disk 8', s4, 'same'),
+            on(f'one.disk {no_older} {no_root}', 'list disk', '1 refused S3 NotFormatted', 'same'),
+            on(f'one.disk {no_older} {no_root}', 'upgrade disk', '1 refused S3 NotFormatted', 'same'),
+            on(f'one.disk {no_older} {no_root}', 'format disk 8', '0 ok', f'same 0x0={ROOT}08')]),
         ('Each command on a disk that is damaged.', each_opening('one.disk 0x0=00', s5)),
         ('Each on a disk that was not formatted.', each_opening('bytes= pad=4096', '1 refused S3 NotFormatted')),
         ('The magic of either version, and no root behind it.', [

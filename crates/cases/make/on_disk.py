@@ -153,3 +153,10 @@ def each_opening(before, answer):
 
 def listed(before, file):
     return on(before, 'list disk', file=file, after='same')
+
+
+def other_files(a, b):
+    """What is changed of a disk whose libraries a and b are the objects `first.so` and `strong.so`, a sector each: at b's place a, at a's b, both,
+    at a's and at b's zeros."""
+    zeros = bytes(376).hex()
+    return [f'{b}=@first.so', f'{a}=@strong.so', f'{a}=@strong.so {b}=@first.so', f'{a}={zeros}', f'{b}={zeros}']

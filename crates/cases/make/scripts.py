@@ -421,6 +421,50 @@ def binds():
     ]
 
 
+def placed(*names):
+    """The first lines of the objects of an image, in load order, each of one page."""
+    return [f'object 0x{BASE + 0x1000 * i:016x} {name}' for i, name in enumerate(('/program',) + names)] + ['end']
+
+
+def walks():
+    """Registries, of each library its name, the names that it needs and how many sectors its file takes; the preloads; what the program
+    needs; and what its bind is answered, twice."""
+    one = [('a', '', 1)]
+    chain = [('a', 'b', 1), ('b', 'c', 1), ('c', 'd', 1), ('d', 'e', 1), ('e', '', 1)]
+    levels = [('e', '', 1), ('d', '', 1), ('c', '', 3), ('b', 'de', 1), ('a', 'cd', 1), ('p', 'c', 1)]
+    table = [
+        ('Nothing is needed, of an empty registry and of another one.', [
+            ('nothing', [], '', '', placed()), ('unneeded', one, '', '', placed())]),
+        ('What is needed isn\'t there: of the program alone, and beside what is there, of a library too.', [
+            ('absent', one, '', 'z', ['refused B3 Missing /program z']),
+            ('absent-behind', [('a', 'ce', 1), ('b', '', 2)], '', 'adb', ['refused B3 Missing /program d'])]),
+        ('One after the other, and a third that isn\'t needed.', [
+            ('turned', [('a', '', 1), ('b', '', 2), ('c', '', 4)], '', 'ba', placed('b', 'a')),
+            ('one-less', [('a', '', 1), ('b', '', 1), ('c', '', 1)], '', 'ab', placed('a', 'b'))]),
+        ('Needed twice, by itself, in a ring, and a chain to its end.', [
+            ('twice', [('a', 'b', 1), ('b', 'ab', 1)], '', 'aa', placed('a', 'b')),
+            ('ring', [('a', 'b', 1), ('b', 'c', 1), ('c', 'a', 1)], '', 'b', placed('b', 'c', 'a')),
+            ('chain', chain, '', 'a', placed('a', 'b', 'c', 'd', 'e'))]),
+        ('Level by level behind a preload that needs something; preloads alone, in their order; preloads that are needed too.', [
+            ('preload-needing', levels, 'p', 'ab', placed('p', 'a', 'b', 'c', 'd', 'e')),
+            ('preloads-alone', [('a', '', 1), ('b', '', 2)], 'ba', '', placed('b', 'a')),
+            ('preloads-needed', [('a', '', 1), ('b', 'a', 2), ('c', '', 1)], 'ca', 'ab', placed('c', 'a', 'b'))]),
+        ('A preload that lacks what it needs, behind one that has it. The program lacks something too, and that is told.', [
+            ('preload-lacking', [('a', 'z', 1), ('b', 'a', 1)], 'ba', 'p', ['refused B3 Missing /program p'])]),
+    ]
+    return [(title, [walk(*row) for row in rows]) for title, rows in table]
+
+
+def walk(name, libraries, preloads, needs, wanted):
+    def named(letters):
+        return [letter.encode() for letter in letters]
+    lines = [install(padded(needing(library.encode(), *named(needed)), SECTOR * count)) for library, needed, count in libraries]
+    asked = bind(needing(None, *named(needs)))
+    text = [b'preload ' + b' '.join(named(preloads))] if preloads else []
+    done = ['ok'] * (len(lines) + len(text))
+    return seen(f'script-walk-{name}', 64, lines + text + [asked, asked], done + wanted + wanted)
+
+
 def symbolic_binds():
     """The library a with a weak f, and b with its own f and a word of it, of which an entry is changed."""
     symbolic = of_folder('symbolic-b.so')
@@ -560,6 +604,28 @@ def binders():
                 b'advance 0', b'advance 1', b'advance 2', b'advance 3'],
                 eight[:4] + ['refused B1 E1 TooShort', 'refused B2 BadBase', 'going', 'refused B3 Missing /program a', 'going',
                              'refused B5 Undefined /program f'] + [no_binder] * 4)]),
+        ('A slot that was freed by a last step, as an image or refused, is taken again, for the registry as it is then.', [
+            seen('script-binder-again', 8, start + [other] + steps + [other, bind(ASKING_A), b'advance 0', b'remove a', begin(ASKING_A), b'advance 0',
+                                                                      b'advance 0', b'cancel 0', begin(ASKING_A)],
+                 ['ok', 'slot 0', 'ok', 'refused S7 Full', 'going', 'going'] + own + ['ok'] + last
+                 + [no_binder, 'ok', 'slot 0', 'going', 'refused B3 Missing /program a', no_binder, 'slot 0'])]),
+        ('A file that is no program at any base, and a program at a base that isn\'t good, in slots of their own: each is told at its first step,\n'
+         'and the file before the base.', [
+            stored('script-binder-tested', 8, [begin(bytes(64)), begin(b'\0', BASE + 1), begin(ASKING_A, BASE + 1), begin(ASKING_A)]
+                   + [b'advance 0', b'advance 1', b'advance 2', b'advance 3', b'advance 3'],
+                   eight[:4] + ['refused B1 E2 BadMagic', 'refused B1 E1 TooShort', 'refused B2 BadBase', 'going',
+                                'refused B3 Missing /program a'])]),
+        ('Of eight binders three are cancelled, one twice, and the slots are taken again, the lowest first.', [
+            stored('script-slots-lowest', 8, [install(WEAK_F)] + [begin(ASKING_A)] * 9 + [
+                b'cancel 3', b'advance 3', b'cancel 3', begin(ASKING_A), b'cancel 6', b'cancel 1', begin(ASKING_A), begin(ASKING_A), begin(ASKING_A),
+                b'advance 8', b'cancel 8'],
+                ['ok'] + eight + ['refused C7 NoSlot', 'ok', no_binder, no_binder, 'slot 3', 'ok', 'ok', 'slot 1', 'slot 6', 'refused C7 NoSlot',
+                                  no_binder, no_binder])]),
+        ('A version that eight binders have keeps its sectors until the last of them is cancelled, in two orders.', [
+            stored(f'script-version-{name}', 8, [install(WEAK_F)] + [begin(ASKING_A)] * 8 + [other]
+                   + [line for slot in order for line in (other, b'cancel %d' % slot)] + [other],
+                   ['ok'] + eight + ['ok'] + ['refused S7 Full', 'ok'] * 8 + ['ok'])
+            for name, order in (('in-order', range(8)), ('turned', (5, 0, 7, 2, 6, 1, 4, 3)))]),
         ('Binders of several states side by side: of the first a, of the second, and of none.', [
             seen('script-binders', 64, [
                 install(WEAK_F), begin(ASKING_A), other, begin(ASKING_A), b'remove a', begin(ASKING_A), b'advance 2', b'advance 1', b'advance 0',
@@ -621,5 +687,5 @@ def wrong():
 
 
 if __name__ == '__main__':
-    write_list('scripts.txt', rows() + bad_lines() + many_libraries() + sectors() + refusals() + binds() + symbolic_binds()
+    write_list('scripts.txt', rows() + bad_lines() + many_libraries() + sectors() + refusals() + binds() + walks() + symbolic_binds()
                + refused_binds() + bind_lines() + binders() + binder_lines() + sessions() + wrong())

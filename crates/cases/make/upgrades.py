@@ -4,7 +4,7 @@ written before there was a version 2."""
 import hashlib
 
 from make import DATA
-from on_disk import A, NAMED_Q, each_command, listed, on
+from on_disk import A, NAMED_Q, each_command, listed, on, other_files
 
 OLD, NEW = '524c494252454731', '524c494252454732'
 S5, S7, S12 = '1 refused S5 Damaged', '1 refused S7 Full', '1 refused S12 OldFormat'
@@ -108,6 +108,7 @@ def damaged():
     good = ['0x600=00', '0x604=57', '0x605=02', '0x608=02', '0x60a=02', '0x60c=01', '0x610=62', '0x610=2f', '0x611=61', '0x700=03', '0x700=01',
             '0x700=04', '0x700=08', '0x704=02', '0x7ff=01', '0x400=00', '0x410=02', f'0x400={bytes(344).hex()}', '0x210=09', '0x240=02',
             '0x240=04', '0x240=07']
+    no_older, no_root = f'0x0={bytes(24).hex()}', f'0x200={bytes(25).hex()} 0x240=00'
     bad = ['0x208=02', '0x208=03', '0x208=00', '0x210=07', '0x210=00', '0x214=00', '0x214=02', '0x214=65', '0x216=02', '0x216=11',
            '0x216=01 0x218=01', '0x218=01', '0x238=01', '0x23f=01', '0x240=00', '0x240=01', '0x240=08', '0x244=03', '0x3cf=01', '0x3d0=01',
            '0x3ff=01', '0x0=00', '0x14=01', '0x38=01', '0x1ff=01', '0x10=07']
@@ -119,13 +120,20 @@ def damaged():
         ('Sector 1 has no root: the registry of generation 0, which is upgraded as it is.', [
             on('old-one.disk 0x200=00', 'list disk', S12, 'same'),
             on('old-one.disk 0x200=00', 'upgrade disk', '0 ok', 'same 0x200=524c494252454732 0x214=00 0x240=00'),
-            on(f'old-one.disk 0x200={bytes(25).hex()} 0x240=00', 'upgrade disk', '0 ok', f'same 0x200={NEW}01 0x210=08 0x214=00 0x240=00')]),
+            on(f'old-one.disk {no_root}', 'upgrade disk', '0 ok', f'same 0x200={NEW}01 0x210=08 0x214=00 0x240=00')]),
         ('Two libraries: a sector that is used twice, one name; and the list the other way round, which is as good.', [
             on(f'old-pair.disk {change}', words, wanted, 'same')
             for change in ('0x44=02', '0xb00=02', '0xb00=03', '0x700=05', '0x710=01', '0xa10=61', '0x610=62', '0x40=0500000003000000 0x610=62')
             for words, wanted in (('list disk', S12), ('upgrade disk', S5))] + [
             on('old-pair.disk 0x44=03', words, S5, 'same') for words in ('list disk', 'upgrade disk')] + [
             on('old-pair.disk 0x40=0500000003', 'upgrade disk', '0 ok', has='0xc10=0500000003')]),
+        ('Two libraries whose files are those of one name, the other\'s, or zeros: an upgrade finds each of them, and writes nothing.', [
+            on(f'old-pair.disk {change}', words, wanted, 'same') for change in other_files('0x400', '0x800')
+            for words, wanted in (('list disk', S12), ('upgrade disk', S5))]),
+        ('Without one root, the other, and both.', [
+            on(f'old-one.disk {no_root}', 'list disk', S12, 'same')] + [
+            on(f'old-one.disk {change}', words, wanted, 'same')
+            for change, wanted in ((no_older, S5), (f'{no_older} {no_root}', '1 refused S3 NotFormatted')) for words in ('list disk', 'upgrade disk')]),
         ('A disk that lost or got a sector isn\'t the one of its root.', [
             on(disk, words, wanted, 'same') for disk in ('old-pair.disk cut=7680', 'old-one.disk pad=4608')
             for words, wanted in (('list disk', S12), ('upgrade disk', S5))]),
