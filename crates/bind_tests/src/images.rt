@@ -1,9 +1,7 @@
 // What no clause and no case of the program `cases` says: calls that may want memory succeed at
 // their limits, and a writer's failure is told. Rows, bases, values, refusals and texts are cases.
 
-use bitflags::Flags;
-use hash_check::Admitted;
-use image::{Image, Permissions, bind_alone, good_base};
+use image::{Image, bind_alone};
 use samples::put;
 use std::alloc::{AllocError, Global};
 use std::io::Write;
@@ -142,35 +140,6 @@ fn text_length(alloc: Global, image: &Image) -> Result<usize, Fail> {
     Ok(text_of(alloc, image)?.len())
 }
 
-/// Whether 0x10000 is a good base of a program, which is admitted.
-fn is_good_base(alloc: Global, file: &[u8]) -> bool {
-    match Admitted::read(alloc, file) {
-        Ok(program) => good_base(&program, 0x10000),
-        Err(_) => false,
-    }
-}
-
-/// The byte above the lowest that the sample's relocation writes, and the one behind the memory.
-fn bytes_of_sample(image: &Image) -> [Option<u8>; 2] {
-    [image.byte(0x10189), image.byte(0x10190)]
-}
-
-/// Whether the sample has the base, those bytes of its image, and how many bytes the text has.
-fn seen_of_sample(alloc: Global) -> Result<(bool, [Option<u8>; 2], usize), Fail> {
-    let file = sample(alloc)?;
-    let is_good = is_good_base(alloc, &file);
-    let image = bound(alloc, &file)?;
-    let length = text_length(alloc, &image)?;
-    Ok((is_good, bytes_of_sample(&image), length))
-}
-
-#[test]
-fn binds(rt: HostRuntime) -> Result<(), Fail> {
-    let seen = seen_of_sample(rt.alloc())?;
-    assert_eq!(rt; seen, (true, [Some(0x20), None], 35 + 35 + 25 * 33 + 4));
-    Ok(())
-}
-
 /// The first byte of the first of the many segments of an image, the last one of the last, and what
 /// is behind it.
 fn bytes_of_many(image: &Image) -> [Option<u8>; 3] {
@@ -229,33 +198,6 @@ fn binds_twenty_thousand_relocations(rt: HostRuntime) -> Result<(), Fail> {
     // The last one writes 0x10000 + 19,999.
     assert_eq!(rt; bytes, [Some(0x1f), Some(0x4e), Some(1), Some(0)]);
     Ok(())
-}
-
-/// The last byte of the largest memory, and what is behind it.
-fn end_of_largest(alloc: Global) -> Result<[Option<u8>; 2], Fail> {
-    let image = image_of_size(alloc, 0x400_0000)?;
-    Ok([
-        image.byte(0x10000 + 0x3ff_ffff),
-        image.byte(0x10000 + 0x400_0000),
-    ])
-}
-
-#[test]
-fn binds_the_largest_memory(rt: HostRuntime) -> Result<(), Fail> {
-    assert_eq!(rt; end_of_largest(rt.alloc())?, [Some(0), None]);
-    Ok(())
-}
-
-/// The text and the bits of the permissions of flags.
-fn permissions(flags: u32) -> ([u8; 3], u32) {
-    let permissions = Permissions::of_flags(flags);
-    (permissions.text(), u32::from(permissions.bits()))
-}
-
-#[test]
-fn shows_permissions(rt: HostRuntime) {
-    let shown = [permissions(0), permissions(6), permissions(0x8000_000d)];
-    assert_eq!(rt; shown, [(*b"---", 0), (*b"rw-", 6), (*b"r-x", 5)]);
 }
 
 /// How long the text of 65,936 bytes of memory is, which has 4,121 lines.

@@ -4,5 +4,3 @@
 
 #[cfg(test)]
 mod images;
-#[cfg(test)]
-mod orders;

@@ -146,6 +146,29 @@ def export(name, **changes):
     return Symbol(name, **{'binding': GLOBAL, 'kind': FUNC, 'section': DEFINED, **changes})
 
 
+LONG, TWIN = b'aaaaaaaabbbbbbbbXcccccccc', b'aaaaaaaabbbbbbbbYcccccccc'
+
+# A string table, and where two names begin in it.
+DIFFERENT = [
+    (b'\0a\0b\0', 1, 3), (b'\0a\0aa\0', 1, 3), (b'\0a\0', 0, 1), (b'\0abcdefg\0abcdefgh\0', 1, 9), (b'\0bbcdefg\0abcdefh\0', 1, 9),
+    (b'\0\1abcdefg\0\2abcdefg\0', 1, 10), (b'\0' + LONG + b'\0' + TWIN + b'\0', 1, 27),
+    (b'\0abcdefghijklmnop\0', 1, 2), (b'\0abcdefghijklmnop\0', 4, 10), (b'\0abcdefghijklmnop\0', 16, 9), (b'\0' + 24 * b'a' + b'\0', 1, 2)]
+EQUAL = [
+    (b'\0a\0a\0', 1, 3), (b'\0a\0', 1, 1), (b'\0a\0', 0, 0), (b'\0abcdefg\0abcdefg\0', 1, 9), (b'\0abcdefgh\0abcdefgh\0', 1, 10),
+    (b'\0' + LONG + b'\0' + LONG + b'\0', 1, 27), (b'\0abcdefghijklmnop\0ghijklmnop\0', 7, 18)]
+
+
+def pair_of_names(strings, first, second):
+    """The library with two exports in one chain, with other strings behind it, in which their names begin at these offsets."""
+    fg, at = made('fg.so', Object(soname=b'q', symbols=[export(b'f'), export(b'g')]))
+    data, symbol = fg.bytes(), at['symbols'] + 24
+    tags = {data[k]: k + 8 for k in range(at['dynamic'], at['data'], 16)}
+    end = len(data)
+    whole = end + len(strings)
+    return changed(fg, ('pad', whole), (end, strings), (0x60, u64(whole)), (0x68, u64(whole)), (tags[5], u64(end)), (tags[10], u64(len(strings))),
+                   (symbol, u32(first)), (symbol + 24, u32(second)))
+
+
 def symbols():
     q, at = made('q.so', Object(soname=b'q', symbols=[export(b'f')]))
     f = at['symbols'] + 24
@@ -192,6 +215,10 @@ def symbols():
             library(place_library, 'E28 DuplicateDefinition'), admit(place, 'E28 DuplicateDefinition'),
             image(place, wanted='B1 E28 DuplicateDefinition'), admit(place_weak, 'E28 DuplicateDefinition'),
             admit(place_local, ''), find(place_local, b'f', 2), admit(place_undefined, ''), find(place_undefined, b'f', 1)]),
+        ('Two exports of names that differ: in their lengths, in one byte, of one length with the same first, middle and last eight bytes,\n'
+         'as tails of one string.', [admit(pair_of_names(*row), '') for row in DIFFERENT]),
+        ('Two exports of one name: in one place of the strings and in two, as the tail of a string and as another string.', [
+            admit(pair_of_names(*row), 'E28 DuplicateDefinition') for row in EQUAL]),
         ('A name that is the beginning of another one; the empty name; absent names.', [
             find(prefix, b'f', 2), find(prefix, b'fg', 1), find(prefix, b'', 3), find(prefix, b'g', 0),
             find(prefix, b'fgh', 0), find(prefix, b'a name', 0)]),

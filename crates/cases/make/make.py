@@ -217,6 +217,9 @@ def bases():
         ('Memory that ends at the limit, and one byte above it.', [
             image(minimal((0x68, u64(0x1000))), limit, near='page.image'),
             image(minimal((0x68, u64(0x1001))), limit, wanted='B4 NoRoom')]),
+        ('The largest memory has 64 MiB: its last byte, the one behind it, and one byte more. The second reading has no room for it.', [
+            'byte minimal.so 0x68=0000000400000000 0x10000 0x400ffff => 00', 'byte minimal.so 0x68=0000000400000000 0x10000 0x4010000 => none',
+            image(minimal((0x68, u64(0x4000001))), wanted='B1 E13 TooLarge')]),
         ('A unit of 0x2000, the greatest alignment: a multiple of the page alone is no good base.', [
             image(minimal((0x70, u64(0x2000))), 0x11000, wanted='B2 BadBase'),
             image(minimal((0x70, u64(0x2000))), 0x12000)]),

@@ -530,7 +530,10 @@ def refused_binds():
                  'refused B4 NoRoom', 'library a 448', 'library b 344', 'preload b', 'end'])]),
         ('Names are printed as in an image: a blank, a byte above 0x7e, the empty name.', [
             stored('script-bind-names', 64, [bind(needing(None, name)) for name in (b'a b', b'\xff\\', b'')],
-                   ['refused B3 Missing /program a\\x20b', 'refused B3 Missing /program \\xff\\x5c', 'refused B3 Missing /program \\e'])]),
+                   ['refused B3 Missing /program a\\x20b', 'refused B3 Missing /program \\xff\\x5c', 'refused B3 Missing /program \\e']),
+            stored('script-bind-bytes', 64, [bind(needing(None, name)) for name in (b'!~\x7f', b'\x01\x0a\x1f\xc3\xa9\xff', b'\\e')],
+                   ['refused B3 Missing /program !~\\x7f', 'refused B3 Missing /program \\x01\\x0a\\x1f\\xc3\\xa9\\xff',
+                    'refused B3 Missing /program \\x5ce'])]),
     ]
 
 

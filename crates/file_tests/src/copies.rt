@@ -30,22 +30,3 @@ fn copies(rt: HostRuntime) -> Result<(), Fail> {
     assert!(rt; is_copied(alloc, &long)?);
     Ok(())
 }
-
-/// Whether a name equals a copy of these bytes, and whether it differs from that.
-fn compared(alloc: Global, name: &Name, bytes: &[u8]) -> Result<(bool, bool), AllocError> {
-    let other = Name::copy_of(alloc, bytes)?;
-    Ok((*name == other, *name != other))
-}
-
-#[test]
-fn compares_bytes(rt: HostRuntime) -> Result<(), Fail> {
-    let alloc = rt.alloc();
-    let name = Name::copy_of(alloc, b"libm.so")?;
-    let told = [
-        compared(alloc, &name, b"libm.so")?,
-        compared(alloc, &name, b"libm.s")?,
-        compared(alloc, &name, b"libM.so")?,
-    ];
-    assert_eq!(rt; told, [(true, false), (false, true), (false, true)]);
-    Ok(())
-}

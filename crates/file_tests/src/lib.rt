@@ -3,11 +3,7 @@
 #![tactic(auto)]
 
 #[cfg(test)]
-mod accessors;
-#[cfg(test)]
 mod copies;
-#[cfg(test)]
-mod duplicates;
 #[cfg(test)]
 mod searches;
 #[cfg(test)]
