@@ -55,7 +55,8 @@ def prepare():
     keep('numbered.so', file)
     keep('numbered.sectors', padded(file, SECTOR) + spelt_entry(Entry(numbered(0), 344, [(2, 1)])))
     for name, count, sectors, last in (('sixty-four', 64, 135, one_library), ('sixty-five', 65, 136, one_library),
-                                       ('hundred', 100, 208, a_behind), ('many', 2048, 4164, one_library)):
+                                       ('hundred', 100, 208, a_behind), ('two-full', 128, 266, one_library),
+                                       ('two-full-and-one', 129, 266, one_library), ('many', 2048, 4164, one_library)):
         (DATA / f'{name}.changes').write_text(made(count, sectors, last))
         names = [numbered(i).decode() for i in range(count - 1)] + ['a' if last == a_behind else numbered(count - 1).decode()]
         (DATA / f'{name}.listing').write_text(''.join(f'library {n} 344\n' for n in names) + 'end\n')
@@ -90,6 +91,50 @@ def sixty_fours():
     ]
 
 
+def edges():
+    """Lists around the edge of the second catalogue, and of the first."""
+    four, full, third = 'made=sixty-four.changes', 'made=two-full.changes', 'made=two-full-and-one.changes'
+    fullest, roomy = f'{full} cut=134144 0x210=06', f'{third} pad=138240 0x210=0e'
+    return [
+        ('128 libraries in two catalogues, sectors 258 and 259; of 266 sectors four are free beside those of the next two, which are just\n'
+         'enough for a library and a third catalogue: data 260, entry 261, the catalogues 262 to 264.', [
+            listed(full, 'two-full.listing'),
+            on(full, f'install disk {NAMED_Q}', '0 ok', has='0x14=81 0x38=03 0x40=060100000701000008010000 0x20b00=04010000 0x21000=4c4942430100'
+               ' 0x21010=05010000'),
+            on(f'{full} cut=135680 0x210=09', f'install disk {NAMED_Q}', S7, 'same'),
+            on(full, 'replace disk numbered.so', '0 ok', has='0x14=80 0x38=02 0x40=0601000007010000 0x20b00=04010000 0x20c10=05010000 0x20e10=83'),
+            on(full, 'remove disk x040', '0 ok', has='0x14=7f 0x38=02 0x40=0401000005010000 0x2090c=81 0x20a04=3f 0x20a10=85')]),
+        ('On 262 sectors none is free beside those of the next two: a removal of the first, of the last in the first catalogue, and of the last.', [
+            listed(fullest, 'two-full.listing'), on(fullest, f'install disk {NAMED_Q}', S7, 'same'),
+            on(fullest, 'replace disk numbered.so', S7, 'same'),
+            on(fullest, 'remove disk x000', '0 ok', has='0x14=7f 0x38=02 0x40=0401000005010000 0x20810=05 0x2090c=83 0x20a04=3f 0x20a10=85'),
+            on(fullest, 'remove disk x03f', '0 ok', has='0x14=7f 0x38=02 0x40=0401000005010000 0x20810=03 0x2090c=83 0x20a04=3f 0x20a10=85'),
+            on(fullest, 'remove disk x07f', '0 ok', has='0x14=7f 0x38=02 0x40=0401000005010000 0x20810=03 0x2090c=81 0x20a04=3f 0x20a10=83')]),
+        ('129 libraries in three catalogues, sectors 260 to 262; of 266 sectors none is free beside those of the next three. Without the last\n'
+         'there are two, in the sectors 263 and 264.', [
+            listed(third, 'two-full-and-one.listing'), on(third, f'install disk {NAMED_Q}', S7, 'same'),
+            on(third, 'replace disk numbered.so', S7, 'same'),
+            on(third, 'remove disk x080', '0 ok', has='0x14=80 0x38=02 0x40=0701000008010000 0x20e10=03 0x21004=40 0x21010=83 0x2110c=0101'),
+            on(third, 'remove disk x03f', '0 ok', has='0x14=80 0x38=02 0x40=0701000008010000 0x20f0c=83 0x21010=85 0x2110c=0301'),
+            on(third, 'remove disk x07f', '0 ok', has='0x14=80 0x38=02 0x40=0701000008010000 0x20f0c=81 0x21010=83 0x2110c=0301'),
+            on(third, 'preload disk x080 x07f', '0 ok', has='0x14=810002008000 0x1a=7f00 0x38=03 0x40=040100000501000006010000')]),
+        ('With four sectors more one of them is replaced, or the 130th installed: data 263, entry 264, the catalogues 265 to 267.', [
+            on(roomy, 'replace disk numbered.so', '0 ok', has='0x14=81 0x38=03 0x40=09010000 0x21100=07010000 0x21210=08010000 0x21604=01 0x21610=0301'),
+            on(roomy, f'install disk {NAMED_Q}', '0 ok', has='0x14=82 0x38=03 0x40=09010000 0x21210=03 0x21604=02 0x21610=0301000008010000')]),
+        ('Just the room that catalogues need twice, and a sector fewer: of 64 libraries, of 128 and of 129.', [
+            listed(f'{four} cut=67584 0x210=84', 'sixty-four.listing'), on(f'{four} cut=67072 0x210=83', 'list disk', S5, 'same'),
+            on(f'{full} cut=133632 0x210=05', 'list disk', S5, 'same'), on(f'{third} cut=135680 0x210=09', 'list disk', S5, 'same')]),
+        ('63 libraries in one catalogue.', [listed(f'{four} 0x214=3f 0x10404=3f 0x1050c=00', 'sixty-three.listing')]),
+    ]
+
+
+def split_at(first):
+    """The changes that make the first catalogue of 65 libraries list so many, and the second the others, as far as there are places."""
+    entries, second = [2 * i + 3 for i in range(65)], min(65 - first, 64)
+    return (f'0x10804={hexed("H", first)} 0x10810={hexed("64I", *entries[:first], *[0] * (64 - first))}'
+            f' 0x10a04={hexed("H", second)} 0x10a10={hexed(f"{second}I", *entries[first:first + second])}')
+
+
 def damaged():
     five = 'made=sixty-five.changes'
     # Eight sectors: data 2 to 5, entry 6, catalogue 7, and none for another catalogue.
@@ -100,11 +145,16 @@ def damaged():
             on(f'{five} {change}', 'list disk', S5, 'same') for change in (
                 '0x10800=4d', '0x10803=45', '0x10804=3f', '0x10804=3f 0x1090c=00', '0x10804=41', '0x10805=01', '0x10806=01', '0x1080f=01',
                 '0x10a04=00', '0x10a04=00 0x10a10=00', '0x10a04=02', '0x10a04=02 0x10a14=86', '0x10a14=86', '0x10910=01', '0x109ff=01')]),
+        ('The same libraries otherwise: one in the first catalogue, half of them, all but two; 64, as it has to be.', [
+            on(f'{five} {split_at(first)}', 'list disk', S5, 'same') for first in (1, 32, 63)] + [
+            listed(f'{five} {split_at(64)}', 'sixty-five.listing')]),
         ('A root with other catalogues: too few or too many, one twice, the second one first, a library more or fewer.', [
             on(f'{five} {change}', 'list disk', S5, 'same') for change in (
                 '0x238=01', '0x238=01 0x244=00', '0x238=03 0x248=86', '0x244=84', '0x240=8500000084', '0x214=42', '0x214=40', '0x214=81',
-                '0x244=83', '0x244=82', '0x244=86', '0x244=88')] + [
+                '0x244=83', '0x244=82', '0x244=86', '0x244=88', '0x240=03', '0x240=02')] + [
             listed(f'{five} 0x214=40 0x238=01 0x244=00', 'sixty-four.listing')]),
+        ('A name that stands twice, in one catalogue and in two; the file has it too.', [
+            on(f'{five} {change}', 'list disk', S5, 'same') for change in ('0x8da=303030 0xa11=303030', '0x104da=303030 0x10611=303030')]),
         ('Entry sectors of a catalogue: one of the first catalogue again, twice in one, data, a catalogue, a root, one behind the disk.', [
             on(f'{five} {change}', 'list disk', S5, 'same') for change in (
                 '0x10a10=03', '0x10810=05', '0x10a10=02', '0x10a10=84', '0x10a10=85', '0x10a10=00', '0x10a10=01', '0x10a10=88', '0x10a12=01',
@@ -150,12 +200,12 @@ def hundreds():
 
 
 def cases():
-    return sixty_fours() + damaged() + hundreds()
+    return sixty_fours() + edges() + damaged() + hundreds()
 
 
 def single_bytes():
     """A root, an entry and a catalogue with one byte raised by one: each byte of a field, and some of those that have to be zero."""
-    one = bytes_of('one.disk')
+    one, three = bytes_of('one.disk'), bytes_of('three.disk')
     def raised(at):
         return f'one.disk 0x{at:x}={(one[at] + 1) % 256:02x}'
     def bad(start, *places):
@@ -168,4 +218,6 @@ def single_bytes():
         ('The entry: with a byte more of the file, a zero; else it is damaged.', bad(entry, *range(4)) + [
             listed(raised(entry + 4), 'one-345.listing')] + bad(entry, *range(5, 18), *range(18, 256, 8), *range(256, 272), *range(272, 512, 8), 511)),
         ('The catalogue.', bad(catalogue, *range(24), *range(24, 272, 4), *range(272, 512, 16), 511)),
+        ('The catalogue of three libraries, each of its bytes with the highest bit turned.', [
+            on(f'three.disk 0x{at:x}={three[at] ^ 0x80:02x}', 'list disk', S5, 'same') for at in range(0x1400, 0x1600)]),
     ]

@@ -308,7 +308,7 @@ def room():
 
 
 def damaged():
-    s5, zeros = '1 refused S5 Damaged', bytes(344).hex()
+    s5, zeros, pair = '1 refused S5 Damaged', bytes(344).hex(), bytes_of('pair.disk')
     bad_roots = ['0x208=02', '0x208=03', '0x208=00', '0x210=09', '0x210=07', '0x210=00', '0x213=01', '0x214=00', '0x214=02', '0x214=41',
                  '0x215=08', '0x216=02', '0x216=11', '0x216=01 0x218=01', '0x218=01', '0x236=01', '0x238=00', '0x238=02', '0x239=01', '0x23a=01',
                  '0x23f=01', '0x240=00', '0x240=01', '0x240=02', '0x240=03', '0x240=05', '0x240=08', '0x243=01', '0x244=04', '0x244=05', '0x2bc=01',
@@ -344,6 +344,7 @@ def damaged():
         ('A root with one byte changed, or two; the older of two as well.', [on(f'one.disk {change}', 'list disk', s5, 'same') for change in bad_roots] + [
             on('one.disk 0x14=01', 'list disk', s5, 'same'), on('one.disk 0x1ff=01', 'list disk', s5, 'same'),
             on('one.disk 0x38=01', 'list disk', s5, 'same'), on('one.disk 0x10=07', 'list disk', s5, 'same'),
+            on('one.disk 0x8=01', 'list disk', s5, 'same'),
             on('formatted.disk 0x10=09', 'list disk', s5, 'same'), on('formatted.disk 0x3f=01', 'list disk', s5, 'same')]),
         ('Roots that are others: a preload; the older one of a disk of another size, or with a catalogue that is none.', [
             listed('one.disk 0x216=01', 'one-preloaded.listing'), listed('one.disk 0x10=09', 'one.listing'),
@@ -360,6 +361,9 @@ def damaged():
             on(f'pair.disk {change}', 'list disk', s5, 'same') for change in (
                 '0xe14=03', '0xe14=02', '0xe14=07', '0xd00=02', '0xd00=03', '0xd00=07', '0x700=05', '0x710=01', '0xc10=61', '0x610=62',
                 '0xe10=0600000003 0x610=62')] + [on('pair.disk 0xe10=0600000003', 'list disk', file='pair-turned.listing', after='same')]),
+        ('The entry of the first one for both; a catalogue for the second entry, and for the catalogue a root.', [
+            on(f'pair.disk 0x{at:x}={pair[start:start + SECTOR].hex()}', 'list disk', s5, 'same')
+            for at, start in ((0xc00, 0x600), (0xc00, 0xe00), (0xe00, 0x0))]),
         ('A file of two extents that lie one behind the other; a sector of it twice, that of its entry, of the catalogue, one behind the disk,\n'
          'a root\'s.', [
             listed('full.disk 0xa0a=02 0xb00=02000000010000000300000002', 'full.listing'),

@@ -62,6 +62,12 @@ def images():
             on('old-hundred.disk pad=105472 0x10=ce', 'upgrade disk', '0 ok', has=f'0x207=32 0x208=65 0x210=ce 0x214=64 0x238=02 0x240=ca000000cb'
                ' 0x19404=40 0x19604=24'),
             listed(hundred_upgraded(), 'old-hundred.listing')]),
+        ('64 of them with a sector fewer than their catalogue twice, and with as many; 65, which have two catalogues.', [
+            on(first_of_hundred(64, 131), 'upgrade disk', S7, 'same'),
+            on(first_of_hundred(64, 132), 'upgrade disk', '0 ok', has='0x207=32 0x208=65 0x210=84 0x214=40 0x238=01 0x240=82 0x10404=40 0x1050c=81'),
+            on(first_of_hundred(65, 135), 'upgrade disk', S7, 'same'),
+            on(first_of_hundred(65, 136), 'upgrade disk', '0 ok', has='0x207=32 0x208=65 0x210=88 0x214=41 0x238=02 0x240=8400000085 0x10804=40'
+               ' 0x1090c=81 0x10a04=01 0x10a10=83')]),
         ('Eight sectors that are full. A library of 1,536 bytes leaves two free, which is enough for one catalogue twice; of 1,537, one.', [
             on('old-full.disk', 'list disk', S12, 'same'), on('old-full.disk', 'upgrade disk', S7, 'same'),
             on('old-full.disk 0xe04=00060000 0xf04=03', 'upgrade disk', '0 ok', has='0x0=524c494252454732 0x8=02 0x14=01 0x38=01 0x40=05 0xa04=01'
@@ -76,6 +82,11 @@ def images():
             on('old-one.disk', 'install disk no-such-file', '3 error rlibreg: cannot read no-such-file', 'same'),
             on('old-one.disk', 'install disk disk', S12, 'same')]),
     ]
+
+
+def first_of_hundred(count, sectors):
+    """The disk of the first of a hundred libraries on so many sectors: their data and entries lie in turn from sector 2 on."""
+    return f'old-hundred.disk cut={512 * sectors} 0x10={sectors:02x} 0x14={count:02x} 0x{64 + 4 * count:x}={bytes(4 * (100 - count)).hex()}'
 
 
 def hundred_upgraded():
