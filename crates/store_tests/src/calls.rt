@@ -134,26 +134,3 @@ pub(crate) fn disk_after(
     make_all(rt, &mut store, changes);
     store.into_disk()
 }
-
-/// The disk of a new store of so many sectors with so many byte strings of one length, each of the
-/// value of its number modulo 251.
-pub(crate) fn put_many(
-    rt: &(impl Abort + AllocGlobal),
-    sectors: u32,
-    count: u32,
-    length: usize,
-) -> Memory {
-    let mut store = formatted(rt, sectors);
-    for number in 0..count {
-        let change = Change::Put(number, (number % 251) as u8, length);
-        make_all(rt, &mut store, &[(change, None)]);
-    }
-    store.into_disk()
-}
-
-/// How many byte strings a store has; it is of no further use.
-pub(crate) fn count_of<D: Disk + Drop>(store: Store<D>) -> usize {
-    let count = store.count();
-    let _ = store.into_disk();
-    count
-}

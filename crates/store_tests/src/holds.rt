@@ -1,8 +1,7 @@
 // Versions that are held are read as they were, and their sectors are free once nobody holds them.
 use crate::calls::Change::{Delete, Put};
-use crate::calls::{Change, disk_after, formatted, make, make_all, opened};
+use crate::calls::{Change, disk_after, formatted, make_all, opened};
 use crate::holds::Step::{Hold, LetGo, Make, Read};
-use crate::rooms::has_free;
 use crate::sectors::copy;
 use crate::seen::given;
 use sector_disk::{Fuse, Memory, SECTOR_BYTES};
@@ -76,14 +75,14 @@ fn take(
     }
 }
 
-// Takes the steps one after the other on a new store of 8 sectors: the disk.
-fn take_all(rt: &(impl Abort + AllocGlobal), steps: &[Step]) -> Memory {
+// Takes the steps one after the other on a new store of 8 sectors.
+fn take_all(rt: &(impl Abort + AllocGlobal), steps: &[Step]) {
     let mut store = formatted(rt, 8);
     let mut handles = Vec::new(rt.alloc());
     for step in steps {
         take(rt, &mut store, &mut handles, *step);
     }
-    store.into_disk()
+    let _ = store.into_disk();
 }
 
 // On 8 sectors: a byte string of one sector, with its entry and a catalogue twice, leaves two.
@@ -111,7 +110,7 @@ const SMALL: [Step; 15] = [
 
 #[test]
 fn what_is_held_is_read_as_it_was(rt: HostRuntime) {
-    let _ = take_all(&rt, &SMALL);
+    take_all(&rt, &SMALL);
 }
 
 // The same version is held three times, and freed by the last of them.
@@ -133,42 +132,7 @@ const SHARED: [Step; 13] = [
 
 #[test]
 fn the_last_holder_frees_a_version(rt: HostRuntime) {
-    let _ = take_all(&rt, &SHARED);
-}
-
-// Puts nine versions of a byte string on 40 sectors and holds the first eight.
-fn hold_eight(rt: &(impl Abort + AllocGlobal), store: &mut Store<Memory>, handles: &mut Vec<Held>) {
-    take(rt, store, handles, Make(Put(0, 1, 344), None));
-    for version in 2..10 {
-        take(rt, store, handles, Hold(0));
-        take(rt, store, handles, Make(Put(0, version, 344), None));
-    }
-}
-
-// Holds eight versions of a byte string, and lets go of them in this order: each handle by its
-// place among those that are left.
-fn let_go_of_eight(rt: &(impl Abort + AllocGlobal), order: &[usize; 8]) {
-    let mut store = formatted(rt, 40);
-    let mut handles = Vec::new(rt.alloc());
-    hold_eight(rt, &mut store, &mut handles);
-
-    // Of 38 sectors the state takes two, its catalogue counts twice, and each version takes two.
-    let mut free = 18usize;
-    has_free(rt, &mut store, free);
-    for place in order {
-        let_go(rt, &mut store, &mut handles, *place);
-        free = free.saturating_add(2);
-        has_free(rt, &mut store, free);
-    }
-    let _ = store.into_disk();
-}
-
-#[test]
-fn versions_are_let_go_in_any_order(rt: HostRuntime) {
-    let_go_of_eight(&rt, &[0; 8]);
-    let_go_of_eight(&rt, &[7, 6, 5, 4, 3, 2, 1, 0]);
-    let_go_of_eight(&rt, &[3, 3, 3, 3, 3, 2, 1, 0]);
-    let_go_of_eight(&rt, &[5, 0, 4, 1, 2, 0, 1, 0]);
+    take_all(&rt, &SHARED);
 }
 
 // The store on 8 sectors with a byte string of 344 ones, whose sixth call fails: the first one
@@ -198,20 +162,6 @@ fn a_read_that_fails_is_made_again(rt: HostRuntime) {
     assert!(rt; failed == Err(StoreRefusal::Device) && read == Ok((344, Some(1))));
 }
 
-// After a failed write nothing is held any more or read, and what is held is let go.
-#[test]
-fn after_a_failed_write_what_is_held_is_let_go(rt: HostRuntime) {
-    let mut store = failing(&rt);
-    let held = hold_first(&rt, &mut store).expect(&rt, "what is held");
-    let change = make(&rt, &mut store, Put(0, 2, 344));
-    let read = given(store.read_held(rt.alloc(), &held));
-    let next = hold_first(&rt, &mut store).err();
-    store.let_go(held);
-    let _ = store.into_disk();
-    assert!(rt; change == Some(StoreRefusal::Device) && next == Some(StoreRefusal::Reopen));
-    assert!(rt; read == Err(StoreRefusal::Reopen));
-}
-
 // A handle of the one store is none of the other's, where nobody holds anything.
 #[test]
 fn a_handle_of_another_store_reads_nothing(rt: HostRuntime) {
@@ -224,19 +174,4 @@ fn a_handle_of_another_store_reads_nothing(rt: HostRuntime) {
     let _ = other.into_disk();
     let _ = store.into_disk();
     assert!(rt; read == Err(StoreRefusal::Damaged));
-}
-
-// On 8 sectors a version that is held leaves no room for a third one.
-const CLOSED: [Step; 4] = [
-    Make(Put(0, 1, 344), None),
-    Hold(0),
-    Make(Put(0, 2, 344), None),
-    Make(Put(0, 3, 344), FULL),
-];
-
-#[test]
-fn after_an_opening_nothing_is_held(rt: HostRuntime) {
-    let mut store = opened(&rt, take_all(&rt, &CLOSED));
-    make_all(&rt, &mut store, &[(Put(0, 3, 344), None)]);
-    let _ = store.into_disk();
 }

@@ -8,10 +8,10 @@ use sector_disk::{Fuse, Memory, SECTOR_BYTES};
 use std::process::Abort;
 use store::{Store, StoreRefusal};
 
-/// A disk of 8 sectors, each full of its own number, but for the roots, the entry in sector 4 and
-/// the catalogue in 5: a byte string of 1,100 bytes lies in the sectors 6, 2 and 3, and is a
-/// preload.
-pub(crate) fn scattered(rt: &(impl Abort + AllocGlobal)) -> Memory {
+// A disk of 8 sectors, each full of its own number, but for the roots, the entry in sector 4 and
+// the catalogue in 5: a byte string of 1,100 bytes lies in the sectors 6, 2 and 3, and is a
+// preload.
+fn scattered(rt: &(impl Abort + AllocGlobal)) -> Memory {
     let mut disk = memory(rt, 8);
     for at in 2..8 {
         write(rt, &mut disk, at, &[at as u8; SECTOR_BYTES]);

@@ -1,9 +1,9 @@
-// Snapshots of a store: they are read and found by name as they were taken, and keep their sectors.
+// Snapshots of a store: they are read and found by name as they were taken.
 use crate::calls::Change::{Choose, ChooseNone, Delete, Put};
 use crate::calls::{Change, formatted, make_all};
 use crate::disks::numbered_name;
 use crate::seen::given;
-use sector_disk::{Memory, SECTOR_BYTES};
+use sector_disk::Memory;
 use snapshots::Snapshot;
 use std::process::Abort;
 use store::{Store, StoreRefusal};
@@ -77,29 +77,6 @@ fn a_snapshot_is_as_it_was(rt: HostRuntime) {
     snapshot.let_go(&mut store);
     let _ = store.into_disk();
     assert!(rt; kept);
-}
-
-// On 8 sectors: a byte string of one sector, with its entry and a catalogue twice, leaves two.
-const ALONE: [(Change, Option<StoreRefusal>); 1] = [(Put(0, 1, 344), None)];
-
-const FULL: [(Change, Option<StoreRefusal>); 2] = [
-    (Put(0, 2, 400), None),
-    (Put(0, 3, 344), Some(StoreRefusal::Full)),
-];
-
-const FREE: [(Change, Option<StoreRefusal>); 2] = [
-    (Delete(0), None),
-    (Put(1, 5, 3 * SECTOR_BYTES), None),
-];
-
-#[test]
-fn sectors_are_free_once_a_snapshot_is_let_go(rt: HostRuntime) {
-    let mut store = formatted(&rt, 8);
-    let snapshot = taken(&rt, &mut store, &ALONE);
-    make_all(&rt, &mut store, &FULL);
-    snapshot.let_go(&mut store);
-    make_all(&rt, &mut store, &FREE);
-    let _ = store.into_disk();
 }
 
 // No byte string is there to be held.
