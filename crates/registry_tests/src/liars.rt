@@ -1,4 +1,6 @@
 // A registry on a disk that lies: which numbered refusal each call has, or what it answers.
+ghost use Rattle.std.specs.Prelude.{◌<◌};
+
 use crate::harms::{OLD_ROWS, ROWS, Row, Wanted};
 use crate::scripts::{LINES, are_answers, script};
 use crate::sectors::{Sectors, harmed, one_library};
