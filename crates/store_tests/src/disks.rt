@@ -1,5 +1,5 @@
-// Disks that are written by hand. In version 1 library i has its entry in sector 2 + 2i, and its one
-// sector of bytes behind that.
+// Disks of version 1 that are written by hand. Library i has its entry in sector 2 + 2i, and its
+// one sector of bytes behind that.
 use crate::sectors::{memory, write};
 use extents::Extent;
 use roots::{Catalogue, Entry, Root, encode_catalogue, encode_entry, encode_root};
