@@ -76,23 +76,33 @@ pub(crate) fn word(reply: &Reply) -> &'static str {
     }
 }
 
+// The file of a library or of a program that a command has; zeros where it has none.
+fn file_of(asked: Asked) -> [u8; SIZE] {
+    match asked {
+        Asked::Install(name, version) | Asked::Replace(name, version) => library(name, version),
+        Asked::Bind(needed) => program(needed),
+        _ => [0; SIZE],
+    }
+}
+
+// The command, with its file.
+fn command_of(asked: Asked, file: &[u8]) -> Command<'_> {
+    match asked {
+        Asked::Install(_, _) => Command::Install(file),
+        Asked::Replace(_, _) => Command::Replace(file),
+        Asked::Remove(name) => Command::Remove(name),
+        Asked::Preload(names) => Command::SetPreloads(names),
+        Asked::Bind(_) => Command::Bind {
+            program: file,
+            base: BASE,
+        },
+        Asked::List => Command::List,
+    }
+}
+
 /// Gives a command.
 pub(crate) fn give(registry: &mut OnMemory, asked: Asked) -> Reply {
-    match asked {
-        Asked::Install(name, version) => {
-            registry.apply(&Command::Install(&library(name, version)))
-        }
-        Asked::Replace(name, version) => {
-            registry.apply(&Command::Replace(&library(name, version)))
-        }
-        Asked::Remove(name) => registry.apply(&Command::Remove(name)),
-        Asked::Preload(names) => registry.apply(&Command::SetPreloads(names)),
-        Asked::Bind(needed) => registry.apply(&Command::Bind {
-            program: &program(needed),
-            base: BASE,
-        }),
-        Asked::List => registry.apply(&Command::List),
-    }
+    registry.apply(&command_of(asked, &file_of(asked)))
 }
 
 /// What a command is answered.

@@ -39,6 +39,15 @@ fn opening_calls(alloc: Global, at: usize) -> Result<u64, AllocError> {
     Ok(calls(&mut disk))
 }
 
+// What the command at a place of the list is answered by the registry that a disk holds.
+fn again(alloc: Global, disk: Memory, at: usize) -> Result<&'static str, AllocError> {
+    let mut registry = opened(alloc, disk)?;
+    let asked = STEPS.get(at).map_or(Asked::List, |step| step.1);
+    let answer = ask(&mut registry, asked);
+    let _ = registry.into_disk();
+    Ok(answer)
+}
+
 // Tells more of a disk that a command or its opening was refused on: the calls that were made of
 // it since `opened`, whether it stands as before, and what the command is answered then.
 fn tell(
@@ -55,11 +64,7 @@ fn tell(
     words.push(calls_word(made))?;
     words.push(is_as_before(alloc, disk.copy()?, at)?)?;
     words.push("again:")?;
-    let mut registry = opened(alloc, disk)?;
-    let asked = STEPS.get(at).map_or(Asked::List, |step| step.1);
-    let again = ask(&mut registry, asked);
-    let _ = registry.into_disk();
-    words.push(again)?;
+    words.push(again(alloc, disk, at)?)?;
     Ok(words)
 }
 

@@ -25,22 +25,29 @@ pub(crate) fn put_line(
 
 // The script, for the registry after all commands.
 fn script_lines(alloc: Global) -> Result<Vec<u8>, AllocError> {
+    let (a, c, other_c) = (library(b'a', 2), library(b'c', 0), library(b'c', 1));
+    let (needs_a, needs_d) = (program(b'a'), program(b'd'));
+    let rows: [(&[u8], &[u8]); 15] = [
+        (b"list", b""),
+        (b"install ", &c),
+        (b"replace ", &a),
+        (b"preload a c", b""),
+        (b"bind 0x10000 ", &needs_a),
+        (b"bind 0x10000 ", &needs_d),
+        (b"begin 0x10000 ", &needs_a),
+        (b"begin 0x10000 ", &needs_d),
+        (b"preload b", b""),
+        (b"advance 0", b""),
+        (b"cancel 1", b""),
+        (b"install ", &other_c),
+        (b"remove c", b""),
+        (b"lists", b""),
+        (b"remove c", b""),
+    ];
     let mut lines = Vec::with_capacity(alloc, 16384)?;
-    put_line(alloc, &mut lines, b"list", b"")?;
-    put_line(alloc, &mut lines, b"install ", &library(b'c', 0))?;
-    put_line(alloc, &mut lines, b"replace ", &library(b'a', 2))?;
-    put_line(alloc, &mut lines, b"preload a c", b"")?;
-    put_line(alloc, &mut lines, b"bind 0x10000 ", &program(b'a'))?;
-    put_line(alloc, &mut lines, b"bind 0x10000 ", &program(b'd'))?;
-    put_line(alloc, &mut lines, b"begin 0x10000 ", &program(b'a'))?;
-    put_line(alloc, &mut lines, b"begin 0x10000 ", &program(b'd'))?;
-    put_line(alloc, &mut lines, b"preload b", b"")?;
-    put_line(alloc, &mut lines, b"advance 0", b"")?;
-    put_line(alloc, &mut lines, b"cancel 1", b"")?;
-    put_line(alloc, &mut lines, b"install ", &library(b'c', 1))?;
-    put_line(alloc, &mut lines, b"remove c", b"")?;
-    put_line(alloc, &mut lines, b"lists", b"")?;
-    put_line(alloc, &mut lines, b"remove c", b"")?;
+    for (said, file) in &rows {
+        put_line(alloc, &mut lines, said, file)?;
+    }
     lines.extend_from_slice(b"list")?;
     Ok(lines)
 }

@@ -24,12 +24,18 @@ pub(crate) fn before(alloc: Global, at: usize) -> Result<Memory, AllocError> {
     Ok(registry.into_disk().into_inner())
 }
 
-/// The listing and the texts of two binds: of a program that needs a, and of one that needs none.
-pub(crate) fn seen(alloc: Global, disk: Memory) -> Result<Vec<u8>, AllocError> {
+// The script of a listing and two binds: of a program that needs a, and of one that needs none.
+fn looks(alloc: Global) -> Result<Vec<u8>, AllocError> {
     let mut lines = Vec::new(alloc);
     put_line(alloc, &mut lines, b"list", b"")?;
     put_line(alloc, &mut lines, b"bind 0x10000 ", &program(b'a'))?;
     put_line(alloc, &mut lines, b"bind 0x10000 ", &library(b'p', 0))?;
+    Ok(lines)
+}
+
+/// The listing and the texts of these binds.
+pub(crate) fn seen(alloc: Global, disk: Memory) -> Result<Vec<u8>, AllocError> {
+    let lines = looks(alloc)?;
     let mut binders = Binders::new(alloc, opened(alloc, disk)?);
     let mut text = Vec::new(alloc);
     let ran = run_script_on_disk(alloc, &mut lines.as_slice(), &mut text, &mut binders);

@@ -8,11 +8,10 @@ pub(crate) fn read_count<R: Read>(reader: &mut R) -> Result<u64> {
     let mut page = [0u8; 32];
     let got = reader.read(&mut page)?;
     let mut count = 0u64;
-    for digit in page
-        .iter()
-        .take(got)
-        .take_while(|byte| byte.is_ascii_digit())
-    {
+    for digit in page.iter().take(got) {
+        if !digit.is_ascii_digit() {
+            break;
+        }
         count = count
             .wrapping_mul(10)
             .wrapping_add(u64::from(digit.wrapping_sub(b'0')));
