@@ -2,7 +2,6 @@
 
 use anyhow::{Result, bail};
 use binders::EventReply;
-use names::Name;
 use requests::{Listing, Refusal, Reply};
 use std::alloc::Global;
 
@@ -48,13 +47,14 @@ fn add_sectors(sectors: &mut Vec<u64>, listing: &Listing, wanted: &[u8]) -> Resu
 /// How many sectors a bind reads of each library that it reads, in its order: the preloads, and
 /// then the library that is needed. Libraries need none.
 pub(crate) fn reads_of(alloc: Global, listing: &Listing, needed: u8) -> Result<Vec<u64>> {
+    let needed = [needed];
     let mut reads = Vec::new(alloc);
+    let mut is_preload = false;
     for name in &listing.preloads {
         add_sectors(&mut reads, listing, name.as_bytes())?;
+        is_preload = is_preload || name.as_bytes() == needed.as_slice();
     }
-    let needed = [needed];
-    let is_preload = |name: &Name| name.as_bytes() == needed.as_slice();
-    if !listing.preloads.iter().any(is_preload) {
+    if !is_preload {
         add_sectors(&mut reads, listing, &needed)?;
     }
     Ok(reads)

@@ -6,8 +6,14 @@ use requests::Command;
 use samples::{padded, program};
 use std::alloc::Global;
 
+pub(crate) const A: &[u8] = b"a";
+
+pub(crate) const B: &[u8] = b"b";
+
+pub(crate) const C: &[u8] = b"c";
+
 /// A command. Names have one byte.
-#[derive(Clone, Copy, Debug)]
+#[derive(Clone, Copy)]
 pub(crate) enum Change {
     /// Installs the library of this name and version, of so many bytes.
     Install(u8, u8, usize),

@@ -3,7 +3,7 @@
 
 use crate::answer::Answer;
 use crate::change::{Ask, Change};
-use crate::cut::opened;
+use crate::disk::opened;
 use crate::life::{Place, add_places};
 use crate::opening::{Sides, cut_openings, open_left};
 use crate::plain_binders::{Event, PlainBinders};

@@ -1,9 +1,9 @@
 // Binders in flight, while the registry changes: cut at each call of the disk.
 
-use crate::change::Change;
+use crate::change::{A, B, C, Change};
 use crate::course::Course;
+use crate::disk::disk_after;
 use crate::plain_binders::{Event, PlainBinders};
-use crate::scenario::{A, B, C, disk_after};
 use anyhow::Result;
 use cuts::Tally;
 use samples::SIZE;

@@ -1,9 +1,9 @@
 // Rounds behind rounds: each is cut at each of its calls, with every pick.
 
-use crate::change::Change;
+use crate::change::{A, B, C, Change};
+use crate::disk::disk_after;
 use crate::life::Life;
 use crate::rounds::{Moment, Turn, compare, moments_of};
-use crate::scenario::{A, B, C, disk_after};
 use crate::seen::look;
 use anyhow::{Context, Result};
 use cuts::{Mixtures, Tally, Wanted, Which};

@@ -2,10 +2,9 @@
 
 use crate::answer::Answer;
 use crate::change::Change;
-use crate::cut::opened;
+use crate::disk::opened;
 use crate::opening::Sides;
 use crate::probe::Probe;
-use crate::scenario::disk_after;
 use crate::seen::{Seen, look_plain};
 use crate::step::{Step, plain_after};
 use anyhow::{Context, Result};
@@ -74,12 +73,6 @@ fn steps_of(
 }
 
 impl Life {
-    /// The life on a new disk of so many sectors.
-    pub(crate) fn of(alloc: Global, sectors: u32, changes: &[Change]) -> Result<Life> {
-        let disk = disk_after(alloc, sectors, &[])?;
-        Life::after(alloc, disk, sectors, &[], changes)
-    }
-
     /// The life on a disk of so many sectors on which these commands were done before.
     pub(crate) fn after(
         alloc: Global,
@@ -150,10 +143,10 @@ impl Life {
     }
 
     /// Runs the commands, cut as it is said: the answers, and the disk.
-    pub(crate) fn run(&self, alloc: Global, cut: Cut) -> Result<(Vec<Answer>, Memory)> {
+    pub(crate) fn run(&self, alloc: Global, cut: Cut) -> Result<(Vec<Answer>, Powered)> {
         let mut registry = opened(alloc, cut.of(self.disk.copy()?))?;
         let answers = self.give(alloc, &mut registry);
-        let disk = registry.into_disk().into_inner();
+        let disk = registry.into_disk();
         Ok((answers?, disk))
     }
 
@@ -165,7 +158,10 @@ impl Life {
 
     /// How many calls of the disk its opening makes.
     pub(crate) fn opening_calls(&self) -> u64 {
-        self.states.first().map_or(3, |seen| seen.opening_calls())
+        match self.states.first() {
+            Some(seen) => seen.opening_calls(),
+            None => 3,
+        }
     }
 
     /// What stands before the command at a place of the list, and after it.
@@ -181,7 +177,10 @@ impl Life {
     /// call; where none failed, the last one.
     pub(crate) fn wanted(&self, place: Place) -> Wanted {
         let failed = self.first_failed(place);
-        let calls = self.steps.get(failed).map_or(0, |step| step.calls);
+        let calls = match self.steps.get(failed) {
+            Some(step) => step.calls,
+            None => 0,
+        };
         if failed == place.step {
             by_table(place.cut.call, calls, place.cut.late)
         } else {

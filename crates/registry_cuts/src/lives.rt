@@ -1,63 +1,33 @@
-// Whole lives: a run of many commands that is cut at each of its calls of the disk.
+// Lists of commands, cut at each call of the disk that they make.
 
 use crate::change::Change;
+use crate::disk::disk_after;
 use crate::life::{Life, Place};
-use crate::lists::List;
+use crate::lists::{Disks, List};
 use crate::opening::{cut_openings, cut_stopped, open_left};
-use crate::scenario::B;
+use crate::seen::look_behind;
 use anyhow::Result;
 use cuts::{Tally, Wanted, Which};
-use samples::SIZE;
-use sector_disk::Memory;
 
-// The sizes of the disks of a long life, in sectors.
-const SIZES: [u32; 2] = [11, 16];
-
-// The commands of a long life.
-const LIFE: [Change; 11] = [
-    Change::Install(b'a', 0, SIZE),
-    Change::Bind(b'a'),
-    Change::Install(b'b', 0, 600),
-    Change::Install(b'b', 1, SIZE),
-    Change::Choose(&[B]),
-    Change::Remove(B),
-    Change::Replace(b'a', 1, SIZE),
-    Change::List,
-    Change::Bind(b'a'),
-    Change::Choose(&[]),
-    Change::Remove(B),
-];
-
-// Runs a life once, cut at one place, and opens what is left; the disk as the cut left it.
-fn cut_life(
+// Opens again on the disk of which a call failed once, without taking it out of its fuse.
+fn go_on(
     rt: &HostRuntime,
     tally: &mut Tally,
     life: &Life,
     place: Place,
     wanted: Wanted,
-) -> Result<Memory> {
-    let (answers, disk) = life.run(rt.alloc(), place.cut)?;
-    let right = life.are_answered(&answers, place);
-    tally.count(rt, right, &place.cut, "the answers")?;
+) -> Result<()> {
+    let (_, disk) = life.run(rt.alloc(), place.cut)?;
+    let again = look_behind(rt.alloc(), disk, &life.probe)?;
     let sides = life.sides(life.first_failed(place))?;
-    open_left(rt, tally, &disk, place.cut, sides, wanted)?;
-    Ok(disk)
-}
-
-/// Cuts the long life on each disk at each of its calls, and behind them all.
-pub(crate) fn cut_lives(rt: &HostRuntime, tally: &mut Tally) -> Result<()> {
-    for &sectors in &SIZES {
-        let life = Life::of(rt.alloc(), sectors, &LIFE)?;
-        for place in &life.places(rt.alloc())? {
-            let _ = cut_life(rt, tally, &life, *place, life.wanted(*place))?;
-        }
-    }
-    Ok(())
+    let right = again == *sides.reopened(wanted);
+    tally.count(rt, right, &place.cut, "opened on the same disk")
 }
 
 // Cuts a list at one place, and then each opening of what is left, before a stop and after it.
 // Where one call alone is cut, that is what is left where all behind it are: a change that failed
-// is followed by no call, and a bind that failed changes nothing.
+// is followed by no call, and a bind that failed changes nothing. A call that fails before it
+// reaches the disk leaves what the one before it leaves where it fails late.
 fn cut_list(
     rt: &HostRuntime,
     tally: &mut Tally,
@@ -67,31 +37,64 @@ fn cut_list(
 ) -> Result<()> {
     let table = life.wanted(place);
     let wanted = if wrong { table.exchanged() } else { table };
-    let disk = cut_life(rt, tally, life, place, wanted)?;
-    if !place.cut.forever {
-        return Ok(());
-    }
+    let (answers, disk) = life.run(rt.alloc(), place.cut)?;
+    let right = life.are_answered(&answers, place);
+    tally.count(rt, right, &place.cut, "the answers")?;
+    let disk = disk.into_inner();
     let sides = life.sides(life.first_failed(place))?;
-    cut_openings(rt, tally, &disk, sides, wanted)?;
-    cut_stopped(rt, tally, &disk, sides)
+    open_left(rt, tally, &disk, place.cut, sides, wanted)?;
+    if place.cut.forever && place.cut.late {
+        cut_openings(rt, tally, &disk, sides, wanted)?;
+        cut_stopped(rt, tally, &disk, sides)?;
+    }
+    if !place.cut.forever && place.step < life.steps.len() {
+        go_on(rt, tally, life, place, wanted)?;
+    }
+    Ok(())
 }
 
-/// Cuts each list at each of its calls, those of its opening too, and behind them all.
-pub(crate) fn cut_lists(
-    rt: &HostRuntime,
-    tally: &mut Tally,
-    lists: &[List],
-    wrong: bool,
-) -> Result<()> {
+// Cuts a list at each of its calls, those of its opening too, and behind them all.
+fn cut_life(rt: &HostRuntime, tally: &mut Tally, life: &Life, wrong: bool) -> Result<()> {
     let untouched = Wanted {
         reopened: Which::Old,
         stopped: Which::Old,
     };
-    for (sectors, changes) in lists {
-        let life = Life::of(rt.alloc(), *sectors, changes)?;
-        cut_openings(rt, tally, &life.disk, life.sides(0)?, untouched)?;
-        for place in &life.places(rt.alloc())? {
-            cut_list(rt, tally, &life, *place, wrong)?;
+    cut_openings(rt, tally, &life.disk, life.sides(0)?, untouched)?;
+    for place in &life.places(rt.alloc())? {
+        cut_list(rt, tally, life, *place, wrong)?;
+    }
+    Ok(())
+}
+
+// Cuts each of these lists on each of these disks.
+fn cut_after(
+    rt: &HostRuntime,
+    tally: &mut Tally,
+    disks: &Disks,
+    lists: &[&[Change]],
+    wrong: bool,
+) -> Result<()> {
+    let (sizes, start) = *disks;
+    for &sectors in sizes {
+        for &changes in lists {
+            let disk = disk_after(rt.alloc(), sectors, start)?;
+            let life = Life::after(rt.alloc(), disk, sectors, start, changes)?;
+            cut_life(rt, tally, &life, wrong)?;
+        }
+    }
+    Ok(())
+}
+
+/// Cuts the lists of each of these rows.
+pub(crate) fn cut_lists(
+    rt: &HostRuntime,
+    tally: &mut Tally,
+    rows: &[List],
+    wrong: bool,
+) -> Result<()> {
+    for (disks, lists) in rows {
+        for one in *disks {
+            cut_after(rt, tally, one, lists, wrong)?;
         }
     }
     Ok(())

@@ -5,7 +5,7 @@
 mod answer;
 mod change;
 mod course;
-mod cut;
+mod disk;
 mod flights;
 mod game;
 mod groups;
@@ -17,7 +17,6 @@ mod opening;
 mod plain_binders;
 mod probe;
 mod rounds;
-mod scenario;
 mod seen;
 mod step;
 mod trial;

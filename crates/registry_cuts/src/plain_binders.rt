@@ -13,7 +13,7 @@ use requests::{Refusal, Reply};
 use std::alloc::Global;
 
 /// What happens to a registry with binders.
-#[derive(Clone, Copy, Debug)]
+#[derive(Clone, Copy)]
 pub(crate) enum Event {
     /// A command is given.
     Give(Change),
@@ -27,7 +27,7 @@ pub(crate) enum Event {
 
 // A library as a change left it: its name, how many changes were done before that, and how many
 // sectors it takes.
-#[derive(Clone, Copy, PartialEq, Eq)]
+#[derive(Clone, Copy, PartialEq)]
 struct Version {
     name: u8,
     number: usize,

@@ -1,18 +1,17 @@
 // What a registry is asked, to see what it holds.
 
-use crate::change::{BASE, Change};
+use crate::change::BASE;
 use anyhow::Result;
 use requests::Command;
 use samples::{SIZE, padded, program};
 use std::alloc::Global;
 
-/// The files of what a registry is asked: a program that needs a library, one that needs none, and
-/// a library; and those that are installed to see how many sectors are free.
+/// The files of what a registry is asked: a program that needs a library, and one that needs none;
+/// and libraries that are installed to see how many sectors are free.
 #[derive(Drop)]
 pub(crate) struct Probe {
     needing: Vec<u8>,
     alone: Vec<u8>,
-    library: Vec<u8>,
     fitting: Vec<Vec<u8>>,
 }
 
@@ -30,7 +29,6 @@ impl Probe {
         Ok(Probe {
             needing: Vec::from_slice(alloc, &program(name))?,
             alone: padded(alloc, b'p', 0, SIZE)?,
-            library: padded(alloc, b'q', 0, SIZE)?,
             fitting: Vec::new(alloc),
         })
     }
@@ -47,16 +45,6 @@ impl Probe {
         Ok(probe)
     }
 
-    /// What shows a change: the library that it is about is bound, or else a.
-    pub(crate) fn of(alloc: Global, change: Change) -> Result<Probe> {
-        let name = match change {
-            Change::Install(name, _, _) | Change::Replace(name, _, _) | Change::Bind(name) => name,
-            Change::Remove(name) => name.first().copied().unwrap_or(b'a'),
-            _ => b'a',
-        };
-        Probe::of_name(alloc, name)
-    }
-
     /// A listing and two binds: all that is seen of a state; and then what shows its free sectors.
     pub(crate) fn looks(&self, alloc: Global) -> Result<Vec<Command<'_>>> {
         let looks = [Command::List, bind(&self.needing), bind(&self.alone)];
@@ -65,14 +53,5 @@ impl Probe {
             looks.push(Command::Install(file))?;
         }
         Ok(looks)
-    }
-
-    /// A change, a listing and a bind: what comes behind a change that failed.
-    pub(crate) fn behind(&self) -> [Command<'_>; 3] {
-        [
-            Command::Install(&self.library),
-            Command::List,
-            bind(&self.alone),
-        ]
     }
 }

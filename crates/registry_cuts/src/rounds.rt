@@ -46,14 +46,17 @@ fn uncut(life: &Life) -> Moment {
 pub(crate) fn moments_of(alloc: Global, life: &Life) -> Result<Vec<Moment>> {
     let mut moments = Vec::new(alloc);
     for cut in Cut::all(alloc, 0, life.opening_calls())? {
-        moments.push(Moment { place: None, cut })?;
+        if cut.forever {
+            moments.push(Moment { place: None, cut })?;
+        }
     }
     for place in life.places(alloc)? {
         let cut = place.cut;
-        let place = Some(place);
-        moments.push(Moment { place, cut })?;
+        if cut.forever {
+            let place = Some(place);
+            moments.push(Moment { place, cut })?;
+        }
     }
-    moments.retain(|moment| moment.cut.forever);
     moments.push(uncut(life))?;
     Ok(moments)
 }
@@ -158,7 +161,10 @@ pub(crate) fn compare(
     let Ok((told, disk)) = run_rounds(alloc, first.disk.copy()?, rounds) else {
         bail!("no memory for the rounds");
     };
-    let place = turns.last().map(|turn| turn.moment.cut);
+    let place = match turns.last() {
+        Some(turn) => Some(turn.moment.cut),
+        None => None,
+    };
     let right = are_told(alloc, lives, turns, told)?;
     tally.count(rt, right, &place, "what is told of rounds")?;
     let right = are_same(alloc, disk, left)?;

@@ -74,7 +74,10 @@ impl Seen {
     /// 1, it reads the roots alone.
     pub(crate) fn opening_calls(&self) -> u64 {
         match self {
-            Seen::Stands(answers) => answers.first().map_or(3, |listed| listed.opening),
+            Seen::Stands(answers) => match answers.first() {
+                Some(listed) => listed.opening,
+                None => 3,
+            },
             Seen::Old(_) | Seen::Refused(_) => 3,
         }
     }

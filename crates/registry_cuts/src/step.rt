@@ -31,7 +31,7 @@ pub(crate) fn reads(alloc: Global, plain: &mut PlainRegistry, needed: u8) -> Res
     }
 }
 
-// How many sectors a bind reads; of other commands none are asked.
+// How many sectors a bind reads, also where a library is missing; of other commands none are asked.
 fn all_reads(alloc: Global, plain: &mut PlainRegistry, change: Change) -> Result<u64> {
     let mut all = 0u64;
     if let Change::Bind(needed) = change {
@@ -66,8 +66,7 @@ impl Step {
         let reply = plain.apply(&ask.command());
         let calls = match &reply {
             Reply::Done => ask.calls(count(plain)),
-            Reply::Bound(_) => reads,
-            _ => 0,
+            _ => reads,
         };
         let answer = Answer::of(alloc, reply)?;
         Ok(Step { ask, answer, calls })

@@ -1,19 +1,23 @@
-// Upgrades of disks of version 1, cut at each call, and of what such a cut leaves once more.
+// Formats, and upgrades of disks of version 1, cut at each call, and upgrades of what such a cut
+// leaves once more.
 
-use crate::change::Change;
+use crate::change::{A, B, C, Change};
+use crate::disk::disk_after;
 use crate::old::{Old, old_disk};
 use crate::probe::Probe;
 use crate::rounds::are_same;
-use crate::scenario::{A, B, C, disk_after};
 use crate::seen::{Seen, look, look_plain, look_upgraded};
 use crate::step::plain_after;
-use crate::trial::{Act, States, Trial};
+use crate::trial::Trial;
 use anyhow::Result;
-use cuts::{Cut, Mixtures, Tally, whole};
+use cuts::{Cut, FORMAT_CALLS, Mixtures, Tally, whole};
 use samples::SIZE;
 use sector_disk::{Disk, Memory};
 use std::alloc::Global;
 use store::StoreRefusal;
+
+// The sizes of the disks that are formatted, in sectors.
+const SIZES: [u32; 4] = [8, 10, 13, 16];
 
 /// Disks of version 1 with room for the catalogue twice: empty, with just that room, and with more.
 pub(crate) const OLD_DISKS: [Old; 6] = [
@@ -102,19 +106,20 @@ fn trial(alloc: Global, changes: &[Change], disk: Memory, is_old: bool) -> Resul
     };
     Ok(Trial {
         disk,
-        act: Act::Upgrade {
-            calls,
-            is_full: false,
-        },
-        states: States { old, new, probe },
+        is_format: false,
+        calls,
+        refusal: None,
+        old,
+        new,
+        probe,
     })
 }
 
 // Compares what is seen of the registry that an upgrade gives.
 fn look_on(rt: &HostRuntime, tally: &mut Tally, trial: &Trial) -> Result<()> {
     let disk = whole(trial.disk.copy()?);
-    let seen = look_upgraded(rt.alloc(), disk, &trial.states.probe)?;
-    let right = seen == trial.states.new;
+    let seen = look_upgraded(rt.alloc(), disk, &trial.probe)?;
+    let right = seen == trial.new;
     tally.count(rt, right, &trial.disk.sectors(), "what an upgrade gives")
 }
 
@@ -138,13 +143,36 @@ fn cut_all_again(
     changes: &[Change],
     first: &Trial,
 ) -> Result<()> {
-    for cut in &Cut::all(rt.alloc(), 0, first.calls())? {
+    for cut in &Cut::all(rt.alloc(), 0, first.calls)? {
         if cut.forever {
             let disk = first.left(rt.alloc(), *cut)?;
             if !are_same(rt.alloc(), disk.copy()?, &first.disk)? {
                 cut_again(rt, tally, changes, &disk)?;
             }
         }
+    }
+    Ok(())
+}
+
+// A format of a disk of zeros.
+fn format_trial(alloc: Global, sectors: u32) -> Result<Trial> {
+    let probe = Probe::of_name(alloc, b'a')?;
+    let new = look_plain(alloc, &mut plain_after(alloc, sectors, &[])?, &probe)?;
+    Ok(Trial {
+        disk: Memory::new(alloc, sectors)?,
+        is_format: true,
+        calls: FORMAT_CALLS,
+        refusal: None,
+        old: Seen::Refused(StoreRefusal::NotFormatted),
+        new,
+        probe,
+    })
+}
+
+/// Cuts the format of a disk of each size at each of its calls.
+pub(crate) fn cut_formats(rt: &HostRuntime, tally: &mut Tally, wrong: bool) -> Result<()> {
+    for &sectors in &SIZES {
+        format_trial(rt.alloc(), sectors)?.cut_all(rt, tally, wrong)?;
     }
     Ok(())
 }
@@ -176,15 +204,12 @@ fn full_trial(alloc: Global, row: Old) -> Result<Trial> {
     let opening = look_plain(alloc, &mut plain, &probe)?.opening_calls();
     Ok(Trial {
         disk: old_disk(alloc, row)?,
-        act: Act::Upgrade {
-            calls: opening.saturating_sub(1),
-            is_full: true,
-        },
-        states: States {
-            old: Seen::Refused(StoreRefusal::Full),
-            new: Seen::Refused(StoreRefusal::Full),
-            probe,
-        },
+        is_format: false,
+        calls: opening.saturating_sub(1),
+        refusal: Some(StoreRefusal::Full),
+        old: Seen::Refused(StoreRefusal::Full),
+        new: Seen::Refused(StoreRefusal::Full),
+        probe,
     })
 }
 
@@ -205,7 +230,7 @@ pub(crate) fn cut_unwritten(rt: &HostRuntime, tally: &mut Tally) -> Result<()> {
 fn cut_reads(rt: &HostRuntime, tally: &mut Tally, first: &Trial) -> Result<()> {
     first.cut_all(rt, tally, false)?;
     look_on(rt, tally, first)?;
-    for cut in &Cut::all(rt.alloc(), 0, first.calls().saturating_add(1))? {
+    for cut in &Cut::all(rt.alloc(), 0, first.calls.saturating_add(1))? {
         let left = first.left(rt.alloc(), *cut)?;
         let right = are_same(rt.alloc(), left, &first.disk)?;
         tally.count(rt, right, cut, "the disk that is left")?;
