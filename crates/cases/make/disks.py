@@ -364,6 +364,8 @@ def damaged():
         ('The entry of the first one for both; a catalogue for the second entry, and for the catalogue a root.', [
             on(f'pair.disk 0x{at:x}={pair[start:start + SECTOR].hex()}', 'list disk', s5, 'same')
             for at, start in ((0xc00, 0x600), (0xc00, 0xe00), (0xe00, 0x0))]),
+        ('A file of two extents, the later sectors first.', [
+            listed(f'full.disk 0xa0a=02 0xb00=04000000010000000200000002 0x400={zeros} 0x800=@{A}', 'full.listing')]),
         ('A file of two extents that lie one behind the other; a sector of it twice, that of its entry, of the catalogue, one behind the disk,\n'
          'a root\'s.', [
             listed('full.disk 0xa0a=02 0xb00=02000000010000000300000002', 'full.listing'),
@@ -394,7 +396,13 @@ def damaged():
           for case in each_opening(before, '1 refused S6 BadGeometry')]),
         ('A disk that lost or got a sector isn\'t the one of its root; no registry at all on nine sectors.', [
             on('pair.disk cut=7680', 'list disk', s5, 'same'), on('one.disk pad=4608', 'list disk', s5, 'same'),
+            on('one.disk 0x10=00004000 0x210=00004000', 'list disk', s5, 'same'),
             on('bytes= pad=4608', 'list disk', '1 refused S3 NotFormatted', 'same')]),
+        ('Zeros: one sector and two, which are too few, nine, and a thousand.', [
+            on(f'bytes= pad={512 * sectors}', words, wanted, 'same')
+            for sectors, wanted in ((1, '1 refused S6 BadGeometry'), (2, '1 refused S6 BadGeometry'), (9, '1 refused S3 NotFormatted'),
+                                    (1000, '1 refused S3 NotFormatted'))
+            for words in ('list disk', 'upgrade disk') if (sectors, words) != (9, 'list disk')]),
     ]
 
 

@@ -146,8 +146,16 @@ def damaged():
             on(f'old-one.disk {change}', words, wanted, 'same')
             for change, wanted in ((no_older, S5), (f'{no_older} {no_root}', '1 refused S3 NotFormatted')) for words in ('list disk', 'upgrade disk')]),
         ('A disk that lost or got a sector isn\'t the one of its root.', [
-            on(disk, words, wanted, 'same') for disk in ('old-pair.disk cut=7680', 'old-one.disk pad=4608')
+            on(disk, words, wanted, 'same') for disk in ('old-pair.disk cut=7680', 'old-one.disk pad=4608', 'old-one.disk 0x10=00004000 0x210=00004000')
             for words, wanted in (('list disk', S12), ('upgrade disk', S5))]),
+        ('A file of two extents, the later sectors first; one sector of it twice.', [
+            on(f'old-full.disk 0xe04=00060000 0xe0a=02 0xf00=04000000010000000200000002 0x400={bytes(344).hex()} 0x800=@{A}', 'upgrade disk',
+               '0 ok', has='0x0=524c494252454732 0x8=02 0x14=01 0x38=01 0x40=05 0xa00=4c49424301 0xa10=07'),
+            on('old-full.disk 0xe04=00060000 0xe0a=02 0xf00=02000000020000000300000001', 'upgrade disk', S5, 'same')]),
+        ('Generations that are no neighbours, and roots in the wrong sectors.', [
+            on(disk, words, S5, 'same') for disk in (
+                'old-one.disk 0x8=04', 'old-one.disk 0x208=ffffffffffffffff', 'old-one.disk 0x8=01 0x208=02', 'old-formatted.disk 0x8=01',
+                'old-one.disk 0x0=00 0x208=00') for words in ('list disk', 'upgrade disk')]),
     ]
 
 

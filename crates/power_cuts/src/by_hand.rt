@@ -9,7 +9,7 @@ use sector_disk::{Disk, Memory, SECTOR_BYTES};
 use std::alloc::Global;
 
 /// Where a byte string lies: in the sectors from the first one on, up to that of its entry.
-#[derive(Clone, Copy, Debug)]
+#[derive(Clone, Copy)]
 pub(crate) struct Place {
     pub(crate) start: u32,
     pub(crate) entry: u32,

@@ -21,7 +21,7 @@ fn make_all(
         if change.is_allowed(&state) {
             let refusal = change.refusal(&state, sectors);
             if change.make(alloc, store)?.err() != refusal {
-                bail!("{change:?} wasn't answered {refusal:?}");
+                bail!("a change was answered otherwise");
             }
             if refusal.is_none() {
                 state = state.after(alloc, *change)?;

@@ -1,8 +1,7 @@
 // The groups, each with its line.
 
-use crate::crafted::open_crafted;
 use crate::damage::change_bytes;
-use crate::scenario::{CHANGES, DELETIONS, cut_changes, cut_formats, stop_early};
+use crate::scenario::{CHANGES, DELETIONS, cut_changes, cut_formats};
 use crate::seen::Way;
 use crate::upgrades::cut_upgrades;
 use anyhow::Result;
@@ -48,14 +47,8 @@ fn byte_groups(rt: &HostRuntime, all: &mut Tally) -> Result<()> {
     Ok(())
 }
 
-// The groups of one row, of disks that are made by hand, and of formats.
-fn first_groups(rt: &HostRuntime, all: &mut Tally) -> Result<()> {
-    let mut tally = Tally::new("stops before the first sync");
-    stop_early(rt, &mut tally)?;
-    all.end(rt, &tally)?;
-    let mut tally = Tally::new("disks made by hand");
-    open_crafted(rt, &mut tally)?;
-    all.end(rt, &tally)?;
+// The group of formats.
+fn format_group(rt: &HostRuntime, all: &mut Tally) -> Result<()> {
     let mut tally = Tally::new("format");
     cut_formats(rt, &mut tally, false)?;
     all.end(rt, &tally)
@@ -75,7 +68,7 @@ fn wrong_groups(rt: &HostRuntime) -> Result<()> {
 /// Runs all groups.
 pub(crate) fn run(rt: &HostRuntime) -> Result<()> {
     let mut all = Tally::new("total");
-    first_groups(rt, &mut all)?;
+    format_group(rt, &mut all)?;
     byte_groups(rt, &mut all)?;
     change_groups(rt, &mut all)?;
     upgrade_groups(rt, &mut all)?;

@@ -5,7 +5,6 @@
 mod by_hand;
 mod calls;
 mod change;
-mod crafted;
 mod damage;
 mod deed;
 mod disk;

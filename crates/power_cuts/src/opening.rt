@@ -57,41 +57,8 @@ impl Sides {
         self.goes_on(alloc, whole(disk.copy()?), wanted)
     }
 
-    // Whether the next mixture shows what stands on the old side, and on the new one.
-    fn next_sides(
-        &self,
-        alloc: Global,
-        mixtures: &mut Mixtures,
-        disk: &Memory,
-    ) -> Result<(bool, bool)> {
-        let mixture = mixtures.next(disk)?;
-        let seen = self.way.look(alloc, whole(mixture))?;
-        Ok((seen == self.old.seen, seen == self.new.seen))
-    }
-
-    // Opens each mixture: whether the old side is seen, and whether the new one is.
-    fn open_each(
-        &self,
-        rt: &HostRuntime,
-        tally: &mut Tally,
-        mixtures: &mut Mixtures,
-        disk: &Memory,
-        cut: Cut,
-        which: Which,
-    ) -> Result<(bool, bool)> {
-        let mut old = false;
-        let mut new = false;
-        for _ in 0..mixtures.count()? {
-            let (is_old, is_new) = self.next_sides(rt.alloc(), mixtures, disk)?;
-            old = old || is_old;
-            new = new || is_new;
-            tally.count(rt, which.allows(is_old, is_new), &cut, "a mixture")?;
-        }
-        Ok((old, new))
-    }
-
-    /// Opens all that a stop of the disk may leave.
-    pub(crate) fn open_mixtures(
+    // Opens all that a stop of the disk may leave.
+    fn open_mixtures(
         &self,
         rt: &HostRuntime,
         tally: &mut Tally,
@@ -100,7 +67,15 @@ impl Sides {
         which: Which,
     ) -> Result<()> {
         let mut mixtures = Mixtures::of(rt.alloc(), disk)?;
-        let (old, new) = self.open_each(rt, tally, &mut mixtures, disk, cut, which)?;
+        let mut old = false;
+        let mut new = false;
+        for _ in 0..mixtures.count()? {
+            let seen = self.way.look(rt.alloc(), whole(mixtures.next(disk)?))?;
+            let (is_old, is_new) = (seen == self.old.seen, seen == self.new.seen);
+            old = old || is_old;
+            new = new || is_new;
+            tally.count(rt, which.allows(is_old, is_new), &cut, "a mixture")?;
+        }
 
         // Both are seen where both may stand.
         if which == Which::Either && !(old && new) {

@@ -8,7 +8,7 @@ use crate::seen::Way;
 use crate::state::State;
 use crate::trial::Trial;
 use anyhow::Result;
-use cuts::{Cut, FORMAT_CALLS, Mixtures, Tally, Which};
+use cuts::{FORMAT_CALLS, Tally};
 use sector_disk::Memory;
 use std::alloc::Global;
 use store::StoreRefusal;
@@ -151,15 +151,6 @@ pub(crate) fn cut_formats(rt: &HostRuntime, tally: &mut Tally, wrong: bool) -> R
     Ok(())
 }
 
-// A change on a disk of this size after these others, where it is allowed.
-fn trial(alloc: Global, sectors: u32, start: &[Change], change: Change) -> Result<Option<Trial>> {
-    let (disk, state) = prepared(alloc, sectors, start)?;
-    if change.is_allowed(&state) {
-        return Ok(Some(change_trial(alloc, sectors, disk, state, change)?));
-    }
-    Ok(None)
-}
-
 // Cuts a change on a disk of this size after these others, where it is allowed.
 fn cut_after(
     rt: &HostRuntime,
@@ -169,10 +160,11 @@ fn cut_after(
     start: &[Change],
     change: Change,
 ) -> Result<()> {
-    match trial(rt.alloc(), sectors, start, change)? {
-        Some(trial) => trial.cut_all(rt, tally, wrong),
-        None => Ok(()),
+    let (disk, state) = prepared(rt.alloc(), sectors, start)?;
+    if change.is_allowed(&state) {
+        return change_trial(rt.alloc(), sectors, disk, state, change)?.cut_all(rt, tally, wrong);
     }
+    Ok(())
 }
 
 /// Cuts each of these changes on each disk at each of its calls.
@@ -190,31 +182,4 @@ pub(crate) fn cut_changes(
         }
     }
     Ok(())
-}
-
-// The disk after a stop before the first sync of a put of 1,000 bytes: two sectors of bytes, an
-// entry and a catalogue are written.
-fn early_disk(alloc: Global, cut: Cut) -> Result<Memory> {
-    let (disk, _) = prepared(alloc, 8, &[])?;
-    let put = Deed::Change(Change::PutNew(b'a', 1000));
-    Ok(put.end(alloc, cut.of(disk))?.disk.into_inner())
-}
-
-/// All that may be left of it is the empty store.
-pub(crate) fn stop_early(rt: &HostRuntime, tally: &mut Tally) -> Result<()> {
-    let cut = Cut {
-        opening: 3,
-        call: 5,
-        late: false,
-        forever: true,
-    };
-    let disk = early_disk(rt.alloc(), cut)?;
-    let count = Mixtures::of(rt.alloc(), &disk)?.count()?;
-    tally.count(rt, count == 16, &count, "16 mixtures")?;
-    let sides = Sides {
-        way: Way::Open,
-        old: Side::standing(State::empty(rt.alloc())),
-        new: Side::refused(StoreRefusal::Damaged),
-    };
-    sides.open_mixtures(rt, tally, &disk, cut, Which::Old)
 }

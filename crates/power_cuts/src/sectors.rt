@@ -13,14 +13,6 @@ pub(crate) fn put_sector(disk: &mut Memory, at: u32, content: &[u8; SECTOR_BYTES
     Ok(())
 }
 
-/// Writes these sectors one after the other.
-pub(crate) fn put_sectors(disk: &mut Memory, sectors: &[(u32, [u8; SECTOR_BYTES])]) -> Result<()> {
-    for (at, content) in sectors {
-        put_sector(disk, *at, content)?;
-    }
-    Ok(())
-}
-
 /// Writes over some bytes.
 pub(crate) fn put_bytes(sector: &mut [u8; SECTOR_BYTES], at: usize, bytes: &[u8]) {
     for (place, byte) in sector.iter_mut().skip(at).zip(bytes) {

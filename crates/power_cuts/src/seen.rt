@@ -18,7 +18,7 @@ pub(crate) enum Seen {
 }
 
 /// How a disk is opened.
-#[derive(Clone, Copy, Debug)]
+#[derive(Clone, Copy)]
 pub(crate) enum Way {
     Open,
     Look,

@@ -1,7 +1,7 @@
 // The state of a store, as a list that any call can be tried on.
 
 use crate::change::Change;
-use anyhow::{Context, Result};
+use anyhow::Result;
 use std::alloc::Global;
 
 /// A byte string with its name, which has one byte.
@@ -115,19 +115,18 @@ impl State {
         sectors.checked_sub(self.used().saturating_add(twice))
     }
 
-    // Puts bytes in the place of others.
-    fn replace(&mut self, name: u8, bytes: Vec<u8>) -> Result<()> {
-        let old = self.blobs.iter_mut().find(|blob| blob.name == name);
-        old.context("nothing to replace")?.bytes = bytes;
-        Ok(())
-    }
-
     /// The state after a change.
     pub(crate) fn after(&self, alloc: Global, change: Change) -> Result<State> {
         let mut state = self.next(alloc)?;
         match change {
             Change::PutNew(name, length) => state.put(name, content(alloc, name, length)?)?,
-            Change::PutOver(name, length) => state.replace(name, content(alloc, !name, length)?)?,
+            Change::PutOver(name, length) => {
+                for blob in &mut state.blobs {
+                    if blob.name == name {
+                        blob.bytes = content(alloc, !name, length)?;
+                    }
+                }
+            }
             Change::Delete(name) => state.blobs.retain(|blob| blob.name != name),
             Change::Choose(names) => state.preloads = Vec::from_slice(alloc, names)?,
         }

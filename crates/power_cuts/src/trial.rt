@@ -3,7 +3,7 @@
 use crate::deed::Deed;
 use crate::opening::Sides;
 use anyhow::Result;
-use cuts::{Cut, Tally, Wanted, by_table};
+use cuts::{Cut, Powered, Tally, Wanted, by_table};
 use sector_disk::Memory;
 use std::alloc::Global;
 use store::StoreRefusal;
@@ -32,27 +32,23 @@ impl Trial {
         }
     }
 
-    /// Does it once, with one call cut: whether it is answered so, and the disk.
-    pub(crate) fn end(&self, alloc: Global, cut: Cut) -> Result<(bool, Memory)> {
+    // Does it once, with one call cut: whether it is answered so, and the disk behind its fuse.
+    fn end(&self, alloc: Global, cut: Cut) -> Result<(bool, Powered)> {
         let ending = self.deed.end(alloc, cut.of(self.disk.copy()?))?;
         let right = ending.is_answered(self.answer(cut));
-        Ok((right, ending.disk.into_inner()))
+        Ok((right, ending.disk))
     }
 
     // Does it once, with one call cut, and opens what is left.
     fn cut(&self, rt: &HostRuntime, tally: &mut Tally, cut: Cut, wanted: Wanted) -> Result<()> {
         let (right, disk) = self.end(rt.alloc(), cut)?;
         tally.count(rt, right, &(self.deed, cut), "the answers")?;
-        self.sides.open_left(rt, tally, &disk, cut, wanted)
+        self.sides
+            .open_left(rt, tally, &disk.into_inner(), cut, wanted)
     }
 
-    // Opens again on the disk that failed once, without taking it out of its fuse.
-    fn goes_on(&self, alloc: Global, cut: Cut, wanted: Wanted) -> Result<bool> {
-        let ending = self.deed.end(alloc, cut.of(self.disk.copy()?))?;
-        self.sides.goes_on(alloc, ending.disk, wanted)
-    }
-
-    // Cuts one call, and opens again on the same disk where calls behind it are made.
+    // Cuts one call, and opens again on the same disk, without taking it out of its fuse, where
+    // calls behind it are made.
     fn cut_one(&self, rt: &HostRuntime, tally: &mut Tally, cut: Cut, wrong: bool) -> Result<()> {
         let table = by_table(cut.call, self.calls, cut.late);
         let wanted = if wrong { table.exchanged() } else { table };
@@ -60,7 +56,8 @@ impl Trial {
         if cut.forever || cut.call > self.calls {
             return Ok(());
         }
-        let right = self.goes_on(rt.alloc(), cut, wanted)?;
+        let (_, disk) = self.end(rt.alloc(), cut)?;
+        let right = self.sides.goes_on(rt.alloc(), disk, wanted)?;
         tally.count(rt, right, &(self.deed, cut), "opened on the same disk")
     }
 

@@ -94,17 +94,7 @@ fn state_trial(alloc: Global, sectors: u32, way: Way, state: &State) -> Result<T
     })
 }
 
-// An upgrade of a row's state, where the disk has room for it.
-fn trial(alloc: Global, sectors: u32, way: Way, row: Row) -> Result<Option<Trial>> {
-    let (generation, blobs, preloads) = row;
-    let state = State::of(alloc, generation, blobs, preloads)?;
-    if state.used() <= sectors as usize {
-        return Ok(Some(state_trial(alloc, sectors, way, &state)?));
-    }
-    Ok(None)
-}
-
-// Cuts an upgrade at each of its calls.
+// Cuts an upgrade of a row's state at each of its calls, where the disk has room for it.
 fn cut_upgrade(
     rt: &HostRuntime,
     tally: &mut Tally,
@@ -113,10 +103,12 @@ fn cut_upgrade(
     way: Way,
     row: Row,
 ) -> Result<()> {
-    match trial(rt.alloc(), sectors, way, row)? {
-        Some(trial) => trial.cut_all(rt, tally, wrong),
-        None => Ok(()),
+    let (generation, blobs, preloads) = row;
+    let state = State::of(rt.alloc(), generation, blobs, preloads)?;
+    if state.used() <= sectors as usize {
+        return state_trial(rt.alloc(), sectors, way, &state)?.cut_all(rt, tally, wrong);
     }
+    Ok(())
 }
 
 /// Cuts upgrades at each of their calls, on disks of each size that has room for the state. What is
