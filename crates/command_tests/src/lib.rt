@@ -1,8 +1,15 @@
-//! Tests of `commands` through its public calls: what no clause and no case says.
+//! Tests of `commands` and `registry` through their public calls, and of scripts over a registry on
+//! a disk that lies: what no clause and no case says.
 #![tactic(auto)]
 
 #[cfg(test)]
+mod every_line;
+#[cfg(test)]
+mod harms;
+#[cfg(test)]
 mod images;
+#[cfg(test)]
+mod liars;
 #[cfg(test)]
 mod lines;
 #[cfg(test)]
@@ -10,9 +17,13 @@ mod programs;
 #[cfg(test)]
 mod reading;
 #[cfg(test)]
+mod refused_binds;
+#[cfg(test)]
 mod runs;
 #[cfg(test)]
 mod scripts;
+#[cfg(test)]
+mod sectors;
 #[cfg(test)]
 mod statuses;
 #[cfg(test)]

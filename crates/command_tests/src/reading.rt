@@ -9,7 +9,7 @@ use std::io::ErrorKind;
 const CANNOT: Result<usize, FileFault> = Err(FileFault::CannotRead);
 
 /// What a reader does, the limit, and how many bytes are read.
-const ROWS: [(&[Turn], usize, Result<usize, FileFault>); 11] = [
+static ROWS: [(&[Turn], usize, Result<usize, FileFault>); 11] = [
     (&[], 1, Ok(0)),
     (&[Gives(9)], 10, Ok(9)),
     // A read that is interrupted is made again.

@@ -42,7 +42,7 @@ const BAD_BASE: Wanted = (2, "", "rlibreg: bad base\n");
 
 /// A base with blanks; the file behind standard error; a file of a sector too many for a disk, and
 /// a device.
-const ROWS: [Row; 19] = [
+static ROWS: [Row; 19] = [
     (&["image", "no such file", " 0x10"], BAD_BASE),
     (&["image", "no such file", "0x10 "], BAD_BASE),
     (&["image", "no such file", "0x1 0"], BAD_BASE),

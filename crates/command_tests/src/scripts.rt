@@ -108,7 +108,7 @@ fn each_form_of_line_asks_its_command(rt: HostRuntime) {
 
 /// What a reader gives before it fails, how it fails, the letters of the events that happened, each
 /// of which is answered `ok`, and what the script ends with.
-const CUT: [(&[&str], ErrorKind, &str, ScriptFault); 6] = [
+static CUT: [(&[&str], ErrorKind, &str, ScriptFault); 6] = [
     // At once, in the middle of a line, and between lines.
     (&[], ErrorKind::Other, "", ScriptFault::Read),
     (&["li"], ErrorKind::Other, "", ScriptFault::Read),

@@ -66,7 +66,7 @@ fn needs_room(rt: &HostRuntime, words: &[&str], length: usize, status: u8) -> bo
 
 /// Command lines with the lengths of their texts, and their statuses: an image, a refusal of one, a
 /// listing of nothing, a refusal of a command, and a script of one listing.
-const TEXTS: [(&[&str], usize, u8); 5] = [
+static TEXTS: [(&[&str], usize, u8); 5] = [
     (&["image", "nine.so", "0x0"], 496, 0),
     (&["image", "nine.so", "0x1"], 19, 1),
     (&["list", "empty.disk"], 4, 0),

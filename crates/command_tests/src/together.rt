@@ -84,7 +84,7 @@ impl TakesEvents for Watching<'_> {
 /// What is read, each text with the number of lines that end before it: one line, and three that
 /// are answered with one write; two changes among listings, so what waits, `ok`, what waits, `ok`;
 /// the rest of a line, two lines more, and one without a newline.
-const TEXTS: [(&str, usize); 4] = [
+static TEXTS: [(&str, usize); 4] = [
     ("list\n", 0),
     ("list\nlist\nlist\n", 1),
     ("list\nremove a\nlist\npreload\nli", 4),

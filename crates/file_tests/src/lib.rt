@@ -1,9 +1,11 @@
-//! Tests of the crates that read files and spell texts, through their public calls: what no clause
-//! says.
+//! Tests of the crates that read files, bind programs and spell texts, through their public calls:
+//! what no clause and no case of the program `cases` says.
 #![tactic(auto)]
 
 #[cfg(test)]
 mod copies;
+#[cfg(test)]
+mod images;
 #[cfg(test)]
 mod searches;
 #[cfg(test)]

@@ -30,7 +30,7 @@ const UNCUT: Place = Place {
 };
 
 // What comes on a disk that is opened again: no binder lives there, and a new one is bound.
-const AGAIN: [Event; 8] = [
+static AGAIN: [Event; 8] = [
     Event::Advance(0),
     Event::Begin(b'a'),
     Event::Advance(0),

@@ -14,7 +14,7 @@ use std::alloc::Global;
 type Row = (u32, &'static [Change], u8, &'static [Change]);
 
 // What a binder keeps fills some of these disks to the last sector.
-const ROWS: [Row; 6] = [
+static ROWS: [Row; 6] = [
     (
         8,
         &[Change::Install(b'a', 0, SIZE)],
@@ -87,7 +87,7 @@ const ROWS: [Row; 6] = [
 ];
 
 // What comes behind a binder that was bound between changes: a second one without any.
-const BEHIND: [Event; 8] = [
+static BEHIND: [Event; 8] = [
     Event::Advance(0),
     Event::Begin(b'a'),
     Event::Advance(0),
@@ -99,7 +99,7 @@ const BEHIND: [Event; 8] = [
 ];
 
 // Where a disk is full of what binders keep. A removal is done.
-const FULL: [Event; 10] = [
+static FULL: [Event; 10] = [
     Event::Give(Change::Replace(b'a', 9, SIZE)),
     Event::Begin(b'a'),
     Event::Cancel(3),
@@ -113,14 +113,14 @@ const FULL: [Event; 10] = [
 ];
 
 // The orders in which eight binders end, and how many of them hold each version.
-const ORDERS: [([usize; 8], usize); 4] = [
+static ORDERS: [([usize; 8], usize); 4] = [
     ([0, 1, 2, 3, 4, 5, 6, 7], 1),
     ([5, 0, 7, 2, 6, 1, 4, 3], 1),
     ([7, 6, 5, 4, 3, 2, 1, 0], 2),
     ([1, 2, 4, 7, 0, 3, 5, 6], 4),
 ];
 
-const START: [Change; 1] = [Change::Install(b'a', 0, SIZE)];
+static START: [Change; 1] = [Change::Install(b'a', 0, SIZE)];
 
 // The library by which it is tested what fits.
 const REMOVE: Event = Event::Give(Change::Remove(b"z"));

@@ -15,7 +15,7 @@ use std::alloc::Global;
 pub(crate) type Row = (u32, &'static [Change], &'static [&'static [Change]]);
 
 /// Two and three rounds, some without commands.
-pub(crate) const ROUNDS: [Row; 6] = [
+pub(crate) static ROUNDS: [Row; 6] = [
     (
         8,
         &[],
@@ -78,7 +78,7 @@ pub(crate) const ROUNDS: [Row; 6] = [
 ];
 
 /// The rounds that begin at another state than is wanted, on purpose.
-pub(crate) const EXCHANGED_ROUNDS: [Row; 1] = [(
+pub(crate) static EXCHANGED_ROUNDS: [Row; 1] = [(
     8,
     &[],
     &[
@@ -88,7 +88,7 @@ pub(crate) const EXCHANGED_ROUNDS: [Row; 1] = [(
 )];
 
 // Lists of picks that are shorter than the disk: they are taken over and over.
-const SHORT: [&[usize]; 5] = [&[], &[0], &[1], &[1, 0], &[0, 1, 1]];
+static SHORT: [&[usize]; 5] = [&[], &[0], &[1], &[1, 0], &[0, 1, 1]];
 
 // The choice of a sector, by such a list.
 fn pick(picks: &[usize], at: u32) -> usize {

@@ -20,7 +20,7 @@ fn upgrade_group(rt: &HostRuntime, all: &mut Tally) -> Result<()> {
 // The group of lists of commands.
 fn list_group(rt: &HostRuntime, all: &mut Tally) -> Result<()> {
     let mut tally = Tally::new("lists of commands");
-    cut_lists(rt, &mut tally, LISTS, false)?;
+    cut_lists(rt, &mut tally, &LISTS, false)?;
     all.end(rt, &tally)
 }
 
@@ -52,7 +52,7 @@ fn wrong_upgrades(rt: &HostRuntime) -> Result<()> {
 // The same of a list of commands.
 fn wrong_list(rt: &HostRuntime) -> Result<()> {
     let mut tally = Tally::quiet("a list with old and new exchanged, on purpose");
-    cut_lists(rt, &mut tally, EXCHANGED_LIST, true)?;
+    cut_lists(rt, &mut tally, &EXCHANGED_LIST, true)?;
     tally.print(rt)
 }
 

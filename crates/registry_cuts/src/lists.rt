@@ -59,8 +59,8 @@ const CHOSEN: &[&[Change]] = &[
     &[Change::Remove(B)],
 ];
 
-// The library a is the only one, the first, the last, or between others; a preload, beside preloads,
-// or behind a library that was removed. Most of the smaller disks are full.
+// The library a is the only one, the first, the last, or between others; a preload, beside
+// preloads, or behind a library that was removed. Most of the smaller disks are full.
 const WITH_A: &[Disks] = &[
     (&[8, 10, 13, 16], &[Change::Install(b'a', 0, SIZE)]),
     (
@@ -231,7 +231,7 @@ const WITHOUT_A: &[Disks] = &[
 /// last sector; one of eleven commands; and single commands behind an opening. A library takes a
 /// sector for each 512 bytes and one for its entry, a disk has two for its roots, and two for the
 /// catalogue, once as it stands and once as the next change writes it.
-pub(crate) const LISTS: &[List] = &[
+pub(crate) static LISTS: [List; 16] = [
     (
         &[(&[10], &[])],
         &[&[
@@ -386,7 +386,7 @@ pub(crate) const LISTS: &[List] = &[
 ];
 
 /// The list on which old and new are exchanged, on purpose.
-pub(crate) const EXCHANGED_LIST: &[List] = &[(
+pub(crate) static EXCHANGED_LIST: [List; 1] = [(
     &[(&[8], &[])],
     &[&[
         Change::Install(b'a', 0, SIZE),

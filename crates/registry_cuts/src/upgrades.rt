@@ -17,10 +17,10 @@ use std::alloc::Global;
 use store::StoreRefusal;
 
 // The sizes of the disks that are formatted, in sectors.
-const SIZES: [u32; 4] = [8, 10, 13, 16];
+static SIZES: [u32; 4] = [8, 10, 13, 16];
 
 /// Disks of version 1 with room for the catalogue twice: empty, with just that room, and with more.
-pub(crate) const OLD_DISKS: [Old; 6] = [
+pub(crate) static OLD_DISKS: [Old; 6] = [
     (8, &[], &[]),
     (8, &[Change::Install(b'a', 0, SIZE)], &[2]),
     (8, &[Change::Install(b'a', 0, 1536)], &[4]),
@@ -56,7 +56,7 @@ pub(crate) const OLD_DISKS: [Old; 6] = [
 
 // Disks of version 1 without room for the catalogue twice: full, with one sector left, and with two
 // libraries and one sector left.
-const FULL_DISKS: [Old; 4] = [
+static FULL_DISKS: [Old; 4] = [
     (8, &[Change::Install(b'a', 0, 2560)], &[2]),
     (8, &[Change::Install(b'a', 0, 2048)], &[2]),
     (
@@ -77,7 +77,7 @@ const FULL_DISKS: [Old; 4] = [
 ];
 
 // Registries of version 2, on 10 sectors.
-const NEW_DISKS: [&[Change]; 3] = [
+static NEW_DISKS: [&[Change]; 3] = [
     &[],
     &[Change::Install(b'a', 0, 600), Change::Choose(&[A])],
     &[

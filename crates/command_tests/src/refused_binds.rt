@@ -26,7 +26,7 @@ struct Case {
     reads: u64,
 }
 
-const CASES: [Case; 3] = [
+static CASES: [Case; 3] = [
     Case {
         libraries: &[(b'a', b"", 1)],
         preloads: &[],

@@ -1,8 +1,8 @@
 // A registry on a disk that lies: which numbered refusal each call has, or what it answers.
 ghost use Rattle.std.specs.Prelude.{◌<◌};
 
+use crate::every_line::{LINES, are_answers, script};
 use crate::harms::{OLD_ROWS, ROWS, Row, Wanted};
-use crate::scripts::{LINES, are_answers, script};
 use crate::sectors::{Sectors, harmed, one_library};
 use binders::Binders;
 use commands::{ScriptFault, Summary, run_script_on_disk};
