@@ -26,7 +26,8 @@ fi
 cp "$RLIBREG_C" "$folder/proved.a"
 
 # The C over them, and what gives the proved calls their memory.
-for part in file status; do
+parts='file disk_file new_disk status'
+for part in $parts; do
     gcc $flags -c -o "$folder/rlibreg_$part.o" "c/rlibreg_$part.c"
 done
 rm -f "$folder/librlibreg.a"
@@ -36,11 +37,10 @@ rm -f "$folder/librlibreg.a"
 CREATE librlibreg.a
 ADDLIB proved.a
 ADDLIB $kit/c/liblibc_c.a
-ADDMOD rlibreg_file.o
-ADDMOD rlibreg_status.o
+$(printf 'ADDMOD rlibreg_%s.o\n' $parts)
 SAVE
 END
-    rm proved.a rlibreg_file.o rlibreg_status.o
+    rm proved.a $(printf 'rlibreg_%s.o ' $parts)
 )
 cp c/rlibreg.h "$folder/"
 gcc $flags -o "$folder/rlibreg-run" c/rlibreg_run.c "$folder/librlibreg.a"

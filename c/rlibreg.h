@@ -19,16 +19,32 @@
  *
  * CAVEATS
  *
- * - A disk has one writer at a time, and nobody reads it meanwhile. The calls over a file see to
- *   that among themselves, by flock(2) on the file itself. The program `rlibreg` takes no lock:
- *   start it as `flock DISK rlibreg install DISK FILE` beside them.
- * - Who puts another file in the disk's place (mv) holds the lock of the file that stood there. A
- *   call that waited for that lock then opens the new file, but flock(1) doesn't: where files are
- *   put in one another's place and the program is used too, everybody, programs over this library
- *   among them, holds the lock of another file around all of it (`flock DISK.lock ..`).
- * - A lock of flock(2) is advice: it stops nobody who doesn't ask. Over NFS it may do nothing. A
- *   child of fork has it too, as long as it keeps the file open.
- * - The file is mapped, so one that is made shorter while it is open ends the process by SIGBUS.
+ * - A disk has one writer at a time, and nobody reads it meanwhile. Who changes it holds the lock
+ *   of flock(2) on it alone, who looks shares it. The calls over a file see to that, and so does
+ *   the program `rlibreg`, which never waits: where the disk is held it ends with status 3. So
+ *   nothing has to be done beside, and who holds the disk around the program (`flock DISK rlibreg
+ *   ..`) shuts it out. Who wants to wait for others, or to do several things at a stretch, holds
+ *   the lock of another file, as all others do too (`flock DISK.lock rlibreg ..`).
+ * - Who puts another file in the disk's place holds the lock of the file that stood there (`flock
+ *   DISK mv NEW DISK`). Library and program look, once they have a lock, whether the path still
+ *   names the file that they locked, and else open the path again.
+ * - A lock of flock(2) is advice: it stops nobody who doesn't ask. Who may read the disk can hold
+ *   it. Over NFS it may do nothing. A child of fork has it too, as long as it keeps the file open.
+ * - After a sync that failed Linux takes the pages for written, and gives them to whoever reads.
+ *   So an opening syncs the file, and has the system forget what it keeps of the first 2 MiB, where
+ *   the registry's two roots stand: what is read then is what the medium has. Pages that a process
+ *   has mapped aren't forgotten, so nobody maps the disk who hasn't its lock.
+ * - The two roots stand in one block of 4,096 bytes. A medium that ruins a block of that size which
+ *   it was writing can lose both.
+ * - The file is mapped, so one that is made shorter while it is open ends the process by SIGBUS,
+ *   and so does a medium that can't be read.
+ * - A disk that may only be read, or is on a file system for reading alone, can be looked at. There
+ *   a sync that is answered EINVAL has nothing to do, and is taken for done; one that is answered
+ *   EROFS has failed, since a file system that a failure has made read-only answers so.
+ * - A block device, or a partition, can be the disk. For a change it is opened alone, which is
+ *   refused with EBUSY where it is mounted or in use in another way; who looks shares it. The lock
+ *   is that of its node: everybody names the same node. The system's udev holds it for a moment
+ *   after each change, so a change without RLIBREG_WAIT tries for two seconds there.
  * - Each call opens the registry anew, which reads and tests each installed library once: some 2 ms
  *   for 8 MiB in 64 libraries, 4 ms in 500. So many changes, one by one, cost the square of their
  *   number; the program's `script` opens a disk once (docs/COMMANDS.md).
@@ -153,8 +169,9 @@ RLIBREG_SAME(sizeof(size_t) == 8 && sizeof(void *) == 8);
  *
  * OWNED by who calls: all of it. A call keeps no pointer, and gives none.
  *
- * DISK and DISK_LENGTH are the bytes of the disk's sectors, as reads of the disk give them after a
- * sync. A length that isn't that of whole sectors is answered S6.
+ * DISK and DISK_LENGTH are the bytes of the disk's sectors, as the medium has them after a sync
+ * (CAVEATS says what Linux does after one that failed). A length that isn't that of whole sectors
+ * is answered S6.
  *
  * TEXT gets the line or the reply that the program `rlibreg` prints of the same: "ok\n", a listing,
  * or a refusal with its number and its names, as "refused B3 Missing libtwo.so libone.so\n". It
@@ -278,24 +295,33 @@ enum {
     RLIBREG_WAIT = 2     /* where the file is held, wait */
 };
 
-/* Opens the file of a registry and locks it, and syncs it: what is read of it then is on the
- * medium. It has to be a regular file. It isn't looked at what the file holds: the calls behind do
- * that.
+/* Opens the file of a registry, a regular file or a block device, locks it and syncs it, and maps
+ * what the medium has of it. It isn't looked at what the file holds: the calls behind do that.
  *
- * RLIBREG_HELD where another struct holds the file, of this process or another, and RLIBREG_WAIT
- * isn't given. RLIBREG_SYSTEM where a call of the system fails: errno says why, EINTR where a
- * signal came while it waited, EINVAL where the path is no regular file. RLIBREG_BAD_ARGUMENT where
- * the struct has a file already. */
+ * RLIBREG_HELD where another struct holds the file, of this process or another, or the program
+ * does, and RLIBREG_WAIT isn't given. RLIBREG_SYSTEM where a call of the system fails: errno says
+ * why, EINTR where a signal came while it waited, EINVAL where the path is neither of the two,
+ * EBUSY where a block device is in use, EAGAIN where the path named another file each of 16 times.
+ * RLIBREG_BAD_ARGUMENT where the struct has a file already. */
 uint32_t rlibreg_open(rlibreg *registry, const char *path, unsigned flags);
 
-/* Makes an empty registry of so many sectors of 512 bytes, and leaves it open for changes. Where
- * there is no file it is made, with zeros; one that is there has to have that length, or the
- * refusal is S6, and no registry, or it is S4. The file and its folder are synced. FLAGS may have
- * RLIBREG_WAIT.
+/* Makes an empty registry of so many sectors of 512 bytes, and leaves it open for changes. A file
+ * or a block device that is there has to have that length, or the refusal is S6, and no registry,
+ * or it is S4. FLAGS may have RLIBREG_WAIT.
  *
- * RLIBREG_BAD_ARGUMENT where SECTORS isn't 8 to 4,194,304: then nothing is made. Else as
- * rlibreg_open and rlibreg_plan_format. After a refusal the file is left as it is, and not open. A
- * file that is made is sparse: the space for it may be found missing later, which is then an S1. */
+ * Where there is no file it is made under another name, `.NAME.rlibreg-new` in the same folder
+ * (`.rlibreg-new` where that has more than 255 bytes), and gets its own, by a link that fails where
+ * something stands, once all of it is on the medium. So a process that is killed, and a power cut,
+ * leave no disk or a whole one. A regular file that has the other name and that nobody holds was
+ * left so: its name is taken away, and it isn't written.
+ *
+ * RLIBREG_BAD_ARGUMENT where SECTORS isn't 8 to 4,194,304. RLIBREG_HELD, with RLIBREG_WAIT too,
+ * where another process holds the other name's file. RLIBREG_SYSTEM with EINVAL where what has that
+ * name is no regular file. S1 where a write or a sync fails, errno says why: of a file that stood
+ * there a registry was made or not; of a new one there is nothing, or a whole one where it was the
+ * folder that couldn't be synced. Else as rlibreg_open and rlibreg_plan_format. After a refusal the
+ * file is left as it is, and not open, and nothing was made. A file that is made is sparse: the
+ * space for it may be found missing later, which is then an S1. */
 uint32_t rlibreg_format(rlibreg *registry, const char *path, uint32_t sectors, unsigned flags);
 
 /* Changes: each is planned, carried out and synced when the call returns 0. Refusals: those of the

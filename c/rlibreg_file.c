@@ -1,25 +1,19 @@
 /* The registry over a file: C over the calls on bytes. rlibreg.h is the manual. */
 #define _GNU_SOURCE
-#include "rlibreg.h"
+#include "rlibreg_disk_file.h"
 
 #include <errno.h>
-#include <fcntl.h>
 #include <stdlib.h>
 #include <string.h>
-#include <sys/file.h>
-#include <sys/mman.h>
-#include <sys/stat.h>
 #include <unistd.h>
 
 enum { SECTOR = 512, STEP_NUMBER = 4, SMALL_PLAN = 40, FIRST_TEXT = 4096 };
 
 struct rlibreg {
-    int fd;              /* of the file, or -1 */
-    int may_change;      /* whether it was opened for changes */
-    int has_failed;      /* whether a write or a sync failed */
-    const uint8_t *disk; /* the map of the file, or null */
-    size_t length;       /* of the file */
-    char *text;          /* of the last answer, ended by a byte 0 */
+    struct disk_file file;
+    int may_change; /* whether it was opened for changes */
+    int has_failed; /* whether a write or a sync failed */
+    char *text;     /* of the last answer, ended by a byte 0 */
     size_t text_room;
     rlibreg_answer answer;
 };
@@ -73,19 +67,16 @@ rlibreg *rlibreg_create(void) {
         free(text);
         return NULL;
     }
-    it->fd = -1;
+    it->file = NO_DISK_FILE;
     it->text = text;
     it->text_room = FIRST_TEXT;
     it->text[0] = 0;
     return it;
 }
 
+/* Closes the file, and leaves errno as it is. */
 static void let_go(rlibreg *it) {
-    if (it->disk) munmap((void *)it->disk, it->length);
-    if (it->fd >= 0) close(it->fd);
-    it->fd = -1;
-    it->disk = NULL;
-    it->length = 0;
+    rlibreg_disk_file_close(&it->file);
     it->may_change = it->has_failed = 0;
 }
 
@@ -106,63 +97,12 @@ const rlibreg_answer *rlibreg_last(const rlibreg *it) {
 
 /* ---- The file */
 
-static int open_flags(unsigned flags) {
-    int access = flags & RLIBREG_CHANGES ? O_RDWR : O_RDONLY;
-    return access | O_CLOEXEC | O_NOCTTY | O_NONBLOCK; /* opening a pipe doesn't wait */
-}
-
-static int lock_kind(unsigned flags) {
-    int kind = flags & RLIBREG_CHANGES ? LOCK_EX : LOCK_SH;
-    return flags & RLIBREG_WAIT ? kind : kind | LOCK_NB;
-}
-
-/* Whether the path still names the file that was locked: it may have been replaced meanwhile. */
-static int is_still_there(const char *path, const struct stat *locked) {
-    struct stat now;
-    return !stat(path, &now) && now.st_dev == locked->st_dev && now.st_ino == locked->st_ino;
-}
-
-/* Opens the file and locks it. Gives 0, or a status. */
-static uint32_t open_locked(rlibreg *it, const char *path, unsigned flags) {
-    struct stat found;
-    for (;;) {
-        it->fd = open(path, open_flags(flags));
-        if (it->fd < 0 || fstat(it->fd, &found)) return RLIBREG_SYSTEM;
-        if (!S_ISREG(found.st_mode)) {
-            errno = EINVAL;
-            return RLIBREG_SYSTEM;
-        }
-        if (flock(it->fd, lock_kind(flags)))
-            return errno == EWOULDBLOCK ? RLIBREG_HELD : RLIBREG_SYSTEM;
-        if (is_still_there(path, &found)) return RLIBREG_DONE;
-        close(it->fd);
-    }
-}
-
-/* Maps the file, as long as it is now that it is locked, and syncs it. */
-static uint32_t map_file(rlibreg *it) {
-    struct stat found;
-    if (fstat(it->fd, &found) || fsync(it->fd)) return RLIBREG_SYSTEM;
-    if (!found.st_size) return RLIBREG_DONE; /* a disk without bytes: each call is answered S6 */
-    void *map = mmap(NULL, (size_t)found.st_size, PROT_READ, MAP_SHARED, it->fd, 0);
-    if (map == MAP_FAILED) return RLIBREG_SYSTEM;
-    it->disk = map;
-    it->length = (size_t)found.st_size;
-    return RLIBREG_DONE;
-}
-
 uint32_t rlibreg_open(rlibreg *it, const char *path, unsigned flags) {
-    if (it->fd >= 0) return say(it, RLIBREG_BAD_ARGUMENT, "");
-    uint32_t status = open_locked(it, path, flags);
-    if (!status) status = map_file(it);
-    if (status) {
-        int why = errno;
-        let_go(it);
-        errno = why;
-        return say(it, status, "");
-    }
-    it->may_change = !!(flags & RLIBREG_CHANGES);
-    return say(it, RLIBREG_DONE, "");
+    if (it->file.fd >= 0) return say(it, RLIBREG_BAD_ARGUMENT, "");
+    uint32_t status = rlibreg_disk_file_open(&it->file, path, flags);
+    if (status) let_go(it);
+    it->may_change = !status && flags & RLIBREG_CHANGES;
+    return say(it, status, "");
 }
 
 /* ---- Carrying out a plan */
@@ -226,39 +166,39 @@ typedef uint32_t plan_call(rlibreg *it, const void *asked, size_t length, uint8_
 static uint32_t plan_format(rlibreg *it, const void *asked, size_t length, uint8_t *plan,
                             size_t room) {
     (void)asked, (void)length;
-    return rlibreg_plan_format(it->disk, it->length, plan, room, it->text, it->text_room,
+    return rlibreg_plan_format(it->file.bytes, it->file.length, plan, room, it->text, it->text_room,
                                &it->answer);
 }
 
 static uint32_t plan_upgrade(rlibreg *it, const void *asked, size_t length, uint8_t *plan,
                              size_t room) {
     (void)asked, (void)length;
-    return rlibreg_plan_upgrade(it->disk, it->length, plan, room, it->text, it->text_room,
-                                &it->answer);
+    return rlibreg_plan_upgrade(it->file.bytes, it->file.length, plan, room, it->text,
+                                it->text_room, &it->answer);
 }
 
 static uint32_t plan_install(rlibreg *it, const void *asked, size_t length, uint8_t *plan,
                              size_t room) {
-    return rlibreg_plan_install(it->disk, it->length, asked, length, plan, room, it->text,
-                                it->text_room, &it->answer);
+    return rlibreg_plan_install(it->file.bytes, it->file.length, asked, length, plan, room,
+                                it->text, it->text_room, &it->answer);
 }
 
 static uint32_t plan_replace(rlibreg *it, const void *asked, size_t length, uint8_t *plan,
                              size_t room) {
-    return rlibreg_plan_replace(it->disk, it->length, asked, length, plan, room, it->text,
-                                it->text_room, &it->answer);
+    return rlibreg_plan_replace(it->file.bytes, it->file.length, asked, length, plan, room,
+                                it->text, it->text_room, &it->answer);
 }
 
 static uint32_t plan_remove(rlibreg *it, const void *asked, size_t length, uint8_t *plan,
                             size_t room) {
-    return rlibreg_plan_remove(it->disk, it->length, asked, length, plan, room, it->text,
+    return rlibreg_plan_remove(it->file.bytes, it->file.length, asked, length, plan, room, it->text,
                                it->text_room, &it->answer);
 }
 
 static uint32_t plan_preload(rlibreg *it, const void *asked, size_t length, uint8_t *plan,
                              size_t room) {
-    return rlibreg_plan_preload(it->disk, it->length, asked, length, plan, room, it->text,
-                                it->text_room, &it->answer);
+    return rlibreg_plan_preload(it->file.bytes, it->file.length, asked, length, plan, room,
+                                it->text, it->text_room, &it->answer);
 }
 
 /* Has a change planned, with as much room as it needs. The plan is the caller's to free; null where
@@ -286,7 +226,7 @@ static uint32_t change(rlibreg *it, plan_call *call, const void *asked, size_t l
     if (it->has_failed) return say(it, RLIBREG_REOPEN, "refused S2 Reopen\n");
     uint32_t status = make_plan(it, call, asked, length, &plan);
     if (status) return status;
-    it->has_failed = carry_out(it->fd, plan, it->answer.bytes) != 0;
+    it->has_failed = carry_out(it->file.fd, plan, it->answer.bytes) != 0;
     int why = errno;
     free(plan);
     errno = why;
@@ -327,43 +267,48 @@ uint32_t rlibreg_preload(rlibreg *it, const char *const *names, size_t count) {
 
 /* ---- Making a registry */
 
-/* Makes a file of zeros where there is none, all of it or none. */
-static int make_file(const char *path, off_t length) {
-    int fd = open(path, O_RDWR | O_CREAT | O_EXCL | O_CLOEXEC, 0666);
-    if (fd < 0) return errno == EEXIST ? 0 : -1;
-    int failed = ftruncate(fd, length) || fsync(fd);
-    int why = errno;
-    if (failed) unlink(path);
-    close(fd);
-    errno = why;
-    return failed ? -1 : 0;
+/* Makes a registry on the file that stands there. */
+static uint32_t format_file(rlibreg *it, const char *path, size_t length, unsigned flags) {
+    uint32_t status = rlibreg_open(it, path, flags);
+    if (status) return status;
+    if (rlibreg_sync_folder(path)) return say_system(it);
+    if (it->file.length != length) return say(it, RLIBREG_BAD_GEOMETRY, "refused S6 BadGeometry\n");
+    return change(it, plan_format, NULL, 0);
 }
 
-/* Syncs the folder in which a path's file is. */
-static int sync_folder(const char *path) {
-    const char *slash = strrchr(path, '/');
-    size_t length = slash ? (size_t)(slash - path) : 0;
-    char *folder = length ? strndup(path, length) : strdup(slash ? "/" : ".");
-    int fd = folder ? open(folder, O_RDONLY | O_DIRECTORY | O_CLOEXEC) : -1;
-    int failed = fd < 0 || fsync(fd);
-    int why = errno;
-    if (fd >= 0) close(fd);
-    free(folder);
-    errno = why;
-    return failed ? -1 : 0;
+/* Makes a registry on a new file, which gets its name once all of it is on the medium. */
+static uint32_t format_new(rlibreg *it, const char *path, size_t length) {
+    struct new_disk new;
+    uint32_t status = rlibreg_new_disk_make(&new, path, length, &it->file);
+    if (status) {
+        say(it, status, "");
+    } else {
+        it->may_change = 1;
+        status = change(it, plan_format, NULL, 0);
+        if (!status) status = rlibreg_new_disk_name(&new, &it->file);
+        if (status == RLIBREG_DEVICE) say(it, status, "refused S1 Device\n");
+        if (status == RLIBREG_SYSTEM) say_system(it);
+    }
+    rlibreg_new_disk_end(&new, &it->file);
+    return status;
+}
+
+static int is_system_fault(uint32_t status, int why) {
+    return status == RLIBREG_SYSTEM && errno == why;
 }
 
 uint32_t rlibreg_format(rlibreg *it, const char *path, uint32_t sectors, unsigned flags) {
-    if (it->fd >= 0 || sectors < 8 || sectors > 4194304) return say(it, RLIBREG_BAD_ARGUMENT, "");
+    if (it->file.fd >= 0 || sectors < 8 || sectors > 4194304)
+        return say(it, RLIBREG_BAD_ARGUMENT, "");
     size_t length = (size_t)sectors * SECTOR;
-    if (make_file(path, (off_t)length) || sync_folder(path)) return say_system(it);
-    uint32_t status = rlibreg_open(it, path, RLIBREG_CHANGES | (flags & RLIBREG_WAIT));
-    if (status) return status;
-    status = it->length == length ? change(it, plan_format, NULL, 0)
-                                  : say(it, RLIBREG_BAD_GEOMETRY, "refused S6 BadGeometry\n");
-    int why = errno;
+    unsigned how = RLIBREG_CHANGES | (flags & RLIBREG_WAIT);
+    uint32_t status = format_file(it, path, length, how);
+    if (it->file.fd < 0 && is_system_fault(status, ENOENT)) status = format_new(it, path, length);
+    if (is_system_fault(status, EEXIST)) { /* another process was faster */
+        let_go(it);
+        status = format_file(it, path, length, how);
+    }
     if (status) let_go(it);
-    errno = why;
     return status;
 }
 
@@ -374,8 +319,8 @@ static uint32_t list(rlibreg *it, rlibreg_listing *out, size_t entries, size_t n
     out->entries = malloc(entries * sizeof *out->entries);
     out->names = malloc(names);
     if (!out->entries || !out->names) return say_memory(it);
-    return rlibreg_list(it->disk, it->length, out->entries, entries, out->names, names, it->text,
-                        it->text_room, &it->answer);
+    return rlibreg_list(it->file.bytes, it->file.length, out->entries, entries, out->names, names,
+                        it->text, it->text_room, &it->answer);
 }
 
 uint32_t rlibreg_listing_of(rlibreg *it, rlibreg_listing *out) {
@@ -417,7 +362,7 @@ static uint32_t bind_into(rlibreg *it, const struct bound *what, rlibreg_image *
     out->segments = malloc(segments * sizeof *out->segments);
     out->bytes = malloc(bytes);
     if (!out->segments || !out->bytes) return say_memory(it);
-    return rlibreg_bind(it->disk, it->length, what->program, what->length, what->base,
+    return rlibreg_bind(it->file.bytes, it->file.length, what->program, what->length, what->base,
                         out->segments, segments, out->bytes, bytes, it->text, it->text_room,
                         &it->answer);
 }

@@ -8,9 +8,13 @@ for name in updater host; do
     awk -v block=$block '/^```$/ {inside = 0} inside; /^```c$/ {inside = ++seen == block}' \
         "$page" > $name.c
     lines=$(wc -l < $name.c)
-    [ "$lines" -gt 40 ] && [ "$lines" -lt 65 ] || { echo "$name.c has $lines lines" >&2; exit 1; }
+    [ "$lines" -gt 40 ] && [ "$lines" -lt 75 ] || { echo "$name.c has $lines lines" >&2; exit 1; }
     gcc $checked -o checked $name.c "$built/librlibreg.a"
 done
+gcc $checked -Dmain=updater_main -c updater.c
+gcc $checked -o updating "$here/updating.c" updater.o $watched $beside
+mkdir updating.files
+(cd updating.files && ../updating "$data/strong.so" b)
 
 # The lines `    $ COMMAND`, and what stands behind each up to the next.
 rm -f disk

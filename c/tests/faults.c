@@ -234,6 +234,26 @@ static long try_memory(const struct change *change) {
     }
 }
 
+/* Has each growth of memory fail while a registry is made: then nothing is left. */
+static long try_making(void) {
+    char other_name[256];
+    snprintf(other_name, sizeof other_name, ".%s.rlibreg-new", path);
+    for (long n = 0;; n++) {
+        unlink(path);
+        rlibreg *it = rlibreg_create();
+        WANT(it);
+        fault = MEMORY_FAILS;
+        countdown = n;
+        uint32_t status = rlibreg_format(it, path, 128, 0);
+        int failed = countdown < 0;
+        fault = NONE;
+        WANT(status == (failed ? RLIBREG_OUT_OF_MEMORY : RLIBREG_DONE));
+        WANT(access(other_name, F_OK) && !access(path, F_OK) == !failed);
+        rlibreg_close(it);
+        if (!failed) return n;
+    }
+}
+
 /* ---- What a struct is not for */
 
 static void try_misuse(void) {
@@ -280,6 +300,9 @@ int main(int argc, char **argv) {
     name = argv[4];
     path = argv[5];
     try_misuse();
+    long making = try_making();
+    printf("faults: format: %ld growths failed\n", making);
+    WANT(making > 4);
     const struct change changes[] = { { "install", 0, library.length },
                                       { "replace", library.length, other.length },
                                       { "delete", library.length, 0 } };

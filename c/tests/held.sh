@@ -3,19 +3,6 @@
 rm -f disk
 ./tool format disk 64 > /dev/null
 
-# held_by HOLDER..: it holds the disk until let_go, which ends its standard input.
-held_by() {
-    mkfifo ends
-    "$@" < ends > held.out &
-    exec 9> ends
-    until [ -s held.out ]; do sleep 0.01; done
-}
-let_go() {
-    exec 9>&-
-    wait
-    rm ends held.out
-}
-
 held='tool: the file is held
 = 9'
 held_by ./tool hold install disk "$data/strong.so"
@@ -36,12 +23,53 @@ let_go
 want 'a change after it' 'ok
 = 0' "$(ended ./tool install disk "$data/strong.so")"
 
-# flock(1) takes the same lock, so the program can be run beside the library.
-held_by ./tool hold list disk
-want 'flock for a change' '= 1' "$(ended flock -n disk "$rlibreg" remove disk b)"
+# The program takes the same lock, and doesn't wait.
+shut_out='rlibreg: cannot read disk
+= 3'
+held_by ./tool hold replace disk "$data/strong.so"
+want 'its list beside a change' "$shut_out" "$(ended "$rlibreg" list disk)"
+want 'its change beside a change' "$shut_out" "$(ended "$rlibreg" remove disk b)"
+want 'its format beside a change' "$shut_out" "$(ended "$rlibreg" format disk 64)"
 let_go
-want 'flock for a change, later' 'ok
-= 0' "$(ended flock -n disk "$rlibreg" remove disk b)"
+held_by ./tool hold list disk
+want 'its list beside a list' 'library b 376
+end
+= 0' "$(ended "$rlibreg" list disk)"
+want 'its change beside a list' "$shut_out" "$(ended "$rlibreg" remove disk b)"
+let_go
+want 'its change, later' 'ok
+= 0' "$(ended "$rlibreg" remove disk b)"
+
+held_by "$rlibreg" script disk
+want 'a list beside its script' "$held" "$(ended ./tool list disk)"
+want 'a change beside its script' "$held" "$(ended ./tool install disk "$data/strong.so")"
+./tool wait install disk "$data/strong.so" > waited 9>&- &
+sleep 0.1
+want 'a change that waits for it' '' "$(cat waited)"
+let_go
+want 'after it has waited for it' ok "$(cat waited)"
+
+# Who holds the disk around the program shuts it out; the lock of another file has it wait.
+want 'flock of the disk' "$shut_out" "$(ended flock disk "$rlibreg" list disk)"
+held_by flock disk.lock ./tool hold list disk
+flock disk.lock "$rlibreg" remove disk b > waited 9>&- &
+sleep 0.1
+want 'a change that waits for another file' '' "$(cat waited)"
+let_go
+want 'after it has waited for that' ok "$(cat waited)"
+
+# The name under which a disk is made is held.
+touch .new.rlibreg-new
+held_by flock .new.rlibreg-new cat
+want 'a making beside another' "$held" "$(ended ./tool format new 64)"
+want 'one that would wait for the disk' "$held" "$(ended ./tool wait format new 64)"
+want 'one by the program' 'rlibreg: cannot read new
+= 3' "$(ended "$rlibreg" format new 64)"
+want 'what they left' '.new.rlibreg-new' "$(ls -A | grep new)"
+let_go
+want 'a making after another' 'ok
+= 0' "$(ended ./tool format new 64)"
+want 'what that left' new "$(ls -A | grep new)"
 
 # One that waits finds the file that was put in the other's place.
 held_by ./tool hold list disk

@@ -19,11 +19,17 @@ trap 'rm -rf "$room"' EXIT
 flags="-std=c11 -g -Wall -Wextra -Werror -I$built"
 checked="$flags -O1 -fsanitize=address,undefined -fno-sanitize-recover=all"
 wraps=-Wl,--wrap=pwrite,--wrap=fsync,--wrap=malloc,--wrap=calloc,--wrap=realloc
-beside="$here/../rlibreg_file.c $here/../rlibreg_status.c $built/librlibreg.a"
+beside="$(printf "$here/../rlibreg_%s.c " file disk_file new_disk status) $built/librlibreg.a"
+watched=$(printf ',--wrap=%s' open openat fstat stat fstatat lseek nanosleep flock fsync \
+    posix_fadvise mmap ftruncate pwrite linkat renameat2 renameat unlink unlinkat)
+watched="-Wl$watched $here/watched.c"
 for name in tool calls cuts; do
     gcc $checked -o "$room/$name" "$here/$name.c" $beside
 done
 gcc $checked $wraps -o "$room/faults" "$here/faults.c" $beside
+for name in opening making; do
+    gcc $checked -o "$room/$name" "$here/$name.c" $watched $beside
+done
 # With the sanitizer of addresses a program can't be mapped at each address, so the loader has one.
 gcc $flags -O1 -fsanitize=undefined -fno-sanitize-recover=all -o "$room/rlibreg-run" \
     "$here/../rlibreg_run.c" $beside
@@ -36,6 +42,10 @@ want 'other names that the archive defines' '' \
 gcc $flags -O1 -o "$room/calls" "$here/calls.c" $beside
 (ulimit -s 512 && "$room/calls" "$data/strong.so" "$data/protected.so" "$data/program-1.so" b)
 "$room/faults" "$data/strong.so" "$data/protected.so" "$data/program-1.so" b faults.disk
-for part in cuts same held loader documents; do
+for name in opening making; do
+    mkdir $name.files
+    (cd $name.files && "$room/$name" "$data/strong.so" b)
+done
+for part in cuts same held devices loader documents; do
     (. "$here/$part.sh")
 done

@@ -3,6 +3,7 @@
  * says. With `wait` before COMMAND it waits for a disk that is held. */
 #include "../rlibreg.h"
 
+#include <errno.h>
 #include <stdio.h>
 #include <stdlib.h>
 #include <string.h>
@@ -100,7 +101,10 @@ int main(int argc, char **argv) {
         if (!status) status = do_command(it, what, argv + 3);
     }
     fputs(rlibreg_text(it), stdout);
-    if (status < 100 && status) fprintf(stderr, "tool: %s\n", rlibreg_status_name(status));
+    if (status == RLIBREG_SYSTEM)
+        fprintf(stderr, "tool: %s\n", strerror(errno));
+    else if (status < 100 && status)
+        fprintf(stderr, "tool: %s\n", rlibreg_status_name(status));
     if (rlibreg_last(it)->file_refusal)
         fprintf(stderr, "E%u\n", (unsigned)rlibreg_last(it)->file_refusal);
     fflush(stdout);

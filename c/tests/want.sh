@@ -14,3 +14,18 @@ ended() {
     "$@" 2>&1 || status=$?
     echo "= $status"
 }
+
+# held_by HOLDER..: it holds a disk until let_go, which ends its standard input. It is given a line,
+# so that a script has something to answer.
+held_by() {
+    mkfifo ends
+    "$@" < ends > held.out &
+    exec 9> ends
+    echo list >&9
+    until [ -s held.out ]; do sleep 0.01; done
+}
+let_go() {
+    exec 9>&-
+    wait
+    rm ends held.out
+}

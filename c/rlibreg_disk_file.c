@@ -1,0 +1,133 @@
+/* Opening the file of a disk: its lock, its sync and its map. */
+#define _GNU_SOURCE
+#include "rlibreg_disk_file.h"
+
+#include <errno.h>
+#include <fcntl.h>
+#include <linux/fs.h>
+#include <sys/file.h>
+#include <sys/ioctl.h>
+#include <sys/mman.h>
+#include <sys/stat.h>
+#include <time.h>
+#include <unistd.h>
+
+/* How much of a file the system is made to forget: the roots stand in the first 1,024 bytes, and
+ * what the system keeps of a file is in pieces of at most as many bytes as this. */
+enum { FRONT = 2 << 20 };
+
+/* How often the lock of a device is tried, ten milliseconds apart. */
+enum { DEVICE_TRIES = 200 };
+
+static int open_flags(unsigned flags) {
+    int access = flags & RLIBREG_CHANGES ? O_RDWR : O_RDONLY;
+    return access | O_CLOEXEC | O_NOCTTY | O_NONBLOCK; /* opening a pipe doesn't wait */
+}
+
+static int lock_kind(unsigned flags) {
+    int kind = flags & RLIBREG_CHANGES ? LOCK_EX : LOCK_SH;
+    return flags & RLIBREG_WAIT ? kind : kind | LOCK_NB;
+}
+
+/* Locks a file. The system's udev holds a lock of a device for a moment after each writer has
+ * closed it, so there a change that doesn't wait asks again for two seconds. */
+static int lock(int fd, int is_device, unsigned flags) {
+    const struct timespec moment = { .tv_nsec = 10 * 1000 * 1000 };
+    int again = is_device && flags & RLIBREG_CHANGES ? DEVICE_TRIES : 0;
+    for (; flock(fd, lock_kind(flags)); again--) {
+        if (errno != EWOULDBLOCK || !again) return -1;
+        nanosleep(&moment, NULL);
+    }
+    return 0;
+}
+
+/* Opens a file and locks it. */
+static uint32_t open_and_lock(struct disk_file *it, const char *path, unsigned flags,
+                              struct stat *found) {
+    it->fd = open(path, open_flags(flags));
+    if (it->fd < 0 || fstat(it->fd, found)) return RLIBREG_SYSTEM;
+    int is_device = S_ISBLK(found->st_mode);
+    if (!is_device && !S_ISREG(found->st_mode)) {
+        errno = EINVAL;
+        return RLIBREG_SYSTEM;
+    }
+    if (lock(it->fd, is_device, flags)) return errno == EWOULDBLOCK ? RLIBREG_HELD : RLIBREG_SYSTEM;
+    return RLIBREG_DONE;
+}
+
+/* Whether the path still names the file that was locked: it may have been replaced meanwhile. */
+static int is_still_there(const char *path, const struct stat *locked) {
+    struct stat now;
+    return !stat(path, &now) && now.st_dev == locked->st_dev && now.st_ino == locked->st_ino;
+}
+
+/* A device that is changed is opened once more, alone: that is refused where it is mounted, or in
+ * use in another way. It comes behind the lock, so no other user of the registry is refused. */
+static uint32_t claim(struct disk_file *it, const char *path, unsigned flags,
+                      const struct stat *locked) {
+    struct stat found;
+    int is_read_only = 0;
+    if (!(flags & RLIBREG_CHANGES) || !S_ISBLK(locked->st_mode)) return RLIBREG_DONE;
+    it->claim = open(path, open_flags(flags) | O_EXCL);
+    if (it->claim < 0 || fstat(it->claim, &found)) return RLIBREG_SYSTEM;
+    ioctl(it->claim, BLKROGET, &is_read_only); /* such a device can be opened, but not written */
+    int is_same = S_ISBLK(found.st_mode) && found.st_rdev == locked->st_rdev;
+    if (is_same && !is_read_only) return RLIBREG_DONE;
+    errno = is_same ? EROFS : EAGAIN;
+    return RLIBREG_SYSTEM;
+}
+
+/* Opens the file of a path and locks it. */
+static uint32_t open_locked(struct disk_file *it, const char *path, unsigned flags) {
+    for (int tries = 0; tries < MOST_TRIES; tries++) {
+        struct stat found;
+        uint32_t status = open_and_lock(it, path, flags, &found);
+        if (status) return status;
+        if (is_still_there(path, &found)) return claim(it, path, flags, &found);
+        rlibreg_disk_file_close(it);
+    }
+    errno = EAGAIN;
+    return RLIBREG_SYSTEM;
+}
+
+/* Syncs a file. Where it is open for reading alone, and its file system has no syncs since it can't
+ * be written, there is nothing to sync. One that a failure has made read-only answers EROFS: it has
+ * pages that the medium hasn't got. */
+static int sync_file(int fd, unsigned flags) {
+    if (!fsync(fd)) return 0;
+    return !(flags & RLIBREG_CHANGES) && errno == EINVAL ? 0 : -1;
+}
+
+/* Has the system forget what it keeps of the front of a file. After a sync that failed it takes
+ * what it keeps for written; what the medium has is known only once it is read from there. It is
+ * asked twice, since it passes over a piece that another call is using. */
+static void forget_front(int fd) {
+    for (int i = 0; i < 2; i++) posix_fadvise(fd, 0, FRONT, POSIX_FADV_DONTNEED);
+}
+
+uint32_t rlibreg_disk_file_map(struct disk_file *it, unsigned flags) {
+    if (sync_file(it->fd, flags)) return RLIBREG_SYSTEM;
+    forget_front(it->fd);
+    off_t length = lseek(it->fd, 0, SEEK_END); /* what fstat says of a device isn't its length */
+    if (length < 0) return RLIBREG_SYSTEM;
+    if (!length) return RLIBREG_DONE; /* a disk without bytes: each call is answered S6 */
+    void *map = mmap(NULL, (size_t)length, PROT_READ, MAP_SHARED, it->fd, 0);
+    if (map == MAP_FAILED) return RLIBREG_SYSTEM;
+    it->bytes = map;
+    it->length = (size_t)length;
+    return RLIBREG_DONE;
+}
+
+uint32_t rlibreg_disk_file_open(struct disk_file *it, const char *path, unsigned flags) {
+    uint32_t status = open_locked(it, path, flags);
+    return status ? status : rlibreg_disk_file_map(it, flags);
+}
+
+void rlibreg_disk_file_close(struct disk_file *it) {
+    int why = errno;
+    if (it->bytes) munmap((void *)it->bytes, it->length);
+    if (it->claim >= 0) close(it->claim);
+    if (it->fd >= 0) close(it->fd);
+    *it = NO_DISK_FILE;
+    errno = why;
+}

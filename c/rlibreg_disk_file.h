@@ -1,0 +1,57 @@
+/* The file of a disk, for the calls over a file (rlibreg_file.c). Nothing here is for users. */
+#ifndef RLIBREG_DISK_FILE_H
+#define RLIBREG_DISK_FILE_H
+
+#include "rlibreg.h"
+
+#include <limits.h>
+
+/* A file, or a block device, that is open and locked. */
+struct disk_file {
+    int fd;               /* with its lock, or -1 */
+    int claim;            /* a device is open once more, so that nothing else uses it; or -1 */
+    const uint8_t *bytes; /* its map, or null */
+    size_t length;
+};
+
+#define NO_DISK_FILE ((struct disk_file){ .fd = -1, .claim = -1 })
+
+/* How often a name is tried anew that others give to other files meanwhile. */
+enum { MOST_TRIES = 16 };
+
+/* Opens and locks the file of a path, and maps what the medium has of it. Gives a status. */
+uint32_t rlibreg_disk_file_open(struct disk_file *it, const char *path, unsigned flags);
+
+/* Maps what the medium has of a file that is open and locked. */
+uint32_t rlibreg_disk_file_map(struct disk_file *it, unsigned flags);
+
+/* Closes what is open, and leaves errno as it is. */
+void rlibreg_disk_file_close(struct disk_file *it);
+
+/* ---- Making one where there is none (rlibreg_new_disk.c)
+ *
+ * The file is made under another name in the same folder. Who gives or takes away that name holds
+ * the lock of the file that it names. */
+
+struct new_disk {
+    int folder;               /* in which the disk is made, or -1 */
+    const char *name;         /* of the disk in it */
+    char other[NAME_MAX + 1]; /* the name it has until it is whole */
+};
+
+/* Makes a file of zeros under the other name, and maps it. Gives a status, as the next one does;
+ * rlibreg_new_disk_end is called in every case. */
+uint32_t rlibreg_new_disk_make(struct new_disk *it, const char *path, size_t length,
+                               struct disk_file *file);
+
+/* Gives the file its name. RLIBREG_SYSTEM: it hasn't got it, with EEXIST where something has it;
+ * RLIBREG_DEVICE: it has, but a power cut may still take it. */
+uint32_t rlibreg_new_disk_name(const struct new_disk *it, const struct disk_file *file);
+
+/* Takes the other name away where the file still has it, and leaves errno as it is. */
+void rlibreg_new_disk_end(const struct new_disk *it, const struct disk_file *file);
+
+/* Syncs the folder in which a path's file is. */
+int rlibreg_sync_folder(const char *path);
+
+#endif

@@ -1,0 +1,176 @@
+/* Making the file of a disk where there is none: under another name, until it is whole. */
+#define _GNU_SOURCE
+#include "rlibreg_disk_file.h"
+
+#include <errno.h>
+#include <fcntl.h>
+#include <stdio.h>
+#include <string.h>
+#include <sys/file.h>
+#include <sys/stat.h>
+#include <unistd.h>
+
+#define ENDING ".rlibreg-new"
+
+static const char *name_in(const char *path) {
+    const char *slash = strrchr(path, '/');
+    return slash ? slash + 1 : path;
+}
+
+/* Opens the folder in which a path's file is. */
+static int open_folder(const char *path) {
+    char folder[PATH_MAX];
+    size_t length = (size_t)(name_in(path) - path);
+    if (length >= sizeof folder) {
+        errno = ENAMETOOLONG;
+        return -1;
+    }
+    memcpy(folder, path, length);
+    folder[length] = 0;
+    return open(length ? folder : ".", O_RDONLY | O_DIRECTORY | O_CLOEXEC);
+}
+
+static void close_quietly(int fd) {
+    int why = errno;
+    if (fd >= 0) close(fd);
+    errno = why;
+}
+
+int rlibreg_sync_folder(const char *path) {
+    int fd = open_folder(path), failed = fd < 0 || fsync(fd);
+    close_quietly(fd);
+    return failed ? -1 : 0;
+}
+
+/* ---- The other name */
+
+static int look_at(const struct new_disk *it, const char *name, struct stat *found) {
+    return fstatat(it->folder, name, found, AT_SYMLINK_NOFOLLOW);
+}
+
+/* Whether the other name is that of an open file. */
+static int is_other_of(const struct new_disk *it, int fd) {
+    struct stat named, opened;
+    return !look_at(it, it->other, &named) && !fstat(fd, &opened) && S_ISREG(named.st_mode) &&
+           named.st_dev == opened.st_dev && named.st_ino == opened.st_ino;
+}
+
+/* Takes the other name away from a file, where it has it. */
+static int take_other(const struct new_disk *it, int fd) {
+    return is_other_of(it, fd) ? unlinkat(it->folder, it->other, 0) : 0;
+}
+
+static uint32_t lock_alone(int fd) {
+    if (!flock(fd, LOCK_EX | LOCK_NB)) return RLIBREG_DONE;
+    return errno == EWOULDBLOCK ? RLIBREG_HELD : RLIBREG_SYSTEM;
+}
+
+/* Takes away the other name that a process left which is gone. The file isn't written: it may be a
+ * finished registry, which has a name of its own beside. */
+static uint32_t take_leftover(const struct new_disk *it) {
+    struct stat found;
+    if (look_at(it, it->other, &found)) return errno == ENOENT ? RLIBREG_DONE : RLIBREG_SYSTEM;
+    if (!S_ISREG(found.st_mode)) {
+        errno = EINVAL;
+        return RLIBREG_SYSTEM;
+    }
+    int fd = openat(it->folder, it->other, O_RDONLY | O_NOFOLLOW | O_NONBLOCK | O_CLOEXEC);
+    if (fd < 0) return errno == ENOENT ? RLIBREG_DONE : RLIBREG_SYSTEM;
+    uint32_t status = lock_alone(fd);
+    if (!status && take_other(it, fd)) status = RLIBREG_SYSTEM;
+    close_quietly(fd);
+    return status;
+}
+
+/* Locks a file that was just made. It is closed where another process took it for one that was
+ * left, or where it can't be locked. */
+static uint32_t lock_made(const struct new_disk *it, int *fd) {
+    uint32_t status = lock_alone(*fd);
+    if (!status && is_other_of(it, *fd)) return RLIBREG_DONE;
+    if (status == RLIBREG_SYSTEM) {
+        int why = errno;
+        take_other(it, *fd); /* nobody can hold it here */
+        errno = why;
+    }
+    close_quietly(*fd);
+    *fd = -1;
+    return status == RLIBREG_HELD ? RLIBREG_DONE : status;
+}
+
+/* Makes an empty file under the other name, always anew, and locks it. */
+static uint32_t make_locked(const struct new_disk *it, int *fd) {
+    for (int tries = 0; tries < MOST_TRIES; tries++) {
+        uint32_t status = RLIBREG_SYSTEM;
+        *fd = openat(it->folder, it->other, O_RDWR | O_CREAT | O_EXCL | O_CLOEXEC, 0666);
+        if (*fd >= 0)
+            status = lock_made(it, fd);
+        else if (errno == EEXIST)
+            status = take_leftover(it);
+        if (status || *fd >= 0) return status;
+    }
+    return RLIBREG_HELD;
+}
+
+/* Gives a file its length, and the block with the roots its bytes: on a full tmpfs a hole that is
+ * read through the map would end the process. */
+static int fill(int fd, size_t length) {
+    static const uint8_t zeros[4096];
+    if (ftruncate(fd, (off_t)length)) return -1;
+    ssize_t wrote = pwrite(fd, zeros, sizeof zeros, 0);
+    if (wrote >= 0 && wrote < (ssize_t)sizeof zeros) errno = ENOSPC;
+    return wrote == (ssize_t)sizeof zeros ? 0 : -1;
+}
+
+uint32_t rlibreg_new_disk_make(struct new_disk *it, const char *path, size_t length,
+                               struct disk_file *file) {
+    it->folder = open_folder(path);
+    if (it->folder < 0) return RLIBREG_SYSTEM;
+    it->name = name_in(path);
+    if (snprintf(it->other, sizeof it->other, ".%s" ENDING, it->name) > NAME_MAX)
+        strcpy(it->other, ENDING);
+    uint32_t status = make_locked(it, &file->fd);
+    if (status) return status;
+    if (fill(file->fd, length)) return RLIBREG_SYSTEM;
+    return rlibreg_disk_file_map(file, RLIBREG_CHANGES);
+}
+
+void rlibreg_new_disk_end(const struct new_disk *it, const struct disk_file *file) {
+    int why = errno;
+    if (it->folder >= 0 && file->fd >= 0) take_other(it, file->fd);
+    errno = why;
+    close_quietly(it->folder);
+}
+
+/* ---- Its own name */
+
+/* Whether a link was refused since the file system has none. */
+static int lacks_links(void) {
+    return errno == EPERM || errno == EOPNOTSUPP || errno == ENOSYS || errno == EMLINK;
+}
+
+/* Changes the other name for the file's own, where nothing has that. */
+static int rename_file(const struct new_disk *it) {
+    struct stat found;
+    if (!renameat2(it->folder, it->other, it->folder, it->name, RENAME_NOREPLACE)) return 0;
+    if (errno != EINVAL && errno != ENOSYS) return -1;
+    if (!look_at(it, it->name, &found)) {
+        errno = EEXIST;
+        return -1;
+    }
+    return errno == ENOENT ? renameat(it->folder, it->other, it->folder, it->name) : -1;
+}
+
+uint32_t rlibreg_new_disk_name(const struct new_disk *it, const struct disk_file *file) {
+    if (!is_other_of(it, file->fd)) {
+        errno = EAGAIN; /* somebody took it away who doesn't ask for the lock */
+        return RLIBREG_SYSTEM;
+    }
+    if (!linkat(it->folder, it->other, it->folder, it->name, 0)) {
+        if (unlinkat(it->folder, it->other, 0)) return RLIBREG_DEVICE;
+    } else if (!lacks_links() || rename_file(it)) {
+        return RLIBREG_SYSTEM;
+    } else if (fsync(file->fd)) { /* FAT keeps a file's length beside its name */
+        return RLIBREG_DEVICE;
+    }
+    return fsync(it->folder) ? RLIBREG_DEVICE : RLIBREG_DONE;
+}

@@ -1,0 +1,277 @@
+/* opening LIBRARY NAME opens disks in the folder where it is run, with the calls of the system
+ * watched: their order, locks, files that are replaced meanwhile, syncs that a file system hasn't
+ * got, and block devices, for which regular files stand. LIBRARY has the SONAME NAME. */
+#define _GNU_SOURCE
+#include "watched.h"
+
+#include <fcntl.h>
+#include <sys/file.h>
+#include <sys/stat.h>
+#include <unistd.h>
+
+static char library[1 << 20];
+static size_t library_length;
+static const char *name;
+
+enum { CHANGES = RLIBREG_CHANGES, WAIT = RLIBREG_WAIT };
+
+static uint32_t opens(const char *path, unsigned flags) {
+    rlibreg *it = rlibreg_create();
+    WANT(it);
+    uint32_t status = rlibreg_open(it, path, flags);
+    int why = errno;
+    WANT(rlibreg_last(it)->status == status && !rlibreg_text(it)[0]);
+    rlibreg_close(it);
+    errno = why;
+    return status;
+}
+
+static int fails_by(uint32_t status, int why) {
+    return status == RLIBREG_SYSTEM && errno == why;
+}
+
+static void format(const char *path) {
+    rlibreg *it = rlibreg_create();
+    WANT(it && !rlibreg_format(it, path, 64, 0));
+    rlibreg_close(it);
+}
+
+/* The generation of the registry of a file. */
+static uint64_t generation_of(const char *path, unsigned flags) {
+    rlibreg_listing listing;
+    rlibreg *it = rlibreg_create();
+    WANT(it && !rlibreg_open(it, path, flags) && !rlibreg_listing_of(it, &listing));
+    rlibreg_listing_free(&listing);
+    rlibreg_close(it);
+    return listing.generation;
+}
+
+/* ---- The order of the calls */
+
+static void try_order(void) {
+    const char *behind = "sync forget forget map ";
+    const struct {
+        unsigned flags;
+        const char *lock;
+    } all[] = { { 0, "lock-shared" },
+                { WAIT, "lock-shared-waits" },
+                { CHANGES, "lock-alone" },
+                { CHANGES | WAIT, "lock-alone-waits" } };
+    for (size_t i = 0; i < sizeof all / sizeof *all; i++) {
+        char wanted[128];
+        snprintf(wanted, sizeof wanted, "open %s %s", all[i].lock, behind);
+        watch();
+        WANT(!opens("disk", all[i].flags));
+        WANT(!strcmp(watched.log, wanted));
+        unwatch();
+    }
+}
+
+/* Each call of an opening fails. What it was answered is told, and nothing stays open. */
+static void try_faults(unsigned flags) {
+    for (long n = 0;; n++) {
+        watch();
+        watched.first = n;
+        watched.why = EIO;
+        uint32_t status = opens("disk", flags);
+        int why = errno;
+        unwatch();
+        if (n >= watched.calls) break;
+        WANT(!status || (status == RLIBREG_SYSTEM && why == EIO));
+        if (!status) WANT(made("forget") || made("open lock")); /* advice, or the last look */
+        WANT(!is_held("disk"));
+    }
+}
+
+/* ---- The lock */
+
+static const char *watched_disk;
+
+static void want_held_alone(const char *word) {
+    if (!strcmp(word, "sync") || !strcmp(word, "write")) WANT(is_held_alone(watched_disk));
+}
+
+static void try_locks(void) {
+    rlibreg *it = rlibreg_create();
+    WANT(!rlibreg_open(it, "disk", 0) && is_held("disk") && !is_held_alone("disk"));
+    WANT(opens("disk", CHANGES) == RLIBREG_HELD && !opens("disk", 0));
+    rlibreg_close(it);
+    it = rlibreg_create();
+    WANT(!is_held("disk") && !rlibreg_open(it, "disk", CHANGES) && is_held_alone("disk"));
+    WANT(opens("disk", 0) == RLIBREG_HELD && opens("disk", CHANGES) == RLIBREG_HELD);
+    watched_disk = "disk";
+    watch();
+    watched.before = want_held_alone;
+    WANT(!rlibreg_install(it, library, library_length) && made("write"));
+    watched.refused = "sync";
+    watched.because = EIO;
+    WANT(rlibreg_remove(it, name) == RLIBREG_DEVICE && errno == EIO);
+    unwatch();
+    WANT(is_held_alone("disk"));
+    rlibreg_close(it);
+    WANT(!is_held("disk"));
+    const int kinds[] = { ENOLCK, EOPNOTSUPP, EINTR };
+    for (size_t i = 0; i < 3; i++) {
+        watch();
+        watched.refused = "lock-shared";
+        watched.because = kinds[i];
+        WANT(fails_by(opens("disk", 0), kinds[i]) && !made("sync"));
+        unwatch();
+    }
+}
+
+/* ---- Files that are replaced before they are locked */
+
+static int replacements, then_none;
+
+static void replace_disk(const char *word) {
+    if (strncmp(word, "lock", 4) || !replacements) return;
+    replacements--;
+    WANT(!unlink("disk"));
+    if (then_none && !replacements) return;
+    format("disk");
+}
+
+static uint32_t opens_replaced(int times, int none, unsigned flags) {
+    format("disk");
+    replacements = times;
+    then_none = none;
+    watch();
+    watched.before = replace_disk;
+    uint32_t status = opens("disk", flags);
+    unwatch();
+    int why = errno;
+    if (!none) WANT(!unlink("disk"));
+    errno = why;
+    return status;
+}
+
+static void try_replaced(void) {
+    WANT(!unlink("disk"));
+    for (unsigned flags = 0; flags <= CHANGES; flags++) {
+        WANT(!opens_replaced(1, 0, flags) && strstr(made("open") + 1, "open"));
+        WANT(!opens_replaced(15, 0, flags));
+        WANT(fails_by(opens_replaced(16, 0, flags), EAGAIN) && !made("sync"));
+        WANT(fails_by(opens_replaced(3, 1, flags), ENOENT));
+    }
+    format("disk");
+}
+
+/* ---- Syncs */
+
+static void try_syncs(void) {
+    const int kinds[] = { EINVAL, EROFS, EIO, ENOSPC, EDQUOT };
+    for (size_t i = 0; i < sizeof kinds / sizeof *kinds; i++) {
+        int has_none = kinds[i] == EINVAL;
+        watch();
+        watched.refused = "sync";
+        watched.because = kinds[i];
+        uint32_t status = opens("disk", 0);
+        WANT(has_none ? !status && strstr(made("sync"), "forget forget map")
+                      : fails_by(status, kinds[i]) && !made("map"));
+        WANT(fails_by(opens("disk", CHANGES), kinds[i]));
+        unwatch();
+    }
+}
+
+/* ---- What is neither a regular file nor a block device */
+
+static void try_kinds(void) {
+    WANT(!mkdir("folder", 0777) && !mkfifo("pipe", 0666) && !symlink("none", "nothing"));
+    WANT(!symlink("folder", "to-folder") && !symlink("pipe", "to-pipe"));
+    WANT(!symlink("disk", "to-disk") && !symlink("/dev/null", "to-null"));
+    const char *others[] = { "folder", "pipe", "/dev/null", "to-folder", "to-pipe", "to-null" };
+    for (size_t i = 0; i < sizeof others / sizeof *others; i++) {
+        WANT(fails_by(opens(others[i], 0), EINVAL));
+        WANT(opens(others[i], CHANGES) == RLIBREG_SYSTEM);
+        rlibreg *it = rlibreg_create();
+        WANT(rlibreg_format(it, others[i], 64, 0) == RLIBREG_SYSTEM);
+        rlibreg_close(it);
+    }
+    WANT(fails_by(opens("nothing", 0), ENOENT) && fails_by(opens("nothing", CHANGES), ENOENT));
+    WANT(!opens("to-disk", 0) && !opens("to-disk", CHANGES));
+    WANT(!strcmp(names_here(), "disk folder nothing pipe to-disk to-folder to-null to-pipe "));
+    const char *made_here[] = { "nothing", "to-disk", "to-folder", "to-null", "to-pipe", "pipe" };
+    for (size_t i = 0; i < sizeof made_here / sizeof *made_here; i++) WANT(!unlink(made_here[i]));
+    WANT(!rmdir("folder"));
+}
+
+/* ---- Block devices */
+
+static void watch_device(void) {
+    watch();
+    watched.device = 0x701;
+}
+
+static void change_device(const char *word) {
+    if (!strcmp(word, "open-alone")) watched.device = 0x702;
+}
+
+static void try_devices(void) {
+    uint64_t generation = generation_of("disk", 0);
+    watch_device();
+    WANT(generation_of("disk", 0) == generation);
+    WANT(!strcmp(watched.log, "open lock-shared sync forget forget map "));
+    watch_device();
+    WANT(generation_of("disk", CHANGES) == generation);
+    WANT(!strcmp(watched.log, "open lock-alone open-alone sync forget forget map "));
+    watch_device();
+    watched.refused = "open-alone";
+    watched.because = EBUSY;
+    WANT(fails_by(opens("disk", CHANGES), EBUSY) && !made("sync"));
+    watch_device();
+    watched.before = change_device;
+    WANT(fails_by(opens("disk", CHANGES), EAGAIN) && !made("sync"));
+    unwatch();
+    WANT(!is_held("disk"));
+}
+
+/* How often a lock is tried that others have so many times. */
+static long naps(unsigned flags, const char *lock, long times, uint32_t wanted) {
+    watch_device();
+    watched.refused = lock;
+    watched.because = EWOULDBLOCK;
+    watched.times = times;
+    WANT(opens("disk", flags) == wanted);
+    unwatch();
+    long count = 0;
+    for (const char *at = watched.log; (at = strstr(at, "nap ")); at++) count++;
+    return count;
+}
+
+static void try_held_devices(void) {
+    WANT(naps(CHANGES, "lock-alone", 150, RLIBREG_DONE) == 150);
+    WANT(naps(CHANGES, "lock-alone", 1000, RLIBREG_HELD) == 200);
+    WANT(naps(0, "lock-shared", 1, RLIBREG_HELD) == 0);
+    WANT(naps(CHANGES | WAIT, "lock-alone", 1, RLIBREG_DONE) == 0);
+    watch();
+    watched.refused = "lock-alone";
+    watched.because = EWOULDBLOCK;
+    WANT(opens("disk", CHANGES) == RLIBREG_HELD && !made("nap")); /* a regular file */
+    unwatch();
+}
+
+int main(int argc, char **argv) {
+    WANT(argc == 3);
+    FILE *file = fopen(argv[1], "rb");
+    WANT(file && (library_length = fread(library, 1, sizeof library, file)));
+    fclose(file);
+    name = argv[2];
+    int free_number = dup(0);
+    close(free_number);
+    format("disk");
+    try_order();
+    try_faults(0);
+    try_faults(CHANGES);
+    try_locks();
+    try_syncs();
+    try_kinds();
+    try_devices();
+    try_held_devices();
+    try_replaced();
+    WANT(dup(0) == free_number); /* nothing was left open */
+    WANT(!strcmp(names_here(), "disk "));
+    WANT(!unlink("disk"));
+    puts("opening: order, locks, syncs, files that are replaced, devices: as wanted");
+    return 0;
+}

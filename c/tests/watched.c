@@ -1,0 +1,213 @@
+/* The watched calls: each is logged, fails where a test says so, and else is made. */
+#define _GNU_SOURCE
+#include "watched.h"
+
+#include <dirent.h>
+#include <fcntl.h>
+#include <stdarg.h>
+#include <sys/file.h>
+#include <sys/mman.h>
+#include <sys/stat.h>
+#include <time.h>
+#include <unistd.h>
+
+struct watched watched;
+
+void watch(void) {
+    watched = (struct watched){ .is_on = 1, .first = -1, .second = -1, .end = -1 };
+    watched.times = 1 << 20;
+}
+
+void unwatch(void) {
+    watched.is_on = 0;
+}
+
+const char *made(const char *word) {
+    return strstr(watched.log, word);
+}
+
+static int is_refused_word(const char *word) {
+    if (watched.refused && !strcmp(word, watched.refused) && watched.times-- > 0) {
+        errno = watched.because;
+        return 1;
+    }
+    if (watched.refused_too && !strcmp(word, watched.refused_too)) {
+        errno = watched.because_too;
+        return 1;
+    }
+    return 0;
+}
+
+/* Whether a call is to fail. */
+static int fails(const char *word, int only_looks) {
+    if (!watched.is_on) return 0;
+    long number = watched.calls++;
+    size_t used = strlen(watched.log);
+    if (!only_looks && used < sizeof watched.log - 32)
+        snprintf(watched.log + used, sizeof watched.log - used, "%s ", word);
+    if (number == watched.end) _exit(watched.end_status);
+    if (watched.before) {
+        watched.is_on = 0;
+        watched.before(word);
+        watched.is_on = 1;
+    }
+    if (number == watched.first || number == watched.second) {
+        snprintf(watched.failed, sizeof watched.failed, "%s", word);
+        errno = watched.why;
+        return 1;
+    }
+    return is_refused_word(word);
+}
+
+/* ---- The calls */
+
+#define WRAPPED(type, name, ...)                                                                   \
+    type __real_##name(__VA_ARGS__);                                                               \
+    type __wrap_##name(__VA_ARGS__);                                                               \
+    type __wrap_##name(__VA_ARGS__)
+
+static const char *word_of_open(int flags) {
+    if (flags & O_CREAT) return flags & O_EXCL ? "make" : "make-or-open";
+    if (flags & O_EXCL) return "open-alone";
+    return flags & O_DIRECTORY ? "folder" : "open";
+}
+
+WRAPPED(int, open, const char *path, int flags, ...) {
+    va_list more;
+    va_start(more, flags);
+    mode_t mode = flags & O_CREAT ? va_arg(more, mode_t) : 0;
+    va_end(more);
+    /* without O_CREAT, O_EXCL is for devices alone */
+    int true_flags = flags & O_CREAT ? flags : flags & ~O_EXCL;
+    return fails(word_of_open(flags), 0) ? -1 : __real_open(path, true_flags, mode);
+}
+
+WRAPPED(int, openat, int folder, const char *path, int flags, ...) {
+    va_list more;
+    va_start(more, flags);
+    mode_t mode = flags & O_CREAT ? va_arg(more, mode_t) : 0;
+    va_end(more);
+    return fails(word_of_open(flags), 0) ? -1 : __real_openat(folder, path, flags, mode);
+}
+
+WRAPPED(int, fstat, int fd, struct stat *found) {
+    if (fails("fstat", 1) || __real_fstat(fd, found)) return -1;
+    if (watched.is_on && watched.device && S_ISREG(found->st_mode)) {
+        found->st_mode = S_IFBLK | 0600;
+        found->st_rdev = watched.device;
+        found->st_size = 0;
+    }
+    return 0;
+}
+
+WRAPPED(int, stat, const char *path, struct stat *found) {
+    return fails("stat", 1) ? -1 : __real_stat(path, found);
+}
+
+WRAPPED(int, fstatat, int folder, const char *path, struct stat *found, int flags) {
+    return fails("stat", 1) ? -1 : __real_fstatat(folder, path, found, flags);
+}
+
+WRAPPED(off_t, lseek, int fd, off_t at, int whence) {
+    return fails("length", 1) ? -1 : __real_lseek(fd, at, whence);
+}
+
+WRAPPED(int, nanosleep, const struct timespec *asked, struct timespec *left) {
+    if (!watched.is_on) return __real_nanosleep(asked, left);
+    WANT(asked->tv_sec == 0 && asked->tv_nsec == 10000000);
+    return fails("nap", 0) ? -1 : 0; /* no time is spent */
+}
+
+WRAPPED(int, flock, int fd, int kind) {
+    char word[32];
+    snprintf(word, sizeof word, "%s%s", kind & LOCK_SH ? "lock-shared" : "lock-alone",
+             kind & LOCK_NB ? "" : "-waits");
+    return fails(word, 0) ? -1 : __real_flock(fd, kind);
+}
+
+WRAPPED(int, fsync, int fd) {
+    struct stat found;
+    int is_file = !__real_fstat(fd, &found) && S_ISREG(found.st_mode);
+    if (fails(is_file ? "sync" : "sync-folder", 0) || __real_fsync(fd)) return -1;
+    if (is_file) watched.is_dirty = 0;
+    return 0;
+}
+
+WRAPPED(int, posix_fadvise, int fd, off_t from, off_t length, int advice) {
+    WANT(!watched.is_on || (from == 0 && length == 2 << 20 && advice == POSIX_FADV_DONTNEED));
+    return fails("forget", 0) ? errno : __real_posix_fadvise(fd, from, length, advice);
+}
+
+WRAPPED(void *, mmap, void *at, size_t length, int how, int kind, int fd, off_t from) {
+    if (watched.is_on) WANT(kind == MAP_SHARED && how == PROT_READ && from == 0);
+    return fails("map", 0) ? MAP_FAILED : __real_mmap(at, length, how, kind, fd, from);
+}
+
+WRAPPED(int, ftruncate, int fd, off_t length) {
+    watched.is_dirty = 1;
+    return fails("cut", 0) ? -1 : __real_ftruncate(fd, length);
+}
+
+WRAPPED(ssize_t, pwrite, int fd, const void *from, size_t length, off_t at) {
+    watched.is_dirty = 1;
+    return fails("write", 0) ? -1 : __real_pwrite(fd, from, length, at);
+}
+
+WRAPPED(int, linkat, int from, const char *old, int to, const char *new, int flags) {
+    WANT(!watched.is_on || !watched.is_dirty); /* a name is given to what is on the medium */
+    return fails("link", 0) ? -1 : __real_linkat(from, old, to, new, flags);
+}
+
+WRAPPED(int, renameat2, int from, const char *old, int to, const char *new, unsigned flags) {
+    WANT(!watched.is_on || (!watched.is_dirty && flags == RENAME_NOREPLACE));
+    return fails("rename-new", 0) ? -1 : __real_renameat2(from, old, to, new, flags);
+}
+
+WRAPPED(int, renameat, int from, const char *old, int to, const char *new) {
+    WANT(!watched.is_on || !watched.is_dirty);
+    return fails("rename", 0) ? -1 : __real_renameat(from, old, to, new);
+}
+
+WRAPPED(int, unlink, const char *path) {
+    return fails("unlink", 0) ? -1 : __real_unlink(path);
+}
+
+WRAPPED(int, unlinkat, int folder, const char *path, int flags) {
+    return fails("unlink", 0) ? -1 : __real_unlinkat(folder, path, flags);
+}
+
+/* ---- What a test looks at */
+
+static int can_lock(const char *path, int kind) {
+    int fd = __real_open(path, O_RDONLY | O_CLOEXEC, 0);
+    WANT(fd >= 0);
+    int can = !__real_flock(fd, kind | LOCK_NB);
+    WANT(can || errno == EWOULDBLOCK);
+    close(fd);
+    return can;
+}
+
+int is_held_alone(const char *path) {
+    return !can_lock(path, LOCK_SH);
+}
+
+int is_held(const char *path) {
+    return !can_lock(path, LOCK_EX);
+}
+
+const char *names_here(void) {
+    static char names[4096];
+    struct dirent **found;
+    int count = scandir(".", &found, NULL, alphasort);
+    WANT(count >= 2);
+    names[0] = 0;
+    for (int i = 0; i < count; i++) {
+        if (strcmp(found[i]->d_name, ".") && strcmp(found[i]->d_name, "..")) {
+            strcat(names, found[i]->d_name);
+            strcat(names, " ");
+        }
+        free(found[i]);
+    }
+    free(found);
+    return names;
+}
