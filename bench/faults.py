@@ -5,9 +5,10 @@ or kills the program at it. Wants strace.
     python3 bench/faults.py PROGRAM FOLDER
 
 After each run the disk, as a whole machine still has it, is listed, and a program is bound from it: both have to be as
-before the command or as after it, and as after it where the command answered `ok`; of `format` they may also be as for
-a file of zeros, which can be formatted, or for an empty file, which has to be removed. It prints, for each command and each kind of fault, how many runs ended how.
-Before that come the standard streams that are closed or fail (`streams.py`).
+before the command or as after it, and as after it where the command answered `ok`. So `format` of a disk that isn't there
+leaves none, or a whole registry; the other name under which it is made is left by a kill alone, or where it can't be taken
+away (`making.py` has more of this). At last every two syncs of a command fail. It prints, for each command and each kind
+of fault, how many runs ended how. Before that come the standard streams that are closed or fail (`streams.py`).
 """
 
 import collections
@@ -23,8 +24,13 @@ from streams import try_streams
 SECTORS = '64'
 # Where a call fails before the program's own code runs, the loader of the C library says so and exits with 127.
 LOADER = 127
-CALLS = 'openat,read,pread64,readv,write,pwrite64,writev,lseek,fsync,fdatasync,fstat,newfstatat,statx,close,ftruncate,rename'
-FAULTS = ('error=EIO', 'error=ENOSPC', 'error=EINTR', 'signal=KILL')
+CALLS = ('openat,read,pread64,readv,write,pwrite64,writev,lseek,fsync,fdatasync,fstat,stat,lstat,newfstatat,statx,close,ftruncate,'
+         'flock,fadvise64,link,linkat,unlink,unlinkat,rename,renameat,renameat2,readlink,readlinkat,getdents64')
+GROWING = {'openat', 'write', 'pwrite64', 'writev', 'ftruncate', 'fsync', 'fdatasync', 'link', 'linkat', 'rename', 'renameat', 'renameat2'}
+UNLINKS = {'unlink', 'unlinkat'}
+# A quota that is used up is tried at the calls alone that take room.
+FAULTS = {'error=EIO': None, 'error=ENOSPC': None, 'error=EINTR': None, 'error=EDQUOT': GROWING, 'signal=KILL': None}
+TWO_SYNCS = 'two syncs'
 
 
 def made_files(folder):
@@ -43,7 +49,8 @@ def made_files(folder):
 class Bench:
     def __init__(self, program, folder):
         self.program, self.folder = str(program.resolve()), folder
-        self.disk = folder / 'disk'
+        self.disk, self.other = folder / 'disk', folder / '.disk.rlibreg-new'
+        self.wrong = 0
 
     def run(self, words, wrapped=()):
         ended = subprocess.run([*wrapped, self.program, *words], cwd=self.folder, capture_output=True, timeout=120)
@@ -62,45 +69,57 @@ class Bench:
             return listed, self.run(['list', 'disk']), self.run(['bind', 'disk', 'program', '0x100000'])
         return listed, self.run(['bind', 'disk', 'program', '0x100000'])
 
-    def seen_of(self, disk):
-        self.put(disk)
-        return self.seen()
-
     def calls(self, words):
         """How often each system call is made, in the order of the first of each."""
         log = self.folder / 'calls'
         self.run(words, ['strace', '-qq', '-o', str(log), '-e', f'trace={CALLS}'])
         return collections.Counter(line.split('(')[0] for line in log.read_text().splitlines() if '(' in line)
 
-    def trial(self, words, start, fault):
-        """Each call in turn with a fault, from a disk as it was (none where there was none)."""
-        ends = collections.Counter()
+    def trial(self, words, start):
+        """Each fault at each call in turn, from a disk as it was (none where there was none)."""
         self.put(start)
         before = self.seen()
-        states = [before] if start is not None else [before, self.seen_of(bytes(512 * int(SECTORS))), self.seen_of(b'')]
         self.put(start)
         calls = self.calls(words)
-        after = self.seen()
-        assert after != before, words
-        for call, count in calls.items():
-            for number in range(1, count + 1):
-                self.put(start)
-                wrapped = ['strace', '-qq', '-o', '/dev/null', '-e', f'inject={call}:{fault}:when={number}']
-                status, text = self.run(words, wrapped)
-                found = self.seen()
-                told = 'done' if text == b'ok\n' else 'not told'
-                wrong = found not in [*states, after] or (told == 'done' and found != after)
-                which = 'WRONG' if wrong else 'after' if found == after else 'before' if found == before else 'made alone'
-                if wrong:
-                    print(f'WRONG: {words} {call} {number} {fault}: {status} {text} {found}')
-                ends[(told, which, 'loader' if status == LOADER else status)] += 1
-        return ends
+        states = before, self.seen()
+        assert states[0] != states[1], words
+        for fault, among in FAULTS.items():
+            tried = [call for call in calls if among is None or call in among]
+            faults = [(call, f'{call}:{fault}:when={number}') for call in tried for number in range(1, calls[call] + 1)]
+            self.tell(words, fault, [self.faulted(words, start, states, *it) for it in faults])
+        self.tell(words, TWO_SYNCS, [self.faulted(words, start, states, *it) for it in two_syncs(calls)])
+
+    def faulted(self, words, start, states, call, fault):
+        """One run with a fault, and how it ended."""
+        self.put(start)
+        status, text = self.run(words, ['strace', '-qq', '-o', '/dev/null', '-e', f'inject={fault}'])
+        left = self.other.exists() and call not in UNLINKS and 'KILL' not in fault
+        found, told = self.seen(), 'done' if text == b'ok\n' else 'not told'
+        if left or found not in states or told == 'done' and found != states[1]:
+            self.wrong += 1
+            print(f'WRONG: {words} {fault}: {status} {text} {found}' + (', and the other name is left' if left else ''))
+            return told, 'WRONG', status
+        return told, 'after' if found == states[1] else 'before', 'loader' if status == LOADER else status
+
+    def tell(self, words, fault, ends):
+        counted = sorted(collections.Counter(ends).items(), key=str)
+        told = ', '.join(f'{count} {told}, {which}, status {status}' for (told, which, status), count in counted)
+        print(f'{words[0]} with {fault}: {len(ends)} runs: {told}', flush=True)
 
     def put(self, start):
+        self.other.unlink(missing_ok=True)
         if start is None:
             self.disk.unlink(missing_ok=True)
         else:
             self.disk.write_bytes(start)
+
+
+def two_syncs(calls):
+    """Every two of the syncs, as faults."""
+    for call in ('fsync', 'fdatasync'):
+        for first in range(1, calls[call]):
+            for second in range(first + 1, calls[call] + 1):
+                yield call, f'{call}:error=EIO:when={first}..{second}+{second - first}'
 
 
 def main():
@@ -121,12 +140,10 @@ def main():
         (['remove', 'disk', 'b'], two), (['preload', 'disk', 'b', 'a'], two), (['upgrade', 'disk'], old),
     ]
     for words, start in commands:
-        for fault in FAULTS:
-            ends = bench.trial(words, start, fault)
-            told = ', '.join(f'{count} {told}, {which}, status {status}' for (told, which, status), count in sorted(ends.items(), key=str))
-            print(f"{words[0]} with {fault}: {sum(ends.values())} runs: {told}", flush=True)
+        bench.trial(words, start)
+    print(f'faults: {bench.wrong} wrong')
     shutil.rmtree(folder)
-    sys.exit(0 if held else 1)
+    sys.exit(0 if held and not bench.wrong else 1)
 
 
 if __name__ == '__main__':

@@ -141,22 +141,39 @@ class Streams:
             file.truncate()
 
     def the_disk(self):
-        """The disk itself behind a stream: nothing is written, and only a message elsewhere is said."""
-        link = self.folder / 'link'
+        """The disk itself behind a stream: nothing is written, and only a message elsewhere is said. Standard input is looked
+        at for `script` alone: for every other command the disk behind it is one like any other."""
         contents = {'a registry': self.starts['a registry'], 'zeros': self.starts['zeros'], 'an empty file': b'', '24 bytes': bytes(24)}
         for (start, content), stream in itertools.product(contents.items(), NAMES):
             for name, more in itertools.product(('disk', 'link', NAMES[stream], f'/proc/self/fd/{stream}', f'/dev/fd/{stream}'), (0, os.O_APPEND)):
                 for words in self.commands(name)[1:] + [['bind', name, 'program', '10'], ['install', name, 'none']]:
-                    self.put(content)
-                    os.link(self.disk, link)
-                    file = os.open(self.disk, os.O_RDWR | more)
-                    ended = self.run(words, {stream: file})
-                    os.close(file)
-                    link.unlink()
+                    if stream == INPUT and words[0] != 'script':
+                        self.behind_input(name, words, start, content, more)
+                        continue
+                    ended = self.behind(stream, words, content, more)
                     message = b'rlibreg: bad base\n' if words[-1] == '10' else f'rlibreg: cannot read {name}\n'.encode()
                     holds = ended.status == (2 if words[-1] == '10' else 3) and not ended.output
                     holds &= ended.errors == (None if stream == ERRORS else message) or stream == OUTPUT and ended.errors == message
                     self.check(f'the disk behind {NAMES[stream]}', words, start, ended, holds, content, content)
+
+    def behind(self, stream, words, content, more):
+        """Runs the words with the disk behind a stream; it has the name `link` too."""
+        self.put(content)
+        link = self.folder / 'link'
+        os.link(self.disk, link)
+        file = os.open(self.disk, os.O_RDWR | more)
+        ended = self.run(words, {stream: file})
+        os.close(file)
+        link.unlink()
+        return ended
+
+    def behind_input(self, name, words, start, content, more):
+        """As without it; where the disk's name is that of the stream `format` makes nothing, since its folder can't be synced."""
+        self.put(content)
+        plain = self.run([words[0], 'disk', *words[2:]])
+        ended = self.behind(INPUT, words, content, more)
+        holds = ended == plain or words[0] == 'format' and name in ('/dev/stdin', '/dev/fd/0', '/proc/self/fd/0') and ended.status == 3
+        self.check('the disk behind /dev/stdin', words, start, ended, holds, content, plain.disk)
 
     def files_of_streams(self):
         """FILE and PROGRAM on standard input: reading does no harm."""
@@ -189,6 +206,20 @@ class Streams:
         """The other end of a terminal goes before the command is run."""
         os.close(behind)
         return self.run(words, {stream: given})
+
+    def without_proc(self):
+        """Where it can't be told what stands behind a stream, a message is still printed."""
+        hidden = ['unshare', '-m', 'sh', '-c', 'mount -t tmpfs none /proc && exec "$@"', 'sh']
+        if os.getuid() or subprocess.run([*hidden, 'true'], capture_output=True).returncode:
+            print('skipped: no /proc: nothing can be mounted')
+            return
+        for name in ('none', 'disk'):
+            self.put(None)
+            self.disk.mkdir()
+            ended = subprocess.run([*hidden, self.program, 'list', name], cwd=self.folder, capture_output=True)
+            self.disk.rmdir()
+            plain = Ended(ended.returncode, ended.stdout, ended.stderr, None)
+            self.check('no /proc', ['list', name], 'a folder', plain, plain[:3] == (3, b'', f'rlibreg: cannot read {name}\n'.encode()), None, None)
 
 
 def full_pipe(blocking):
@@ -260,7 +291,8 @@ def try_streams(program, folder, one, two, old):
     """All of it, and whether it was as it has to be."""
     streams = Streams(program, folder, one, two, old)
     files = streams.others()
-    for part in (streams.closed, streams.numbered, streams.the_disk, streams.files_of_streams, streams.odd):
+    for part in (streams.closed, streams.numbered, streams.the_disk, streams.files_of_streams, streams.odd,
+                 streams.without_proc):
         part()
     assert streams.others() == files, 'another file has changed'
     for kind, ends in streams.ends.items():

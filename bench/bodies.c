@@ -1,0 +1,138 @@
+/* Wrong bodies of the program, for `syncs.py`: a library to preload before `medium.c`, which makes other calls of those that the
+   program makes. BODY says which:
+
+   right         lets the cache go as it has to be, after the first sync of a descriptor (for a program that doesn't)
+   none          the cache isn't let go
+   once          it is let go once, and not twice
+   before        it is let go before the sync
+   after_read    it is let go after the first read
+   second_page   it is let go from the second page on
+   unlocked      there is no lock
+   shared        each lock is a shared one
+   lock_late     the lock is taken after the first read
+   lock_let_go   the lock is let go before the second sync
+   no_sync       the sync before the root isn't made
+   no_last_sync  no sync after that is made
+   named_early   the file of another name becomes DISK before its first sync
+   folder        the folder isn't synced
+   left          no name is taken away
+   dead_written  the file that a dead process left is opened and written
+   einval        a sync that answers EINVAL is taken for done, whatever the file is open for
+   erofs         one that answers EROFS is
+
+       gcc -std=c11 -O2 -U_FORTIFY_SOURCE -shared -fPIC -o bodies.so bodies.c */
+#define _GNU_SOURCE
+#include <dlfcn.h>
+#include <errno.h>
+#include <fcntl.h>
+#include <stdarg.h>
+#include <stdbool.h>
+#include <stdio.h>
+#include <stdlib.h>
+#include <string.h>
+#include <sys/file.h>
+#include <sys/stat.h>
+#include <unistd.h>
+
+enum { ROOM = 1024, LET_GO = 2 << 20, PAGE = 4096 };
+static int synced[ROOM], was_read[ROOM];
+static bool named;
+
+static bool is(const char *body) {
+    const char *this = getenv("BODY");
+    return this && !strcmp(this, body);
+}
+
+/* Whether the body is one that lets the cache go at another place than the program does. */
+static bool moves_the_cache(void) {
+    return is("right") || is("none") || is("once") || is("before") || is("after_read") || is("second_page");
+}
+
+#define NEXT(answer, name, ...) ((answer (*)(__VA_ARGS__))dlsym(RTLD_NEXT, name))
+
+static void let_go(int descriptor) {
+    off_t from = is("second_page") ? PAGE : 0;
+    for (int times = is("once") ? 1 : 2; times > 0; times--)
+        NEXT(int, "posix_fadvise", int, off_t, off_t, int)(descriptor, from, LET_GO - from, POSIX_FADV_DONTNEED);
+}
+
+int posix_fadvise(int descriptor, off_t from, off_t size, int advice) {
+    return moves_the_cache() ? 0 : NEXT(int, "posix_fadvise", int, off_t, off_t, int)(descriptor, from, size, advice);
+}
+
+static bool is_folder(int descriptor) {
+    struct stat facts;
+    return !fstat(descriptor, &facts) && S_ISDIR(facts.st_mode);
+}
+
+static void name_it(void) {
+    char path[4096], *slash;
+    snprintf(path, sizeof path, "%s", getenv("MEDIUM_DISK"));
+    if ((slash = strrchr(path, '/')) == NULL) abort();
+    snprintf(slash + 1, sizeof path - (size_t)(slash + 1 - path), ".%s.rlibreg-new", strrchr(getenv("MEDIUM_DISK"), '/') + 1);
+    named = !NEXT(int, "link", const char *, const char *)(path, getenv("MEDIUM_DISK"));
+}
+
+/* Whether the sync of this number of a file is left out. */
+static bool is_left_out(int number) {
+    return (is("no_sync") && number == 2) || (is("no_last_sync") && number > 2);
+}
+
+static int sync_file(int descriptor) {
+    int number = ++synced[descriptor];
+    if (is_left_out(number)) return 0;
+    if (number == 1 && is("before")) let_go(descriptor);
+    if (number == 1 && is("named_early")) name_it();
+    if (number == 2 && is("lock_let_go")) NEXT(int, "flock", int, int)(descriptor, LOCK_UN);
+    int answer = NEXT(int, "fsync", int)(descriptor);
+    if (answer && ((is("einval") && errno == EINVAL) || (is("erofs") && errno == EROFS))) answer = 0;
+    if (number == 1 && !answer && (is("right") || is("once") || is("second_page"))) let_go(descriptor);
+    return answer;
+}
+
+int fsync(int descriptor) {
+    if (is_folder(descriptor)) return is("folder") ? 0 : NEXT(int, "fsync", int)(descriptor);
+    return sync_file(descriptor);
+}
+
+int fdatasync(int descriptor) {
+    return fsync(descriptor);
+}
+
+ssize_t read(int descriptor, void *into, size_t size) {
+    ssize_t answer = NEXT(ssize_t, "read", int, void *, size_t)(descriptor, into, size);
+    if (synced[descriptor] && !was_read[descriptor]++) {
+        if (is("after_read")) let_go(descriptor);
+        if (is("lock_late")) NEXT(int, "flock", int, int)(descriptor, LOCK_EX | LOCK_NB);
+    }
+    return answer;
+}
+
+int close(int descriptor) {
+    synced[descriptor] = was_read[descriptor] = 0;
+    return NEXT(int, "close", int)(descriptor);
+}
+
+int flock(int descriptor, int how) {
+    if (is("unlocked") || is("lock_late")) return 0;
+    return NEXT(int, "flock", int, int)(descriptor, is("shared") ? LOCK_SH | LOCK_NB : how);
+}
+
+int open(const char *path, int flags, ...) {
+    mode_t mode = 0;
+    if (flags & O_CREAT) {
+        va_list words;
+        va_start(words, flags);
+        mode = va_arg(words, mode_t);
+        va_end(words);
+    }
+    return NEXT(int, "open", const char *, int, ...)(path, is("dead_written") ? flags & ~O_EXCL : flags, mode);
+}
+
+int link(const char *from, const char *to) {
+    return named ? 0 : NEXT(int, "link", const char *, const char *)(from, to);
+}
+
+int unlink(const char *path) {
+    return is("left") ? 0 : NEXT(int, "unlink", const char *)(path);
+}

@@ -1,0 +1,156 @@
+"""What the scripts about processes, making and media share: the program and the C library's test program in a folder, and
+the count of what was looked at and of what was wrong."""
+
+import collections
+import contextlib
+import fcntl
+import os
+import shutil
+import stat
+import subprocess
+import time
+
+SHOWN = 3
+WAIT = 60
+NOBODY = ['setpriv', '--reuid=65534', '--regid=65534', '--clear-groups']
+
+Ended = collections.namedtuple('Ended', 'status output errors seconds')
+
+
+class Program:
+    """The program `rlibreg` in a folder; its status is None where it had to be killed."""
+
+    name, more = 'rlibreg', {}
+
+    def __init__(self, path, folder):
+        self.path, self.folder = str(path.resolve()), folder
+
+    def begin(self, words, wrapped=(), **streams):
+        into = {'stdin': subprocess.PIPE, 'stdout': subprocess.PIPE, 'stderr': subprocess.PIPE, **streams}
+        start = time.perf_counter()
+        process = subprocess.Popen([*wrapped, self.path, *words], cwd=self.folder, env={**os.environ, **self.more}, **into)
+        process.begun = start
+        return process
+
+    def end(self, process, given=b'', wait=WAIT):
+        try:
+            output, errors = process.communicate(given if process.stdin else None, timeout=wait)
+            status = process.returncode
+        except subprocess.TimeoutExpired:
+            process.kill()
+            output, errors = process.communicate()
+            status = None
+        return Ended(status, output, errors, time.perf_counter() - process.begun)
+
+    def run(self, words, given=b'', wrapped=(), wait=WAIT, **streams):
+        return self.end(self.begin(words, wrapped, **streams), given, wait)
+
+    def done(self, *words):
+        ended = self.run(words)
+        assert ended.status == 0, (words, ended)
+        return ended.output
+
+    def unread(self, ended, disk):
+        """Whether it said that the disk can't be read, and nothing else."""
+        return ended[:3] == (3, b'', f'rlibreg: cannot read {disk}\n'.encode())
+
+    held = unread
+
+
+class CLibrary(Program):
+    """The program over the C library, c/tests/tool.c, which takes the same words."""
+
+    # Where it was built with the sanitizer of addresses: leaks aren't looked for under strace.
+    name, more = 'C library', {'ASAN_OPTIONS': 'detect_leaks=0'}
+
+    def unread(self, ended, disk):
+        return ended.status == 9 and not ended.output and ended.errors.startswith(b'tool: ')
+
+    def held(self, ended, disk):
+        return ended[:3] == (9, b'', b'tool: the file is held\n')
+
+
+class Checks:
+    """What was looked at, by kinds; of each kind that is wrong the first few are printed."""
+
+    def __init__(self):
+        self.looked, self.wrong = collections.Counter(), collections.Counter()
+        self.answers = collections.defaultdict(collections.Counter)
+
+    def want(self, kind, holds, *found):
+        self.looked[kind] += 1
+        if not holds:
+            self.wrong[kind] += 1
+            if self.wrong[kind] <= SHOWN:
+                print(f'WRONG: {kind}:', *(shortened(it) for it in found), flush=True)
+        return holds
+
+    def note(self, kind, answer):
+        self.answers[kind][answer] += 1
+
+    def skip(self, what, why):
+        print(f'skipped: {what}: {why}', flush=True)
+
+    def tell(self):
+        """A line for each kind."""
+        for kind in self.looked:
+            answers = ', '.join(f'{count} {answer}' for answer, count in sorted(self.answers[kind].items()))
+            print(f'{kind}: {self.looked[kind]} looked at, {self.wrong[kind]} wrong' + (f' ({answers})' if answers else ''), flush=True)
+
+    def end(self, name):
+        """The last line, and the exit status."""
+        self.tell()
+        print(f'{name}: {sum(self.looked.values())} looked at, {sum(self.wrong.values())} wrong')
+        return 1 if sum(self.wrong.values()) else 0
+
+
+def shortened(it):
+    text = it if isinstance(it, str) else repr(it)
+    return text if len(text) < 400 else text[:400] + '..'
+
+
+@contextlib.contextmanager
+def held_file(path, how):
+    """The file is locked by this process, as another process would."""
+    number = os.open(path, os.O_RDONLY)
+    try:
+        fcntl.flock(number, how | fcntl.LOCK_NB)
+        yield number
+    finally:
+        os.close(number)
+
+
+def emptied(folder):
+    """The folder, made anew."""
+    shutil.rmtree(folder, ignore_errors=True)
+    folder.mkdir(parents=True)
+    return folder
+
+
+def looks(path):
+    """What stands at a path, as it can be seen without opening anything but a regular file."""
+    try:
+        found = os.lstat(path)
+    except FileNotFoundError:
+        return None
+    if stat.S_ISREG(found.st_mode):
+        return found.st_ino, path.read_bytes()
+    if stat.S_ISLNK(found.st_mode):
+        return found.st_ino, os.readlink(path)
+    if stat.S_ISDIR(found.st_mode):
+        return found.st_ino, sorted((it.name, looks(it)) for it in path.iterdir())
+    return found.st_ino, found.st_mode
+
+
+def for_others(program, folder):
+    """A copy of a program that another user may run, or None."""
+    copy = folder / 'for-others'
+    shutil.copy(program, copy)
+    copy.chmod(0o755)
+    may = has('setpriv') and not subprocess.run([*NOBODY, 'test', '-x', str(copy)]).returncode
+    return str(copy) if may else None
+
+
+def has(tool):
+    """Whether the machine has this tool."""
+    return shutil.which(tool, path=os.environ.get('PATH', '') + ':/usr/sbin:/sbin') is not None

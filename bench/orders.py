@@ -1,0 +1,87 @@
+"""The order of the calls that the program `rlibreg` makes, as `medium.c` logs them, for `syncs.py`: lock, sync, the
+cache let go twice, the first read; all writes before the sync, and that before the reply and before a name is given; the
+lock until the last sync."""
+
+from machines import has_failed
+
+LET_GO = ['0', str(2 << 20)]
+
+
+class OpenFile:
+    """What was done with an open file so far, by all its descriptors."""
+
+    def __init__(self):
+        self.descriptors, self.lock, self.synced, self.let_go, self.read, self.written = 1, '', False, 0, False, False
+
+
+class Order:
+    def __init__(self, log, shared):
+        self.log, self.shared, self.files, self.faults = log, shared, {}, set()
+        # Whether a write waits for its sync, and a name for that of the folder.
+        self.waiting = self.unnamed = False
+        self.last_sync = max([at for at, line in enumerate(log) if line[0] == 'sync'], default=-1)
+
+    def run(self):
+        for self.at, (call, *words) in enumerate(self.log):
+            if call in ('link', 'rename', 'unlink'):
+                self.name(call, words)
+            elif call != 'reply' and words[1:2] != ['folder']:
+                getattr(self, call)(self.files.get(words[0]), words)
+            elif call == 'sync' and words[-1] == '0':
+                self.unnamed = False
+            elif call == 'reply' and (self.waiting or self.unnamed) and not has_failed(self.log):
+                self.faults.add('the reply comes before the sync')
+        return self.faults
+
+    def fault_if(self, there, what):
+        if there:
+            self.faults.add(what)
+
+    def open(self, _, words):
+        self.files[words[0]] = OpenFile()
+
+    def double(self, file, words):
+        if file:
+            self.files[words[1]] = file
+            file.descriptors += 1
+
+    def close(self, file, words):
+        del self.files[words[0]]
+        file.descriptors -= 1
+        self.fault_if(not file.descriptors and file.written and self.at < self.last_sync, 'the lock is let go before the last sync')
+
+    def lock(self, file, words):
+        if words[-1] == '0':
+            self.fault_if(file.lock and self.at < self.last_sync and words[1] != file.lock, 'the lock is let go before the last sync')
+            self.fault_if(file.read, 'the lock is taken after the first read')
+            file.lock = words[1]
+        self.fault_if(words[2] != 'at-once', 'the lock is waited for')
+
+    def is_locked(self, file):
+        return file.lock == 'exclusive' or self.shared and file.lock == 'shared'
+
+    def read(self, file, _):
+        if not file.read:
+            self.fault_if(not self.is_locked(file), 'it is read without its lock')
+            self.fault_if(not file.synced or file.let_go < 2, 'it is read before the sync, or before the cache is let go twice')
+        file.read = True
+
+    def letgo(self, file, words):
+        self.fault_if(not file.synced or file.read or words[1:] != LET_GO, 'the cache is let go at another time or place')
+        file.let_go += 1
+
+    def write(self, file, _):
+        self.fault_if(file.lock != 'exclusive', 'it is written without its lock')
+        self.waiting = file.written = True
+
+    def truncate(self, file, _):
+        self.fault_if(file.lock != 'exclusive', 'it is written without its lock')
+
+    def sync(self, file, words):
+        if words[-1] == '0':
+            file.synced, self.waiting = True, False
+
+    def name(self, call, words):
+        if words[-1] == '0':
+            self.fault_if(self.waiting and call != 'unlink', 'a name is given before the sync')
+            self.unnamed = True
