@@ -7,11 +7,13 @@ ghost use Rattle.commands.specs.Outcome.{are_bad, reads_input, IsDone, IsRefused
 ghost use Rattle.commands.specs.Refusal.{memory_text};
 ghost use Rattle.commands.specs.Words.{command_line};
 ghost use Rattle.std.specs.Io.KnownBytes.{Appends};
+ghost use Rattle.file_disk.specs.declared.disk_file.DiskFile.{DiskFile};
 
 use crate::command::run_words;
 use crate::message::bad_command_line;
 use crate::unread::no_memory;
 use std::alloc::Global;
+use std::fs::File;
 use std::io::{ErrorKind, Read, Write};
 use std::rt::{Env, Files};
 use std::{env, io};
@@ -28,7 +30,7 @@ pub fn read_arguments<R: Env + AllocGlobal>(rt: &R) -> io::Result<Vec<String>> {
 
 /// Does what `run_words` does with words that were read. Where they weren't, want of memory is
 /// answered as want of memory, and anything else as a bad command line.
-pub fn run_arguments<R: Files, I: Read, O: Write, E: Write>(
+pub fn run_arguments<R: Files<File = File>, I: Read, O: Write, E: Write>(
     rt: &R,
     alloc: Global,
     words: io::Result<Vec<String>>,
@@ -40,13 +42,13 @@ pub fn run_arguments<R: Files, I: Read, O: Write, E: Write>(
 
     // Of words that were read
     ensures done { IfOk words (λ list. result ≡ 0
-        → IsDone R.File (command_line (map (λ word. string_bytes word) list.items)) (record {
+        → IsDone DiskFile (command_line (map (λ word. string_bytes word) list.items)) (record {
           unread = I.remaining input.old;
           before = O.contents output.old;
           after = O.contents output.new;
         })) }
     ensures refused { IfOk words (λ list. result ≡ 1
-        → IsRefused R.File (command_line (map (λ word. string_bytes word) list.items)) (record {
+        → IsRefused DiskFile (command_line (map (λ word. string_bytes word) list.items)) (record {
           unread = I.remaining input.old;
           before = O.contents output.old;
           after = O.contents output.new;
@@ -54,7 +56,7 @@ pub fn run_arguments<R: Files, I: Read, O: Write, E: Write>(
     ensures bad_words { IfOk words (λ list. (result == 2)
         ≡ are_bad (command_line (map (λ word. string_bytes word) list.items))) }
     ensures memory { IfOk words (λ list. result ≡ 4
-        → LacksMemory R.File (command_line (map (λ word. string_bytes word) list.items)) (record {
+        → LacksMemory DiskFile (command_line (map (λ word. string_bytes word) list.items)) (record {
           unread = I.remaining input.old;
           before = O.contents output.old;
           after = O.contents output.new;

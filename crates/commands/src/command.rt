@@ -8,6 +8,7 @@ ghost use Rattle.commands.specs.Outcome.{are_bad, reads_input, IsDone, IsRefused
 ghost use Rattle.commands.specs.Words.{command_line, line_of};
 ghost use Rattle.commands.specs.declared.status.Status.TheVariants.{BadWords, Failed};
 ghost use Rattle.commands.specs.inside.Ends.{CommandEnds, ImageEnds, IsNotRead, IsShown, is_told};
+ghost use Rattle.file_disk.specs.declared.disk_file.DiskFile.{DiskFile};
 
 use crate::action::{Action, read_words};
 use crate::base::parse_base;
@@ -21,6 +22,7 @@ use crate::streams::{Behind, behind_streams};
 use crate::unread::not_read;
 use requests::Command;
 use std::alloc::Global;
+use std::fs::File;
 use std::io::{Read, Write};
 use std::rt::Files;
 
@@ -45,7 +47,7 @@ pub(crate) fn show_read<O: Write, E: Write>(
 }
 
 /// `image PROGRAM BASE`.
-fn image<R: Files, O: Write, E: Write>(
+fn image<R: Files<File = File>, O: Write, E: Write>(
     rt: &R,
     alloc: Global,
     program: &str,
@@ -68,7 +70,7 @@ fn image<R: Files, O: Write, E: Write>(
 
 /// Does a command.
 #[tactic(auto, using(crate::proofs::Asking::install_ends, crate::proofs::Asking::replace_ends, crate::proofs::Asking::remove_ends, crate::proofs::Asking::preload_ends, crate::proofs::Asking::list_ends))]
-fn run_action<R: Files, I: Read, O: Write, E: Write>(
+fn run_action<R: Files<File = File>, I: Read, O: Write, E: Write>(
     rt: &R,
     alloc: Global,
     action: &Action<'_>,
@@ -76,7 +78,7 @@ fn run_action<R: Files, I: Read, O: Write, E: Write>(
     output: &mut O,
     errors: &mut E,
 ) -> Status
-    ensures ends { CommandEnds R.File (Some (line_of action.now)) (record {
+    ensures ends { CommandEnds DiskFile (Some (line_of action.now)) (record {
       unread = I.remaining input.old;
       before = O.contents output.old;
       after = O.contents output.new;
@@ -131,7 +133,7 @@ fn keep_away<E: Write>(action: &Action<'_>, disk: &str, behind: Behind, errors: 
 }
 
 /// Does a command, unless what it says would be written into its disk.
-fn run_apart<R: Files, I: Read, O: Write, E: Write>(
+fn run_apart<R: Files<File = File>, I: Read, O: Write, E: Write>(
     rt: &R,
     alloc: Global,
     action: &Action<'_>,
@@ -139,7 +141,7 @@ fn run_apart<R: Files, I: Read, O: Write, E: Write>(
     output: &mut O,
     errors: &mut E,
 ) -> Status
-    ensures ends { CommandEnds R.File (Some (line_of action.now)) (record {
+    ensures ends { CommandEnds DiskFile (Some (line_of action.now)) (record {
       unread = I.remaining input.old;
       before = O.contents output.old;
       after = O.contents output.new;
@@ -150,14 +152,15 @@ fn run_apart<R: Files, I: Read, O: Write, E: Write>(
     let Some(disk) = action.disk() else {
         return run_action(rt, alloc, action, input, output, errors);
     };
-    match behind_streams(rt, disk) {
+    let reads_input = matches!(action, Action::Script { .. });
+    match behind_streams(rt, disk, reads_input) {
         Behind::Other => run_action(rt, alloc, action, input, output, errors),
         behind => keep_away(action, disk, behind, errors),
     }
 }
 
 /// Does the command that the words are.
-fn run_command<R: Files, I: Read, O: Write, E: Write>(
+fn run_command<R: Files<File = File>, I: Read, O: Write, E: Write>(
     rt: &R,
     alloc: Global,
     words: &[String],
@@ -165,7 +168,7 @@ fn run_command<R: Files, I: Read, O: Write, E: Write>(
     output: &mut O,
     errors: &mut E,
 ) -> Status
-    ensures ends { CommandEnds R.File (command_line (map (λ word. string_bytes word) words.now))
+    ensures ends { CommandEnds DiskFile (command_line (map (λ word. string_bytes word) words.now))
         (record {
           unread = I.remaining input.old;
           before = O.contents output.old;
@@ -185,7 +188,7 @@ fn run_command<R: Files, I: Read, O: Write, E: Write>(
 /// 1 refused, 2 the words aren't a command or BASE isn't read, 3 the disk, a file or a stream
 /// failed, 4 memory was refused. Of a script the greatest stands. Only `script` reads the input.
 /// The file FILE or PROGRAM is read before DISK is opened.
-pub fn run_words<R: Files, I: Read, O: Write, E: Write>(
+pub fn run_words<R: Files<File = File>, I: Read, O: Write, E: Write>(
     rt: &R,
     alloc: Global,
     words: &[String],
@@ -197,7 +200,7 @@ pub fn run_words<R: Files, I: Read, O: Write, E: Write>(
 
     // 0: exactly what the command prints was appended.
     ensures done { result ≡ 0
-        → IsDone R.File (command_line (map (λ word. string_bytes word) words.now)) (record {
+        → IsDone DiskFile (command_line (map (λ word. string_bytes word) words.now)) (record {
           unread = I.remaining input.old;
           before = O.contents output.old;
           after = O.contents output.new;
@@ -205,7 +208,7 @@ pub fn run_words<R: Files, I: Read, O: Write, E: Write>(
 
     // 1: exactly a refusal, or of a script the answers to its lines.
     ensures refused { result ≡ 1
-        → IsRefused R.File (command_line (map (λ word. string_bytes word) words.now)) (record {
+        → IsRefused DiskFile (command_line (map (λ word. string_bytes word) words.now)) (record {
           unread = I.remaining input.old;
           before = O.contents output.old;
           after = O.contents output.new;
@@ -220,7 +223,7 @@ pub fn run_words<R: Files, I: Read, O: Write, E: Write>(
 
     // 4: exactly the line of want of memory, or of a script the answers to its lines.
     ensures memory { result ≡ 4
-        → LacksMemory R.File (command_line (map (λ word. string_bytes word) words.now)) (record {
+        → LacksMemory DiskFile (command_line (map (λ word. string_bytes word) words.now)) (record {
           unread = I.remaining input.old;
           before = O.contents output.old;
           after = O.contents output.new;

@@ -4,6 +4,7 @@ ghost use Rattle.std.specs.Prelude.{◌≡◌, false, OnOk, IfOk, IfErr};
 ghost use Rattle.store.specs.Opened.{Opened};
 ghost use Rattle.file_disk.specs.FileDisk.{IsNew};
 ghost use Rattle.file_disk.specs.declared.disk.FileDisk.{FileDisk};
+ghost use Rattle.file_disk.specs.declared.disk_file.DiskFile.{DiskFile};
 ghost use Rattle.commands.specs.Disk.{IsOpenRefusal, IsFormatRefusal, IsUpgradeRefusal};
 ghost use Rattle.commands.specs.Opened.{IsOpened, IsMade, IsUpgraded};
 ghost use Rattle.commands.specs.inside.Ends.{IsNoRegistry, IsTurnedAway, is_told};
@@ -12,9 +13,10 @@ use crate::access::Access;
 use crate::disk_refusal::write_disk_refusal;
 use crate::message::cannot_read;
 use crate::status::{Status, disk_status};
-use file_disk::{FileDisk, OpenFault};
+use file_disk::{DiskFile, FileDisk, Made, NameFault, NewName, OpenFault};
 use registry::Registry;
 use std::alloc::Global;
+use std::fs::File;
 use std::io::Write;
 use std::rt::Files;
 use store::StoreRefusal;
@@ -43,12 +45,12 @@ fn no_disk(fault: OpenFault) -> NoRegistry
 }
 
 /// Opens the disk that a file is.
-fn open_disk<R: Files>(
+fn open_disk<R: Files<File = File>>(
     rt: &R,
     alloc: Global,
     path: &str,
     access: Access,
-) -> Result<FileDisk<R::File>, OpenFault>
+) -> Result<FileDisk<DiskFile>, OpenFault>
     ensures { IfOk result (λ disk. IsNew disk) }
 {
     match access {
@@ -58,13 +60,13 @@ fn open_disk<R: Files>(
 }
 
 /// Opens the registry on the disk that a file is.
-pub(crate) fn open_registry<R: Files>(
+pub(crate) fn open_registry<R: Files<File = File>>(
     rt: &R,
     alloc: Global,
     path: &str,
     access: Access,
-) -> Result<Registry<FileDisk<R::File>>, NoRegistry>
-    ensures ok { IfOk result (λ registry. (disk : FileDisk R.File) × IsOpened disk registry) }
+) -> Result<Registry<FileDisk<DiskFile>>, NoRegistry>
+    ensures ok { IfOk result (λ registry. (disk : FileDisk DiskFile) × IsOpened disk registry) }
     ensures refused { IfErr result (IsNoRegistry IsOpenRefusal) }
 {
     let disk = match open_disk(rt, alloc, path, access) {
@@ -77,39 +79,61 @@ pub(crate) fn open_registry<R: Files>(
     }
 }
 
+/// Gives a registry's file its name, where it was made.
+fn name_file<R: Files<File = File>>(rt: &R, name: Option<NewName<'_>>) -> Result<(), NoRegistry>
+    ensures refused { IfErr result (IsNoRegistry IsFormatRefusal) }
+{
+    match name.map_or(Ok(()), |name| name.give(rt)) {
+        Ok(()) => Ok(()),
+        Err(NameFault::NotGiven) => Err(NoRegistry::CannotOpen),
+        Err(NameFault::NotSynced) => Err(NoRegistry::Refused(StoreRefusal::Device)),
+    }
+}
+
+/// Takes away what was made of a registry's file.
+fn take_away<R: Files<File = File>>(rt: &R, name: Option<NewName<'_>>) {
+    if let Some(name) = name {
+        name.take_away(rt);
+    }
+}
+
 /// Makes an empty registry on the disk of so many sectors that a file is, and makes the file where
-/// none stands.
-pub(crate) fn make_registry<R: Files>(
+/// none stands: it has its name once all of it is on the medium.
+pub(crate) fn make_registry<R: Files<File = File>>(
     rt: &R,
     alloc: Global,
     path: &str,
     sectors: u32,
 ) -> Result<(), NoRegistry>
-    ensures ok { OnOk result ((disk : FileDisk R.File) × (registry : Opened (FileDisk R.File))
+    ensures ok { OnOk result ((disk : FileDisk DiskFile) × (registry : Opened (FileDisk DiskFile))
         × IsMade sectors disk registry) }
     ensures refused { IfErr result (IsNoRegistry IsFormatRefusal) }
 {
-    let disk: FileDisk<R::File> = match FileDisk::make(rt, alloc, path, sectors) {
-        Ok(disk) => disk,
+    let Made { disk, name } = match FileDisk::make(rt, alloc, path, sectors) {
+        Ok(made) => made,
         Err(fault) => return Err(no_disk(fault)),
     };
     match Registry::format(alloc, disk) {
         Ok(registry) => {
             drop(registry.into_disk());
+            name_file(rt, name)?;
             Ok(())
         }
-        Err((refusal, _)) => Err(NoRegistry::Refused(refusal)),
+        Err((refusal, _)) => {
+            take_away(rt, name);
+            Err(NoRegistry::Refused(refusal))
+        }
     }
 }
 
 /// Makes the registry on the disk that a file is one of version 2; where it is one already, it is
 /// opened, and nothing is written.
-pub(crate) fn upgrade_registry<R: Files>(
+pub(crate) fn upgrade_registry<R: Files<File = File>>(
     rt: &R,
     alloc: Global,
     path: &str,
 ) -> Result<(), NoRegistry>
-    ensures ok { OnOk result ((disk : FileDisk R.File) × (registry : Opened (FileDisk R.File))
+    ensures ok { OnOk result ((disk : FileDisk DiskFile) × (registry : Opened (FileDisk DiskFile))
         × IsUpgraded disk registry) }
     ensures refused { IfErr result (IsNoRegistry IsUpgradeRefusal) }
 {

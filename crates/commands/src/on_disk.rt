@@ -9,6 +9,7 @@ ghost use Rattle.commands.specs.Outcome.{Asks};
 ghost use Rattle.commands.specs.Words as words;
 ghost use Rattle.commands.specs.inside.Ends.{BindEnds, IsFormatted, IsWritten, Replied};
 ghost use Rattle.commands.specs.inside.Ends.{UpgradeEnds, is_told};
+ghost use Rattle.file_disk.specs.declared.disk_file.DiskFile.{DiskFile};
 
 use crate::access::access_of;
 use crate::base::parse_base;
@@ -22,6 +23,7 @@ use registry::Registry;
 use requests::{Command, Reply};
 use sector_disk::Disk;
 use std::alloc::{AllocError, Global};
+use std::fs::File;
 use std::io::Write;
 use std::rt::Files;
 
@@ -50,7 +52,7 @@ fn answer<D: Disk, O: Write>(
 
 /// Applies a command to the registry on a disk, and writes the reply.
 #[tactic(auto, using(crate::proofs::Asking::away_replied))]
-pub(crate) fn ask<R: Files, O: Write, E: Write>(
+pub(crate) fn ask<R: Files<File = File>, O: Write, E: Write>(
     rt: &R,
     alloc: Global,
     disk: &str,
@@ -58,7 +60,7 @@ pub(crate) fn ask<R: Files, O: Write, E: Write>(
     output: &mut O,
     errors: &mut E,
 ) -> Status
-    ensures ends { Replied R.File (λ asked. asked ≡ request_of command.now)
+    ensures ends { Replied DiskFile (λ asked. asked ≡ request_of command.now)
         (O.contents output.old) (O.contents output.new) result }
     ensures silent { is_told result ≡ false → E.contents errors.new ≡ E.contents errors.old }
 {
@@ -75,7 +77,7 @@ pub(crate) fn ask<R: Files, O: Write, E: Write>(
 
 /// `format DISK SECTORS`.
 #[tactic(auto, using(crate::proofs::Asking::away_formatted))]
-pub(crate) fn format<R: Files, O: Write, E: Write>(
+pub(crate) fn format<R: Files<File = File>, O: Write, E: Write>(
     rt: &R,
     alloc: Global,
     disk: &str,
@@ -83,7 +85,7 @@ pub(crate) fn format<R: Files, O: Write, E: Write>(
     output: &mut O,
     errors: &mut E,
 ) -> Status
-    ensures ends { IsFormatted R.File sectors (O.contents output.old) (O.contents output.new)
+    ensures ends { IsFormatted DiskFile sectors (O.contents output.old) (O.contents output.new)
         result }
     ensures silent { is_told result ≡ false → E.contents errors.new ≡ E.contents errors.old }
 {
@@ -98,14 +100,14 @@ pub(crate) fn format<R: Files, O: Write, E: Write>(
 
 /// `upgrade DISK`.
 #[tactic(auto, using(crate::proofs::Asking::away_upgraded))]
-pub(crate) fn upgrade<R: Files, O: Write, E: Write>(
+pub(crate) fn upgrade<R: Files<File = File>, O: Write, E: Write>(
     rt: &R,
     alloc: Global,
     disk: &str,
     output: &mut O,
     errors: &mut E,
 ) -> Status
-    ensures ends { UpgradeEnds R.File (O.contents output.old) (O.contents output.new) result }
+    ensures ends { UpgradeEnds DiskFile (O.contents output.old) (O.contents output.new) result }
     ensures silent { is_told result ≡ false → E.contents errors.new ≡ E.contents errors.old }
 {
     match upgrade_registry(rt, alloc, disk) {
@@ -119,7 +121,7 @@ pub(crate) fn upgrade<R: Files, O: Write, E: Write>(
 
 /// `install DISK FILE`. The file is read before the disk is opened.
 #[tactic(auto, using(crate::proofs::Asking::unread_replied))]
-pub(crate) fn install<R: Files, O: Write, E: Write>(
+pub(crate) fn install<R: Files<File = File>, O: Write, E: Write>(
     rt: &R,
     alloc: Global,
     disk: &str,
@@ -127,7 +129,7 @@ pub(crate) fn install<R: Files, O: Write, E: Write>(
     output: &mut O,
     errors: &mut E,
 ) -> Status
-    ensures ends { Replied R.File (Asks (words.install disk.now file.now))
+    ensures ends { Replied DiskFile (Asks (words.install disk.now file.now))
         (O.contents output.old) (O.contents output.new) result }
     ensures silent { is_told result ≡ false → E.contents errors.new ≡ E.contents errors.old }
 {
@@ -139,7 +141,7 @@ pub(crate) fn install<R: Files, O: Write, E: Write>(
 
 /// `replace DISK FILE`. The file is read before the disk is opened.
 #[tactic(auto, using(crate::proofs::Asking::unread_replied))]
-pub(crate) fn replace<R: Files, O: Write, E: Write>(
+pub(crate) fn replace<R: Files<File = File>, O: Write, E: Write>(
     rt: &R,
     alloc: Global,
     disk: &str,
@@ -147,7 +149,7 @@ pub(crate) fn replace<R: Files, O: Write, E: Write>(
     output: &mut O,
     errors: &mut E,
 ) -> Status
-    ensures ends { Replied R.File (Asks (words.replace disk.now file.now))
+    ensures ends { Replied DiskFile (Asks (words.replace disk.now file.now))
         (O.contents output.old) (O.contents output.new) result }
     ensures silent { is_told result ≡ false → E.contents errors.new ≡ E.contents errors.old }
 {
@@ -167,7 +169,7 @@ fn bytes_of(alloc: Global, names: &[String]) -> Result<Vec<&[u8]>, AllocError>
 
 /// `preload DISK [NAME]..`.
 #[tactic(auto, using(crate::proofs::Asking::memory_replied))]
-pub(crate) fn preload<R: Files, O: Write, E: Write>(
+pub(crate) fn preload<R: Files<File = File>, O: Write, E: Write>(
     rt: &R,
     alloc: Global,
     disk: &str,
@@ -175,7 +177,7 @@ pub(crate) fn preload<R: Files, O: Write, E: Write>(
     output: &mut O,
     errors: &mut E,
 ) -> Status
-    ensures ends { Replied R.File
+    ensures ends { Replied DiskFile
         (Asks (words.preload disk.now (map (λ name. string_bytes name) names.now)))
         (O.contents output.old) (O.contents output.new) result }
     ensures silent { is_told result ≡ false → E.contents errors.new ≡ E.contents errors.old }
@@ -196,7 +198,7 @@ pub(crate) fn preload<R: Files, O: Write, E: Write>(
 /// `bind DISK PROGRAM BASE`. BASE is read before any file is opened, and the program before the
 /// disk is.
 #[tactic(auto, using(crate::proofs::Asking::unread_replied, crate::proofs::Asking::bind_ends))]
-pub(crate) fn bind<R: Files, O: Write, E: Write>(
+pub(crate) fn bind<R: Files<File = File>, O: Write, E: Write>(
     rt: &R,
     alloc: Global,
     disk: &str,
@@ -205,7 +207,7 @@ pub(crate) fn bind<R: Files, O: Write, E: Write>(
     output: &mut O,
     errors: &mut E,
 ) -> Status
-    ensures ends { BindEnds R.File (base_of base.now)
+    ensures ends { BindEnds DiskFile (base_of base.now)
         (Asks (words.bind disk.now program.now base.now))
         (O.contents output.old) (O.contents output.new) result }
     ensures silent { is_told result ≡ false → E.contents errors.new ≡ E.contents errors.old }

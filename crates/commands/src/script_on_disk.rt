@@ -3,6 +3,7 @@
 ghost use Rattle.std.specs.Prelude.{◌≡◌, ◌≢◌, false};
 ghost use Rattle.commands.specs.inside.Ends.{IsRun, ScriptEnds, is_told};
 ghost use Rattle.commands.specs.declared.status.Status.TheVariants.{BadWords, Done};
+ghost use Rattle.file_disk.specs.declared.disk_file.DiskFile.{DiskFile};
 
 use crate::access::Access;
 use crate::disk::{open_registry, turn_away};
@@ -12,6 +13,7 @@ use crate::takes_events::TakesEvents;
 use crate::watched::Watched;
 use binders::Binders;
 use std::alloc::Global;
+use std::fs::File;
 use std::io::{Read, Write};
 use std::rt::Files;
 
@@ -40,7 +42,7 @@ pub(crate) fn run_watched<I: Read, O: Write, G: TakesEvents>(
 
 /// `script DISK`: from the input to the output.
 #[tactic(auto, using(crate::proofs::Statuses::away_script))]
-pub(crate) fn script<R: Files, I: Read, O: Write, E: Write>(
+pub(crate) fn script<R: Files<File = File>, I: Read, O: Write, E: Write>(
     rt: &R,
     alloc: Global,
     disk: &str,
@@ -48,7 +50,7 @@ pub(crate) fn script<R: Files, I: Read, O: Write, E: Write>(
     output: &mut O,
     errors: &mut E,
 ) -> Status
-    ensures ends { ScriptEnds R.File (record {
+    ensures ends { ScriptEnds DiskFile (record {
       unread = I.remaining input.old;
       before = O.contents output.old;
       after = O.contents output.new;

@@ -5,7 +5,7 @@ ghost use Rattle.std.specs.Prelude.{◌≡◌, IfErr, OnOk};
 use crate::message::cannot_read;
 use std::fs::{File, Metadata};
 use std::io::{ErrorKind, Write};
-use std::os::unix::fs::MetadataExt;
+use std::os::unix::fs::{FileTypeExt, MetadataExt};
 use std::rt::Files;
 use std::{fs, io};
 
@@ -70,27 +70,47 @@ fn open_three<R: Files>(rt: &R) -> io::Result<[R::File; 3]> {
 pub(crate) enum Behind {
     /// Another file than the path's, or none.
     Other,
-    /// The path's file, behind the input or the output.
-    InputOrOutput,
+    /// The path's file, behind the input or the output; or it can't be told of a stream.
+    OtherStream,
     /// The path's file, behind standard error: a message would be written into it.
     Errors,
 }
 
-/// Whether a path leads to the very file behind a standard stream.
-pub(crate) fn behind_streams<R: Files>(rt: &R, path: &str) -> Behind {
-    match fs::metadata(rt, path) {
-        Ok(found) if is_behind(rt, &found, ERRORS) => Behind::Errors,
-        Ok(found) if is_behind(rt, &found, INPUT) => Behind::InputOrOutput,
-        Ok(found) if is_behind(rt, &found, OUTPUT) => Behind::InputOrOutput,
-        _ => Behind::Other,
+/// Whether a path leads to the very file behind a standard stream: behind the input only where that
+/// is read.
+pub(crate) fn behind_streams<R: Files>(rt: &R, path: &str, reads_input: bool) -> Behind {
+    let Ok(found) = fs::metadata(rt, path) else {
+        return Behind::Other;
+    };
+    let errors = is_behind(rt, &found, ERRORS);
+    if errors == Some(true) {
+        return Behind::Errors;
+    }
+    let output = is_behind(rt, &found, OUTPUT);
+    let input = if reads_input {
+        is_behind(rt, &found, INPUT)
+    } else {
+        Some(false)
+    };
+    match (errors, output, input) {
+        (Some(false), Some(false), Some(false)) => Behind::Other,
+        _ => Behind::OtherStream,
     }
 }
 
-/// Whether a file is the one behind a stream, or that can't be told. A system without such names
+/// Whether a file is the one behind a stream, where that can be told. A system without such names
 /// tells of none.
-fn is_behind<R: Files>(rt: &R, found: &Metadata, stream: &str) -> bool {
+fn is_behind<R: Files>(rt: &R, found: &Metadata, stream: &str) -> Option<bool> {
     match fs::metadata(rt, stream) {
-        Ok(behind) => found.dev() == behind.dev() && found.ino() == behind.ino(),
-        Err(e) => e.kind() != ErrorKind::NotFound,
+        Ok(behind) => Some(is_same_file(found, &behind)),
+        Err(fault) if fault.kind() == ErrorKind::NotFound => Some(false),
+        Err(_) => None,
     }
+}
+
+/// Whether two names lead to one file, or to one block device by two nodes.
+fn is_same_file(one: &Metadata, other: &Metadata) -> bool {
+    let are_devices = one.file_type().is_block_device() && other.file_type().is_block_device();
+    (one.dev() == other.dev() && one.ino() == other.ino())
+        || (are_devices && one.rdev() == other.rdev())
 }

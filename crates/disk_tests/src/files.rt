@@ -2,4 +2,5 @@
 mod against_memory;
 mod failures;
 mod fake;
+mod making;
 mod system;

@@ -1,5 +1,5 @@
 -- What is said of a disk over a file.
-use Rattle.std.specs.Prelude.{◌≡◌, ◌≢◌, ◌*◌, ◌⊎◌, ℕ, Bool, false, List, Option, None, Some}
+use Rattle.std.specs.Prelude.{◌≡◌, ◌≢◌, ◌*◌, ◌⊎◌, ◌≤◌, ℕ, Bool, false, List, length, Option, None, Some}
 use Rattle.std.specs.List.{flat_map}
 use Rattle.sector_disk.specs.CallCount.{unknown_disk}
 use Rattle.sector_disk.specs.Disk.{Sector, DiskFacts}
@@ -64,10 +64,12 @@ pub record IsNew {F : Type 0} (disk : FileDisk F) : Type 0 where
   pub waits : WaitsNot disk
   pub kept : (k : ℕ) → kept disk k ≡ None
 
--- the content is the first sector of the bytes that were read at its place; some of them are kept
+-- the content is the first sector of the bytes, one sector at least, that were read at its place;
+-- some of them are kept
 pub record IsFetched {F : Type 0} (position : F → Option ℕ) (remaining : F → Option (List ℕ))
     (old new : FileDisk F) (at : ℕ) (content : Sector) : Type 0 where
   pub bytes : List ℕ
   pub read : IsReadAt position remaining old.file new.file (512 * at) bytes
+  pub whole : 512 ≤ length bytes
   pub is : content ≡ sector_among bytes at at
   pub kept : IsKeptOf new.ahead bytes at

@@ -125,7 +125,7 @@ impl Ahead {
         ensures most { OnOk result (self.new.count ≤ most) }
         ensures read { OnOk result ((bytes : List ℕ)
             × IsReadAt F.stream_position F.remaining file.old file.new (512 * at) bytes
-            × IsKeptOf self.new bytes at) }
+            × (512 ≤ length bytes) × IsKeptOf self.new bytes at) }
         ensures err { OnErr result ((k : ℕ) → ahead_at self.new k ≡ None) }
     {
         self.ask(at);

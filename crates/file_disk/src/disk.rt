@@ -186,8 +186,8 @@ impl<F: Write + Seek + OpenFile> FileDisk<F> {
 }
 
 impl<F: Read + Seek> FileDisk<F> {
-    ghost use Rattle.std.specs.Prelude.{◌≡◌, ◌<◌, ◌*◌, ◌⊎◌, ℕ, List, None, false};
-    ghost use Rattle.std.specs.Prelude.{IsSome, IfSome, OnOk, is_err};
+    ghost use Rattle.std.specs.Prelude.{◌≡◌, ◌<◌, ◌≤◌, ◌*◌, ◌⊎◌, ℕ, List, None, false};
+    ghost use Rattle.std.specs.Prelude.{IsSome, IfSome, OnOk, is_err, length};
     ghost use Rattle.file_disk.specs.Ahead.{IsKeptOf};
     ghost use Rattle.file_disk.specs.FileDisk.{file_facts, has_failed, file_of, waiting, kept};
     ghost use Rattle.file_disk.specs.FileDisk.{IsSame, WaitsSame, IsFetched};
@@ -204,7 +204,7 @@ impl<F: Read + Seek> FileDisk<F> {
         ensures ok { OnOk result (IsSome (kept self.new at)) }
         ensures read { OnOk result ((bytes : List ℕ) × IsReadAt F.stream_position F.remaining
             (file_of self.old) (file_of self.new) (512 * at) bytes
-            × IsKeptOf self.new.ahead bytes at) }
+            × (512 ≤ length bytes) × IsKeptOf self.new.ahead bytes at) }
     {
         let sectors = self.sectors;
         let start = self.gathered.start();

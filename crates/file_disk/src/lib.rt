@@ -7,10 +7,16 @@
 #![tactic(auto)]
 
 mod ahead;
+mod device;
 mod disk;
+mod disk_file;
 mod gathered;
+mod locked;
+mod new_name;
 mod open;
 mod transfer;
 
 pub use disk::FileDisk;
-pub use open::OpenFault;
+pub use disk_file::DiskFile;
+pub use new_name::{NameFault, NewName};
+pub use open::{Made, OpenFault};

@@ -1,23 +1,26 @@
 // Opening and making the file of a disk.
-ghost use Rattle.std.specs.Prelude.{◌≡◌, ◌≢◌, ◌*◌, ◌<◌, ◌^◌, ℕ, true, IfOk, IfSome, IfNone};
-ghost use Rattle.std.specs.Fs.{new_options, with_read, with_write};
+ghost use Rattle.std.specs.Prelude.{◌≡◌, ◌≢◌, ◌*◌, ◌<◌, ◌^◌, ℕ, IfOk, IfSome, IfNone};
 ghost use Rattle.file_disk.specs.FileDisk.{file_facts, file_of, IsNew};
 ghost use Rattle.file_disk.specs.declared.open.OpenFault.TheVariants.{OutOfMemory};
 
 use crate::disk::FileDisk;
+use crate::disk_file::{Access, DiskFile};
+use crate::locked::open_locked;
+use crate::new_name::NewName;
 use sector_disk::{Disk, SECTOR_BYTES};
 use std::alloc::{AllocError, Global};
-use std::fs::{File, OpenFile, OpenOptions};
+use std::fs;
+use std::fs::{File, OpenFile};
 use std::io::{ErrorKind, Read, Seek, Write};
 use std::path::Path;
 use std::rt::Files;
-use std::{fs, io};
 use thiserror::Error;
 
 /// Why a file isn't opened as a disk.
 #[derive(Clone, Copy, Debug, PartialEq, Eq, Error)]
 pub enum OpenFault {
-    /// It can't be opened, made or measured, or it is no regular file.
+    /// It can't be opened, locked, made or measured, or it is neither a regular file nor a block
+    /// device, or one that is in use.
     #[error("the file can't be opened")]
     CannotOpen,
     /// Its length isn't that of whole sectors, or not that of the sectors that it was to have, or
@@ -50,71 +53,8 @@ fn sectors_in(length: u64) -> Option<u32>
     }
 }
 
-/// Reading alone, of a file that stands.
-fn reading() -> OpenOptions
-    ensures { result ≡ with_read new_options true }
-{
-    let mut how = OpenOptions::new();
-    how.read(true);
-    how
-}
-
-/// Reading and writing, of a file that stands: it isn't made, and none of its bytes are cut.
-fn writing() -> OpenOptions
-    ensures { result ≡ with_write (with_read new_options true) true }
-{
-    let mut how = reading();
-    how.write(true);
-    how
-}
-
-/// Opens a file for reading and writing, or where writing isn't allowed for reading alone.
-fn open_file<R: Files>(rt: &R, path: &str) -> io::Result<R::File> {
-    match writing().open(rt, path) {
-        Err(e) if is_denied(e.kind()) => reading().open(rt, path),
-        opened => opened,
-    }
-}
-
-/// Refuses what is no regular file, before it is opened: to open a pipe waits for its other end.
-fn refuse_others<R: Files>(rt: &R, path: &str) -> Result<(), OpenFault> {
-    match fs::metadata(rt, path) {
-        Ok(found) if found.is_file() => Ok(()),
-        _ => Err(OpenFault::CannotOpen),
-    }
-}
-
-/// Whether writing isn't allowed.
-fn is_denied(kind: ErrorKind) -> bool {
-    matches!(
-        kind,
-        ErrorKind::PermissionDenied | ErrorKind::ReadOnlyFilesystem
-    )
-}
-
-/// Makes a file of so many bytes of zeros, on the medium.
-fn fill_file<F: OpenFile>(file: &F, bytes: u64) -> io::Result<()> {
-    file.set_len(bytes)?;
-    file.sync_all()
-}
-
-/// Makes a file of so many bytes of zeros where none stands, all of it or none.
-fn make_file<R: Files>(rt: &R, path: &str, bytes: u64) -> Result<(), OpenFault> {
-    match File::create_new(rt, path) {
-        Ok(file) => {
-            if fill_file::<R::File>(&file, bytes).is_err() {
-                let _ = fs::remove_file(rt, path);
-                return Err(OpenFault::CannotOpen);
-            }
-            Ok(())
-        }
-        Err(e) if e.kind() == ErrorKind::AlreadyExists => Ok(()),
-        Err(_) => Err(OpenFault::CannotOpen),
-    }
-}
-
 /// Brings the name of a file to the medium: its folder is synced.
-fn sync_folder<R: Files>(rt: &R, path: &str) -> Result<(), OpenFault> {
+pub(crate) fn sync_folder<R: Files<File = File>>(rt: &R, path: &str) -> Result<(), OpenFault> {
     let folder = match Path::new(path).parent() {
         Some(folder) if !folder.as_str().is_empty() => folder.as_str(),
         _ => ".",
@@ -122,6 +62,14 @@ fn sync_folder<R: Files>(rt: &R, path: &str) -> Result<(), OpenFault> {
     match File::open(rt, folder) {
         Ok(folder) if folder.sync_all().is_ok() => Ok(()),
         _ => Err(OpenFault::CannotOpen),
+    }
+}
+
+/// Whether nothing stands under a name, no link either.
+pub(crate) fn is_free<R: Files>(rt: &R, path: &str) -> bool {
+    match fs::symlink_metadata(rt, path) {
+        Err(fault) => fault.kind() == ErrorKind::NotFound,
+        Ok(_) => false,
     }
 }
 
@@ -140,54 +88,100 @@ impl<F: Read + Write + Seek + OpenFile + Drop> FileDisk<F> {
         };
         Ok(FileDisk::new(alloc, file, sectors)?)
     }
+}
 
-    /// Opens the disk that a file is. What is no regular file isn't opened, and none is made.
-    /// Where the file may not be written it is opened all the same: syncs succeed until a sector
-    /// was written.
-    pub fn open<R: Files<File = F>>(
+/// A disk of zeros or of whatever a file has, and the name that the file has yet to get.
+#[derive(Drop)]
+pub struct Made<'a> {
+    /// The disk.
+    pub disk: FileDisk<DiskFile>,
+    /// The name, where the file was made.
+    pub name: Option<NewName<'a>>,
+}
+
+impl FileDisk<DiskFile> {
+    /// Opens the disk that a regular file or a block device is, for changes: its lock is held alone
+    /// until the disk is dropped. Where the file may not be written it is opened all the same:
+    /// syncs succeed until a sector was written.
+    pub fn open<R: Files<File = File>>(
         rt: &R,
         alloc: Global,
         path: &str,
-    ) -> Result<FileDisk<F>, OpenFault>
+    ) -> Result<FileDisk<DiskFile>, OpenFault>
         ensures { IfOk result (λ disk. IsNew disk) }
     {
-        refuse_others(rt, path)?;
-        let file = open_file(rt, path).map_err(|_| OpenFault::CannotOpen)?;
-        FileDisk::over(alloc, file)
+        FileDisk::over(alloc, open_locked(rt, alloc, path, Access::Changes)?)
     }
 
-    /// Opens the disk that a file is for reading alone, so that nothing that this process does can
-    /// write into the file: syncs succeed until a sector was written, and fail from then on. What
-    /// is no regular file isn't opened.
-    pub fn open_read_only<R: Files<File = F>>(
+    /// Opens the disk that a regular file or a block device is for reading alone, so that nothing
+    /// that this process does can write into it: its lock is shared with others who read, until the
+    /// disk is dropped. Syncs succeed until a sector was written, and fail from then on.
+    pub fn open_read_only<R: Files<File = File>>(
         rt: &R,
         alloc: Global,
         path: &str,
-    ) -> Result<FileDisk<F>, OpenFault>
+    ) -> Result<FileDisk<DiskFile>, OpenFault>
         ensures { IfOk result (λ disk. IsNew disk) }
     {
-        refuse_others(rt, path)?;
-        let file = reading().open(rt, path).map_err(|_| OpenFault::CannotOpen)?;
-        FileDisk::over(alloc, file)
+        FileDisk::over(alloc, open_locked(rt, alloc, path, Access::Reading)?)
     }
 
-    /// Opens the disk of so many sectors that a file is, and makes one of zeros where no such file
-    /// stands. The file and its name are on the medium then: both are synced.
-    pub fn make<R: Files<File = F>>(
+    /// Opens the disk of so many sectors that a file is, for changes, and makes one of zeros where
+    /// nothing stands. One that stands is on the medium under its name then: its folder is synced.
+    /// One that was made gets its name by `NewName::give`, once what it is to hold is synced.
+    pub fn make<'a, R: Files<File = File>>(
         rt: &R,
         alloc: Global,
-        path: &str,
+        path: &'a str,
         sectors: u32,
-    ) -> Result<FileDisk<F>, OpenFault>
-        ensures new { IfOk result (λ disk. IsNew disk) }
-        ensures sectors { IfOk result (λ disk. (file_facts disk).sectors ≡ sectors) }
+    ) -> Result<Made<'a>, OpenFault>
+        ensures new { IfOk result (λ made. IsNew made.disk) }
+        ensures sectors { IfOk result (λ made. (file_facts made.disk).sectors ≡ sectors) }
     {
-        make_file(rt, path, u64::from(sectors) * SECTOR_BYTES as u64)?;
+        if is_free(rt, path) {
+            return make_new(rt, alloc, path, sectors);
+        }
         let disk = FileDisk::open(rt, alloc, path)?;
         if disk.sectors() != sectors {
             return Err(OpenFault::BadLength);
         }
         sync_folder(rt, path)?;
-        Ok(disk)
+        Ok(Made { disk, name: None })
     }
+}
+
+/// Makes a disk of zeros that has yet to get its name.
+fn make_new<'a, R: Files<File = File>>(
+    rt: &R,
+    alloc: Global,
+    path: &'a str,
+    sectors: u32,
+) -> Result<Made<'a>, OpenFault>
+    ensures new { IfOk result (λ made. IsNew made.disk) }
+    ensures sectors { IfOk result (λ made. (file_facts made.disk).sectors ≡ sectors) }
+{
+    let length = u64::from(sectors) * SECTOR_BYTES as u64;
+    let (file, name) = NewName::make(rt, alloc, path, length)?;
+    match over_made(alloc, file, sectors) {
+        Ok(disk) => Ok(Made {
+            disk,
+            name: Some(name),
+        }),
+        Err(fault) => {
+            name.take_away(rt);
+            Err(fault)
+        }
+    }
+}
+
+/// The disk over a file that was made.
+fn over_made(alloc: Global, file: File, sectors: u32) -> Result<FileDisk<DiskFile>, OpenFault>
+    ensures new { IfOk result (λ disk. IsNew disk) }
+    ensures sectors { IfOk result (λ disk. (file_facts disk).sectors ≡ sectors) }
+{
+    let disk = FileDisk::over(alloc, DiskFile::new(file, false)?)?;
+    if disk.sectors() != sectors {
+        return Err(OpenFault::BadLength);
+    }
+    Ok(disk)
 }

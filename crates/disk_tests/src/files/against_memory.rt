@@ -22,8 +22,10 @@ fn is_as(alloc: Global, memory: &mut Memory, plan: Plan, calls: u32) -> bool {
     };
     let alike = call_both(&mut file, memory, calls).is_some();
     let synced = file.sync().is_ok();
-    let held = holds(alloc, file.into_file(), memory);
-    alike && synced && held
+    let file = file.into_file();
+    let all_synced = file.synced.get() == file.writes;
+    let held = holds(alloc, file, memory);
+    alike && synced && all_synced && held
 }
 
 // Whether it is as a disk in memory of so many sectors.
@@ -54,21 +56,23 @@ fn read_all(alloc: Global, file: Fake) -> Option<u64> {
     filled.then_some(reads)
 }
 
-// Fills such a file: how many writes and reads that takes, and then how many reads to read it all.
-fn fill_and_read(alloc: Global) -> Option<[u64; 3]> {
+// Fills such a file: how many writes that takes, how many there were when it was synced, how many
+// reads that takes, and then how many to read it all.
+fn fill_and_read(alloc: Global) -> Option<[u64; 4]> {
     let mut disk = disk(alloc, 5_000, WELL)?;
     let filled = fill(&mut disk) && disk.sync().is_ok();
     let file = disk.into_file();
-    let (writes, reads) = (file.writes, file.reads);
+    let counts = [file.writes, file.synced.get(), file.reads];
     let again = read_all(alloc, file)?;
-    filled.then_some([writes, reads, again])
+    let [writes, synced, reads] = counts;
+    filled.then_some([writes, synced, reads, again])
 }
 
 #[test]
 fn neighbours_go_out_together_and_are_read_together(rt: HostRuntime) {
-    // Two writes of 1 MiB, and one of the rest. Reads of 8, 16, .. 1,024 sectors, then of 2,048,
-    // and then of the rest.
-    assert!(rt; fill_and_read(rt.alloc()) == Some([3, 0, 10]));
+    // Two writes of 1 MiB, one of the rest, and then the sync. Reads of 8, 16, .. 1,024 sectors,
+    // then of 2,048, and then of the rest.
+    assert!(rt; fill_and_read(rt.alloc()) == Some([3, 3, 0, 10]));
 }
 
 // What sectors 3 and 4 hold when the file is opened again.

@@ -31,6 +31,8 @@ pub(crate) struct Fake {
     plan: Plan,
     pub(crate) reads: u64,
     pub(crate) writes: u64,
+    /// How many writes there had been when it was last synced.
+    pub(crate) synced: Cell<u64>,
     at: usize,
     turn: bool,
     calls: Cell<u64>,
@@ -44,6 +46,7 @@ impl Fake {
             plan,
             reads: 0,
             writes: 0,
+            synced: Cell::new(0),
             at: 0,
             turn: false,
             calls: Cell::new(0),
@@ -123,7 +126,9 @@ impl OpenFile for Fake {
     }
 
     fn sync_all(&self) -> io::Result<()> {
-        self.call()
+        self.call()?;
+        self.synced.set(self.writes);
+        Ok(())
     }
 
     fn sync_data(&self) -> io::Result<()> {

@@ -1,7 +1,7 @@
 // Files of the system.
 
 use crate::stops::{read, write};
-use file_disk::{FileDisk, OpenFault};
+use file_disk::{DiskFile, FileDisk, Made, OpenFault};
 use sector_disk::Disk;
 use std::fs;
 use std::fs::File;
@@ -9,13 +9,18 @@ use std::os::unix::fs::PermissionsExt;
 
 // What opening answers: how many sectors there are.
 fn sectors(rt: &HostRuntime, path: &str) -> Result<u32, OpenFault> {
-    let disk: FileDisk<File> = FileDisk::open(rt, rt.alloc(), path)?;
+    let disk: FileDisk<DiskFile> = FileDisk::open(rt, rt.alloc(), path)?;
     Ok(disk.sectors())
 }
 
-// A disk of so many sectors over a new file, or over one that has as many.
-fn make(rt: &HostRuntime, path: &str, sectors: u32) -> Result<FileDisk<File>, OpenFault> {
-    FileDisk::make(rt, rt.alloc(), path, sectors)
+// A disk of so many sectors over a new file, which gets its name at once, or over one that has as
+// many.
+fn make(rt: &HostRuntime, path: &str, sectors: u32) -> Result<FileDisk<DiskFile>, OpenFault> {
+    let Made { disk, name } = FileDisk::make(rt, rt.alloc(), path, sectors)?;
+    match name.map_or(Ok(()), |name| name.give(rt)) {
+        Ok(()) => Ok(disk),
+        Err(_) => Err(OpenFault::CannotOpen),
+    }
 }
 
 fn made(rt: &HostRuntime, path: &str, sectors: u32) -> Result<u32, OpenFault> {
@@ -68,7 +73,7 @@ fn make_and_write(rt: &HostRuntime, path: &str) -> Result<[Option<u8>; 2], OpenF
 
 // What the last three of the sectors hold, where the disk can be synced.
 fn last_three(rt: &HostRuntime, path: &str) -> Result<[Option<u8>; 3], OpenFault> {
-    let mut disk: FileDisk<File> = FileDisk::open(rt, rt.alloc(), path)?;
+    let mut disk: FileDisk<DiskFile> = FileDisk::open(rt, rt.alloc(), path)?;
     let contents = [read(&mut disk, 5), read(&mut disk, 6), read(&mut disk, 7)];
     Ok(if disk.sync().is_ok() {
         contents
@@ -107,7 +112,7 @@ fn make_of_five(rt: &HostRuntime, path: &str) -> Result<bool, OpenFault> {
 
 // Opens such a disk for reading: whether it reads and syncs, and whether it syncs after a write.
 fn read_and_write(rt: &HostRuntime, path: &str) -> Result<(bool, bool), OpenFault> {
-    let mut disk: FileDisk<File> = FileDisk::open_read_only(rt, rt.alloc(), path)?;
+    let mut disk: FileDisk<DiskFile> = FileDisk::open_read_only(rt, rt.alloc(), path)?;
     let reads = disk.sectors() == 8 && disk.sync().is_ok() && read(&mut disk, 1) == Some(5);
     let writes = write(&mut disk, 1, 6);
     Ok((reads && writes, disk.sync().is_ok()))

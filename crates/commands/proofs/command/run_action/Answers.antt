@@ -1,5 +1,6 @@
 use Rattle.std.proofs.Common.{Some, map, subst, sym}
 use Rattle.std.specs.Prelude.{string_bytes}
+use Rattle.file_disk.specs.declared.disk_file.DiskFile.{DiskFile}
 use Rattle.commands.specs.Script.{Streams}
 use Rattle.commands.specs.Words.{line_of, remove}
 use Rattle.commands.specs.inside.Ends.{CommandEnds}
@@ -9,11 +10,11 @@ use Rattle.commands.proofs.command.run_action.Goals as goal
 pub returns-in-Remove-clause-ends : goal.returns-in-Remove-clause-ends
 returns-in-Remove-clause-ends g c =
     let io : Streams = record { unread = g.I.Read.remaining c.args.input.now; before = g.O.Write.contents c.args.output.now; after = g.O.Write.contents c.ask.new.output } in
-    subst (λ a. CommandEnds g.row.R-File.Denot (Some (line_of a)) io c.ask.result) (sym c.in-Remove.is)
-    (subst (λ name. CommandEnds g.row.R-File.Denot (Some (remove c.in-Remove.disk.now name)) io c.ask.result) c.as_bytes.ensures.value (remove_ends _ io c.in-Remove.disk.now _ _ c.ask.ensures.ends))
+    subst (λ a. CommandEnds DiskFile (Some (line_of a)) io c.ask.result) (sym c.in-Remove.is)
+    (subst (λ name. CommandEnds DiskFile (Some (remove c.in-Remove.disk.now name)) io c.ask.result) c.as_bytes.ensures.value (remove_ends _ io c.in-Remove.disk.now _ _ c.ask.ensures.ends))
 
 pub returns-in-Preload-clause-ends : goal.returns-in-Preload-clause-ends
 returns-in-Preload-clause-ends g c =
     let io : Streams = record { unread = g.I.Read.remaining c.args.input.now; before = g.O.Write.contents c.args.output.now; after = g.O.Write.contents c.preload.new.output } in
-    subst (λ a. CommandEnds g.row.R-File.Denot (Some (line_of a)) io c.preload.result) (sym c.in-Preload.is)
+    subst (λ a. CommandEnds DiskFile (Some (line_of a)) io c.preload.result) (sym c.in-Preload.is)
     (preload_ends _ io c.in-Preload.disk.now (map (λ name. string_bytes name) c.in-Preload.names.now) _ c.preload.ensures.ends)

@@ -1,4 +1,5 @@
 use Rattle.std.proofs.Common.{refl}
+use Rattle.file_disk.specs.declared.disk_file.DiskFile.{DiskFile}
 use Rattle.commands.specs.Script.{Streams}
 use Rattle.commands.specs.Words.{line_of}
 use Rattle.commands.proofs.Asking.{ends_away}
@@ -9,7 +10,7 @@ returns-in_default-behind_streams g c =
     let held = g.O.Write.contents c.args.output.now in
     let io : Streams = record { unread = g.I.Read.remaining c.args.input.now; before = held; after = held } in
     record {
-      ends = ends_away g.row.R-File.Denot (line_of c.args.action.now) io c.keep_away.result refl c.keep_away.ensures.ends;
+      ends = ends_away DiskFile (line_of c.args.action.now) io c.keep_away.result refl c.keep_away.ensures.ends;
       unread = λ other. refl;
       silent = λ no. let yes = c.keep_away.ensures.told in cc;
     }

@@ -22,8 +22,9 @@ returns-in-Some-get-clause-fetched g c = λ waits kept. elim c.if-is_none.branch
       (record {
         bytes = got.0;
         read = got.1;
-        is = c.copy_from_slice.ensures.after ∙ (subst (λ o. IfSome o (λ content. (c.args.at ≤ c.args.at) × (content ≡ sector_among got.0 c.args.at c.args.at))) is (got.2 c.args.at)).1;
-        kept = got.2;
+        whole = got.2;
+        is = c.copy_from_slice.ensures.after ∙ (subst (λ o. IfSome o (λ content. (c.args.at ≤ c.args.at) × (content ≡ sector_among got.0 c.args.at c.args.at))) is (got.3 c.args.at)).1;
+        kept = got.3;
       })
   | else-is_none w ↦ absurd (not_there c.get-2.result w.if-is_none.ensures (c.get-2.ensures.content ∙ kept))
 ]

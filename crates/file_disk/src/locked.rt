@@ -1,0 +1,162 @@
+// Opening a file under its lock.
+
+ghost use Rattle.std.specs.Prelude.{◌≡◌, true};
+ghost use Rattle.std.specs.Fs.{new_options, with_read, with_write};
+
+use crate::device::is_in_use;
+use crate::disk_file::{Access, DiskFile};
+use crate::open::OpenFault;
+use std::alloc::Global;
+use std::fs::{File, Metadata, OpenOptions, TryLockError};
+use std::io::ErrorKind;
+use std::os::unix::fs::{FileTypeExt, MetadataExt};
+use std::rt::Files;
+use std::{fs, io};
+
+/// How often a file is opened anew that was replaced before it was locked, and another name tried
+/// anew that others make and take away.
+pub(crate) const TRIES: u32 = 16;
+
+/// How often the lock of a device is tried, and how many nanoseconds pass between two tries: two
+/// seconds in all. The system's udev holds it for a moment after each writer has let the device go.
+const DEVICE_TRIES: u32 = 200;
+
+const PAUSE: i64 = 10_000_000;
+
+/// Reading alone, of a file that stands.
+fn reading() -> OpenOptions
+    ensures { result ≡ with_read new_options true }
+{
+    let mut how = OpenOptions::new();
+    how.read(true);
+    how
+}
+
+/// Reading and writing, of a file that stands: it isn't made, and none of its bytes are cut.
+fn writing() -> OpenOptions
+    ensures { result ≡ with_write (with_read new_options true) true }
+{
+    let mut how = reading();
+    how.write(true);
+    how
+}
+
+/// Whether writing isn't allowed.
+fn is_denied(kind: ErrorKind) -> bool {
+    matches!(
+        kind,
+        ErrorKind::PermissionDenied | ErrorKind::ReadOnlyFilesystem
+    )
+}
+
+/// Opens a file for what it is opened for; for reading alone where writing isn't allowed. Says
+/// whether it is open for reading alone.
+fn open_file<R: Files<File = File>>(
+    rt: &R,
+    path: &str,
+    access: Access,
+) -> io::Result<(File, bool)> {
+    if let Access::Changes = access {
+        match writing().open(rt, path) {
+            Ok(file) => return Ok((file, false)),
+            Err(fault) if !is_denied(fault.kind()) => return Err(fault),
+            Err(_) => {}
+        }
+    }
+    Ok((reading().open(rt, path)?, true))
+}
+
+/// Whether two names or descriptors lead to one file.
+pub(crate) fn is_same_file(one: &Metadata, other: &Metadata) -> bool {
+    one.dev() == other.dev() && one.ino() == other.ino()
+}
+
+/// Waits between two tries. A signal may end it early.
+fn pause() {
+    let asked = libc::types::timespec {
+        tv_sec: 0,
+        tv_nsec: PAUSE,
+    };
+    let mut left = libc::types::timespec {
+        tv_sec: 0,
+        tv_nsec: 0,
+    };
+    libc::nanosleep(&asked, &mut left);
+}
+
+/// Locks a file, without waiting: with others who read it, or alone for changes.
+fn try_lock(file: &File, access: Access) -> Result<(), TryLockError> {
+    match access {
+        Access::Reading => file.try_lock_shared(),
+        Access::Changes => file.try_lock(),
+    }
+}
+
+/// Locks a device for changes, where that can be had within two seconds; anything else at once or
+/// not at all.
+fn lock(file: &File, access: Access, is_device: bool) -> Result<(), OpenFault> {
+    let tries = match access {
+        Access::Changes if is_device => DEVICE_TRIES,
+        _ => 0,
+    };
+    for _ in 0..tries {
+        match try_lock(file, access) {
+            Ok(()) => return Ok(()),
+            Err(TryLockError::WouldBlock) => pause(),
+            Err(TryLockError::Error(_)) => return Err(OpenFault::CannotOpen),
+        }
+    }
+    try_lock(file, access).map_err(|_| OpenFault::CannotOpen)
+}
+
+/// The metadata of a path, where it leads to a regular file or a block device. Anything else isn't
+/// opened: to open a pipe waits for its other end.
+fn look<R: Files>(rt: &R, path: &str) -> Result<Metadata, OpenFault> {
+    match fs::metadata(rt, path) {
+        Ok(found) if found.is_file() || found.file_type().is_block_device() => Ok(found),
+        _ => Err(OpenFault::CannotOpen),
+    }
+}
+
+/// Whether a path leads to an open file.
+fn leads_to<R: Files>(rt: &R, path: &str, file: &File) -> bool {
+    match (fs::metadata(rt, path), file.metadata()) {
+        (Ok(named), Ok(open)) => is_same_file(&named, &open),
+        _ => false,
+    }
+}
+
+/// Opens a regular file or a block device and locks it. A file that was replaced before it was
+/// locked is opened anew. A device that is in use isn't opened for changes.
+pub(crate) fn open_locked<R: Files<File = File>>(
+    rt: &R,
+    alloc: Global,
+    path: &str,
+    access: Access,
+) -> Result<DiskFile, OpenFault> {
+    for _ in 0..TRIES {
+        let found = look(rt, path)?;
+        let is_device = found.file_type().is_block_device();
+        let Ok((file, is_read_only)) = open_file(rt, path, access) else {
+            return Err(OpenFault::CannotOpen);
+        };
+        lock(&file, access, is_device)?;
+        if !leads_to(rt, path, &file) {
+            continue;
+        }
+        if let (Access::Changes, true) = (access, is_device) {
+            refuse_used(rt, alloc, found.rdev())?;
+        }
+        return DiskFile::new(file, is_read_only);
+    }
+    Err(OpenFault::CannotOpen)
+}
+
+/// Refuses a device that is in use.
+fn refuse_used<R: Files<File = File>>(rt: &R, alloc: Global, rdev: u64) -> Result<(), OpenFault> {
+    match is_in_use(rt, alloc, rdev) {
+        Ok(false) => Ok(()),
+        Err(fault) if fault.kind() == ErrorKind::OutOfMemory => Err(OpenFault::OutOfMemory),
+        _ => Err(OpenFault::CannotOpen),
+    }
+}
