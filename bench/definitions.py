@@ -98,7 +98,7 @@ PLAIN = {
     'elf_dynamic/Strings: soname': "the library's own name, DT_SONAME, where it has one",
     'elf_dynamic/Strings: needed': 'the names of the libraries that an object needs, DT_NEEDED, in their order',
     'elf_dynamic/Refusal: first_refusal': 'the first of the tests E1 to E27 and E30 to E32 that a file fails, or none',
-    'hash_check/Export: is_exported': 'whether symbol number i is defined in its object and visible to others',
+    'hash_check/Export: is_exported': 'symbol number i, not 0, is global or weak, defined, NOTYPE, OBJECT or FUNC, and DEFAULT or PROTECTED',
     'hash_check/Definition: definition_of': 'the symbol that an object exports under a name, found by going through all its symbols',
     'hash_check/Admission: has_bad_hash_table': "E29: the hash table has no bucket, a bad index, or a walk that has no end or misses an export",
     'hash_check/FileRefusal: first_file_refusal': 'the first test that a file fails: those above, E28 (two exports of one name), then E29',

@@ -189,7 +189,8 @@ class Making:
 
     def odd_leftovers(self):
         """What isn't a regular file stays as it is, with what it leads to."""
-        for kind, make in odd_things(self.folder):
+        links = [('a link to a file', lambda path: make_link(path, self.folder / 'linked'))]
+        for kind, make in [*odd_things(self.folder), *links]:
             self.clear()
             end = make(self.other)
             self.refused(f'leftover: {kind}')

@@ -35,6 +35,8 @@ SOURCES = {
 }
 OBJECT = ['gcc', '-O1', '-fPIC', '-nostdlib', '-Wl,--hash-style=sysv']
 STARTED = 42
+# How often eight lists are started at once.
+LISTS = 50
 MEDIA = {
     'squashfs': ['mksquashfs', 'content', 'image', '-noappend', '-quiet'],
     'erofs': ['mkfs.erofs', 'image', 'content'],
@@ -437,6 +439,24 @@ class Media:
                     image.write(content)
                 self.want(kind, self.answers(device) == wanted, self.answers(device)[0], 'and not', wanted[0])
 
+    def eight_at_once(self):
+        """The same again and again, with eight lists at once."""
+        kind = 'eight lists of a device whose medium has changed'
+        with loop(zeros(self.image, 64)) as device:
+            self.make(device, 64, 'a.so', 'b.so')
+            states = []
+            for change in (['preload', str(device)], ['remove', str(device), 'b']):
+                self.by.done(*change)
+                os.sync()
+                states.append((self.image.read_bytes(), self.by.done('list', str(device))))
+            for turn in range(LISTS):
+                content, wanted = states[turn % 2]
+                with open(self.image, 'r+b') as image:
+                    image.write(content)
+                lists = [self.by.begin(['list', str(device)]) for _ in range(8)]
+                ends = [self.by.end(it).output for it in lists]
+                self.want(kind, all(output == wanted for output in ends), turn, ends, 'and not', wanted)
+
     def shorter(self):
         """A device that becomes shorter, before a command and within a script."""
         kind = 'a device that became shorter'
@@ -510,7 +530,7 @@ class Media:
 
     def run(self):
         for part in (self.read_only_media, self.another_user, self.devices, self.odd_sizes, self.partitions, self.in_use, self.two_nodes,
-                     self.locks, self.under_the_cache, self.full_medium, self.shorter, self.read_only_device):
+                     self.locks, self.under_the_cache, self.eight_at_once, self.full_medium, self.shorter, self.read_only_device):
             try:
                 part()
             except NotHere as why:

@@ -1,8 +1,10 @@
 #!/usr/bin/env bash
-# build.sh [COMPILER [FOLDER]] builds the C library and the loader: FOLDER gets librlibreg.a,
-# rlibreg.h and rlibreg-run. COMPILER is `llvm` or `rattle`, the toolchain's own; FOLDER is c/out.
+# build.sh [COMPILER [FOLDER]] builds the C library, the loader and the program: FOLDER gets
+# librlibreg.a, rlibreg.h, rlibreg-run and rlibreg. COMPILER is `llvm` or `rattle`, the toolchain's
+# own; FOLDER is c/out.
 #
-# The crate rlibreg_c is proved first, and the crates below it, unless their proofs are kept.
+# The crates rlibreg_c and rlibreg are proved first, and the crates below them, unless their proofs
+# are kept.
 set -eu
 cd "$(dirname "$0")/.."
 compiler=${1:-llvm}
@@ -44,4 +46,12 @@ END
 )
 cp c/rlibreg.h "$folder/"
 gcc $flags -o "$folder/rlibreg-run" c/rlibreg_run.c "$folder/librlibreg.a"
-echo "built in $folder: librlibreg.a, rlibreg.h, rlibreg-run"
+
+# The program, with what its language can't ask of the system: RLIBREG_O is what `rt run` links.
+if [ -z "${RLIBREG_O:-}" ]; then
+    (cd crates/rlibreg && rt run --backend "$compiler" -- image data/minimal.so 0x10000 > /dev/null)
+    RLIBREG_O=crates/rlibreg/out/rlibreg.o
+fi
+gcc $flags -pie -Wl,--gc-sections,--wrap=fsync -o "$folder/rlibreg" c/rlibreg_forget.c \
+    "$RLIBREG_O" "$kit/c/libos_c.a" "$kit/c/liblibc_c.a" -lm
+echo "built in $folder: librlibreg.a, rlibreg.h, rlibreg-run, rlibreg"

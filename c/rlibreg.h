@@ -21,7 +21,7 @@
  *
  * - A disk has one writer at a time, and nobody reads it meanwhile. Who changes it holds the lock
  *   of flock(2) on it alone, who looks shares it. The calls over a file see to that, and so does
- *   the program `rlibreg`, which never waits: where the disk is held it ends with status 3. So
+ *   the program `rlibreg`, which ends with status 3 where the disk is held. So
  *   nothing has to be done beside, and who holds the disk around the program (`flock DISK rlibreg
  *   ..`) shuts it out. Who wants to wait for others, or to do several things at a stretch, holds
  *   the lock of another file, as all others do too (`flock DISK.lock rlibreg ..`).
@@ -36,6 +36,7 @@
  *   has mapped aren't forgotten, so nobody maps the disk who hasn't its lock.
  * - The two roots stand in one block of 4,096 bytes. A medium that ruins a block of that size which
  *   it was writing can lose both.
+ * - There is no checksum: a byte that changed on the medium within a library's code isn't seen.
  * - The file is mapped, so one that is made shorter while it is open ends the process by SIGBUS,
  *   and so does a medium that can't be read.
  * - A disk that may only be read, or is on a file system for reading alone, can be looked at. There
@@ -85,7 +86,7 @@ enum {
     RLIBREG_DONE = 0,
     RLIBREG_NO_ROOM = 1,      /* a buffer is too small: the answer has what is needed */
     RLIBREG_BAD_ARGUMENT = 2, /* an argument isn't as the call says */
-    RLIBREG_SYSTEM = 3,       /* a file can't be opened, locked, made or mapped: errno says why */
+    RLIBREG_SYSTEM = 3,       /* a file can't be opened, locked, synced, made or mapped: errno */
     RLIBREG_HELD = 4,         /* another process, or this one, holds the file */
     RLIBREG_READ_ONLY = 5,    /* a change, but the file wasn't opened for writing */
 
@@ -93,7 +94,7 @@ enum {
     RLIBREG_BAD_BASE = 102,    /* B2: the base is no multiple of the program's unit */
     RLIBREG_MISSING = 103,     /* B3: a needed library isn't installed; the text names both */
     RLIBREG_NO_PLACE = 104,    /* B4: an object's memory would end above 2^47 - 4,096 */
-    RLIBREG_UNDEFINED = 105,   /* B5: a symbol is defined nowhere; the text names it */
+    RLIBREG_UNDEFINED = 105,   /* B5: a symbol is bound to nothing; the text names it */
 
     RLIBREG_BAD_FILE = 201,          /* C1: the file is no library, by the test file_refusal */
     RLIBREG_ALREADY_INSTALLED = 202, /* C2 */
@@ -317,10 +318,11 @@ uint32_t rlibreg_open(rlibreg *registry, const char *path, unsigned flags);
  *
  * RLIBREG_BAD_ARGUMENT where SECTORS isn't 8 to 4,194,304. RLIBREG_HELD, with RLIBREG_WAIT too,
  * where another process holds the other name's file. RLIBREG_SYSTEM with EINVAL where what has that
- * name is no regular file. S1 where a write or a sync fails, errno says why: of a file that stood
- * there a registry was made or not; of a new one there is nothing, or a whole one where it was the
- * folder that couldn't be synced. Else as rlibreg_open and rlibreg_plan_format. After a refusal the
- * file is left as it is, and not open, and nothing was made. A file that is made is sparse: the
+ * name is no regular file, and where what comes before the plan fails. S1 where a write or a sync of
+ * the plan fails, or behind the name that of the folder, or where the other name can't be taken
+ * away, errno says why: of a file that stood there a registry was made or not; of a new one there is
+ * nothing, or behind the name all of it. Else as rlibreg_open and rlibreg_plan_format. After every
+ * other refusal the file is left as it is, and not open, and nothing was made. A file that is made is sparse: the
  * space for it may be found missing later, which is then an S1. */
 uint32_t rlibreg_format(rlibreg *registry, const char *path, uint32_t sectors, unsigned flags);
 

@@ -15,7 +15,7 @@ use crate::unread::no_memory;
 use std::alloc::Global;
 use std::fs::File;
 use std::io::{ErrorKind, Read, Write};
-use std::rt::{Env, Files};
+use std::rt::{Clock, Env, Files};
 use std::{env, io};
 
 /// The words of the process after the program's name: an error of the kind `OutOfMemory` where
@@ -30,7 +30,7 @@ pub fn read_arguments<R: Env + AllocGlobal>(rt: &R) -> io::Result<Vec<String>> {
 
 /// Does what `run_words` does with words that were read. Where they weren't, want of memory is
 /// answered as want of memory, and anything else as a bad command line.
-pub fn run_arguments<R: Files<File = File>, I: Read, O: Write, E: Write>(
+pub fn run_arguments<R: Files<File = File> + Clock, I: Read, O: Write, E: Write>(
     rt: &R,
     alloc: Global,
     words: io::Result<Vec<String>>,

@@ -24,7 +24,7 @@ use requests::Command;
 use std::alloc::Global;
 use std::fs::File;
 use std::io::{Read, Write};
-use std::rt::Files;
+use std::rt::{Clock, Files};
 
 /// Shows what was read of a file, or says why nothing was read.
 pub(crate) fn show_read<O: Write, E: Write>(
@@ -47,7 +47,7 @@ pub(crate) fn show_read<O: Write, E: Write>(
 }
 
 /// `image PROGRAM BASE`.
-fn image<R: Files<File = File>, O: Write, E: Write>(
+fn image<R: Files, O: Write, E: Write>(
     rt: &R,
     alloc: Global,
     program: &str,
@@ -70,7 +70,7 @@ fn image<R: Files<File = File>, O: Write, E: Write>(
 
 /// Does a command.
 #[tactic(auto, using(crate::proofs::Asking::install_ends, crate::proofs::Asking::replace_ends, crate::proofs::Asking::remove_ends, crate::proofs::Asking::preload_ends, crate::proofs::Asking::list_ends))]
-fn run_action<R: Files<File = File>, I: Read, O: Write, E: Write>(
+fn run_action<R: Files<File = File> + Clock, I: Read, O: Write, E: Write>(
     rt: &R,
     alloc: Global,
     action: &Action<'_>,
@@ -133,7 +133,7 @@ fn keep_away<E: Write>(action: &Action<'_>, disk: &str, behind: Behind, errors: 
 }
 
 /// Does a command, unless what it says would be written into its disk.
-fn run_apart<R: Files<File = File>, I: Read, O: Write, E: Write>(
+fn run_apart<R: Files<File = File> + Clock, I: Read, O: Write, E: Write>(
     rt: &R,
     alloc: Global,
     action: &Action<'_>,
@@ -160,7 +160,7 @@ fn run_apart<R: Files<File = File>, I: Read, O: Write, E: Write>(
 }
 
 /// Does the command that the words are.
-fn run_command<R: Files<File = File>, I: Read, O: Write, E: Write>(
+fn run_command<R: Files<File = File> + Clock, I: Read, O: Write, E: Write>(
     rt: &R,
     alloc: Global,
     words: &[String],
@@ -188,7 +188,7 @@ fn run_command<R: Files<File = File>, I: Read, O: Write, E: Write>(
 /// 1 refused, 2 the words aren't a command or BASE isn't read, 3 the disk, a file or a stream
 /// failed, 4 memory was refused. Of a script the greatest stands. Only `script` reads the input.
 /// The file FILE or PROGRAM is read before DISK is opened.
-pub fn run_words<R: Files<File = File>, I: Read, O: Write, E: Write>(
+pub fn run_words<R: Files<File = File> + Clock, I: Read, O: Write, E: Write>(
     rt: &R,
     alloc: Global,
     words: &[String],

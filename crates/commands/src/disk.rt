@@ -18,7 +18,7 @@ use registry::Registry;
 use std::alloc::Global;
 use std::fs::File;
 use std::io::Write;
-use std::rt::Files;
+use std::rt::{Clock, Files};
 use store::StoreRefusal;
 
 /// Why there is no registry to ask.
@@ -45,7 +45,7 @@ fn no_disk(fault: OpenFault) -> NoRegistry
 }
 
 /// Opens the disk that a file is.
-fn open_disk<R: Files<File = File>>(
+fn open_disk<R: Files<File = File> + Clock>(
     rt: &R,
     alloc: Global,
     path: &str,
@@ -60,7 +60,7 @@ fn open_disk<R: Files<File = File>>(
 }
 
 /// Opens the registry on the disk that a file is.
-pub(crate) fn open_registry<R: Files<File = File>>(
+pub(crate) fn open_registry<R: Files<File = File> + Clock>(
     rt: &R,
     alloc: Global,
     path: &str,
@@ -99,7 +99,7 @@ fn take_away<R: Files<File = File>>(rt: &R, name: Option<NewName<'_>>) {
 
 /// Makes an empty registry on the disk of so many sectors that a file is, and makes the file where
 /// none stands: it has its name once all of it is on the medium.
-pub(crate) fn make_registry<R: Files<File = File>>(
+pub(crate) fn make_registry<R: Files<File = File> + Clock>(
     rt: &R,
     alloc: Global,
     path: &str,
@@ -128,7 +128,7 @@ pub(crate) fn make_registry<R: Files<File = File>>(
 
 /// Makes the registry on the disk that a file is one of version 2; where it is one already, it is
 /// opened, and nothing is written.
-pub(crate) fn upgrade_registry<R: Files<File = File>>(
+pub(crate) fn upgrade_registry<R: Files<File = File> + Clock>(
     rt: &R,
     alloc: Global,
     path: &str,

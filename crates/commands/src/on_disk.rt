@@ -25,7 +25,7 @@ use sector_disk::Disk;
 use std::alloc::{AllocError, Global};
 use std::fs::File;
 use std::io::Write;
-use std::rt::Files;
+use std::rt::{Clock, Files};
 
 /// Writes a reply.
 pub(crate) fn tell<O: Write>(reply: &Reply, output: &mut O) -> Status
@@ -52,7 +52,7 @@ fn answer<D: Disk, O: Write>(
 
 /// Applies a command to the registry on a disk, and writes the reply.
 #[tactic(auto, using(crate::proofs::Asking::away_replied))]
-pub(crate) fn ask<R: Files<File = File>, O: Write, E: Write>(
+pub(crate) fn ask<R: Files<File = File> + Clock, O: Write, E: Write>(
     rt: &R,
     alloc: Global,
     disk: &str,
@@ -77,7 +77,7 @@ pub(crate) fn ask<R: Files<File = File>, O: Write, E: Write>(
 
 /// `format DISK SECTORS`.
 #[tactic(auto, using(crate::proofs::Asking::away_formatted))]
-pub(crate) fn format<R: Files<File = File>, O: Write, E: Write>(
+pub(crate) fn format<R: Files<File = File> + Clock, O: Write, E: Write>(
     rt: &R,
     alloc: Global,
     disk: &str,
@@ -100,7 +100,7 @@ pub(crate) fn format<R: Files<File = File>, O: Write, E: Write>(
 
 /// `upgrade DISK`.
 #[tactic(auto, using(crate::proofs::Asking::away_upgraded))]
-pub(crate) fn upgrade<R: Files<File = File>, O: Write, E: Write>(
+pub(crate) fn upgrade<R: Files<File = File> + Clock, O: Write, E: Write>(
     rt: &R,
     alloc: Global,
     disk: &str,
@@ -121,7 +121,7 @@ pub(crate) fn upgrade<R: Files<File = File>, O: Write, E: Write>(
 
 /// `install DISK FILE`. The file is read before the disk is opened.
 #[tactic(auto, using(crate::proofs::Asking::unread_replied))]
-pub(crate) fn install<R: Files<File = File>, O: Write, E: Write>(
+pub(crate) fn install<R: Files<File = File> + Clock, O: Write, E: Write>(
     rt: &R,
     alloc: Global,
     disk: &str,
@@ -141,7 +141,7 @@ pub(crate) fn install<R: Files<File = File>, O: Write, E: Write>(
 
 /// `replace DISK FILE`. The file is read before the disk is opened.
 #[tactic(auto, using(crate::proofs::Asking::unread_replied))]
-pub(crate) fn replace<R: Files<File = File>, O: Write, E: Write>(
+pub(crate) fn replace<R: Files<File = File> + Clock, O: Write, E: Write>(
     rt: &R,
     alloc: Global,
     disk: &str,
@@ -169,7 +169,7 @@ fn bytes_of(alloc: Global, names: &[String]) -> Result<Vec<&[u8]>, AllocError>
 
 /// `preload DISK [NAME]..`.
 #[tactic(auto, using(crate::proofs::Asking::memory_replied))]
-pub(crate) fn preload<R: Files<File = File>, O: Write, E: Write>(
+pub(crate) fn preload<R: Files<File = File> + Clock, O: Write, E: Write>(
     rt: &R,
     alloc: Global,
     disk: &str,
@@ -198,7 +198,7 @@ pub(crate) fn preload<R: Files<File = File>, O: Write, E: Write>(
 /// `bind DISK PROGRAM BASE`. BASE is read before any file is opened, and the program before the
 /// disk is.
 #[tactic(auto, using(crate::proofs::Asking::unread_replied, crate::proofs::Asking::bind_ends))]
-pub(crate) fn bind<R: Files<File = File>, O: Write, E: Write>(
+pub(crate) fn bind<R: Files<File = File> + Clock, O: Write, E: Write>(
     rt: &R,
     alloc: Global,
     disk: &str,

@@ -15,7 +15,7 @@ use binders::Binders;
 use std::alloc::Global;
 use std::fs::File;
 use std::io::{Read, Write};
-use std::rt::Files;
+use std::rt::{Clock, Files};
 
 /// Runs a script over a registry with binders none of whose replies was watched yet, and gives the
 /// greatest status of all that happened.
@@ -42,7 +42,7 @@ pub(crate) fn run_watched<I: Read, O: Write, G: TakesEvents>(
 
 /// `script DISK`: from the input to the output.
 #[tactic(auto, using(crate::proofs::Statuses::away_script))]
-pub(crate) fn script<R: Files<File = File>, I: Read, O: Write, E: Write>(
+pub(crate) fn script<R: Files<File = File> + Clock, I: Read, O: Write, E: Write>(
     rt: &R,
     alloc: Global,
     disk: &str,

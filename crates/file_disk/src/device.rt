@@ -29,9 +29,16 @@ fn numbers_of(alloc: Global, rdev: u64) -> io::Result<String> {
     Ok(format!(in alloc; "{major}:{minor}")?)
 }
 
+/// The text of a file, with a mark in the place of bytes that are no UTF-8: a mount point may have
+/// such a name.
+fn read_text<R: Files>(rt: &R, alloc: Global, path: &str) -> io::Result<String> {
+    let bytes = fs::read(&(rt, alloc), path)?;
+    Ok(String::from_utf8_lossy(alloc, &bytes)?)
+}
+
 /// The text of a file, or nothing where there is none.
 fn text_of<R: Files>(rt: &R, alloc: Global, path: &str) -> io::Result<Option<String>> {
-    match fs::read_to_string(&(rt, alloc), path) {
+    match read_text(rt, alloc, path) {
         Ok(text) => Ok(Some(text)),
         Err(fault) if fault.kind() == ErrorKind::NotFound => Ok(None),
         Err(fault) => Err(fault),
@@ -99,7 +106,7 @@ impl Device {
     }
 
     fn is_mounted<R: Files>(&self, rt: &R, alloc: Global) -> io::Result<bool> {
-        let mounts = fs::read_to_string(&(rt, alloc), MOUNTS)?;
+        let mounts = read_text(rt, alloc, MOUNTS)?;
         for line in mounts.lines() {
             if self.is_mounted_by(rt, alloc, line)? {
                 return Ok(true);

@@ -1,16 +1,10 @@
 // The file of the system that a disk is over.
 
 use crate::open::OpenFault;
-use std::cell::Cell;
 use std::fs::{File, Metadata, OpenFile};
 use std::io;
 use std::io::{ErrorKind, Read, Seek, SeekFrom, Write};
-use std::os::fd::AsRawFd;
 use std::os::unix::fs::FileTypeExt;
-
-/// How many bytes at the front of a file the system is made to forget: the roots stand in the first
-/// 1,024, and what the system keeps of a file is in pieces of at most as many bytes as this.
-const FRONT: i64 = 0x20_0000;
 
 /// What a disk is opened for.
 #[derive(Clone, Copy)]
@@ -22,10 +16,6 @@ pub(crate) enum Access {
 }
 
 /// A regular file or a block device, open, and locked until it is dropped.
-///
-/// Its first sync that succeeds has the system forget what it keeps of the front, so that what is
-/// read of the roots after it is what the medium has: after a failed sync the system gives what
-/// never reached the medium to whoever reads.
 #[derive(Drop)]
 pub struct DiskFile {
     file: File,
@@ -33,8 +23,6 @@ pub struct DiskFile {
     is_read_only: bool,
     /// The length in bytes of a block device.
     device_length: Option<u64>,
-    /// Whether no sync has succeeded yet.
-    is_fresh: Cell<bool>,
 }
 
 impl DiskFile {
@@ -56,16 +44,7 @@ impl DiskFile {
             file,
             is_read_only,
             device_length,
-            is_fresh: Cell::new(true),
         })
-    }
-}
-
-/// Has the system forget what it keeps of the front of a file. A first call may leave what a
-/// processor holds in a list of its own.
-fn forget_front(file: &File) {
-    for _ in 0..2 {
-        libc::posix_fadvise(file.as_raw_fd(), 0, FRONT, libc::POSIX_FADV_DONTNEED);
     }
 }
 
@@ -114,13 +93,9 @@ impl OpenFile for DiskFile {
     /// nothing to sync.
     fn sync_all(&self) -> io::Result<()> {
         match self.file.sync_all() {
-            Err(fault) if !self.is_read_only || !has_no_sync(&fault) => return Err(fault),
-            _ => {}
+            Err(fault) if self.is_read_only && has_no_sync(&fault) => Ok(()),
+            answer => answer,
         }
-        if self.is_fresh.replace(false) {
-            forget_front(&self.file);
-        }
-        Ok(())
     }
 
     fn sync_data(&self) -> io::Result<()> {

@@ -10,18 +10,20 @@ use std::alloc::Global;
 use std::fs::{File, Metadata, OpenOptions, TryLockError};
 use std::io::ErrorKind;
 use std::os::unix::fs::{FileTypeExt, MetadataExt};
-use std::rt::Files;
+use std::rt::{Clock, Files};
+use std::thread::sleep;
+use std::time::Duration;
 use std::{fs, io};
 
 /// How often a file is opened anew that was replaced before it was locked, and another name tried
 /// anew that others make and take away.
 pub(crate) const TRIES: u32 = 16;
 
-/// How often the lock of a device is tried, and how many nanoseconds pass between two tries: two
+/// How often the lock of a device is tried, and how many milliseconds pass between two tries: two
 /// seconds in all. The system's udev holds it for a moment after each writer has let the device go.
 const DEVICE_TRIES: u32 = 200;
 
-const PAUSE: i64 = 10_000_000;
+const PAUSE: u64 = 10;
 
 /// Reading alone, of a file that stands.
 fn reading() -> OpenOptions
@@ -71,19 +73,6 @@ pub(crate) fn is_same_file(one: &Metadata, other: &Metadata) -> bool {
     one.dev() == other.dev() && one.ino() == other.ino()
 }
 
-/// Waits between two tries. A signal may end it early.
-fn pause() {
-    let asked = libc::types::timespec {
-        tv_sec: 0,
-        tv_nsec: PAUSE,
-    };
-    let mut left = libc::types::timespec {
-        tv_sec: 0,
-        tv_nsec: 0,
-    };
-    libc::nanosleep(&asked, &mut left);
-}
-
 /// Locks a file, without waiting: with others who read it, or alone for changes.
 fn try_lock(file: &File, access: Access) -> Result<(), TryLockError> {
     match access {
@@ -94,7 +83,7 @@ fn try_lock(file: &File, access: Access) -> Result<(), TryLockError> {
 
 /// Locks a device for changes, where that can be had within two seconds; anything else at once or
 /// not at all.
-fn lock(file: &File, access: Access, is_device: bool) -> Result<(), OpenFault> {
+fn lock<R: Clock>(rt: &R, file: &File, access: Access, is_device: bool) -> Result<(), OpenFault> {
     let tries = match access {
         Access::Changes if is_device => DEVICE_TRIES,
         _ => 0,
@@ -102,50 +91,53 @@ fn lock(file: &File, access: Access, is_device: bool) -> Result<(), OpenFault> {
     for _ in 0..tries {
         match try_lock(file, access) {
             Ok(()) => return Ok(()),
-            Err(TryLockError::WouldBlock) => pause(),
+            Err(TryLockError::WouldBlock) => sleep(rt, Duration::from_millis(PAUSE)),
             Err(TryLockError::Error(_)) => return Err(OpenFault::CannotOpen),
         }
     }
     try_lock(file, access).map_err(|_| OpenFault::CannotOpen)
 }
 
-/// The metadata of a path, where it leads to a regular file or a block device. Anything else isn't
-/// opened: to open a pipe waits for its other end.
-fn look<R: Files>(rt: &R, path: &str) -> Result<Metadata, OpenFault> {
+/// Refuses a path that leads to neither a regular file nor a block device before it is opened: to
+/// open a pipe waits for its other end.
+fn look<R: Files>(rt: &R, path: &str) -> Result<(), OpenFault> {
     match fs::metadata(rt, path) {
-        Ok(found) if found.is_file() || found.file_type().is_block_device() => Ok(found),
+        Ok(found) if found.is_file() || found.file_type().is_block_device() => Ok(()),
         _ => Err(OpenFault::CannotOpen),
     }
 }
 
 /// Whether a path leads to an open file.
-fn leads_to<R: Files>(rt: &R, path: &str, file: &File) -> bool {
-    match (fs::metadata(rt, path), file.metadata()) {
-        (Ok(named), Ok(open)) => is_same_file(&named, &open),
-        _ => false,
+fn leads_to<R: Files>(rt: &R, path: &str, open: &Metadata) -> bool {
+    match fs::metadata(rt, path) {
+        Ok(named) => is_same_file(&named, open),
+        Err(_) => false,
     }
 }
 
 /// Opens a regular file or a block device and locks it. A file that was replaced before it was
 /// locked is opened anew. A device that is in use isn't opened for changes.
-pub(crate) fn open_locked<R: Files<File = File>>(
+pub(crate) fn open_locked<R: Files<File = File> + Clock>(
     rt: &R,
     alloc: Global,
     path: &str,
     access: Access,
 ) -> Result<DiskFile, OpenFault> {
     for _ in 0..TRIES {
-        let found = look(rt, path)?;
-        let is_device = found.file_type().is_block_device();
+        look(rt, path)?;
         let Ok((file, is_read_only)) = open_file(rt, path, access) else {
             return Err(OpenFault::CannotOpen);
         };
-        lock(&file, access, is_device)?;
-        if !leads_to(rt, path, &file) {
+        let Ok(found) = file.metadata() else {
+            return Err(OpenFault::CannotOpen);
+        };
+        let is_device = found.file_type().is_block_device();
+        lock(rt, &file, access, is_device)?;
+        if !leads_to(rt, path, &found) {
             continue;
         }
         if let (Access::Changes, true) = (access, is_device) {
-            refuse_used(rt, alloc, found.rdev())?;
+            refuse_in_use(rt, alloc, found.rdev())?;
         }
         return DiskFile::new(file, is_read_only);
     }
@@ -153,7 +145,7 @@ pub(crate) fn open_locked<R: Files<File = File>>(
 }
 
 /// Refuses a device that is in use.
-fn refuse_used<R: Files<File = File>>(rt: &R, alloc: Global, rdev: u64) -> Result<(), OpenFault> {
+fn refuse_in_use<R: Files<File = File>>(rt: &R, alloc: Global, rdev: u64) -> Result<(), OpenFault> {
     match is_in_use(rt, alloc, rdev) {
         Ok(false) => Ok(()),
         Err(fault) if fault.kind() == ErrorKind::OutOfMemory => Err(OpenFault::OutOfMemory),

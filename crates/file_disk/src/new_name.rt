@@ -1,7 +1,7 @@
 // A file that is made whole under another name before it gets its own.
 
 use crate::locked::{TRIES, is_same_file};
-use crate::open::{OpenFault, is_free, sync_folder};
+use crate::open::{OpenFault, is_free, open_folder};
 use std::alloc::{AllocError, Global};
 use std::fs::{File, TryLockError};
 use std::io::ErrorKind;
@@ -97,7 +97,9 @@ fn lock_made<R: Files<File = File>>(
         Ok(()) | Err(TryLockError::WouldBlock) => Ok(None),
         Err(TryLockError::Error(_)) => {
             // Nobody can lock it here.
-            let _ = fs::remove_file(rt, other);
+            if is_name_of(rt, other, &file) {
+                let _ = fs::remove_file(rt, other);
+            }
             Err(OpenFault::CannotOpen)
         }
     }
@@ -125,6 +127,14 @@ fn lacks_links(kind: ErrorKind) -> bool {
         kind,
         ErrorKind::PermissionDenied | ErrorKind::Unsupported | ErrorKind::TooManyLinks
     )
+}
+
+/// Whether the name that was given is on the medium.
+fn both(first: io::Result<()>, second: io::Result<()>) -> Result<(), NameFault> {
+    match (first, second) {
+        (Ok(()), Ok(())) => Ok(()),
+        _ => Err(NameFault::NotSynced),
+    }
 }
 
 impl<'a> NewName<'a> {
@@ -167,21 +177,18 @@ impl<'a> NewName<'a> {
     /// Gives the file its name, where nothing stands there, and takes the other one away; then
     /// syncs the folder. The file itself has been synced before.
     pub fn give<R: Files<File = File>>(self, rt: &R) -> Result<(), NameFault> {
+        let Ok(folder) = open_folder(rt, self.path) else {
+            return self.refuse(rt);
+        };
         if !is_name_of(rt, &self.other, &self.file) {
             return self.refuse(rt);
         }
         match fs::hard_link(rt, self.other.as_str(), self.path) {
-            Ok(()) => {
-                let taken = fs::remove_file(rt, self.other.as_str());
-                self.settle(rt, taken)
-            }
+            Ok(()) => both(fs::remove_file(rt, self.other.as_str()), folder.sync_all()),
             Err(fault) if lacks_links(fault.kind()) && is_free(rt, self.path) => {
                 match fs::rename(rt, self.other.as_str(), self.path) {
                     // FAT keeps a file's length beside its name.
-                    Ok(()) => {
-                        let synced = self.file.sync_all();
-                        self.settle(rt, synced)
-                    }
+                    Ok(()) => both(self.file.sync_all(), folder.sync_all()),
                     Err(_) => self.refuse(rt),
                 }
             }
@@ -192,13 +199,5 @@ impl<'a> NewName<'a> {
     fn refuse<R: Files>(self, rt: &R) -> Result<(), NameFault> {
         self.take_away(rt);
         Err(NameFault::NotGiven)
-    }
-
-    /// The name was given: it has to reach the medium.
-    fn settle<R: Files<File = File>>(self, rt: &R, done: io::Result<()>) -> Result<(), NameFault> {
-        match (done, sync_folder(rt, self.path)) {
-            (Ok(()), Ok(())) => Ok(()),
-            _ => Err(NameFault::NotSynced),
-        }
     }
 }

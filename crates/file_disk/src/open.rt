@@ -9,11 +9,11 @@ use crate::locked::open_locked;
 use crate::new_name::NewName;
 use sector_disk::{Disk, SECTOR_BYTES};
 use std::alloc::{AllocError, Global};
-use std::fs;
 use std::fs::{File, OpenFile};
 use std::io::{ErrorKind, Read, Seek, Write};
 use std::path::Path;
-use std::rt::Files;
+use std::rt::{Clock, Files};
+use std::{fs, io};
 use thiserror::Error;
 
 /// Why a file isn't opened as a disk.
@@ -53,13 +53,18 @@ fn sectors_in(length: u64) -> Option<u32>
     }
 }
 
-/// Brings the name of a file to the medium: its folder is synced.
-pub(crate) fn sync_folder<R: Files<File = File>>(rt: &R, path: &str) -> Result<(), OpenFault> {
+/// Opens the folder in which a path's file is.
+pub(crate) fn open_folder<R: Files<File = File>>(rt: &R, path: &str) -> io::Result<File> {
     let folder = match Path::new(path).parent() {
         Some(folder) if !folder.as_str().is_empty() => folder.as_str(),
         _ => ".",
     };
-    match File::open(rt, folder) {
+    File::open(rt, folder)
+}
+
+/// Brings the name of a file to the medium: its folder is synced.
+fn sync_folder<R: Files<File = File>>(rt: &R, path: &str) -> Result<(), OpenFault> {
+    match open_folder(rt, path) {
         Ok(folder) if folder.sync_all().is_ok() => Ok(()),
         _ => Err(OpenFault::CannotOpen),
     }
@@ -103,7 +108,7 @@ impl FileDisk<DiskFile> {
     /// Opens the disk that a regular file or a block device is, for changes: its lock is held alone
     /// until the disk is dropped. Where the file may not be written it is opened all the same:
     /// syncs succeed until a sector was written.
-    pub fn open<R: Files<File = File>>(
+    pub fn open<R: Files<File = File> + Clock>(
         rt: &R,
         alloc: Global,
         path: &str,
@@ -116,7 +121,7 @@ impl FileDisk<DiskFile> {
     /// Opens the disk that a regular file or a block device is for reading alone, so that nothing
     /// that this process does can write into it: its lock is shared with others who read, until the
     /// disk is dropped. Syncs succeed until a sector was written, and fail from then on.
-    pub fn open_read_only<R: Files<File = File>>(
+    pub fn open_read_only<R: Files<File = File> + Clock>(
         rt: &R,
         alloc: Global,
         path: &str,
@@ -129,7 +134,7 @@ impl FileDisk<DiskFile> {
     /// Opens the disk of so many sectors that a file is, for changes, and makes one of zeros where
     /// nothing stands. One that stands is on the medium under its name then: its folder is synced.
     /// One that was made gets its name by `NewName::give`, once what it is to hold is synced.
-    pub fn make<'a, R: Files<File = File>>(
+    pub fn make<'a, R: Files<File = File> + Clock>(
         rt: &R,
         alloc: Global,
         path: &'a str,
