@@ -1,14 +1,11 @@
-#!/usr/bin/env python3
-"""Writes the tables of docs/DEFINITIONS.md and of the crates' READMEs anew, from the comment before each definition in `specs/`.
+"""The definitions of `specs/`, as docs/PROOFS.md and docs/DEFINITIONS.md have them, each told by the comment before it.
 
-    python3 bench/definitions.py
-
-The page has READING: the main definitions, in the order of a reading. Each crate's README has its other definitions: first
-those that the CLAUSES of the README's tables cite, directly or through others, which are found by following the names in the
-clauses and in the definitions, down to the toolchain's own; then those that only contracts of single crates cite. What is
-written by hand stays: the text outside the `<!-- .. -->` marks. Nothing is written where a clause or a definition
-of READING or PLAIN isn't there any more, where no clause rests on a definition of READING, or where CRATES doesn't name
-each crate that has definitions once.
+READING has the main ones, in the order of a reading. The others are told by crate: first those that the CLAUSES of the
+tables of docs/PROOFS.md cite, directly or through others, which are found by following the names in the clauses and in the
+definitions, down to the toolchain's own; then those that only contracts of single crates cite. PLAIN has a plain sentence
+in place of a comment that leaves something to its context. It ends with what is wrong where a clause or a definition of
+READING or PLAIN isn't there any more, where no clause rests on a definition of READING, or where CRATES doesn't name each
+crate that has definitions once.
 
 The first definition of a file may have the file's own comment. Constants share the comment of the first of them; any
 other definition without one is reported, and so is each row of over 160 columns.
@@ -19,8 +16,7 @@ import sys
 from pathlib import Path
 
 ROOT = Path(__file__).resolve().parent.parent
-PAGE = ROOT / 'docs' / 'DEFINITIONS.md'
-HEADINGS = ('### That clauses of the repository\'s README rest on', '### Of contracts of single crates')
+HEADINGS = ('Cited by the clauses of [PROOFS](PROOFS.md):', 'By contracts of single crates:')
 WIDEST = 160
 CLAUSES = [
     ('sector_disk/disk', 'read write sync', 'calls honest'),
@@ -180,6 +176,12 @@ CRATES = [
     ('states', 'States'), ('roots', 'Root, catalogue and entry sectors'), ('passes', 'Passes over a disk'), ('store', 'Named byte strings'),
     ('snapshots', 'Snapshots'), ('registry', 'The registry on a disk'), ('binders', 'Binders in slots'), ('byte_disk', 'A disk over given bytes'),
     ('byte_registry', 'A registry on given bytes'), ('rlibreg_c', 'The calls for C'), ('commands', 'The program')]
+HEAD = """# Definitions
+
+For who reads a clause: all definitions but the main ones, which [PROOFS](PROOFS.md) has in the order of a reading. `bench/documents.py` makes this page from the comments in `specs/`.
+
+Beside the name of each file is the section of the public standard that its definitions are taken from, or "own" where the rule is this project's. A definition with another section than its file's has that behind it. The standards are gABI (System V ABI, the chapters on object files and on program loading and dynamic linking), psABI (its AMD64 supplement), elf(5) and ld.so(8).
+"""
 STANDARD = re.compile(r'\(([^()]*(?:\([^()]*\)[^()]*)*)\)')
 VALUE = re.compile(r'^\S+ = (0x[0-9a-f]+|[0-9]+)$')
 FIELD = re.compile(r'^[pe]_[a-z]+')
@@ -246,7 +248,7 @@ def read_all():
     twice = {crate for crate in named if named.count(crate) > 1}
     for fault, crates in [('lacks', lacking), ('has, although gone,', gone), ('has twice', twice)]:
         if crates:
-            sys.exit(f'CRATES {fault} {", ".join(sorted(crates))}. Nothing was written.')
+            sys.exit(f'CRATES {fault} {", ".join(sorted(crates))}.')
     for crate, _ in CRATES:
         for path in sorted((ROOT / 'crates' / crate / 'specs').glob('*.antt')):
             if path.stem not in ('Lib', 'inside'):
@@ -324,7 +326,7 @@ def cited(files):
             for label in labels.split():
                 clauses = list(clause_texts(head.group(0), label)) if head else []
                 if not clauses:
-                    sys.exit(f'{file}.rt has no clause {label} of {call}. Nothing was written.')
+                    sys.exit(f'{file}.rt has no clause {label} of {call}.')
                 waiting += names_in(' '.join(clauses), uses_of(lines), (), file)
     found = set()
     while waiting:
@@ -386,30 +388,17 @@ def crate_rows(files, crate, wanted):
     return rows
 
 
-def replaced(text, mark, lines):
-    """A page with these lines between its marks."""
-    begin, end = f'<!-- {mark} -->', f'<!-- end of {mark} -->'
-    before, rest = text.split(begin)
-    return f'{before}{begin}\n\n' + '\n'.join(lines) + f'\n{end}' + rest.split(end)[1]
-
-
-def write_crates(files, first, needed):
-    """The tables of each crate's README, and how many definitions each crate has beside the main ones."""
-    counts = []
+def page(files, first, needed):
+    """The page of all definitions but the main ones, crate by crate."""
+    lines = [HEAD]
     for crate, title in CRATES:
-        others = [one for one in every_of(files) if one[0].split('/')[0] == crate and one not in first]
-        if not others:
-            continue
-        groups = (lambda one: one in needed and one not in first), (lambda one: one not in needed)
-        lines = []
-        for heading, wanted in zip(HEADINGS, groups):
-            rows = crate_rows(files, crate, wanted)
+        groups = [lambda one: one in needed and one not in first, lambda one: one not in needed]
+        parts = [(heading, crate_rows(files, crate, wanted)) for heading, wanted in zip(HEADINGS, groups)]
+        if any(rows for _, rows in parts):
+            lines += [f'## {crate}', '', f'{title}.', '']
+        for heading, rows in parts:
             lines += [heading, '', *table(('Definition', 'Says'), *rows), ''] if rows else []
-        page = ROOT / 'crates' / crate / 'README.md'
-        page.write_text(replaced(page.read_text(), 'definitions', lines))
-        cited_count = sum(one in needed for one in others)
-        counts.append((title, f'[`crates/{crate}`](../crates/{crate}/README.md#all-its-definitions)', str(cited_count), str(len(others) - cited_count)))
-    return counts
+    return '\n'.join(lines)
 
 
 def every_of(files):
@@ -417,27 +406,25 @@ def every_of(files):
     return [(file, found[0]) for file, (_, all_found) in files.items() for found in all_found]
 
 
-def main():
+def all_of_them():
+    """The definitions of each file; the main ones; and those that the clauses cite."""
     files = read_all()
-    every = set(every_of(files))
-    needed = cited(files)
+    every, needed = set(every_of(files)), cited(files)
     first = listed_in(part for _, _, parts in READING for part in parts)
     for one in first + listed_in(PLAIN):
         if one not in every:
-            sys.exit(f'{one[0]} has no definition {one[1]}. Nothing was written.')
+            sys.exit(f'{one[0]} has no definition {one[1]}.')
     for one in first:
         if one not in needed:
-            sys.exit(f'No clause of the README rests on {one[1]} of {one[0]}. Nothing was written.')
+            sys.exit(f'No clause rests on {one[1]} of {one[0]}.')
+    return files, first, needed
+
+
+def numbers(files, first, needed):
+    """How many there are."""
+    every = every_of(files)
     format_count = sum(file.startswith(('elf_file/', 'elf_dynamic/')) for file, _ in needed)
-    numbers = (f'There are {len(every)} definitions in all. The clauses of the README cite {len(needed)} of them, directly or through '
-               f'others, of which {format_count} are of the ELF format: its constants, its fields, and the tests of a file. The '
-               f'{len(first)} main ones are below. The other {len(needed) - len(first)} and the {len(every) - len(needed)} that only '
-               'contracts of single crates cite are in the READMEs of the crates.')
-    text = replaced(PAGE.read_text(), 'numbers', [numbers, ''])
-    text = replaced(text, 'reading', reading(files))
-    counts = write_crates(files, first, needed)
-    text = replaced(text, 'crates', [*table(('What', 'Crate', 'Cited by the README\'s clauses', 'By contracts of single crates'), *counts), ''])
-    PAGE.write_text(text)
-
-
-main()
+    return (f'There are {len(every):,} definitions in all. The clauses above cite {len(needed)} of them, directly or through '
+            f'others, of which {format_count} are of the ELF format: its constants, its fields, and the tests of a file. The '
+            f'{len(first)} main ones are below. [DEFINITIONS](DEFINITIONS.md) has the other {len(needed) - len(first)}, and the '
+            f'{len(every) - len(needed)} that only contracts of single crates cite.')
