@@ -23,7 +23,7 @@ LIMITS = {
     'docs/PERFORMANCE.md': 2000, 'docs/PROOFS.md': 4000}
 OF_A_CRATE = 200
 # names of the standards, of the system and of the toolchain, which the tree doesn't spell
-ELSEWHERE = {'elf_x86_64', 'thread_local', 'lW'}
+ELSEWHERE = {'sqlite_std_file', 'elf_x86_64', 'thread_local', 'lW'}
 WORD = re.compile(r'\S*\w\S*')
 QUOTED = re.compile(r'`([^`\n]+)`')
 NAME = re.compile(r'[A-Za-z_][\w]*(?:::[A-Za-z_]\w*)*')
