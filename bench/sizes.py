@@ -1,11 +1,10 @@
 #!/usr/bin/env python3
-"""Writes the table of the crates' sizes in docs/PERFORMANCE.md anew: `python3 bench/sizes.py`."""
+"""Prints how large each crate of crates.txt is: `python3 bench/sizes.py`."""
 
 import re
 from pathlib import Path
 
 ROOT = Path(__file__).resolve().parent.parent
-PAGE = ROOT / 'docs' / 'PERFORMANCE.md'
 HEAD = '| Crate | Lines of src (without tests), specs, proofs | Functions | Edits | Tests |\n|---|---|---|---|---|\n'
 
 
@@ -30,8 +29,7 @@ def row_of(crate):
 def main():
     lines_of_crates = [line.split('#')[0] for line in (ROOT / 'crates.txt').read_text().splitlines()]
     crates = [line.split(':')[0].split()[0] for line in lines_of_crates if ':' in line]
-    page = PAGE.read_text()
-    PAGE.write_text(re.sub(r'\| Crate \| Lines of src.*?\n\n', lambda _: HEAD + ''.join(map(row_of, crates)) + '\n', page, flags=re.S))
+    print(HEAD + ''.join(map(row_of, crates)), end='')
 
 
 main()

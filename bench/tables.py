@@ -1,7 +1,12 @@
 #!/usr/bin/env python3
-"""Makes the libraries with large and hostile tables that docs/PERFORMANCE.md measures, in the folder that is named, and
-real.c, the source of one that gcc and ld make. Where programs are named behind it, it runs them in turn on each file of
-the folder, and prints the least user + system of seven runs of each in milliseconds."""
+"""Makes libraries with large and hostile tables, and times how long programs `rlibreg` take to read and admit them.
+
+    python3 bench/tables.py FOLDER               makes the files
+    python3 bench/tables.py FOLDER PROGRAM ..    runs the programs in turn on each file
+
+A run is `image FILE 0x1`: a good file is refused too (B2), but only once it is admitted, so no image is made. Printed is
+the least user + system of seven runs of each, in milliseconds.
+"""
 import random
 import resource
 import struct
@@ -132,7 +137,8 @@ def used(program, file):
     """What a run takes of the processor, in milliseconds, or more than any where it hasn't ended after 20 seconds."""
     before = resource.getrusage(resource.RUSAGE_CHILDREN)
     try:
-        subprocess.run([program, str(file)], stdout=subprocess.DEVNULL, check=True, timeout=20)
+        ended = subprocess.run([program, 'image', str(file), '0x1'], stdout=subprocess.DEVNULL, timeout=20)
+        assert ended.returncode == 1, (program, file, ended)
     except subprocess.TimeoutExpired:
         return float('inf')
     after = resource.getrusage(resource.RUSAGE_CHILDREN)
@@ -186,7 +192,6 @@ def main():
     for name, file in made.items():
         (folder / name).write_bytes(file)
         print(name, len(file), 'bytes')
-    (folder / 'real.c').write_text(''.join(f'int function_number_{i:x}(void) {{ return {i}; }}\n' for i in range(6_000)))
 
 
 if __name__ == '__main__':
