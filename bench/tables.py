@@ -7,6 +7,7 @@
 A run is `image FILE 0x1`: a good file is refused too (B2), but only once it is admitted, so no image is made. Printed is
 the least user + system of seven runs of each, in milliseconds.
 """
+
 import random
 import resource
 import struct
