@@ -1,11 +1,15 @@
 -- What a change takes for bytes, their entry and the catalogues: which of the free sectors.
-use Rattle.std.specs.Prelude.{◌≡◌, ℕ, ◌<◌, Bool, true, List, [], ◌∷◌, ◌++◌, length, set, slice_index_or}
+use Rattle.std.specs.Prelude.{◌≡◌, ℕ, ◌*◌, ◌<◌, Bool, true, List, [], ◌∷◌, ◌++◌, length, set}
+use Rattle.std.specs.Prelude.{slice_index_or, IsTrue}
+use Rattle.std.specs.Int.{div_ceil}
 use Rattle.std.specs.List.{remove}
+use Rattle.sector_disk.specs.Disk.{Sector, sector_bytes, DiskFacts, Mixture}
 use Rattle.extents.specs.declared.extent.Extent.{Extent}
-use Rattle.extents.specs.Extent.{one_sector}
+use Rattle.extents.specs.Extent.{one_sector, places}
 use Rattle.extents.specs.Layout.{IsLowestFree, with_flag, with_flags}
 use Rattle.extents.specs.Taken.{taken}
 use Rattle.extents.specs.Used.{layout_of}
+use Rattle.passes.specs.Bytes.{bytes_at, padded}
 use Rattle.store.specs.declared.placed_entry.PlacedEntry.{PlacedEntry}
 use Rattle.store.specs.Opened.{Opened, layout_in_use}
 use Rattle.store.specs.Stands.{name_of, extents_of, catalogues_of, used}
@@ -22,12 +26,23 @@ pub record IsTaken (layout : List Bool) (need : ℕ) (extents : List Extent) (at
   pub entry : IsLowestFree (with_flags true extents layout) at
   pub listed : AreTaken (with_flag true (one_sector at) (with_flags true extents layout)) catalogues
 
+-- in every mixture of the disk the extents have the bytes, then zeros up to whole sectors
+abbrev pub HaveBytes : DiskFacts → List Extent → List ℕ → Type 0
+HaveBytes disk extents bytes = (m : List Sector) → Mixture disk m
+    → bytes_at m (places extents)
+    ≡ padded (sector_bytes * div_ceil (length bytes) sector_bytes) bytes
+
 -- there is one more entry, the last; it, its bytes and the catalogues are in sectors that weren't
 -- in use
-pub record IsPutBehind {D : Type 0} (old new : Opened D) (need : ℕ) : Type 0 where
+pub record IsPutBehind {D : Type 0} (facts : D → DiskFacts) (old new : Opened D)
+    (bytes : List ℕ) : Type 0 where
   pub put : PlacedEntry
-  pub taken : IsTaken (layout_in_use old) need (extents_of put.entry) put.at (catalogues_of new.root)
+  pub taken : IsTaken (layout_in_use old) (div_ceil (length bytes) sector_bytes)
+      (extents_of put.entry) put.at (catalogues_of new.root)
   pub entries : new.entries ≡ old.entries ++ put ∷ []
+  -- on an honest disk
+  pub written : IsTrue (facts old.disk).honest
+      → HaveBytes (facts new.disk) (extents_of put.entry) bytes
 
 -- the entry of this name, at this position
 pub record IsNamedAt {D : Type 0} (store : Opened D) (name : List ℕ) (position : ℕ) : Type 0 where
@@ -35,12 +50,17 @@ pub record IsNamedAt {D : Type 0} (store : Opened D) (name : List ℕ) (position
   pub named : (d : PlacedEntry) → name_of (slice_index_or store.entries position d).entry ≡ name
 
 -- another entry replaces the one of this name; its sectors and the catalogues' weren't in use
-pub record IsPutOver {D : Type 0} (old new : Opened D) (name : List ℕ) (need : ℕ) : Type 0 where
+pub record IsPutOver {D : Type 0} (facts : D → DiskFacts) (old new : Opened D)
+    (name bytes : List ℕ) : Type 0 where
   pub position : ℕ
   pub at : IsNamedAt old name position
   pub put : PlacedEntry
-  pub taken : IsTaken (layout_in_use old) need (extents_of put.entry) put.at (catalogues_of new.root)
+  pub taken : IsTaken (layout_in_use old) (div_ceil (length bytes) sector_bytes)
+      (extents_of put.entry) put.at (catalogues_of new.root)
   pub entries : new.entries ≡ set old.entries position put
+  -- on an honest disk
+  pub written : IsTrue (facts old.disk).honest
+      → HaveBytes (facts new.disk) (extents_of put.entry) bytes
 
 -- the entry of this name is gone; the catalogues are in sectors that weren't in use, so none of
 -- them in one of the entry's

@@ -68,6 +68,10 @@ pub(crate) fn write_change<D: Disk>(
         × HoldsSingles m singles.now) root.now others s'
         → OnOk result ((m : List Sector) → Mixture (D.facts disk.new) m
         → StandsBy Two m root.now others s') }
+    ensures written { IsTrue (D.facts disk.old).honest
+        → OnOk result ((m : List Sector) → Mixture (D.facts disk.new) m
+        → bytes_at m (places extents.now)
+        ≡ padded (sector_bytes * sector_count extents.now) bytes.now) }
 
     // A stop finds each other sector as it might have been found before.
     ensures others { IsTrue (D.facts disk.old).honest

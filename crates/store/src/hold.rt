@@ -93,7 +93,8 @@ impl<D: Disk> Store<D> {
 
     /// The byte string that is held. It reads each of its sectors once, and writes nothing.
     /// Damaged, without a call of the disk, where nobody holds it here: the handle is another
-    /// store's.
+    /// store's, or from before the same disk was opened again. A handle is the sector of its entry:
+    /// where somebody holds a version here whose entry has the same sector, that one is read.
     pub fn read_held(&mut self, alloc: Global, held: &Held) -> Result<Vec<u8>, StoreRefusal>
         ensures { ReadsHeld D.facts self.old self.new held.now result }
     {
@@ -102,7 +103,8 @@ impl<D: Disk> Store<D> {
 
     /// Lets a version go. Where this was its last holder and the state lists it no longer, its
     /// sectors are free. It makes no call of the disk and takes no memory, also after S2; and it
-    /// does nothing where nobody holds the version here.
+    /// does nothing where nobody holds the version here. A handle of another store, or from before
+    /// the disk was opened again, is taken as `read_held` takes it.
     pub fn let_go(&mut self, held: Held)
         ensures { LetsGo D.facts self.old self.new held }
     {

@@ -61,7 +61,7 @@ impl<D: Disk> Kept<D> {
         self.entries[position].entry.file_length
     }
 
-    /// The position of the byte string with this name. It halves an order of the names: 12
+    /// The position of the byte string with this name. It halves an order of the names: 13
     /// comparisons at most.
     pub(crate) fn position(&self, name: &[u8]) -> Option<usize>
         ensures none { IsNone result → LacksName self.now name.now }

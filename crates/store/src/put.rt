@@ -1,10 +1,11 @@
 // What a put writes: bytes, their entry, and the catalogues of the list with it.
-ghost use Rattle.std.specs.Prelude.{◌≡◌, ◌+◌, ◌<◌, ◌≤◌, ◌^◌, ◌⊎◌, ◌++◌, List};
+ghost use Rattle.std.specs.Prelude.{◌≡◌, ◌+◌, ◌*◌, ◌<◌, ◌≤◌, ◌^◌, ◌⊎◌, ◌++◌, List};
 ghost use Rattle.std.specs.Prelude.{length, All, IsTrue, OnOk};
 ghost use Rattle.std.specs.Int.{div_ceil};
-ghost use Rattle.extents.specs.Extent.{sector_count};
+ghost use Rattle.extents.specs.Extent.{places, sector_count};
 ghost use Rattle.extents.specs.Limits.{most_extents, root_sectors};
 ghost use Rattle.sector_disk.specs.Disk.{Sector, sector_bytes, Mixture, IsMixtureBut, LeavesOnly};
+ghost use Rattle.passes.specs.Bytes.{bytes_at, padded};
 ghost use Rattle.passes.specs.Calls.{AreCallsInRow};
 ghost use Rattle.roots.specs.declared.root.Root.{Root};
 ghost use Rattle.roots.specs.declared.version.Version.{Version};
@@ -87,6 +88,10 @@ pub(crate) fn write_put<D: Disk>(
         root.now others s'
         → OnOk result ((m : List Sector) → Mixture (D.facts disk.new) m
         → StandsBy Two m root.now others s') }
+    ensures written { IsTrue (D.facts disk.old).honest
+        → OnOk result ((m : List Sector) → Mixture (D.facts disk.new) m
+        → bytes_at m (places (extents_of put.now.entry))
+        ≡ padded (sector_bytes * sector_count (extents_of put.now.entry)) bytes.now) }
 
     // A stop finds each other sector as it might have been found before.
     ensures others { IsTrue (D.facts disk.old).honest

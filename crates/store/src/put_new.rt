@@ -43,9 +43,9 @@ impl<D: Disk> Kept<D> {
             (refusal_of_new (room_of self.old) (longest_free self.old) s bytes.now) result }
 
         // It takes the sectors of the bytes first, then that of the entry, and then those of the
-        // catalogues.
+        // catalogues. On an honest disk the bytes are there then, and zeros behind them.
         ensures placed { OnOk result
-            (IsPutBehind self.old self.new (div_ceil (length bytes.now) sector_bytes)) }
+            (IsPutBehind D.facts self.old self.new bytes.now) }
 
         // What somebody holds stays as it was.
         ensures held { KeepsHeld D.facts self.old self.new }
@@ -131,9 +131,9 @@ impl<D: Disk> Store<D> {
             (refusal_of_new (room_of self.old) (longest_free self.old) s bytes.now) result }
 
         // It takes the sectors of the bytes first, then that of the entry, and then those of the
-        // catalogues.
+        // catalogues. On an honest disk the bytes are there then, and zeros behind them.
         ensures placed { OnOk result
-            (IsPutBehind self.old self.new (div_ceil (length bytes.now) sector_bytes)) }
+            (IsPutBehind D.facts self.old self.new bytes.now) }
 
         // What somebody holds stays as it was.
         ensures held { KeepsHeld D.facts self.old self.new }

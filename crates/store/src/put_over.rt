@@ -44,9 +44,9 @@ impl<D: Disk> Kept<D> {
             (refusal_of_put (room_of self.old) (longest_free self.old) s bytes.now) result }
 
         // It takes the sectors of the bytes first, then that of the entry, and then those of the
-        // catalogues.
+        // catalogues. On an honest disk the bytes are there then, and zeros behind them.
         ensures placed { OnOk result
-            (IsPutOver self.old self.new name.now (div_ceil (length bytes.now) sector_bytes)) }
+            (IsPutOver D.facts self.old self.new name.now bytes.now) }
 
         // What somebody holds stays as it was.
         ensures held { KeepsHeld D.facts self.old self.new }
@@ -131,9 +131,9 @@ impl<D: Disk> Store<D> {
             (refusal_of_put (room_of self.old) (longest_free self.old) s bytes.now) result }
 
         // It takes the sectors of the bytes first, then that of the entry, and then those of the
-        // catalogues.
+        // catalogues. On an honest disk the bytes are there then, and zeros behind them.
         ensures placed { OnOk result
-            (IsPutOver self.old self.new name.now (div_ceil (length bytes.now) sector_bytes)) }
+            (IsPutOver D.facts self.old self.new name.now bytes.now) }
 
         // What somebody holds stays as it was.
         ensures held { KeepsHeld D.facts self.old self.new }

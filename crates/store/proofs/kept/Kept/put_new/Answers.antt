@@ -31,6 +31,7 @@ use Rattle.store.proofs.Holders.{keeps_same, keeps_table}
 use Rattle.store.proofs.News.{IsNew, free_room, room_place, new_next, new_moved, new_put, new_room}
 use Rattle.store.proofs.Placing.{taken_so}
 use Rattle.store.proofs.Untouched.{untouched}
+use Rattle.store.proofs.Written.{have_bytes}
 use Rattle.store.proofs.kept.Kept.put_new.Given as given
 use Rattle.store.proofs.kept.Kept.put_new.Goals.{After-take_room, After-next_root-root}
 use Rattle.store.proofs.kept.Kept.put_new.Goals as goal
@@ -239,4 +240,7 @@ returns-clause-placed g c =
       put = put;
       taken = subst (λ store. IsTaken (layout_in_use store) (div_ceil (length c.args.bytes.now) 512) (extents_of put.entry) put.at (catalogues_of c.next_root-root.result)) c.self.view_is taken;
       entries = c.in-Ok.ensures.items ∙ ap (λ l. l ++ put ∷ []) c.reserve-2.ensures.items ∙ ap (λ store. store.entries ++ put ∷ []) c.self.view_is;
+      written = λ honest. have_bytes (g.D.Disk.facts c.write_put.new.disk) (extents_of put.entry) c.args.bytes.now
+          (ap sector_count c.new_entry-put.ensures.extents ∙ room.sum ∙ c.sector_need.ensures)
+          (c.in_default.ensures.written (subst (λ store. IsTrue (g.D.Disk.facts store.disk).honest) (sym c.self.view_is) honest));
     }

@@ -33,6 +33,7 @@ use Rattle.store.proofs.News.{free_room, room_place}
 use Rattle.store.proofs.Placing.{taken_so}
 use Rattle.store.proofs.Replacements.{IsReplacement, replacement_moved, replacement_next, replacement_put, replacement_room}
 use Rattle.store.proofs.Untouched.{untouched}
+use Rattle.store.proofs.Written.{have_bytes}
 use Rattle.store.proofs.UsedAlone.{no_entry}
 use Rattle.store.proofs.kept.Kept.put_over.Given as given
 use Rattle.store.proofs.kept.Kept.put_over.Goals.{After-next_root-root, After-catalogues, After-give_up}
@@ -253,4 +254,7 @@ returns-clause-placed g c =
       put = put;
       taken = subst (λ store. IsTaken (layout_in_use store) (div_ceil (length c.args.bytes.now) 512) (extents_of put.entry) put.at (catalogues_of c.next_root-root.result)) c.self.view_is taken;
       entries = ap (λ store. set store.entries c.in-Some.position put) c.self.view_is;
+      written = λ honest. have_bytes (g.D.Disk.facts c.write_put.new.disk) (extents_of put.entry) c.args.bytes.now
+          (ap sector_count c.new_entry-put.ensures.extents ∙ room.sum ∙ c.sector_need.ensures)
+          (c.in_default-write_put.ensures.written (subst (λ store. IsTrue (g.D.Disk.facts store.disk).honest) (sym c.self.view_is) honest));
     }
