@@ -1,17 +1,19 @@
 -- Byte strings are held one by one, and let go again where one is refused.
-use Rattle.std.proofs.Common.{◌≡◌, ⊎_elim, ℕ, ◌+◌, ◌<◌, ◌≤◌, ◌==◌, if◌then◌else◌, List, [], ◌∷◌, ◌++◌, get_or, Ok, Err, IsFalse, refl, sym, ap, subst, ◌∙◌, arith}
-use Rattle.std.proofs.lemmas.Bool.{cases_lt, false≢true}
+use Rattle.std.proofs.Common.{◌≡◌, ⊎_elim, ℕ, suc, ◌+◌, ◌<◌, ◌≤◌, ◌==◌, eqb, if◌then◌else◌, List, [], ◌∷◌, ◌++◌, length, get_or, Ok, Err, IsFalse, refl, sym, ap, subst, ◌∙◌, arith}
+use Rattle.std.proofs.lemmas.Bool.{cases_eq, cases_lt, cond-false, false≢true, ne_eqb}
 use Rattle.std.proofs.lemmas.List.{get_or_append_left, get_or_push, length-append}
 use Rattle.std.proofs.lemmas.List.Sums.{sum_by-append, sum_by-cons}
 use Rattle.sector_disk.specs.Disk.{DiskFacts}
 use Rattle.store.specs.declared.placed_entry.PlacedEntry.{PlacedEntry}
 use Rattle.store.specs.declared.refusal.StoreRefusal.{StoreRefusal}
 use Rattle.store.specs.declared.refusal.StoreRefusal.TheVariants.{OutOfMemory}
-use Rattle.store.specs.Held.{IsHeldBy, holders_of}
-use Rattle.store.specs.Holders.{AreFlagged, HeldIs}
+use Rattle.store.specs.declared.holding.Holding.{Holding}
+use Rattle.store.specs.Held.{HaveOwnRows, IsHeldBy, holders_of}
+use Rattle.store.specs.Holders.{AreFlagged, HeldIs, KeepsHeld}
 use Rattle.store.specs.Holding.{Holds}
 use Rattle.store.specs.Opened.{Opened}
 use Rattle.store.specs.Stands.{no_library}
+use Rattle.store.proofs.Holdings.{by_one}
 use Rattle.snapshots.specs.Snapshot.{LetsAllGo, times}
 use Rattle.snapshots.specs.inside.Holding.{AreSome, HoldsFirst, StaysBeside}
 
@@ -20,6 +22,24 @@ pub times-push : (sector handle : ℕ) (handles : List ℕ) → times sector (ha
 times-push sector handle handles =
     let one : ℕ → ℕ = λ h. if h == sector then 1 else 0 in
     omega (arith, sum_by-append one handles (handle ∷ []), sum_by-cons one handle [])
+
+-- a version that somebody holds has a row,
+some_row : (held : List Holding) (sector : ℕ) → 0 < holders_of held sector → (placed : PlacedEntry) × IsHeldBy held sector placed
+some_row [] sector some = absurd (omega (arith, some))
+some_row (row ∷ rows) sector some = ⊎_elim
+    (λ same. (row.placed, record { place = 0; inside = omega arith; is = λ d. refl; its = same }))
+    (λ other.
+    let none = cond-false (eqb row.placed.at sector) row.holders 0 (ne_eqb row.placed.at sector other) in
+    let later = some_row rows sector (omega (arith, some, none, sum_by-cons (λ (h : Holding). if h.placed.at == sector then h.holders else 0) row rows)) in
+    (later.0, record { place = suc later.1.place; inside = omega (arith, later.1.inside); is = later.1.is; its = later.1.its }))
+    (cases_eq row.placed.at sector)
+
+-- and where each row was there before, none is where none was
+none_after : (old new : List Holding) → ((sector : ℕ) (placed : PlacedEntry) → IsHeldBy new sector placed → IsHeldBy old sector placed) → old ≡ [] → new ≡ []
+none_after old [] back none = refl
+none_after old (row ∷ rows) back none =
+    let was = back row.placed.at row.placed (record { place = 0; inside = omega arith; is = λ d. refl; its = refl }) in
+    absurd (omega (arith, was.inside, ap length none))
 
 module _ {D : Type 0} (facts : D → DiskFacts) {old : Opened D} where
   -- what a store that is as it was stays beside
@@ -99,6 +119,21 @@ module _ {D : Type 0} (facts : D → DiskFacts) {old : Opened D} where
       kept = (gone.kept.0 ∙ before.beside.kept.0, gone.kept.1 ∙ before.beside.kept.1, gone.kept.2 ∙ before.beside.kept.2, gone.kept.3 ∙ before.beside.kept.3);
       same = λ s at. gone.same s (before.beside.same s at);
     }
+
+    -- and nothing else, since each version has one row.
+    module _ (own : HaveOwnRows new.held) where
+      undone_versions : (sector : ℕ) (placed : PlacedEntry) → IsHeldBy new.held sector placed → IsHeldBy old.held sector placed
+      undone_versions sector placed by =
+          let was = some_row old.held sector (omega (arith, undone sector, ((gone.versions sector placed).0 by).1)) in
+          subst (IsHeldBy old.held sector) (by_one own (undone_beside.versions sector was.0 was.1) by) was.1
+
+      pub undone_held : KeepsHeld facts old new
+      undone_held = record {
+        holders = undone;
+        bytes = λ honest sector library is. undone_beside.others sector library is;
+        versions = λ sector placed. (undone_beside.versions sector placed, undone_versions sector placed);
+        none = none_after old.held new.held undone_versions;
+      }
 
 -- A refusal to hold in a store that hasn't failed is want of memory, and changes nothing.
 pub memory_refused : {D : Type 0} (facts : D → DiskFacts) {between new : Opened D} {position : ℕ} {e : StoreRefusal} → IsFalse between.failed → Holds facts between new position (Err e) → e ≡ OutOfMemory

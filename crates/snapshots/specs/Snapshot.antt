@@ -10,7 +10,7 @@ use Rattle.store.specs.declared.placed_entry.PlacedEntry.{PlacedEntry}
 use Rattle.store.specs.declared.refusal.StoreRefusal.{StoreRefusal}
 use Rattle.store.specs.declared.refusal.StoreRefusal.TheVariants.{Reopen, OutOfMemory}
 use Rattle.store.specs.Held.{IsHeldBy, holders_of}
-use Rattle.store.specs.Holders.{AreFlagged, HeldIs}
+use Rattle.store.specs.Holders.{AreFlagged, HeldIs, KeepsHeld}
 use Rattle.store.specs.NameOrder.{IsOrderOf, entry_names}
 use Rattle.store.specs.Opened.{Opened, IsAt}
 use Rattle.store.specs.Stands.{no_library}
@@ -52,6 +52,8 @@ pub record Takes {D : Type 0} (facts : D → DiskFacts) (old new : Opened D) (re
   pub ok : IfOk result (λ snapshot. IsSnapshotOf facts old new snapshot)
   pub holders : IfOk result (λ snapshot. (sector : ℕ) → holders_of new.held sector ≡ holders_of old.held sector + times sector snapshot.handles)
   pub unheld : OnErr result ((sector : ℕ) → holders_of new.held sector ≡ holders_of old.held sector)
+  -- a refusal leaves the same versions held, no fewer and no more, each by as many
+  pub refused : OnErr result (KeepsHeld facts old new)
   pub others : (sector : ℕ) (library : Library) → HeldIs facts old sector library → HeldIs facts new sector library
   pub versions : (sector : ℕ) (placed : PlacedEntry) → IsHeldBy old.held sector placed → IsHeldBy new.held sector placed
   pub flags : AreFlagged new

@@ -26,6 +26,8 @@ pub(crate) fn hold_all<D: Disk>(
             },
             Err(refusal) => {
                 release(store, handles);
+                // On any disk: what is held has one row, so it is what was held before.
+                let _ = store.count();
                 return Err(refusal);
             }
         }

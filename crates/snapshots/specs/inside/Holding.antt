@@ -7,7 +7,7 @@ use Rattle.store.specs.declared.placed_entry.PlacedEntry.{PlacedEntry}
 use Rattle.store.specs.declared.refusal.StoreRefusal.{StoreRefusal}
 use Rattle.store.specs.declared.refusal.StoreRefusal.TheVariants.{OutOfMemory}
 use Rattle.store.specs.Held.{IsHeldBy, holders_of}
-use Rattle.store.specs.Holders.{AreFlagged, HeldIs}
+use Rattle.store.specs.Holders.{AreFlagged, HeldIs, KeepsHeld}
 use Rattle.store.specs.Opened.{Opened, IsAt}
 use Rattle.store.specs.Stands.{no_library}
 use Rattle.snapshots.specs.Snapshot.{times}
@@ -36,5 +36,5 @@ pub record HoldsFirst {D : Type 0} (facts : D → DiskFacts) (old new : Opened D
 -- All byte strings are held, or none is.
 pub record HoldsAll {D : Type 0} (facts : D → DiskFacts) (old new : Opened D) (result : Result (Vec ℕ) StoreRefusal) : Type 0 where
   pub ok : IfOk result (λ handles. HoldsFirst facts old new (length old.entries) handles.items)
-  pub err : IfErr result (λ e. (e ≡ OutOfMemory) × ((sector : ℕ) → holders_of new.held sector ≡ holders_of old.held sector))
+  pub err : IfErr result (λ e. (e ≡ OutOfMemory) × KeepsHeld facts old new)
   pub beside : StaysBeside facts old new

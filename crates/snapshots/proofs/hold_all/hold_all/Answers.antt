@@ -1,7 +1,7 @@
 use Rattle.std.proofs.Common.{rules, ◌≡◌, ◌+◌, length, sym, ap, subst, ◌∙◌, arith}
 use Rattle.snapshots.specs.Snapshot.{LetsAllGo}
 use Rattle.snapshots.specs.inside.Holding.{HoldsFirst}
-use Rattle.snapshots.proofs.Holdings.{memory_refused, more_held, none_held, undone, undone_beside}
+use Rattle.snapshots.proofs.Holdings.{memory_refused, more_held, none_held, undone_held, undone_beside}
 use Rattle.snapshots.proofs.hold_all.hold_all.Goals as goal
 
 pub hold-requires : goal.hold-requires
@@ -32,7 +32,7 @@ returns-in-Err g c =
     let gone = subst (λ store. LetsAllGo g.D.Disk.facts store c.release.new.store c.loop-position.handles.items) c.in-Err.ensures.err c.release.ensures in
     record {
       ok = tt;
-      err = (memory_refused g.D.Disk.facts (held.beside.kept.3 ∙ c.requires.usable) c.in-Err.ensures, undone g.D.Disk.facts c.loop-position.invariant.some held gone);
+      err = (memory_refused g.D.Disk.facts (held.beside.kept.3 ∙ c.requires.usable) c.in-Err.ensures, undone_held g.D.Disk.facts c.loop-position.invariant.some held gone c.count.ensures.rows);
       beside = undone_beside g.D.Disk.facts c.loop-position.invariant.some held gone;
     }
 
