@@ -1,18 +1,21 @@
 -- What rounds of commands do to a disk in memory, with a stop after each (own).
-use Rattle.std.specs.Prelude.{◌≡◌, ◌⊎◌, List, [], map}
+use Rattle.std.specs.Prelude.{◌≡◌, ◌⊎◌, ◌+◌, ◌<◌, ◌%◌, ℕ, true, List, [], length, map, slice_index, sum_by}
 use Rattle.sector_disk.specs.declared.memory.Memory.{Memory}
 use Rattle.sector_disk.specs.declared.fuse.Fuse.{Fuse}
-use Rattle.sector_disk.specs.Disk.{Sector, DiskFacts, Mixture}
-use Rattle.sector_disk.specs.Memory.{memory_facts}
-use Rattle.sector_disk.specs.Fuse.{fuse_facts}
+use Rattle.sector_disk.specs.Disk.{Sector, sector, DiskFacts, Mixture, LeavesOnly, IsSameDisk, IsStopped, AreCalls, AreCallsExactly}
+use Rattle.sector_disk.specs.Memory.{memory_facts, memory_choices, HasOneChoice}
+use Rattle.sector_disk.specs.Fuse.{fuse_facts, inner_of, plan_of}
 use Rattle.store.specs.Opened.{Opened}
+use Rattle.store.specs.Stands.{catalogues_of}
+use Rattle.store.specs.declared.refusal.StoreRefusal.{StoreRefusal}
 use Rattle.store.specs.declared.refusal.StoreRefusal.TheVariants.{Device, OutOfMemory}
 use Rattle.states.specs.State.{State}
 use Rattle.requests.specs.Request.{Request, request_of}
+use Rattle.requests.specs.declared.reply.Reply.{Reply}
 use Rattle.registry.specs.declared.rounds.Round.{Round}
 use Rattle.registry.specs.declared.rounds.RoundReplies.{RoundReplies}
 use Rattle.registry.specs.declared.rounds.RoundReplies.TheVariants.{Ran, NotRun}
-use Rattle.registry.specs.Stands.{Stands}
+use Rattle.registry.specs.Stands.{Stands, file_sectors}
 use Rattle.registry.specs.Opened.{IsAt}
 use Rattle.registry.specs.Ran.{RunsOver}
 use Rattle.registry.specs.Acknowledged.{commanded, AreAccepted, state_after}
@@ -20,6 +23,15 @@ use Rattle.registry.specs.Acknowledged.{commanded, AreAccepted, state_after}
 -- whatever a stop leaves of the disk holds the state
 abbrev pub AlwaysStands : Memory → State → Type 0
 AlwaysStands disk s = (m : List Sector) → Mixture (memory_facts disk) m → Stands m s
+
+-- a disk in memory between two rounds, and the state that it holds
+pub record Standing : Type 0 where
+  pub disk : Memory
+  pub state : State
+
+-- such a disk
+abbrev pub standing : Memory → State → Standing
+standing disk s = record { disk = disk; state = s }
 
 -- what is said of a disk in memory behind a fuse
 abbrev pub fused_memory : Fuse Memory → DiskFacts
@@ -29,10 +41,70 @@ fused_memory = fuse_facts memory_facts
 abbrev pub asked : Round → List Request
 asked round = map request_of round.commands.items
 
--- A round leads from a state to the one after its accepted commands, over a registry of which
--- nobody holds a version, or isn't run and keeps it.
-abbrev pub RoundLeads : State → Round → RoundReplies → State → Type 0
-RoundLeads s round (Ran replies) s' = (old new : Opened (Fuse Memory)) × IsAt fused_memory old s
-    × (old.held ≡ []) × RunsOver fused_memory old new s (asked round) replies.items
-    × (commands : List Request) × AreAccepted (commanded (asked round) replies.items) commands × (s' ≡ state_after s commands)
-RoundLeads s round (NotRun refusal) s' = ((refusal ≡ Device) ⊎ (refusal ≡ OutOfMemory)) × (s' ≡ s)
+-- The disk of a round: the given one behind a new fuse. Call number `cut` fails, late or early as
+-- the round says, and all calls after it.
+pub record IsFused (disk : Memory) (round : Round) (fuse : Fuse Memory) : Type 0 where
+  pub inner : inner_of fuse ≡ disk
+  pub plan : plan_of fuse ≡ record { call = round.cut; forever = true; late = round.late }
+  pub same : IsSameDisk (memory_facts disk) (fused_memory fuse)
+  pub time : (fused_memory fuse).time ≡ 0
+  pub failures : (fused_memory fuse).failures ≡ 0
+
+-- the number that is picked for a sector: these over and over, or 0 where there is none
+abbrev pub picked : List ℕ → ℕ → ℕ
+picked picks at = slice_index picks (at % length picks)
+
+-- A disk was stopped by these picks: each sector holds the one of its choices whose number is
+-- picked, modulo how many there are, and all is synced.
+pub record IsStoppedBy (picks : List ℕ) (disk stopped : Memory) : Type 0 where
+  pub stop : IsStopped (memory_facts disk) (memory_facts stopped)
+  pub each : (at : ℕ) → at < (memory_facts disk).sectors → sector (memory_facts stopped).now at
+      ≡ sector (memory_choices disk at) (picked picks at % length (memory_choices disk at))
+  pub choices : HasOneChoice stopped
+
+-- An opening writes nothing: a stop leaves what it could leave before, and reads give the same.
+pub record WritesNothing (before after : DiskFacts) : Type 0 where
+  pub leaves : LeavesOnly before after (Mixture before)
+  pub now : after.now ≡ before.now
+  pub calls : AreCalls before after
+
+-- how many calls the opening of a registry makes: a sync, the two roots, the catalogues, the
+-- entries, and the sectors of the files
+abbrev pub opening_calls : {D : Type 0} → Opened D → ℕ
+opening_calls registry = 3 + length (catalogues_of registry.root) + length registry.entries + sum_by file_sectors registry.entries
+
+-- The disk was opened, and the requests were answered over that registry, of which nobody held a
+-- version, up to the last disk.
+pub record WasRun (first last : Fuse Memory) (s : State) (requests : List Request) (replies : List Reply) : Type 0 where
+  pub old : Opened (Fuse Memory)
+  pub new : Opened (Fuse Memory)
+  pub opened : WritesNothing (fused_memory first) (fused_memory old.disk)
+  pub calls : AreCallsExactly (opening_calls old) (fused_memory first) (fused_memory old.disk)
+  pub at : IsAt fused_memory old s
+  pub unheld : old.held ≡ []
+  pub runs : RunsOver fused_memory old new s requests replies
+  pub ends : last ≡ new.disk
+
+-- Nothing was run: a call of the opening failed, or memory was refused.
+pub record WasNotRun (first last : Fuse Memory) (refusal : StoreRefusal) : Type 0 where
+  pub opened : WritesNothing (fused_memory first) (fused_memory last)
+  pub why : ((refusal ≡ Device) × ((fused_memory first).failures < (fused_memory last).failures)) ⊎ (refusal ≡ OutOfMemory)
+
+-- A round tells the replies and leads from a state to the one after its accepted commands, or tells
+-- why it wasn't run, and keeps the state.
+abbrev pub RoundTells : Fuse Memory → Fuse Memory → State → List Request → RoundReplies → State → Type 0
+RoundTells first last s requests (Ran replies) s' = WasRun first last s requests replies.items
+    × (commands : List Request) × AreAccepted (commanded requests replies.items) commands × (s' ≡ state_after s commands)
+RoundTells first last s requests (NotRun refusal) s' = WasNotRun first last refusal × (s' ≡ s)
+
+-- A round leads from a disk and its state to the next: behind its fuse the disk is opened and takes
+-- the commands, and what is then behind the fuse is stopped by the round's picks.
+pub record RoundLeads (before : Standing) (round : Round) (replies : RoundReplies) (after : Standing) : Type 0 where
+  pub first : Fuse Memory
+  pub last : Fuse Memory
+  pub fused : IsFused before.disk round first
+  pub told : RoundTells first last before.state (asked round) replies after.state
+  pub stopped : IsStoppedBy round.picks.items (inner_of last) after.disk
+  pub left : Mixture (fused_memory last) (memory_facts after.disk).now
+  pub sectors : (memory_facts after.disk).sectors ≡ (memory_facts before.disk).sectors
+  pub stands : AlwaysStands after.disk after.state

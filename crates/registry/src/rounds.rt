@@ -28,25 +28,42 @@ pub enum RoundReplies {
     NotRun(StoreRefusal),
 }
 
+ghost use Rattle.std.specs.Prelude.{◌≡◌, IfOk, IfErr};
+ghost use Rattle.requests.specs.Runs.{Run};
+ghost use Rattle.states.specs.State.{State};
+ghost use Rattle.registry.specs.Rounds.{AlwaysStands, IsFused, IsStoppedBy, RoundLeads};
+ghost use Rattle.registry.specs.Rounds.{picked, standing};
+
 // The choice of a sector: these over and over, or the first where there is none.
-fn pick(picks: &[usize], at: u32) -> usize {
+fn pick(picks: &[usize], at: u32) -> usize
+    ensures { result ≡ picked picks.now at }
+{
     if picks.is_empty() {
         return 0;
     }
     picks[at as usize % picks.len()]
 }
 
-ghost use Rattle.std.specs.Prelude.{◌≡◌, IfOk, IfErr};
-ghost use Rattle.requests.specs.Runs.{Run};
-ghost use Rattle.states.specs.State.{State};
-ghost use Rattle.registry.specs.Rounds.{AlwaysStands, RoundLeads};
+// The disk of a round, behind its fuse.
+fn behind_fuse(disk: Memory, round: &Round<'_>) -> Fuse<Memory>
+    ensures { IsFused disk round.now result }
+{
+    Fuse::new(disk, round.cut, true, round.late)
+}
 
-// Opens the disk, runs the commands, and stops the disk.
+// The disk after a stop by these picks.
+fn stop_by(disk: Memory, picks: &[usize]) -> Memory
+    ensures { IsStoppedBy picks.now disk result }
+{
+    disk.stop(|at, _| pick(picks, at))
+}
+
+// Opens the disk behind its fuse, runs the commands, and stops the disk.
 fn run_round(alloc: Global, disk: Memory, round: &Round<'_>) -> (RoundReplies, Memory)
     ensures { (s : State) → AlwaysStands disk s → (s' : State)
-        × RoundLeads s round.now result.0 s' × AlwaysStands result.1 s' }
+        × RoundLeads (standing disk s) round.now result.0 (standing result.1 s') }
 {
-    let fuse = Fuse::new(disk, round.cut, true, round.late);
+    let fuse = behind_fuse(disk, round);
     let (replies, fuse) = match Registry::open(alloc, fuse) {
         Ok(mut registry) => {
             let replies = match registry.run(&round.commands) {
@@ -57,9 +74,7 @@ fn run_round(alloc: Global, disk: Memory, round: &Round<'_>) -> (RoundReplies, M
         }
         Err((refusal, fuse)) => (RoundReplies::NotRun(refusal), fuse),
     };
-    let picks = round.picks.as_slice();
-    let stopped = fuse.into_inner().stop(|at, _| pick(picks, at));
-    (replies, stopped)
+    (replies, stop_by(fuse.into_inner(), &round.picks))
 }
 
 /// Runs rounds one after the other, and gives the replies of each, and the disk after the last
@@ -69,10 +84,11 @@ pub fn run_rounds(
     disk: Memory,
     rounds: Vec<Round<'_>>,
 ) -> Result<(Vec<RoundReplies>, Memory), (AllocError, Memory)>
-    // From each state that the disk holds, each round leads to the next state, and the disk that
-    // comes back holds the last one.
+    // From each state that the disk holds, each round leads from the disk that the one before left,
+    // and its state, to the next ones; the disk that comes back is the last, and holds its state.
     ensures ok { (s : State) → AlwaysStands disk s → IfOk result (λ done. (s' : State)
-        × Run RoundLeads s rounds.entry.items done.0.items s' × AlwaysStands done.1 s') }
+        × Run RoundLeads (standing disk s) rounds.entry.items done.0.items (standing done.1 s')
+        × AlwaysStands done.1 s') }
     ensures err { IfErr result (λ refused. refused.1 ≡ disk) }
 {
     let mut told = match Vec::with_capacity(alloc, rounds.len()) {

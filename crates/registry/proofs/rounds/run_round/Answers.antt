@@ -1,4 +1,4 @@
-use Rattle.std.proofs.Common.{inr, List, map, refl, sym, subst, ◌∙◌}
+use Rattle.std.proofs.Common.{inl, inr, ⊎_elim, ℕ, List, map, refl, sym, subst, ◌∙◌}
 use Rattle.sector_disk.specs.Disk.{Sector, Mixture}
 use Rattle.sector_disk.proofs.Moments.{left_now}
 use Rattle.store.specs.declared.refusal.StoreRefusal.TheVariants.{OutOfMemory}
@@ -9,7 +9,7 @@ use Rattle.sector_disk.specs.declared.fuse.Fuse.{Fuse}
 use Rattle.sector_disk.specs.declared.memory.Memory.{Memory}
 use Rattle.registry.specs.Ran.{RunsOver}
 use Rattle.registry.specs.Stands.{Stands}
-use Rattle.registry.specs.Rounds.{fused_memory}
+use Rattle.registry.specs.Rounds.{asked, fused_memory, IsStoppedBy, WritesNothing, WasRun, WasNotRun}
 use Rattle.registry.proofs.Rounding.{fuse_stands, fuse_now_stands, round_ran, round_not_run}
 use Rattle.registry.proofs.States.{mixture_stands}
 use Rattle.registry.proofs.rounds.run_round.Goals.{in-Ok, in-Ok-run, in-Err-run, in-Err}
@@ -17,20 +17,55 @@ use Rattle.registry.proofs.rounds.run_round.Goals as goal
 
 pub returns : goal.returns
 returns c s stands =
-    let fuse = c.new-fuse.result in
-    let now = fuse_now_stands c.args.disk s stands fuse c.new-fuse.ensures.same in
-    let memory = c.into_inner.result in
-    let stopped = c.stop-stopped.ensures.stopped in
+    let disk = c.args.disk in
+    let round = c.args.round.now in
+    let first = c.behind_fuse-fuse.result in
+    let fused = c.behind_fuse-fuse.ensures in
+    let now = fuse_now_stands disk s stands first fused.same in
     let told = c.match-open.replies in
+    let memory = c.into_inner.result in
+    let result = c.stop_by.result in
+    let stopped : IsStoppedBy round.picks.items memory result = subst (λ (l : List ℕ). IsStoppedBy l memory result) c.deref-2.ensures.value c.stop_by.ensures in
+    let inner = c.into_inner.ensures.inner in
+    let into = c.into_inner.ensures.same in
     elim c.match-open.branch [
       | in-Ok w ↦
+          let old = w.in-Ok.registry in
+          let new = w.run.new.self in
           let at = w.in-Ok.ensures.stands refl s now in
+          let opened : WritesNothing (fused_memory first) (fused_memory old.disk) =
+          record { leaves = w.in-Ok.ensures.any_moment refl; now = w.in-Ok.ensures.now refl; calls = w.in-Ok.ensures.calls } in
           elim w.match-run.branch [
-            | in-Ok-run w' ↦ round_ran s c.args.round.now told memory c.stop-stopped.result c.into_inner.ensures.same stopped w.in-Ok.registry w.run.new.self w'.in-Ok-run.replies at w.in-Ok.ensures.unheld
-                (subst (λ (l : List Command). RunsOver fused_memory w.in-Ok.registry w.run.new.self s (map request_of l) w'.in-Ok-run.replies.items) w.deref.ensures.value (w'.in-Ok-run.ensures.ok s at)) (w.replies-is ∙ (λ i. (w'.replies-is i, w.into_disk.ensures i)))
-            | in-Err-run w' ↦ round_not_run s c.args.round.now told memory c.stop-stopped.result c.into_inner.ensures.same stopped OutOfMemory w.run.new.self.disk (inr refl)
-                (subst (λ (r : Opened (Fuse Memory)). (m : List Sector) → Mixture (fused_memory r.disk) m → Stands m s) (sym w'.in-Err-run.ensures.err) (mixture_stands fused_memory w.in-Ok.registry s at)) (w.replies-is ∙ (λ i. (w'.replies-is i, w.into_disk.ensures i)))
+            | in-Ok-run w' ↦
+                let ran : WasRun first new.disk s (asked round) w'.in-Ok-run.replies.items = record {
+                  old = old;
+                  new = new;
+                  opened = opened;
+                  calls = w.in-Ok.ensures.all_calls;
+                  at = at;
+                  unheld = w.in-Ok.ensures.unheld;
+                  runs = subst (λ (l : List Command). RunsOver fused_memory old new s (map request_of l) w'.in-Ok-run.replies.items) w.deref.ensures.value (w'.in-Ok-run.ensures.ok s at);
+                  ends = refl;
+                } in
+                round_ran disk s round first fused told memory result inner into stopped w'.in-Ok-run.replies new.disk ran (w.replies-is ∙ (λ i. (w'.replies-is i, w.into_disk.ensures i)))
+            | in-Err-run w' ↦
+                let same = w'.in-Err-run.ensures.err in
+                let not_run : WasNotRun first new.disk OutOfMemory = record {
+                  opened = subst (λ (r : Opened (Fuse Memory)). WritesNothing (fused_memory first) (fused_memory r.disk)) (sym same) opened;
+                  why = inr refl;
+                } in
+                round_not_run disk s round first fused told memory result inner into stopped OutOfMemory new.disk not_run
+                (subst (λ (r : Opened (Fuse Memory)). (m : List Sector) → Mixture (fused_memory r.disk) m → Stands m s) (sym same) (mixture_stands fused_memory old s at))
+                (w.replies-is ∙ (λ i. (w'.replies-is i, w.into_disk.ensures i)))
           ]
-      | in-Err w ↦ round_not_run s c.args.round.now told memory c.stop-stopped.result c.into_inner.ensures.same stopped w.in-Err.refusal w.in-Err.fuse (w.in-Err.ensures.stands refl s now)
-          (λ m mixture. fuse_stands c.args.disk s stands fuse c.new-fuse.ensures.same m (left_now (Mixture (fused_memory fuse)) (w.in-Err.ensures.any_moment refl) m mixture)) w.replies-is
+      | in-Err w ↦
+          let refusal = w.in-Err.refusal in
+          let last = w.in-Err.fuse in
+          let left = w.in-Err.ensures.any_moment refl in
+          let not_run : WasNotRun first last refusal = record {
+            opened = record { leaves = left; now = w.in-Err.ensures.now refl; calls = w.in-Err.ensures.calls };
+            why = ⊎_elim (λ failed. inl (failed, w.in-Err.ensures.device failed)) inr (w.in-Err.ensures.stands refl s now);
+          } in
+          round_not_run disk s round first fused told memory result inner into stopped refusal last not_run
+          (λ m mixture. fuse_stands disk s stands first fused.same m (left_now (Mixture (fused_memory first)) left m mixture)) w.replies-is
     ]
