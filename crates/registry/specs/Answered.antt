@@ -4,6 +4,7 @@ use Rattle.sector_disk.specs.Disk.{DiskFacts, AreCalls}
 use Rattle.store.specs.Holders.{KeepsHeld}
 use Rattle.store.specs.Opened.{Opened}
 use Rattle.image.specs.Refusal.{program_refusal}
+use Rattle.image.specs.declared.refusal.BindRefusal.TheVariants as binding
 use Rattle.requests.specs.Request.{Request, install, replace, remove, set_preloads, bind, list}
 use Rattle.requests.specs.declared.refusal.Refusal.{Refusal}
 use Rattle.requests.specs.declared.refusal.Refusal.TheVariants.{Object, AlreadyInstalled, NotInstalled, InPreloads, RepeatedPreload, TooManyPreloads}
@@ -45,8 +46,9 @@ IsPreloadsRefusal TooManyPreloads = Unit
 IsPreloadsRefusal RepeatedPreload = Unit
 IsPreloadsRefusal other = IsChangeRefusal other
 
--- the refusals of a bind
+-- the refusals of a bind: B1 to B5, where want of memory is S11 alone
 abbrev pub IsBindRefusal : Refusal → Type 0
+IsBindRefusal (Bind binding.OutOfMemory) = ⊥
 IsBindRefusal (Bind refusal) = Unit
 IsBindRefusal Device = Unit
 IsBindRefusal Reopen = Unit
