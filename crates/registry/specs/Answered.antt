@@ -11,6 +11,7 @@ use Rattle.requests.specs.declared.refusal.Refusal.TheVariants.{Object, AlreadyI
 use Rattle.requests.specs.declared.refusal.Refusal.TheVariants.{Bind, Device, Reopen, Damaged, Full, Fragmented, TooMany, GenerationEnd, OutOfMemory}
 use Rattle.requests.specs.declared.reply.Reply.{Reply}
 use Rattle.requests.specs.declared.reply.Reply.TheVariants.{Done, Listing, Bound, Refused}
+use Rattle.registry.specs.Versions.{AreVersions}
 
 -- what any change may be refused with
 abbrev pub IsChangeRefusal : Refusal → Type 0
@@ -119,6 +120,9 @@ pub record Answered {D : Type 0} (facts : D → DiskFacts) (old new : Opened D) 
   pub leaves : Leaves old new request answer
   -- what somebody holds stays held by as many, and on an honest disk its bytes are what they were
   pub held : KeepsHeld facts old new
+  -- before and after, what is held is a version each: listed exactly where the state lists it
+  pub versions_before : AreVersions old
+  pub versions_after : AreVersions new
   pub calls : AreCalls (facts old.disk) (facts new.disk)
 
 -- commands were answered so, one after the other, one answer each

@@ -27,6 +27,29 @@ impl<D: Disk> Registry<D> {
     ghost use Rattle.registry.specs.Calls.{IfAccepted, calls_of};
     ghost use Rattle.registry.specs.Opened.{IsAt};
     ghost use Rattle.registry.specs.Ran.{RunsOver};
+    ghost use Rattle.registry.specs.Versions.{AreVersions};
+
+    // The reply to a command, by what it asks.
+    fn reply_to(&mut self, command: &Command<'_>) -> Reply
+        ensures applied { (s : State) → IsAt D.facts self.old s
+            → Applies D.facts self.old self.new s (request_of command.now) result }
+        ensures all_calls { (s : State) → IsAt D.facts self.old s → IfAccepted result
+            (AreCallsExactly (calls_of s (request_of command.now))
+            (D.facts self.old.disk) (D.facts self.new.disk)) }
+
+        // That what is held is a version each is told by `has_failed`.
+        ensures on_any_disk { AreVersions self.old → AreVersions self.new
+            → Answered D.facts self.old self.new (request_of command.now) result }
+    {
+        match command {
+            Command::Install(bytes) => reply(self.install(bytes)),
+            Command::Replace(bytes) => reply(self.replace(bytes)),
+            Command::Remove(name) => reply(self.remove(name)),
+            Command::SetPreloads(names) => reply(self.set_preloads(names)),
+            Command::Bind { program, base } => self.bind(program, *base),
+            Command::List => self.list(),
+        }
+    }
 
     /// Applies a command. On an honest disk the answer is a step of the step table, and a refusal
     /// the first that applies there. Removing a library and setting the preloads take no memory; a
@@ -42,14 +65,11 @@ impl<D: Disk> Registry<D> {
 
         ensures on_any_disk { Answered D.facts self.old self.new (request_of command.now) result }
     {
-        match command {
-            Command::Install(bytes) => reply(self.install(bytes)),
-            Command::Replace(bytes) => reply(self.replace(bytes)),
-            Command::Remove(name) => reply(self.remove(name)),
-            Command::SetPreloads(names) => reply(self.set_preloads(names)),
-            Command::Bind { program, base } => self.bind(program, *base),
-            Command::List => self.list(),
-        }
+        // What is held is a version each, before and after, as these calls say.
+        let _failed = self.has_failed();
+        let reply = self.reply_to(command);
+        let _failed = self.has_failed();
+        reply
     }
 
     /// Applies commands one after the other, and gives one reply for each. Where memory for the
