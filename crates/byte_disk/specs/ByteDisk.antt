@@ -1,5 +1,7 @@
 -- What is said of a disk of given bytes (own).
-use Rattle.std.specs.Prelude.{◌↔◌, ◌≤◌, ◌<◌, All, ◌+◌, ◌-◌, ℕ, List, [], ◌∷◌, length, take, true, nat_lt, if◌then◌else◌}
+use Rattle.std.specs.Prelude.{◌≡◌, ◌↔◌, ◌≤◌, ◌<◌, All, ◌+◌, ◌-◌, ℕ, List, [], ◌∷◌, length, take, true, nat_lt, if◌then◌else◌}
+use Rattle.std.specs.Prelude.{vec_len, vec_capacity}
+use Rattle.indexmap.specs.IndexMap.{spare}
 use Rattle.sector_disk.specs.CallCount.{calls_made, calls_failed}
 use Rattle.sector_disk.specs.Disk.{Sector, DiskFacts, MixtureAt}
 use Rattle.sector_disk.specs.declared.call_count.CallCount.{CallCount}
@@ -31,6 +33,14 @@ failures_for (p ∷ planned) = calls_failed p.idle + failures_for planned
 abbrev pub steps_at : List PlannedStep → ℕ → ℕ
 steps_at [] u = 0
 steps_at (p ∷ planned) u = if nat_lt (calls_made p.idle) u then steps_at planned (u - (calls_made p.idle + 1)) + 1 else 0
+
+-- the memory of its plan has no room for a step more
+abbrev pub HasFullPlan : ByteDisk → Type 0
+HasFullPlan disk = vec_capacity disk.planned ≤ vec_len disk.planned
+
+-- that of the index, by which the latest content of a sector is found, has none for a sector more
+abbrev pub HasFullIndex : ByteDisk → Type 0
+HasFullIndex disk = spare disk.latest ≡ 0
 
 -- a disk that was given these sectors, with these steps, and these calls since
 abbrev pub facts_of : List Sector → List PlannedStep → CallCount → DiskFacts

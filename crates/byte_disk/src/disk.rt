@@ -1,8 +1,8 @@
 // A disk of bytes that were given, and the plan that would bring them to where it is now.
 
-ghost use Rattle.std.specs.Prelude.{◌≡◌, ◌<◌, ◌^◌, ℕ, length, All, map, nat_eq};
+ghost use Rattle.std.specs.Prelude.{◌≡◌, ◌⊎◌, ◌<◌, ◌≤◌, ◌^◌, ℕ, length, All, map, nat_eq};
 ghost use Rattle.std.specs.Prelude.{◌++◌, ◌∷◌, [], Some, OnOk, OnErr, vec_len, vec_capacity};
-ghost use Rattle.indexmap.specs.IndexMap.{get, Updates, IsUnchanged};
+ghost use Rattle.indexmap.specs.IndexMap.{get, spare, Updates, IsUnchanged};
 ghost use Rattle.sector_disk.specs.CallCount.{calls_made, calls_failed};
 ghost use Rattle.sector_disk.specs.Disk.{IsWhole, sector};
 ghost use Rattle.byte_disk.specs.Plan.{carried_out, writes_in, IsWriteOn};
@@ -100,6 +100,8 @@ fn make_room(
     ensures ok { OnOk result (Updates nat_eq latest.old latest.new at
         (Some (length planned.old.items))) }
     ensures err { OnErr result (IsUnchanged latest.old latest.new) }
+    ensures full { OnErr result ((vec_capacity planned.old ≤ vec_len planned.old)
+        ⊎ (spare latest.old ≡ 0)) }
 {
     planned.reserve(1)?;
     latest.insert(at, planned.len())?;
@@ -123,6 +125,7 @@ impl<'a> Disk for ByteDisk<'a> {
     ghost use Rattle.sector_disk.specs.Disk.{IsCall, IsRead, IsWrite, IsSync};
     ghost use Rattle.sector_disk.specs.Disk.{IsUnchanged as LeavesAll};
     ghost use Rattle.byte_disk.specs.ByteDisk.{byte_facts, plan_of};
+    ghost use Rattle.byte_disk.specs.ByteDisk.{HasFullPlan, HasFullIndex};
     ghost use Rattle.byte_disk.specs.inside.Laws.{byte_holds, byte_whole};
 
     ghost facts = { byte_facts };
@@ -150,7 +153,7 @@ impl<'a> Disk for ByteDisk<'a> {
         reply
     }
 
-    /// Fails where it finds no memory, and then makes no step.
+    /// Fails only where it finds no memory, and then makes no step.
     fn write(&mut self, at: u32, from: &[u8; SECTOR_BYTES]) -> Result<(), DiskFault>
         requires { at < (byte_facts self.old).sectors }
         ensures calls { IsCall (byte_facts self.old) (byte_facts self.new) result }
@@ -160,6 +163,7 @@ impl<'a> Disk for ByteDisk<'a> {
             (plan_of self.new ≡ plan_of self.old ++ (Step.Write at from.now) ∷ []) }
         ensures same { OnErr result (plan_of self.new ≡ plan_of self.old) }
         ensures err { OnErr result (LeavesAll (byte_facts self.old) (byte_facts self.new)) }
+        ensures full { OnErr result (HasFullPlan self.old ⊎ HasFullIndex self.old) }
     {
         match make_room(&mut self.planned, &mut self.latest, at) {
             Ok(()) => {
@@ -175,13 +179,14 @@ impl<'a> Disk for ByteDisk<'a> {
         }
     }
 
-    /// Fails where it finds no memory, and then makes no step.
+    /// Fails only where it finds no memory, and then makes no step.
     fn sync(&mut self) -> Result<(), DiskFault>
         ensures calls { IsCall (byte_facts self.old) (byte_facts self.new) result }
         ensures honest { IsTrue (byte_facts self.old).honest
             → IsSync (byte_facts self.old) (byte_facts self.new) result }
         ensures ok { OnOk result (plan_of self.new ≡ plan_of self.old ++ Step.Sync ∷ []) }
         ensures same { OnErr result (plan_of self.new ≡ plan_of self.old) }
+        ensures full { OnErr result (HasFullPlan self.old) }
     {
         match self.planned.reserve(1) {
             Ok(()) => {
