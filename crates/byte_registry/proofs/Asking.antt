@@ -1,13 +1,12 @@
 -- From what a registry over given bytes is and does to what is said of the bytes and of the plan.
-use Rattle.std.proofs.Common.{◌≡◌, ◌⊎◌, inl, inr, ⊎_elim, ℕ, ◌<◌, ◌≤◌, List, [], length, take, All, IsTrue, IsFalse, true, false, refl, sym, ◌∙◌, ap, subst, arith}
+use Rattle.std.proofs.Common.{◌≡◌, ◌⊎◌, inl, inr, ⊎_elim, ℕ, ◌+◌, ◌<◌, ◌≤◌, List, [], length, take, All, false, refl, sym, ◌∙◌, ap, subst, arith}
 use Rattle.std.proofs.lemmas.Bool.{both_ways}
-use Rattle.sector_disk.specs.Disk.{Sector, DiskFacts, Mixture, MixtureAt, KeepsPast, LeavesOnly, StartsWith, IsSynced}
+use Rattle.sector_disk.specs.Disk.{Sector, Mixture, LeavesOnly, AreCallsExactly}
 use Rattle.sector_disk.proofs.Mixtures.{starts_synced}
 use Rattle.sector_disk.proofs.Moments.{goes_on, weaken}
 use Rattle.byte_disk.specs.declared.disk.ByteDisk.{ByteDisk}
-use Rattle.byte_disk.specs.declared.step.Step.{Step}
-use Rattle.byte_disk.specs.Bytes.{IsDiskLength, sectors_in}
-use Rattle.byte_disk.specs.ByteDisk.{byte_facts, given_to, plan_of}
+use Rattle.byte_disk.specs.Bytes.{sectors_in}
+use Rattle.byte_disk.specs.ByteDisk.{byte_facts, plan_of}
 use Rattle.byte_disk.specs.Plan.{IsMixtureAfter, writes_in, SectorWrite}
 use Rattle.byte_disk.specs.inside.Laws.{byte_holds}
 use Rattle.byte_disk.proofs.Plans.{is_plan, same_given, plan_leaves, plan_ends}
@@ -17,27 +16,43 @@ use Rattle.store.specs.Opened.{Opened}
 use Rattle.store.specs.Step.{longest_free}
 use Rattle.store.specs.declared.holding.Holding.{Holding}
 use Rattle.requests.specs.Phase.{Phase}
-use Rattle.requests.specs.Request.{Request}
+use Rattle.requests.specs.Request.{Request, install, replace, remove, set_preloads, bind, list}
 use Rattle.requests.specs.Step as registry
-use Rattle.requests.specs.Step.{accepted}
+use Rattle.requests.specs.Step.{accepted, LeavesFailed}
 use Rattle.requests.specs.declared.refusal.Refusal.TheVariants.{Device}
 use Rattle.requests.specs.declared.reply.Reply.{Reply}
 use Rattle.requests.specs.declared.reply.Reply.TheVariants.{Done, Refused}
 use Rattle.registry.specs.Applied.{Applied, Applies, MayLeaveWithin}
+use Rattle.registry.specs.Calls.{IfAccepted, calls_of}
 use Rattle.registry.specs.Opened.{IsAt}
 use Rattle.registry.specs.Phase.{phase_of}
 use Rattle.registry.specs.Stands.{Stands}
 use Rattle.byte_registry.specs.Asked.{IsDiskOf, IsAsked}
-use Rattle.byte_registry.specs.Plans.{Holds, LeadsFrom, LeadsTo}
+use Rattle.byte_registry.specs.Plans.{Holds, LeadsFrom, LeadsTo, behind_sync, synced_plan, opening_calls}
 use Rattle.byte_registry.specs.Replies.{phase_on, opened_on, IsReplyOn}
+use Rattle.byte_registry.proofs.Syncs.{begun_prefix, begun_whole, same_writes, plan_few}
 
 -- What holds at every moment since a disk was made of bytes, and at the end, holds of its plan.
-pub leads_from : (bytes : List ℕ) (old new : ByteDisk) (Before After : List Sector → Type 0) → IsDiskOf bytes old → LeavesOnly (byte_facts old) (byte_facts new) (λ m. Before m ⊎ After m) → ((m : List Sector) → Mixture (byte_facts new) m → After m) → LeadsFrom (sectors_in bytes) Before After (plan_of new)
-leads_from bytes old new Before After is leaves found = record {
-  prefix = λ n le m mixture. plan_leaves old new (λ m. Before m ⊎ After m) is.starts.time leaves n le m (subst (λ start. IsMixtureAfter start (take n (plan_of new)) m) (sym is.given) mixture);
-  whole = λ m mixture. plan_ends old new After leaves.past found m (subst (λ start. IsMixtureAfter start (plan_of new) m) (sym is.given) mixture);
-  inside = subst (λ start. All (λ (write : SectorWrite). write.0 < length start) (writes_in (plan_of new))) (same_given old new leaves.past ∙ is.given) (is_plan new).inside;
-}
+pub leads_from : (bytes : List ℕ) (old new : ByteDisk) (Before After : List Sector → Type 0) → IsDiskOf bytes old → LeavesOnly (byte_facts old) (byte_facts new) (λ m. Before m ⊎ After m) → ((m : List Sector) → Mixture (byte_facts new) m → After m) → LeadsFrom (sectors_in bytes) Before After (synced_plan new)
+leads_from bytes old new Before After is leaves found =
+    let start = sectors_in bytes in
+    let steps = plan_of new in
+    record {
+      begins = (behind_sync steps, refl);
+      prefix = begun_prefix start (λ m. Before m ⊎ After m) steps (λ n le m mixture. plan_leaves old new (λ m. Before m ⊎ After m) is.starts.time leaves n le m (subst (λ given. IsMixtureAfter given (take n steps) m) (sym is.given) mixture));
+      whole = begun_whole start After steps (λ m mixture. plan_ends old new After leaves.past found m (subst (λ given. IsMixtureAfter given steps m) (sym is.given) mixture));
+      inside = subst (All (λ (write : SectorWrite). write.0 < length start)) (sym (same_writes steps))
+          (subst (λ given. All (λ (write : SectorWrite). write.0 < length given) (writes_in steps)) (same_given old new leaves.past ∙ is.given) (is_plan new).inside);
+    }
+
+-- a failed call is counted
+failed_risen : (p : Phase) (request : Request) (p' : Phase) → LeavesFailed p request p' → p.failures < p'.failures
+failed_risen p (install bytes) p' lacks = lacks.risen
+failed_risen p (replace bytes) p' lacks = lacks.risen
+failed_risen p (remove name) p' lacks = lacks.risen
+failed_risen p (set_preloads names) p' lacks = lacks.risen
+failed_risen p (bind program base) p' lacks = lacks.risen
+failed_risen p list p' lacks = absurd lacks
 
 -- what a disk of bytes may leave before any call is its sectors
 pub starts_with : (bytes : List ℕ) (disk : ByteDisk) → IsDiskOf bytes disk → (m : List Sector) → Mixture (byte_facts disk) m → m ≡ sectors_in bytes
@@ -84,7 +99,7 @@ module _ (bytes : List ℕ) (old : ByteDisk) (is : IsDiskOf bytes old) (opened :
     abbrev s' : State
     s' = applies.0
 
-    is_reply : IsReplyOn start s request reply
+    abbrev is_reply : IsReplyOn start s request reply
     is_reply = record {
       root = opened.root;
       entries = opened.entries;
@@ -118,8 +133,20 @@ module _ (bytes : List ℕ) (old : ByteDisk) (is : IsDiskOf bytes old) (opened :
       found_after : (m : List Sector) → Mixture (byte_facts new.disk) m → Stands m (accepted s request)
       found_after m mixture = subst (Stands m) same_state (record { stored = (new.root, new.entries, at_end.stored.stands m mixture); libraries = at_end.libraries })
 
-      leads : LeadsTo start s (accepted s request) (plan_of new.disk)
+      leads : LeadsTo start s (accepted s request) (synced_plan new.disk)
       leads = leads_from bytes old new.disk (λ m. Stands m s) (λ m. Stands m (accepted s request)) is leaves found_after
 
-    pub asked : (s : State) × IsAsked bytes s request reply (plan_of new.disk)
-    asked = (s, record { holds = holds; only = only; by_table = is_reply; leads = leads })
+      -- all calls that were made
+      module _ (opening : AreCallsExactly (opening_calls opened.root opened.entries) (byte_facts old) (byte_facts opened.disk)) (calls : IfAccepted reply (AreCallsExactly (calls_of s request) (byte_facts opened.disk) (byte_facts new.disk))) where
+        few : length (synced_plan new.disk) ≤ opening_calls opened.root opened.entries + calls_of s request + 1
+        few =
+            let change : AreCallsExactly (calls_of s request) (byte_facts opened.disk) (byte_facts new.disk) = subst (λ r. IfAccepted r (AreCallsExactly (calls_of s request) (byte_facts opened.disk) (byte_facts new.disk))) is_done calls in
+            omega (arith, plan_few new.disk, change.time, opening.time, is.starts.time)
+
+    module _ (opening : AreCallsExactly (opening_calls opened.root opened.entries) (byte_facts old) (byte_facts opened.disk)) (calls : IfAccepted reply (AreCallsExactly (calls_of s request) (byte_facts opened.disk) (byte_facts new.disk))) where
+      pub asked : (s : State) × IsAsked bytes s request reply (synced_plan new.disk)
+      asked = (s, record { holds = holds; only = only; by_table = is_reply; leads = leads; few = λ is_done. few is_done opening calls })
+
+    -- S1 is answered where a call failed.
+    pub failed : reply ≡ Refused Device → 0 < (byte_facts new.disk).failures
+    failed e = omega (arith, failed_risen (phase_of byte_facts opened s) request (phase_of byte_facts new s') (subst (λ r. registry.Step (phase_of byte_facts opened s) request r (phase_of byte_facts new s')) e applies.1.step).1)

@@ -1,15 +1,18 @@
--- The generation of the state that sectors stand for.
-use Rattle.std.proofs.Common.{◌≡◌, ◌∙◌, List, sym, ap}
-use Rattle.std.specs.Prelude.{Result, Ok}
-use Rattle.sector_disk.specs.Disk.{Sector}
+-- The current root of the sectors that bytes are, and the generation of the state that they hold.
+use Rattle.std.proofs.Common.{◌≡◌, ◌∙◌, List, ℕ, sym, ap}
+use Rattle.std.specs.Prelude.{Result, Ok, Option, Some}
 use Rattle.roots.specs.declared.root.Root.{Root}
 use Rattle.roots.specs.declared.choice.ChooseRefusal.{ChooseRefusal}
 use Rattle.states.specs.State.{State}
-use Rattle.registry.specs.Stands.{Stands}
+use Rattle.byte_registry.specs.Plans.{Holds}
 
-same_root : (a b : Root) → ◌≡◌ {A = Result Root ChooseRefusal} (Ok a) (Ok b) → a ≡ b
+pub same_root : (a b : Root) → ◌≡◌ {A = Result Root ChooseRefusal} (Ok a) (Ok b) → ◌≡◌ {A = Option Root} (Some a) (Some b)
 same_root a b e = cc
 
--- it is that of their current root
-pub generation_is : (m : List Sector) (s : State) (stands : Stands m s) (root : Root) → ◌≡◌ {A = Result Root ChooseRefusal} (Ok root) (Ok stands.stored.0) → root.generation ≡ s.generation
-generation_is m s stands root is = ap (λ (r : Root). r.generation) (same_root root stands.stored.0 is) ∙ sym (ap (λ (t : State). t.generation) stands.stored.2.is)
+-- the root that is found
+pub one_root : (a b : Root) → ◌≡◌ {A = Option Root} (Some a) (Some b) → a ≡ b
+one_root a b e = cc
+
+-- its generation is that of the state
+pub generation_is : {bytes : List ℕ} (s : State) (held : Holds bytes s) (root : Root) → ◌≡◌ {A = Option Root} (Some root) (Some held.stands.stored.0) → root.generation ≡ s.generation
+generation_is s held root is = ap (λ (r : Root). r.generation) (one_root root held.stands.stored.0 is) ∙ sym (ap (λ (t : State). t.generation) held.stands.stored.2.is)

@@ -1,3 +1,4 @@
 mod Asking
 mod Generations
+mod Syncs
 mod Upgrades

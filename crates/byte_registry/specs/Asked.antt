@@ -1,11 +1,17 @@
 -- What comes of asking the registry that bytes hold (own).
-use Rattle.std.specs.Prelude.{◌≡◌, ◌⊎◌, ℕ, List, length, Err}
-use Rattle.sector_disk.specs.Disk.{Sector, StartsWith}
+use Rattle.std.specs.Prelude.{◌≡◌, ◌⊎◌, ◌≤◌, ◌+◌, ℕ, List, [], ◌∷◌, length, Err}
+use Rattle.sector_disk.specs.Disk.{StartsWith}
 use Rattle.byte_disk.specs.declared.disk.ByteDisk.{ByteDisk}
 use Rattle.byte_disk.specs.declared.step.Step.{Step}
+use Rattle.byte_disk.specs.declared.step.Step.TheVariants.{Sync}
 use Rattle.byte_disk.specs.Bytes.{IsDiskLength, sectors_in}
-use Rattle.byte_disk.specs.ByteDisk.{byte_facts, given_to}
+use Rattle.byte_disk.specs.ByteDisk.{byte_facts, given_to, plan_of}
+use Rattle.roots.specs.declared.root.Root.{Root}
+use Rattle.roots.specs.declared.version.Version.TheVariants.{One}
+use Rattle.states.specs.Cost.{catalogues_for}
 use Rattle.states.specs.State.{State, empty_state}
+use Rattle.store.specs.declared.placed_entry.PlacedEntry.{PlacedEntry}
+use Rattle.store.specs.Stands.{StandsBy}
 use Rattle.store.specs.Opening.{HasRootMagic, RefusesOpen, RefusesFormat, RefusesLook}
 use Rattle.store.specs.Step.{refusal_of_upgrade, IsUpgradeAnswer}
 use Rattle.store.specs.Upgraded.{upgraded}
@@ -15,9 +21,10 @@ use Rattle.requests.specs.Request.{Request}
 use Rattle.requests.specs.Step.{accepted}
 use Rattle.requests.specs.declared.reply.Reply.{Reply}
 use Rattle.requests.specs.declared.reply.Reply.TheVariants.{Done}
+use Rattle.registry.specs.Calls.{calls_of}
 use Rattle.registry.specs.Stands.{Stands, StandsOld, StandsEither}
 use Rattle.registry.specs.Upgraded.{IsNotOld}
-use Rattle.byte_registry.specs.Plans.{Holds, LeadsFrom, LeadsTo}
+use Rattle.byte_registry.specs.Plans.{Holds, LeadsFrom, LeadsTo, opening_calls}
 use Rattle.byte_registry.specs.Replies.{IsReplyOn}
 
 -- the disk of these bytes, before any call
@@ -25,6 +32,7 @@ pub record IsDiskOf (bytes : List ℕ) (disk : ByteDisk) : Type 0 where
   pub size : IsDiskLength (length bytes)
   pub starts : StartsWith (byte_facts disk) (sectors_in bytes)
   pub given : given_to disk ≡ sectors_in bytes
+  pub unplanned : plan_of disk ≡ []
 
 -- the length isn't that of a disk
 abbrev pub IsBadLength : List ℕ → StoreRefusal → Type 0
@@ -43,6 +51,8 @@ pub record IsAsked (bytes : List ℕ) (s : State) (request : Request) (reply : R
   pub only : (other : State) → Holds bytes other → other ≡ s
   pub by_table : IsReplyOn (sectors_in bytes) s request reply
   pub leads : reply ≡ Done → LeadsTo (sectors_in bytes) s (accepted s request) steps
+  -- no more steps than calls of the disk, of the opening and of the change, and one
+  pub few : reply ≡ Done → length steps ≤ opening_calls by_table.root by_table.entries + calls_of s request + 1
 
 -- Made on these bytes, an empty registry: no root was ever written there, and the steps lead from
 -- the sectors as they were to sectors that hold the empty state.
@@ -50,6 +60,7 @@ pub record IsFormatted (bytes : List ℕ) (steps : List Step) : Type 0 where
   pub size : IsDiskLength (length bytes)
   pub unformatted : HasRootMagic (sectors_in bytes) → ⊥
   pub leads : LeadsFrom (sectors_in bytes) (λ m. m ≡ sectors_in bytes) (λ m. Stands m empty_state) steps
+  pub few : length steps ≤ 6
 
 -- none is made, for this reason
 abbrev pub IsUnformatted : List ℕ → StoreRefusal → Type 0
@@ -60,12 +71,22 @@ pub record HoldsOld (bytes : List ℕ) (s : State) : Type 0 where
   pub size : IsDiskLength (length bytes)
   pub stands : StandsOld (sectors_in bytes) s
 
+-- The bytes hold the state by the rules of version 1, and the steps lead to the one after it.
+pub record LeadsOver (bytes : List ℕ) (s : State) (steps : List Step) : Type 0 where
+  pub holds : HoldsOld bytes s
+  pub leads : LeadsFrom (sectors_in bytes) (λ m. StandsOld m s) (λ m. Stands m (upgraded s)) steps
+  pub root : Root
+  pub entries : List PlacedEntry
+  pub by : StandsBy One (sectors_in bytes) root entries s
+  -- no more steps than calls of the disk, of the opening and of the commit of catalogues, and one
+  pub few : length steps ≤ opening_calls root entries + catalogues_for (length entries) + 3 + 1
+
 -- Made one of version 2: the bytes hold this state by the rules of version 1, and the steps lead to
--- the state after it; or they hold it by those of version 2, and the steps leave it.
+-- the state after it; or they hold it by those of version 2, and the steps are a sync alone.
 abbrev pub IsUpgraded : List ℕ → State → List Step → Type 0
 IsUpgraded bytes s steps =
-    (HoldsOld bytes s × LeadsFrom (sectors_in bytes) (λ m. StandsOld m s) (λ m. Stands m (upgraded s)) steps)
-    ⊎ (Holds bytes s × LeadsTo (sectors_in bytes) s s steps)
+    LeadsOver bytes s steps
+    ⊎ (Holds bytes s × LeadsTo (sectors_in bytes) s s steps × (steps ≡ Sync ∷ []))
 
 -- No registry is upgraded on these bytes, for this reason: where they hold a state of version 1,
 -- the one of the tests of an upgrade or want of memory; where they hold one of version 2, want of

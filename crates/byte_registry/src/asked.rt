@@ -1,9 +1,12 @@
 // A registry on given bytes, asked.
-ghost use Rattle.std.specs.Prelude.{IfOk, IfErr};
-ghost use Rattle.byte_disk.specs.ByteDisk.{plan_of};
+ghost use Rattle.std.specs.Prelude.{◌≡◌, ◌<◌, IfOk, IfErr};
+ghost use Rattle.byte_disk.specs.ByteDisk.{byte_facts};
 ghost use Rattle.states.specs.State.{State};
 ghost use Rattle.requests.specs.Request.{request_of};
+ghost use Rattle.requests.specs.declared.refusal.Refusal.TheVariants.{Device};
+ghost use Rattle.requests.specs.declared.reply.Reply.TheVariants.{Refused};
 ghost use Rattle.byte_registry.specs.Asked.{IsDiskOf, IsBadLength, IsAsked, IsUnopened};
+ghost use Rattle.byte_registry.specs.Plans.{synced_plan};
 
 use byte_disk::ByteDisk;
 use registry::Registry;
@@ -29,7 +32,11 @@ pub fn ask<'a>(
     command: &Command<'_>,
 ) -> Result<(Reply, ByteDisk<'a>), StoreRefusal>
     ensures ok { IfOk result (λ asked. (s : State)
-        × IsAsked disk.now s (request_of command.now) asked.0 (plan_of asked.1)) }
+        × IsAsked disk.now s (request_of command.now) asked.0 (synced_plan asked.1)) }
+
+    // S1 comes only where a call of the disk failed: a write or a sync, which found no memory.
+    ensures device { IfOk result (λ asked. asked.0 ≡ Refused Device
+        → 0 < (byte_facts asked.1).failures) }
     ensures err { IfErr result (IsUnopened disk.now) }
 {
     let disk = match disk_of(alloc, disk) {

@@ -1,21 +1,36 @@
-// The generation of the registry that a disk holds.
-ghost use Rattle.std.specs.Prelude.{◌≡◌};
+// The current root on a disk of given bytes, and the generation that it tells.
+ghost use Rattle.std.specs.Prelude.{◌≡◌, List, Some};
+ghost use Rattle.byte_disk.specs.Bytes.{sectors_in};
+ghost use Rattle.roots.specs.declared.version.Version.{Version};
 ghost use Rattle.states.specs.State.{State};
+ghost use Rattle.store.specs.declared.placed_entry.PlacedEntry.{PlacedEntry};
+ghost use Rattle.store.specs.Stands.{StandsBy};
 ghost use Rattle.byte_registry.specs.Plans.{Holds};
 
-use roots::{choose, decode_root};
+use roots::{Root, choose, decode_root};
 use sector_disk::SECTOR_BYTES;
+
+/// The current root on a disk of these bytes, where there is one.
+pub(crate) fn current_root(disk: &[u8]) -> Option<Root>
+    ensures { (version : Version) → (root : Root) → (entries : List PlacedEntry) → (s : State)
+        → StandsBy version (sectors_in disk.now) root entries s → result ≡ Some root }
+{
+    let (sectors, _) = disk.as_chunks::<SECTOR_BYTES>();
+    if sectors.len() < 2 {
+        return None;
+    }
+    match choose(decode_root(&sectors[0]), decode_root(&sectors[1])) {
+        Ok(root) => Some(root),
+        Err(_) => None,
+    }
+}
 
 /// The generation of the current root on a disk of these bytes; 0 where there is none.
 pub fn generation_of(disk: &[u8]) -> u64
     ensures { (s : State) → Holds disk.now s → result ≡ s.generation }
 {
-    let (sectors, _) = disk.as_chunks::<SECTOR_BYTES>();
-    if sectors.len() < 2 {
-        return 0;
-    }
-    match choose(decode_root(&sectors[0]), decode_root(&sectors[1])) {
-        Ok(root) => root.generation,
-        Err(_) => 0,
+    match current_root(disk) {
+        Some(root) => root.generation,
+        None => 0,
     }
 }

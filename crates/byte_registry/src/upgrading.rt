@@ -1,26 +1,55 @@
 // Making a registry of version 1 on given bytes one of version 2.
-ghost use Rattle.std.specs.Prelude.{IfOk, IfErr};
-ghost use Rattle.byte_disk.specs.ByteDisk.{plan_of};
+ghost use Rattle.std.specs.Prelude.{◌≡◌, ◌↔◌, IsTrue, List, IfOk, IfErr};
+ghost use Rattle.byte_disk.specs.Bytes.{sectors_in};
+ghost use Rattle.roots.specs.declared.version.Version.{Version as RootVersion};
+ghost use Rattle.roots.specs.declared.version.Version.TheVariants.{Two};
 ghost use Rattle.states.specs.State.{State};
+ghost use Rattle.store.specs.declared.placed_entry.PlacedEntry.{PlacedEntry};
+ghost use Rattle.store.specs.Stands.{StandsBy};
 ghost use Rattle.byte_registry.specs.Asked.{IsUpgraded, IsUnupgraded};
+ghost use Rattle.byte_registry.specs.Plans.{synced_plan};
 
 use crate::asked::disk_of;
+use crate::generation::current_root;
 use byte_disk::ByteDisk;
 use registry::Registry;
+use roots::{Root, Version};
 use std::alloc::Global;
 use store::StoreRefusal;
 
-/// The disk on which a registry of version 2 is, or why none is.
+/// Whether the current root on a disk of these bytes is of version 2.
+fn is_current(disk: &[u8]) -> bool
+    ensures { (version : RootVersion) → (root : Root) → (entries : List PlacedEntry) → (s : State)
+        → StandsBy version (sectors_in disk.now) root entries s
+        → IsTrue result ↔ (version ≡ Two) }
+{
+    match current_root(disk) {
+        Some(root) => match root.version() {
+            Version::One => false,
+            Version::Two => true,
+        },
+        None => false,
+    }
+}
+
+/// The disk on which a registry of version 2 is, or why none is. Where it was one before, nothing
+/// is written.
 pub fn upgrade(alloc: Global, disk: &[u8]) -> Result<ByteDisk<'_>, StoreRefusal>
-    ensures ok { IfOk result (λ made. (s : State) × IsUpgraded disk.now s (plan_of made)) }
+    ensures ok { IfOk result (λ made. (s : State) × IsUpgraded disk.now s (synced_plan made)) }
     ensures err { IfErr result (IsUnupgraded disk.now) }
 {
-    let disk = match disk_of(alloc, disk) {
-        Ok(disk) => disk,
+    let given = match disk_of(alloc, disk) {
+        Ok(given) => given,
         Err(refusal) => return Err(refusal),
     };
-    match Registry::upgrade(alloc, disk) {
-        Ok(registry) => Ok(registry.into_disk()),
+    match Registry::upgrade(alloc, given) {
+        Ok(registry) => {
+            let made = registry.into_disk();
+            if is_current(disk) {
+                return disk_of(alloc, disk);
+            }
+            Ok(made)
+        }
         Err((refusal, _)) => Err(refusal),
     }
 }

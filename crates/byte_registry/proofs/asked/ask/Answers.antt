@@ -1,9 +1,10 @@
-use Rattle.std.proofs.Common.{refl, sym, subst, ◌≡◌, ℕ}
-use Rattle.byte_disk.specs.ByteDisk.{plan_of}
+use Rattle.std.proofs.Common.{refl, sym, subst, ◌<◌}
+use Rattle.byte_disk.specs.ByteDisk.{byte_facts}
 use Rattle.states.specs.State.{State}
 use Rattle.requests.specs.Request.{request_of}
 use Rattle.byte_registry.specs.Asked.{IsAsked}
-use Rattle.byte_registry.proofs.Asking.{asked}
+use Rattle.byte_registry.specs.Plans.{synced_plan}
+use Rattle.byte_registry.proofs.Asking.{asked, failed}
 use Rattle.byte_registry.proofs.Upgrades.{unopened}
 use Rattle.byte_registry.proofs.asked.ask.Goals as goal
 
@@ -11,8 +12,17 @@ pub returns-in-Ok-open-clause-ok : goal.returns-in-Ok-open-clause-ok
 returns-in-Ok-open-clause-ok c =
     let opened = c.in-Ok-open.ensures in
     let found = opened.ok refl in
-    subst (λ d. (s : State) × IsAsked c.args.disk.now s (request_of c.args.command.now) c.apply-reply.result (plan_of d)) (sym c.into_disk.ensures)
-    (asked c.args.disk.now c.in-Ok.disk c.in-Ok.ensures.ok c.in-Ok-open.registry (opened.any_moment refl) (opened.now refl) found opened.unheld (request_of c.args.command.now) c.apply-reply.result c.apply-reply.new.self (c.apply-reply.ensures.applied found.0 found.2))
+    let apply = c.apply-reply in
+    subst (λ d. (s : State) × IsAsked c.args.disk.now s (request_of c.args.command.now) apply.result (synced_plan d)) (sym c.into_disk.ensures)
+    (asked c.args.disk.now c.in-Ok.disk c.in-Ok.ensures.ok c.in-Ok-open.registry (opened.any_moment refl) (opened.now refl) found opened.unheld (request_of c.args.command.now) apply.result apply.new.self (apply.ensures.applied found.0 found.2) opened.all_calls (apply.ensures.all_calls found.0 found.2))
+
+pub returns-in-Ok-open-clause-device : goal.returns-in-Ok-open-clause-device
+returns-in-Ok-open-clause-device c device =
+    let opened = c.in-Ok-open.ensures in
+    let found = opened.ok refl in
+    let apply = c.apply-reply in
+    subst (λ d. 0 < (byte_facts d).failures) (sym c.into_disk.ensures)
+    (failed c.args.disk.now c.in-Ok.disk c.in-Ok.ensures.ok c.in-Ok-open.registry (opened.any_moment refl) (opened.now refl) found opened.unheld (request_of c.args.command.now) apply.result apply.new.self (apply.ensures.applied found.0 found.2) device)
 
 pub returns-clause-err : goal.returns-clause-err
 returns-clause-err c =

@@ -1,0 +1,61 @@
+-- A plan that is begun with a sync.
+use Rattle.std.proofs.Common.{◌≡◌, ℕ, zero, suc, ◌+◌, ◌≤◌, List, [], ◌∷◌, length, take, refl, arith}
+use Rattle.std.proofs.lemmas.List.{length-map}
+use Rattle.std.proofs.lemmas.List.Elements.{All-head}
+use Rattle.sector_disk.specs.Disk.{Sector, sector}
+use Rattle.byte_disk.specs.declared.disk.ByteDisk.{ByteDisk}
+use Rattle.byte_disk.specs.declared.planned.PlannedStep.{PlannedStep}
+use Rattle.byte_disk.specs.declared.step.Step.{Step}
+use Rattle.byte_disk.specs.declared.step.Step.TheVariants.{Write, Sync}
+use Rattle.byte_disk.specs.ByteDisk.{byte_facts, calls_for, plan_of}
+use Rattle.byte_disk.specs.Plan.{IsMixtureAfter, IsWriteStep, MayBeLeft, writes_in}
+use Rattle.byte_registry.specs.Plans.{behind_sync, synced_plan}
+
+module _ (start : List Sector) where
+  -- a sync in front leaves nothing more
+  behind_left : (steps : List Step) (k : ℕ) (c : Sector) → MayBeLeft start (Sync ∷ steps) k c → MayBeLeft start steps k c
+  behind_left steps k c (zero, le, writes, is) = absurd (All-head IsWriteStep Sync steps writes)
+  behind_left steps k c (suc i, le, writes, is) = (i, omega (arith, le), writes, is)
+
+  behind_mixture : (steps : List Step) (m : List Sector) → IsMixtureAfter start (Sync ∷ steps) m → IsMixtureAfter start steps m
+  behind_mixture steps m mixture = record { size = mixture.size; each = λ k lt. behind_left steps k (sector m k) (mixture.each k lt) }
+
+  module _ (P : List Sector → Type 0) where
+    abbrev HoldsWithin : List Step → Type 0
+    HoldsWithin steps = (n : ℕ) → n ≤ length steps → (m : List Sector) → IsMixtureAfter start (take n steps) m → P m
+
+    with_sync : (steps : List Step) → HoldsWithin steps → HoldsWithin (Sync ∷ steps)
+    with_sync steps holds zero le m mixture = holds zero (omega arith) m mixture
+    with_sync steps holds (suc n) le m mixture = holds n (omega (arith, le)) m (behind_mixture (take n steps) m mixture)
+
+    -- what holds of each mixture after each prefix of a plan still does,
+    pub begun_prefix : (steps : List Step) → HoldsWithin steps → HoldsWithin (Sync ∷ behind_sync steps)
+    begun_prefix [] holds = with_sync [] holds
+    begun_prefix (Sync ∷ steps) holds = holds
+    begun_prefix (Write at content ∷ steps) holds = with_sync (Write at content ∷ steps) holds
+
+    -- and so does what holds of each after the whole.
+    pub begun_whole : (steps : List Step) → ((m : List Sector) → IsMixtureAfter start steps m → P m) → (m : List Sector) → IsMixtureAfter start (Sync ∷ behind_sync steps) m → P m
+    begun_whole [] holds m mixture = holds m (behind_mixture [] m mixture)
+    begun_whole (Sync ∷ steps) holds m mixture = holds m mixture
+    begun_whole (Write at content ∷ steps) holds m mixture = holds m (behind_mixture (Write at content ∷ steps) m mixture)
+
+-- it has the same writes
+pub same_writes : (steps : List Step) → writes_in (Sync ∷ behind_sync steps) ≡ writes_in steps
+same_writes [] = refl
+same_writes (Sync ∷ steps) = refl
+same_writes (Write at content ∷ steps) = refl
+
+behind_few : (steps : List Step) → length (behind_sync steps) ≤ length steps
+behind_few [] = omega arith
+behind_few (Sync ∷ steps) = omega arith
+behind_few (Write at content ∷ steps) = omega arith
+
+-- each step is made by a call
+steps_few : (planned : List PlannedStep) → length planned ≤ calls_for planned
+steps_few [] = omega arith
+steps_few (p ∷ planned) = omega (arith, steps_few planned)
+
+-- It has no more steps than calls of its disk were made, and one.
+pub plan_few : (disk : ByteDisk) → length (synced_plan disk) ≤ (byte_facts disk).time + 1
+plan_few disk = omega (arith, behind_few (plan_of disk), steps_few disk.planned.items, length-map disk.planned.items (λ (p : PlannedStep). p.step))
