@@ -1,6 +1,6 @@
 -- What a command of a registry on a disk ends with.
-use Rattle.std.proofs.Common.{◌≡◌, ℕ, List, Option, Some, ap, refl, sym, subst, inl, inr, ⊎_elim}
-use Rattle.std.specs.Prelude.{is_some, true, false, ◌⊎◌}
+use Rattle.std.proofs.Common.{◌≡◌, ℕ, List, Option, Some, Result, Ok, Err, ap, refl, sym, subst, inl, inr, ⊎_elim}
+use Rattle.std.specs.Prelude.{is_some, true, false, ◌⊎◌, codes, OnOk}
 use Rattle.std.specs.Io.KnownBytes.{Appends}
 use Rattle.image.specs.declared.refusal.BindRefusal.TheVariants as bind_refusal
 use Rattle.requests.specs.Request.{Request}
@@ -10,14 +10,20 @@ use Rattle.requests.specs.declared.refusal.Refusal.TheVariants as refusal
 use Rattle.requests.specs.declared.reply.Reply.{Reply}
 use Rattle.requests.specs.declared.reply.Reply.TheVariants as reply
 use Rattle.store.specs.Opened.{Opened}
-use Rattle.file_disk.specs.FileDisk.{file_facts}
+use Rattle.store.specs.Step.{answer_of}
+use Rattle.store.specs.declared.refusal.StoreRefusal.{StoreRefusal}
+use Rattle.store.specs.declared.refusal.StoreRefusal.TheVariants as store
+use Rattle.file_disk.specs.FileDisk.{file_facts, IsNew}
 use Rattle.file_disk.specs.declared.disk.FileDisk.{FileDisk}
-use Rattle.commands.specs.Disk.{IsOpenRefusal, IsFormatRefusal, IsUpgradeRefusal}
+use Rattle.commands.specs.Disk.{disk_refusal_text, disk_answer_text, IsOpenRefusal, IsFormatRefusal, IsUpgradeRefusal}
 use Rattle.commands.specs.DiskStep.{DiskStep}
-use Rattle.commands.specs.Opened.{IsOpened}
+use Rattle.commands.specs.OnDisk.{RequestEnds, FormatEnds, UpgradeEnds}
+use Rattle.commands.specs.Opened.{IsOpened, IsMade, IsUpgraded}
+use Rattle.commands.specs.Opening.{EndsMaking, EndsUpgrading}
+use Rattle.commands.specs.Printed.{IsTold}
 use Rattle.commands.specs.Refusal.{memory_text}
 use Rattle.commands.specs.Reply.{command_refusal_text, reply_text}
-use Rattle.commands.specs.Status.{refusal_status, reply_status}
+use Rattle.commands.specs.Status.{disk_status, disk_answer_status, refusal_status, reply_status}
 use Rattle.commands.specs.declared.status.Status.{Status}
 use Rattle.commands.specs.declared.status.Status.TheVariants.{Done, Refused, BadWords, Failed, NoMemory}
 use Rattle.commands.specs.Outcome.{are_bad, Asks, IsDone, IsRefused, LacksMemory, Replies, TurnsAway}
@@ -27,7 +33,7 @@ use Rattle.commands.specs.declared.disk.NoRegistry.{NoRegistry}
 use Rattle.commands.specs.declared.disk.NoRegistry.TheVariants as no
 use Rattle.commands.specs.declared.file.FileFault.{FileFault}
 use Rattle.commands.specs.declared.file.FileFault.TheVariants.{CannotRead, OutOfMemory}
-use Rattle.commands.specs.inside.Ends.{BindEnds, CommandEnds, IsFormatted, IsNoRegistry, IsNotRead, IsTurnedAway, IsWritten, Replied, SaysNoMemory, UpgradeEnds}
+use Rattle.commands.specs.inside.Ends.{BindEnds, CommandEnds, IsFormatted, IsNoRegistry, IsNotRead, IsTurnedAway, IsWritten, Replied, SaysNoMemory, IsUpgradedOver}
 use Rattle.commands.proofs.Ending.{reply_answers}
 
 -- a refusal that is want of memory has its line
@@ -75,7 +81,72 @@ words_fail h = cc
 memory_fails : NoMemory ≡ Failed → ⊥
 memory_fails h = cc
 
+-- a refusal of a disk is neither done nor about words, and want of memory has its line
+disk_done : (r : StoreRefusal) → disk_status r ≡ Done → ⊥
+disk_done store.Device h = cc
+disk_done store.Reopen h = cc
+disk_done store.NotFormatted h = cc
+disk_done store.AlreadyFormatted h = cc
+disk_done store.Damaged h = cc
+disk_done store.BadGeometry h = cc
+disk_done store.Full h = cc
+disk_done store.Fragmented h = cc
+disk_done store.TooMany h = cc
+disk_done store.GenerationEnd h = cc
+disk_done store.OutOfMemory h = cc
+disk_done store.OldFormat h = cc
+
+disk_words : (r : StoreRefusal) → disk_status r ≡ BadWords → ⊥
+disk_words store.Device h = cc
+disk_words store.Reopen h = cc
+disk_words store.NotFormatted h = cc
+disk_words store.AlreadyFormatted h = cc
+disk_words store.Damaged h = cc
+disk_words store.BadGeometry h = cc
+disk_words store.Full h = cc
+disk_words store.Fragmented h = cc
+disk_words store.TooMany h = cc
+disk_words store.GenerationEnd h = cc
+disk_words store.OutOfMemory h = cc
+disk_words store.OldFormat h = cc
+
+disk_memory : (r : StoreRefusal) → disk_status r ≡ NoMemory → disk_refusal_text r ≡ memory_text
+disk_memory store.Device h = cc
+disk_memory store.Reopen h = cc
+disk_memory store.NotFormatted h = cc
+disk_memory store.AlreadyFormatted h = cc
+disk_memory store.Damaged h = cc
+disk_memory store.BadGeometry h = cc
+disk_memory store.Full h = cc
+disk_memory store.Fragmented h = cc
+disk_memory store.TooMany h = cc
+disk_memory store.GenerationEnd h = cc
+disk_memory store.OutOfMemory h = refl
+disk_memory store.OldFormat h = cc
+
+-- what was done ends with no other status than that or a failure
+done_refuses : Refused ≡ Done → ⊥
+done_refuses h = cc
+
+done_words : BadWords ≡ Done → ⊥
+done_words h = cc
+
+done_memory : NoMemory ≡ Done → ⊥
+done_memory h = cc
+
 module _ (F : Type 0) (before after : Option (List ℕ)) where
+  -- the line of the refusal of a disk was told
+  pub told_away : (May : StoreRefusal → Type 0) (r : StoreRefusal) (status : Status) → May r → IsTold (disk_status r) (disk_refusal_text r) before after status → IsTurnedAway May before after status
+  told_away May r Done may (inl h) = absurd (disk_done r (sym h.0))
+  told_away May r Done may (inr h) = absurd (done_fails h)
+  told_away May r Refused may (inl h) = (r, may, sym h.0, h.1)
+  told_away May r Refused may (inr h) = absurd (refused_fails h)
+  told_away May r BadWords may (inl h) = absurd (disk_words r (sym h.0))
+  told_away May r BadWords may (inr h) = absurd (words_fail h)
+  told_away May r Failed may h = tt
+  told_away May r NoMemory may (inl h) = subst (Appends before after) (disk_memory r (sym h.0)) h.1
+  told_away May r NoMemory may (inr h) = absurd (memory_fails h)
+
   -- a reply was written, or the output failed
   written_as : (q : Request) (r : Reply) (made : (t : Status) → reply_status r ≡ t → Appends before after (reply_text r) → Replies F (λ asked. asked ≡ q) t before after)
       → (status : Status) → IsWritten r before after status → Replied F (λ asked. asked ≡ q) before after status
@@ -107,6 +178,62 @@ module _ (F : Type 0) (before after : Option (List ℕ)) where
         written = w;
       })
       status h
+
+  -- so of a request over a new disk
+  away_told : (IsAsked : Request → Type 0) (status : Status) → IsTurnedAway IsOpenRefusal before after status → Replied F IsAsked before after status
+  away_told IsAsked Done h = absurd h
+  away_told IsAsked Refused h = inr h
+  away_told IsAsked BadWords h = absurd h
+  away_told IsAsked Failed h = tt
+  away_told IsAsked NoMemory h = h
+
+  pub request_replied : (disk left : FileDisk F) (q : Request) (status : Status) → IsNew disk
+      → RequestEnds file_facts disk q before after status left → Replied F (λ asked. asked ≡ q) before after status
+  request_replied disk left q status new (inl h) =
+      let a = h.1 in written_replied disk a.old a.new q h.0 status (record { new = new; opening = a.opened }) a.step h.2
+  request_replied disk left q status new (inr h) =
+      away_told (λ asked. asked ≡ q) status (told_away IsOpenRefusal h.0 status ((file_facts disk).sectors, h.1.refusals) h.2)
+
+  -- a registry was made, and that was told
+  pub made_told : (n : ℕ) (disk : FileDisk F) (registry : Opened (FileDisk F)) (status : Status) → IsMade n disk registry
+      → IsTold Done (codes "ok\n") before after status → IsFormatted F n before after status
+  made_told n disk registry Done made (inl h) = record { disk = disk; new = registry; made = made; written = h.1 }
+  made_told n disk registry Done made (inr h) = absurd (done_fails h)
+  made_told n disk registry Refused made (inl h) = absurd (done_refuses h.0)
+  made_told n disk registry Refused made (inr h) = absurd (refused_fails h)
+  made_told n disk registry BadWords made (inl h) = absurd (done_words h.0)
+  made_told n disk registry BadWords made (inr h) = absurd (words_fail h)
+  made_told n disk registry Failed made h = tt
+  made_told n disk registry NoMemory made (inl h) = absurd (done_memory h.0)
+  made_told n disk registry NoMemory made (inr h) = absurd (memory_fails h)
+
+  -- so of an upgrade of a new disk
+  ends_upgraded : (disk : FileDisk F) (registry : Opened (FileDisk F)) (status : Status) → IsUpgraded disk registry
+      → IsTold Done (codes "ok\n") before after status → IsUpgradedOver F before after status
+  ends_upgraded disk registry Done is (inl h) = record { disk = disk; new = registry; upgraded = is; written = h.1 }
+  ends_upgraded disk registry Done is (inr h) = absurd (done_fails h)
+  ends_upgraded disk registry Refused is (inl h) = absurd (done_refuses h.0)
+  ends_upgraded disk registry Refused is (inr h) = absurd (refused_fails h)
+  ends_upgraded disk registry BadWords is (inl h) = absurd (done_words h.0)
+  ends_upgraded disk registry BadWords is (inr h) = absurd (words_fail h)
+  ends_upgraded disk registry Failed is h = tt
+  ends_upgraded disk registry NoMemory is (inl h) = absurd (done_memory h.0)
+  ends_upgraded disk registry NoMemory is (inr h) = absurd (memory_fails h)
+
+  ends_not_upgraded : (status : Status) → IsTurnedAway IsUpgradeRefusal before after status → IsUpgradedOver F before after status
+  ends_not_upgraded Done h = absurd h
+  ends_not_upgraded Refused h = h
+  ends_not_upgraded BadWords h = absurd h
+  ends_not_upgraded Failed h = tt
+  ends_not_upgraded NoMemory h = h
+
+  ends_upgrading : (disk : FileDisk F) (upgrading : Result (Opened (FileDisk F)) (StoreRefusal × FileDisk F)) (status : Status) → IsNew disk → EndsUpgrading file_facts disk upgrading
+      → IsTold (disk_answer_status (answer_of upgrading)) (disk_answer_text (answer_of upgrading)) before after status → IsUpgradedOver F before after status
+  ends_upgrading disk (Ok registry) status new is h = ends_upgraded disk registry status (record { new = new; upgrading = is }) h
+  ends_upgrading disk (Err e) status new is h = ends_not_upgraded status (told_away IsUpgradeRefusal e.0 status ((file_facts disk).sectors, is.refusals) h)
+
+  pub upgrade_told : (disk left : FileDisk F) (status : Status) → IsNew disk → UpgradeEnds file_facts disk before after status left → IsUpgradedOver F before after status
+  upgrade_told disk left status new h = ends_upgrading disk h.0 status new h.1 h.3
 
   -- the registry was not opened
   pub away_replied : (IsAsked : Request → Type 0) (why : NoRegistry) (status : Status) → IsNoRegistry IsOpenRefusal why → IsTurnedAway (λ r. why ≡ no.Refused r) before after status
@@ -168,7 +295,7 @@ module _ (F : Type 0) (before after : Option (List ℕ)) where
   away_formatted n why NoMemory is h = h
 
   -- a registry was not upgraded
-  pub away_upgraded : (why : NoRegistry) (status : Status) → IsNoRegistry IsUpgradeRefusal why → IsTurnedAway (λ r. why ≡ no.Refused r) before after status → UpgradeEnds F before after status
+  pub away_upgraded : (why : NoRegistry) (status : Status) → IsNoRegistry IsUpgradeRefusal why → IsTurnedAway (λ r. why ≡ no.Refused r) before after status → IsUpgradedOver F before after status
   away_upgraded why Done is h = absurd h
   away_upgraded why Refused is h = (h.0, subst (IsNoRegistry IsUpgradeRefusal) h.1 is, h.2, h.3)
   away_upgraded why BadWords is h = absurd h
@@ -208,6 +335,18 @@ module _ (F : Type 0) (io : Streams) where
 
   pub list_ends : (disk : List ℕ) (status : Status) → Replied F (λ asked. asked ≡ request.list) io.before io.after status → CommandEnds F (Some (list disk)) io status
   list_ends disk status h = ends_as (list disk) refl (λ k. k) (λ k. k) (λ k. k) status h
+
+module _ {F : Type 0} (n : ℕ) (disk : FileDisk F) where
+  made_as : (making : Result (Opened (FileDisk F)) (StoreRefusal × FileDisk F)) → IsNew disk → (file_facts disk).sectors ≡ n → EndsMaking file_facts disk making
+      → OnOk (answer_of making) ((d : FileDisk F) × (registry : Opened (FileDisk F)) × IsMade n d registry)
+  made_as (Ok registry) new sectors is = (disk, registry, record { new = new; sectors = sectors; making = is })
+  made_as (Err e) new sectors is = tt
+
+  -- what making a registry on a new disk of so many sectors answers
+  pub format_made : (answer : Result (Unit {0}) StoreRefusal) (left : FileDisk F) → IsNew disk → (file_facts disk).sectors ≡ n → FormatEnds file_facts disk answer left
+      → OnOk answer ((d : FileDisk F) × (registry : Opened (FileDisk F)) × IsMade n d registry)
+  format_made answer left new sectors h =
+      subst (λ (a : Result (Unit {0}) StoreRefusal). OnOk a ((d : FileDisk F) × (registry : Opened (FileDisk F)) × IsMade n d registry)) (sym h.2) (made_as h.0 new sectors h.1)
 
 -- what a command ends with whose disk is the file behind a standard stream, when nothing was printed
 pub ends_away : (F : Type 0) (line : CommandLine) (io : Streams) (status : Status) → io.after ≡ io.before

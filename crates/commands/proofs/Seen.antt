@@ -35,7 +35,7 @@ module _ {S T : Type 0} (f : S → T) (step : S → Happening → EventReply →
   last_seen s [] = refl
   last_seen s (t ∷ ts) = last_seen t ts
 
-  run_seen : (s s' : S) (lines : List (List ℕ)) (answers : List Answer) → Run (LineStep step) s lines answers s' → Run (LineStep seen) (f s) lines answers (f s')
+  pub run_seen : (s s' : S) (lines : List (List ℕ)) (answers : List Answer) → Run (LineStep step) s lines answers s' → Run (LineStep seen) (f s) lines answers (f s')
   run_seen s s' lines answers h = (map f h.0, steps_seen s lines answers h.0 h.1, ap f h.2 ∙ last_seen s h.0)
 
   pub finishes_seen : (io : Streams) (s s' : S) (summary : Summary) → Finishes step io s s' summary → Finishes seen io (f s) (f s') summary

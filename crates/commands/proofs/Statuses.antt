@@ -5,10 +5,11 @@ use Rattle.binders.specs.Events.{Happening}
 use Rattle.binders.specs.Slotted.{HoldAlone, Slotted}
 use Rattle.binders.specs.declared.event.EventReply.{EventReply}
 use Rattle.binders.specs.declared.event.EventReply.TheVariants as event
-use Rattle.file_disk.specs.FileDisk.{file_facts}
+use Rattle.file_disk.specs.FileDisk.{file_facts, IsNew}
 use Rattle.file_disk.specs.declared.disk.FileDisk.{FileDisk}
 use Rattle.commands.specs.Disk.{IsOpenRefusal}
 use Rattle.binders.specs.EventsRan.{EventStep}
+use Rattle.commands.specs.OnDisk.{DiskScriptEnds}
 use Rattle.commands.specs.Opened.{IsOpened}
 use Rattle.commands.specs.Outcome.{EndsEarly, Runs, RunsInPart, RunsToTheEnd}
 use Rattle.commands.specs.Script.{Streams}
@@ -20,7 +21,9 @@ use Rattle.commands.specs.declared.fault.ScriptFault.TheVariants as fault
 use Rattle.commands.specs.declared.status.Status.{Status}
 use Rattle.commands.specs.declared.status.Status.TheVariants.{Done, Refused, BadWords, Failed, NoMemory}
 use Rattle.commands.specs.inside.Ends.{IsNoRegistry, IsRun, IsTurnedAway, ScriptEnds}
+use Rattle.commands.proofs.Asking.{told_away}
 use Rattle.commands.proofs.Ending.{reply_answers}
+use Rattle.commands.proofs.ScriptRuns.{run_of}
 
 either : (b : Bool) (s t : Status) → s ≢ BadWords → t ≢ BadWords → cond b t s ≢ BadWords
 either true s t hs ht = ht
@@ -122,6 +125,21 @@ run_ends F disk old new io status opened empty alone words h =
       run = k;
     })
     status words h
+
+-- the disk was refused, and that was told
+away_ends : (F : Type 0) (io : Streams) (status : Status) → IsTurnedAway IsOpenRefusal io.before io.after status → ScriptEnds F io status
+away_ends F io Done h = absurd h
+away_ends F io Refused h = inr h
+away_ends F io BadWords h = absurd h
+away_ends F io Failed h = tt
+away_ends F io NoMemory h = inr (inr h)
+
+-- so of a script over a new disk
+pub disk_script_ends : (F : Type 0) (disk left : FileDisk F) (io : Streams) (status : Status) → IsNew disk → status ≢ BadWords → DiskScriptEnds file_facts disk io status left → ScriptEnds F io status
+disk_script_ends F disk left io status new words (inl h) =
+    run_ends F disk h.old h.new io status (record { new = new; opening = h.opened }) h.empty h.alone words (run_of file_facts io h.old h.new status h.run)
+disk_script_ends F disk left io status new words (inr h) =
+    away_ends F io status (told_away F io.before io.after IsOpenRefusal h.0 status ((file_facts disk).sectors, h.1.refusals) h.2)
 
 pub away_script : (F : Type 0) (io : Streams) (why : NoRegistry) (status : Status) → IsNoRegistry IsOpenRefusal why → IsTurnedAway (λ r. why ≡ no.Refused r) io.before io.after status → ScriptEnds F io status
 away_script F io why Done is h = absurd h

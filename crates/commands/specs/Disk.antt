@@ -1,5 +1,5 @@
 -- The refusals to open, make or upgrade a registry on a disk, and their text (own).
-use Rattle.std.specs.Prelude.{ℕ, List, ◌++◌, codes}
+use Rattle.std.specs.Prelude.{ℕ, List, ◌++◌, codes, Result, Ok, Err}
 use Rattle.store.specs.Opening.{IsRefusalOfOpen, IsRefusalOfFormat, IsRefusalOfUpgrade}
 use Rattle.store.specs.declared.refusal.StoreRefusal.{StoreRefusal}
 use Rattle.store.specs.declared.refusal.StoreRefusal.TheVariants.{Device, Reopen, NotFormatted, AlreadyFormatted, Damaged, BadGeometry}
@@ -23,6 +23,11 @@ disk_refusal_name OldFormat = codes "S12 OldFormat"
 -- the line of the refusal
 abbrev pub disk_refusal_text : StoreRefusal → List ℕ
 disk_refusal_text refusal = codes "refused " ++ disk_refusal_name refusal ++ codes "\n"
+
+-- what is told of making or upgrading one
+abbrev pub disk_answer_text : Result (Unit {0}) StoreRefusal → List ℕ
+disk_answer_text (Ok done) = codes "ok\n"
+disk_answer_text (Err refusal) = disk_refusal_text refusal
 
 -- what opening may refuse with: on a disk of some number of sectors
 abbrev pub IsOpenRefusal : StoreRefusal → Type 0

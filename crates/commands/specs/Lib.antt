@@ -6,7 +6,9 @@ pub mod DiskStep
 pub mod EventReply
 pub mod File
 pub mod Line
+pub mod OnDisk
 pub mod Opened
+pub mod Opening
 pub mod Outcome
 pub mod Printed
 pub mod Refusal

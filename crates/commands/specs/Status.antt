@@ -61,6 +61,11 @@ disk_status store.Reopen = Failed
 disk_status store.OutOfMemory = NoMemory
 disk_status other = Refused
 
+-- what making or upgrading one ends with
+abbrev pub disk_answer_status : Result (Unit {0}) StoreRefusal → Status
+disk_answer_status (Ok done) = Done
+disk_answer_status (Err refusal) = disk_status refusal
+
 -- what a script that ended early ends with
 abbrev pub fault_status : ScriptFault → Status
 fault_status fault.OutOfMemory = NoMemory

@@ -6,15 +6,15 @@ ghost use Rattle.file_disk.specs.FileDisk.{IsNew};
 ghost use Rattle.file_disk.specs.declared.disk.FileDisk.{FileDisk};
 ghost use Rattle.file_disk.specs.declared.disk_file.DiskFile.{DiskFile};
 ghost use Rattle.commands.specs.Disk.{IsOpenRefusal, IsFormatRefusal, IsUpgradeRefusal};
-ghost use Rattle.commands.specs.Opened.{IsOpened, IsMade, IsUpgraded};
+ghost use Rattle.commands.specs.Opened.{IsMade};
 ghost use Rattle.commands.specs.inside.Ends.{IsNoRegistry, IsTurnedAway, is_told};
 
 use crate::access::Access;
-use crate::disk_refusal::write_disk_refusal;
+use crate::disk_answer::write_disk_answer;
+use crate::making::run_format;
 use crate::message::cannot_read;
-use crate::status::{Status, disk_status};
+use crate::status::Status;
 use file_disk::{DiskFile, FileDisk, Made, NameFault, NewName, OpenFault};
-use registry::Registry;
 use std::alloc::Global;
 use std::fs::File;
 use std::io::Write;
@@ -32,7 +32,7 @@ pub(crate) enum NoRegistry {
 
 /// Why a file is no disk, in these words: a length that isn't that of whole sectors, or not of
 /// those that were asked for, is S6.
-fn no_disk(fault: OpenFault) -> NoRegistry
+pub(crate) fn no_disk(fault: OpenFault) -> NoRegistry
     ensures open { IsNoRegistry IsOpenRefusal result }
     ensures format { IsNoRegistry IsFormatRefusal result }
     ensures upgrade { IsNoRegistry IsUpgradeRefusal result }
@@ -45,7 +45,7 @@ fn no_disk(fault: OpenFault) -> NoRegistry
 }
 
 /// Opens the disk that a file is.
-fn open_disk<R: Files<File = File> + Clock>(
+pub(crate) fn open_disk<R: Files<File = File> + Clock>(
     rt: &R,
     alloc: Global,
     path: &str,
@@ -56,26 +56,6 @@ fn open_disk<R: Files<File = File> + Clock>(
     match access {
         Access::Reading => FileDisk::open_read_only(rt, alloc, path),
         Access::Writing => FileDisk::open(rt, alloc, path),
-    }
-}
-
-/// Opens the registry on the disk that a file is.
-pub(crate) fn open_registry<R: Files<File = File> + Clock>(
-    rt: &R,
-    alloc: Global,
-    path: &str,
-    access: Access,
-) -> Result<Registry<FileDisk<DiskFile>>, NoRegistry>
-    ensures ok { IfOk result (λ registry. (disk : FileDisk DiskFile) × IsOpened disk registry) }
-    ensures refused { IfErr result (IsNoRegistry IsOpenRefusal) }
-{
-    let disk = match open_disk(rt, alloc, path, access) {
-        Ok(disk) => disk,
-        Err(fault) => return Err(no_disk(fault)),
-    };
-    match Registry::open(alloc, disk) {
-        Ok(registry) => Ok(registry),
-        Err((refusal, _)) => Err(NoRegistry::Refused(refusal)),
     }
 }
 
@@ -113,40 +93,14 @@ pub(crate) fn make_registry<R: Files<File = File> + Clock>(
         Ok(made) => made,
         Err(fault) => return Err(no_disk(fault)),
     };
-    match Registry::format(alloc, disk) {
-        Ok(registry) => {
-            drop(registry.into_disk());
-            name_file(rt, name)?;
-            Ok(())
-        }
-        Err((refusal, _)) => {
+    let (made, disk) = run_format(alloc, disk);
+    drop(disk);
+    match made {
+        Ok(()) => name_file(rt, name),
+        Err(refusal) => {
             take_away(rt, name);
             Err(NoRegistry::Refused(refusal))
         }
-    }
-}
-
-/// Makes the registry on the disk that a file is one of version 2; where it is one already, it is
-/// opened, and nothing is written.
-pub(crate) fn upgrade_registry<R: Files<File = File> + Clock>(
-    rt: &R,
-    alloc: Global,
-    path: &str,
-) -> Result<(), NoRegistry>
-    ensures ok { OnOk result ((disk : FileDisk DiskFile) × (registry : Opened (FileDisk DiskFile))
-        × IsUpgraded disk registry) }
-    ensures refused { IfErr result (IsNoRegistry IsUpgradeRefusal) }
-{
-    let disk = match open_disk(rt, alloc, path, Access::Writing) {
-        Ok(disk) => disk,
-        Err(fault) => return Err(no_disk(fault)),
-    };
-    match Registry::upgrade(alloc, disk) {
-        Ok(registry) => {
-            drop(registry.into_disk());
-            Ok(())
-        }
-        Err((refusal, _)) => Err(NoRegistry::Refused(refusal)),
     }
 }
 
@@ -163,9 +117,6 @@ pub(crate) fn turn_away<O: Write, E: Write>(
 {
     match why {
         NoRegistry::CannotOpen => cannot_read(errors, path),
-        NoRegistry::Refused(refusal) => match write_disk_refusal(output, refusal) {
-            Ok(()) => disk_status(refusal),
-            Err(_) => Status::Failed,
-        },
+        NoRegistry::Refused(refusal) => write_disk_answer(Err(refusal), output),
     }
 }

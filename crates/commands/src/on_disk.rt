@@ -2,53 +2,28 @@
 
 ghost use Rattle.std.specs.Prelude.{◌≡◌, false, map, string_bytes, IfOk};
 ghost use Rattle.requests.specs.Request.{request_of};
-ghost use Rattle.requests.specs.declared.reply.Reply.{Reply};
 ghost use Rattle.commands.specs.Base.{base_of};
-ghost use Rattle.commands.specs.DiskStep.{DiskStep};
 ghost use Rattle.commands.specs.Outcome.{Asks};
 ghost use Rattle.commands.specs.Words as words;
-ghost use Rattle.commands.specs.inside.Ends.{BindEnds, IsFormatted, IsWritten, Replied};
-ghost use Rattle.commands.specs.inside.Ends.{UpgradeEnds, is_told};
+ghost use Rattle.commands.specs.inside.Ends.{BindEnds, IsFormatted, IsUpgradedOver};
+ghost use Rattle.commands.specs.inside.Ends.{Replied, is_told};
 ghost use Rattle.file_disk.specs.declared.disk_file.DiskFile.{DiskFile};
 
-use crate::access::access_of;
+use crate::access::{Access, access_of};
 use crate::base::parse_base;
-use crate::disk::{make_registry, open_registry, turn_away, upgrade_registry};
+use crate::disk::{make_registry, no_disk, open_disk, turn_away};
+use crate::disk_answer::write_disk_answer;
 use crate::file::read_file;
+use crate::making::run_upgrade;
 use crate::message::bad_base;
-use crate::reply::write_reply;
-use crate::status::{Status, reply_status};
+use crate::request::run_request;
+use crate::status::Status;
 use crate::unread::{no_memory, not_read};
-use registry::Registry;
-use requests::{Command, Reply};
-use sector_disk::Disk;
+use requests::Command;
 use std::alloc::{AllocError, Global};
 use std::fs::File;
 use std::io::Write;
 use std::rt::{Clock, Files};
-
-/// Writes a reply.
-pub(crate) fn tell<O: Write>(reply: &Reply, output: &mut O) -> Status
-    ensures { IsWritten reply.now (O.contents output.old) (O.contents output.new) result }
-{
-    match write_reply(output, reply) {
-        Ok(()) => reply_status(reply),
-        Err(_) => Status::Failed,
-    }
-}
-
-/// Applies a command to a registry, and writes the reply.
-fn answer<D: Disk, O: Write>(
-    registry: &mut Registry<D>,
-    command: &Command<'_>,
-    output: &mut O,
-) -> Status
-    ensures { (reply : Reply) × DiskStep D.facts registry.old (request_of command.now) reply
-        registry.new × IsWritten reply (O.contents output.old) (O.contents output.new) result }
-{
-    let reply = registry.apply(command);
-    tell(&reply, output)
-}
 
 /// Applies a command to the registry on a disk, and writes the reply.
 #[tactic(auto, using(crate::proofs::Asking::away_replied))]
@@ -64,14 +39,13 @@ pub(crate) fn ask<R: Files<File = File> + Clock, O: Write, E: Write>(
         (O.contents output.old) (O.contents output.new) result }
     ensures silent { is_told result ≡ false → E.contents errors.new ≡ E.contents errors.old }
 {
-    match open_registry(rt, alloc, disk, access_of(command)) {
-        Ok(registry) => {
-            let mut registry = registry;
-            let status = answer(&mut registry, command, output);
-            drop(registry.into_disk());
+    match open_disk(rt, alloc, disk, access_of(command)) {
+        Ok(opened) => {
+            let (status, opened) = run_request(alloc, opened, command, output);
+            drop(opened);
             status
         }
-        Err(why) => turn_away(why, disk, output, errors),
+        Err(fault) => turn_away(no_disk(fault), disk, output, errors),
     }
 }
 
@@ -90,10 +64,7 @@ pub(crate) fn format<R: Files<File = File> + Clock, O: Write, E: Write>(
     ensures silent { is_told result ≡ false → E.contents errors.new ≡ E.contents errors.old }
 {
     match make_registry(rt, alloc, disk, sectors) {
-        Ok(()) => match write_reply(output, &Reply::Done) {
-            Ok(()) => Status::Done,
-            Err(_) => Status::Failed,
-        },
+        Ok(()) => write_disk_answer(Ok(()), output),
         Err(why) => turn_away(why, disk, output, errors),
     }
 }
@@ -107,15 +78,16 @@ pub(crate) fn upgrade<R: Files<File = File> + Clock, O: Write, E: Write>(
     output: &mut O,
     errors: &mut E,
 ) -> Status
-    ensures ends { UpgradeEnds DiskFile (O.contents output.old) (O.contents output.new) result }
+    ensures ends { IsUpgradedOver DiskFile (O.contents output.old) (O.contents output.new) result }
     ensures silent { is_told result ≡ false → E.contents errors.new ≡ E.contents errors.old }
 {
-    match upgrade_registry(rt, alloc, disk) {
-        Ok(()) => match write_reply(output, &Reply::Done) {
-            Ok(()) => Status::Done,
-            Err(_) => Status::Failed,
-        },
-        Err(why) => turn_away(why, disk, output, errors),
+    match open_disk(rt, alloc, disk, Access::Writing) {
+        Ok(opened) => {
+            let (status, opened) = run_upgrade(alloc, opened, output);
+            drop(opened);
+            status
+        }
+        Err(fault) => turn_away(no_disk(fault), disk, output, errors),
     }
 }
 

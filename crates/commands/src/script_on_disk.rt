@@ -1,17 +1,21 @@
 // `script DISK`.
 
 ghost use Rattle.std.specs.Prelude.{◌≡◌, ◌≢◌, false};
+ghost use Rattle.commands.specs.OnDisk.{DiskScriptEnds};
 ghost use Rattle.commands.specs.inside.Ends.{IsRun, ScriptEnds, is_told};
 ghost use Rattle.commands.specs.declared.status.Status.TheVariants.{BadWords, Done};
 ghost use Rattle.file_disk.specs.declared.disk_file.DiskFile.{DiskFile};
 
 use crate::access::Access;
-use crate::disk::{open_registry, turn_away};
+use crate::disk::{no_disk, open_disk, turn_away};
+use crate::disk_answer::write_disk_answer;
 use crate::script::run_script;
 use crate::status::{Status, fault_status, lines_status};
 use crate::takes_events::TakesEvents;
 use crate::watched::Watched;
 use binders::Binders;
+use registry::Registry;
+use sector_disk::Disk;
 use std::alloc::Global;
 use std::fs::File;
 use std::io::{Read, Write};
@@ -40,6 +44,36 @@ pub(crate) fn run_watched<I: Read, O: Write, G: TakesEvents>(
     }
 }
 
+/// Opens the registry on a disk and runs a script over it, from the input to the output; where the
+/// disk is refused the line of that is written, and nothing is read. Gives the greatest status of
+/// all that happened, and hands the disk back.
+pub fn run_disk_script<D: Disk, I: Read, O: Write>(
+    alloc: Global,
+    disk: D,
+    input: &mut I,
+    output: &mut O,
+) -> (Status, D)
+    ensures ends { DiskScriptEnds D.facts disk (record {
+      unread = I.remaining input.old;
+      before = O.contents output.old;
+      after = O.contents output.new;
+    }) result.0 result.1 }
+    ensures answers { result.0 ≢ BadWords }
+{
+    match Registry::open(alloc, disk) {
+        Ok(registry) => {
+            let mut watched = Watched {
+                binders: Binders::new(alloc, registry),
+                worst: Status::Done,
+            };
+            let status = run_watched(alloc, input, output, &mut watched);
+            let Watched { binders, worst: _ } = watched;
+            (status, binders.into_registry().into_disk())
+        }
+        Err((refusal, disk)) => (write_disk_answer(Err(refusal), output), disk),
+    }
+}
+
 /// `script DISK`: from the input to the output.
 #[tactic(auto, using(crate::proofs::Statuses::away_script))]
 pub(crate) fn script<R: Files<File = File> + Clock, I: Read, O: Write, E: Write>(
@@ -57,17 +91,12 @@ pub(crate) fn script<R: Files<File = File> + Clock, I: Read, O: Write, E: Write>
     }) result }
     ensures silent { is_told result ≡ false → E.contents errors.new ≡ E.contents errors.old }
 {
-    match open_registry(rt, alloc, disk, Access::Writing) {
-        Ok(registry) => {
-            let mut watched = Watched {
-                binders: Binders::new(alloc, registry),
-                worst: Status::Done,
-            };
-            let status = run_watched(alloc, input, output, &mut watched);
-            let Watched { binders, worst: _ } = watched;
-            drop(binders.into_registry().into_disk());
+    match open_disk(rt, alloc, disk, Access::Writing) {
+        Ok(opened) => {
+            let (status, opened) = run_disk_script(alloc, opened, input, output);
+            drop(opened);
             status
         }
-        Err(why) => turn_away(why, disk, output, errors),
+        Err(fault) => turn_away(no_disk(fault), disk, output, errors),
     }
 }

@@ -13,8 +13,8 @@ use requests::{Refusal, Reply};
 use store::StoreRefusal;
 
 /// The exit status of the program.
-#[derive(Clone, Copy)]
-pub(crate) enum Status {
+#[derive(Clone, Copy, Debug, PartialEq, Eq)]
+pub enum Status {
     /// Done.
     Done = 0,
     /// The command, or a line of the script, was refused.
@@ -29,7 +29,7 @@ pub(crate) enum Status {
 
 impl Status {
     /// The number that the process exits with.
-    pub(crate) fn number(self) -> u8
+    pub fn number(self) -> u8
         ensures { result ≡ status_number self }
     {
         self as u8

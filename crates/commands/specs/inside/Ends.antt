@@ -15,7 +15,7 @@ use Rattle.commands.specs.declared.disk.NoRegistry.{NoRegistry}
 use Rattle.commands.specs.declared.disk.NoRegistry.TheVariants as no
 use Rattle.commands.specs.Disk.{IsOpenRefusal, IsFormatRefusal, IsUpgradeRefusal}
 use Rattle.commands.specs.Outcome.{are_bad, IsDone, IsRefused, LacksMemory, Replies, Makes, Upgrades, TurnsAway, RunsToTheEnd, EndsEarly, Runs, RunsInPart}
-use Rattle.commands.specs.Printed.{PrintsImage, PrintsRefusal}
+use Rattle.commands.specs.Printed.{IsTold, PrintsImage, PrintsRefusal}
 use Rattle.commands.specs.Refusal.{memory_text}
 use Rattle.commands.specs.Reply.{reply_text}
 use Rattle.commands.specs.RunImage.{Shows}
@@ -79,7 +79,7 @@ IsTurnedAway MayRefuse before after NoMemory = Appends before after memory_text
 
 -- a reply was written, or the writer failed
 abbrev pub IsWritten : Reply → Option (List ℕ) → Option (List ℕ) → Status → Type 0
-IsWritten reply before after status = ((status ≡ reply_status reply) × Appends before after (reply_text reply)) ⊎ (status ≡ Failed)
+IsWritten reply before after status = IsTold (reply_status reply) (reply_text reply) before after status
 
 -- what a command on a disk ends with that asks such a request
 abbrev pub Replied : (F : Type 0) → (Request → Type 0) → Option (List ℕ) → Option (List ℕ) → Status → Type 0
@@ -100,9 +100,9 @@ IsFormatted F sectors before after Done = Makes F sectors before after
 IsFormatted F sectors before after status = IsTurnedAway IsFormatRefusal before after status
 
 -- what upgrading a registry ends with
-abbrev pub UpgradeEnds : (F : Type 0) → Option (List ℕ) → Option (List ℕ) → Status → Type 0
-UpgradeEnds F before after Done = Upgrades F before after
-UpgradeEnds F before after status = IsTurnedAway IsUpgradeRefusal before after status
+abbrev pub IsUpgradedOver : (F : Type 0) → Option (List ℕ) → Option (List ℕ) → Status → Type 0
+IsUpgradedOver F before after Done = Upgrades F before after
+IsUpgradedOver F before after status = IsTurnedAway IsUpgradeRefusal before after status
 
 -- what a script over a registry with binders ends with
 abbrev pub IsRun : {S : Type 0} → (S → Happening → EventReply → S → Type 0) → S → S → Streams → Status → Type 0

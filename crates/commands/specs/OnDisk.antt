@@ -1,0 +1,87 @@
+-- What a command ends with on the disk that it is given: what it did there, and what it told (own).
+use Rattle.std.specs.Prelude.{◌≡◌, ◌⊎◌, ℕ, List, replicate, Option, None, Result, Ok, Err, IsTrue}
+use Rattle.sector_disk.specs.Disk.{DiskFacts, Mixture, LeavesOnly}
+use Rattle.requests.specs.Request.{Request}
+use Rattle.requests.specs.declared.reply.Reply.{Reply}
+use Rattle.states.specs.State.{State}
+use Rattle.store.specs.Opened.{Opened, disk_after}
+use Rattle.store.specs.Step.{answer_of}
+use Rattle.store.specs.declared.refusal.StoreRefusal.{StoreRefusal}
+use Rattle.registry.specs.Applied.{Applied, MayLeaveWithin}
+use Rattle.registry.specs.Phase.{phase_of}
+use Rattle.registry.specs.Stands.{Stands}
+use Rattle.binders.specs.EventsRan.{EventStep}
+use Rattle.binders.specs.Slotted.{HoldAlone, Slotted}
+use Rattle.commands.specs.Disk.{disk_refusal_text, disk_answer_text}
+use Rattle.commands.specs.DiskScript.{LinesRan}
+use Rattle.commands.specs.DiskStep.{DiskStep}
+use Rattle.commands.specs.Opening.{EndsOpening, EndsMaking, EndsUpgrading}
+use Rattle.commands.specs.Outcome.{Worsens}
+use Rattle.commands.specs.Printed.{IsTold}
+use Rattle.commands.specs.Reply.{reply_text}
+use Rattle.commands.specs.Script.{Streams, Ends, Breaks}
+use Rattle.commands.specs.Status.{greatest, reply_status, disk_status, disk_answer_status, fault_status, lines_status}
+use Rattle.commands.specs.declared.answer.Answer.{Answer}
+use Rattle.commands.specs.declared.fault.ScriptFault.{ScriptFault}
+use Rattle.commands.specs.declared.status.Status.{Status}
+use Rattle.commands.specs.declared.status.Status.TheVariants.{Done}
+use Rattle.commands.specs.declared.summary.Summary.{Summary}
+
+-- The registry on a disk was opened, a request was applied to it, and the disk is left so.
+pub record IsAnswered {D : Type 0} (facts : D → DiskFacts) (disk : D) (request : Request) (reply : Reply) (left : D) : Type 0 where
+  pub old : Opened D
+  pub opened : EndsOpening facts disk (Ok old)
+  pub new : Opened D
+  pub step : DiskStep facts old request reply new
+  -- where an honest disk holds a state, it was a step of the table from there; and a stop at any
+  -- moment leaves what it could leave before, the state before, the one after, or the change in flight
+  pub applied : IsTrue (facts disk).honest → (s : State) → Stands (facts disk).now s → (s' : State) × Applied facts old new s s' request reply
+      × LeavesOnly (facts disk) (facts left) (λ m. Mixture (facts disk) m ⊎ MayLeaveWithin (phase_of facts old s) request reply s' m)
+  pub back : left ≡ new.disk
+
+-- a request was answered and exactly its reply was told, or the disk was refused and that was told
+abbrev pub RequestEnds : {D : Type 0} → (D → DiskFacts) → D → Request → Option (List ℕ) → Option (List ℕ) → Status → D → Type 0
+RequestEnds facts disk request before after status left =
+    ((reply : Reply) × IsAnswered facts disk request reply left × IsTold (reply_status reply) (reply_text reply) before after status)
+    ⊎ ((refusal : StoreRefusal) × EndsOpening facts disk (Err (refusal, left)) × IsTold (disk_status refusal) (disk_refusal_text refusal) before after status)
+
+-- an empty registry was made on the disk, or the disk was refused; so it is left
+abbrev pub FormatEnds : {D : Type 0} → (D → DiskFacts) → D → Result (Unit {0}) StoreRefusal → D → Type 0
+FormatEnds facts disk answer left = (making : Result (Opened _) (StoreRefusal × _)) × EndsMaking facts disk making
+    × (answer ≡ answer_of making) × (left ≡ disk_after making)
+
+-- the registry was upgraded and exactly `ok` was told, or the disk was refused and that was told
+abbrev pub UpgradeEnds : {D : Type 0} → (D → DiskFacts) → D → Option (List ℕ) → Option (List ℕ) → Status → D → Type 0
+UpgradeEnds facts disk before after status left = (upgrading : Result (Opened _) (StoreRefusal × _)) × EndsUpgrading facts disk upgrading
+    × (left ≡ disk_after upgrading) × IsTold (disk_answer_status (answer_of upgrading)) (disk_answer_text (answer_of upgrading)) before after status
+
+module _ {D : Type 0} (facts : D → DiskFacts) (io : Streams) (old new : Slotted D) (status : Status) where
+  -- A script ran to its end, and what its lines ask happened; the status is the greatest of its
+  -- replies', 1 at least where one refuses.
+  abbrev pub RunsOnDisk : Type 0
+  RunsOnDisk = (worst : Status) × (summary : Summary) × (whole : List (List ℕ)) × (cut : List ℕ) × (answers : List Answer)
+      × Ends (Worsens (EventStep facts)) io (old, Done) (new, worst) summary whole cut answers
+      × LinesRan facts old new whole answers × (status ≡ greatest worst (lines_status summary.refused))
+
+  -- The same of one that ended early: the status is the greatest of its replies' and of what ended it.
+  abbrev pub BreaksOnDisk : Type 0
+  BreaksOnDisk = (worst : Status) × (fault : ScriptFault) × (whole : List (List ℕ)) × (part : List ℕ) × (answers : List Answer)
+      × Breaks (Worsens (EventStep facts)) io (old, Done) (new, worst) fault whole part answers
+      × LinesRan facts old new whole answers × (status ≡ greatest worst (fault_status fault))
+
+-- The registry on a disk was opened, without binders and with nothing held, a script was run over
+-- it, and the disk is left so.
+pub record IsScripted {D : Type 0} (facts : D → DiskFacts) (disk : D) (io : Streams) (status : Status) (left : D) : Type 0 where
+  pub old : Slotted D
+  pub opened : EndsOpening facts disk (Ok old.registry)
+  pub empty : old.slots ≡ replicate 8 None
+  pub alone : HoldAlone old
+  pub new : Slotted D
+  pub run : RunsOnDisk facts io old new status ⊎ BreaksOnDisk facts io old new status
+  pub back : left ≡ new.registry.disk
+
+-- a script was run over a disk, or the disk was refused and that was told
+abbrev pub DiskScriptEnds : {D : Type 0} → (D → DiskFacts) → D → Streams → Status → D → Type 0
+DiskScriptEnds facts disk io status left =
+    IsScripted facts disk io status left
+    ⊎ ((refusal : StoreRefusal) × EndsOpening facts disk (Err (refusal, left)) × IsTold (disk_status refusal) (disk_refusal_text refusal) io.before io.after status)

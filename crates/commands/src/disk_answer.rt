@@ -1,0 +1,30 @@
+// What is told of a disk on which a registry was to be opened, made or upgraded.
+
+ghost use Rattle.commands.specs.Disk.{disk_answer_text};
+ghost use Rattle.commands.specs.Printed.{IsTold};
+ghost use Rattle.commands.specs.Status.{disk_answer_status};
+
+use crate::disk_refusal::write_disk_refusal;
+use crate::reply::write_reply;
+use crate::status::{Status, disk_status};
+use requests::Reply;
+use std::io::Write;
+use store::StoreRefusal;
+
+/// Writes `ok`, or the line of the refusal, and gives the status that goes with it: `Failed` where
+/// the output fails.
+pub fn write_disk_answer<O: Write>(answer: Result<(), StoreRefusal>, output: &mut O) -> Status
+    ensures { IsTold (disk_answer_status answer) (disk_answer_text answer)
+        (O.contents output.old) (O.contents output.new) result }
+{
+    match answer {
+        Ok(()) => match write_reply(output, &Reply::Done) {
+            Ok(()) => Status::Done,
+            Err(_) => Status::Failed,
+        },
+        Err(refusal) => match write_disk_refusal(output, refusal) {
+            Ok(()) => disk_status(refusal),
+            Err(_) => Status::Failed,
+        },
+    }
+}

@@ -1,0 +1,61 @@
+// A command to the registry on a disk, whatever the disk is.
+
+ghost use Rattle.requests.specs.Request.{request_of};
+ghost use Rattle.requests.specs.declared.reply.Reply.{Reply};
+ghost use Rattle.commands.specs.DiskStep.{DiskStep};
+ghost use Rattle.commands.specs.OnDisk.{RequestEnds};
+ghost use Rattle.commands.specs.inside.Ends.{IsWritten};
+
+use crate::disk_answer::write_disk_answer;
+use crate::reply::write_reply;
+use crate::status::{Status, reply_status};
+use registry::Registry;
+use requests::{Command, Reply};
+use sector_disk::Disk;
+use std::alloc::Global;
+use std::io::Write;
+
+/// Writes a reply.
+fn tell<O: Write>(reply: &Reply, output: &mut O) -> Status
+    ensures { IsWritten reply.now (O.contents output.old) (O.contents output.new) result }
+{
+    match write_reply(output, reply) {
+        Ok(()) => reply_status(reply),
+        Err(_) => Status::Failed,
+    }
+}
+
+/// Applies a command to a registry, and writes the reply.
+fn answer<D: Disk, O: Write>(
+    registry: &mut Registry<D>,
+    command: &Command<'_>,
+    output: &mut O,
+) -> Status
+    ensures { (reply : Reply) × DiskStep D.facts registry.old (request_of command.now) reply
+        registry.new × IsWritten reply (O.contents output.old) (O.contents output.new) result }
+{
+    let reply = registry.apply(command);
+    tell(&reply, output)
+}
+
+/// Opens the registry on a disk, applies a command, and writes the reply, or the line of the
+/// refusal of the disk. Gives the status, and hands the disk back. Where the output fails the
+/// status is `Failed`, and the command was applied all the same.
+pub fn run_request<D: Disk, O: Write>(
+    alloc: Global,
+    disk: D,
+    command: &Command<'_>,
+    output: &mut O,
+) -> (Status, D)
+    ensures { RequestEnds D.facts disk (request_of command.now)
+        (O.contents output.old) (O.contents output.new) result.0 result.1 }
+{
+    match Registry::open(alloc, disk) {
+        Ok(registry) => {
+            let mut registry = registry;
+            let status = answer(&mut registry, command, output);
+            (status, registry.into_disk())
+        }
+        Err((refusal, disk)) => (write_disk_answer(Err(refusal), output), disk),
+    }
+}
