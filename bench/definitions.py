@@ -28,6 +28,9 @@ CLAUSES = [
     ('registry/apply', 'run', 'ok'),
     ('binders/run', 'run_events', 'ok'),
     ('commands/disk_script', 'run_script_on_disk', 'ok err'),
+    ('commands/request', 'run_request', 'result'),
+    ('commands/making', 'run_format run_upgrade', 'result'),
+    ('commands/script_on_disk', 'run_disk_script', 'ends'),
     ('registry/rounds', 'run_rounds', 'ok'),
     ('rlibreg_c/bind', 'rlibreg_bind', 'image answered'),
     ('rlibreg_c/list', 'rlibreg_list', 'listing answered'),
@@ -304,8 +307,8 @@ def citations(files):
 
 
 def clause_texts(text, label):
-    """The clauses and laws of a label in a text: all that is between the braces behind the label."""
-    for begin in re.finditer(rf'(?:ensures {label}|ghost {label}:) {{', text):
+    """The clauses and laws of a label in a text, or its clauses without one: all that is between the braces behind the label."""
+    for begin in re.finditer(r'ensures {' if label == 'result' else rf'(?:ensures {label}|ghost {label}:) {{', text):
         depth, end = 1, begin.end()
         while depth:
             depth += {'{': 1, '}': -1}.get(text[end], 0)
