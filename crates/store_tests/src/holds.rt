@@ -1,6 +1,6 @@
 // Versions that are held are read as they were, and their sectors are free once nobody holds them.
-use crate::calls::Change::{Delete, Put};
-use crate::calls::{Change, disk_after, formatted, make_all, opened};
+use crate::calls::Change::{ChooseNone, Delete, Put};
+use crate::calls::{Change, disk_after, formatted, make, make_all, opened};
 use crate::holds::Step::{Hold, LetGo, Make, Read};
 use crate::sectors::copy;
 use crate::seen::given;
@@ -160,6 +160,31 @@ fn a_read_that_fails_is_made_again(rt: HostRuntime) {
     store.let_go(held);
     let _ = store.into_disk();
     assert!(rt; failed == Err(StoreRefusal::Device) && read == Ok((344, Some(1))));
+}
+
+// Reads the first byte string, or says why not.
+fn read_first(
+    rt: &(impl Abort + AllocGlobal),
+    store: &mut Store<Fuse<Memory>>,
+) -> Option<StoreRefusal> {
+    assert!(rt; store.count() == 1);
+    store.read_blob(rt.alloc(), 0).err()
+}
+
+#[test]
+fn after_a_failed_change_nothing_is_read(rt: HostRuntime) {
+    let mut store = failing(&rt);
+    let held = hold_first(&rt, &mut store).expect(&rt, "what is held");
+    let failed = make(&rt, &mut store, Put(0, 2, 344));
+    let refusals = [
+        read_first(&rt, &mut store),
+        store.read_held(rt.alloc(), &held).err(),
+        make(&rt, &mut store, ChooseNone),
+    ];
+    store.let_go(held);
+    let _ = store.into_disk();
+    assert!(rt; failed == Some(StoreRefusal::Device));
+    assert!(rt; refusals == [Some(StoreRefusal::Reopen); 3]);
 }
 
 // A handle of the one store is none of the other's, where nobody holds anything.
