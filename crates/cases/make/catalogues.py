@@ -203,21 +203,51 @@ def cases():
     return sixty_fours() + edges() + damaged() + hundreds()
 
 
+# Each byte of the fields of a root and of an entry, and some of those that have to be zero.
+ROOT_BYTES = (*range(23, 72), *range(72, 192, 4), *range(192, 512, 16), 511)
+ENTRY_BYTES = (*range(5, 18), *range(18, 256, 8), *range(256, 272), *range(272, 512, 8), 511)
+
+
+def raised(name, at):
+    """A disk with one byte raised by one."""
+    return f'{name} 0x{at:x}={(bytes_of(name)[at] + 1) % 256:02x}'
+
+
+def turned(name, at):
+    """A disk with the highest bit of one byte turned."""
+    return f'{name} 0x{at:x}={bytes_of(name)[at] ^ 0x80:02x}'
+
+
 def single_bytes():
     """A root, an entry and a catalogue with one byte raised by one: each byte of a field, and some of those that have to be zero."""
-    one, three = bytes_of('one.disk'), bytes_of('three.disk')
-    def raised(at):
-        return f'one.disk 0x{at:x}={(one[at] + 1) % 256:02x}'
     def bad(start, *places):
-        return [on(raised(start + at), 'list disk', S5, 'same') for at in places]
+        return [on(raised('one.disk', start + at), 'list disk', S5, 'same') for at in places]
     root, entry, catalogue = 0x200, 0x600, 0x800
     return [
         ('The current root: without the magic that of generation 0 is current; with a preload more, a; else it is damaged.', [
-            on(raised(root + at), 'list disk', END, 'same') for at in range(8)] + bad(root, *range(8, 22)) + [
-            listed(raised(root + 22), 'one-preloaded.listing')] + bad(root, *range(23, 72), *range(72, 192, 4), *range(192, 512, 16), 511)),
+            on(raised('one.disk', root + at), 'list disk', END, 'same') for at in range(8)] + bad(root, *range(8, 22)) + [
+            listed(raised('one.disk', root + 22), 'one-preloaded.listing')] + bad(root, *ROOT_BYTES)),
         ('The entry: with a byte more of the file, a zero; else it is damaged.', bad(entry, *range(4)) + [
-            listed(raised(entry + 4), 'one-345.listing')] + bad(entry, *range(5, 18), *range(18, 256, 8), *range(256, 272), *range(272, 512, 8), 511)),
+            listed(raised('one.disk', entry + 4), 'one-345.listing')] + bad(entry, *ENTRY_BYTES)),
         ('The catalogue.', bad(catalogue, *range(24), *range(24, 272, 4), *range(272, 512, 16), 511)),
         ('The catalogue of three libraries, each of its bytes with the highest bit turned.', [
-            on(f'three.disk 0x{at:x}={three[at] ^ 0x80:02x}', 'list disk', S5, 'same') for at in range(0x1400, 0x1600)]),
+            on(turned('three.disk', at), 'list disk', S5, 'same') for at in range(0x1400, 0x1600)]),
+        ('Each field of the root and of the entry, but the length, with the highest bit turned.', [
+            on(turned('one.disk', start + at), 'list disk', S5, 'same')
+            for start, places in ((root, range(8, 72)), (entry, (*range(4), *range(5, 18), *range(256, 272)))) for at in places]),
+    ] + old_bytes(root, entry)
+
+
+def old_bytes(root, entry):
+    """The root and the entry of a disk of version 1, which lie where the others do, with one byte raised by one."""
+    def bad(start, *places):
+        return [on(raised('old-one.disk', start + at), 'upgrade disk', S5, 'same') for at in places]
+    def good(at, has):
+        return [on(raised('old-one.disk', at), 'upgrade disk', '0 ok', has=has)]
+    return [
+        ('The current root of version 1, upgraded: without the magic that of generation 0 is current; with a preload more, a; else it is damaged.',
+         [case for at in range(7) for case in good(root + at, '0x200=524c494252454732 0x208=01 0x214=00')] + bad(root, *range(7, 22))
+         + good(root + 22, '0x0=524c494252454732 0x8=02 0x14=0100 0x16=0100') + bad(root, *ROOT_BYTES)),
+        ('Its entry: with a byte more of the file, a zero; else it is damaged.', bad(entry, *range(4)) + good(
+            entry + 4, '0x0=524c494252454732 0x8=02 0x14=01 0x38=01 0x40=04') + bad(entry, *ENTRY_BYTES)),
     ]

@@ -350,7 +350,9 @@ def damaged():
             listed('one.disk 0x216=01', 'one-preloaded.listing'), listed('one.disk 0x10=09', 'one.listing'),
             listed('one.disk 0x14=01 0x38=01 0x40=07', 'one.listing')]),
         ('An entry with one byte changed.', [on(f'one.disk {change}', 'list disk', s5, 'same') for change in bad_entries]),
-        ('Entries that are others: a byte more of the file.', [listed('one.disk 0x604=59', 'one-345.listing')]),
+        ('Entries that are others: a byte more of the file; a sector more than it takes, which is free; the free ones alone.', [
+            listed('one.disk 0x604=59', 'one-345.listing'), on(f'one.disk 0x700=0500000002 0xa00=@{A}', 'list disk', s5, 'same'),
+            listed(f'one.disk 0x700=0500000001 0xa00=@{A}', 'one.listing')]),
         ('A file that is no library any more; bytes of it that no test reads, and bytes behind it and in free sectors, may be any.', [
             on('one.disk 0x400=00', 'list disk', s5, 'same'), on(f'one.disk 0x400={zeros}', 'list disk', s5, 'same'),
             on('one.disk 0x410=02', 'list disk', s5, 'same'), on('full.disk 0x412=28', 'list disk', s5, 'same'),
