@@ -86,8 +86,9 @@ static ROWS: [Row; 6] = [
     ),
 ];
 
-// What comes behind a binder that was bound between changes: a second one without any.
-static BEHIND: [Event; 8] = [
+// What comes behind a binder that was bound between changes: a second one without any. What it kept
+// stands still, so an install behind it gets none of these sectors.
+static BEHIND: [Event; 9] = [
     Event::Advance(0),
     Event::Begin(b'a'),
     Event::Advance(0),
@@ -96,6 +97,7 @@ static BEHIND: [Event; 8] = [
     Event::Advance(0),
     Event::Cancel(0),
     Event::Cancel(0),
+    Event::Give(Change::Install(b'y', 0, SIZE)),
 ];
 
 // Where a disk is full of what binders keep. A removal is done.

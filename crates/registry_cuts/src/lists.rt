@@ -28,12 +28,12 @@ const UNCHANGED: &[Change] = &[
     Change::List,
 ];
 
-// Commands where the library a is: it is replaced by another one of as many bytes, of more sectors
-// and of as many, and removed; preloads are chosen.
+// Commands where the library a is: it is replaced by another one of as many bytes, of two whole
+// sectors and of one, and removed; preloads are chosen.
 const CHANGED: &[&[Change]] = &[
     &[Change::Replace(b'a', 1, SIZE)],
-    &[Change::Replace(b'a', 2, 600)],
-    &[Change::Replace(b'a', 0, 400)],
+    &[Change::Replace(b'a', 2, 1024)],
+    &[Change::Replace(b'a', 0, 512)],
     &[Change::Remove(A)],
     &[Change::Choose(&[])],
     &[Change::Choose(&[A])],
@@ -41,10 +41,12 @@ const CHANGED: &[&[Change]] = &[
     UNCHANGED,
 ];
 
-// Commands where it isn't: it is installed, of one sector and of two.
+// Commands where it isn't: it is installed, of a part of a sector, of a whole one, and of a byte
+// more.
 const INSTALLED: &[&[Change]] = &[
     &[Change::Install(b'a', 0, SIZE)],
-    &[Change::Install(b'a', 0, 600)],
+    &[Change::Install(b'a', 0, 512)],
+    &[Change::Install(b'a', 0, 513)],
     &[Change::Remove(A)],
     &[Change::Replace(b'a', 1, SIZE)],
     UNCHANGED,
@@ -231,7 +233,7 @@ const WITHOUT_A: &[Disks] = &[
 /// last sector; one of eleven commands; and single commands behind an opening. A library takes a
 /// sector for each 512 bytes and one for its entry, a disk has two for its roots, and two for the
 /// catalogue, once as it stands and once as the next change writes it.
-pub(crate) static LISTS: [List; 16] = [
+pub(crate) static LISTS: [List; 17] = [
     (
         &[(&[10], &[])],
         &[&[
@@ -362,6 +364,18 @@ pub(crate) static LISTS: [List; 16] = [
             Change::Replace(b'a', 1, SIZE),
             Change::Remove(A),
             Change::Install(b'a', 2, SIZE),
+        ]],
+    ),
+    // The library a has two extents: the three sectors that b left, and the first behind c.
+    (
+        &[(&[11], &[])],
+        &[&[
+            Change::Install(b'b', 0, 600),
+            Change::Install(b'c', 0, SIZE),
+            Change::Remove(B),
+            Change::Install(b'a', 0, 1600),
+            Change::Bind(b'a'),
+            Change::Choose(&[A]),
         ]],
     ),
     (
