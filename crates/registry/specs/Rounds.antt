@@ -54,8 +54,8 @@ pub record IsFused (disk : Memory) (round : Round) (fuse : Fuse Memory) : Type 0
 abbrev pub picked : List ℕ → ℕ → ℕ
 picked picks at = slice_index picks (at % length picks)
 
--- A disk was stopped by these picks: each sector holds the one of its choices whose number is
--- picked, modulo how many there are, and all is synced.
+-- A disk was stopped by these picks: each sector holds the choice that is picked for it, modulo
+-- how many it had, and all is synced.
 pub record IsStoppedBy (picks : List ℕ) (disk stopped : Memory) : Type 0 where
   pub stop : IsStopped (memory_facts disk) (memory_facts stopped)
   pub each : (at : ℕ) → at < (memory_facts disk).sectors → sector (memory_facts stopped).now at
