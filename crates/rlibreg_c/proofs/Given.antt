@@ -25,11 +25,12 @@ use Rattle.rlibreg_c.specs.declared.answer.Answer.{Answer}
 use Rattle.byte_registry.specs.Asked.{IsAsked}
 use Rattle.rlibreg_c.specs.declared.entry.EntryPlace.{EntryPlace}
 use Rattle.rlibreg_c.specs.declared.place.SegmentPlace.{SegmentPlace}
-use Rattle.rlibreg_c.specs.Answers.{HasPlan, IsTold, IsTurnedAway, IsPlanned, IsPlanOf, IsChangeTold, IsChangeAnswered, IsFormatPlan, IsFormatAnswered, IsUpgradePlan, IsUpgradeAnswered, IsBindTold, IsBindAnswered, IsListTold, IsListGiven, IsListAnswered, IsPreloadAnswered}
+use Rattle.rlibreg_c.specs.Answers.{HasPlan, IsTold, IsToldAlone, IsTurnedAway, IsPlanned, IsLeft, IsPlanOf, IsChangeTold, IsChangeAnswered, IsFormatPlan, IsFormatAnswered, IsUpgradePlan, IsUpgradeAnswered, IsBindTold, IsBindAnswered, IsListTold, IsListGiven, IsListAnswered, IsPreloadAnswered}
 use Rattle.rlibreg_c.specs.Layout.{IsLaidOut, IsImageOf, IsImageGiven}
 use Rattle.rlibreg_c.specs.Listing.{IsListingOf, AreListed, Counts, entries_of}
 use Rattle.rlibreg_c.specs.Names.{AreNames}
 use Rattle.rlibreg_c.specs.Numbers.{store_number, bind_number, refusal_number}
+use Rattle.rlibreg_c.specs.Unsaid.{IsSilent, IsUncounted}
 
 -- no refusal has the number 0
 store_not_done : (why : StoreRefusal) → store_number why ≡ 0 → ⊥
@@ -46,8 +47,8 @@ refusal_not_done why e = omega (arith, e)
 
 -- where there is no registry the status isn't 0
 pub turned_not_done : (why : StoreRefusal) (text : List ℕ) (answer : Answer) (status : ℕ) → status ≡ 0 → IsTurnedAway why text answer status → ⊥
-turned_not_done why text answer status zero (inl turned) = store_not_done why (sym turned.status ∙ zero)
-turned_not_done why text answer status zero (inr wants) = omega (arith, zero, wants.status)
+turned_not_done why text answer status zero (inl turned, uncounted) = store_not_done why (sym turned.status ∙ zero)
+turned_not_done why text answer status zero (inr wants, uncounted) = omega (arith, zero, wants.status)
 
 -- nor where a command is refused
 pub refused_not_done : (why : Refusal) (text : List ℕ) (answer : Answer) (status : ℕ) → status ≡ 0 → IsTold (reply.Refused why) text answer status → ⊥
@@ -56,8 +57,14 @@ refused_not_done why text answer status zero (inr wants) = omega (arith, zero, w
 
 -- where steps were given the buffer has them
 pub planned_done : (steps : List Step) (plan text : List ℕ) (answer : Answer) (status : ℕ) → status ≡ 0 → IsPlanned steps plan text answer status → HasPlan steps plan answer.bytes answer.count
-planned_done steps plan text answer status zero (inl given) = given.0
-planned_done steps plan text answer status zero (inr lacks) = absurd (omega (arith, zero, lacks.status))
+planned_done steps plan text answer status zero (inl given, unlisted) = given.0
+planned_done steps plan text answer status zero (inr lacks, unlisted) = absurd (omega (arith, zero, lacks.0.status))
+
+-- where it isn't said that they were, nor that there was no room or no memory, no steps were given
+pub planned_left : (steps : List Step) (plan text old : List ℕ) (answer : Answer) (status : ℕ) → IsPlanned steps plan text answer status → IsLeft old plan status
+planned_left steps plan text old answer status (inl (has, inl tells), unlisted) not_done no_room no_memory = absurd (not_done tells.status)
+planned_left steps plan text old answer status (inl (has, inr wants), unlisted) not_done no_room no_memory = absurd (no_memory wants.status)
+planned_left steps plan text old answer status (inr lacks, unlisted) not_done no_room no_memory = absurd (no_room lacks.0.status)
 
 -- A change whose status is 0 has its plan, where its request is one of a change.
 module _ (bytes : List ℕ) (request : Request) (not_listing : (s : State) (l : Listed) → registry.IsReply s request (reply.Listing l) → ⊥) (not_bound : (s : State) (image : MemoryImage) → registry.IsReply s request (reply.Bound image) → ⊥) (plan text : List ℕ) (answer : Answer) (status : ℕ) (zero : status ≡ 0) where
@@ -72,63 +79,41 @@ module _ (bytes : List ℕ) (request : Request) (not_listing : (s : State) (l : 
   }
   given s (reply.Listing l) steps asked told = absurd (not_listing s l asked.by_table.step.2)
   given s (reply.Bound image) steps asked told = absurd (not_bound s image asked.by_table.step.2)
-  given s (reply.Refused why) steps asked told = absurd (refused_not_done why text answer status zero told)
+  given s (reply.Refused why) steps asked told = absurd (refused_not_done why text answer status zero told.0)
 
   pub plan_given : IsChangeAnswered bytes request plan text answer status → IsPlanOf bytes request plan answer
   plan_given (inl asked) = given asked.0 asked.1 asked.2 asked.3 asked.4
   plan_given (inr unopened) = absurd (turned_not_done unopened.0 text answer status zero unopened.2)
 
--- the status in the answer is read by nothing that is said of the rest of it
-abbrev pub with_status : Answer → ℕ → Answer
-with_status answer n = record answer { status = n }
-
-change_ends : (r : Reply) (steps : List Step) (plan text : List ℕ) (answer : Answer) (n status : ℕ) → IsChangeTold r steps plan text answer status → IsChangeTold r steps plan text (with_status answer n) status
-change_ends reply.Done steps plan text answer n status said = said
-change_ends (reply.Listing l) steps plan text answer n status said = said
-change_ends (reply.Bound image) steps plan text answer n status said = said
-change_ends (reply.Refused why) steps plan text answer n status said = said
-
-change_answered : (bytes : List ℕ) (request : Request) (plan text : List ℕ) (answer : Answer) (n status : ℕ) → IsChangeAnswered bytes request plan text answer status → IsChangeAnswered bytes request plan text (with_status answer n) status
-change_answered bytes request plan text answer n status (inl asked) = inl (asked.0, asked.1, asked.2, asked.3, change_ends asked.1 asked.2 plan text answer n status asked.4)
-change_answered bytes request plan text answer n status (inr refused) = inr refused
-
--- a change ends with its answer
-pub change_ended : (bytes : List ℕ) (request : Request) (plan text : List ℕ) (before after : Answer) (n status result : ℕ) → after ≡ with_status before n → result ≡ status → IsChangeAnswered bytes request plan text before status → IsChangeAnswered bytes request plan text after result
-change_ended bytes request plan text before after n status result same is was =
-    subst (λ a. IsChangeAnswered bytes request plan text a result) (sym same) (subst (IsChangeAnswered bytes request plan text (with_status before n)) (sym is) (change_answered bytes request plan text before n status was))
-
--- what a call ends with, where nothing of it reads the status in the answer
-pub ended : (P : Answer → ℕ → Type 0) (before after : Answer) (n status result : ℕ) → after ≡ with_status before n → result ≡ status → P (with_status before n) status → P after result
-ended P before after n status result same is was = subst (λ a. P a result) (sym same) (subst (P (with_status before n)) (sym is) was)
-
-bind_ends : (r : Reply) (segments : List SegmentPlace) (bytes text : List ℕ) (answer : Answer) (n status : ℕ) → IsBindTold r segments bytes text answer status → IsBindTold r segments bytes text (with_status answer n) status
-bind_ends reply.Done segments bytes text answer n status said = said
-bind_ends (reply.Listing l) segments bytes text answer n status said = said
-bind_ends (reply.Bound image) segments bytes text answer n status said = said
-bind_ends (reply.Refused why) segments bytes text answer n status said = said
-
--- a bind ends with its answer
-pub bind_answered : (disk : List ℕ) (request : Request) (segments : List SegmentPlace) (bytes text : List ℕ) (answer : Answer) (n status : ℕ) → IsBindAnswered disk request segments bytes text answer status → IsBindAnswered disk request segments bytes text (with_status answer n) status
-bind_answered disk request segments bytes text answer n status (inl asked) = inl (asked.0, asked.1, asked.2, asked.3, bind_ends asked.1 segments bytes text answer n status asked.4)
-bind_answered disk request segments bytes text answer n status (inr refused) = inr refused
-
-list_ends : (s : State) (r : Reply) (entries : List EntryPlace) (names text : List ℕ) (answer : Answer) (n status : ℕ) → IsListTold s r entries names text answer status → IsListTold s r entries names text (with_status answer n) status
-list_ends s reply.Done entries names text answer n status said = said
-list_ends s (reply.Listing l) entries names text answer n status said = said
-list_ends s (reply.Bound image) entries names text answer n status said = said
-list_ends s (reply.Refused why) entries names text answer n status said = said
+-- what is told of a listing reads no generation
+listing_told : (l : Listed) (entries : List EntryPlace) (names text : List ℕ) (answer : Answer) (generation status : ℕ) → IsListGiven l entries names text answer status → IsListGiven l entries names text (record answer { generation = generation }) status
+listing_told l entries names text answer generation status (counts, inl listed) = (counts, inl listed)
+listing_told l entries names text answer generation status (counts, inr (full, lack, silent)) = (counts, inr (full, lack, record { text = silent.text; file = silent.file }))
 
 -- a reply that is a listing is told with the generation
 pub list_told : (s : State) (r : Reply) (l : Listed) (entries : List EntryPlace) (names text : List ℕ) (answer : Answer) (generation status : ℕ) → r ≡ reply.Listing l → generation ≡ s.generation → IsListGiven l entries names text answer status → IsListTold s r entries names text (record answer { generation = generation }) status
-list_told s r l entries names text answer generation status is same given = subst (λ x. IsListTold s x entries names text (record answer { generation = generation }) status) (sym is) (given, same)
+list_told s r l entries names text answer generation status is same was = subst (λ x. IsListTold s x entries names text (record answer { generation = generation }) status) (sym is) (listing_told l entries names text answer generation status was, same)
 
--- a listing ends with its answer
-pub list_answered : (disk : List ℕ) (entries : List EntryPlace) (names text : List ℕ) (answer : Answer) (n status : ℕ) → IsListAnswered disk entries names text answer status → IsListAnswered disk entries names text (with_status answer n) status
-list_answered disk entries names text answer n status (inl asked) = inl (asked.0, asked.1, asked.2, asked.3, list_ends asked.0 asked.1 entries names text answer n status asked.4)
-list_answered disk entries names text answer n status (inr refused) = inr refused
+-- a status, and nothing else
+abbrev pub status_alone : ℕ → Answer
+status_alone n = record {
+  status = n;
+  file_refusal = 0;
+  count = 0;
+  preloads = 0;
+  bytes = 0;
+  text = 0;
+  generation = 0;
+}
+
+pub nothing_said : (answer : Answer) (n : ℕ) → answer ≡ status_alone n → IsUncounted answer × IsSilent answer
+nothing_said answer n is = subst (λ (a : Answer). IsUncounted a × IsSilent a) (sym is) (
+  record { count = refl; bytes = refl; unlisted = record { preloads = refl; generation = refl } },
+  record { text = refl; file = refl },
+)
 
 -- a reply that isn't Done is told alone
-pub told_other : (r : Reply) (steps : List Step) (plan text : List ℕ) (answer : Answer) (status : ℕ) → (r ≡ reply.Done → ⊥) → IsTold r text answer status → IsChangeTold r steps plan text answer status
+pub told_other : (r : Reply) (steps : List Step) (plan text : List ℕ) (answer : Answer) (status : ℕ) → (r ≡ reply.Done → ⊥) → IsToldAlone r text answer status → IsChangeTold r steps plan text answer status
 told_other reply.Done steps plan text answer status not said = absurd (not refl)
 told_other (reply.Listing l) steps plan text answer status not said = said
 told_other (reply.Bound image) steps plan text answer status not said = said
@@ -168,8 +153,8 @@ module _ (disk program : List ℕ) (base : ℕ) (segments : List SegmentPlace) (
   not_listed l image e = cc
 
   laid_out : (image : MemoryImage) → IsImageGiven image segments bytes answer status → IsLaidOut image segments bytes answer.count answer.bytes
-  laid_out image (inl given) = given.1
-  laid_out image (inr lacks) = absurd (omega (arith, zero, lacks.0))
+  laid_out image (inl given, unlisted, silent) = given.1
+  laid_out image (inr lacks, unlisted, silent) = absurd (omega (arith, zero, lacks.0))
 
   bound : (s : State) (r : Reply) (steps : List Step) → IsAsked disk s (request.bind program base) r steps → IsBindTold r segments bytes text answer status → IsImageOf disk program base segments bytes answer
   bound s reply.Done steps asked told = absurd (not_done (bound_image s program base) asked.by_table.step.2)
@@ -184,7 +169,7 @@ module _ (disk program : List ℕ) (base : ℕ) (segments : List SegmentPlace) (
         given = subst (λ i. IsLaidOut i segments bytes answer.count answer.bytes) is.0 (laid_out image told);
         each = subst (λ i. (a : ℕ) → image_byte i a ≡ byte_of (bound_objects s program base) a) is.0 is.1;
       }
-  bound s (reply.Refused why) steps asked told = absurd (refused_not_done why text answer status zero told)
+  bound s (reply.Refused why) steps asked told = absurd (refused_not_done why text answer status zero told.0)
 
   pub image_given : IsBindAnswered disk (request.bind program base) segments bytes text answer status → IsImageOf disk program base segments bytes answer
   image_given (inl asked) = bound asked.0 asked.1 asked.2 asked.3 asked.4
@@ -218,7 +203,7 @@ module _ (disk : List ℕ) (entries : List EntryPlace) (names text : List ℕ) (
         given = subst (λ k. AreListed (entries_of k) entries names answer.bytes) is (are_listed l given.0);
         generation = given.1;
       }
-  told s (reply.Refused why) steps asked given = absurd (refused_not_done why text answer status zero given)
+  told s (reply.Refused why) steps asked given = absurd (refused_not_done why text answer status zero given.0)
 
   pub listing_given : IsListAnswered disk entries names text answer status → IsListingOf disk entries names answer
   listing_given (inl asked) = told asked.0 asked.1 asked.2 asked.3 asked.4
@@ -228,4 +213,4 @@ module _ (disk : List ℕ) (entries : List EntryPlace) (names text : List ℕ) (
 pub preload_given : (disk names plan text : List ℕ) (answer : Answer) (status : ℕ) → status ≡ 0 → IsPreloadAnswered disk names plan text answer status → (l : List (List ℕ)) × AreNames l names × IsPlanOf disk (set_preloads l) plan answer
 preload_given disk names plan text answer status zero (inl asked) = (asked.0, asked.1, plan_given disk (set_preloads asked.0) (λ s l e. no_listing l e) (λ s image e. no_image image e) plan text answer status zero asked.2)
 preload_given disk names plan text answer status zero (inr (inl bad)) = absurd (omega (arith, zero, bad.0))
-preload_given disk names plan text answer status zero (inr (inr wants)) = absurd (omega (arith, zero, wants.status))
+preload_given disk names plan text answer status zero (inr (inr wants)) = absurd (omega (arith, zero, wants.0.status))

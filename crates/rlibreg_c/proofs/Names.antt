@@ -6,11 +6,7 @@ use Rattle.std.proofs.lemmas.List.Elements.{All-nil, All-cons, All-head, All-tai
 use Rattle.std.proofs.lemmas.List.Splits.{slice_split-cons_yes, slice_split-cons_no, join_with_byte-slice_split, length-slice_split}
 use Rattle.std.proofs.Math.Seq.{get_or-append_seam, get_or-append_right}
 use Rattle.std.specs.List.{flat_map, slice_split, onto_first, join_with_byte}
-use Rattle.requests.specs.Request.{set_preloads}
-use Rattle.rlibreg_c.specs.declared.answer.Answer.{Answer}
-use Rattle.rlibreg_c.specs.Answers.{IsPreloadAnswered}
 use Rattle.rlibreg_c.specs.Names.{AreNames}
-use Rattle.rlibreg_c.proofs.Given.{with_status, change_ended}
 
 -- a name with the byte 0 behind it
 abbrev pub with_end : List ℕ → List ℕ
@@ -78,8 +74,3 @@ row_ends (name ∷ names) = zero_behind (with_end name) (flat_map with_end names
 -- Bytes that end otherwise are no names in a row.
 pub no_names : (bytes front : List ℕ) (last : ℕ) → bytes ≡ front ++ last ∷ [] → last ≢ 0 → (names : List (List ℕ)) → AreNames names bytes → ⊥
 no_names bytes front last is not names are = not (sym (last_of front last) ∙ subst (λ l. get_or l (length l - 1) 0 ≡ 0) (sym are.row ∙ is) (row_ends names))
-
--- What is said of a choice of the preloads reads no status in the answer.
-pub preload_ends : (disk names plan text : List ℕ) (answer : Answer) (n status : ℕ) → IsPreloadAnswered disk names plan text answer status → IsPreloadAnswered disk names plan text (with_status answer n) status
-preload_ends disk names plan text answer n status (inl asked) = inl (asked.0, asked.1, change_ended disk (set_preloads asked.0) plan text answer (with_status answer n) n status status refl refl asked.2)
-preload_ends disk names plan text answer n status (inr other) = inr other

@@ -1,5 +1,5 @@
 -- What a call puts into its buffers and its answer (own).
-use Rattle.std.specs.Prelude.{◌≡◌, ◌⊎◌, ◌<◌, ◌^◌, ◌-◌, ℕ, List, length, take, min}
+use Rattle.std.specs.Prelude.{◌≡◌, ◌≢◌, ◌⊎◌, ◌<◌, ◌^◌, ◌-◌, ℕ, List, length, take, min}
 use Rattle.byte_disk.specs.declared.step.Step.{Step}
 use Rattle.states.specs.State.{State}
 use Rattle.store.specs.declared.refusal.StoreRefusal.{StoreRefusal}
@@ -19,9 +19,10 @@ use Rattle.rlibreg_c.specs.declared.entry.EntryPlace.{EntryPlace}
 use Rattle.rlibreg_c.specs.Layout.{IsImageGiven}
 use Rattle.rlibreg_c.specs.Listing.{Counts, AreListed, LackSpace, entries_of}
 use Rattle.rlibreg_c.specs.Names.{AreNames}
-use Rattle.rlibreg_c.specs.Numbers.{no_room, bad_argument, out_of_memory, store_number, reply_number, file_number_in}
+use Rattle.rlibreg_c.specs.Numbers.{done, no_room, bad_argument, out_of_memory, store_number, reply_number, file_number_in}
 use Rattle.byte_registry.specs.Plans.{Holds, LeadsTo}
 use Rattle.rlibreg_c.specs.Spelling.{plan_bytes}
+use Rattle.rlibreg_c.specs.Unsaid.{IsSilent, IsUncounted, IsUnlisted}
 
 -- The text says this: as much of it as has room, and its whole length.
 pub record Says (said text : List ℕ) (told_size : ℕ) : Type 0 where
@@ -29,8 +30,9 @@ pub record Says (said text : List ℕ) (told_size : ℕ) : Type 0 where
   pub begins : take (length said) text ≡ take (length text) said
 
 -- memory was refused
-pub record WantsMemory (text : List ℕ) (told_size told : ℕ) : Type 0 where
+pub record WantsMemory (text : List ℕ) (told_size told_file told : ℕ) : Type 0 where
   pub status : told ≡ out_of_memory
+  pub file : told_file ≡ 0
   pub says : Says memory_text text told_size
 
 -- The reply is told: by its number, by that of the test that refuses a file, and by its text.
@@ -40,8 +42,9 @@ pub record Tells (reply : Reply) (text : List ℕ) (told_size told_file told : �
   pub says : Says (reply_text reply) text told_size
 
 -- It is told why there is no registry.
-pub record TurnsAway (refusal : StoreRefusal) (text : List ℕ) (told_size told : ℕ) : Type 0 where
+pub record TurnsAway (refusal : StoreRefusal) (text : List ℕ) (told_size told_file told : ℕ) : Type 0 where
   pub status : told ≡ store_number refusal
+  pub file : told_file ≡ 0
   pub says : Says (disk_refusal_text refusal) text told_size
 
 -- The buffer of the plan has these steps, which are so many bytes, and so many.
@@ -50,24 +53,36 @@ pub record HasPlan (steps : List Step) (buffer : List ℕ) (told_bytes told_coun
   pub spelled : take told_bytes buffer ≡ plan_bytes steps
   pub count : told_count ≡ length steps
 
--- The buffer of the plan is too small for these steps, which are so many bytes.
-pub record LacksRoom (steps : List Step) (buffer : List ℕ) (told_bytes told : ℕ) : Type 0 where
+-- The buffer of the plan is too small for these steps, which are so many bytes, and so many.
+pub record LacksRoom (steps : List Step) (buffer : List ℕ) (told_bytes told_count told : ℕ) : Type 0 where
   pub status : told ≡ no_room
   pub small : length buffer < length (plan_bytes steps)
   pub needed : told_bytes ≡ min (length (plan_bytes steps)) (2 ^ 64 - 1)
+  pub count : told_count ≡ length steps
 
 -- the reply is told, or memory for that was refused
 abbrev pub IsTold : Reply → List ℕ → Answer → ℕ → Type 0
-IsTold reply text answer status = Tells reply text answer.text answer.file_refusal status ⊎ WantsMemory text answer.text status
+IsTold reply text answer status = Tells reply text answer.text answer.file_refusal status ⊎ WantsMemory text answer.text answer.file_refusal status
 
--- it is told why there is no registry, or memory for that was refused
+-- the same, and nothing is counted
+abbrev pub IsToldAlone : Reply → List ℕ → Answer → ℕ → Type 0
+IsToldAlone reply text answer status = IsTold reply text answer status × IsUncounted answer
+
+-- it is told why there is no registry, or memory for that was refused; nothing is counted
 abbrev pub IsTurnedAway : StoreRefusal → List ℕ → Answer → ℕ → Type 0
-IsTurnedAway refusal text answer status = TurnsAway refusal text answer.text status ⊎ WantsMemory text answer.text status
+IsTurnedAway refusal text answer status =
+    (TurnsAway refusal text answer.text answer.file_refusal status ⊎ WantsMemory text answer.text answer.file_refusal status) × IsUncounted answer
 
 -- the steps are given, and that it is done is told; or their buffer is too small
 abbrev pub IsPlanned : List Step → List ℕ → List ℕ → Answer → ℕ → Type 0
-IsPlanned steps plan text answer status = (HasPlan steps plan answer.bytes answer.count × IsTold reply.Done text answer status)
-    ⊎ LacksRoom steps plan answer.bytes status
+IsPlanned steps plan text answer status =
+    ((HasPlan steps plan answer.bytes answer.count × IsTold reply.Done text answer status)
+    ⊎ (LacksRoom steps plan answer.bytes answer.count status × IsSilent answer))
+    × IsUnlisted answer
+
+-- with a status that says neither this nor that memory was refused, the buffer is as it was
+abbrev pub IsLeft : List ℕ → List ℕ → ℕ → Type 0
+IsLeft old new status = status ≢ done → status ≢ no_room → status ≢ out_of_memory → new ≡ old
 
 -- The plan of a change of the registry that the bytes hold: it leads from their state, and they
 -- hold no other, to the one that acceptance gives.
@@ -82,7 +97,7 @@ pub record IsPlanOf (bytes : List ℕ) (request : Request) (buffer : List ℕ) (
 -- what a reply to a change is told by
 abbrev pub IsChangeTold : Reply → List Step → List ℕ → List ℕ → Answer → ℕ → Type 0
 IsChangeTold reply.Done steps plan text answer status = IsPlanned steps plan text answer status
-IsChangeTold other steps plan text answer status = IsTold other text answer status
+IsChangeTold other steps plan text answer status = IsToldAlone other text answer status
 
 -- A change of the registry that the bytes hold was asked, and its reply is told;
 -- or there is no registry, and it is told why.
@@ -94,7 +109,7 @@ IsChangeAnswered bytes request plan text answer status =
 -- what a reply to a bind is told by
 abbrev pub IsBindTold : Reply → List SegmentPlace → List ℕ → List ℕ → Answer → ℕ → Type 0
 IsBindTold (reply.Bound image) segments bytes text answer status = IsImageGiven image segments bytes answer status
-IsBindTold other segments bytes text answer status = IsTold other text answer status
+IsBindTold other segments bytes text answer status = IsToldAlone other text answer status
 
 -- A bind with the registry that the bytes hold was asked, and its reply is told;
 -- or there is no registry, and it is told why.
@@ -132,12 +147,12 @@ IsUpgradeAnswered bytes plan text answer status =
 abbrev pub IsListGiven : Listed → List EntryPlace → List ℕ → List ℕ → Answer → ℕ → Type 0
 IsListGiven l entries names text answer status = Counts l answer.count answer.preloads
     × ((AreListed (entries_of l) entries names answer.bytes × IsTold (reply.Listing l) text answer status)
-    ⊎ ((status ≡ no_room) × LackSpace (entries_of l) entries names answer.bytes))
+    ⊎ ((status ≡ no_room) × LackSpace (entries_of l) entries names answer.bytes × IsSilent answer))
 
 -- what a reply to a listing is told by; of one, the generation is told too
 abbrev pub IsListTold : State → Reply → List EntryPlace → List ℕ → List ℕ → Answer → ℕ → Type 0
 IsListTold s (reply.Listing l) entries names text answer status = IsListGiven l entries names text answer status × (answer.generation ≡ s.generation)
-IsListTold s other entries names text answer status = IsTold other text answer status
+IsListTold s other entries names text answer status = IsToldAlone other text answer status
 
 -- A listing of the registry that the bytes hold was asked, and its reply is told;
 -- or there is no registry, and it is told why.
@@ -151,5 +166,5 @@ IsListAnswered disk entries names text answer status =
 abbrev pub IsPreloadAnswered : List ℕ → List ℕ → List ℕ → List ℕ → Answer → ℕ → Type 0
 IsPreloadAnswered disk names plan text answer status =
     ((list : List (List ℕ)) × AreNames list names × IsChangeAnswered disk (set_preloads list) plan text answer status)
-    ⊎ ((status ≡ bad_argument) × ((list : List (List ℕ)) → AreNames list names → ⊥))
-    ⊎ WantsMemory text answer.text status
+    ⊎ ((status ≡ bad_argument) × ((list : List (List ℕ)) → AreNames list names → ⊥) × IsUncounted answer × IsSilent answer)
+    ⊎ (WantsMemory text answer.text answer.file_refusal status × IsUncounted answer)

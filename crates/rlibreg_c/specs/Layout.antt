@@ -8,6 +8,7 @@ use Rattle.requests.specs.Binding.{bound_objects, bound_image, binding_refusal}
 use Rattle.rlibreg_c.specs.declared.answer.Answer.{Answer}
 use Rattle.rlibreg_c.specs.declared.place.SegmentPlace.{SegmentPlace}
 use Rattle.rlibreg_c.specs.Numbers.{done, no_room}
+use Rattle.rlibreg_c.specs.Unsaid.{IsSilent, IsUnlisted}
 use Rattle.byte_registry.specs.Plans.{Holds}
 
 -- the bytes of all segments, in a row
@@ -36,11 +37,12 @@ pub record LacksSpace (image : MemoryImage) (segments : List SegmentPlace) (row 
   pub count : told_count ≡ length image.segments
   pub size : told_size ≡ min (length (segment_bytes image.segments)) (2 ^ 64 - 1)
 
--- the image is given, or a buffer is too small
+-- the image is given, or a buffer is too small; no text is told
 abbrev pub IsImageGiven : MemoryImage → List SegmentPlace → List ℕ → Answer → ℕ → Type 0
 IsImageGiven image segments bytes answer status =
-    ((status ≡ done) × IsLaidOut image segments bytes answer.count answer.bytes)
-    ⊎ ((status ≡ no_room) × LacksSpace image segments bytes answer.count answer.bytes)
+    (((status ≡ done) × IsLaidOut image segments bytes answer.count answer.bytes)
+    ⊎ ((status ≡ no_room) × LacksSpace image segments bytes answer.count answer.bytes))
+    × IsUnlisted answer × IsSilent answer
 
 -- The buffers have the image that is defined for a program at a base over the registry that the
 -- bytes hold, with the defined byte at each address.

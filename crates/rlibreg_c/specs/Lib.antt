@@ -4,3 +4,4 @@ pub mod Listing
 pub mod Names
 pub mod Numbers
 pub mod Spelling
+pub mod Unsaid

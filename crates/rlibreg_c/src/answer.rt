@@ -22,23 +22,26 @@ pub struct Answer {
 }
 
 impl Answer {
-    /// Of nothing.
-    pub(crate) fn clear(&mut self) {
-        self.status = 0;
-        self.file_refusal = 0;
-        self.count = 0;
-        self.preloads = 0;
-        self.bytes = 0;
-        self.text = 0;
-        self.generation = 0;
-    }
-
-    /// Ends a call: the status stands in the answer too.
-    pub(crate) fn end(&mut self, status: u32) -> u32
-        ensures result { result ≡ status }
-        ensures answer { self.new ≡ record self.old { status = status } }
+    /// A status, and nothing else.
+    pub(crate) fn of(status: u32) -> Answer
+        ensures { result ≡ record {
+          status = status;
+          file_refusal = 0;
+          count = 0;
+          preloads = 0;
+          bytes = 0;
+          text = 0;
+          generation = 0;
+        } }
     {
-        self.status = status;
-        status
+        Answer {
+            status,
+            file_refusal: 0,
+            count: 0,
+            preloads: 0,
+            bytes: 0,
+            text: 0,
+            generation: 0,
+        }
     }
 }

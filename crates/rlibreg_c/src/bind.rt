@@ -19,15 +19,14 @@ fn tell_bind(
     segments: &mut [SegmentPlace],
     bytes: &mut [u8],
     text: &mut [u8],
-    answer: &mut Answer,
-) -> u32
-    ensures { IsBindTold reply.now segments.new bytes.new text.new answer.new result }
+) -> Answer
+    ensures { IsBindTold reply.now segments.new bytes.new text.new result result.status }
 {
     match reply {
-        Reply::Bound(image) => put_image(image, segments, bytes, answer),
-        Reply::Done => tell(alloc, reply, text, answer),
-        Reply::Listing(_) => tell(alloc, reply, text, answer),
-        Reply::Refused(_) => tell(alloc, reply, text, answer),
+        Reply::Bound(image) => put_image(image, segments, bytes),
+        Reply::Done => tell(alloc, reply, text),
+        Reply::Listing(_) => tell(alloc, reply, text),
+        Reply::Refused(_) => tell(alloc, reply, text),
     }
 }
 
@@ -39,14 +38,13 @@ fn bind_on(
     segments: &mut [SegmentPlace],
     bytes: &mut [u8],
     text: &mut [u8],
-    answer: &mut Answer,
-) -> u32
+) -> Answer
     ensures { IsBindAnswered disk.now (request_of command.now) segments.new bytes.new text.new
-        answer.new result }
+        result result.status }
 {
     match ask(alloc, disk, command) {
-        Ok((reply, _)) => tell_bind(alloc, &reply, segments, bytes, text, answer),
-        Err(refusal) => turn_away(alloc, refusal, text, answer),
+        Ok((reply, _)) => tell_bind(alloc, &reply, segments, bytes, text),
+        Err(refusal) => turn_away(alloc, refusal, text),
     }
 }
 
@@ -69,8 +67,7 @@ pub extern "C" fn rlibreg_bind(
         text.new answer.new result }
     ensures status { answer.new.status ≡ result }
 {
-    answer.clear();
     let command = Command::Bind { program, base };
-    let status = bind_on(alloc, disk, &command, segments, bytes, text, answer);
-    answer.end(status)
+    *answer = bind_on(alloc, disk, &command, segments, bytes, text);
+    answer.status
 }

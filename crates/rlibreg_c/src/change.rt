@@ -1,8 +1,8 @@
 // Changes of the libraries: plans.
 ghost use Rattle.std.specs.Prelude.{◌≡◌};
 ghost use Rattle.requests.specs.Request.{request_of, install, replace, remove};
-ghost use Rattle.byte_disk.specs.ByteDisk.{plan_of};
-ghost use Rattle.rlibreg_c.specs.Answers.{IsChangeAnswered, IsChangeTold, IsPlanOf};
+ghost use Rattle.byte_registry.specs.Plans.{synced_plan};
+ghost use Rattle.rlibreg_c.specs.Answers.{IsChangeAnswered, IsChangeTold, IsLeft, IsPlanOf};
 
 use crate::answer::Answer;
 use crate::plan::put_done;
@@ -19,15 +19,16 @@ fn tell_change(
     disk: &ByteDisk<'_>,
     plan: &mut [u8],
     text: &mut [u8],
-    answer: &mut Answer,
-) -> u32
-    ensures { IsChangeTold reply.now (plan_of disk.now) plan.new text.new answer.new result }
+) -> Answer
+    ensures told { IsChangeTold reply.now (synced_plan disk.now) plan.new text.new
+        result result.status }
+    ensures left { IsLeft plan.old plan.new result.status }
 {
     match reply {
-        Reply::Done => put_done(alloc, disk, plan, text, answer),
-        Reply::Listing(_) => tell(alloc, reply, text, answer),
-        Reply::Bound(_) => tell(alloc, reply, text, answer),
-        Reply::Refused(_) => tell(alloc, reply, text, answer),
+        Reply::Done => put_done(alloc, disk, plan, text),
+        Reply::Listing(_) => tell(alloc, reply, text),
+        Reply::Bound(_) => tell(alloc, reply, text),
+        Reply::Refused(_) => tell(alloc, reply, text),
     }
 }
 
@@ -38,14 +39,14 @@ pub(crate) fn plan_change(
     command: &Command<'_>,
     plan: &mut [u8],
     text: &mut [u8],
-    answer: &mut Answer,
-) -> u32
-    ensures { IsChangeAnswered disk.now (request_of command.now) plan.new text.new answer.new
-        result }
+) -> Answer
+    ensures answered { IsChangeAnswered disk.now (request_of command.now) plan.new text.new
+        result result.status }
+    ensures left { IsLeft plan.old plan.new result.status }
 {
     match ask(alloc, disk, command) {
-        Ok((reply, disk)) => tell_change(alloc, &reply, &disk, plan, text, answer),
-        Err(refusal) => turn_away(alloc, refusal, text, answer),
+        Ok((reply, disk)) => tell_change(alloc, &reply, &disk, plan, text),
+        Err(refusal) => turn_away(alloc, refusal, text),
     }
 }
 
@@ -63,11 +64,11 @@ pub extern "C" fn rlibreg_plan_install(
     ensures plan { result ≡ 0 → IsPlanOf disk.now (install file.now) plan.new answer.new }
     ensures answered { IsChangeAnswered disk.now (install file.now) plan.new text.new answer.new
         result }
+    ensures left { IsLeft plan.old plan.new result }
     ensures status { answer.new.status ≡ result }
 {
-    answer.clear();
-    let status = plan_change(alloc, disk, &Command::Install(file), plan, text, answer);
-    answer.end(status)
+    *answer = plan_change(alloc, disk, &Command::Install(file), plan, text);
+    answer.status
 }
 
 /// The plan of a replacement: a file in the place of the one of its name.
@@ -84,11 +85,11 @@ pub extern "C" fn rlibreg_plan_replace(
     ensures plan { result ≡ 0 → IsPlanOf disk.now (replace file.now) plan.new answer.new }
     ensures answered { IsChangeAnswered disk.now (replace file.now) plan.new text.new answer.new
         result }
+    ensures left { IsLeft plan.old plan.new result }
     ensures status { answer.new.status ≡ result }
 {
-    answer.clear();
-    let status = plan_change(alloc, disk, &Command::Replace(file), plan, text, answer);
-    answer.end(status)
+    *answer = plan_change(alloc, disk, &Command::Replace(file), plan, text);
+    answer.status
 }
 
 /// The plan of a removal: of the library of a name.
@@ -105,9 +106,9 @@ pub extern "C" fn rlibreg_plan_remove(
     ensures plan { result ≡ 0 → IsPlanOf disk.now (remove name.now) plan.new answer.new }
     ensures answered { IsChangeAnswered disk.now (remove name.now) plan.new text.new answer.new
         result }
+    ensures left { IsLeft plan.old plan.new result }
     ensures status { answer.new.status ≡ result }
 {
-    answer.clear();
-    let status = plan_change(alloc, disk, &Command::Remove(name), plan, text, answer);
-    answer.end(status)
+    *answer = plan_change(alloc, disk, &Command::Remove(name), plan, text);
+    answer.status
 }

@@ -42,23 +42,20 @@ fn lay_out(image: &Image, places: &mut [SegmentPlace], bytes: &mut [u8]) -> Opti
 }
 
 /// Puts an image into the two buffers. Where one is too small the answer has what both need.
-pub(crate) fn put_image(
-    image: &Image,
-    segments: &mut [SegmentPlace],
-    bytes: &mut [u8],
-    answer: &mut Answer,
-) -> u32
-    ensures { IsImageGiven image.now segments.new bytes.new answer.new result }
+pub(crate) fn put_image(image: &Image, segments: &mut [SegmentPlace], bytes: &mut [u8]) -> Answer
+    ensures { IsImageGiven image.now segments.new bytes.new result result.status }
 {
-    answer.count = image.segments().len() as u64;
+    let count = image.segments().len() as u64;
     match lay_out(image, segments, bytes) {
-        Some(end) => {
-            answer.bytes = end as u64;
-            DONE
-        }
-        None => {
-            answer.bytes = image_bytes(image);
-            NO_ROOM
-        }
+        Some(end) => Answer {
+            count,
+            bytes: end as u64,
+            ..Answer::of(DONE)
+        },
+        None => Answer {
+            count,
+            bytes: image_bytes(image),
+            ..Answer::of(NO_ROOM)
+        },
     }
 }

@@ -23,14 +23,19 @@ fn give(
     entries: &mut [EntryPlace],
     names: &mut [u8],
     text: &mut [u8],
-    answer: &mut Answer,
-) -> u32
+) -> Answer
     requires { reply.now ≡ variant.Listing listing.now }
-    ensures { IsListGiven listing.now entries.new names.new text.new answer.new result }
+    ensures { IsListGiven listing.now entries.new names.new text.new result result.status }
 {
-    match put_listing(listing, entries, names, answer) {
-        DONE => tell(alloc, reply, text, answer),
-        status => status,
+    let given = put_listing(listing, entries, names);
+    if given.status != DONE {
+        return given;
+    }
+    Answer {
+        count: given.count,
+        preloads: given.preloads,
+        bytes: given.bytes,
+        ..tell(alloc, reply, text)
     }
 }
 
@@ -42,20 +47,18 @@ fn tell_list(
     entries: &mut [EntryPlace],
     names: &mut [u8],
     text: &mut [u8],
-    answer: &mut Answer,
-) -> u32
+) -> Answer
     ensures { (s : State) → Holds disk.now s
-        → IsListTold s reply.now entries.new names.new text.new answer.new result }
+        → IsListTold s reply.now entries.new names.new text.new result result.status }
 {
     match reply {
-        Reply::Listing(listing) => {
-            let status = give(alloc, reply, listing, entries, names, text, answer);
-            answer.generation = generation_of(disk);
-            status
-        }
-        Reply::Done => tell(alloc, reply, text, answer),
-        Reply::Bound(_) => tell(alloc, reply, text, answer),
-        Reply::Refused(_) => tell(alloc, reply, text, answer),
+        Reply::Listing(listing) => Answer {
+            generation: generation_of(disk),
+            ..give(alloc, reply, listing, entries, names, text)
+        },
+        Reply::Done => tell(alloc, reply, text),
+        Reply::Bound(_) => tell(alloc, reply, text),
+        Reply::Refused(_) => tell(alloc, reply, text),
     }
 }
 
@@ -66,13 +69,12 @@ fn list_on(
     entries: &mut [EntryPlace],
     names: &mut [u8],
     text: &mut [u8],
-    answer: &mut Answer,
-) -> u32
-    ensures { IsListAnswered disk.now entries.new names.new text.new answer.new result }
+) -> Answer
+    ensures { IsListAnswered disk.now entries.new names.new text.new result result.status }
 {
     match ask(alloc, disk, &Command::List) {
-        Ok((reply, _)) => tell_list(alloc, disk, &reply, entries, names, text, answer),
-        Err(refusal) => turn_away(alloc, refusal, text, answer),
+        Ok((reply, _)) => tell_list(alloc, disk, &reply, entries, names, text),
+        Err(refusal) => turn_away(alloc, refusal, text),
     }
 }
 
@@ -94,7 +96,6 @@ pub extern "C" fn rlibreg_list(
     ensures answered { IsListAnswered disk.now entries.new names.new text.new answer.new result }
     ensures status { answer.new.status ≡ result }
 {
-    answer.clear();
-    let status = list_on(alloc, disk, entries, names, text, answer);
-    answer.end(status)
+    *answer = list_on(alloc, disk, entries, names, text);
+    answer.status
 }

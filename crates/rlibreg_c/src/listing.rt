@@ -115,24 +115,23 @@ fn put_entries(listing: &Listing, entries: &mut [EntryPlace], names: &mut [u8]) 
 }
 
 /// Puts a listing into the two buffers. Where one is too small the answer has what both need.
-pub(crate) fn put_listing(
-    listing: &Listing,
-    entries: &mut [EntryPlace],
-    names: &mut [u8],
-    answer: &mut Answer,
-) -> u32
-    ensures { IsListingGiven listing.now entries.new names.new answer.new result }
+pub(crate) fn put_listing(listing: &Listing, entries: &mut [EntryPlace], names: &mut [u8]) -> Answer
+    ensures { IsListingGiven listing.now entries.new names.new result result.status }
 {
-    answer.count = listing.libraries.len() as u64;
-    answer.preloads = listing.preloads.len() as u64;
+    let counted = Answer {
+        count: listing.libraries.len() as u64,
+        preloads: listing.preloads.len() as u64,
+        ..Answer::of(DONE)
+    };
     match put_entries(listing, entries, names) {
-        Some(end) => {
-            answer.bytes = end as u64;
-            DONE
-        }
-        None => {
-            answer.bytes = names_bytes(listing);
-            NO_ROOM
-        }
+        Some(end) => Answer {
+            bytes: end as u64,
+            ..counted
+        },
+        None => Answer {
+            status: NO_ROOM,
+            bytes: names_bytes(listing),
+            ..counted
+        },
     }
 }

@@ -1,8 +1,9 @@
 // A plan as bytes.
-ghost use Rattle.std.specs.Prelude.{◌≡◌, ◌+◌, ◌-◌, ◌<◌, ◌≤◌, ◌^◌, ◌++◌, length, map, min, take};
+ghost use Rattle.std.specs.Prelude.{◌≡◌, ◌+◌, ◌-◌, ◌<◌, ◌≤◌, ◌^◌, ◌++◌, ◌∷◌, length, map, min, take};
 ghost use Rattle.std.specs.Prelude.{IfSome, IfNone};
-ghost use Rattle.byte_disk.specs.ByteDisk.{plan_of};
-ghost use Rattle.rlibreg_c.specs.Answers.{IsPlanned};
+ghost use Rattle.byte_disk.specs.declared.step.Step.TheVariants.{Sync};
+ghost use Rattle.byte_registry.specs.Plans.{synced_plan};
+ghost use Rattle.rlibreg_c.specs.Answers.{IsPlanned, IsLeft};
 ghost use Rattle.rlibreg_c.specs.Spelling.{step_bytes, plan_bytes};
 
 use crate::answer::Answer;
@@ -10,6 +11,7 @@ use crate::put::put;
 use crate::status::NO_ROOM;
 use crate::text::tell;
 use byte_disk::{ByteDisk, PlannedStep, Step};
+use byte_registry::behind_sync;
 use requests::Reply;
 use std::alloc::Global;
 
@@ -33,11 +35,12 @@ fn length_of(bytes: &[u8]) -> u64
     bytes.len() as u64
 }
 
-/// How many bytes steps take.
+/// How many bytes a plan takes: a sync, and these steps behind it.
 fn plan_bytes(steps: &[PlannedStep]) -> u64
-    ensures { result ≡ min (length (plan_bytes (map (λ p. p.step) steps.now))) (2 ^ 64 - 1) }
+    ensures { result
+        ≡ min (length (plan_bytes (Sync ∷ map (λ p. p.step) steps.now))) (2 ^ 64 - 1) }
 {
-    let mut bytes = 0u64;
+    let mut bytes = step_bytes(&Step::Sync);
     for planned in steps {
         bytes = bytes.saturating_add(step_bytes(&planned.step));
     }
@@ -64,16 +67,17 @@ fn put_step(step: &Step, at: usize, plan: &mut [u8]) -> Option<usize>
     }
 }
 
-/// Puts steps into a buffer, where it has room. Says how many bytes they are.
+/// Puts a plan into a buffer, where it has room: a sync, and these steps behind it. Says how many
+/// bytes they are.
 fn put_steps(steps: &[PlannedStep], plan: &mut [u8]) -> Option<usize>
     ensures end { IfSome result (λ end.
-        end ≡ length (plan_bytes (map (λ p. p.step) steps.now))) }
+        end ≡ length (plan_bytes (Sync ∷ map (λ p. p.step) steps.now))) }
     ensures spelled { IfSome result (λ end. take end plan.new
-        ≡ plan_bytes (map (λ p. p.step) steps.now)) }
+        ≡ plan_bytes (Sync ∷ map (λ p. p.step) steps.now)) }
     ensures small { IfNone result (length plan.old
-        < length (plan_bytes (map (λ p. p.step) steps.now))) }
+        < length (plan_bytes (Sync ∷ map (λ p. p.step) steps.now))) }
 {
-    let mut at = 0usize;
+    let mut at = put_step(&Step::Sync, 0, plan)?;
     for planned in steps {
         at = put_step(&planned.step, at, plan)?;
     }
@@ -87,20 +91,22 @@ pub(crate) fn put_done(
     disk: &ByteDisk<'_>,
     plan: &mut [u8],
     text: &mut [u8],
-    answer: &mut Answer,
-) -> u32
-    ensures { IsPlanned (plan_of disk.now) plan.new text.new answer.new result }
+) -> Answer
+    ensures planned { IsPlanned (synced_plan disk.now) plan.new text.new result result.status }
+    ensures left { IsLeft plan.old plan.new result.status }
 {
-    let steps = disk.plan();
-    answer.count = steps.len() as u64;
+    let steps = behind_sync(disk);
+    let count = steps.len() as u64 + 1;
     match put_steps(steps, plan) {
-        Some(end) => {
-            answer.bytes = end as u64;
-            tell(alloc, &Reply::Done, text, answer)
-        }
-        None => {
-            answer.bytes = plan_bytes(steps);
-            NO_ROOM
-        }
+        Some(end) => Answer {
+            count,
+            bytes: end as u64,
+            ..tell(alloc, &Reply::Done, text)
+        },
+        None => Answer {
+            count,
+            bytes: plan_bytes(steps),
+            ..Answer::of(NO_ROOM)
+        },
     }
 }

@@ -2,7 +2,7 @@
 ghost use Rattle.std.specs.Prelude.{◌≡◌, ◌==◌, ℕ, List, map, IfOk, MatchOption};
 ghost use Rattle.std.specs.List.{slice_split};
 ghost use Rattle.requests.specs.Request.{set_preloads};
-ghost use Rattle.rlibreg_c.specs.Answers.{IsPlanOf, IsPreloadAnswered};
+ghost use Rattle.rlibreg_c.specs.Answers.{IsLeft, IsPlanOf, IsPreloadAnswered};
 ghost use Rattle.rlibreg_c.specs.Names.{AreNames};
 
 use crate::answer::Answer;
@@ -42,17 +42,18 @@ fn plan_preloads(
     names: &[u8],
     plan: &mut [u8],
     text: &mut [u8],
-    answer: &mut Answer,
-) -> u32
-    ensures { IsPreloadAnswered disk.now names.now plan.new text.new answer.new result }
+) -> Answer
+    ensures answered { IsPreloadAnswered disk.now names.now plan.new text.new result
+        result.status }
+    ensures left { IsLeft plan.old plan.new result.status }
 {
     match names_in(alloc, names) {
         Ok(Some(names)) => {
             let command = Command::SetPreloads(&names);
-            plan_change(alloc, disk, &command, plan, text, answer)
+            plan_change(alloc, disk, &command, plan, text)
         }
-        Ok(None) => BAD_ARGUMENT,
-        Err(_) => tell_memory(text, answer),
+        Ok(None) => Answer::of(BAD_ARGUMENT),
+        Err(_) => tell_memory(text),
     }
 }
 
@@ -71,9 +72,9 @@ pub extern "C" fn rlibreg_plan_preload(
     ensures plan { result ≡ 0 → (list : List (List ℕ)) × AreNames list names.now
         × IsPlanOf disk.now (set_preloads list) plan.new answer.new }
     ensures answered { IsPreloadAnswered disk.now names.now plan.new text.new answer.new result }
+    ensures left { IsLeft plan.old plan.new result }
     ensures status { answer.new.status ≡ result }
 {
-    answer.clear();
-    let status = plan_preloads(alloc, disk, names, plan, text, answer);
-    answer.end(status)
+    *answer = plan_preloads(alloc, disk, names, plan, text);
+    answer.status
 }

@@ -1,8 +1,8 @@
 // The text of what a call is answered: the line or the reply that the program prints.
-ghost use Rattle.std.specs.Prelude.{◌≡◌, length};
-ghost use Rattle.commands.specs.Refusal.{memory_text};
-ghost use Rattle.rlibreg_c.specs.Answers.{Says, WantsMemory, IsTold, IsTurnedAway};
+ghost use Rattle.std.specs.Prelude.{◌≡◌};
+ghost use Rattle.rlibreg_c.specs.Answers.{Says, WantsMemory, IsToldAlone, IsTurnedAway};
 ghost use Rattle.rlibreg_c.specs.Numbers.{reply_number, file_number_in};
+ghost use Rattle.rlibreg_c.specs.Unsaid.{IsUncounted};
 
 use crate::answer::Answer;
 use crate::status::{DONE, OUT_OF_MEMORY, file_refusal_number, refusal_status, store_status};
@@ -14,23 +14,24 @@ use store::StoreRefusal;
 /// The line of want of memory.
 const MEMORY_LINE: &[u8] = b"refused S11 OutOfMemory\n";
 
-/// Puts as much of a text into a buffer as has room there. The answer has the length of the whole.
-fn put_text(said: &[u8], text: &mut [u8], answer: &mut Answer)
-    ensures says { Says said.now text.new answer.new.text }
-    ensures same { answer.new ≡ record answer.old { text = length said.now } }
+/// Puts as much of a text into a buffer as has room there. Says how many bytes the whole has.
+fn put_text(said: &[u8], text: &mut [u8]) -> u64
+    ensures { Says said.now text.new result }
 {
     let most = said.len().min(text.len());
     text[..most].copy_from_slice(&said[..most]);
-    answer.text = said.len() as u64;
+    said.len() as u64
 }
 
 /// Says that memory was refused. It takes none.
-pub(crate) fn tell_memory(text: &mut [u8], answer: &mut Answer) -> u32
-    ensures told { WantsMemory text.new answer.new.text result }
-    ensures same { answer.new ≡ record answer.old { text = length memory_text } }
+pub(crate) fn tell_memory(text: &mut [u8]) -> Answer
+    ensures told { WantsMemory text.new result.text result.file_refusal result.status }
+    ensures uncounted { IsUncounted result }
 {
-    put_text(MEMORY_LINE, text, answer);
-    OUT_OF_MEMORY
+    Answer {
+        text: put_text(MEMORY_LINE, text),
+        ..Answer::of(OUT_OF_MEMORY)
+    }
 }
 
 /// The status of a reply.
@@ -54,38 +55,30 @@ fn reply_file_refusal(reply: &Reply) -> u32
 }
 
 /// Says what a command was answered. Where memory for the text is refused, that is the answer.
-pub(crate) fn tell(alloc: Global, reply: &Reply, text: &mut [u8], answer: &mut Answer) -> u32
-    ensures told { IsTold reply.now text.new answer.new result }
-    ensures count { answer.new.count ≡ answer.old.count }
-    ensures bytes { answer.new.bytes ≡ answer.old.bytes }
-    ensures preloads { answer.new.preloads ≡ answer.old.preloads }
+pub(crate) fn tell(alloc: Global, reply: &Reply, text: &mut [u8]) -> Answer
+    ensures { IsToldAlone reply.now text.new result result.status }
 {
     let mut said = Vec::new(alloc);
     match write_reply(&mut said, reply) {
-        Ok(()) => {
-            answer.file_refusal = reply_file_refusal(reply);
-            put_text(&said, text, answer);
-            reply_status(reply)
-        }
-        Err(_) => tell_memory(text, answer),
+        Ok(()) => Answer {
+            file_refusal: reply_file_refusal(reply),
+            text: put_text(&said, text),
+            ..Answer::of(reply_status(reply))
+        },
+        Err(_) => tell_memory(text),
     }
 }
 
 /// Says why there is no registry on a disk.
-pub(crate) fn turn_away(
-    alloc: Global,
-    refusal: StoreRefusal,
-    text: &mut [u8],
-    answer: &mut Answer,
-) -> u32
-    ensures { IsTurnedAway refusal text.new answer.new result }
+pub(crate) fn turn_away(alloc: Global, refusal: StoreRefusal, text: &mut [u8]) -> Answer
+    ensures { IsTurnedAway refusal text.new result result.status }
 {
     let mut said = Vec::new(alloc);
     match write_disk_refusal(&mut said, refusal) {
-        Ok(()) => {
-            put_text(&said, text, answer);
-            store_status(refusal)
-        }
-        Err(_) => tell_memory(text, answer),
+        Ok(()) => Answer {
+            text: put_text(&said, text),
+            ..Answer::of(store_status(refusal))
+        },
+        Err(_) => tell_memory(text),
     }
 }

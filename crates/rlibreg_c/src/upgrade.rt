@@ -1,6 +1,6 @@
 // Making a disk of version 1 one of version 2: a plan.
 ghost use Rattle.std.specs.Prelude.{◌≡◌};
-ghost use Rattle.rlibreg_c.specs.Answers.{IsUpgradeAnswered, IsUpgradePlan};
+ghost use Rattle.rlibreg_c.specs.Answers.{IsLeft, IsUpgradeAnswered, IsUpgradePlan};
 
 use crate::answer::Answer;
 use crate::plan::put_done;
@@ -9,18 +9,13 @@ use byte_registry::upgrade;
 use std::alloc::Global;
 
 /// The plan, or why there is none.
-fn upgrade_on(
-    alloc: Global,
-    disk: &[u8],
-    plan: &mut [u8],
-    text: &mut [u8],
-    answer: &mut Answer,
-) -> u32
-    ensures { IsUpgradeAnswered disk.now plan.new text.new answer.new result }
+fn upgrade_on(alloc: Global, disk: &[u8], plan: &mut [u8], text: &mut [u8]) -> Answer
+    ensures answered { IsUpgradeAnswered disk.now plan.new text.new result result.status }
+    ensures left { IsLeft plan.old plan.new result.status }
 {
     match upgrade(alloc, disk) {
-        Ok(disk) => put_done(alloc, &disk, plan, text, answer),
-        Err(refusal) => turn_away(alloc, refusal, text, answer),
+        Ok(disk) => put_done(alloc, &disk, plan, text),
+        Err(refusal) => turn_away(alloc, refusal, text),
     }
 }
 
@@ -37,9 +32,9 @@ pub extern "C" fn rlibreg_plan_upgrade(
     // A stop leaves the registry of version 1, or the one of version 2, and at the end this.
     ensures plan { result ≡ 0 → IsUpgradePlan disk.now plan.new answer.new }
     ensures answered { IsUpgradeAnswered disk.now plan.new text.new answer.new result }
+    ensures left { IsLeft plan.old plan.new result }
     ensures status { answer.new.status ≡ result }
 {
-    answer.clear();
-    let status = upgrade_on(alloc, disk, plan, text, answer);
-    answer.end(status)
+    *answer = upgrade_on(alloc, disk, plan, text);
+    answer.status
 }

@@ -1,9 +1,11 @@
-use Rattle.std.proofs.Common.{◌∙◌, ◌-◌, ◌^◌, ap, sym, min, length, arith}
-use Rattle.rlibreg_c.proofs.Rows.{rows_all}
-use Rattle.rlibreg_c.proofs.Steps.{row, plan_rows}
+use Rattle.std.proofs.Common.{◌∙◌, ◌-◌, ◌^◌, ap, min, length, arith}
+use Rattle.rlibreg_c.proofs.Steps.{begun_all, begun_size}
 use Rattle.rlibreg_c.proofs.plan.plan_bytes.Goals as goal
 
+pub loop-planned-preserved : goal.loop-planned-preserved
+loop-planned-preserved c =
+    let loop = c.loop-planned in
+    omega (arith, loop.invariant, c.saturating_add-bytes.ensures, c.step_bytes.ensures, begun_size c.args.steps.now loop.planned-index c.planned-item.result (omega arith) c.planned-item.is)
+
 pub returns : goal.returns
-returns c =
-    let steps = c.args.steps.now in
-    c.loop-planned.invariant ∙ ap (λ l. min (length l) (2 ^ 64 - 1)) (rows_all row steps c.loop-planned.planned-index (omega arith) ∙ sym (plan_rows steps))
+returns c = c.loop-planned.invariant ∙ ap (λ l. min (length l) (2 ^ 64 - 1)) (begun_all c.args.steps.now c.loop-planned.planned-index (omega arith))

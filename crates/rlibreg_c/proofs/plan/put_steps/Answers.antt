@@ -1,21 +1,27 @@
-use Rattle.std.proofs.Common.{◌∙◌, ap, sym, subst, length, ◌<◌, List, ℕ, arith}
-use Rattle.rlibreg_c.proofs.Rows.{rows_all, room_lacks, none_holds}
-use Rattle.rlibreg_c.proofs.Steps.{row, plan_rows}
+use Rattle.std.proofs.Common.{◌∙◌, ◌++◌, ap, sym, length, arith}
+use Rattle.rlibreg_c.proofs.Rows.{none_holds}
+use Rattle.rlibreg_c.proofs.Steps.{row, begun_all, begun_more, begun_size, begun_lacks}
 use Rattle.rlibreg_c.proofs.plan.put_steps.Goals as goal
 
-pub returns-in_err-at-clause-small : goal.returns-in_err-at-clause-small
-returns-in_err-at-clause-small c =
+pub returns-in_err-at-2-clause-small : goal.returns-in_err-at-2-clause-small
+returns-in_err-at-2-clause-small c =
+    let loop = c.loop-planned in
+    none_holds c.from_residual-in_err-at-2.result
+    (begun_lacks c.args.steps.now loop.planned-index c.planned-item.result (omega arith) c.planned-item.is (length c.args.plan.now) loop.at loop.invariant.at (omega (arith, c.in_err-at-2.ensures.small, loop.auto.plan)))
+
+pub loop-planned-preserved : goal.loop-planned-preserved
+loop-planned-preserved c =
+    let loop = c.loop-planned in
     let steps = c.args.steps.now in
-    none_holds c.from_residual.result
-    (subst (λ (l : List ℕ). length c.args.plan.now < length l) (sym (plan_rows steps))
-    (room_lacks row steps c.loop-planned.planned-index c.planned-item.result (omega arith) c.planned-item.is c.loop-planned.at c.loop-planned.invariant.at (length c.args.plan.now) (omega (arith, c.in_err-at.ensures.small, c.loop-planned.auto.plan))))
+    let p = c.planned-item.result in
+    let put = c.in_ok-at-2.ensures in
+    record {
+      at = omega (arith, put.end, loop.invariant.at, begun_size steps loop.planned-index p (omega arith) c.planned-item.is);
+      front = put.front ∙ ap (λ l. l ++ row p) loop.invariant.front ∙ sym (begun_more steps loop.planned-index p (omega arith) c.planned-item.is);
+    }
 
 pub returns-clause-end : goal.returns-clause-end
-returns-clause-end c =
-    let steps = c.args.steps.now in
-    c.loop-planned.invariant.at ∙ ap length (rows_all row steps c.loop-planned.planned-index (omega arith) ∙ sym (plan_rows steps))
+returns-clause-end c = c.loop-planned.invariant.at ∙ ap length (begun_all c.args.steps.now c.loop-planned.planned-index (omega arith))
 
 pub returns-clause-spelled : goal.returns-clause-spelled
-returns-clause-spelled c =
-    let steps = c.args.steps.now in
-    c.loop-planned.invariant.front ∙ rows_all row steps c.loop-planned.planned-index (omega arith) ∙ sym (plan_rows steps)
+returns-clause-spelled c = c.loop-planned.invariant.front ∙ begun_all c.args.steps.now c.loop-planned.planned-index (omega arith)
