@@ -10,6 +10,7 @@ pub mod ReadLines
 pub mod Pages
 pub mod Pieces
 pub mod ScriptRuns
+pub mod Saying
 pub mod Scripts
 pub mod Then
 pub mod Seen

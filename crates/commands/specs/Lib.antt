@@ -14,6 +14,7 @@ pub mod Printed
 pub mod Refusal
 pub mod Reply
 pub mod RunImage
+pub mod Said
 pub mod Script
 pub mod Sectors
 pub mod Status

@@ -1,10 +1,11 @@
 // The words of the process.
 
-ghost use Rattle.std.specs.Prelude.{◌≡◌, ◌≢◌, ◌≤◌, ◌==◌, Some, map, string_bytes};
+ghost use Rattle.std.specs.Prelude.{◌≡◌, ◌≢◌, ◌≤◌, ◌==◌, ◌⊎◌, Some, map, string_bytes};
 ghost use Rattle.std.specs.Prelude.{IfOk, IfErr, OnErr, false};
 ghost use Rattle.std.specs.IoError.{error_kind};
 ghost use Rattle.commands.specs.Outcome.{are_bad, reads_input, IsDone, IsRefused, LacksMemory};
 ghost use Rattle.commands.specs.Refusal.{memory_text};
+ghost use Rattle.commands.specs.Said.{AppendsFront, bad_text, words_text};
 ghost use Rattle.commands.specs.Words.{command_line};
 ghost use Rattle.std.specs.Io.KnownBytes.{Appends};
 ghost use Rattle.file_disk.specs.declared.disk_file.DiskFile.{DiskFile};
@@ -75,6 +76,15 @@ pub fn run_arguments<R: Files<File = File> + Clock, I: Read, O: Write, E: Write>
     ensures not_text { IfErr words (λ e. error_kind e ≢ ErrorKind.OutOfMemory → result ≡ 2) }
 
     ensures same { result ≡ 2 → O.contents output.new ≡ O.contents output.old }
+
+    // As much as standard error took of the line of words that are turned away
+    ensures told { IfOk words (λ list. result ≡ 2
+        → AppendsFront (E.contents errors.old) (E.contents errors.new)
+        (bad_text (command_line (map (λ word. string_bytes word) list.items)))) }
+    ensures told_not_text { IfErr words (λ e. error_kind e ≢ ErrorKind.OutOfMemory
+        → AppendsFront (E.contents errors.old) (E.contents errors.new) words_text) }
+    ensures apart { (E.contents errors.new ≡ E.contents errors.old)
+        ⊎ (O.contents output.new ≡ O.contents output.old) }
     ensures silent { result ≢ 2 → result ≢ 3
         → E.contents errors.new ≡ E.contents errors.old }
 {

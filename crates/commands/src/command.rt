@@ -5,9 +5,10 @@ ghost use Rattle.std.specs.Prelude.{Some, None, MatchResult, IfOk, map, string_b
 ghost use Rattle.commands.specs.Base.{base_of};
 ghost use Rattle.commands.specs.File.{read_limit};
 ghost use Rattle.commands.specs.Outcome.{are_bad, reads_input, IsDone, IsRefused, LacksMemory};
+ghost use Rattle.commands.specs.Said.{AppendsFront, bad_text, base_text};
 ghost use Rattle.commands.specs.Words.{command_line, line_of};
 ghost use Rattle.commands.specs.declared.status.Status.TheVariants.{BadWords, Failed};
-ghost use Rattle.commands.specs.inside.Ends.{CommandEnds, ImageEnds, IsNotRead, IsShown, is_told};
+ghost use Rattle.commands.specs.inside.Ends.{CommandEnds, ImageEnds, IsNotRead, IsSaid, IsShown};
 ghost use Rattle.file_disk.specs.declared.disk_file.DiskFile.{DiskFile};
 
 use crate::action::{Action, read_words};
@@ -38,7 +39,8 @@ pub(crate) fn show_read<O: Write, E: Write>(
     ensures shown { MatchResult read
         (λ bytes. IsShown bytes.items base (O.contents output.old) (O.contents output.new) result)
         (λ fault. IsNotRead fault (O.contents output.old) (O.contents output.new) result) }
-    ensures silent { is_told result ≡ false → E.contents errors.new ≡ E.contents errors.old }
+    ensures said { IsSaid base_text (O.contents output.old) (O.contents output.new)
+        (E.contents errors.old) (E.contents errors.new) result }
 {
     match read {
         Ok(bytes) => status_of(run_image(alloc, &bytes, base, output)),
@@ -57,7 +59,8 @@ fn image<R: Files, O: Write, E: Write>(
 ) -> Status
     ensures ends { ImageEnds (base_of base.now) (O.contents output.old) (O.contents output.new)
         result }
-    ensures silent { is_told result ≡ false → E.contents errors.new ≡ E.contents errors.old }
+    ensures said { IsSaid base_text (O.contents output.old) (O.contents output.new)
+        (E.contents errors.old) (E.contents errors.new) result }
 {
     match parse_base(base) {
         Some(base) => {
@@ -84,7 +87,8 @@ fn run_action<R: Files<File = File> + Clock, I: Read, O: Write, E: Write>(
       after = O.contents output.new;
     }) result }
     ensures unread { reads_input (Some (line_of action.now)) ≡ false → input.new ≡ input.old }
-    ensures silent { is_told result ≡ false → E.contents errors.new ≡ E.contents errors.old }
+    ensures said { IsSaid base_text (O.contents output.old) (O.contents output.new)
+        (E.contents errors.old) (E.contents errors.new) result }
 {
     match *action {
         Action::Image { program, base } => image(rt, alloc, program, base, output, errors),
@@ -122,7 +126,8 @@ fn has_bad_base(action: &Action<'_>) -> bool
 fn keep_away<E: Write>(action: &Action<'_>, disk: &str, behind: Behind, errors: &mut E) -> Status
     ensures ends { ((result ≡ BadWords) × (are_bad (Some (line_of action.now)) ≡ true))
         ⊎ ((result ≡ Failed) × (are_bad (Some (line_of action.now)) ≡ false)) }
-    ensures told { is_told result ≡ true }
+    ensures said { IsSaid base_text None None (E.contents errors.old) (E.contents errors.new)
+        result }
 {
     match (has_bad_base(action), behind) {
         (true, Behind::Errors) => Status::BadWords,
@@ -147,7 +152,8 @@ fn run_apart<R: Files<File = File> + Clock, I: Read, O: Write, E: Write>(
       after = O.contents output.new;
     }) result }
     ensures unread { reads_input (Some (line_of action.now)) ≡ false → input.new ≡ input.old }
-    ensures silent { is_told result ≡ false → E.contents errors.new ≡ E.contents errors.old }
+    ensures said { IsSaid base_text (O.contents output.old) (O.contents output.new)
+        (E.contents errors.old) (E.contents errors.new) result }
 {
     let Some(disk) = action.disk() else {
         return run_action(rt, alloc, action, input, output, errors);
@@ -176,7 +182,9 @@ fn run_command<R: Files<File = File> + Clock, I: Read, O: Write, E: Write>(
         }) result }
     ensures unread { reads_input (command_line (map (λ word. string_bytes word) words.now)) ≡ false
         → input.new ≡ input.old }
-    ensures silent { is_told result ≡ false → E.contents errors.new ≡ E.contents errors.old }
+    ensures said { IsSaid (bad_text (command_line (map (λ word. string_bytes word) words.now)))
+        (O.contents output.old) (O.contents output.new)
+        (E.contents errors.old) (E.contents errors.new) result }
 {
     match read_words(words) {
         Some(action) => run_apart(rt, alloc, &action, input, output, errors),
@@ -232,6 +240,14 @@ pub fn run_words<R: Files<File = File> + Clock, I: Read, O: Write, E: Write>(
     // Only `script` reads the input.
     ensures unread { reads_input (command_line (map (λ word. string_bytes word) words.now)) ≡ false
         → input.new ≡ input.old }
+
+    // Then as much as it took of the one line or the other was given to standard error.
+    ensures told { result ≡ 2 → AppendsFront (E.contents errors.old) (E.contents errors.new)
+        (bad_text (command_line (map (λ word. string_bytes word) words.now))) }
+
+    // What is said there, as of a file that can't be read, isn't said on the output too.
+    ensures apart { (E.contents errors.new ≡ E.contents errors.old)
+        ⊎ (O.contents output.new ≡ O.contents output.old) }
 
     // Nothing was given to standard error but with 2 and 3.
     ensures silent { result ≢ 2 → result ≢ 3

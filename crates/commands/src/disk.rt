@@ -7,7 +7,8 @@ ghost use Rattle.file_disk.specs.declared.disk.FileDisk.{FileDisk};
 ghost use Rattle.file_disk.specs.declared.disk_file.DiskFile.{DiskFile};
 ghost use Rattle.commands.specs.Disk.{IsOpenRefusal, IsFormatRefusal, IsUpgradeRefusal};
 ghost use Rattle.commands.specs.Opened.{IsMade};
-ghost use Rattle.commands.specs.inside.Ends.{IsNoRegistry, IsTurnedAway, is_told};
+ghost use Rattle.commands.specs.Said.{base_text};
+ghost use Rattle.commands.specs.inside.Ends.{IsNoRegistry, IsTurnedAway, IsSaid};
 
 use crate::access::Access;
 use crate::disk_answer::write_disk_answer;
@@ -113,7 +114,8 @@ pub(crate) fn turn_away<O: Write, E: Write>(
 ) -> Status
     ensures ends { IsTurnedAway (λ refusal. why ≡ NoRegistry.Refused refusal)
         (O.contents output.old) (O.contents output.new) result }
-    ensures silent { is_told result ≡ false → E.contents errors.new ≡ E.contents errors.old }
+    ensures said { IsSaid base_text (O.contents output.old) (O.contents output.new)
+        (E.contents errors.old) (E.contents errors.new) result }
 {
     match why {
         NoRegistry::CannotOpen => cannot_read(errors, path),

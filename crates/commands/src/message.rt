@@ -2,9 +2,10 @@
 
 ghost use Rattle.std.specs.Prelude.{◌≡◌, ◌++◌, codes, OnOk};
 ghost use Rattle.std.specs.Io.KnownBytes.{Appends};
+ghost use Rattle.commands.specs.Said.{AppendsFront, base_text, words_text};
 
 use crate::status::Status;
-use std::io::Write;
+use std::io::{ErrorKind, Write};
 use text_output::{LINE, OutputBuffer, WriteFault};
 
 /// Writes what a line says of a path, with one write where it isn't longer than a line's buffer.
@@ -27,18 +28,39 @@ pub(crate) fn cannot_read<E: Write>(errors: &mut E, path: &str) -> Status
     Status::Failed
 }
 
+/// Gives a line to a stream, with one write where that takes it whole. A stream that fails, or takes
+/// no more, is given nothing more.
+fn say<E: Write>(errors: &mut E, line: &[u8])
+    ensures { AppendsFront (E.contents errors.old) (E.contents errors.new) line.now }
+{
+    let mut given = 0;
+    for _ in 0..u64::MAX {
+        if given == line.len() {
+            return;
+        }
+        match errors.write(&line[given..]) {
+            Ok(0) => return,
+            Ok(count) => given += count,
+            Err(fault) if fault.kind() == ErrorKind::Interrupted => {}
+            Err(_) => return,
+        }
+    }
+}
+
 /// Says that the words aren't a command.
 pub(crate) fn bad_command_line<E: Write>(errors: &mut E) -> Status
-    ensures { result ≡ Status.BadWords }
+    ensures status { result ≡ Status.BadWords }
+    ensures said { AppendsFront (E.contents errors.old) (E.contents errors.new) words_text }
 {
-    let _ = errors.write_all(b"rlibreg: bad command line\n");
+    say(errors, b"rlibreg: bad command line\n");
     Status::BadWords
 }
 
 /// Says that BASE isn't read.
 pub(crate) fn bad_base<E: Write>(errors: &mut E) -> Status
-    ensures { result ≡ Status.BadWords }
+    ensures status { result ≡ Status.BadWords }
+    ensures said { AppendsFront (E.contents errors.old) (E.contents errors.new) base_text }
 {
-    let _ = errors.write_all(b"rlibreg: bad base\n");
+    say(errors, b"rlibreg: bad base\n");
     Status::BadWords
 }

@@ -5,8 +5,9 @@ ghost use Rattle.requests.specs.Request.{request_of};
 ghost use Rattle.commands.specs.Base.{base_of};
 ghost use Rattle.commands.specs.Outcome.{Asks};
 ghost use Rattle.commands.specs.Words as words;
+ghost use Rattle.commands.specs.Said.{base_text};
 ghost use Rattle.commands.specs.inside.Ends.{BindEnds, IsFormatted, IsUpgradedOver};
-ghost use Rattle.commands.specs.inside.Ends.{Replied, is_told};
+ghost use Rattle.commands.specs.inside.Ends.{Replied, IsSaid};
 ghost use Rattle.file_disk.specs.declared.disk_file.DiskFile.{DiskFile};
 
 use crate::access::{Access, access_of};
@@ -37,7 +38,8 @@ pub(crate) fn ask<R: Files<File = File> + Clock, O: Write, E: Write>(
 ) -> Status
     ensures ends { Replied DiskFile (λ asked. asked ≡ request_of command.now)
         (O.contents output.old) (O.contents output.new) result }
-    ensures silent { is_told result ≡ false → E.contents errors.new ≡ E.contents errors.old }
+    ensures said { IsSaid base_text (O.contents output.old) (O.contents output.new)
+        (E.contents errors.old) (E.contents errors.new) result }
 {
     match open_disk(rt, alloc, disk, access_of(command)) {
         Ok(opened) => {
@@ -61,7 +63,8 @@ pub(crate) fn format<R: Files<File = File> + Clock, O: Write, E: Write>(
 ) -> Status
     ensures ends { IsFormatted DiskFile sectors (O.contents output.old) (O.contents output.new)
         result }
-    ensures silent { is_told result ≡ false → E.contents errors.new ≡ E.contents errors.old }
+    ensures said { IsSaid base_text (O.contents output.old) (O.contents output.new)
+        (E.contents errors.old) (E.contents errors.new) result }
 {
     match make_registry(rt, alloc, disk, sectors) {
         Ok(()) => write_disk_answer(Ok(()), output),
@@ -79,7 +82,8 @@ pub(crate) fn upgrade<R: Files<File = File> + Clock, O: Write, E: Write>(
     errors: &mut E,
 ) -> Status
     ensures ends { IsUpgradedOver DiskFile (O.contents output.old) (O.contents output.new) result }
-    ensures silent { is_told result ≡ false → E.contents errors.new ≡ E.contents errors.old }
+    ensures said { IsSaid base_text (O.contents output.old) (O.contents output.new)
+        (E.contents errors.old) (E.contents errors.new) result }
 {
     match open_disk(rt, alloc, disk, Access::Writing) {
         Ok(opened) => {
@@ -103,7 +107,8 @@ pub(crate) fn install<R: Files<File = File> + Clock, O: Write, E: Write>(
 ) -> Status
     ensures ends { Replied DiskFile (Asks (words.install disk.now file.now))
         (O.contents output.old) (O.contents output.new) result }
-    ensures silent { is_told result ≡ false → E.contents errors.new ≡ E.contents errors.old }
+    ensures said { IsSaid base_text (O.contents output.old) (O.contents output.new)
+        (E.contents errors.old) (E.contents errors.new) result }
 {
     match read_file(rt, alloc, file) {
         Ok(bytes) => ask(rt, alloc, disk, &Command::Install(&bytes), output, errors),
@@ -123,7 +128,8 @@ pub(crate) fn replace<R: Files<File = File> + Clock, O: Write, E: Write>(
 ) -> Status
     ensures ends { Replied DiskFile (Asks (words.replace disk.now file.now))
         (O.contents output.old) (O.contents output.new) result }
-    ensures silent { is_told result ≡ false → E.contents errors.new ≡ E.contents errors.old }
+    ensures said { IsSaid base_text (O.contents output.old) (O.contents output.new)
+        (E.contents errors.old) (E.contents errors.new) result }
 {
     match read_file(rt, alloc, file) {
         Ok(bytes) => ask(rt, alloc, disk, &Command::Replace(&bytes), output, errors),
@@ -152,7 +158,8 @@ pub(crate) fn preload<R: Files<File = File> + Clock, O: Write, E: Write>(
     ensures ends { Replied DiskFile
         (Asks (words.preload disk.now (map (λ name. string_bytes name) names.now)))
         (O.contents output.old) (O.contents output.new) result }
-    ensures silent { is_told result ≡ false → E.contents errors.new ≡ E.contents errors.old }
+    ensures said { IsSaid base_text (O.contents output.old) (O.contents output.new)
+        (E.contents errors.old) (E.contents errors.new) result }
 {
     match bytes_of(alloc, names) {
         Ok(names) => ask(
@@ -182,7 +189,8 @@ pub(crate) fn bind<R: Files<File = File> + Clock, O: Write, E: Write>(
     ensures ends { BindEnds DiskFile (base_of base.now)
         (Asks (words.bind disk.now program.now base.now))
         (O.contents output.old) (O.contents output.new) result }
-    ensures silent { is_told result ≡ false → E.contents errors.new ≡ E.contents errors.old }
+    ensures said { IsSaid base_text (O.contents output.old) (O.contents output.new)
+        (E.contents errors.old) (E.contents errors.new) result }
 {
     let Some(base) = parse_base(base) else {
         return bad_base(errors);

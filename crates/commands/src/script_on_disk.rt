@@ -2,7 +2,8 @@
 
 ghost use Rattle.std.specs.Prelude.{◌≡◌, ◌≢◌, false};
 ghost use Rattle.commands.specs.OnDisk.{DiskScriptEnds};
-ghost use Rattle.commands.specs.inside.Ends.{IsRun, ScriptEnds, is_told};
+ghost use Rattle.commands.specs.Said.{base_text};
+ghost use Rattle.commands.specs.inside.Ends.{IsRun, ScriptEnds, IsSaid};
 ghost use Rattle.commands.specs.declared.status.Status.TheVariants.{BadWords, Done};
 ghost use Rattle.file_disk.specs.declared.disk_file.DiskFile.{DiskFile};
 
@@ -89,7 +90,8 @@ pub(crate) fn script<R: Files<File = File> + Clock, I: Read, O: Write, E: Write>
       before = O.contents output.old;
       after = O.contents output.new;
     }) result }
-    ensures silent { is_told result ≡ false → E.contents errors.new ≡ E.contents errors.old }
+    ensures said { IsSaid base_text (O.contents output.old) (O.contents output.new)
+        (E.contents errors.old) (E.contents errors.new) result }
 {
     match open_disk(rt, alloc, disk, Access::Writing) {
         Ok(opened) => {

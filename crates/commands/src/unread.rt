@@ -1,7 +1,8 @@
 // A file that wasn't read.
 
 ghost use Rattle.std.specs.Prelude.{◌≡◌, false};
-ghost use Rattle.commands.specs.inside.Ends.{IsNotRead, SaysNoMemory, is_told};
+ghost use Rattle.commands.specs.Said.{base_text};
+ghost use Rattle.commands.specs.inside.Ends.{IsNotRead, SaysNoMemory, IsSaid};
 
 use crate::file::FileFault;
 use crate::message::cannot_read;
@@ -27,7 +28,8 @@ pub(crate) fn not_read<O: Write, E: Write>(
     errors: &mut E,
 ) -> Status
     ensures ends { IsNotRead fault (O.contents output.old) (O.contents output.new) result }
-    ensures silent { is_told result ≡ false → E.contents errors.new ≡ E.contents errors.old }
+    ensures said { IsSaid base_text (O.contents output.old) (O.contents output.new)
+        (E.contents errors.old) (E.contents errors.new) result }
 {
     match fault {
         FileFault::CannotRead => cannot_read(errors, path),

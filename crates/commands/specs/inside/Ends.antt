@@ -1,5 +1,5 @@
 -- What the parts of a run end with.
-use Rattle.std.specs.Prelude.{ℕ, List, Option, Some, None, ◌≡◌, ◌⊎◌, Bool, true, false, is_some}
+use Rattle.std.specs.Prelude.{ℕ, List, Option, Some, None, ◌≡◌, ◌⊎◌, true, false, is_some}
 use Rattle.std.specs.Io.KnownBytes.{Appends}
 use Rattle.requests.specs.declared.reply.Reply.{Reply}
 use Rattle.commands.specs.declared.file.FileFault.{FileFault}
@@ -19,6 +19,7 @@ use Rattle.commands.specs.Printed.{IsTold, PrintsImage, PrintsRefusal}
 use Rattle.commands.specs.Refusal.{memory_text}
 use Rattle.commands.specs.Reply.{reply_text}
 use Rattle.commands.specs.RunImage.{Shows}
+use Rattle.commands.specs.Said.{AppendsFront}
 use Rattle.commands.specs.Script.{Streams}
 use Rattle.commands.specs.Status.{reply_status}
 use Rattle.commands.specs.Words.{CommandLine}
@@ -45,11 +46,11 @@ SaysNoMemory before after NoMemory = Appends before after memory_text
 SaysNoMemory before after Failed = Unit {0}
 SaysNoMemory before after status = ⊥
 
--- the statuses with which something may stand on standard error
-abbrev pub is_told : Status → Bool
-is_told BadWords = true
-is_told Failed = true
-is_told status = false
+-- what stands on standard error: nothing more than before; or the output is as it was, and it is a
+-- front of the line of words that are turned away, or what is said of a file that can't be read
+abbrev pub IsSaid : List ℕ → Option (List ℕ) → Option (List ℕ) → Option (List ℕ) → Option (List ℕ) → Status → Type 0
+IsSaid text before after errors errors' status = (errors' ≡ errors)
+    ⊎ ((after ≡ before) × (((status ≡ BadWords) × AppendsFront errors errors' text) ⊎ (status ≡ Failed)))
 
 -- what showing a file's bytes at a base ends with
 abbrev pub IsShown : List ℕ → ℕ → Option (List ℕ) → Option (List ℕ) → Status → Type 0
