@@ -34,10 +34,10 @@ CLAUSES = [
     ('registry/rounds', 'run_rounds', 'ok'),
     ('rlibreg_c/bind', 'rlibreg_bind', 'image answered'),
     ('rlibreg_c/list', 'rlibreg_list', 'listing answered'),
-    ('rlibreg_c/preload', 'rlibreg_plan_preload', 'plan answered'),
-    ('rlibreg_c/change', 'rlibreg_plan_install rlibreg_plan_replace rlibreg_plan_remove', 'plan answered'),
-    ('rlibreg_c/format', 'rlibreg_plan_format', 'plan answered'),
-    ('rlibreg_c/upgrade', 'rlibreg_plan_upgrade', 'plan answered'),
+    ('rlibreg_c/preload', 'rlibreg_plan_preload', 'plan answered left'),
+    ('rlibreg_c/change', 'rlibreg_plan_install rlibreg_plan_replace rlibreg_plan_remove', 'plan answered left'),
+    ('rlibreg_c/format', 'rlibreg_plan_format', 'plan answered left'),
+    ('rlibreg_c/upgrade', 'rlibreg_plan_upgrade', 'plan answered left'),
 ]
 READING = [
     ('1. Files', 'What the bytes of a file say, and when they are refused (gABI chapters 4 and 5).', [
