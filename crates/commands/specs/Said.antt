@@ -16,6 +16,6 @@ abbrev pub bad_text : Option CommandLine → List ℕ
 bad_text None = words_text
 bad_text (Some line) = base_text
 
--- a front of the text was appended: as much as the writer took
+-- a front of the text was appended, perhaps none of it, and nothing else
 abbrev pub AppendsFront : Option (List ℕ) → Option (List ℕ) → List ℕ → Type 0
 AppendsFront before after text = (n : ℕ) × Appends before after (take n text)

@@ -77,7 +77,7 @@ pub fn run_arguments<R: Files<File = File> + Clock, I: Read, O: Write, E: Write>
 
     ensures same { result ≡ 2 → O.contents output.new ≡ O.contents output.old }
 
-    // As much as standard error took of the line of words that are turned away
+    // Nothing but a front of the line of words that are turned away, on standard error
     ensures told { IfOk words (λ list. result ≡ 2
         → AppendsFront (E.contents errors.old) (E.contents errors.new)
         (bad_text (command_line (map (λ word. string_bytes word) list.items)))) }

@@ -241,7 +241,7 @@ pub fn run_words<R: Files<File = File> + Clock, I: Read, O: Write, E: Write>(
     ensures unread { reads_input (command_line (map (λ word. string_bytes word) words.now)) ≡ false
         → input.new ≡ input.old }
 
-    // Then as much as it took of the one line or the other was given to standard error.
+    // Then nothing but a front of the one line or the other was given to standard error.
     ensures told { result ≡ 2 → AppendsFront (E.contents errors.old) (E.contents errors.new)
         (bad_text (command_line (map (λ word. string_bytes word) words.now))) }
 

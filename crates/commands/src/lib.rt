@@ -2,9 +2,9 @@
 //!
 //! `run_image` and `run_script` are the work over bytes, readers and writers, and have their texts
 //! as their contracts. `run_request`, `run_format`, `run_upgrade` and `run_disk_script` are the
-//! work over a disk, whatever it is. `run_words` reads the words of a command line, opens files, gives them to these
-//! calls and has the exit status; `read_arguments` has the words of the process, and
-//! `run_arguments` does the same with them.
+//! work over a disk, whatever it is. `run_words` reads the words of a command line, opens files,
+//! gives them to these calls and has the exit status; `read_arguments` has the words of the
+//! process, and `run_arguments` does the same with them.
 #![tactic(auto)]
 
 mod access;

@@ -28,8 +28,8 @@ pub(crate) fn cannot_read<E: Write>(errors: &mut E, path: &str) -> Status
     Status::Failed
 }
 
-/// Gives a line to a stream, with one write where that takes it whole. A stream that fails, or takes
-/// no more, is given nothing more.
+/// Gives a line to a stream, with one write where that takes it whole. A stream that fails, or
+/// takes no more, is given nothing more.
 fn say<E: Write>(errors: &mut E, line: &[u8])
     ensures { AppendsFront (E.contents errors.old) (E.contents errors.new) line.now }
 {
