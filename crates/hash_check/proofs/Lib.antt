@@ -9,6 +9,8 @@ pub mod Backs
 pub mod Stretches
 pub mod Taking
 pub mod Marking
+pub mod Cells
+pub mod Tabling
 pub mod Gathering
 pub mod Starting
 pub mod Sorting

@@ -125,10 +125,10 @@ cut-same file endings i last next common old cut is-last is-next most kept n a b
     let fits : n ≤ common = most n (omega (arith, a, long-last)) (omega (arith, b, long-next)) (ap (take n) first ∙ e ∙ sym (ap (take n) second)) in
     kept n (omega arith)
 
-nth-symbol : (names : List KeyedName) (i : ℕ) → i < length names → get_or (symbols_of names) i 0 ≡ (nth_name names i).symbol
+pub nth-symbol : (names : List KeyedName) (i : ℕ) → i < length names → get_or (symbols_of names) i 0 ≡ (nth_name names i).symbol
 nth-symbol names i lt = get_or-map (λ n. n.symbol) names i (record { key = 0; symbol = 0; length = 0 }) 0 lt
 
-count-symbols : (names : List KeyedName) → length (symbols_of names) ≡ length names
+pub count-symbols : (names : List KeyedName) → length (symbols_of names) ≡ length names
 count-symbols names = length-map names (λ n. n.symbol)
 
 -- names in endings that differ are those of symbols that do

@@ -9,7 +9,7 @@ ghost use Rattle.hash_check.specs.inside.Names.{IsSymbol};
 
 use crate::export::exported_symbols;
 use crate::keyed_name::KeyedName;
-use crate::names::{names_of, offset_of};
+use crate::names::{names_of, offset_of, short_names};
 use elf_dynamic::Object;
 use std::alloc::{AllocError, Global};
 
@@ -28,7 +28,8 @@ fn names_by_place(
     names_of(alloc, object, &symbols)
 }
 
-/// The exported symbols with the keys of their names, by the places of these.
+/// The exported symbols with the keys of their names: in their order, or by the places of their
+/// names where many of these are tails of others.
 pub(crate) fn exported_names(
     alloc: Global,
     object: &Object<'_>,
@@ -37,7 +38,10 @@ pub(crate) fn exported_names(
         IsPermutation (map (named object.now) (exported_symbols object.now)) names.items) }
 {
     let symbols = exported_symbols(alloc, object)?;
-    names_by_place(alloc, object, symbols)
+    match short_names(alloc, object, &symbols)? {
+        Some(names) => Ok(names),
+        None => names_by_place(alloc, object, symbols),
+    }
 }
 
 /// The numbers of all symbols but number 0.

@@ -1,6 +1,6 @@
 // Whether symbols have different names.
 
-ghost use Rattle.std.specs.Prelude.{◌≡◌, ◌<◌, ◌≤◌, ◌+◌, ◌↔◌, length, map, IsTrue, IfOk};
+ghost use Rattle.std.specs.Prelude.{◌≡◌, ◌<◌, ◌≤◌, ◌+◌, ◌↔◌, length, map, IsTrue, IfOk, IfSome};
 ghost use Rattle.std.specs.List.{All};
 ghost use Rattle.std.specs.Option.{ForSome};
 ghost use Rattle.elf_dynamic.specs.Strings.{name_of};
@@ -130,6 +130,38 @@ pub(crate) fn names_of(
     Ok(names)
 }
 
+/// How many bytes names have that aren't tails of others: twice those of the string table, and 64
+/// KiB.
+fn room_for_names(object: &Object<'_>) -> usize {
+    let size = object.string_table().len();
+    size.saturating_mul(2).saturating_add(65_536)
+}
+
+/// The names of symbols in any order, each read to its end; none where they have so many bytes
+/// that many of them are tails of others.
+pub(crate) fn short_names(
+    alloc: Global,
+    object: &Object<'_>,
+    symbols: &[u32],
+) -> Result<Option<Vec<KeyedName>>, AllocError>
+    requires { All (IsSymbol object.now) symbols.now }
+    ensures { IfOk result (λ found. IfSome found (λ names.
+        names.items ≡ map (named object.now) symbols.now)) }
+{
+    let mut left = room_for_names(object);
+    let mut names = Vec::with_capacity(alloc, symbols.len())?;
+    for number in symbols {
+        let symbol = *number;
+        let length = object.name_of(symbol).len();
+        if length > left {
+            return Ok(None);
+        }
+        left -= length;
+        names.push(name_of_length(object, symbol, length))?;
+    }
+    Ok(Some(names))
+}
+
 /// The order of two names of one key: by their lengths, then by their bytes. No byte of two names
 /// of different lengths is read.
 fn compare_texts(object: &Object<'_>, a: KeyedName, b: KeyedName) -> Ordering
@@ -174,14 +206,9 @@ fn sorted_names(object: &Object<'_>, mut names: Vec<KeyedName>) -> Vec<KeyedName
     names
 }
 
-/// Whether names have more bytes than twice the string table and 64 KiB, so that many of them are
-/// tails of others.
+/// Whether names have so many bytes that many of them are tails of others.
 fn share_bytes(object: &Object<'_>, names: &[KeyedName]) -> bool {
-    let mut left = object
-        .string_table()
-        .len()
-        .saturating_mul(2)
-        .saturating_add(65_536);
+    let mut left = room_for_names(object);
     for name in names {
         let length = name.length as usize;
         if length > left {

@@ -4,6 +4,7 @@ pub mod Found
 pub mod EntryOrder
 pub mod AllEntries
 pub mod TableSearch
+pub mod Hashed
 pub mod Tails
 pub mod Classing
 pub mod Gathering

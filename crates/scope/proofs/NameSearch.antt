@@ -148,7 +148,7 @@ pub own-found : (objects : List Named) (entries : List Entry) (w : Entry) (q : �
     → Some (At w.object e.name.symbol) ≡ definition_at objects (name_of (file_at objects w.object) w.name.symbol) w.object
 own-found objects entries w q d table taken is within named e at own =
     let name : List ℕ = name_of (file_at objects w.object) w.name.symbol in
-    let known = entry-defines objects entries name q d table taken within (sym (wanted-order objects (get_or entries q d) w is) ∙ named) e at in
+    let known = entry-defines objects entries name q d table.moved taken within (sym (wanted-order objects (get_or entries q d) w is) ∙ named) e at in
     ap (option_map (At w.object)) (known.1 ∙ ap (λ o. definition_of (file_at objects o) name) own)
 
 -- what a table has are such names

@@ -1,7 +1,7 @@
 -- What a search in a table of all exported names finds.
 use Rattle.std.proofs.Common.{◌≡◌, ℕ, ◌+◌, ◌<◌, ◌≤◌, ◌%◌, ◌^◌, Bool, true, false, cond, List, [], ◌∷◌, length, map, reverse, arith, refl, sym, ap, ◌∙◌, subst, get_or, Some, None, ⊎_elim}
 use Rattle.std.specs.List.{All}
-use Rattle.std.specs.List.Sorted.{IsSortedBy, IsPartitionedBy, IsPartitionPoint}
+use Rattle.std.specs.List.Sorted.{IsPermutation, IsSortedBy, IsPartitionedBy, IsPartitionPoint}
 use Rattle.std.specs.Option.{option_map}
 use Rattle.std.specs.Cmp.Lexicographic.{slice_cmp}
 use Rattle.std.specs.Ordering.{nat_cmp, ordering_then, ordering_reverse, ordering_index, is_lt, is_eq}
@@ -81,7 +81,7 @@ abbrev pub IsNamed : List Named → List ℕ → Entry → Type 0
 IsNamed objects name e = order_to objects e name ≡ Equal
 
 -- its text is that name
-named-text : (objects : List Named) (name : List ℕ) (e : Entry) → IsNamed objects name e → text_at objects e ≡ name
+pub named-text : (objects : List Named) (name : List ℕ) (e : Entry) → IsNamed objects name e → text_at objects e ≡ name
 unfolding rank text rank_of_name text_of_name
 named-text objects name e is =
     let same = exact_bytes (rank objects e) (rank_of_name name) is in
@@ -145,11 +145,11 @@ taken-at objects place all lt =
     subst IsTaken (sym (get_or-map (λ (o : Named). o.file) objects place d [] lt)) (all place d lt)
 
 -- where each entry of the name has its object at or behind a place, no object before that place defines the name
-none-before : (objects : List Named) (entries : List Entry) (name : List ℕ) (end place : ℕ) → IsTableOf objects entries
+none-before : (objects : List Named) (entries : List Entry) (name : List ℕ) (end place : ℕ) → IsPermutation (entries_before objects (length objects)) entries
     → All (λ f. IsNamed objects name f → end ≤ f.object) entries → place < length objects → place < end → definition_at objects name place ≡ None
-none-before objects entries name end place table none lt early =
+none-before objects entries name end place moved none lt early =
     let P : Entry → Type 0 = λ f. IsNamed objects name f → end ≤ f.object in
-    let all = All-permutation P entries (entries_before objects (length objects)) (IsPermutation-sym (entries_before objects (length objects)) entries table.moved) none in
+    let all = All-permutation P entries (entries_before objects (length objects)) (IsPermutation-sym (entries_before objects (length objects)) entries moved) none in
     ap (option_map (At place)) (sym (definition-absent (file_at objects place) name (λ i is.
     let late : end ≤ place =
     everywhere P objects (length objects) place i all lt (exported-as (file_at objects place) name i is)
@@ -157,13 +157,13 @@ none-before objects entries name end place table none lt early =
     omega (arith, late, early))))
 
 -- an entry of a name is what its object defines under it
-pub entry-defines : (objects : List Named) (entries : List Entry) (name : List ℕ) (q : ℕ) (d : Entry) → IsTableOf objects entries → All (λ (o : Named). IsTaken o.file) objects
+pub entry-defines : (objects : List Named) (entries : List Entry) (name : List ℕ) (q : ℕ) (d : Entry) → IsPermutation (entries_before objects (length objects)) entries → All (λ (o : Named). IsTaken o.file) objects
     → q < length entries → IsNamed objects name (get_or entries q d) → (e : Entry) → get_or entries q d ≡ e
     → (e.object < length objects) × (Some e.name.symbol ≡ definition_of (file_at objects e.object) name)
-entry-defines objects entries name q d table taken within here e is =
+entry-defines objects entries name q d moved taken within here e is =
     let entry : IsEntry objects (length objects) e =
     subst (IsEntry objects (length objects)) is
-    (All-permutation (IsEntry objects (length objects)) (entries_before objects (length objects)) entries table.moved (all-entries objects (length objects)) q d within) in
+    (All-permutation (IsEntry objects (length objects)) (entries_before objects (length objects)) entries moved (all-entries objects (length objects)) q d within) in
     let text : name_of (file_at objects e.object) e.name.symbol ≡ name =
     sym (text-is objects e entry.below) ∙ named-text objects name e (ap (λ f. order_to objects f name) (sym is) ∙ here) in (
       entry.below,
@@ -171,20 +171,36 @@ entry-defines objects entries name q d table taken within here e is =
           (as-exported (file_at objects e.object) name e.name.symbol entry.exported text),
     )
 
+-- an entry of the name of which no other has an object that comes before is the first definition
+pub found-first : (objects : List Named) (entries : List Entry) (name : List ℕ) (q : ℕ) (d : Entry) → IsPermutation (entries_before objects (length objects)) entries
+    → All (λ (o : Named). IsTaken o.file) objects → q < length entries → IsNamed objects name (get_or entries q d) → (e : Entry) → get_or entries q d ≡ e
+    → All (λ f. IsNamed objects name f → e.object ≤ f.object) entries
+    → Some (At e.object e.name.symbol) ≡ first_of (map (definition_at objects name) (all_places objects))
+found-first objects entries name q d moved taken within here e is late =
+    let known = entry-defines objects entries name q d moved taken within here e is in
+    let at : 0 + e.object ≡ e.object = omega arith in
+    sym (some_from (definition_at objects name) e.object (length objects) 0 (At e.object e.name.symbol) known.0
+    (λ k ge lt. none-before objects entries name e.object k moved late (omega (arith, lt, known.0)) (omega (arith, lt)))
+    (ap (definition_at objects name) at ∙ ap (option_map (At e.object)) (sym known.1)))
+
+-- where no entry has the name, there is none
+pub found-nowhere : (objects : List Named) (entries : List Entry) (name : List ℕ) → IsPermutation (entries_before objects (length objects)) entries
+    → All (λ f. IsNamed objects name f → ⊥) entries
+    → None ≡ first_of (map (definition_at objects name) (all_places objects))
+found-nowhere objects entries name moved none =
+    let late : All (λ f. IsNamed objects name f → length objects ≤ f.object) entries = λ k d lt named. absurd (none k d lt named) in
+    sym (none_from (definition_at objects name) (length objects) 0
+    (λ k ge lt. none-before objects entries name (length objects) k moved late (omega (arith, lt)) (omega (arith, lt))))
+
 -- where the search ends at an entry of the name, that is the first definition
 pub found : (objects : List Named) (entries : List Entry) (name : List ℕ) (q : ℕ) (d : Entry) → IsTableOf objects entries → All (λ (o : Named). IsTaken o.file) objects
     → IsPartitionPoint (λ e. is_before objects name e ≡ true) (λ e. is_before objects name e ≡ false) entries q
     → q < length entries → IsNamed objects name (get_or entries q d) → (e : Entry) → get_or entries q d ≡ e
     → Some (At e.object e.name.symbol) ≡ first_of (map (definition_at objects name) (all_places objects))
 found objects entries name q d table taken point within here e is =
-    let known = entry-defines objects entries name q d table taken within here e is in
-    let late : All (λ f. IsNamed objects name f → e.object ≤ f.object) entries =
-    All-from_get_or (λ (f : Entry). IsNamed objects name f → e.object ≤ f.object) entries d
-    (λ i lt named. subst (λ (x : Entry). x.object ≤ (λ (f : Entry). f.object) (get_or entries i d)) is (first-of objects entries name q i d table point lt named).first) in
-    let at : 0 + e.object ≡ e.object = omega arith in
-    sym (some_from (definition_at objects name) e.object (length objects) 0 (At e.object e.name.symbol) known.0
-    (λ k ge lt. none-before objects entries name e.object k table late (omega (arith, lt, known.0)) (omega (arith, lt)))
-    (ap (definition_at objects name) at ∙ ap (option_map (At e.object)) (sym known.1)))
+    found-first objects entries name q d table.moved taken within here e is
+    (All-from_get_or (λ (f : Entry). IsNamed objects name f → e.object ≤ f.object) entries d
+    (λ i lt named. subst (λ (x : Entry). x.object ≤ (λ (f : Entry). f.object) (get_or entries i d)) is (first-of objects entries name q i d table point lt named).first))
 
 -- and where it ends elsewhere, there is none
 pub nowhere : (objects : List Named) (entries : List Entry) (name : List ℕ) (q : ℕ) (d : Entry) → IsTableOf objects entries
@@ -192,10 +208,8 @@ pub nowhere : (objects : List Named) (entries : List Entry) (name : List ℕ) (q
     → (q < length entries → IsNamed objects name (get_or entries q d) → ⊥)
     → None ≡ first_of (map (definition_at objects name) (all_places objects))
 nowhere objects entries name q d table point not =
-    let late : All (λ f. IsNamed objects name f → length objects ≤ f.object) entries =
-    All-from_get_or (λ (f : Entry). IsNamed objects name f → length objects ≤ f.object) entries d
+    found-nowhere objects entries name table.moved
+    (All-from_get_or (λ (f : Entry). IsNamed objects name f → ⊥) entries d
     (λ i lt named.
     let at = first-of objects entries name q i d table point lt named in
-    absurd (not at.within at.here)) in
-    sym (none_from (definition_at objects name) (length objects) 0
-    (λ k ge lt. none-before objects entries name (length objects) k table late (omega (arith, lt)) (omega (arith, lt))))
+    not at.within at.here))

@@ -3,5 +3,6 @@ pub mod Compared
 pub mod Endings
 pub mod Entries
 pub mod Growing
+pub mod NameTable
 pub mod Places
 pub mod Reached

@@ -19,6 +19,7 @@ mod loaded;
 mod loading;
 mod lookup;
 mod name_search;
+mod name_table;
 mod needed_name;
 mod needs;
 mod order;

@@ -6,7 +6,6 @@ ghost use Rattle.hash_check.specs.Hash.{elf_hash};
 ghost use Rattle.scope.specs.Lookup.{all_places, definition_at, lookup};
 
 use crate::order::Order;
-use crate::table::find_first;
 use crate::target::Target;
 use hash_check::elf_hash;
 
@@ -49,7 +48,7 @@ fn first_definition(order: &Order<'_>, name: &[u8], hash: Option<u32>) -> Option
         (map (definition_at order.now name.now) (all_places order.now)) }
 {
     match (order.table(), hash) {
-        (Some(table), _) => find_first(order.objects(), table, name),
+        (Some(names), _) => names.find_first(order.objects(), name),
         (None, Some(hash)) => first_by_walks(order, name, hash),
         (None, None) => first_by_walks(order, name, elf_hash(name)),
     }

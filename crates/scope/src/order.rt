@@ -5,11 +5,11 @@ ghost use Rattle.std.specs.List.{All};
 ghost use Rattle.elf_file.specs.Dynamic.{is_symbolic};
 ghost use Rattle.scope.specs.LoadOrder.{available};
 ghost use Rattle.scope.specs.Objects.{IsOrder, IsTaken, name_at, file_at, program_name};
-ghost use Rattle.scope.specs.inside.Entries.{IsTableOf};
+ghost use Rattle.scope.specs.inside.NameTable.{IsNames};
 
-use crate::entry::Entry;
 use crate::library::Library;
 use crate::loaded::LoadedObject;
+use crate::table::Names;
 use crate::worth::worthy_table;
 use hash_check::Admitted;
 use std::alloc::{AllocError, Global};
@@ -31,20 +31,20 @@ pub fn program_name<'a>() -> &'a [u8]
 #[derive(Drop)]
 pub struct Order<'a> {
     objects: Vec<LoadedObject<'a>>,
-    table: Option<Vec<Entry>>,
+    table: Option<Names>,
 }
 
 impl<'a> Model for Order<'a> {
     ghost use Rattle.std.specs.Prelude.{List, IfSome};
     ghost use Rattle.scope.specs.Objects.{Named, IsOrder};
-    ghost use Rattle.scope.specs.inside.Entries.{IsTableOf};
+    ghost use Rattle.scope.specs.inside.NameTable.{IsNames};
 
     ghost Value = { List Named };
 
     ghost view = { λ o. o.objects.items };
 
     ghost invariant = { λ o. IsOrder o.objects.items
-        × IfSome o.table (λ t. IsTableOf o.objects.items t.items) };
+        × IfSome o.table (λ t. IsNames o.objects.items t.entries.items t.cells.items) };
 }
 
 impl<'a> Order<'a> {
@@ -113,11 +113,12 @@ impl<'a> Order<'a> {
     }
 
     /// The table of all exported names, if there is one.
-    pub(crate) fn table(&self) -> Option<&[Entry]>
-        ensures { IfSome result (λ t. IsTableOf self.now t.now) }
+    pub(crate) fn table(&self) -> Option<&Names>
+        ensures { IfSome result (λ t.
+            IsNames self.now t.now.entries.items t.now.cells.items) }
     {
         match &self.table {
-            Some(entries) => Some(entries),
+            Some(names) => Some(names),
             None => None,
         }
     }

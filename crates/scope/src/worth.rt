@@ -1,11 +1,10 @@
 // Whether a table of names is worth its cost.
 
 ghost use Rattle.std.specs.Prelude.{◌≤◌, IfSome};
-ghost use Rattle.scope.specs.inside.Entries.{IsTableOf};
+ghost use Rattle.scope.specs.inside.NameTable.{IsNames};
 
-use crate::entry::Entry;
 use crate::loaded::LoadedObject;
-use crate::table::sorted_entries;
+use crate::table::{Names, names_of_all};
 use elf_dynamic::{Object, R_X86_64_64, R_X86_64_GLOB_DAT, R_X86_64_JUMP_SLOT};
 use std::alloc::Global;
 
@@ -16,10 +15,10 @@ const SAMPLES: u32 = 16;
 const LONGEST: u32 = 64;
 
 /// How many samples of walks take as long as one search in a table.
-const SAMPLES_OF_A_SEARCH: u64 = 6 * SAMPLES as u64;
+const SAMPLES_OF_A_SEARCH: u64 = SAMPLES as u64;
 
 /// How many samples of walks take as long as a name takes to be put into a table.
-const SAMPLES_OF_A_NAME: u64 = 3 * SAMPLES as u64;
+const SAMPLES_OF_A_NAME: u64 = SAMPLES as u64;
 
 /// How many symbols a walk looks at from one of them on, up to the longest that counts.
 fn walk_length(object: &Object<'_>, from: u32) -> u64
@@ -116,11 +115,11 @@ fn is_worth(objects: &[LoadedObject<'_>]) -> bool {
 }
 
 /// A table of all exported names, where it is worth its cost and there is memory for it.
-pub(crate) fn worthy_table(alloc: Global, objects: &[LoadedObject<'_>]) -> Option<Vec<Entry>>
-    ensures { IfSome result (λ t. IsTableOf objects.now t.items) }
+pub(crate) fn worthy_table(alloc: Global, objects: &[LoadedObject<'_>]) -> Option<Names>
+    ensures { IfSome result (λ t. IsNames objects.now t.entries.items t.cells.items) }
 {
     if !is_worth(objects) {
         return None;
     }
-    sorted_entries(alloc, objects).ok()
+    names_of_all(alloc, objects).ok()
 }

@@ -1,6 +1,6 @@
 // Addresses and bytes in hexadecimal.
 
-ghost use Rattle.std.specs.Prelude.{◌≡◌, ◌<◌, ◌++◌, length, slice_index, codes, true};
+ghost use Rattle.std.specs.Prelude.{◌≡◌, ◌<◌, ◌/◌, ◌%◌, ◌++◌, length, slice_index, codes, true};
 ghost use Rattle.std.specs.Prelude.{OnOk, OnErr, Ok};
 ghost use Rattle.hex.specs.Hex.{lower_digits, encode_lower};
 ghost use Rattle.text_output.specs.Sends.{Sends, HasRoom, with_text};
@@ -13,27 +13,31 @@ use std::io::Write;
 /// How many bytes a line has.
 const LINE_BYTES: usize = 16;
 
-/// The digit of a value below 16. Arithmetic in place of a table lets the compiler make all digits
-/// of a line at once.
-fn digit(value: u8) -> u8
-    requires { value < 16 }
-    ensures { result ≡ slice_index lower_digits value }
+/// How many bytes its text has.
+const LINE_TEXT: usize = 2 * LINE_BYTES + 1;
+
+/// The two digits of a byte. Each is made in one half of a number, both at once, which lets the
+/// compiler make all digits of a line at once.
+fn digits(byte: u8) -> [u8; 2]
+    ensures first { slice_index result 0 ≡ slice_index lower_digits (byte / 16) }
+    ensures second { slice_index result 1 ≡ slice_index lower_digits (byte % 16) }
 {
-    if value < 10 {
-        b'0' + value
-    } else {
-        b'a' + (value - 10)
-    }
+    let wide = u16::from(byte);
+    let values = wide / 16 + wide % 16 * 256;
+    // A half is 1 where its value is that of a letter: `a` comes 39 behind the byte after `9`.
+    let letters = ((values + 0x0606) / 16) & 0x0101;
+    (values + 0x3030 + letters * 39).to_le_bytes()
 }
 
 /// A line of sixteen bytes.
-fn line(bytes: &[u8; LINE_BYTES]) -> [u8; 2 * LINE_BYTES + 1]
+fn line(bytes: &[u8; LINE_BYTES]) -> [u8; LINE_TEXT]
     ensures { result ≡ encode_lower bytes.now ++ codes "\n" }
 {
-    let mut text = [b'\n'; 2 * LINE_BYTES + 1];
+    let mut text = [b'\n'; LINE_TEXT];
     for i in 0..LINE_BYTES {
-        text[2 * i] = digit(bytes[i] >> 4);
-        text[2 * i + 1] = digit(bytes[i] & 15);
+        let [first, second] = digits(bytes[i]);
+        text[2 * i] = first;
+        text[2 * i + 1] = second;
     }
     text
 }

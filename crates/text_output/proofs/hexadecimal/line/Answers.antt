@@ -1,5 +1,4 @@
-use Rattle.std.proofs.Common.{◌≡◌, ℕ, ◌*◌, [], ◌∷◌, ◌++◌, List, take, drop, slice_index, rules, arith, sym, ap, ◌∙◌, take-append-drop, append-nil}
-use Rattle.std.proofs.lemmas.Nat.{and_mask}
+use Rattle.std.proofs.Common.{◌≡◌, ℕ, ◌*◌, [], ◌∷◌, ◌++◌, List, take, drop, rules, arith, sym, ap, ◌∙◌, take-append-drop, append-nil}
 use Rattle.std.proofs.lemmas.List.{drop_all, drop_more}
 use Rattle.hex.specs.Hex.{lower_digits, encode_lower, encode_with}
 use Rattle.hex.proofs.Pairs.{encode_step}
@@ -7,12 +6,10 @@ use Rattle.text_output.proofs.hexadecimal.line.Goals as goal
 
 pub loop-i-preserved : goal.loop-i-preserved
 loop-i-preserved c =
-    let byte : ℕ = slice_index c.args.bytes.now c.loop-i.i in
     record {
       size = search rules;
       end = search rules;
-      digits = encode_step lower_digits c.args.bytes.now c.loop-i.text c.loop-i.i _ _ (omega (arith, c.told-bytes)) (omega (arith, c.loop-i.invariant.size)) c.digit.ensures
-          (c.digit-in-loop-i.ensures ∙ ap (slice_index lower_digits) (and_mask byte 4)) c.loop-i.invariant.digits;
+      digits = encode_step lower_digits c.args.bytes.now c.loop-i.text c.loop-i.i _ _ (omega (arith, c.told-bytes)) (omega (arith, c.loop-i.invariant.size)) c.digits.ensures.first c.digits.ensures.second c.loop-i.invariant.digits;
     }
 
 pub returns : goal.returns

@@ -6,30 +6,27 @@ use Rattle.scope.specs.Objects.{Named}
 use Rattle.scope.specs.declared.entry.Entry.{Entry}
 use Rattle.scope.specs.inside.Compared.{IsNameOf}
 use Rattle.scope.specs.inside.Entries.{entries_before}
-use Rattle.scope.proofs.AllEntries.{all-entries}
+use Rattle.scope.proofs.Hashed.{are-names}
 use Rattle.scope.proofs.TableSearch.{order-total}
-use Rattle.scope.proofs.table.sorted_entries.Goals as goal
-
-are-names : (objects : List Named) → All (IsNameOf objects) (entries_before objects (length objects))
-are-names objects k d lt = let e = all-entries objects (length objects) k d lt in record { there = e.below; is = e.is }
+use Rattle.scope.proofs.table.sorted.Goals as goal
 
 pub sorted_by_classes-requires : goal.sorted_by_classes-requires
 sorted_by_classes-requires c =
     let objects : List Named = c.args.objects.now in
     subst (All (IsNameOf objects)) (sym c.deref-then-share_bytes.ensures.value)
-    (All-permutation (IsNameOf objects) (entries_before objects (length objects)) c.in_ok-entries.entries.items c.in_ok-entries.ensures (are-names objects))
+    (All-permutation (IsNameOf objects) (entries_before objects (length objects)) c.args.entries.items c.requires (are-names objects))
 
 pub returns-in-Some : goal.returns-in-Some
 returns-in-Some c =
     let moved = rw (c.in-Some.is, c.deref-then-share_bytes.ensures.value) at c.in_ok-sorted.ensures.moved in
     record {
-      moved = IsPermutation-trans (entries_before c.args.objects.now (length c.args.objects.now)) c.in_ok-entries.entries.items c.in-Some.sorted.items c.in_ok-entries.ensures moved;
+      moved = IsPermutation-trans (entries_before c.args.objects.now (length c.args.objects.now)) c.args.entries.items c.in-Some.sorted.items c.requires moved;
       sorted = rw c.in-Some.is at c.in_ok-sorted.ensures.sorted;
     }
 
 pub returns : goal.returns
 returns c = record {
-  moved = IsPermutation-trans (entries_before c.args.objects.now (length c.args.objects.now)) c.in_ok-entries.entries.items c.sort_unstable_by.new.self.items c.in_ok-entries.ensures
+  moved = IsPermutation-trans (entries_before c.args.objects.now (length c.args.objects.now)) c.args.entries.items c.sort_unstable_by.new.self.items c.requires
       c.sort_unstable_by.ensures.permutation;
   sorted = IsSortedBy-from_sort_by (order-total c.args.objects.now) (λ (e : Entry). e) c.sort_unstable_by.new.self.items c.sort_unstable_by.ensures.sorted (λ a r f k. search rules);
 }

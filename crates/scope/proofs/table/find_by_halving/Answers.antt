@@ -7,8 +7,8 @@ use Rattle.scope.specs.Objects.{Named}
 use Rattle.scope.specs.declared.entry.Entry.{Entry}
 use Rattle.scope.specs.inside.Entries.{order_to}
 use Rattle.scope.proofs.TableSearch.{is_before, partitioned, is-equal, found, nowhere}
-use Rattle.scope.proofs.table.find_first.Goals as goal
-use Rattle.scope.proofs.table.find_first.Goals.{else-first-table-via-then-first-table+else-is_eq, else-first-table-via-else-first-table}
+use Rattle.scope.proofs.table.find_by_halving.Goals as goal
+use Rattle.scope.proofs.table.find_by_halving.Goals.{else-first-table-via-then-first-table+else-is_eq, else-first-table-via-else-first-table}
 
 none : Entry
 none = record { name = record { key = 0; symbol = 0; length = 0 }; object = 0 }

@@ -1,0 +1,10 @@
+use Rattle.std.proofs.Common.{◌≤◌}
+use Rattle.hash_check.specs.inside.NameTable.{HoldOthers}
+use Rattle.scope.specs.inside.NameTable.{nth_text}
+use Rattle.scope.proofs.name_table.look_for.Given as goal
+
+abbrev pub invariant-loop-at : goal.invariant-loop-at
+invariant-loop-at l = record {
+  low : l.first ≤ l.at;
+  others : HoldOthers (nth_text l.objects l.entries) l.cells (nth_text l.objects l.entries l.number) l.first l.at;
+}
