@@ -61,7 +61,7 @@ module _ {D : Type 0} (facts : D → DiskFacts) where
       subst (λ (l : List (Opened D)). RunsVia facts old.registry l mid.registry s (xs ++ [])) (sym (append-nil registries))
       (subst (λ (l : List Exchange). RunsVia facts old.registry registries mid.registry s l) (sym (append-nil xs)) so_far)
   runs_events old mid s xs registries so_far (x ∷ hs) (r ∷ rs) (b ∷ passed) h =
-      let next = goes_on old mid b s xs registries so_far x r h.0 in
+      let next = goes_on old mid b s xs registries so_far x r h.0.happens in
       let all = runs_events old b s (xs ++ exchange_of x r ∷ []) (registries ++ b.registry ∷ []) next hs rs passed h.1 in
       subst (λ (l : List (Opened D)). RunsVia facts old.registry l (last_of b passed).registry s (xs ++ exchange_of x r ∷ exchanges hs rs)) (append_assoc registries (b.registry ∷ []) (map (λ (k : Slotted D). k.registry) passed))
       (subst (λ (l : List Exchange). RunsVia facts old.registry ((registries ++ b.registry ∷ []) ++ map (λ (k : Slotted D). k.registry) passed) (last_of b passed).registry s l) (append_assoc xs (exchange_of x r ∷ []) (exchanges hs rs)) all)

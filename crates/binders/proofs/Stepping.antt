@@ -134,7 +134,7 @@ module _ {D : Type 0} (facts : D → DiskFacts) (old : Opened D) (slots : List (
     step = λ flights flight on is. absurd (nobody flights flight on is);
     bounds = λ flights flight on is. absurd (nobody flights flight on is);
     any_moment = λ honest. at_rest (facts old.disk) (Mixture (facts old.disk)) (λ m mixture. mixture);
-    unchanged = λ honest. record { now = refl; stop = λ k content. (λ may. may, λ may. may) };
+    unchanged = λ honest. record { now = refl; log = refl; stop = λ k content. (λ may. may, λ may. may) };
     stays = stays_at facts before;
     no_binder = (λ is. none, λ is. refl);
     absent = λ is. refl;

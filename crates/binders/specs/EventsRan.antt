@@ -6,6 +6,7 @@ use Rattle.requests.specs.Runs.{Steps, last_of}
 use Rattle.registry.specs.Acknowledged.{Exchange}
 use Rattle.registry.specs.Opened.{IsAt}
 use Rattle.registry.specs.Ran.{RunsThrough}
+use Rattle.registry.specs.Versions.{AreVersions}
 use Rattle.binders.specs.Events.{Happening, Happens, apply}
 use Rattle.binders.specs.Slotted.{Slotted}
 use Rattle.binders.specs.declared.event.EventReply.{EventReply}
@@ -21,9 +22,12 @@ abbrev pub exchanges : List Happening → List EventReply → List Exchange
 exchanges (happening ∷ happenings) (reply ∷ replies) = exchange_of happening reply ∷ exchanges happenings replies
 exchanges happenings replies = []
 
--- an event as a step: what a registry with binders answers to it, and what it does
-abbrev pub EventStep : {D : Type 0} → (D → DiskFacts) → Slotted D → Happening → EventReply → Slotted D → Type 0
-EventStep facts old happening reply new = Happens facts old new happening reply
+-- An event as a step: what a registry with binders answers to it, and what it does. Before and
+-- after, what is held is a version each.
+pub record EventStep {D : Type 0} (facts : D → DiskFacts) (old : Slotted D) (happening : Happening) (reply : EventReply) (new : Slotted D) : Type 0 where
+  pub happens : Happens facts old new happening reply
+  pub versions_before : AreVersions old.registry
+  pub versions_after : AreVersions new.registry
 
 -- Events were answered so, one after the other, one reply each.
 pub record EventsRan {D : Type 0} (facts : D → DiskFacts) (old new : Slotted D) (happenings : List Happening) (replies : List EventReply) : Type 0 where

@@ -9,10 +9,21 @@ use std::alloc::AllocError;
 impl<D: Disk> Binders<D> {
     ghost use Rattle.std.specs.Prelude.{◌≡◌, map, IfOk, OnErr};
     ghost use Rattle.binders.specs.Events.{Happens, happening_of};
-    ghost use Rattle.binders.specs.EventsRan.{EventsRan};
+    ghost use Rattle.binders.specs.EventsRan.{EventStep, EventsRan};
 
     /// Lets an event happen, and gives its one reply.
     pub fn happen(&mut self, event: &Event<'_>) -> EventReply
+        ensures { EventStep D.facts self.old (happening_of event.now) result self.new }
+    {
+        // What is held is a version each, before and after, as these calls say.
+        let _failed = self.has_failed();
+        let reply = self.reply_to(event);
+        let _failed = self.has_failed();
+        reply
+    }
+
+    // The reply to an event, by what it asks.
+    fn reply_to(&mut self, event: &Event<'_>) -> EventReply
         ensures { Happens D.facts self.old self.new (happening_of event.now) result }
     {
         match event {

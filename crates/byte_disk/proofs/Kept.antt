@@ -1,5 +1,5 @@
 -- A call of a disk of given bytes: what it keeps of the past, and what it adds to what may be left.
-use Rattle.std.proofs.Common.{◌≡◌, ◌↔◌, ◌⊎◌, inl, inr, ⊎_elim, ℕ, ◌+◌, ◌-◌, ◌<◌, ◌≤◌, List, [], ◌∷◌, ◌++◌, length, set, take, drop, All, Result, Ok, Err, refl, sym, ◌∙◌, ap, subst, arith}
+use Rattle.std.proofs.Common.{◌≡◌, ◌↔◌, ◌⊎◌, inl, inr, ⊎_elim, ℕ, ◌+◌, ◌-◌, ◌<◌, ◌≤◌, List, [], ◌∷◌, ◌++◌, length, map, set, take, drop, All, Result, Ok, Err, refl, sym, ◌∙◌, ap, subst, arith}
 use Rattle.std.proofs.lemmas.Bool.{cases_lt, cases_eq, lt-ltb, le-ltb}
 use Rattle.std.proofs.lemmas.List.{length-map, length_push, map_push, take_all, take_at, drop_at, take-append-le, drop-append-le, get_or-set_same, get_or-set_other}
 use Rattle.std.proofs.lemmas.List.Elements.{All-head, All-push, All-take, All-drop}
@@ -13,7 +13,7 @@ use Rattle.byte_disk.specs.declared.planned.PlannedStep.{PlannedStep}
 use Rattle.byte_disk.specs.declared.step.Step.{Step}
 use Rattle.byte_disk.specs.declared.step.Step.TheVariants.{Write, Sync}
 use Rattle.byte_disk.specs.Plan.{carried_out, IsWriteStep, MayBeLeft}
-use Rattle.byte_disk.specs.ByteDisk.{calls_for, failures_for, steps_at, facts_of}
+use Rattle.byte_disk.specs.ByteDisk.{calls_for, failures_for, steps_at, facts_of, logged}
 use Rattle.byte_disk.specs.inside.Latest.{plan_in}
 use Rattle.byte_disk.specs.inside.PlanLaws.{length-carried_out, now_left, plan_now}
 
@@ -57,6 +57,10 @@ steps_at-push (x ∷ planned) p u le = ⊎_elim
 pub plan_push : (planned : List PlannedStep) (p : PlannedStep) → plan_in (planned ++ p ∷ []) ≡ plan_in planned ++ p.step ∷ []
 plan_push planned p = map_push (λ (x : PlannedStep). x.step) planned p
 
+-- the log of one more
+longer_log : (planned planned' : List PlannedStep) (p : PlannedStep) → planned' ≡ planned ++ p ∷ [] → map logged (plan_in planned') ≡ map logged (plan_in planned) ++ logged p.step ∷ []
+longer_log planned planned' p items = ap (λ l. map logged (plan_in l)) items ∙ ap (map logged) (plan_push planned p) ∙ map_push logged (plan_in planned) p.step
+
 -- what a stop now may leave, told by the plan alone
 pub present : (start : List Sector) (planned : List PlannedStep) (idle : CallCount) (k : ℕ) (c : Sector) → MayLeave (facts_of start planned idle) k c ↔ MayBeLeft start (plan_in planned) k c
 present start planned idle k c = (
@@ -69,6 +73,7 @@ module _ (start : List Sector) (planned : List PlannedStep) (idle idle' : CallCo
   pub same : IsUnchanged (facts_of start planned idle) (facts_of start planned idle')
   same = record {
     now = refl;
+    log = refl;
     stop = λ k c. (
       λ left. (present start planned idle k c).1 ((present start planned idle' k c).0 left),
       λ left. (present start planned idle' k c).1 ((present start planned idle k c).0 left),
@@ -214,6 +219,7 @@ module _ (start : List Sector) (planned : List PlannedStep) (idle idle' : CallCo
   failed_sync = record {
     past = keeps start planned idle idle' made;
     now = refl;
+    log = record { either = inl refl };
     stop = record { each = λ k c. ((same start planned idle idle').stop k c).0 };
     stop_ok = tt;
   }
@@ -233,6 +239,8 @@ module _ (start : List Sector) (planned : List PlannedStep) (idle : CallCount) (
   made_call none none_failed = record {
     honest = refl;
     sectors = refl;
+    plans = refl;
+    log = record { more = logged p.step ∷ []; few = omega arith; grown = longer_log planned planned' p items };
     time = omega (arith, ap calls_for items, calls_for-push planned p, ap calls_made since, none);
     ok = omega (arith, ap failures_for items, failures_for-push planned p, ap calls_failed since, none_failed);
     err = tt;
@@ -242,6 +250,7 @@ module _ (start : List Sector) (planned : List PlannedStep) (idle : CallCount) (
   made_sync is = subst (λ l. IsSync (facts_of start planned idle) (facts_of start l idle') (let done : Result Unit DiskFault = Ok tt in done)) (sym items) (record {
     past = keeps_more start planned idle idle' p (ap calls_made since);
     now = sync_now start planned idle idle' p (ap calls_made since) is;
+    log = record { either = inr (longer_log planned (planned ++ p ∷ []) p refl ∙ ap (λ step. map logged (plan_in planned) ++ logged step ∷ []) is) };
     stop = no_more start planned idle idle' p (ap calls_made since) is;
     stop_ok = alone start planned idle idle' p (ap calls_made since) is;
   })

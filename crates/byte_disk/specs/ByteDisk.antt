@@ -1,13 +1,14 @@
 -- What is said of a disk of given bytes (own).
-use Rattle.std.specs.Prelude.{◌≡◌, ◌↔◌, ◌≤◌, ◌<◌, All, ◌+◌, ◌-◌, ℕ, List, [], ◌∷◌, length, take, true, nat_lt, if◌then◌else◌}
+use Rattle.std.specs.Prelude.{◌≡◌, ◌↔◌, ◌≤◌, ◌<◌, All, ◌+◌, ◌-◌, ℕ, List, [], ◌∷◌, length, map, take, true, nat_lt, if◌then◌else◌}
 use Rattle.std.specs.Prelude.{vec_len, vec_capacity}
 use Rattle.indexmap.specs.IndexMap.{spare}
 use Rattle.sector_disk.specs.CallCount.{calls_made, calls_failed}
-use Rattle.sector_disk.specs.Disk.{Sector, DiskFacts, MixtureAt}
+use Rattle.sector_disk.specs.Disk.{Sector, DiskFacts, MixtureAt, Logged, Wrote, Synced}
 use Rattle.sector_disk.specs.declared.call_count.CallCount.{CallCount}
 use Rattle.byte_disk.specs.declared.disk.ByteDisk.{ByteDisk}
 use Rattle.byte_disk.specs.declared.planned.PlannedStep.{PlannedStep}
 use Rattle.byte_disk.specs.declared.step.Step.{Step}
+use Rattle.byte_disk.specs.declared.step.Step.TheVariants.{Write, Sync}
 use Rattle.byte_disk.specs.Plan.{carried_out, MayBeLeft, IsMixtureAfter, writes_in}
 use Rattle.byte_disk.specs.inside.Latest.{plan_in}
 
@@ -42,6 +43,11 @@ HasFullPlan disk = vec_capacity disk.planned ≤ vec_len disk.planned
 abbrev pub HasFullIndex : ByteDisk → Type 0
 HasFullIndex disk = spare disk.latest ≡ 0
 
+-- a step, as a log has it
+abbrev pub logged : Step → Logged
+logged (Write at content) = Wrote
+logged Sync = Synced
+
 -- a disk that was given these sectors, with these steps, and these calls since
 abbrev pub facts_of : List Sector → List PlannedStep → CallCount → DiskFacts
 facts_of start planned idle = record {
@@ -49,6 +55,8 @@ facts_of start planned idle = record {
   sectors = length start;
   time = calls_for planned + calls_made idle;
   failures = failures_for planned + calls_failed idle;
+  plans = [];
+  log = map logged (plan_in planned);
   now = carried_out start (plan_in planned);
   may_leave = λ u k c. MayBeLeft start (take (steps_at planned u) (plan_in planned)) k c;
 }

@@ -1,9 +1,9 @@
 -- From what a registry over given bytes is and does to what is said of the bytes and of the plan.
 use Rattle.std.proofs.Common.{◌≡◌, ◌⊎◌, inl, inr, ⊎_elim, ℕ, ◌+◌, ◌<◌, ◌≤◌, List, [], length, take, All, false, refl, sym, ◌∙◌, ap, subst, arith}
 use Rattle.std.proofs.lemmas.Bool.{both_ways}
-use Rattle.sector_disk.specs.Disk.{Sector, Mixture, LeavesOnly, AreCallsExactly}
+use Rattle.sector_disk.specs.Disk.{Sector, Mixture, LeavesOnly, AreCallsExactly, MayAddSync}
 use Rattle.sector_disk.proofs.Mixtures.{starts_synced}
-use Rattle.sector_disk.proofs.Moments.{goes_on, weaken}
+use Rattle.sector_disk.proofs.Moments.{goes_on, weaken, exactly_logged}
 use Rattle.byte_disk.specs.declared.disk.ByteDisk.{ByteDisk}
 use Rattle.byte_disk.specs.Bytes.{sectors_in}
 use Rattle.byte_disk.specs.ByteDisk.{byte_facts, plan_of}
@@ -27,9 +27,11 @@ use Rattle.registry.specs.Calls.{IfAccepted, calls_of}
 use Rattle.registry.specs.Opened.{IsAt}
 use Rattle.registry.specs.Phase.{phase_of}
 use Rattle.registry.specs.Stands.{Stands}
+use Rattle.registry.proofs.States.{is_state}
 use Rattle.byte_registry.specs.Asked.{IsDiskOf, IsAsked}
-use Rattle.byte_registry.specs.Plans.{Holds, LeadsFrom, LeadsTo, behind_sync, synced_plan, opening_calls}
+use Rattle.byte_registry.specs.Plans.{Holds, LeadsFrom, LeadsTo, behind_sync, synced_plan, most_steps}
 use Rattle.byte_registry.specs.Replies.{phase_on, opened_on, IsReplyOn}
+use Rattle.byte_registry.proofs.Steps.{few_steps}
 use Rattle.byte_registry.proofs.Syncs.{begun_prefix, begun_whole, same_writes, plan_few}
 
 -- What holds at every moment since a disk was made of bytes, and at the end, holds of its plan.
@@ -136,16 +138,25 @@ module _ (bytes : List ℕ) (old : ByteDisk) (is : IsDiskOf bytes old) (opened :
       leads : LeadsTo start s (accepted s request) (synced_plan new.disk)
       leads = leads_from bytes old new.disk (λ m. Stands m s) (λ m. Stands m (accepted s request)) is leaves found_after
 
-      -- all calls that were made
-      module _ (opening : AreCallsExactly (opening_calls opened.root opened.entries) (byte_facts old) (byte_facts opened.disk)) (calls : IfAccepted reply (AreCallsExactly (calls_of s request) (byte_facts opened.disk) (byte_facts new.disk))) where
-        few : length (synced_plan new.disk) ≤ opening_calls opened.root opened.entries + calls_of s request + 1
+      -- the opening kept a sync at most, and the change its calls
+      module _ (opening : MayAddSync (byte_facts old).log (byte_facts opened.disk).log) (calls : IfAccepted reply (AreCallsExactly (calls_of s request) (byte_facts opened.disk) (byte_facts new.disk))) where
+        few : length (synced_plan new.disk) ≤ calls_of s request + 1
         few =
             let change : AreCallsExactly (calls_of s request) (byte_facts opened.disk) (byte_facts new.disk) = subst (λ r. IfAccepted r (AreCallsExactly (calls_of s request) (byte_facts opened.disk) (byte_facts new.disk))) is_done calls in
-            omega (arith, plan_few new.disk, change.time, opening.time, is.starts.time)
+            plan_few new.disk (calls_of s request) (record {
+              begun = (byte_facts opened.disk).log;
+              sync = subst (λ log. MayAddSync log (byte_facts opened.disk).log) is.starts.log opening;
+              more = exactly_logged change;
+            })
 
-    module _ (opening : AreCallsExactly (opening_calls opened.root opened.entries) (byte_facts old) (byte_facts opened.disk)) (calls : IfAccepted reply (AreCallsExactly (calls_of s request) (byte_facts opened.disk) (byte_facts new.disk))) where
+        at_most : length (synced_plan new.disk) ≤ most_steps request
+        at_most = few_steps request s (length (synced_plan new.disk)) applied.step.2 few
+            (is_state byte_facts opened s found.2 (λ honest. byte_holds opened.disk)).few
+            (subst (λ t. length t.libraries ≤ 2048) same_state (is_state byte_facts new s' at_end (λ honest. byte_holds new.disk)).few)
+
+    module _ (opening : MayAddSync (byte_facts old).log (byte_facts opened.disk).log) (calls : IfAccepted reply (AreCallsExactly (calls_of s request) (byte_facts opened.disk) (byte_facts new.disk))) where
       pub asked : (s : State) × IsAsked bytes s request reply (synced_plan new.disk)
-      asked = (s, record { holds = holds; only = only; by_table = is_reply; leads = leads; few = λ is_done. few is_done opening calls })
+      asked = (s, record { holds = holds; only = only; by_table = is_reply; leads = leads; few = λ is_done. few is_done opening calls; at_most = λ is_done. at_most is_done opening calls })
 
     -- S1 is answered where a call failed.
     pub failed : reply ≡ Refused Device → 0 < (byte_facts new.disk).failures

@@ -2,3 +2,4 @@ mod Asking
 mod Generations
 mod Syncs
 mod Upgrades
+mod Steps

@@ -1,13 +1,12 @@
 -- A plan that is begun with a sync.
-use Rattle.std.proofs.Common.{◌≡◌, ℕ, zero, suc, ◌+◌, ◌≤◌, List, [], ◌∷◌, length, take, refl, arith}
+use Rattle.std.proofs.Common.{◌≡◌, ⊎_elim, ℕ, zero, suc, ◌+◌, ◌≤◌, List, [], ◌∷◌, ◌++◌, length, map, take, drop, refl, sym, ap, ◌∙◌, arith}
 use Rattle.std.proofs.lemmas.List.{length-map}
 use Rattle.std.proofs.lemmas.List.Elements.{All-head}
-use Rattle.sector_disk.specs.Disk.{Sector, sector}
+use Rattle.sector_disk.specs.Disk.{Sector, sector, Logged, Synced, GrowsBehindSync}
 use Rattle.byte_disk.specs.declared.disk.ByteDisk.{ByteDisk}
-use Rattle.byte_disk.specs.declared.planned.PlannedStep.{PlannedStep}
 use Rattle.byte_disk.specs.declared.step.Step.{Step}
 use Rattle.byte_disk.specs.declared.step.Step.TheVariants.{Write, Sync}
-use Rattle.byte_disk.specs.ByteDisk.{byte_facts, calls_for, plan_of}
+use Rattle.byte_disk.specs.ByteDisk.{byte_facts, logged, plan_of}
 use Rattle.byte_disk.specs.Plan.{IsMixtureAfter, IsWriteStep, MayBeLeft, writes_in}
 use Rattle.byte_registry.specs.Plans.{behind_sync, synced_plan}
 
@@ -51,11 +50,19 @@ behind_few [] = omega arith
 behind_few (Sync ∷ steps) = omega arith
 behind_few (Write at content ∷ steps) = omega arith
 
--- each step is made by a call
-steps_few : (planned : List PlannedStep) → length planned ≤ calls_for planned
-steps_few [] = omega arith
-steps_few (p ∷ planned) = omega (arith, steps_few planned)
+-- where the log begins with a sync, so do the steps
+first_synced : (steps : List Step) (more : List Logged) → map logged steps ≡ Synced ∷ more → length (behind_sync steps) ≡ length more
+first_synced [] more is = cc is
+first_synced (Sync ∷ steps) more is = sym (length-map steps logged) ∙ ap (λ l. length (drop 1 l)) is
+first_synced (Write at content ∷ steps) more is = cc is
 
--- It has no more steps than calls of its disk were made, and one.
-pub plan_few : (disk : ByteDisk) → length (synced_plan disk) ≤ (byte_facts disk).time + 1
-plan_few disk = omega (arith, behind_few (plan_of disk), steps_few disk.planned.items, length-map disk.planned.items (λ (p : PlannedStep). p.step))
+-- Where a disk's log grew from nothing by a sync at most, and so many behind it, its plan has no
+-- more steps behind its sync.
+pub plan_few : (disk : ByteDisk) (most : ℕ) → GrowsBehindSync most [] (byte_facts disk).log → length (synced_plan disk) ≤ most + 1
+plan_few disk most grows =
+    let steps = plan_of disk in
+    let more = grows.more in
+    ⊎_elim
+    (λ none. let all : map logged steps ≡ more.more = more.grown ∙ ap (λ l. l ++ more.more) none in omega (arith, behind_few steps, length-map steps logged, ap length all, more.few))
+    (λ one. let all : map logged steps ≡ Synced ∷ more.more = more.grown ∙ ap (λ l. l ++ more.more) one in omega (arith, first_synced steps more.more all, more.few))
+    grows.sync.either

@@ -1,8 +1,9 @@
 -- Making and upgrading a registry on given bytes.
-use Rattle.std.proofs.Common.{◌≡◌, ◌⊎◌, inl, inr, ⊎_elim, ℕ, ◌+◌, List, ◌∷◌, length, Err, refl, sym, ◌∙◌, ap, subst, arith}
+use Rattle.std.proofs.Common.{◌≡◌, ◌⊎◌, inl, inr, ⊎_elim, ℕ, ◌+◌, ◌≤◌, List, ◌∷◌, length, Err, refl, sym, ◌∙◌, ap, subst, arith}
 use Rattle.std.proofs.lemmas.Bool.{both_ways}
-use Rattle.std.specs.Prelude.{sum_by, Bool, IsTrue, IsFalse, ◌↔◌, Result, Ok, IfOk, IfErr}
-use Rattle.sector_disk.specs.Disk.{Sector, Mixture, LeavesOnly, AreCallsExactly}
+use Rattle.std.proofs.lemmas.List.{length-map}
+use Rattle.std.specs.Prelude.{Bool, IsTrue, IsFalse, ◌↔◌, Result, Ok, IfOk, IfErr}
+use Rattle.sector_disk.specs.Disk.{Sector, Mixture, LeavesOnly, GrowsBehindSync}
 use Rattle.sector_disk.proofs.Moments.{weaken, at_rest}
 use Rattle.byte_disk.specs.declared.disk.ByteDisk.{ByteDisk}
 use Rattle.byte_disk.specs.Bytes.{IsDiskLength, sectors_in}
@@ -20,11 +21,11 @@ use Rattle.store.specs.Opening.{HasRootMagic, RefusesOpen, RefusesLook}
 use Rattle.store.specs.Step.{refusal_of_upgrade, IsUpgradeAnswer}
 use Rattle.store.specs.declared.refusal.StoreRefusal.{StoreRefusal}
 use Rattle.store.specs.declared.refusal.StoreRefusal.TheVariants.{Device, OutOfMemory}
-use Rattle.store.specs.Stands.{StandsBy}
+use Rattle.store.specs.Stands.{StandsBy, library_of}
 use Rattle.store.specs.Upgraded.{upgraded, IsRelistedFrom}
 use Rattle.store.proofs.StandsLemmas.{one_root_intact}
 use Rattle.registry.specs.Opened.{IsAt}
-use Rattle.registry.specs.Stands.{Stands, StandsOld, StandsEither, file_sectors}
+use Rattle.registry.specs.Stands.{Stands, StandsOld, StandsEither}
 use Rattle.registry.specs.Upgraded.{IsNotOld}
 use Rattle.byte_registry.specs.Asked.{IsDiskOf, IsBadLength, IsUnopened, IsFormatted, IsUpgraded, IsUnupgraded, LeadsOver}
 use Rattle.byte_registry.specs.Plans.{behind_sync, synced_plan}
@@ -36,15 +37,15 @@ found_at : (opened : Opened ByteDisk) (s : State) → IsAt byte_facts opened s �
 found_at opened s at m mixture = record { stored = (opened.root, opened.entries, at.stored.stands m mixture); libraries = at.libraries }
 
 -- An empty registry that was made.
-pub formatted : (bytes : List ℕ) (old : ByteDisk) (opened : Opened ByteDisk) → IsDiskOf bytes old → LeavesOnly (byte_facts old) (byte_facts opened.disk) (λ m. Mixture (byte_facts old) m ⊎ Stands m empty_state) → IsAt byte_facts opened empty_state → (HasRootMagic (byte_facts old).now → ⊥) → AreCallsExactly 5 (byte_facts old) (byte_facts opened.disk) → IsFormatted bytes (synced_plan opened.disk)
-formatted bytes old opened is leaves at unformatted calls = record {
+pub formatted : (bytes : List ℕ) (old : ByteDisk) (opened : Opened ByteDisk) → IsDiskOf bytes old → LeavesOnly (byte_facts old) (byte_facts opened.disk) (λ m. Mixture (byte_facts old) m ⊎ Stands m empty_state) → IsAt byte_facts opened empty_state → (HasRootMagic (byte_facts old).now → ⊥) → GrowsBehindSync 2 (byte_facts old).log (byte_facts opened.disk).log → IsFormatted bytes (synced_plan opened.disk)
+formatted bytes old opened is leaves at unformatted log = record {
   size = is.size;
   unformatted = subst (λ m. HasRootMagic m → ⊥) is.starts.now unformatted;
   leads = leads_from bytes old opened.disk (λ m. m ≡ sectors_in bytes) (λ m. Stands m empty_state) is
       (weaken (λ m. Mixture (byte_facts old) m ⊎ Stands m empty_state) (λ m. (m ≡ sectors_in bytes) ⊎ Stands m empty_state)
       (λ m left. ⊎_elim (λ mixture. inl (starts_with bytes old is m mixture)) (λ made. inr made) left) leaves)
       (found_at opened empty_state at);
-  few = omega (arith, plan_few opened.disk, calls.time, is.starts.time);
+  few = plan_few opened.disk 2 (subst (λ before. GrowsBehindSync 2 before (byte_facts opened.disk).log) is.starts.log log);
 }
 
 two_not_one : Two ≡ One → ⊥
@@ -62,20 +63,19 @@ not_old m s stands t old =
 module _ (bytes : List ℕ) (old : ByteDisk) (is : IsDiskOf bytes old) (opened : Opened ByteDisk) (s : State) where
   pub upgraded_old : StandsOld (byte_facts old).now s → IsAt byte_facts opened (upgraded s) → LeavesOnly (byte_facts old) (byte_facts opened.disk) (λ m. Mixture (byte_facts old) m ⊎ StandsOld m s ⊎ Stands m (upgraded s))
       → IsRelistedFrom (byte_facts old).now s opened
-      → AreCallsExactly (3 + length opened.entries + sum_by file_sectors opened.entries + (catalogues_for (length opened.entries) + 3)) (byte_facts old) (byte_facts opened.disk)
+      → GrowsBehindSync (catalogues_for (length opened.entries) + 3) (byte_facts old).log (byte_facts opened.disk).log
       → LeadsOver bytes s (synced_plan opened.disk)
-  upgraded_old stands at leaves listed calls =
+  upgraded_old stands at leaves listed log =
       let held : StandsOld (sectors_in bytes) s = subst (λ m. StandsOld m s) is.starts.now stands in
+      let as_many : length opened.entries ≡ length s.libraries = sym (ap (λ (t : State). length t.libraries) listed.stood.is ∙ length-map opened.entries (library_of (byte_facts old).now)) in
       record {
         holds = record { size = is.size; stands = held };
         leads = leads_from bytes old opened.disk (λ m. StandsOld m s) (λ m. Stands m (upgraded s)) is
             (weaken (λ m. Mixture (byte_facts old) m ⊎ StandsOld m s ⊎ Stands m (upgraded s)) (λ m. StandsOld m s ⊎ Stands m (upgraded s))
             (λ m left. ⊎_elim (λ mixture. inl (subst (λ n. StandsOld n s) (sym (starts_with bytes old is m mixture)) held)) (λ later. later) left) leaves)
             (found_at opened (upgraded s) at);
-        root = listed.root;
-        entries = opened.entries;
-        by = subst (λ m. StandsBy One m listed.root opened.entries s) is.starts.now listed.stood;
-        few = omega (arith, plan_few opened.disk, calls.time, is.starts.time);
+        few = subst (λ n. length (synced_plan opened.disk) ≤ catalogues_for n + 4) as_many
+            (omega (arith, plan_few opened.disk (catalogues_for (length opened.entries) + 3) (subst (λ before. GrowsBehindSync (catalogues_for (length opened.entries) + 3) before (byte_facts opened.disk).log) is.starts.log log)));
       }
 
 -- Of one of version 2 a disk to which no call was made has the plan: a sync.

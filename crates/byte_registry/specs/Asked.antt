@@ -6,12 +6,8 @@ use Rattle.byte_disk.specs.declared.step.Step.{Step}
 use Rattle.byte_disk.specs.declared.step.Step.TheVariants.{Sync}
 use Rattle.byte_disk.specs.Bytes.{IsDiskLength, sectors_in}
 use Rattle.byte_disk.specs.ByteDisk.{byte_facts, given_to, plan_of}
-use Rattle.roots.specs.declared.root.Root.{Root}
-use Rattle.roots.specs.declared.version.Version.TheVariants.{One}
 use Rattle.states.specs.Cost.{catalogues_for}
 use Rattle.states.specs.State.{State, empty_state}
-use Rattle.store.specs.declared.placed_entry.PlacedEntry.{PlacedEntry}
-use Rattle.store.specs.Stands.{StandsBy}
 use Rattle.store.specs.Opening.{HasRootMagic, RefusesOpen, RefusesFormat, RefusesLook}
 use Rattle.store.specs.Step.{refusal_of_upgrade, IsUpgradeAnswer}
 use Rattle.store.specs.Upgraded.{upgraded}
@@ -24,7 +20,7 @@ use Rattle.requests.specs.declared.reply.Reply.TheVariants.{Done}
 use Rattle.registry.specs.Calls.{calls_of}
 use Rattle.registry.specs.Stands.{Stands, StandsOld, StandsEither}
 use Rattle.registry.specs.Upgraded.{IsNotOld}
-use Rattle.byte_registry.specs.Plans.{Holds, LeadsFrom, LeadsTo, opening_calls}
+use Rattle.byte_registry.specs.Plans.{Holds, LeadsFrom, LeadsTo, most_steps}
 use Rattle.byte_registry.specs.Replies.{IsReplyOn}
 
 -- the disk of these bytes, before any call
@@ -51,8 +47,9 @@ pub record IsAsked (bytes : List ℕ) (s : State) (request : Request) (reply : R
   pub only : (other : State) → Holds bytes other → other ≡ s
   pub by_table : IsReplyOn (sectors_in bytes) s request reply
   pub leads : reply ≡ Done → LeadsTo (sectors_in bytes) s (accepted s request) steps
-  -- no more steps than calls of the disk, of the opening and of the change, and one
-  pub few : reply ≡ Done → length steps ≤ opening_calls by_table.root by_table.entries + calls_of s request + 1
+  -- no more steps than the change makes calls of its disk, and the sync before them
+  pub few : reply ≡ Done → length steps ≤ calls_of s request + 1
+  pub at_most : reply ≡ Done → length steps ≤ most_steps request
 
 -- Made on these bytes, an empty registry: no root was ever written there, and the steps lead from
 -- the sectors as they were to sectors that hold the empty state.
@@ -60,7 +57,8 @@ pub record IsFormatted (bytes : List ℕ) (steps : List Step) : Type 0 where
   pub size : IsDiskLength (length bytes)
   pub unformatted : HasRootMagic (sectors_in bytes) → ⊥
   pub leads : LeadsFrom (sectors_in bytes) (λ m. m ≡ sectors_in bytes) (λ m. Stands m empty_state) steps
-  pub few : length steps ≤ 6
+  -- a sync, the root, a sync
+  pub few : length steps ≤ 3
 
 -- none is made, for this reason
 abbrev pub IsUnformatted : List ℕ → StoreRefusal → Type 0
@@ -75,11 +73,8 @@ pub record HoldsOld (bytes : List ℕ) (s : State) : Type 0 where
 pub record LeadsOver (bytes : List ℕ) (s : State) (steps : List Step) : Type 0 where
   pub holds : HoldsOld bytes s
   pub leads : LeadsFrom (sectors_in bytes) (λ m. StandsOld m s) (λ m. Stands m (upgraded s)) steps
-  pub root : Root
-  pub entries : List PlacedEntry
-  pub by : StandsBy One (sectors_in bytes) root entries s
-  -- no more steps than calls of the disk, of the opening and of the commit of catalogues, and one
-  pub few : length steps ≤ opening_calls root entries + catalogues_for (length entries) + 3 + 1
+  -- a sync, the catalogues, a sync, the root, a sync
+  pub few : length steps ≤ catalogues_for (length s.libraries) + 4
 
 -- Made one of version 2: the bytes hold this state by the rules of version 1, and the steps lead to
 -- the state after it; or they hold it by those of version 2, and the steps are a sync alone.

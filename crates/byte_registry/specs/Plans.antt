@@ -1,17 +1,16 @@
 -- What a plan does to what a disk holds (own).
-use Rattle.std.specs.Prelude.{◌≡◌, ◌⊎◌, ◌<◌, ◌≤◌, ◌+◌, ℕ, List, [], ◌∷◌, length, take, sum_by, All}
-use Rattle.sector_disk.specs.Disk.{Sector}
+use Rattle.std.specs.Prelude.{◌≡◌, ◌⊎◌, ◌<◌, ◌≤◌, ◌+◌, ℕ, List, [], ◌∷◌, length, take, All}
+use Rattle.std.specs.Int.{div_ceil}
+use Rattle.sector_disk.specs.Disk.{Sector, sector_bytes}
 use Rattle.byte_disk.specs.declared.disk.ByteDisk.{ByteDisk}
 use Rattle.byte_disk.specs.declared.step.Step.{Step}
 use Rattle.byte_disk.specs.declared.step.Step.TheVariants.{Write, Sync}
 use Rattle.byte_disk.specs.Bytes.{IsDiskLength, sectors_in}
 use Rattle.byte_disk.specs.ByteDisk.{plan_of}
 use Rattle.byte_disk.specs.Plan.{IsMixtureAfter, writes_in}
-use Rattle.roots.specs.declared.root.Root.{Root}
 use Rattle.states.specs.State.{State}
-use Rattle.store.specs.Stands.{catalogues_of}
-use Rattle.store.specs.declared.placed_entry.PlacedEntry.{PlacedEntry}
-use Rattle.registry.specs.Stands.{Stands, file_sectors}
+use Rattle.requests.specs.Request.{Request, install, replace}
+use Rattle.registry.specs.Stands.{Stands}
 
 -- The bytes are those of a disk: whole sectors, and these hold the state.
 pub record Holds (bytes : List ℕ) (s : State) : Type 0 where
@@ -43,6 +42,9 @@ pub record LeadsFrom (start : List Sector) (Before After : List Sector → Type 
 abbrev pub LeadsTo : List Sector → State → State → List Step → Type 0
 LeadsTo start s s' steps = LeadsFrom start (λ m. Stands m s) (λ m. Stands m s') steps
 
--- how many calls of a disk an opening makes, by this root and these entries
-abbrev pub opening_calls : Root → List PlacedEntry → ℕ
-opening_calls root entries = 3 + length (catalogues_of root) + length entries + sum_by file_sectors entries
+-- how many steps the plan of a change has at most, whatever is installed: one for each sector of the
+-- file's bytes, and 37
+abbrev pub most_steps : Request → ℕ
+most_steps (install bytes) = div_ceil (length bytes) sector_bytes + 37
+most_steps (replace bytes) = div_ceil (length bytes) sector_bytes + 37
+most_steps other = 37

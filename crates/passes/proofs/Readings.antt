@@ -14,7 +14,7 @@ use Rattle.passes.proofs.Rows.{CallsSoFar}
 pub no_reads : (disk : DiskFacts) → AreReads disk disk
 no_reads disk = record {
   past = (at_rest disk (Mixture disk) (λ m mixture. mixture)).past;
-  same = record { now = refl; stop = λ k c. (λ x. x, λ x. x) };
+  same = record { now = refl; log = refl; stop = λ k c. (λ x. x, λ x. x) };
   leaves = at_rest disk (Mixture disk) (λ m mixture. mixture);
 }
 
@@ -24,6 +24,7 @@ more_reads {first = first} before call read = record {
   past = keeps_past before.past read.past;
   same = record {
     now = read.same.now ∙ before.same.now;
+    log = read.same.log ∙ before.same.log;
     stop = λ k c. (λ x. (before.same.stop k c).0 ((read.same.stop k c).0 x), λ x. (read.same.stop k c).1 ((before.same.stop k c).1 x));
   };
   leaves = read_leaves call (Mixture first) read before.leaves;
@@ -42,6 +43,7 @@ then_reads {first = first} {old = old} before after = record {
   past = keeps_past before.past after.past;
   same = record {
     now = after.same.now ∙ before.same.now;
+    log = after.same.log ∙ before.same.log;
     stop = λ k c. (λ x. (before.same.stop k c).0 ((after.same.stop k c).0 x), λ x. (after.same.stop k c).1 ((before.same.stop k c).1 x));
   };
   leaves = goes_on (Mixture first) before.leaves (weaken (Mixture old) (Mixture first) (still_mixture before) after.leaves);

@@ -2,6 +2,7 @@
 use Rattle.std.proofs.Common.{◌≡◌, ℕ, ◌+◌, ◌≤◌, Result, Ok, Err, OnOk, OnErr, IsErr, refl, ◌∙◌, arith}
 use Rattle.std.proofs.lemmas.Result.{on_ok_weaker, on_err_weaker}
 use Rattle.sector_disk.specs.Disk.{DiskFacts, IsCall, AreCallsAtMost, AreCallsExactly}
+use Rattle.sector_disk.proofs.Moments.{same_log, longer_log, log_at_most}
 use Rattle.passes.specs.Calls.{AreCallsInRow}
 
 -- a failure is counted once, or none
@@ -14,6 +15,8 @@ pub one_in_row : {old new : DiskFacts} {T E : Type 0} {result : Result T E} → 
 one_in_row {old = old} {new = new} {result = result} call = record {
   honest = call.honest;
   sectors = call.sectors;
+  plans = call.plans;
+  log = log_at_most call.log (omega (arith, call.time));
   later = omega (arith, call.time);
   most = omega (arith, call.time);
   few_failures = omega (arith, call.time, counted old new result call.ok call.err);
@@ -24,13 +27,15 @@ one_in_row {old = old} {new = new} {result = result} call = record {
 
 -- no call
 pub none_in_row : (disk : DiskFacts) {T E : Type 0} {x : T} → AreCallsInRow {T = T} {E = E} 0 disk disk (Ok x)
-none_in_row disk = record { honest = refl; sectors = refl; later = omega arith; most = omega arith; few_failures = omega arith; all = omega arith; ok = refl; err = tt }
+none_in_row disk = record { honest = refl; sectors = refl; plans = refl; log = same_log refl; later = omega arith; most = omega arith; few_failures = omega arith; all = omega arith; ok = refl; err = tt }
 
 -- calls that all were answered, and then others
 pub then_in_row : {first old new : DiskFacts} {S F T E : Type 0} {k m : ℕ} {x : S} {result : Result T E} → AreCallsInRow {T = S} {E = F} k first old (Ok x) → AreCallsInRow m old new result → AreCallsInRow (k + m) first new result
 then_in_row {result = result} before after = record {
   honest = after.honest ∙ before.honest;
   sectors = after.sectors ∙ before.sectors;
+  plans = after.plans ∙ before.plans;
+  log = longer_log before.log after.log (omega (arith, before.later, after.later));
   later = omega (arith, after.later, before.later);
   most = omega (arith, after.most, before.all);
   few_failures = omega (arith, after.few_failures, after.later, before.later, before.ok);
@@ -47,6 +52,8 @@ pub so_far_in_row : {first old new : DiskFacts} {S F T E : Type 0} {n k m : ℕ}
 so_far_in_row is before after = record {
   honest = after.honest ∙ before.honest;
   sectors = after.sectors ∙ before.sectors;
+  plans = after.plans ∙ before.plans;
+  log = longer_log before.log after.log (omega (arith, before.later, after.later));
   later = omega (arith, after.later, before.later);
   most = omega (arith, after.most, before.all, is);
   few_failures = omega (arith, after.few_failures, after.later, before.later, before.ok);
@@ -61,6 +68,8 @@ stop_in_row (Ok y) calls le is_err = absurd cc
 stop_in_row (Err y) calls le is_err = record {
   honest = calls.honest;
   sectors = calls.sectors;
+  plans = calls.plans;
+  log = calls.log;
   later = calls.later;
   most = omega (arith, calls.most, le);
   few_failures = calls.few_failures;
@@ -72,7 +81,7 @@ stop_in_row (Err y) calls le is_err = record {
 -- calls in a row are at most so many, and exactly so many where none fails
 pub in_row_at_most : {old new : DiskFacts} {T E : Type 0} {n most : ℕ} {result : Result T E} → AreCallsInRow n old new result → n ≤ most → AreCallsAtMost most old new
 in_row_at_most {old = old} {new = new} {result = result} calls le = record {
-  some = record { honest = calls.honest; sectors = calls.sectors; later = calls.later; failures = (counted old new result calls.ok calls.err).0; few_failures = calls.few_failures };
+  some = record { honest = calls.honest; sectors = calls.sectors; plans = calls.plans; log = calls.log; later = calls.later; failures = (counted old new result calls.ok calls.err).0; few_failures = calls.few_failures };
   time = omega (arith, calls.most, le);
 }
 

@@ -12,6 +12,7 @@ use Rattle.extents.specs.declared.extent.Extent.{Extent}
 use Rattle.extents.specs.Extent.{Has}
 use Rattle.passes.specs.Bytes.{bytes_at, padded}
 use Rattle.passes.proofs.Padding.{padded-add}
+use Rattle.passes.proofs.Rows.{CallsSoFar}
 
 pub range_more : (start n : ℕ) → range_with_len start (n + 1) ≡ range_with_len start n ++ (start + n) ∷ []
 range_more start n =
@@ -24,10 +25,7 @@ bytes_at_same m m' (k ∷ ks) same = λ i. same k (0, omega arith, refl) i ++ by
 
 -- how far a run of writes has come: `done` sectors of the extent hold the bytes
 pub record Progress (first current : DiskFacts) (extent : Extent) (done : ℕ) (bytes rest : List ℕ) : Type 0 where
-  pub honest : current.honest ≡ first.honest
-  pub sectors : current.sectors ≡ first.sectors
-  pub time : current.time ≡ first.time + done
-  pub failures : current.failures ≡ first.failures
+  pub calls : CallsSoFar done first current
   pub rest_is : rest ≡ drop (512 * done) bytes
   pub leaves : IsTrue first.honest → LeavesOnly first current (IsMixtureBut (Has extent) first)
   pub others : IsTrue first.honest → SameBut (Has extent) first.now current.now
@@ -75,7 +73,7 @@ module _ {first old new : DiskFacts} {extent : Extent} {done : ℕ} {bytes rest 
         ∙ ap (λ n. padded n bytes) (let e : 512 * done + 512 ≡ 512 * (done + 1) = omega arith in e)
       where
         in_old : extent.start + done < length old.now
-        in_old = omega (arith, lt, in_first, so_far.sectors, holds.size)
+        in_old = omega (arith, lt, in_first, so_far.calls.sectors, holds.size)
 
         earlier : bytes_at new.now (range_with_len extent.start done) ≡ padded (512 * done) bytes
         earlier = bytes_at_same old.now new.now (range_with_len extent.start done)
@@ -86,12 +84,9 @@ module _ {first old new : DiskFacts} {extent : Extent} {done : ℕ} {bytes rest 
         this = append-nil _ ∙ ap (λ l. sector l (extent.start + done)) is ∙ get_or-set_same old.now (extent.start + done) content [] in_old ∙ content_is ∙ ap (padded 512) so_far.rest_is
 
     -- one sector more is written
-    pub more : (IsTrue first.honest → HoldsNow old) → (IsTrue first.honest → IsWrite old new (extent.start + done) content result) → new.failures ≡ old.failures → (IsTrue first.honest → new.now ≡ set old.now (extent.start + done) content) → Progress first new extent (done + 1) bytes (drop 512 rest)
-    more holds write same ok = record {
-      honest = call.honest ∙ so_far.honest;
-      sectors = call.sectors ∙ so_far.sectors;
-      time = omega (arith, call.time, so_far.time);
-      failures = same ∙ so_far.failures;
+    pub more : (IsTrue first.honest → HoldsNow old) → (IsTrue first.honest → IsWrite old new (extent.start + done) content result) → CallsSoFar (done + 1) first new → (IsTrue first.honest → new.now ≡ set old.now (extent.start + done) content) → Progress first new extent (done + 1) bytes (drop 512 rest)
+    more holds write calls ok = record {
+      calls = calls;
       rest_is = ap (drop 512) so_far.rest_is ∙ drop-drop 512 (512 * done) bytes ∙ ap (λ n. drop n bytes) (let e : 512 * done + 512 ≡ 512 * (done + 1) = omega arith in e);
       leaves = λ honest. run_leaves honest (holds honest) (write honest);
       others = λ honest. write_others (Has extent) (extent.start + done) content (omega arith, omega (arith, lt)) (so_far.others honest) (ok honest);

@@ -1,11 +1,13 @@
 -- How many calls a pass makes of a disk.
 use Rattle.std.specs.Prelude.{◌≡◌, ◌≤◌, ◌+◌, ◌-◌, ℕ, Result, OnOk, OnErr}
-use Rattle.sector_disk.specs.Disk.{DiskFacts, calls_between, Mixture, KeepsPast, IsUnchanged, LeavesOnly}
+use Rattle.sector_disk.specs.Disk.{DiskFacts, calls_between, LogGrows, Mixture, KeepsPast, IsUnchanged, LeavesOnly}
 
 -- Calls in a row, on any disk, up to the first that fails: n of them where none does.
 pub record AreCallsInRow {T E : Type 0} (n : ℕ) (old new : DiskFacts) (result : Result T E) : Type 0 where
   pub honest : new.honest ≡ old.honest
   pub sectors : new.sectors ≡ old.sectors
+  pub plans : new.plans ≡ old.plans
+  pub log : LogGrows (calls_between old new) old.log new.log
   pub later : old.time ≤ new.time
   pub most : new.time ≤ old.time + n
   pub few_failures : new.failures - old.failures ≤ calls_between old new

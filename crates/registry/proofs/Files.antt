@@ -39,7 +39,7 @@ module _ {version : Version} {D : Type 0} {facts : D → DiskFacts} where
   read_none start = record {
     leaves = λ honest. at_rest (facts start.disk) (Mixture (facts start.disk)) (λ m mixture. mixture);
     same = λ s at. at;
-    unchanged = λ honest. record { now = refl; stop = λ k c. (λ may. may, λ may. may) };
+    unchanged = λ honest. record { now = refl; log = refl; stop = λ k c. (λ may. may, λ may. may) };
     root = refl;
     entries = refl;
     held = refl;
@@ -66,6 +66,7 @@ module _ {version : Version} {D : Type 0} {facts : D → DiskFacts} where
       still : {before between after : DiskFacts} → IsUnchanged before between → IsUnchanged between after → IsUnchanged before after
       still one two = record {
         now = two.now ∙ one.now;
+        log = two.log ∙ one.log;
         stop = λ k c. (λ may. (one.stop k c).0 ((two.stop k c).0 may), λ may. (two.stop k c).1 ((one.stop k c).1 may));
       }
 

@@ -1,28 +1,41 @@
 -- A round of commands, and rounds one after the other.
-use Rattle.std.proofs.Common.{◌≡◌, ℕ, ◌+◌, ◌<◌, List, [], ◌∷◌, ◌++◌, length, take, get_or, refl, sym, subst, ◌∙◌, Vec, Global}
+use Rattle.std.proofs.Common.{◌≡◌, ℕ, ◌+◌, ◌<◌, List, [], ◌∷◌, ◌++◌, length, take, get_or, refl, sym, ap, subst, ◌∙◌, Vec, Global}
+use Rattle.std.specs.Prelude.{slice_index_or}
 use Rattle.std.proofs.lemmas.List.{take_more}
 use Rattle.sector_disk.specs.declared.memory.Memory.{Memory}
 use Rattle.sector_disk.specs.declared.fuse.Fuse.{Fuse}
-use Rattle.sector_disk.specs.Disk.{Sector, HoldsNow, Mixture, IsSameDisk}
-use Rattle.sector_disk.specs.Fuse.{inner_of}
+use Rattle.sector_disk.specs.declared.fuse.Plan.{Plan}
+use Rattle.sector_disk.specs.Disk.{Sector, DiskFacts, HoldsNow, Mixture, IsSameDisk, AreCalls}
+use Rattle.sector_disk.specs.Fuse.{inner_of, plan_of}
 use Rattle.sector_disk.specs.Memory.{memory_facts}
 use Rattle.sector_disk.specs.inside.FuseLaws.{fused_holds}
 use Rattle.sector_disk.specs.inside.MemoryLaws.{memory_holds}
 use Rattle.sector_disk.proofs.Mixtures.{same_disk_mixture, starts_synced}
+use Rattle.sector_disk.proofs.Moments.{no_calls, more_calls}
+use Rattle.store.specs.Opened.{Opened}
 use Rattle.store.specs.declared.refusal.StoreRefusal.{StoreRefusal}
 use Rattle.states.specs.State.{State}
+use Rattle.requests.specs.Request.{Request}
 use Rattle.requests.specs.Runs.{Run}
 use Rattle.requests.specs.declared.reply.Reply.{Reply}
 use Rattle.registry.specs.declared.rounds.Round.{Round}
 use Rattle.registry.specs.declared.rounds.RoundReplies.{RoundReplies}
 use Rattle.registry.specs.declared.rounds.RoundReplies.TheVariants.{Ran, NotRun}
 use Rattle.registry.specs.Acknowledged.{state_after}
+use Rattle.registry.specs.Answered.{AreAnswered}
 use Rattle.registry.specs.Stands.{Stands}
 use Rattle.registry.specs.Rounds.{AlwaysStands, Standing, standing, fused_memory, asked, IsFused, IsStoppedBy, WasRun, WasNotRun, RoundTells, RoundLeads}
 use Rattle.requests.proofs.Runs.{run_more}
 
 fuse_holds : (fuse : Fuse Memory) → HoldsNow (fused_memory fuse)
-fuse_holds fuse = fused_holds (memory_facts fuse.inner) fuse.past.items (memory_holds fuse.inner)
+fuse_holds fuse = fused_holds fuse.plan (memory_facts fuse.inner) fuse.past.items (memory_holds fuse.inner)
+
+-- what was answered was answered by calls of the disk
+pub answered_calls : {D : Type 0} (facts : D → DiskFacts) (old new : Opened D) (requests : List Request) (answers : List Reply) → AreAnswered facts old new requests answers → AreCalls (facts old.disk) (facts new.disk)
+answered_calls facts old new [] [] same = subst (λ (r : Opened _). AreCalls (facts old.disk) (facts r.disk)) (sym same) (no_calls (facts old.disk))
+answered_calls facts old new (request ∷ requests) (answer ∷ answers) answered = more_calls answered.1.calls (answered_calls facts answered.0 new requests answers answered.2)
+answered_calls facts old new [] (answer ∷ answers) answered = absurd answered
+answered_calls facts old new (request ∷ requests) [] answered = absurd answered
 
 -- What stands after a stop stands whatever happens next, for all of it is synced.
 stopped_stands : (picks : List ℕ) (memory result : Memory) (s : State) → IsStoppedBy picks memory result → Stands (memory_facts result).now s → AlwaysStands result s
@@ -43,31 +56,30 @@ module _ (disk : Memory) (s : State) (round : Round) (first : Fuse Memory) (fuse
   was_left = (same_disk_mixture into (memory_facts result).now).0 stopped.stop.mixture
 
   -- what was told leads to the stopped disk
-  leads : (s' : State) → RoundTells first told.1 s (asked round) told.0 s' → (fused_memory told.1).sectors ≡ (fused_memory first).sectors → Stands (memory_facts result).now s'
+  leads : (s' : State) → RoundTells first told.1 s (asked round) told.0 s' → AreCalls (fused_memory first) (fused_memory told.1) → Stands (memory_facts result).now s'
       → RoundLeads (standing disk s) round told.0 (standing result s')
-  leads s' tells sectors stands = record {
+  leads s' tells calls stands = record {
     first = first;
     last = told.1;
     fused = fused;
+    plan = ap (λ (plans : List Plan). slice_index_or plans 0 (plan_of first)) calls.plans;
     told = tells;
     stopped = subst (λ (k : Memory). IsStoppedBy round.picks.items k result) inner stopped;
     left = was_left;
-    sectors = stopped.stop.starts.sectors ∙ stopped.stop.mixture.size ∙ into.sectors ∙ sectors ∙ fused.same.sectors;
+    sectors = stopped.stop.starts.sectors ∙ stopped.stop.mixture.size ∙ into.sectors ∙ calls.sectors ∙ fused.same.sectors;
     stands = stopped_stands round.picks.items memory result s' stopped stands;
   }
 
   -- the commands ran
-  pub round_ran : (replies : Vec Reply Global) (last : Fuse Memory) → WasRun first last s (asked round) replies.items → told ≡ (Ran replies, last)
+  pub round_ran : (replies : Vec Reply Global) (last : Fuse Memory) → WasRun first last s (asked round) replies.items → AreCalls (fused_memory first) (fused_memory last) → told ≡ (Ran replies, last)
       → (s' : State) × RoundLeads (standing disk s) round told.0 (standing result s')
-  round_ran replies last ran is =
+  round_ran replies last ran calls is =
       let left : Mixture (fused_memory last) (memory_facts result).now = subst (λ (t : RoundReplies × Fuse Memory). Mixture (fused_memory t.1) (memory_facts result).now) is was_left in
-      let found = ran.runs.2.3.found (memory_facts result).now (subst (λ (k : Fuse Memory). Mixture (fused_memory k) (memory_facts result).now) ran.ends left) in
-      let same : (fused_memory last).sectors ≡ (fused_memory first).sectors =
-      subst (λ (k : Fuse Memory). (fused_memory k).sectors ≡ (fused_memory first).sectors) (sym ran.ends) (ran.runs.2.3.past.sectors ∙ ran.opened.calls.sectors) in (
+      let found = ran.runs.2.3.found (memory_facts result).now (subst (λ (k : Fuse Memory). Mixture (fused_memory k) (memory_facts result).now) ran.ends left) in (
         state_after s found.0,
         leads (state_after s found.0)
             (subst (λ (t : RoundReplies × Fuse Memory). RoundTells first t.1 s (asked round) t.0 (state_after s found.0)) (sym is) (ran, found.0, found.1, refl))
-            (subst (λ (t : RoundReplies × Fuse Memory). (fused_memory t.1).sectors ≡ (fused_memory first).sectors) (sym is) same)
+            (subst (λ (t : RoundReplies × Fuse Memory). AreCalls (fused_memory first) (fused_memory t.1)) (sym is) calls)
             found.2,
       )
 
@@ -78,7 +90,7 @@ module _ (disk : Memory) (s : State) (round : Round) (first : Fuse Memory) (fuse
     s,
     leads s
         (subst (λ (t : RoundReplies × Fuse Memory). RoundTells first t.1 s (asked round) t.0 s) (sym is) (not_run, refl))
-        (subst (λ (t : RoundReplies × Fuse Memory). (fused_memory t.1).sectors ≡ (fused_memory first).sectors) (sym is) not_run.opened.calls.sectors)
+        (subst (λ (t : RoundReplies × Fuse Memory). AreCalls (fused_memory first) (fused_memory t.1)) (sym is) not_run.opened.calls)
         (stands (memory_facts result).now (subst (λ (t : RoundReplies × Fuse Memory). Mixture (fused_memory t.1) (memory_facts result).now) is was_left)),
   )
 

@@ -1,7 +1,12 @@
 -- What an upgrade makes of a registry on a disk of version 1.
-use Rattle.std.proofs.Common.{◌≡◌, ◌⊎◌, inl, inr, ⊎_elim, List, Option, Some, None, Err, All, subst}
-use Rattle.sector_disk.specs.Disk.{Sector, DiskFacts, Mixture, LeavesOnly}
-use Rattle.sector_disk.proofs.Moments.{goes_on, weaken}
+use Rattle.std.proofs.Common.{◌≡◌, ◌⊎◌, inl, inr, ⊎_elim, refl, ◌+◌, List, length, ap, arith, IsFalse, Option, Some, None, Result, Ok, Err, IfOk, All, sym, subst}
+use Rattle.sector_disk.specs.Disk.{Sector, DiskFacts, Mixture, LeavesOnly, Logged, LogGrows, MayAddSync, GrowsBehindSync, AreCallsExactly}
+use Rattle.std.specs.Prelude.{sum_by}
+use Rattle.roots.specs.Root.{version_of}
+use Rattle.roots.specs.declared.version.Version.TheVariants.{One}
+use Rattle.store.specs.Stands.{catalogues_of}
+use Rattle.store.proofs.Relistings.{none_in}
+use Rattle.sector_disk.proofs.Moments.{goes_on, weaken, exactly_sum}
 use Rattle.states.specs.State.{State}
 use Rattle.store.specs.declared.look.Look.{Look}
 use Rattle.store.specs.declared.look.Look.TheVariants.{Old}
@@ -9,11 +14,14 @@ use Rattle.store.specs.declared.refusal.StoreRefusal.{StoreRefusal}
 use Rattle.store.specs.declared.refusal.StoreRefusal.TheVariants.{Device, OutOfMemory}
 use Rattle.store.specs.Looked.{seen}
 use Rattle.store.specs.Opened as opened
+use Rattle.store.specs.Opened.{Opened}
 use Rattle.store.specs.Stands as sectors
 use Rattle.store.specs.Step.{IsUpgradeAnswer}
+use Rattle.store.specs.Taken.{IsRelisted}
 use Rattle.store.specs.Upgraded.{upgraded}
+use Rattle.states.specs.Cost.{catalogues_for}
 use Rattle.requests.specs.Library.{IsLibrary}
-use Rattle.registry.specs.Stands.{Stands, StandsOld}
+use Rattle.registry.specs.Stands.{Stands, StandsOld, file_sectors}
 
 -- What reading files refuses may come in place of every answer of an upgrade.
 pub as_read : (first : Option StoreRefusal) (e : StoreRefusal) → (e ≡ Device) ⊎ (e ≡ OutOfMemory) → IsUpgradeAnswer first (Err e)
@@ -49,3 +57,32 @@ then_upgraded facts look store old new s is before after =
     goes_on P
     (weaken (Mixture old) P (λ m mixture. inl mixture) (subst (λ l. LeavesOnly old (facts (seen l).disk) (Mixture old)) is before))
     (weaken (λ m. StandsOld m s ⊎ Stands m (upgraded s)) P (λ m which. inr which) after)
+
+-- The log of what was relisted, once it was looked at.
+pub relisted_log : {D E : Type 0} (facts : D → DiskFacts) (old : Opened D) (start : List Logged) → MayAddSync start (facts old.disk).log → (r : Result (Opened D) E) → IfOk r (IsRelisted old)
+    → IfOk r (λ new. LogGrows (catalogues_for (length old.entries) + 3) (facts old.disk).log (facts new.disk).log)
+    → IfOk r (λ new. GrowsBehindSync (catalogues_for (length new.entries) + 3) start (facts new.disk).log)
+relisted_log facts old start sync (Ok new) relisted grows =
+    subst (λ entries. GrowsBehindSync (catalogues_for (length entries) + 3) start (facts new.disk).log) (sym relisted.entries) (record { begun = (facts old.disk).log; sync = sync; more = grows })
+relisted_log facts old start sync (Err e) relisted grows = tt
+
+-- the calls of an opening, and then those of reading each file
+pub admitted_calls : {D E : Type 0} (facts : D → DiskFacts) (start : DiskFacts) (old : Opened D) → AreCallsExactly (3 + length (catalogues_of old.root) + length old.entries) start (facts old.disk) → (r : Result (Opened D) E)
+    → IfOk r (λ new. (new.root ≡ old.root) × (new.entries ≡ old.entries) × IsFalse new.failed)
+    → IfOk r (λ new. AreCallsExactly (sum_by file_sectors old.entries) (facts old.disk) (facts new.disk))
+    → IfOk r (λ new. AreCallsExactly (3 + length (catalogues_of new.root) + length new.entries + sum_by file_sectors new.entries) start (facts new.disk))
+admitted_calls facts start old opening (Ok new) kept calls =
+    subst (λ root. AreCallsExactly (3 + length (catalogues_of root) + length new.entries + sum_by file_sectors new.entries) start (facts new.disk)) (sym kept.0)
+    (subst (λ entries. AreCallsExactly (3 + length (catalogues_of old.root) + length entries + sum_by file_sectors entries) start (facts new.disk)) (sym kept.1) (exactly_sum opening calls refl))
+admitted_calls facts start old opening (Err e) kept calls = tt
+
+-- those of a look at a disk of version 1, and then those of reading each file and of the commit
+pub relisted_calls : {D E : Type 0} (facts : D → DiskFacts) (start : DiskFacts) (old : Opened D) → AreCallsExactly (3 + length (catalogues_of old.root) + length old.entries) start (facts old.disk) → version_of old.root ≡ One → (r : Result (Opened D) E)
+    → IfOk r (IsRelisted old)
+    → IfOk r (λ new. AreCallsExactly (sum_by file_sectors old.entries + (catalogues_for (length old.entries) + 3)) (facts old.disk) (facts new.disk))
+    → IfOk r (λ new. AreCallsExactly (3 + length new.entries + sum_by file_sectors new.entries + (catalogues_for (length new.entries) + 3)) start (facts new.disk))
+relisted_calls facts start old looked one (Ok new) relisted calls =
+    let none : length (catalogues_of old.root) ≡ 0 = ap length (none_in old.root.list one) in
+    subst (λ entries. AreCallsExactly (3 + length entries + sum_by file_sectors entries + (catalogues_for (length entries) + 3)) start (facts new.disk)) (sym relisted.entries)
+    (exactly_sum looked calls (omega (arith, none)))
+relisted_calls facts start old looked one (Err e) relisted calls = tt

@@ -103,6 +103,8 @@ pub record RoundLeads (before : Standing) (round : Round) (replies : RoundReplie
   pub first : Fuse Memory
   pub last : Fuse Memory
   pub fused : IsFused before.disk round first
+  -- its calls went through this fuse up to the end
+  pub plan : plan_of last ≡ plan_of first
   pub told : RoundTells first last before.state (asked round) replies after.state
   pub stopped : IsStoppedBy round.picks.items (inner_of last) after.disk
   pub left : Mixture (fused_memory last) (memory_facts after.disk).now

@@ -27,6 +27,8 @@ pub(crate) fn admit_current<D: Disk>(
         (Mixture (D.facts store.disk)) }
     ensures now { IsTrue (D.facts store.disk).honest
         → (D.facts (disk_after result)).now ≡ (D.facts store.disk).now }
+    ensures log { IsTrue (D.facts store.disk).honest
+        → (D.facts (disk_after result)).log ≡ (D.facts store.disk).log }
     ensures ok { (s : State) → opened.IsAt D.facts store s
         → IfOk result (λ registry. IsAt D.facts registry s) }
     ensures damaged { (s : State) → opened.IsAt D.facts store s

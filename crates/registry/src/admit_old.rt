@@ -1,7 +1,7 @@
 // The registry of a store of version 1, once every file was admitted.
 ghost use Rattle.std.specs.Prelude.{◌≡◌, ◌≢◌, ◌+◌, ◌<◌, ◌⊎◌, [], length, slice_index_or, sum_by};
 ghost use Rattle.std.specs.Prelude.{All, IsTrue, IsFalse, IfOk, IfErr, OnOk};
-ghost use Rattle.sector_disk.specs.Disk.{Mixture, LeavesOnly, AreCalls, AreCallsExactly};
+ghost use Rattle.sector_disk.specs.Disk.{Mixture, LeavesOnly, LogGrows, AreCalls, AreCallsExactly};
 ghost use Rattle.roots.specs.declared.version.Version.TheVariants.{One};
 ghost use Rattle.states.specs.Cost.{catalogues_for};
 ghost use Rattle.states.specs.State.{State};
@@ -107,6 +107,9 @@ pub(crate) fn admit_old<D: Disk>(
     ensures all_calls { IfOk result (λ registry. AreCallsExactly
         (sum_by file_sectors store.entries + (catalogues_for (length store.entries) + 3))
         (D.facts store.disk) (D.facts registry.disk)) }
+    ensures log { IsTrue (D.facts store.disk).honest → IfOk result (λ registry. LogGrows
+        (catalogues_for (length store.entries) + 3)
+        (D.facts store.disk).log (D.facts registry.disk).log) }
 {
     let mut store = store;
     match admit_old_files(alloc, &mut store) {

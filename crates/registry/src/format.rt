@@ -6,7 +6,8 @@ use store::{Store, StoreRefusal};
 
 impl<D: Disk> Registry<D> {
     ghost use Rattle.std.specs.Prelude.{◌≡◌, ◌≢◌, ◌<◌, ◌⊎◌, [], IsTrue, IsFalse, IfOk, IfErr, OnOk};
-    ghost use Rattle.sector_disk.specs.Disk.{Mixture, LeavesOnly, AreCallsExactly, AreCallsAtMost};
+    ghost use Rattle.sector_disk.specs.Disk.{Mixture, LeavesOnly, GrowsBehindSync};
+    ghost use Rattle.sector_disk.specs.Disk.{AreCallsExactly, AreCallsAtMost};
     ghost use Rattle.store.specs.Opened.{disk_after};
     ghost use Rattle.store.specs.Opening.{HasRootMagic};
     ghost use Rattle.states.specs.Geometry.{IsGeometry};
@@ -36,6 +37,8 @@ impl<D: Disk> Registry<D> {
         ensures now { IsTrue (D.facts disk).honest
             → IfErr result (λ e. e.0 ≢ StoreRefusal.Device
             → (D.facts e.1).now ≡ (D.facts disk).now) }
+        ensures log { IsTrue (D.facts disk).honest → IfOk result (λ registry.
+            GrowsBehindSync 2 (D.facts disk).log (D.facts registry.disk).log) }
 
         // On any disk
         ensures geometry { IfOk result (λ _. IsGeometry (D.facts disk).sectors) }

@@ -8,7 +8,8 @@ use store::{Store, StoreRefusal};
 impl<D: Disk> Registry<D> {
     ghost use Rattle.std.specs.Prelude.{◌≡◌, ◌+◌, ◌<◌, ◌⊎◌, [], IsTrue, IsFalse, IfOk, IfErr};
     ghost use Rattle.std.specs.Prelude.{MatchResult, length, sum_by};
-    ghost use Rattle.sector_disk.specs.Disk.{Mixture, LeavesOnly, AreCalls, AreCallsExactly};
+    ghost use Rattle.sector_disk.specs.Disk.{Mixture, LeavesOnly, MayAddSync};
+    ghost use Rattle.sector_disk.specs.Disk.{AreCalls, AreCallsExactly};
     ghost use Rattle.store.specs.Opened.{disk_after};
     ghost use Rattle.store.specs.Opening.{IsRefusalOfOpen, RefusesOpen};
     ghost use Rattle.store.specs.Stands.{catalogues_of};
@@ -30,6 +31,10 @@ impl<D: Disk> Registry<D> {
         // What reads give stays, also where a call fails.
         ensures now { IsTrue (D.facts disk).honest
             → (D.facts (disk_after result)).now ≡ (D.facts disk).now }
+
+        // It is told to sync once at most, and nothing else is kept of it in a log.
+        ensures log { IsTrue (D.facts disk).honest
+            → MayAddSync (D.facts disk).log (D.facts (disk_after result)).log }
 
         // What reads give holds one state and no other. The registry is at it: every mixture holds
         // it too.

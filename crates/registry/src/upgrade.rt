@@ -9,7 +9,8 @@ use store::{Look, Store, StoreRefusal};
 impl<D: Disk> Registry<D> {
     ghost use Rattle.std.specs.Prelude.{◌≡◌, ◌≢◌, ◌+◌, ◌<◌, ◌⊎◌, IsTrue, IsFalse, IfOk, IfErr};
     ghost use Rattle.std.specs.Prelude.{[], MatchResult, length, sum_by};
-    ghost use Rattle.sector_disk.specs.Disk.{Mixture, LeavesOnly, AreCalls, AreCallsExactly};
+    ghost use Rattle.sector_disk.specs.Disk.{Mixture, LeavesOnly, GrowsBehindSync};
+    ghost use Rattle.sector_disk.specs.Disk.{AreCalls, AreCallsExactly};
     ghost use Rattle.states.specs.Cost.{catalogues_for};
     ghost use Rattle.states.specs.Geometry.{IsGeometry};
     ghost use Rattle.states.specs.State.{State};
@@ -77,6 +78,10 @@ impl<D: Disk> Registry<D> {
             (3 + length registry.entries + sum_by file_sectors registry.entries
             + (catalogues_for (length registry.entries) + 3))
             (D.facts disk) (D.facts registry.disk)) }
+        ensures log_old { IsTrue (D.facts disk).honest → (s : State)
+            → StandsOld (D.facts disk).now s → IfOk result (λ registry. GrowsBehindSync
+            (catalogues_for (length registry.entries) + 3)
+            (D.facts disk).log (D.facts registry.disk).log) }
 
         // On any disk
         ensures usable { IfOk result (λ registry. IsFalse registry.failed) }

@@ -125,6 +125,7 @@ module _ (start : List Sector) (writes : List Written) (synced : ℕ) (past past
   pub unchanged : IsUnchanged (facts_of start writes synced past) (facts_of start writes synced past')
   unchanged = record {
     now = refl;
+    log = refl;
     stop = λ k c. (
       λ left. left_now start writes synced past k c (now_leaves start writes synced past' k c left),
       λ left. left_now start writes synced past' k c (now_leaves start writes synced past k c left),
@@ -193,4 +194,4 @@ pub fresh : (start : List Sector) (writes : List Written) (past : List Moment) �
 fresh start writes past no_writes no_past =
     subst (λ ws. StartsWith (facts_of start ws 0 past) (contents start ws)) (sym no_writes)
     (subst (λ p. StartsWith (facts_of start [] 0 p) start) (sym no_past)
-    (record { honest = refl; sectors = refl; now = refl; alone = alone start [] 0 [] []; time = refl; failures = refl }))
+    (record { honest = refl; sectors = refl; now = refl; alone = alone start [] 0 [] []; time = refl; failures = refl; log = refl }))

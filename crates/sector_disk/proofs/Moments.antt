@@ -1,7 +1,8 @@
 -- How what a stop leaves goes on from call to call.
-use Rattle.std.proofs.Common.{◌≡◌, ⊎_elim, ℕ, ◌+◌, ◌<◌, ◌≤◌, List, Result, OnOk, OnErr, Ok, Err, refl, sym, ◌∙◌, subst, arith}
+use Rattle.std.proofs.Common.{◌≡◌, ⊎_elim, ℕ, ◌+◌, ◌<◌, ◌≤◌, List, [], ◌++◌, Result, OnOk, OnErr, Ok, Err, refl, sym, ◌∙◌, ap, subst, arith}
 use Rattle.std.proofs.lemmas.Bool.{cases_lt}
-use Rattle.sector_disk.specs.Disk.{Sector, DiskFacts, MixtureAt, Mixture, KeepsPast, IsCall, AreCalls, AreCallsExactly, AreCallsAtMost, LeavesOnly}
+use Rattle.std.proofs.lemmas.List.{length-append, append-nil, append_assoc}
+use Rattle.sector_disk.specs.Disk.{Sector, DiskFacts, Logged, LogGrows, MixtureAt, Mixture, KeepsPast, IsCall, AreCalls, AreCallsExactly, AreCallsAtMost, LeavesOnly}
 
 -- a mixture of a past moment was one then
 pub past_mixture : {old new : DiskFacts} → KeepsPast old new → (u : ℕ) → u ≤ old.time → (m : List Sector) → MixtureAt new u m → MixtureAt old u m
@@ -55,15 +56,33 @@ at_rest disk P now = record {
 pub left_now : {old new : DiskFacts} (P : List Sector → Type 0) → LeavesOnly old new P → (m : List Sector) → Mixture new m → P m
 left_now {new = new} P leaves m mixture = leaves.each m (new.time, leaves.past.later, omega arith, mixture)
 
+-- a log that stayed
+pub same_log : {old new : List Logged} {most : ℕ} → new ≡ old → LogGrows most old new
+same_log {old = old} same = record { more = []; few = omega arith; grown = same ∙ sym (append-nil old) }
+
+-- a log that grew, and then more
+pub longer_log : {old mid new : List Logged} {few more most : ℕ} → LogGrows few old mid → LogGrows more mid new → few + more ≤ most → LogGrows most old new
+longer_log {old = old} first second le = record {
+  more = first.more ++ second.more;
+  few = omega (arith, length-append first.more second.more, first.few, second.few, le);
+  grown = second.grown ∙ ap (λ l. l ++ second.more) first.grown ∙ append_assoc old first.more second.more;
+}
+
+-- a higher bound
+pub log_at_most : {few most : ℕ} {old new : List Logged} → LogGrows few old new → few ≤ most → LogGrows most old new
+log_at_most grows le = record { more = grows.more; few = omega (arith, grows.few, le); grown = grows.grown }
+
 -- no call is some calls
 pub no_calls : (disk : DiskFacts) → AreCalls disk disk
-no_calls disk = record { honest = refl; sectors = refl; later = omega arith; failures = omega arith; few_failures = omega arith }
+no_calls disk = record { honest = refl; sectors = refl; plans = refl; log = same_log refl; later = omega arith; failures = omega arith; few_failures = omega arith }
 
 -- and so is one
 pub a_call : {old new : DiskFacts} {T E : Type 0} {result : Result T E} → IsCall old new result → AreCalls old new
 a_call {old = old} {new = new} {result = result} call = record {
   honest = call.honest;
   sectors = call.sectors;
+  plans = call.plans;
+  log = log_at_most call.log (omega (arith, call.time));
   later = omega (arith, call.time);
   failures = omega (arith, counted result call.ok call.err);
   few_failures = omega (arith, call.time, counted result call.ok call.err);
@@ -78,6 +97,8 @@ pub more_calls : {old mid new : DiskFacts} → AreCalls old mid → AreCalls mid
 more_calls first second = record {
   honest = second.honest ∙ first.honest;
   sectors = second.sectors ∙ first.sectors;
+  plans = second.plans ∙ first.plans;
+  log = longer_log first.log second.log (omega (arith, first.later, second.later));
   later = omega (arith, first.later, second.later);
   failures = omega (arith, first.failures, second.failures);
   few_failures = omega (arith, first.later, second.later, first.failures, second.failures, first.few_failures, second.few_failures);
@@ -94,6 +115,10 @@ exactly_one call = record { some = a_call call; time = call.time }
 -- so many calls, and then so many more, are their sum
 pub exactly_sum : {calls more total : ℕ} {old mid new : DiskFacts} → AreCallsExactly calls old mid → AreCallsExactly more mid new → calls + more ≡ total → AreCallsExactly total old new
 exactly_sum first second sum = record { some = more_calls first.some second.some; time = omega (arith, first.time, second.time, sum) }
+
+-- and a log grew by as many at most
+pub exactly_logged : {calls : ℕ} {old new : DiskFacts} → AreCallsExactly calls old new → LogGrows calls old.log new.log
+exactly_logged exactly = log_at_most exactly.some.log (omega (arith, exactly.time))
 
 -- exactly so many calls are at most so many, and at most more
 pub exactly_at_most : {calls most : ℕ} {old new : DiskFacts} → AreCallsExactly calls old new → calls ≤ most → AreCallsAtMost most old new

@@ -18,6 +18,8 @@ unknown_disk sectors count = record {
   sectors = sectors;
   time = calls_made count;
   failures = calls_failed count;
+  plans = [];
+  log = [];
   now = [];
   may_leave = λ u k c. ⊥;
 }

@@ -1,6 +1,7 @@
 -- The disk model: what is said of a disk, what a stop may leave of it, and what each call does.
-use Rattle.std.specs.Prelude.{◌≡◌, ◌<◌, ◌≤◌, ◌+◌, ◌-◌, ◌↔◌, ◌⊎◌, ℕ, Bool}
+use Rattle.std.specs.Prelude.{◌≡◌, ◌<◌, ◌≤◌, ◌+◌, ◌-◌, ◌↔◌, ◌⊎◌, ℕ, Bool, ◌∷◌, ◌++◌}
 use Rattle.std.specs.Prelude.{IsTrue, List, [], length, set, slice_index_or, All, Result, OnOk, OnErr}
+use Rattle.sector_disk.specs.declared.fuse.Plan.{Plan}
 
 -- the bytes of a sector
 abbrev pub sector_bytes : ℕ
@@ -19,6 +20,11 @@ pub record IsWhole (content : Sector) : Type 0 where
 abbrev pub sector : List Sector → ℕ → Sector
 sector sectors k = slice_index_or sectors k []
 
+-- a call that a log has: a write, or a sync
+pub data Logged : Type 0 where
+  Wrote : Logged
+  Synced : Logged
+
 -- What is said of a disk. Its moments are 0 to `time`, and each call makes one more.
 pub record DiskFacts : Type 1 where
   -- whether it follows the table of steps below
@@ -27,6 +33,10 @@ pub record DiskFacts : Type 1 where
   pub time : ℕ
   -- how many calls have failed
   pub failures : ℕ
+  -- of each fuse that its calls go through, which of them fail
+  pub plans : List Plan
+  -- the writes and syncs that it keeps a log of, in their order: none where it keeps none
+  pub log : List Logged
   -- what reads give
   pub now : List Sector
   -- the set of a sector at a moment: the contents with which a stop then may leave it
@@ -68,9 +78,10 @@ pub record KeepsPast (old new : DiskFacts) : Type 0 where
   pub later : old.time ≤ new.time
   pub past : (u k : ℕ) (c : Sector) → u ≤ old.time → new.may_leave u k c ↔ old.may_leave u k c
 
--- reads give the same, and a stop may leave the same
+-- reads give the same, a stop may leave the same, and the log is the same
 pub record IsUnchanged (old new : DiskFacts) : Type 0 where
   pub now : new.now ≡ old.now
+  pub log : new.log ≡ old.log
   pub stop : (k : ℕ) (c : Sector) → MayLeave new k c ↔ MayLeave old k c
 
 -- no set grows
@@ -93,10 +104,28 @@ pub record LeavesNowAlone (disk : DiskFacts) : Type 0 where
 abbrev pub IsOldOrSet : List Sector → ℕ → Sector → List Sector → Type 0
 IsOldOrSet old at content m = (m ≡ old) ⊎ (m ≡ set old at content)
 
+-- a log grew, by so many at most
+pub record LogGrows (most : ℕ) (old new : List Logged) : Type 0 where
+  pub more : List Logged
+  pub few : length more ≤ most
+  pub grown : new ≡ old ++ more
+
+-- a log stayed, or got a sync more
+pub record MayAddSync (old new : List Logged) : Type 0 where
+  pub either : (new ≡ old) ⊎ (new ≡ old ++ Synced ∷ [])
+
+-- A log stayed, or got a sync more, and grew behind that by so many at most.
+pub record GrowsBehindSync (most : ℕ) (old new : List Logged) : Type 0 where
+  pub begun : List Logged
+  pub sync : MayAddSync old begun
+  pub more : LogGrows most begun new
+
 -- One call, on any disk: time goes on by one, and a failure is counted. Size and honesty stay.
 pub record IsCall {T E : Type 0} (old new : DiskFacts) (result : Result T E) : Type 0 where
   pub honest : new.honest ≡ old.honest
   pub sectors : new.sectors ≡ old.sectors
+  pub plans : new.plans ≡ old.plans
+  pub log : LogGrows 1 old.log new.log
   pub time : new.time ≡ old.time + 1
   pub ok : OnOk result (new.failures ≡ old.failures)
   pub err : OnErr result (new.failures ≡ old.failures + 1)
@@ -120,6 +149,7 @@ pub record IsWrite {T E : Type 0} (old new : DiskFacts) (at : ℕ) (content : Se
 pub record IsSync {T E : Type 0} (old new : DiskFacts) (result : Result T E) : Type 0 where
   pub past : KeepsPast old new
   pub now : new.now ≡ old.now
+  pub log : MayAddSync old.log new.log
   -- where it fails, any set may lose contents
   pub stop : LeavesNoMore old new
   pub stop_ok : OnOk result (LeavesNowAlone new)
@@ -128,10 +158,13 @@ pub record IsSync {T E : Type 0} (old new : DiskFacts) (result : Result T E) : T
 abbrev pub calls_between : DiskFacts → DiskFacts → ℕ
 calls_between old new = new.time - old.time
 
--- Some calls, on any disk: size and honesty stay, and no more calls failed than were made.
+-- Some calls, on any disk: size and honesty stay, no more calls failed than were made, and the log
+-- grew by no more.
 pub record AreCalls (old new : DiskFacts) : Type 0 where
   pub honest : new.honest ≡ old.honest
   pub sectors : new.sectors ≡ old.sectors
+  pub plans : new.plans ≡ old.plans
+  pub log : LogGrows (calls_between old new) old.log new.log
   pub later : old.time ≤ new.time
   pub failures : old.failures ≤ new.failures
   pub few_failures : new.failures - old.failures ≤ calls_between old new
@@ -176,6 +209,8 @@ pub record IsCopy (old new : DiskFacts) : Type 0 where
   pub sectors : new.sectors ≡ old.sectors
   pub time : new.time ≡ old.time
   pub failures : new.failures ≡ old.failures
+  pub plans : new.plans ≡ old.plans
+  pub log : new.log ≡ old.log
   pub now : new.now ≡ old.now
   pub past : (u k : ℕ) (c : Sector) → new.may_leave u k c ↔ old.may_leave u k c
 
@@ -187,6 +222,7 @@ pub record StartsWith (disk : DiskFacts) (contents : List Sector) : Type 0 where
   pub alone : LeavesNowAlone disk
   pub time : disk.time ≡ 0
   pub failures : disk.failures ≡ 0
+  pub log : disk.log ≡ []
 
 -- a disk after a stop: it starts with one of the mixtures
 pub record IsStopped (old new : DiskFacts) : Type 0 where

@@ -1,6 +1,6 @@
 -- What is said of a disk behind a fuse, and what the fuse makes of each call.
 use Rattle.std.specs.Prelude.{◌≡◌, ◌==◌, ◌-◌, ◌+◌, ◌&&◌, ℕ, nat_lt, if◌then◌else◌}
-use Rattle.std.specs.Prelude.{IsTrue, List, length, drop, filter, Result, Err}
+use Rattle.std.specs.Prelude.{IsTrue, List, ◌∷◌, length, drop, filter, Result, Err}
 use Rattle.sector_disk.specs.declared.disk.DiskFault.{DiskFault}
 use Rattle.sector_disk.specs.declared.disk.DiskFault.TheVariants.{Failed}
 use Rattle.sector_disk.specs.declared.fuse.Fuse.{Fuse}
@@ -25,20 +25,23 @@ reached steps = length (filter (λ step. step.reached) steps)
 abbrev pub inner_moment : ℕ → List Step → ℕ → ℕ
 inner_moment time past u = time - reached (drop u past)
 
--- What is said of the inner disk, but by the fuse's own clock and its own count of failures.
-abbrev pub fused : DiskFacts → List Step → DiskFacts
-fused inner past = record {
+-- What is said of the inner disk, but by the fuse's own clock, its own count of failures, and with
+-- its plan.
+abbrev pub fused : Plan → DiskFacts → List Step → DiskFacts
+fused plan inner past = record {
   honest = inner.honest;
   sectors = inner.sectors;
   time = length past;
   failures = length (filter (λ step. step.failed) past);
+  plans = plan ∷ inner.plans;
+  log = inner.log;
   now = inner.now;
   may_leave = λ u. inner.may_leave (inner_moment inner.time past u);
 }
 
 -- what is said of a fuse
 abbrev pub fuse_facts : {D : Type 0} → (D → DiskFacts) → Fuse D → DiskFacts
-fuse_facts facts fuse = fused (facts fuse.inner) fuse.past.items
+fuse_facts facts fuse = fused fuse.plan (facts fuse.inner) fuse.past.items
 
 -- the disk behind a fuse
 abbrev pub inner_of : {D : Type 0} → Fuse D → D

@@ -1,5 +1,5 @@
 -- What is said of a disk in memory, by its writes and the marks of its moments.
-use Rattle.std.specs.Prelude.{ℕ, List, take, length, true, false, slice_index_or, filter, Contains}
+use Rattle.std.specs.Prelude.{ℕ, List, [], take, length, true, false, slice_index_or, filter, Contains}
 use Rattle.sector_disk.specs.declared.moment.Moment.{Moment}
 use Rattle.sector_disk.specs.declared.written.Written.{Written}
 use Rattle.sector_disk.specs.Disk.{Sector, DiskFacts}
@@ -16,6 +16,8 @@ facts_of start writes synced past = record {
   sectors = length start;
   time = length past;
   failures = length (filter (λ moment. moment.failed) past);
+  plans = [];
+  log = [];
   now = contents start writes;
   may_leave = λ u k c. let moment = moment_at writes synced past u in Contains (choices start (take moment.writes writes) moment.synced k) c;
 }

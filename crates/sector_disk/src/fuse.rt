@@ -120,10 +120,12 @@ impl<D: Disk> Disk for Fuse<D> {
     ghost facts = { fuse_facts D.facts };
 
     ghost holds_now = { λ fuse honest.
-        fused_holds (D.facts fuse.inner) fuse.past.items (D.holds_now fuse.inner honest) };
+        fused_holds fuse.plan (D.facts fuse.inner) fuse.past.items
+        (D.holds_now fuse.inner honest) };
 
     ghost whole_sectors = { λ fuse honest.
-        fused_whole (D.facts fuse.inner) fuse.past.items (D.whole_sectors fuse.inner honest) };
+        fused_whole fuse.plan (D.facts fuse.inner) fuse.past.items
+        (D.whole_sectors fuse.inner honest) };
 
     fn sectors(&self) -> u32 {
         self.inner.sectors()

@@ -1,11 +1,14 @@
 -- What an upgrade makes of what a look saw.
-use Rattle.std.proofs.Common.{◌≡◌, ◌⊎◌, inl, inr, ⊎_elim, List, Option, Some, None, Result, Ok, Err, sym, subst, ◌∙◌}
-use Rattle.sector_disk.specs.Disk.{Sector, DiskFacts, HoldsNow, Mixture, LeavesOnly}
-use Rattle.sector_disk.proofs.Moments.{goes_on, weaken}
+use Rattle.std.proofs.Common.{◌≡◌, ◌⊎◌, inl, inr, ⊎_elim, ◌+◌, List, Option, Some, None, Result, Ok, Err, IfOk, length, ap, sym, subst, ◌∙◌, arith}
+use Rattle.sector_disk.specs.Disk.{Sector, DiskFacts, HoldsNow, Mixture, LeavesOnly, AreCallsExactly}
+use Rattle.sector_disk.proofs.Moments.{goes_on, weaken, exactly_sum}
+use Rattle.roots.specs.Root.{version_of}
+use Rattle.states.specs.Cost.{catalogues_for}
 use Rattle.store.specs.declared.look.Look.{Look}
 use Rattle.store.specs.declared.look.Look.TheVariants.{Current, Old}
 use Rattle.store.specs.declared.refusal.StoreRefusal.{StoreRefusal}
 use Rattle.store.specs.declared.refusal.StoreRefusal.TheVariants.{Device, OutOfMemory}
+use Rattle.store.proofs.Relistings.{none_in}
 use Rattle.store.specs.Looked.{seen, IsSeenAt, IsSeenOldAt}
 use Rattle.store.specs.Opened.{Opened, IsAt, IsOldAt}
 use Rattle.store.specs.Stands.{Stands, StandsOld}
@@ -78,3 +81,13 @@ relisted_from facts store s at holds m same new is = record {
       (subst (λ l. StandsBy One l store.root store.entries s) same (at.stands (facts store.disk).now holds));
   taken = subst (λ es. AreTaken (layout_of store.root.sectors (used store.root es)) (catalogues_of new.root)) (sym is.entries) is.taken;
 }
+
+-- Its calls, and those of the commit behind them.
+module _ {D E : Type 0} (facts : D → DiskFacts) (start : DiskFacts) (old : Opened D) (looked : AreCallsExactly (3 + length (catalogues_of old.root) + length old.entries) start (facts old.disk)) (one : version_of old.root ≡ One) where
+  pub relisted_calls : (r : Result (Opened D) E) → IfOk r (IsRelisted old) → IfOk r (λ store. AreCallsExactly (catalogues_for (length old.entries) + 3) (facts old.disk) (facts store.disk))
+      → IfOk r (λ store. AreCallsExactly (3 + length store.entries + (catalogues_for (length store.entries) + 3)) start (facts store.disk))
+  relisted_calls (Ok store) relisted calls =
+      let none : length (catalogues_of old.root) ≡ 0 = ap length (none_in old.root.list one) in
+      subst (λ entries. AreCallsExactly (3 + length entries + (catalogues_for (length entries) + 3)) start (facts store.disk)) (sym relisted.entries)
+      (exactly_sum looked calls (omega (arith, none)))
+  relisted_calls (Err e) relisted calls = tt

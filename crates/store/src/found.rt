@@ -1,6 +1,6 @@
 // What a disk holds: the current root, the entries that are listed, and the sectors in use.
 ghost use Rattle.std.specs.Prelude.{◌≡◌, ◌+◌, ◌<◌, ◌⊎◌, [], IsTrue, IfOk, IfErr, OnOk, length, false};
-ghost use Rattle.sector_disk.specs.Disk.{sector, Mixture, LeavesOnly, IsSynced};
+ghost use Rattle.sector_disk.specs.Disk.{sector, Mixture, LeavesOnly, IsSynced, MayAddSync};
 ghost use Rattle.sector_disk.specs.Disk.{AreCallsExactly, AreCallsAtMost};
 ghost use Rattle.passes.specs.Calls.{AreReads};
 ghost use Rattle.roots.specs.declared.version.Version.TheVariants.{Two};
@@ -38,6 +38,8 @@ fn read_root<D: Disk>(disk: &mut D) -> Result<Root, StoreRefusal>
         → LeavesOnly (D.facts disk.old) (D.facts disk.new) (Mixture (D.facts disk.old)) }
     ensures now { IsTrue (D.facts disk.old).honest
         → (D.facts disk.new).now ≡ (D.facts disk.old).now }
+    ensures log { IsTrue (D.facts disk.old).honest
+        → MayAddSync (D.facts disk.old).log (D.facts disk.new).log }
     ensures synced { IsTrue (D.facts disk.old).honest → OnOk result (IsSynced (D.facts disk.new)) }
     ensures root { IfOk result RootHasSpelling }
     ensures current { IsTrue (D.facts disk.old).honest → IfOk result
@@ -147,6 +149,8 @@ pub(crate) fn find_store<D: Disk>(alloc: Global, disk: &mut D) -> Result<Found, 
         → LeavesOnly (D.facts disk.old) (D.facts disk.new) (Mixture (D.facts disk.old)) }
     ensures now { IsTrue (D.facts disk.old).honest
         → (D.facts disk.new).now ≡ (D.facts disk.old).now }
+    ensures log { IsTrue (D.facts disk.old).honest
+        → MayAddSync (D.facts disk.old).log (D.facts disk.new).log }
     ensures synced { IsTrue (D.facts disk.old).honest → OnOk result (IsSynced (D.facts disk.new)) }
     ensures kept { IfOk result (λ found. IsKept found.root found.entries.items [] found.layout
         × IsIndex found.entries.items found.index
@@ -177,6 +181,8 @@ pub(crate) fn find_current<D: Disk>(alloc: Global, disk: &mut D) -> Result<Found
         → LeavesOnly (D.facts disk.old) (D.facts disk.new) (Mixture (D.facts disk.old)) }
     ensures now { IsTrue (D.facts disk.old).honest
         → (D.facts disk.new).now ≡ (D.facts disk.old).now }
+    ensures log { IsTrue (D.facts disk.old).honest
+        → MayAddSync (D.facts disk.old).log (D.facts disk.new).log }
     ensures synced { IsTrue (D.facts disk.old).honest → OnOk result (IsSynced (D.facts disk.new)) }
     ensures kept { IfOk result (λ found. IsKept found.root found.entries.items [] found.layout
         × IsIndex found.entries.items found.index

@@ -19,7 +19,8 @@ pub enum Look<D: Disk> {
 impl<D: Disk> Store<D> {
     ghost use Rattle.std.specs.Prelude.{◌≡◌, ◌+◌, ◌<◌, ◌⊎◌, [], IsTrue, IsFalse, IfOk, IfErr};
     ghost use Rattle.std.specs.Prelude.{MatchResult, length};
-    ghost use Rattle.sector_disk.specs.Disk.{Mixture, LeavesOnly, AreCallsExactly, AreCallsAtMost};
+    ghost use Rattle.sector_disk.specs.Disk.{Mixture, LeavesOnly, MayAddSync};
+    ghost use Rattle.sector_disk.specs.Disk.{AreCallsExactly, AreCallsAtMost};
     ghost use Rattle.roots.specs.Limits.{most_catalogues};
     ghost use Rattle.states.specs.Limits.{most_libraries};
     ghost use Rattle.store.specs.Looked.{seen, looked_after, IsSeenAt, IsSeenOldAt};
@@ -40,6 +41,8 @@ impl<D: Disk> Store<D> {
         // What reads give stays, also where a call fails.
         ensures now { IsTrue (D.facts disk).honest
             → (D.facts (looked_after result)).now ≡ (D.facts disk).now }
+        ensures log { IsTrue (D.facts disk).honest
+            → MayAddSync (D.facts disk).log (D.facts (looked_after result)).log }
 
         // It is of the version of its root, and at the state that what reads give holds.
         ensures stands { IsTrue (D.facts disk).honest → (s : State) → Stands (D.facts disk).now s

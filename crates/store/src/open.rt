@@ -9,7 +9,8 @@ use std::alloc::Global;
 impl<D: Disk> Store<D> {
     ghost use Rattle.std.specs.Prelude.{◌≡◌, ◌+◌, ◌<◌, ◌⊎◌, [], IsTrue, IsFalse, IfOk, IfErr};
     ghost use Rattle.std.specs.Prelude.{MatchResult, length};
-    ghost use Rattle.sector_disk.specs.Disk.{Mixture, LeavesOnly, AreCallsExactly, AreCallsAtMost};
+    ghost use Rattle.sector_disk.specs.Disk.{Mixture, LeavesOnly, MayAddSync};
+    ghost use Rattle.sector_disk.specs.Disk.{AreCallsExactly, AreCallsAtMost};
     ghost use Rattle.roots.specs.Limits.{most_catalogues};
     ghost use Rattle.states.specs.Limits.{most_libraries};
     ghost use Rattle.store.specs.Opened.{IsAt, disk_after};
@@ -29,6 +30,8 @@ impl<D: Disk> Store<D> {
         // What reads give stays, also where a call fails.
         ensures now { IsTrue (D.facts disk).honest
             → (D.facts (disk_after result)).now ≡ (D.facts disk).now }
+        ensures log { IsTrue (D.facts disk).honest
+            → MayAddSync (D.facts disk).log (D.facts (disk_after result)).log }
 
         // The store is at the state that what reads give holds: every mixture holds it too.
         ensures ok { IsTrue (D.facts disk).honest → IfOk result (λ store.

@@ -14,7 +14,7 @@ returns-in-Ok-open-clause-ok c =
     let found = opened.ok refl in
     let apply = c.apply-reply in
     subst (λ d. (s : State) × IsAsked c.args.disk.now s (request_of c.args.command.now) apply.result (synced_plan d)) (sym c.into_disk.ensures)
-    (asked c.args.disk.now c.in-Ok.disk c.in-Ok.ensures.ok c.in-Ok-open.registry (opened.any_moment refl) (opened.now refl) found opened.unheld (request_of c.args.command.now) apply.result apply.new.self (apply.ensures.applied found.0 found.2) opened.all_calls (apply.ensures.all_calls found.0 found.2))
+    (asked c.args.disk.now c.in-Ok.disk c.in-Ok.ensures.ok c.in-Ok-open.registry (opened.any_moment refl) (opened.now refl) found opened.unheld (request_of c.args.command.now) apply.result apply.new.self (apply.ensures.applied found.0 found.2) (opened.log refl) (apply.ensures.all_calls found.0 found.2))
 
 pub returns-in-Ok-open-clause-device : goal.returns-in-Ok-open-clause-device
 returns-in-Ok-open-clause-device c device =

@@ -30,3 +30,10 @@ returns-in-Ok-clause-now g c honest = (c.admit_files.ensures.read.unchanged hone
 pub returns-in-Err-clause-now : goal.returns-in-Err-clause-now
 returns-in-Err-clause-now g c honest =
     subst (λ disk. (g.D.Disk.facts disk).now ≡ (g.D.Disk.facts c.args.store.disk).now) (sym c.into_disk.ensures) ((c.admit_files.ensures.read.unchanged honest).now)
+
+pub returns-in-Ok-clause-log : goal.returns-in-Ok-clause-log
+returns-in-Ok-clause-log g c honest = (c.admit_files.ensures.read.unchanged honest).log
+
+pub returns-in-Err-clause-log : goal.returns-in-Err-clause-log
+returns-in-Err-clause-log g c honest =
+    subst (λ disk. (g.D.Disk.facts disk).log ≡ (g.D.Disk.facts c.args.store.disk).log) (sym c.into_disk.ensures) ((c.admit_files.ensures.read.unchanged honest).log)

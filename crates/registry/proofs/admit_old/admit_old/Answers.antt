@@ -1,5 +1,7 @@
-use Rattle.std.proofs.Common.{Ok, Err, sym, subst, ◌∙◌}
-use Rattle.sector_disk.specs.Disk.{Mixture, LeavesOnly}
+use Rattle.std.proofs.Common.{Ok, Err, refl, ◌+◌, length, sym, subst, ◌∙◌}
+use Rattle.sector_disk.specs.Disk.{Mixture, LeavesOnly, LogGrows, AreCallsExactly}
+use Rattle.sector_disk.proofs.Moments.{more_calls, exactly_sum, exactly_logged}
+use Rattle.states.specs.Cost.{catalogues_for}
 use Rattle.extents.specs.Used.{layout_of}
 use Rattle.store.specs.Stands.{catalogues_of, used}
 use Rattle.store.specs.Taken.{AreTaken}
@@ -51,3 +53,24 @@ returns-in-Ok-commit-clause-placed g c =
           (subst (λ es. AreTaken (layout_of c.admit_old_files.new.store.root.sectors (used c.admit_old_files.new.store.root es)) (catalogues_of c.in-Ok-commit.store.root)) read.entries relisted.taken);
       entries = relisted.entries ∙ read.entries;
     }
+
+pub returns-in-Ok-commit-clause-log : goal.returns-in-Ok-commit-clause-log
+returns-in-Ok-commit-clause-log g c honest =
+    let facts = g.D.Disk.facts in
+    let read = c.admit_old_files.ensures.read in
+    let end = (facts c.in-Ok-commit.store.disk).log in
+    subst (λ es. LogGrows (catalogues_for (length es) + 3) (facts c.args.store.disk).log end) read.entries
+    (subst (λ log. LogGrows (catalogues_for (length c.admit_old_files.new.store.entries) + 3) log end) (read.unchanged honest).log (exactly_logged c.in-Ok-commit.ensures.all_calls))
+
+pub returns-in-Ok-commit-clause-calls : goal.returns-in-Ok-commit-clause-calls
+returns-in-Ok-commit-clause-calls g c = more_calls c.admit_old_files.ensures.read.calls c.in-Ok-commit.ensures.all_calls.some
+
+pub returns-in-Err-commit-clause-calls : goal.returns-in-Err-commit-clause-calls
+returns-in-Err-commit-clause-calls g c = more_calls c.admit_old_files.ensures.read.calls c.in-Err-commit.ensures.calls.some
+
+pub returns-in-Ok-commit-clause-all_calls : goal.returns-in-Ok-commit-clause-all_calls
+returns-in-Ok-commit-clause-all_calls g c =
+    let facts = g.D.Disk.facts in
+    let mid = facts c.admit_old_files.new.store.disk in
+    exactly_sum c.in-Ok.ensures.all_calls
+    (subst (λ es. AreCallsExactly (catalogues_for (length es) + 3) mid (facts c.in-Ok-commit.store.disk)) c.admit_old_files.ensures.read.entries c.in-Ok-commit.ensures.all_calls) refl

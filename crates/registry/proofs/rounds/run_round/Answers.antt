@@ -1,6 +1,6 @@
 use Rattle.std.proofs.Common.{inl, inr, ⊎_elim, ℕ, List, map, refl, sym, subst, ◌∙◌}
 use Rattle.sector_disk.specs.Disk.{Sector, Mixture}
-use Rattle.sector_disk.proofs.Moments.{left_now}
+use Rattle.sector_disk.proofs.Moments.{left_now, more_calls}
 use Rattle.store.specs.declared.refusal.StoreRefusal.TheVariants.{OutOfMemory}
 use Rattle.requests.specs.declared.command.Command.{Command}
 use Rattle.requests.specs.Request.{request_of}
@@ -10,7 +10,7 @@ use Rattle.sector_disk.specs.declared.memory.Memory.{Memory}
 use Rattle.registry.specs.Ran.{RunsOver}
 use Rattle.registry.specs.Stands.{Stands}
 use Rattle.registry.specs.Rounds.{asked, fused_memory, IsStoppedBy, WritesNothing, WasRun, WasNotRun}
-use Rattle.registry.proofs.Rounding.{fuse_stands, fuse_now_stands, round_ran, round_not_run}
+use Rattle.registry.proofs.Rounding.{answered_calls, fuse_stands, fuse_now_stands, round_ran, round_not_run}
 use Rattle.registry.proofs.States.{mixture_stands}
 use Rattle.registry.proofs.rounds.run_round.Goals.{in-Ok, in-Ok-run, in-Err-run, in-Err}
 use Rattle.registry.proofs.rounds.run_round.Goals as goal
@@ -47,7 +47,7 @@ returns c s stands =
                   runs = subst (λ (l : List Command). RunsOver fused_memory old new s (map request_of l) w'.in-Ok-run.replies.items) w.deref.ensures.value (w'.in-Ok-run.ensures.ok s at);
                   ends = refl;
                 } in
-                round_ran disk s round first fused told memory result inner into stopped w'.in-Ok-run.replies new.disk ran (w.replies-is ∙ (λ i. (w'.replies-is i, w.into_disk.ensures i)))
+                round_ran disk s round first fused told memory result inner into stopped w'.in-Ok-run.replies new.disk ran (more_calls w.in-Ok.ensures.calls (answered_calls fused_memory old new _ _ w'.in-Ok-run.ensures.on_any_disk)) (w.replies-is ∙ (λ i. (w'.replies-is i, w.into_disk.ensures i)))
             | in-Err-run w' ↦
                 let same = w'.in-Err-run.ensures.err in
                 let not_run : WasNotRun first new.disk OutOfMemory = record {

@@ -7,7 +7,7 @@ use Rattle.states.specs.Geometry.{IsGeometry}
 use Rattle.store.specs.Opening.{RefusesOpen}
 use Rattle.store.specs.Stands.{IsIntact, Stands}
 use Rattle.store.specs.inside.Reading.{RefusesEntries}
-use Rattle.store.proofs.Openings.{root_refused_open, entries_refused_open, old_refused, then_reads_leave}
+use Rattle.store.proofs.Openings.{root_refused_open, entries_refused_open, old_refused, then_reads_leave, reads_synced}
 use Rattle.store.proofs.found.find_current.Goals as goal
 
 pub returns-in_err-root-clause-refused : goal.returns-in_err-root-clause-refused
@@ -20,6 +20,10 @@ returns-in_err-root-clause-refused g c honest =
 pub returns-in-Two-clause-any_moment : goal.returns-in-Two-clause-any_moment
 returns-in-Two-clause-any_moment g c honest =
     then_reads_leave (c.read_root.ensures.any_moment honest) (c.find_entries.ensures.same (subst IsTrue (sym c.read_root.ensures.calls.some.honest) honest))
+
+pub returns-in-Two-clause-synced : goal.returns-in-Two-clause-synced
+returns-in-Two-clause-synced g c honest =
+    reads_synced c.find_entries.result (c.in_ok-root.ensures.synced honest) (c.find_entries.ensures.same (subst IsTrue (sym c.read_root.ensures.calls.some.honest) honest))
 
 pub returns-in-Two-clause-intact : goal.returns-in-Two-clause-intact
 returns-in-Two-clause-intact g c honest =

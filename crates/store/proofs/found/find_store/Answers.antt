@@ -6,7 +6,7 @@ use Rattle.states.specs.Geometry.{IsGeometry}
 use Rattle.store.specs.Opening.{RefusesLook}
 use Rattle.store.specs.Stands.{IsIntact, StandsEither}
 use Rattle.store.specs.inside.Reading.{RefusesEntries}
-use Rattle.store.proofs.Openings.{root_refused, entries_refused, then_reads_leave}
+use Rattle.store.proofs.Openings.{root_refused, entries_refused, then_reads_leave, reads_synced}
 use Rattle.store.proofs.found.find_store.Goals as goal
 
 pub returns-in_err-root-clause-refused : goal.returns-in_err-root-clause-refused
@@ -19,6 +19,10 @@ returns-in_err-root-clause-refused g c honest =
 pub returns-clause-any_moment : goal.returns-clause-any_moment
 returns-clause-any_moment g c honest =
     then_reads_leave (c.read_root.ensures.any_moment honest) (c.find_entries.ensures.same (subst IsTrue (sym c.read_root.ensures.calls.some.honest) honest))
+
+pub returns-clause-synced : goal.returns-clause-synced
+returns-clause-synced g c honest =
+    reads_synced c.find_entries.result (c.in_ok-root.ensures.synced honest) (c.find_entries.ensures.same (subst IsTrue (sym c.read_root.ensures.calls.some.honest) honest))
 
 pub returns-clause-intact : goal.returns-clause-intact
 returns-clause-intact g c honest =

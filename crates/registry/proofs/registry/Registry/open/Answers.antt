@@ -1,5 +1,8 @@
 use Rattle.std.proofs.Common.{◌≡◌, length, IsTrue, sym, subst, ◌∙◌}
 use Rattle.std.proofs.lemmas.Result.{err_from_is_err_and, IfOk-weaker}
+use Rattle.sector_disk.specs.Disk.{MayAddSync}
+use Rattle.sector_disk.proofs.Moments.{more_calls}
+use Rattle.registry.proofs.Upgrades.{admitted_calls}
 use Rattle.states.specs.Geometry.{IsGeometry}
 use Rattle.states.specs.State.{State}
 use Rattle.registry.specs.Opened.{IsAt}
@@ -49,3 +52,15 @@ returns-clause-refused g c honest =
 pub returns-clause-now : goal.returns-clause-now
 returns-clause-now g c honest =
     c.admit_current.ensures.now (subst IsTrue (sym c.in_ok-store.ensures.calls.some.honest) honest) ∙ c.in_ok-store.ensures.now honest
+
+pub returns-clause-log : goal.returns-clause-log
+returns-clause-log g c honest =
+    let start = (g.D.Disk.facts c.args.disk).log in
+    subst (MayAddSync start) (sym (c.admit_current.ensures.log (subst IsTrue (sym c.in_ok-store.ensures.calls.some.honest) honest))) (c.in_ok-store.ensures.log honest)
+
+pub returns-clause-calls : goal.returns-clause-calls
+returns-clause-calls g c = more_calls c.in_ok-store.ensures.calls.some c.admit_current.ensures.calls
+
+pub returns-clause-all_calls : goal.returns-clause-all_calls
+returns-clause-all_calls g c =
+    admitted_calls g.D.Disk.facts (g.D.Disk.facts c.args.disk) c.in_ok-store.store c.in_ok-store.ensures.all_calls c.admit_current.result c.admit_current.ensures.kept c.admit_current.ensures.all_calls

@@ -1,6 +1,9 @@
-use Rattle.std.proofs.Common.{◌≡◌, inl, inr, length, All, IsTrue, sym, subst, ◌∙◌}
+use Rattle.std.proofs.Common.{◌≡◌, ◌⊎◌, ◌+◌, inl, inr, length, All, IsTrue, sym, subst, ◌∙◌}
 use Rattle.std.proofs.lemmas.Result.{err_from_is_err_and, IfOk-weaker, IfErr-weaker}
-use Rattle.sector_disk.specs.Disk.{Mixture, LeavesOnly}
+use Rattle.sector_disk.specs.Disk.{Mixture, LeavesOnly, MayAddSync, AreCalls, AreCallsExactly}
+use Rattle.sector_disk.proofs.Moments.{weaken, more_calls}
+use Rattle.store.specs.Stands.{catalogues_of}
+use Rattle.registry.specs.Stands.{Stands, StandsOld}
 use Rattle.roots.specs.declared.version.Version.TheVariants.{One, Two}
 use Rattle.states.specs.Geometry.{IsGeometry}
 use Rattle.states.specs.State.{State}
@@ -13,7 +16,7 @@ use Rattle.requests.specs.Library.{IsLibrary}
 use Rattle.registry.specs.Opened.{IsAt}
 use Rattle.registry.specs.Upgraded.{IsUpgradeOf}
 use Rattle.registry.proofs.Openings.{leaves_then, err_both, either_result, libraries_refuse, refuses_seen, refuses_look, of_refused}
-use Rattle.registry.proofs.Upgrades.{as_read, then_upgraded}
+use Rattle.registry.proofs.Upgrades.{as_read, admitted_calls, relisted_calls, relisted_log, then_upgraded}
 use Rattle.registry.proofs.registry.Registry.upgrade.Goals as goal
 
 pub returns-in_err-store-clause-stands : goal.returns-in_err-store-clause-stands
@@ -179,3 +182,46 @@ returns-in-Old-clause-placed_old g c honest s stands =
     let same = subst (λ l. (g.D.Disk.facts (seen l).disk).now ≡ now) c.in-Old.is (c.in_ok-store.ensures.now honest) in
     IfOk-weaker c.admit_old.result (IsRelisted c.in-Old.store) (IsRelistedFrom now s)
     (relisted_from g.D.Disk.facts c.in-Old.store s at (g.met.D.Disk.holds_now _ at.honest) now same) c.admit_old.ensures.placed
+
+pub returns-in-Current-clause-log_old : goal.returns-in-Current-clause-log_old
+returns-in-Current-clause-log_old g c honest s stands =
+    absurd (seen_current g.D.Disk.facts c.in_ok-store.field-0 c.in-Current.store c.in-Current.is s (c.in_ok-store.ensures.stands_old honest s stands.stored))
+
+pub returns-in-Old-clause-log_old : goal.returns-in-Old-clause-log_old
+returns-in-Old-clause-log_old g c honest s stands =
+    let facts = g.D.Disk.facts in
+    let start = (facts c.args.disk).log in
+    let at = old_at facts c.in_ok-store.field-0 c.in-Old.store c.in-Old.is s (c.in_ok-store.ensures.stands_old honest s stands.stored) in
+    relisted_log facts c.in-Old.store start (subst (λ l. MayAddSync start (facts (seen l).disk).log) c.in-Old.is (c.in_ok-store.ensures.log honest))
+    c.admit_old.result c.admit_old.ensures.placed (c.admit_old.ensures.log at.honest)
+
+pub returns-in_err-store-clause-any_moment : goal.returns-in_err-store-clause-any_moment
+returns-in_err-store-clause-any_moment g c honest s stands =
+    let p = err_from_is_err_and c.from_residual.result c.from_residual.ensures.1 in
+    let start = g.D.Disk.facts c.args.disk in
+    rw (p.1, p.2) (weaken (Mixture start) (λ m. Mixture start m ⊎ StandsOld m s ⊎ Stands m (upgraded s)) (λ m mixture. inl mixture) (c.in_err-store.ensures.any_moment honest))
+
+pub returns-in-Current-clause-calls : goal.returns-in-Current-clause-calls
+returns-in-Current-clause-calls g c =
+    let facts = g.D.Disk.facts in
+    more_calls (subst (λ l. AreCalls (facts c.args.disk) (facts (seen l).disk)) c.in-Current.is c.in_ok-store.ensures.calls.some) c.admit_current.ensures.calls
+
+pub returns-in-Current-clause-calls_current : goal.returns-in-Current-clause-calls_current
+returns-in-Current-clause-calls_current g c honest s stands =
+    let facts = g.D.Disk.facts in
+    let start = facts c.args.disk in
+    let looked = subst (λ l. AreCallsExactly (3 + length (catalogues_of (seen l).root) + length (seen l).entries) start (facts (seen l).disk)) c.in-Current.is c.in_ok-store.ensures.all_calls in
+    admitted_calls facts start c.in-Current.store looked c.admit_current.result c.admit_current.ensures.kept c.admit_current.ensures.all_calls
+
+pub returns-in-Old-clause-calls : goal.returns-in-Old-clause-calls
+returns-in-Old-clause-calls g c =
+    let facts = g.D.Disk.facts in
+    more_calls (subst (λ l. AreCalls (facts c.args.disk) (facts (seen l).disk)) c.in-Old.is c.in_ok-store.ensures.calls.some) c.admit_old.ensures.calls
+
+pub returns-in-Old-clause-calls_old : goal.returns-in-Old-clause-calls_old
+returns-in-Old-clause-calls_old g c honest s stands =
+    let facts = g.D.Disk.facts in
+    let start = facts c.args.disk in
+    let at = old_at facts c.in_ok-store.field-0 c.in-Old.store c.in-Old.is s (c.in_ok-store.ensures.stands_old honest s stands.stored) in
+    let looked = subst (λ l. AreCallsExactly (3 + length (catalogues_of (seen l).root) + length (seen l).entries) start (facts (seen l).disk)) c.in-Old.is c.in_ok-store.ensures.all_calls in
+    relisted_calls facts start c.in-Old.store looked (at.stands _ (g.met.D.Disk.holds_now _ at.honest)).of_version c.admit_old.result c.admit_old.ensures.placed c.admit_old.ensures.all_calls

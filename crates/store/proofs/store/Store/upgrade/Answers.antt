@@ -1,12 +1,16 @@
-use Rattle.std.proofs.Common.{◌≡◌, inl, inr, subst, ◌∙◌}
-use Rattle.std.proofs.lemmas.Result.{err_from_is_err_and, IfOk-weaker}
+use Rattle.std.proofs.Common.{◌≡◌, ◌≢◌, ◌⊎◌, inl, inr, ◌+◌, length, sym, subst, ◌∙◌, arith}
+use Rattle.std.proofs.lemmas.Result.{err_from_is_err_and, IfOk-weaker, IfErr-weaker}
+use Rattle.sector_disk.specs.Disk.{Mixture, LeavesOnly, AreCallsExactly, AreCallsAtMost}
+use Rattle.sector_disk.proofs.Moments.{weaken, at_most_sum}
+use Rattle.store.specs.Stands.{Stands, StandsOld, catalogues_of}
+use Rattle.store.specs.declared.refusal.StoreRefusal.TheVariants.{Device}
 use Rattle.store.specs.Looked.{seen}
 use Rattle.store.specs.Opened.{IsAt}
 use Rattle.store.specs.Step.{refusal_of_upgrade, answer_of, IsUpgradeAnswer}
 use Rattle.store.specs.Taken.{IsRelisted}
 use Rattle.store.specs.Upgraded.{upgraded, IsUpgradeOf, IsRelistedFrom}
 use Rattle.states.specs.State.{State}
-use Rattle.store.proofs.Upgrades.{as_committed, as_looked, seen_current, current_at, seen_old, old_at, current_found, old_found, sectors_seen, relisted_from, then_committed}
+use Rattle.store.proofs.Upgrades.{as_committed, as_looked, seen_current, current_at, seen_old, old_at, current_found, old_found, sectors_seen, relisted_from, relisted_calls, then_committed}
 use Rattle.store.proofs.store.Store.upgrade.Goals as goal
 
 pub returns-in_err-store-clause-stands : goal.returns-in_err-store-clause-stands
@@ -102,3 +106,39 @@ returns-in-Old-clause-placed_old g c honest s stands =
     let same = subst (λ l. (g.D.Disk.facts (seen l).disk).now ≡ now) c.in-Old.is (c.in_ok-store.ensures.now honest) in
     IfOk-weaker c.commit.result (IsRelisted c.in-Old.store) (IsRelistedFrom now s)
     (relisted_from g.D.Disk.facts c.in-Old.store s at (g.met.D.Disk.holds_now _ at.honest) now same) c.commit.ensures.placed
+
+pub returns-in_err-store-clause-any_moment : goal.returns-in_err-store-clause-any_moment
+returns-in_err-store-clause-any_moment g c honest s stands =
+    let p = err_from_is_err_and c.from_residual.result c.from_residual.ensures.1 in
+    let start = g.D.Disk.facts c.args.disk in
+    rw (p.1, p.2) (weaken (Mixture start) (λ m. Mixture start m ⊎ StandsOld m s ⊎ Stands m (upgraded s)) (λ m mixture. inl mixture) (c.in_err-store.ensures.any_moment honest))
+
+pub returns-in-Old-clause-unwritten : goal.returns-in-Old-clause-unwritten
+returns-in-Old-clause-unwritten g c honest =
+    let facts = g.D.Disk.facts in
+    let start = facts c.args.disk in
+    let leaves = subst (λ l. LeavesOnly start (facts (seen l).disk) (Mixture start)) c.in-Old.is (c.in_ok-store.ensures.any_moment honest) in
+    IfErr-weaker c.commit.result (λ e. e.0 ≢ Device → e.1 ≡ c.in-Old.store.disk) (λ e. e.0 ≢ Device → LeavesOnly start (facts e.1) (Mixture start))
+    (λ e untouched not. subst (λ d. LeavesOnly start (facts d) (Mixture start)) (sym (untouched not)) leaves) c.commit.ensures.untouched
+
+pub returns-in-Old-clause-now_refused : goal.returns-in-Old-clause-now_refused
+returns-in-Old-clause-now_refused g c honest =
+    let facts = g.D.Disk.facts in
+    let now = (facts c.args.disk).now in
+    let same = subst (λ l. (facts (seen l).disk).now ≡ now) c.in-Old.is (c.in_ok-store.ensures.now honest) in
+    IfErr-weaker c.commit.result (λ e. e.0 ≢ Device → e.1 ≡ c.in-Old.store.disk) (λ e. e.0 ≢ Device → (facts e.1).now ≡ now)
+    (λ e untouched not. subst (λ d. (facts d).now ≡ now) (sym (untouched not)) same) c.commit.ensures.untouched
+
+pub returns-in-Old-clause-calls_old : goal.returns-in-Old-clause-calls_old
+returns-in-Old-clause-calls_old g c honest s stands =
+    let facts = g.D.Disk.facts in
+    let start = facts c.args.disk in
+    let at = old_at facts c.in_ok-store.field-0 c.in-Old.store c.in-Old.is s (c.in_ok-store.ensures.stands_old honest s stands) in
+    let looked = subst (λ l. AreCallsExactly (3 + length (catalogues_of (seen l).root) + length (seen l).entries) start (facts (seen l).disk)) c.in-Old.is c.in_ok-store.ensures.all_calls in
+    relisted_calls facts start c.in-Old.store looked (at.stands _ (g.met.D.Disk.holds_now _ at.honest)).of_version c.commit.result c.commit.ensures.placed c.commit.ensures.all_calls
+
+pub returns-in-Old-clause-calls : goal.returns-in-Old-clause-calls
+returns-in-Old-clause-calls g c =
+    let facts = g.D.Disk.facts in
+    let looked = subst (λ l. AreCallsAtMost 2083 (facts c.args.disk) (facts (seen l).disk)) c.in-Old.is c.in_ok-store.ensures.calls in
+    at_most_sum looked c.commit.ensures.calls (omega (arith, c.commit.ensures.few))

@@ -1,6 +1,6 @@
 use Rattle.std.proofs.Common.{Ok, inl, ap, subst, ◌∙◌}
 use Rattle.binders.specs.Stepped.{AdvancesIn, BeginsIn}
-use Rattle.binders.proofs.binders.Binders.happen.Goals as goal
+use Rattle.binders.proofs.binders.Binders.reply_to.Goals as goal
 
 pub returns-in-Ok : goal.returns-in-Ok
 returns-in-Ok g c = rw c.in-Begin.is
