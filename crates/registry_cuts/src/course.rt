@@ -1,239 +1,148 @@
 // Events of a registry with binders: as they are answered on a disk, cut at each of its calls, and
 // as they have to be.
 
-use crate::answer::Answer;
-use crate::change::{Ask, Change};
-use crate::disk::opened;
-use crate::life::{Place, add_places};
-use crate::opening::{Sides, cut_openings, open_left};
-use crate::plain_binders::{Event, PlainBinders};
-use crate::probe::Probe;
-use crate::rounds::are_same;
-use crate::seen::look_plain;
-use crate::step::plain_after;
+use crate::cut::Cut;
+use crate::event::Event;
+use crate::mixture::leave_same;
+use crate::plain::Plain;
+use crate::run::{Beginning, Run};
+use crate::seen::{Probe, Seen};
+use crate::tally::Tally;
+use crate::wanted::Which;
 use anyhow::Result;
-use binders::Binders;
-use cuts::{Cut, Mixtures, Powered, Tally};
-use requests::Command;
 use sector_disk::Memory;
 use std::alloc::Global;
-
-// No call of the disk is cut.
-const UNCUT: Place = Place {
-    step: usize::MAX,
-    cut: Cut {
-        opening: 0,
-        call: 0,
-        late: false,
-        forever: false,
-    },
-};
+use std::rc::Rc;
 
 // What comes on a disk that is opened again: no binder lives there, and a new one is bound.
-static AGAIN: [Event; 8] = [
-    Event::Advance(0),
-    Event::Begin(b'a'),
-    Event::Advance(0),
-    Event::Advance(0),
-    Event::Advance(0),
-    Event::Advance(0),
-    Event::Advance(0),
-    Event::Cancel(0),
-];
-
-// An event, and the bytes of its file.
-#[derive(Drop)]
-struct Asked {
-    event: Event,
-    ask: Ask,
-}
+const AGAIN: &str =
+    "advance 0; begin a; advance 0; advance 0; advance 0; advance 0; advance 0; cancel 0";
 
 /// A disk of so many sectors after some changes, and the events on it.
 #[derive(Drop)]
 pub(crate) struct Course {
     sectors: u32,
-    start: Vec<Change>,
-    disk: Memory,
-    asked: Vec<Asked>,
-}
-
-impl Asked {
-    fn of(alloc: Global, event: Event) -> Result<Asked> {
-        let change = match event {
-            Event::Give(change) => change,
-            Event::Begin(needed) => Change::Bind(needed),
-            Event::Advance(_) | Event::Cancel(_) => Change::List,
-        };
-        let ask = Ask::of(alloc, change)?;
-        Ok(Asked { event, ask })
-    }
-
-    // The event as binders take it.
-    fn event(&self) -> binders::Event<'_> {
-        match (self.event, self.ask.command()) {
-            (Event::Begin(_), Command::Bind { program, base }) => {
-                binders::Event::Begin { program, base }
-            }
-            (Event::Advance(slot), _) => binders::Event::Advance(slot),
-            (Event::Cancel(slot), _) => binders::Event::Cancel(slot),
-            (_, command) => binders::Event::Apply(command),
-        }
-    }
-}
-
-// Lets events happen: the answers.
-fn happen(alloc: Global, binders: &mut Binders<Powered>, asked: &[Asked]) -> Result<Vec<Answer>> {
-    let mut events = Vec::new(alloc);
-    for one in asked {
-        events.push(one.event())?;
-    }
-    let mut answers = Vec::new(alloc);
-    for reply in binders.run_events(&events)? {
-        answers.push(Answer::of_event(alloc, reply)?)?;
-    }
-    Ok(answers)
-}
-
-// Whether a stop leaves the same of two disks.
-fn leave_same(alloc: Global, one: &Memory, other: &Memory) -> Result<bool> {
-    let mut ones = Mixtures::of(alloc, one)?;
-    let mut others = Mixtures::of(alloc, other)?;
-    let count = ones.count()?;
-    let mut right = count == others.count()?;
-    for _ in 0..count {
-        right = right && are_same(alloc, ones.next(one)?, &others.next(other)?)?;
-    }
-    Ok(right)
+    start: Vec<Rc<Event>>,
+    pub(crate) run: Run,
+    pub(crate) probe: Probe,
 }
 
 impl Course {
-    /// These events on a disk that holds a registry after these changes.
+    /// These events on a disk that holds a registry after these changes. How many of its sectors
+    /// are free is looked at too, with `room`.
     pub(crate) fn on(
         alloc: Global,
         disk: Memory,
         sectors: u32,
-        start: &[Change],
-        events: &[Event],
+        start: &[Rc<Event>],
+        events: &[Rc<Event>],
+        room: bool,
     ) -> Result<Course> {
-        let mut asked = Vec::new(alloc);
-        for event in events {
-            asked.push(Asked::of(alloc, *event)?)?;
-        }
         Ok(Course {
             sectors,
-            start: Vec::from_slice(alloc, start)?,
-            disk,
-            asked,
+            start: start.to_vec(alloc)?,
+            run: Run {
+                disk,
+                beginning: Beginning::Open,
+                events: events.to_vec(alloc)?,
+            },
+            probe: Probe::new(alloc, if room { sectors } else { 0 })?,
         })
     }
 
-    // What the first events are answered on the disk, and the disk.
-    fn run(&self, alloc: Global, count: usize, cut: Cut) -> Result<(Vec<Answer>, Memory)> {
-        let asked = self.asked.get(..count).unwrap_or(&self.asked);
-        let registry = opened(alloc, cut.of(self.disk.copy()?))?;
-        let mut binders = Binders::new(alloc, registry);
-        let answers = happen(alloc, &mut binders, asked);
-        let disk = binders.into_registry().into_disk().into_inner();
-        Ok((answers?, disk))
+    /// The plain registry with binders on which they happen.
+    pub(crate) fn plain(&self, alloc: Global, keeps: bool) -> Result<Plain> {
+        Plain::after(alloc, self.sectors, &self.start, keeps)
     }
 
-    // The plain registry with binders on which they happen.
-    fn plain(&self, alloc: Global, keeps: bool) -> Result<PlainBinders> {
-        PlainBinders::after(alloc, self.sectors, &self.start, keeps)
-    }
-
-    // What the first events have to be answered.
-    fn wanted(
-        &self,
-        alloc: Global,
-        plain: &mut PlainBinders,
-        count: usize,
-        place: Place,
-    ) -> Result<Vec<Answer>> {
-        let mut answers = Vec::new(alloc);
-        for (at, one) in self.asked.iter().take(count).enumerate() {
-            answers.push(plain.happen(one.event, place.cut_at(at))?.0)?;
+    /// The cuts of each call of its opening and of each event, and of one behind them all, which
+    /// nothing makes.
+    pub(crate) fn cuts(&self, alloc: Global) -> Result<Vec<Cut>> {
+        let mut before = Seen::after(alloc, self.sectors, &self.start, &self.probe)?.opening;
+        let mut cuts = Cut::all(alloc, 0, 0, before)?;
+        let mut plain = self.plain(alloc, true)?;
+        let mut number = 1usize;
+        for event in &self.run.events {
+            let (_, calls) = plain.happen(event, None)?;
+            cuts.extend_from_slice(&Cut::all(alloc, number, before, calls)?)?;
+            before = before.saturating_add(calls);
+            number = number.saturating_add(1);
         }
-        Ok(answers)
+        cuts.extend_from_slice(&Cut::all(alloc, number, before, 1)?)?;
+        Ok(cuts)
     }
 
-    // Whether the first events, cut at a place, are answered as they have to be; and the disk.
-    fn answer(
-        &self,
-        alloc: Global,
-        plain: &mut PlainBinders,
-        count: usize,
-        place: Place,
-    ) -> Result<(bool, Memory)> {
-        let wanted = self.wanted(alloc, plain, count, place)?;
-        let (answers, disk) = self.run(alloc, count, place.cut)?;
-        Ok((answers == wanted, disk))
+    // Lets the first events happen, cut so, and compares the answers: the plain registry, and the
+    // disk.
+    fn leave(&self, tally: &mut Tally, count: usize, cut: Cut) -> Result<(Plain, Memory)> {
+        let alloc = tally.rt.alloc();
+        let mut plain = self.plain(alloc, !tally.on_purpose)?;
+        let wanted = plain.run(
+            self.run.events.get(..count).unwrap_or(&self.run.events),
+            cut,
+        )?;
+        let (told, disk) = self.run.cut(alloc, count, cut)?;
+        tally.count(told == Ok(wanted), &cut, "the answers")?;
+        Ok((plain, disk.into_inner()))
     }
 
-    // Opens what is left, at once, after each stop, and with its opening cut.
-    fn open_states(
-        &self,
-        rt: &HostRuntime,
-        tally: &mut Tally,
-        plain: &PlainBinders,
-        disk: &Memory,
-        cut: Cut,
-    ) -> Result<()> {
-        let probe = Probe::of_room(rt.alloc(), b'a', self.sectors)?;
-        let (old, new) = plain.states(&probe)?;
-        let sides = Sides {
-            old: &old,
-            new: &new,
-            probe: &probe,
-        };
-        open_left(rt, tally, disk, cut, sides, plain.wanted())?;
-        if cut.forever {
-            cut_openings(rt, tally, disk, sides, plain.wanted())?;
-        }
-        Ok(())
-    }
-
-    // Lets the first events happen, cut at a place, and opens what is left: the disk.
-    fn open(
-        &self,
-        rt: &HostRuntime,
-        tally: &mut Tally,
-        plain: &mut PlainBinders,
-        count: usize,
-        place: Place,
-    ) -> Result<Memory> {
-        let (right, disk) = self.answer(rt.alloc(), plain, count, place)?;
-        tally.count(rt, right, &(count, place.cut), "the answers")?;
-        self.open_states(rt, tally, plain, &disk, place.cut)?;
-        Ok(disk)
-    }
-
-    // Whether the event at this place of the list is a change.
-    fn is_change(&self, at: usize) -> bool {
-        match self.asked.get(at) {
-            Some(one) => matches!(
-                one.event,
-                Event::Give(
-                    Change::Install(..)
-                        | Change::Replace(..)
-                        | Change::Remove(_)
-                        | Change::Choose(_)
-                )
-            ),
+    // Whether this event is a change, counted from 1.
+    fn is_change(&self, number: usize) -> bool {
+        match self.run.events.get(number.saturating_sub(1)) {
+            Some(event) => event.is_change(),
             None => false,
         }
     }
 
+    // Lets the events happen, cut so, and opens what is left. Where one call alone is cut, that is
+    // what is left where all behind it are: a change that failed is followed by no call, and a bind
+    // that failed changes nothing. A call that fails before it reaches the disk leaves what the one
+    // before it leaves where it fails late.
+    fn cut_list_at(&self, tally: &mut Tally, cut: Cut) -> Result<()> {
+        let count = self.run.events.len();
+        let (plain, disk) = self.leave(tally, count, cut)?;
+        let wanted = plain.wanted;
+        let mut sides = plain.sides(&self.probe)?;
+        if tally.on_purpose {
+            sides.exchange();
+        }
+        sides.open(tally, &disk, cut, wanted)?;
+        if cut.forever && cut.late {
+            sides.cut_openings(tally, &disk, wanted)?;
+            sides.cut_stopped(tally, &disk)?;
+        }
+        if !cut.forever && cut.event <= count {
+            let (_, disk) = self.run.cut(tally.rt.alloc(), count, cut)?;
+            sides.open_behind(tally, disk, cut, wanted)?;
+        }
+        Ok(())
+    }
+
+    /// Cuts a list of commands at each of its calls, those of its opening too, and behind them all;
+    /// and then each opening of what is left, before a stop and after it.
+    pub(crate) fn cut_list(&self, tally: &mut Tally) -> Result<()> {
+        let plain = self.plain(tally.rt.alloc(), true)?;
+        let sides = plain.sides(&self.probe)?;
+        sides.cut_openings(tally, &self.run.disk, plain.wanted)?;
+        for &cut in &self.cuts(tally.rt.alloc())? {
+            if !cut.is_in_opening() {
+                self.cut_list_at(tally, cut)?;
+            }
+        }
+        Ok(())
+    }
+
     /// Opens what is left behind each event, where no call is cut. What is no change leaves the
     /// disk as it was.
-    pub(crate) fn follow(&self, rt: &HostRuntime, tally: &mut Tally, keeps: bool) -> Result<()> {
-        let alloc = rt.alloc();
-        let mut before = self.disk.copy()?;
-        for count in 1..=self.asked.len() {
-            let disk = self.open(rt, tally, &mut self.plain(alloc, keeps)?, count, UNCUT)?;
-            if !self.is_change(count.saturating_sub(1)) {
-                let right = leave_same(alloc, &disk, &before)?;
-                tally.count(rt, right, &count, "the disk behind a step")?;
+    pub(crate) fn follow(&self, tally: &mut Tally) -> Result<()> {
+        let mut before = self.run.disk.copy()?;
+        for count in 1..=self.run.events.len() {
+            let (plain, disk) = self.leave(tally, count, Cut::NONE)?;
+            let sides = plain.sides(&self.probe)?;
+            sides.open(tally, &disk, Cut::NONE, plain.wanted)?;
+            if !self.is_change(count) {
+                let right = leave_same(tally.rt.alloc(), &disk, &before)?;
+                tally.count(right, &count, "the disk behind a step")?;
             }
             before = disk;
         }
@@ -241,60 +150,45 @@ impl Course {
     }
 
     // Opens the disk that is left again, and binds there: no binder lives.
-    fn go_on(
-        &self,
-        rt: &HostRuntime,
-        tally: &mut Tally,
-        plain: &PlainBinders,
-        disk: Memory,
-    ) -> Result<()> {
-        let alloc = rt.alloc();
-        let again = Course::on(alloc, disk, self.sectors, &plain.reopened()?, &AGAIN)?;
-        let mut plain = again.plain(alloc, true)?;
-        let (right, _) = again.answer(alloc, &mut plain, AGAIN.len(), UNCUT)?;
-        tally.count(rt, right, &UNCUT.cut, "the answers once more")
+    fn go_on(&self, tally: &mut Tally, plain: &Plain, disk: Memory) -> Result<()> {
+        let alloc = tally.rt.alloc();
+        let events = Event::all(alloc, AGAIN)?;
+        let start = plain.changes(plain.wanted.reopened != Which::Old);
+        let again = Course::on(alloc, disk, self.sectors, start, &events, false)?;
+        let _ = again.leave(tally, events.len(), Cut::NONE)?;
+        Ok(())
     }
 
     // Cuts a call, and opens what is left. A change that failed leaves what it left, whatever comes
     // behind it, and a read that failed leaves what it found.
-    fn cut(&self, rt: &HostRuntime, tally: &mut Tally, place: Place) -> Result<()> {
-        let alloc = rt.alloc();
-        let mut plain = self.plain(alloc, true)?;
-        let disk = self.open(rt, tally, &mut plain, self.asked.len(), place)?;
-        let is_change = self.is_change(place.step);
-        if place.cut.forever || is_change {
-            let count = place.step.saturating_add(usize::from(is_change));
-            let (_, left) = self.run(alloc, count, place.cut)?;
-            let right = leave_same(alloc, &disk, &left)?;
-            tally.count(rt, right, &place.cut, "the disk behind what failed")?;
+    fn cut_flight_at(&self, tally: &mut Tally, cut: Cut) -> Result<()> {
+        let (plain, disk) = self.leave(tally, self.run.events.len(), cut)?;
+        let sides = plain.sides(&self.probe)?;
+        sides.open(tally, &disk, cut, plain.wanted)?;
+        if cut.forever {
+            sides.cut_openings(tally, &disk, plain.wanted)?;
         }
-        self.go_on(rt, tally, &plain, disk)
-    }
-
-    // How many calls the opening of the disk makes.
-    fn opening_calls(&self, alloc: Global) -> Result<u64> {
-        let probe = Probe::of_name(alloc, b'a')?;
-        let mut plain = plain_after(alloc, self.sectors, &self.start)?;
-        Ok(look_plain(alloc, &mut plain, &probe)?.opening_calls())
-    }
-
-    // Each call of each event.
-    fn places(&self, alloc: Global) -> Result<Vec<Place>> {
-        let mut places = Vec::new(alloc);
-        let mut opening = self.opening_calls(alloc)?;
-        let mut plain = self.plain(alloc, true)?;
-        for (at, one) in self.asked.iter().enumerate() {
-            let (_, calls) = plain.happen(one.event, None)?;
-            add_places(alloc, &mut places, at, opening, calls)?;
-            opening = opening.saturating_add(calls);
+        let is_change = self.is_change(cut.event);
+        if cut.forever || is_change {
+            let count = if is_change {
+                cut.event
+            } else {
+                cut.event.saturating_sub(1)
+            };
+            let left = self.run.left(tally.rt.alloc(), count, cut)?;
+            let right = leave_same(tally.rt.alloc(), &disk, &left)?;
+            tally.count(right, &cut, "the disk behind what failed")?;
         }
-        Ok(places)
+        self.go_on(tally, &plain, disk)
     }
 
-    /// Cuts each call of each event.
-    pub(crate) fn cut_each(&self, rt: &HostRuntime, tally: &mut Tally) -> Result<()> {
-        for place in &self.places(rt.alloc())? {
-            self.cut(rt, tally, *place)?;
+    /// Opens what is left behind each event, and cuts each call of each event.
+    pub(crate) fn cut_flights(&self, tally: &mut Tally) -> Result<()> {
+        self.follow(tally)?;
+        for &cut in &self.cuts(tally.rt.alloc())? {
+            if !cut.is_in_opening() && cut.event <= self.run.events.len() {
+                self.cut_flight_at(tally, cut)?;
+            }
         }
         Ok(())
     }

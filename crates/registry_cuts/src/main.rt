@@ -1,29 +1,43 @@
 //! The program `registry_cuts`: cuts the power of registries at every call of their disk, opens
 //! every mixture that is left, and compares what is listed and bound with what may stand.
+//!
+//! The words of the command line name the files of its rows; its README has their form.
 #![tactic(auto)]
 
 mod answer;
-mod change;
 mod course;
-mod disk;
-mod flights;
-mod game;
-mod groups;
-mod life;
-mod lists;
-mod lives;
-mod old;
-mod opening;
-mod plain_binders;
-mod probe;
+mod cut;
+mod event;
+mod mixture;
+mod plain;
 mod rounds;
+mod row;
+mod run;
 mod seen;
-mod step;
-mod trial;
+mod sides;
+mod tally;
 mod upgrades;
+mod wanted;
 
 use anyhow::Result;
+use row::run_file;
+use std::env;
+use tally::Tally;
 
 fn main(rt: HostRuntime) -> Result<()> {
-    groups::run(&rt)
+    let (mut all, mut all_wrong) = (0u64, 0u64);
+    for file in env::args(&rt)?.skip(1) {
+        let mut tally = Tally::new(&rt);
+        run_file(&mut tally, file.as_str())?;
+        let (openings, wrong) = (tally.openings, tally.wrong);
+        if tally.on_purpose {
+            println!(rt; "{file}: {openings} openings, {wrong} wrong on purpose")?;
+        } else {
+            println!(rt; "{file}: {openings} openings, {wrong} wrong")?;
+            all = all.saturating_add(openings);
+            all_wrong = all_wrong.saturating_add(wrong);
+        }
+    }
+    println!(rt; "total: {all} openings, {all_wrong} wrong")?;
+    Ok(())
 }

@@ -1,172 +1,209 @@
 // Rounds: whole lives of a disk with a stop after each run, as `run_rounds` plays them. Each is
-// played by hand too, to see what its sectors may keep.
+// played by hand too, to see what its sectors may keep: cut at each of its calls, with every pick.
 
-use crate::answer::Answer;
-use crate::change::Change;
-use crate::life::{Life, Place};
-use anyhow::{Context, Result, bail};
-use cuts::{Cut, Mixtures, Tally, sector};
-use registry::{Registry, Round, RoundReplies, run_rounds};
-use sector_disk::{Disk, Memory};
+use crate::answer::answers;
+use crate::course::Course;
+use crate::cut::Cut;
+use crate::event::Event;
+use crate::mixture::{all_picks, leave_same, stopped};
+use crate::plain::Plain;
+use crate::run::{Told, disk_after};
+use crate::tally::Tally;
+use anyhow::{Result, bail};
+use registry::{Round, RoundReplies, run_rounds};
+use sector_disk::Memory;
 use std::alloc::Global;
+use std::rc::Rc;
 use store::StoreRefusal;
 
-/// Where a round is cut: in its opening, where it has no place, or at a command.
-#[derive(Clone, Copy)]
-pub(crate) struct Moment {
-    pub(crate) place: Option<Place>,
-    pub(crate) cut: Cut,
-}
+// Lists of picks that are shorter than the disk: they are taken over and over.
+const SHORT: [&[usize]; 5] = [&[], &[0], &[1], &[1, 0], &[0, 1, 1]];
 
-/// A round: which of the lives it is, where it is cut, and what each sector keeps at the stop.
+// A round: where it is cut, what has to be told of it, and what each sector keeps at the stop.
 #[derive(Drop)]
-pub(crate) struct Turn {
-    pub(crate) life: usize,
-    pub(crate) moment: Moment,
-    pub(crate) picks: Vec<usize>,
+struct Turn {
+    cut: Cut,
+    told: Rc<Told>,
+    picks: Vec<usize>,
 }
 
-// No cut: call 0 is none.
-fn uncut(life: &Life) -> Moment {
-    let cut = Cut {
-        opening: 0,
-        call: 0,
-        late: false,
-        forever: true,
-    };
-    let step = life.steps.len();
-    Moment {
-        place: Some(Place { step, cut }),
-        cut,
-    }
+// Rounds that were played: what was done in them and before, and the disk behind them.
+#[derive(Drop)]
+struct Past {
+    turns: Vec<Rc<Turn>>,
+    done: Vec<Rc<Event>>,
+    disk: Memory,
 }
 
-/// Each call of a life that may fail, and one behind them all, early and late, and none: the power
-/// stays cut.
-pub(crate) fn moments_of(alloc: Global, life: &Life) -> Result<Vec<Moment>> {
-    let mut moments = Vec::new(alloc);
-    for cut in Cut::all(alloc, 0, life.opening_calls())? {
-        if cut.forever {
-            moments.push(Moment { place: None, cut })?;
-        }
-    }
-    for place in life.places(alloc)? {
-        let cut = place.cut;
-        if cut.forever {
-            let place = Some(place);
-            moments.push(Moment { place, cut })?;
-        }
-    }
-    moments.push(uncut(life))?;
-    Ok(moments)
+// Rounds of commands on a disk of so many sectors with a registry, and what was played, with the
+// last of them that were.
+#[derive(Drop)]
+struct Game {
+    sectors: u32,
+    disk: Memory,
+    rounds: Vec<Vec<Rc<Event>>>,
+    played: Vec<Past>,
 }
 
-impl Moment {
-    /// The disk of a life that is cut so, before its stop.
-    pub(crate) fn leave(self, alloc: Global, life: &Life) -> Result<Memory> {
-        let commands = life.commands(alloc)?;
-        match Registry::open(alloc, self.cut.of(life.disk.copy()?)) {
-            Ok(registry) => {
-                let mut registry = registry;
-                let replies = registry.run(&commands);
-                let disk = registry.into_disk();
-                let _ = replies?;
-                Ok(disk.into_inner())
-            }
-            Err((_, disk)) => Ok(disk.into_inner()),
-        }
+// What is told of a round.
+fn told_of(alloc: Global, replies: RoundReplies) -> Result<Told> {
+    match replies {
+        RoundReplies::Ran(replies) => Ok(Ok(answers(alloc, &replies)?)),
+        RoundReplies::NotRun(refusal) => Ok(Err(refusal)),
     }
 }
 
-impl Turn {
-    /// The same round.
-    pub(crate) fn copy(&self, alloc: Global) -> Result<Turn> {
-        Ok(Turn {
-            life: self.life,
-            moment: self.moment,
-            picks: Vec::from_slice(alloc, &self.picks)?,
-        })
+// The round as `run_rounds` takes it.
+fn round<'b>(alloc: Global, turn: &Turn, events: &'b [Rc<Event>]) -> Result<Round<'b>> {
+    let mut commands = Vec::new(alloc);
+    for event in events {
+        commands.push(event.command())?;
     }
-
-    // The round as `run_rounds` takes it.
-    fn round<'a>(&self, alloc: Global, lives: &'a [Life]) -> Result<Round<'a>> {
-        let cut = self.moment.cut;
-        let life = lives.get(self.life).context("no life")?;
-        Ok(Round {
-            commands: life.commands(alloc)?,
-            cut: cut.opening.saturating_add(cut.call),
-            late: cut.late,
-            picks: Vec::from_slice(alloc, &self.picks)?,
-        })
-    }
-
-    // Whether this is what has to be told of the round.
-    fn is_told(&self, alloc: Global, lives: &[Life], told: RoundReplies) -> Result<bool> {
-        let life = lives.get(self.life).context("no life")?;
-        match (told, self.moment.place) {
-            (RoundReplies::Ran(replies), Some(place)) => {
-                Ok(life.are_answered(&Answer::all(alloc, replies)?, place))
-            }
-            (RoundReplies::NotRun(refusal), None) => Ok(refusal == StoreRefusal::Device),
-            _ => Ok(false),
-        }
-    }
+    Ok(Round {
+        commands,
+        cut: turn.cut.number,
+        late: turn.cut.late,
+        picks: Vec::from_slice(alloc, &turn.picks)?,
+    })
 }
 
-// The rounds as `run_rounds` takes them.
-fn rounds_of<'a>(alloc: Global, lives: &'a [Life], turns: &[Turn]) -> Result<Vec<Round<'a>>> {
-    let mut rounds = Vec::new(alloc);
-    for turn in turns {
-        rounds.push(turn.round(alloc, lives)?)?;
-    }
-    Ok(rounds)
-}
-
-// Whether all that has to be told of each round is told.
-fn are_told(
+// Rounds with one more behind them.
+fn and_turn(
     alloc: Global,
-    lives: &[Life],
-    turns: &[Turn],
-    told: Vec<RoundReplies>,
-) -> Result<bool> {
-    let mut right = told.len() == turns.len();
-    for (turn, told) in turns.iter().zip(told) {
-        right = turn.is_told(alloc, lives, told)? && right;
-    }
-    Ok(right)
+    turns: &[Rc<Turn>],
+    cut: Cut,
+    told: &Rc<Told>,
+    picks: &[usize],
+) -> Result<Vec<Rc<Turn>>> {
+    let mut all = turns.to_vec(alloc)?;
+    let turn = Turn {
+        cut,
+        told: Rc::clone(told)?,
+        picks: Vec::from_slice(alloc, picks)?,
+    };
+    all.push(Rc::new(alloc, turn)?)?;
+    Ok(all)
 }
 
-/// Whether two disks hold the same, and a stop leaves nothing else of the first.
-pub(crate) fn are_same(alloc: Global, disk: Memory, other: &Memory) -> Result<bool> {
-    let mut right = Mixtures::of(alloc, &disk)?.count()? == 1;
-    let (mut disk, mut other) = (disk, other.copy()?);
-    right = right && disk.sectors() == other.sectors();
-    for at in 0..disk.sectors() {
-        right = right && sector(&mut disk, at)? == sector(&mut other, at)?;
+// What has to be told of a round that is cut so, and the plain registry behind it. Where its
+// opening is cut nothing is done, as where its first call is.
+fn outcome(alloc: Global, course: &Course, cut: Cut) -> Result<(Told, Plain)> {
+    let mut plain = course.plain(alloc, true)?;
+    if cut.is_in_opening() {
+        let _ = plain.run(
+            course.run.events.get(..1).unwrap_or(&course.run.events),
+            cut,
+        )?;
+        return Ok((Err(StoreRefusal::Device), plain));
     }
-    Ok(right)
+    let answers = plain.run(&course.run.events, cut)?;
+    Ok((Ok(answers), plain))
 }
 
-/// Runs rounds from a disk, and compares what is told of them, and what is left at the end.
-pub(crate) fn compare(
-    rt: &HostRuntime,
+impl Game {
+    // Runs rounds from the first disk, and compares what is told of them, and what is left.
+    fn compare(&self, tally: &mut Tally, turns: &[Rc<Turn>], left: &Memory) -> Result<()> {
+        let alloc = tally.rt.alloc();
+        let mut rounds = Vec::new(alloc);
+        let mut cuts = Vec::new(alloc);
+        for (turn, events) in turns.iter().zip(&self.rounds) {
+            cuts.push(turn.cut)?;
+            rounds.push(round(alloc, turn, events)?)?;
+        }
+        let Ok((replies, disk)) = run_rounds(alloc, self.disk.copy()?, rounds) else {
+            bail!("no memory for the rounds");
+        };
+        let mut right = replies.len() == turns.len();
+        for (turn, replies) in turns.iter().zip(replies) {
+            right = told_of(alloc, replies)? == *turn.told && right;
+        }
+        tally.count(right, &cuts, "what is told of rounds")?;
+        let right = leave_same(alloc, &disk, left)?;
+        tally.count(right, &cuts, "the disk behind rounds")
+    }
+
+    // Plays a round behind these that is cut so, and stops its disk with every pick; behind no
+    // other round with fewer picks than sectors too. With `goes_on` another round comes.
+    fn cut(
+        &mut self,
+        tally: &mut Tally,
+        past: &Past,
+        course: &Course,
+        cut: Cut,
+        goes_on: bool,
+    ) -> Result<()> {
+        let alloc = tally.rt.alloc();
+        let (told, plain) = outcome(alloc, course, cut)?;
+        let told = Rc::new(alloc, told)?;
+        let mut sides = plain.sides(&course.probe)?;
+        if tally.on_purpose {
+            sides.exchange();
+        }
+        let disk = course.run.left(alloc, course.run.events.len(), cut)?;
+        if past.turns.is_empty() {
+            for picks in SHORT {
+                let turns = and_turn(alloc, &past.turns, cut, &told, picks)?;
+                self.compare(tally, &turns, &stopped(&disk, picks)?)?;
+            }
+        }
+        for picks in &all_picks(alloc, &disk)? {
+            let disk = stopped(&disk, picks)?;
+            let (_, is_new) = sides.see(tally, &disk, cut, plain.wanted.stopped)?;
+            let turns = and_turn(alloc, &past.turns, cut, &told, picks)?;
+            self.compare(tally, &turns, &disk)?;
+            if goes_on {
+                let done = plain.changes(is_new).to_vec(alloc)?;
+                self.played.push(Past { turns, done, disk })?;
+            }
+        }
+        Ok(())
+    }
+
+    // Plays one more round behind all that was played, cut at each of its calls and not at all.
+    fn play(&mut self, tally: &mut Tally, events: &[Rc<Event>], goes_on: bool) -> Result<()> {
+        let alloc = tally.rt.alloc();
+        self.rounds.push(events.to_vec(alloc)?)?;
+        let pasts = std::mem::replace(&mut self.played, Vec::new(alloc));
+        for past in &pasts {
+            let disk = past.disk.copy()?;
+            let course = Course::on(alloc, disk, self.sectors, &past.done, events, false)?;
+            for &cut in &course.cuts(alloc)? {
+                if cut.forever {
+                    self.cut(tally, past, &course, cut, goes_on)?;
+                }
+            }
+            self.cut(tally, past, &course, Cut::NONE, goes_on)?;
+        }
+        Ok(())
+    }
+}
+
+/// Plays rounds of commands, between which ` / ` stands, on a disk of so many sectors after these
+/// changes.
+pub(crate) fn play_rounds(
     tally: &mut Tally,
-    lives: &[Life],
-    turns: &[Turn],
-    left: &Memory,
+    sectors: u32,
+    start: &[Rc<Event>],
+    text: &str,
 ) -> Result<()> {
-    let alloc = rt.alloc();
-    let first = lives.first().context("no life")?;
-    let rounds = rounds_of(alloc, lives, turns)?;
-    let Ok((told, disk)) = run_rounds(alloc, first.disk.copy()?, rounds) else {
-        bail!("no memory for the rounds");
+    let alloc = tally.rt.alloc();
+    let disk = disk_after(alloc, sectors, start)?;
+    let past = Past {
+        turns: Vec::new(alloc),
+        done: start.to_vec(alloc)?,
+        disk: disk.copy()?,
     };
-    let place = match turns.last() {
-        Some(turn) => Some(turn.moment.cut),
-        None => None,
+    let mut game = Game {
+        sectors,
+        disk,
+        rounds: Vec::new(alloc),
+        played: Vec::new(alloc),
     };
-    let right = are_told(alloc, lives, turns, told)?;
-    tally.count(rt, right, &place, "what is told of rounds")?;
-    let right = are_same(alloc, disk, left)?;
-    tally.count(rt, right, &place, "the disk behind rounds")
+    game.played.push(past)?;
+    let mut left = text.split(" / ").count();
+    for round in text.split(" / ") {
+        left = left.saturating_sub(1);
+        game.play(tally, &Event::all(alloc, round)?, left > 0)?;
+    }
+    Ok(())
 }

@@ -1,239 +1,191 @@
-// Formats, and upgrades of disks of version 1, cut at each call, and upgrades of what such a cut
-// leaves once more.
+// Formats, and upgrades to version 2, cut at each of their calls.
 
-use crate::change::{A, B, C, Change};
-use crate::disk::disk_after;
-use crate::old::{Old, old_disk};
-use crate::probe::Probe;
-use crate::rounds::are_same;
-use crate::seen::{Seen, look, look_plain, look_upgraded};
-use crate::step::plain_after;
-use crate::trial::Trial;
-use anyhow::Result;
-use cuts::{Cut, FORMAT_CALLS, Mixtures, Tally, whole};
-use samples::SIZE;
-use sector_disk::{Disk, Memory};
+use crate::cut::Cut;
+use crate::event::Event;
+use crate::mixture::{all_picks, leave_same, stopped};
+use crate::run::{Beginning, Run, disk_after};
+use crate::seen::{Probe, Seen, look, look_upgraded};
+use crate::sides::Sides;
+use crate::tally::Tally;
+use crate::wanted::by_table;
+use anyhow::{Context, Result};
+use sector_disk::{Disk, Memory, SECTOR_BYTES};
 use std::alloc::Global;
+use std::fs;
+use std::rc::Rc;
 use store::StoreRefusal;
 
-// The sizes of the disks that are formatted, in sectors.
-static SIZES: [u32; 4] = [8, 10, 13, 16];
+// How many calls of the disk a format makes: two reads, a sync, the root, a sync.
+const FORMAT_CALLS: u64 = 5;
 
-/// Disks of version 1 with room for the catalogue twice: empty, with just that room, and with more.
-pub(crate) static OLD_DISKS: [Old; 6] = [
-    (8, &[], &[]),
-    (8, &[Change::Install(b'a', 0, SIZE)], &[2]),
-    (8, &[Change::Install(b'a', 0, 1536)], &[4]),
-    (
-        8,
-        &[
-            Change::Install(b'a', 0, SIZE),
-            Change::Install(b'b', 0, SIZE),
-            Change::Choose(&[B]),
-        ],
-        &[2, 6],
-    ),
-    (
-        11,
-        &[
-            Change::Install(b'c', 0, 600),
-            Change::Install(b'a', 0, SIZE),
-            Change::Choose(&[A, C]),
-            Change::Install(b'b', 1, SIZE),
-        ],
-        &[3, 9, 7],
-    ),
-    (
-        16,
-        &[
-            Change::Install(b'b', 0, 600),
-            Change::Choose(&[B]),
-            Change::Install(b'a', 0, 1100),
-        ],
-        &[12, 3],
-    ),
-];
-
-// Disks of version 1 without room for the catalogue twice: full, with one sector left, and with two
-// libraries and one sector left.
-static FULL_DISKS: [Old; 4] = [
-    (8, &[Change::Install(b'a', 0, 2560)], &[2]),
-    (8, &[Change::Install(b'a', 0, 2048)], &[2]),
-    (
-        8,
-        &[
-            Change::Install(b'a', 0, SIZE),
-            Change::Install(b'b', 0, SIZE),
-            Change::Install(b'c', 0, SIZE),
-            Change::Choose(&[B]),
-        ],
-        &[4, 2, 6],
-    ),
-    (
-        9,
-        &[Change::Install(b'a', 0, 600), Change::Install(b'b', 0, 600)],
-        &[6, 2],
-    ),
-];
-
-// Registries of version 2, on 10 sectors.
-static NEW_DISKS: [&[Change]; 3] = [
-    &[],
-    &[Change::Install(b'a', 0, 600), Change::Choose(&[A])],
-    &[
-        Change::Install(b'a', 0, SIZE),
-        Change::Install(b'b', 0, SIZE),
-        Change::Remove(A),
-    ],
-];
-
-// More room than any of these registries takes.
+// More room than any registry of a row takes.
 const AMPLE: u32 = 64;
 
-// An upgrade of a disk with the registry behind these changes, of version 1 or of version 2. The
-// calls of an opening are those that read; version 1 has no catalogue to read, and it writes that,
-// and then comes a sync, the root, and a sync.
-fn trial(alloc: Global, changes: &[Change], disk: Memory, is_old: bool) -> Result<Trial> {
-    let probe = Probe::of_name(alloc, b'a')?;
-    let mut plain = plain_after(alloc, AMPLE, changes)?;
-    let new = look_plain(alloc, &mut plain, &probe)?;
-    let again = look_plain(alloc, &mut plain, &probe)?;
-    let opening = new.opening_calls();
-    let (old, calls) = if is_old {
-        (again.before(), opening.saturating_add(3))
-    } else {
-        (again, opening)
-    };
-    Ok(Trial {
-        disk,
-        is_format: false,
-        calls,
-        refusal: None,
-        old,
-        new,
-        probe,
-    })
+// A format or an upgrade: how many calls of the disk it makes, how it is refused where none of them
+// fails, and what stands before and after it.
+#[derive(Drop)]
+struct Trial<'a> {
+    run: Run,
+    calls: u64,
+    refusal: Option<StoreRefusal>,
+    sides: Sides<'a>,
 }
 
-// Compares what is seen of the registry that an upgrade gives.
-fn look_on(rt: &HostRuntime, tally: &mut Tally, trial: &Trial) -> Result<()> {
-    let disk = whole(trial.disk.copy()?);
-    let seen = look_upgraded(rt.alloc(), disk, &trial.probe)?;
-    let right = seen == trial.new;
-    tally.count(rt, right, &trial.disk.sectors(), "what an upgrade gives")
-}
-
-// Upgrades once more all that one cut of an upgrade has left, cut at each call.
-fn cut_again(rt: &HostRuntime, tally: &mut Tally, changes: &[Change], disk: &Memory) -> Result<()> {
-    let alloc = rt.alloc();
-    let probe = Probe::of_name(alloc, b'a')?;
-    let mut mixtures = Mixtures::of(alloc, disk)?;
-    for _ in 0..mixtures.count()? {
-        let left = mixtures.next(disk)?;
-        let is_old = matches!(look(alloc, left.copy()?, &probe)?, Seen::Old(_));
-        trial(alloc, changes, left, is_old)?.cut_each(rt, tally)?;
+// The disk in a file, all synced.
+fn disk_in(tally: &Tally, file: &str) -> Result<Memory> {
+    let bytes = fs::read(tally.rt, file).context(format_args!("the file {file}"))?;
+    let sectors = u32::try_from(bytes.len().div_ceil(SECTOR_BYTES))?;
+    let mut disk = Memory::new(tally.rt.alloc(), sectors)?;
+    for (at, sector) in (0..disk.sectors()).zip(bytes.chunks(SECTOR_BYTES)) {
+        let mut content = [0; SECTOR_BYTES];
+        for (to, from) in content.iter_mut().zip(sector) {
+            *to = *from;
+        }
+        if at < disk.sectors() {
+            disk.write(at, &content)?;
+        }
     }
-    Ok(())
+    disk.sync()?;
+    Ok(disk)
 }
 
-// Upgrades once more what each cut of an upgrade has left, unless that is what it found.
-fn cut_all_again(
-    rt: &HostRuntime,
-    tally: &mut Tally,
-    changes: &[Change],
-    first: &Trial,
-) -> Result<()> {
-    for cut in &Cut::all(rt.alloc(), 0, first.calls)? {
-        if cut.forever {
-            let disk = first.left(rt.alloc(), *cut)?;
-            if !are_same(rt.alloc(), disk.copy()?, &first.disk)? {
-                cut_again(rt, tally, changes, &disk)?;
+impl<'a> Trial<'a> {
+    // What is made of a disk with the registry behind these changes. The calls of an opening are
+    // those that read. Version 1 has no catalogue to read: an upgrade writes that, and then comes a
+    // sync, the root, and a sync.
+    fn of(
+        alloc: Global,
+        beginning: Beginning,
+        disk: Memory,
+        changes: &[Rc<Event>],
+        probe: &'a Probe,
+    ) -> Result<Trial<'a>> {
+        let old = Seen::after(alloc, AMPLE, changes, probe)?;
+        let new = Seen::after(alloc, AMPLE, changes, probe)?;
+        let opening = new.opening;
+        let full = StoreRefusal::Full;
+        let (calls, refusal, old, new) = match beginning {
+            Beginning::Format => {
+                let none = Seen::refused(alloc, StoreRefusal::NotFormatted);
+                (FORMAT_CALLS, None, none, new)
+            }
+            Beginning::Upgrade => (opening.saturating_add(3), None, old.before_upgrade(), new),
+            Beginning::Open | Beginning::Newer => (opening, None, old, new),
+            Beginning::Full => {
+                let (old, new) = (Seen::refused(alloc, full), Seen::refused(alloc, full));
+                (opening.saturating_sub(1), Some(full), old, new)
+            }
+        };
+        Ok(Trial {
+            run: Run {
+                disk,
+                beginning,
+                events: Vec::new(alloc),
+            },
+            calls,
+            refusal,
+            sides: Sides { old, new, probe },
+        })
+    }
+
+    // Each call of the disk, early and late, for ever and once, and none.
+    fn cuts(&self, alloc: Global) -> Result<Vec<Cut>> {
+        Cut::all(alloc, 0, 0, self.calls.saturating_add(1))
+    }
+
+    // Cuts each call of the disk and opens what is left, and with `further` cuts each call of that.
+    // No registry is left that could answer S2.
+    fn cut_each(&self, tally: &mut Tally, further: bool) -> Result<()> {
+        let alloc = tally.rt.alloc();
+        for &cut in &self.cuts(alloc)? {
+            let is_cut = cut.call <= self.calls;
+            let wanted = by_table(cut.call, self.calls, cut.late);
+            let (told, disk) = self.run.cut(alloc, 0, cut)?;
+            let refusal = if is_cut {
+                Some(StoreRefusal::Device)
+            } else {
+                self.refusal
+            };
+            tally.count(told.err() == refusal, &cut, "the answer")?;
+            let disk = disk.into_inner();
+            self.sides.open(tally, &disk, cut, wanted)?;
+            if further && cut.forever {
+                self.sides.cut_openings(tally, &disk, wanted)?;
+            } else if further && is_cut {
+                let (_, disk) = self.run.cut(alloc, 0, cut)?;
+                self.sides.open_behind(tally, disk, cut, wanted)?;
             }
         }
+        Ok(())
     }
-    Ok(())
-}
 
-// A format of a disk of zeros.
-fn format_trial(alloc: Global, sectors: u32) -> Result<Trial> {
-    let probe = Probe::of_name(alloc, b'a')?;
-    let new = look_plain(alloc, &mut plain_after(alloc, sectors, &[])?, &probe)?;
-    Ok(Trial {
-        disk: Memory::new(alloc, sectors)?,
-        is_format: true,
-        calls: FORMAT_CALLS,
-        refusal: None,
-        old: Seen::Refused(StoreRefusal::NotFormatted),
-        new,
-        probe,
-    })
-}
-
-/// Cuts the format of a disk of each size at each of its calls.
-pub(crate) fn cut_formats(rt: &HostRuntime, tally: &mut Tally, wrong: bool) -> Result<()> {
-    for &sectors in &SIZES {
-        format_trial(rt.alloc(), sectors)?.cut_all(rt, tally, wrong)?;
+    // Compares what is seen of the registry that is made, without opening it again.
+    fn look_on(&self, tally: &mut Tally) -> Result<()> {
+        let disk = Cut::NONE.of(self.run.disk.copy()?);
+        let seen = look_upgraded(tally.rt.alloc(), disk, self.sides.probe)?;
+        tally.count(seen == self.sides.new, &Cut::NONE, "what an upgrade gives")
     }
-    Ok(())
-}
 
-/// Cuts the upgrade of each of these disks at each of its calls.
-pub(crate) fn cut_old(
-    rt: &HostRuntime,
-    tally: &mut Tally,
-    rows: &[Old],
-    wrong: bool,
-) -> Result<()> {
-    for row in rows {
-        let disk = old_disk(rt.alloc(), *row)?;
-        let first = trial(rt.alloc(), row.1, disk, true)?;
-        first.cut_all(rt, tally, wrong)?;
-        if !wrong {
-            look_on(rt, tally, &first)?;
-            cut_all_again(rt, tally, row.1, &first)?;
+    // Cuts the upgrades of what each cut has left, unless that is what it found.
+    fn cut_further(&self, tally: &mut Tally, changes: &[Rc<Event>]) -> Result<()> {
+        let alloc = tally.rt.alloc();
+        for &cut in &Cut::all(alloc, 0, 0, self.calls)? {
+            let disk = self.run.left(alloc, 0, cut)?;
+            if !cut.forever || leave_same(alloc, &disk, &self.run.disk)? {
+                continue;
+            }
+            for picks in &all_picks(alloc, &disk)? {
+                let left = stopped(&disk, picks)?;
+                let is_old = look(alloc, left.copy()?, self.sides.probe)? == self.sides.old;
+                let beginning = if is_old {
+                    Beginning::Upgrade
+                } else {
+                    Beginning::Newer
+                };
+                let again = Trial::of(alloc, beginning, left, changes, self.sides.probe)?;
+                again.cut_each(tally, false)?;
+            }
         }
+        Ok(())
     }
-    Ok(())
+
+    // Sees that nothing is written, wherever it is cut.
+    fn see_unwritten(&self, tally: &mut Tally) -> Result<()> {
+        let alloc = tally.rt.alloc();
+        for &cut in &self.cuts(alloc)? {
+            let right = leave_same(alloc, &self.run.left(alloc, 0, cut)?, &self.run.disk)?;
+            tally.count(right, &cut, "the disk that is left")?;
+        }
+        Ok(())
+    }
 }
 
-// An upgrade that is refused for want of room, once it has read what an opening reads but for the
-// catalogue.
-fn full_trial(alloc: Global, row: Old) -> Result<Trial> {
-    let probe = Probe::of_name(alloc, b'a')?;
-    let mut plain = plain_after(alloc, AMPLE, row.1)?;
-    let opening = look_plain(alloc, &mut plain, &probe)?.opening_calls();
-    Ok(Trial {
-        disk: old_disk(alloc, row)?,
-        is_format: false,
-        calls: opening.saturating_sub(1),
-        refusal: Some(StoreRefusal::Full),
-        old: Seen::Refused(StoreRefusal::Full),
-        new: Seen::Refused(StoreRefusal::Full),
-        probe,
-    })
-}
-
-/// Cuts upgrades that have no room, and those of disks of version 2: nothing is written.
-pub(crate) fn cut_unwritten(rt: &HostRuntime, tally: &mut Tally) -> Result<()> {
-    let alloc = rt.alloc();
-    for &row in &FULL_DISKS {
-        cut_reads(rt, tally, &full_trial(alloc, row)?)?;
+/// Cuts a format or an upgrade of a disk, with the registry behind these changes, at each of its
+/// calls; and upgrades of version 1 once more behind each cut. The disk is that of a file, or one
+/// of so many sectors.
+pub(crate) fn cut_making(
+    tally: &mut Tally,
+    beginning: Beginning,
+    word: &str,
+    changes: &[Rc<Event>],
+) -> Result<()> {
+    let alloc = tally.rt.alloc();
+    let disk = match beginning {
+        Beginning::Format => Memory::new(alloc, word.parse::<u32>()?)?,
+        Beginning::Upgrade | Beginning::Full => disk_in(tally, word)?,
+        Beginning::Open | Beginning::Newer => disk_after(alloc, word.parse::<u32>()?, changes)?,
+    };
+    let probe = Probe::new(alloc, 0)?;
+    let mut first = Trial::of(alloc, beginning, disk, changes, &probe)?;
+    if tally.on_purpose {
+        first.sides.exchange();
+        return first.cut_each(tally, true);
     }
-    for &changes in &NEW_DISKS {
-        let disk = disk_after(alloc, 10, changes)?;
-        cut_reads(rt, tally, &trial(alloc, changes, disk, false)?)?;
+    first.cut_each(tally, true)?;
+    match beginning {
+        Beginning::Format => return Ok(()),
+        Beginning::Upgrade => first.cut_further(tally, changes)?,
+        _ => first.see_unwritten(tally)?,
     }
-    Ok(())
-}
-
-// Cuts an upgrade that writes nothing, and sees that it does so.
-fn cut_reads(rt: &HostRuntime, tally: &mut Tally, first: &Trial) -> Result<()> {
-    first.cut_all(rt, tally, false)?;
-    look_on(rt, tally, first)?;
-    for cut in &Cut::all(rt.alloc(), 0, first.calls.saturating_add(1))? {
-        let left = first.left(rt.alloc(), *cut)?;
-        let right = are_same(rt.alloc(), left, &first.disk)?;
-        tally.count(rt, right, cut, "the disk that is left")?;
-    }
-    Ok(())
+    first.look_on(tally)
 }

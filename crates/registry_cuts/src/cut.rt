@@ -1,0 +1,77 @@
+// Where the power is cut.
+
+use anyhow::Result;
+use sector_disk::{Fuse, Memory};
+use std::alloc::Global;
+
+/// A disk in memory whose power can be cut.
+pub(crate) type Powered = Fuse<Memory>;
+
+/// A call of the disk that fails.
+#[derive(Clone, Copy, Debug)]
+pub(crate) struct Cut {
+    /// The event that makes the call, counted from 1: with 0 it is the opening.
+    pub(crate) event: usize,
+    /// The number of the call among all, counted from 1: with 0 none fails.
+    pub(crate) number: u64,
+    /// Its number among those of the event.
+    pub(crate) call: u64,
+    /// Whether it reaches the disk before it fails.
+    pub(crate) late: bool,
+    /// Whether all calls behind it fail too.
+    pub(crate) forever: bool,
+}
+
+impl Cut {
+    /// No call fails.
+    pub(crate) const NONE: Cut = Cut {
+        event: 0,
+        number: 0,
+        call: 0,
+        late: false,
+        forever: false,
+    };
+
+    /// The disk whose power is cut so.
+    pub(crate) fn of(self, disk: Memory) -> Powered {
+        Fuse::new(disk, self.number, self.forever, self.late)
+    }
+
+    /// Whether a call of the opening fails.
+    pub(crate) fn is_in_opening(self) -> bool {
+        self.event == 0 && self.call > 0
+    }
+
+    /// How an event is cut, if it makes a call of the disk.
+    pub(crate) fn at(self, event: usize) -> Option<Cut> {
+        if event == self.event {
+            Some(self)
+        } else if event > self.event && self.forever {
+            Some(Cut {
+                call: 1,
+                late: false,
+                ..self
+            })
+        } else {
+            None
+        }
+    }
+
+    /// The cuts of each of so many calls of an event, behind so many others: early and late, once
+    /// and for ever.
+    pub(crate) fn all(alloc: Global, event: usize, before: u64, calls: u64) -> Result<Vec<Cut>> {
+        let mut cuts = Vec::new(alloc);
+        for call in 1..=calls {
+            for (late, forever) in [(false, false), (false, true), (true, false), (true, true)] {
+                cuts.push(Cut {
+                    event,
+                    number: before.saturating_add(call),
+                    call,
+                    late,
+                    forever,
+                })?;
+            }
+        }
+        Ok(cuts)
+    }
+}

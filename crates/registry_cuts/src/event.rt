@@ -1,0 +1,184 @@
+// Events, and how a row spells them.
+
+use anyhow::{Context, Result, bail};
+use requests::Command;
+use samples::{padded, program};
+use std::alloc::Global;
+use std::rc::Rc;
+
+// The base of every program.
+const BASE: u64 = 0x10000;
+
+/// What happens to a registry with binders. `Begin` begins the binder of a program, `Advance` has
+/// the one in a slot make its next step, `Cancel` ends it.
+#[derive(Clone, Copy, PartialEq, Eq)]
+pub(crate) enum What {
+    Install,
+    Replace,
+    Remove,
+    Choose,
+    Bind,
+    List,
+    Begin,
+    Advance,
+    Cancel,
+}
+
+// The names of preloads.
+const LETTERS: &[u8] = b"abcdefghijklmnopqrstuvwxyz";
+
+// How rows spell them.
+const WORDS: [(&str, What); 9] = [
+    ("install", What::Install),
+    ("replace", What::Replace),
+    ("remove", What::Remove),
+    ("preloads", What::Choose),
+    ("bind", What::Bind),
+    ("list", What::List),
+    ("begin", What::Begin),
+    ("advance", What::Advance),
+    ("cancel", What::Cancel),
+];
+
+/// An event with the bytes that it gives. A library's name has one letter.
+#[derive(Drop)]
+pub(crate) struct Event {
+    pub(crate) what: What,
+    /// The name of the library that is installed, replaced, removed or needed.
+    pub(crate) name: u8,
+    /// The number of the binder's slot.
+    pub(crate) slot: usize,
+    /// The library's file, the program's, or the name.
+    pub(crate) bytes: Vec<u8>,
+    // The names of the preloads.
+    names: Vec<&'static [u8]>,
+}
+
+/// The command that binds a program.
+pub(crate) fn bind(program: &[u8]) -> Command<'_> {
+    Command::Bind {
+        program,
+        base: BASE,
+    }
+}
+
+// The event that a word names.
+fn named(word: &str) -> Result<What> {
+    for (spelt, what) in WORDS {
+        if spelt == word {
+            return Ok(what);
+        }
+    }
+    bail!("the event {word}")
+}
+
+// The letter that a word is: `-` is none, and no library has it as its name.
+fn letter(word: &str) -> u8 {
+    match word.bytes().next() {
+        Some(b'-') | None => 0,
+        Some(letter) => letter,
+    }
+}
+
+// The name of a letter.
+fn name_of(letter: u8) -> &'static [u8] {
+    let place = LETTERS.iter().take_while(|other| **other != letter).count();
+    LETTERS.get(place..place.saturating_add(1)).unwrap_or(b"")
+}
+
+// The file of a library, of a name and `VERSION BYTES`.
+fn library(alloc: Global, name: u8, words: &str) -> Result<Vec<u8>> {
+    let (version, size) = words.split_once(' ').context("a library without a size")?;
+    let (version, size) = (version.parse::<u8>()?, size.parse::<usize>()?);
+    Ok(padded(alloc, name, version, size)?)
+}
+
+impl Event {
+    // The event that a text spells.
+    fn of(alloc: Global, text: &str) -> Result<Event> {
+        let (word, rest) = text.split_once(' ').unwrap_or((text, ""));
+        let (first, behind) = rest.split_once(' ').unwrap_or((rest, ""));
+        let what = named(word)?;
+        let name = letter(first);
+        let bytes = match what {
+            What::Install | What::Replace => library(alloc, name, behind)?,
+            What::Bind | What::Begin => Vec::from_slice(alloc, &program(name))?,
+            What::Remove => Vec::from_slice(alloc, &[name])?,
+            _ => Vec::new(alloc),
+        };
+        let slot = match what {
+            What::Advance | What::Cancel => first.parse::<usize>()?,
+            _ => 0,
+        };
+        let mut names = Vec::new(alloc);
+        if what == What::Choose {
+            for word in rest.split_whitespace() {
+                names.push(name_of(letter(word)))?;
+            }
+        }
+        Ok(Event {
+            what,
+            name,
+            slot,
+            bytes,
+            names,
+        })
+    }
+
+    /// The events that a text spells, between which a semicolon stands; or `nothing`.
+    pub(crate) fn all(alloc: Global, text: &str) -> Result<Vec<Rc<Event>>> {
+        let mut events = Vec::new(alloc);
+        if text != "nothing" {
+            for one in text.split("; ") {
+                events.push(Rc::new(alloc, Event::of(alloc, one)?)?)?;
+            }
+        }
+        Ok(events)
+    }
+
+    /// The command that a registry is given. A step of a binder is none.
+    pub(crate) fn command(&self) -> Command<'_> {
+        match self.what {
+            What::Install => Command::Install(&self.bytes),
+            What::Replace => Command::Replace(&self.bytes),
+            What::Remove => Command::Remove(&self.bytes),
+            What::Choose => Command::SetPreloads(&self.names),
+            What::Bind | What::Begin => bind(&self.bytes),
+            What::List | What::Advance | What::Cancel => Command::List,
+        }
+    }
+
+    /// The event as binders take it.
+    pub(crate) fn binder_event(&self) -> binders::Event<'_> {
+        match self.what {
+            What::Begin => binders::Event::Begin {
+                program: &self.bytes,
+                base: BASE,
+            },
+            What::Advance => binders::Event::Advance(self.slot),
+            What::Cancel => binders::Event::Cancel(self.slot),
+            _ => binders::Event::Apply(self.command()),
+        }
+    }
+
+    /// How many calls of the disk a change makes that leaves so many libraries: the sectors of the
+    /// file and its entry, the catalogues, a sync, the root, a sync. A removal writes no file, and
+    /// a choice of preloads the root alone.
+    pub(crate) fn calls(&self, libraries: usize) -> u64 {
+        let catalogues = libraries.div_ceil(64) as u64;
+        let file = self.bytes.len().div_ceil(512) as u64;
+        match self.what {
+            What::Install | What::Replace => file.saturating_add(catalogues).saturating_add(4),
+            What::Remove => catalogues.saturating_add(3),
+            _ => 2,
+        }
+    }
+
+    /// Whether it is a change, where it isn't refused.
+    pub(crate) fn is_change(&self) -> bool {
+        matches!(
+            self.what,
+            What::Install | What::Replace | What::Remove | What::Choose
+        )
+    }
+}

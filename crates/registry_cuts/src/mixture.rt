@@ -1,0 +1,68 @@
+// What a stop may leave of a disk: its mixtures.
+
+use anyhow::Result;
+use sector_disk::{Disk, Memory, SECTOR_BYTES};
+use std::alloc::Global;
+
+/// The choice of each sector in each mixture. Their number doubles with each sector that was
+/// written and isn't synced.
+pub(crate) fn all_picks(alloc: Global, disk: &Memory) -> Result<Vec<Vec<usize>>> {
+    let mut all = Vec::new(alloc);
+    all.push(vec![in alloc; 0; disk.sectors() as usize]?)?;
+    for at in 0..disk.sectors() {
+        let choices = if at < disk.sectors() {
+            disk.choices(at)
+        } else {
+            1
+        };
+        let count = all.len();
+        for choice in 1..choices {
+            for number in 0..count {
+                let Some(first) = all.get(number) else {
+                    continue;
+                };
+                let mut picks = Vec::from_slice(alloc, first)?;
+                if let Some(pick) = picks.get_mut(at as usize) {
+                    *pick = choice;
+                }
+                all.push(picks)?;
+            }
+        }
+    }
+    Ok(all)
+}
+
+/// The disk after a stop: the choice of each sector is one of these, over and over.
+pub(crate) fn stopped(disk: &Memory, picks: &[usize]) -> Result<Memory> {
+    Ok(
+        disk.copy()?.stop(|at, _| {
+            let place = (at as usize).checked_rem(picks.len()).unwrap_or(0);
+            picks.get(place).copied().unwrap_or(0)
+        }),
+    )
+}
+
+// The bytes of a disk.
+fn bytes_of(alloc: Global, disk: Memory) -> Result<Vec<u8>> {
+    let mut disk = disk;
+    let mut bytes = Vec::new(alloc);
+    for at in 0..disk.sectors() {
+        let mut sector = [0; SECTOR_BYTES];
+        if at < disk.sectors() {
+            disk.read(at, &mut sector)?;
+        }
+        bytes.extend_from_slice(&sector)?;
+    }
+    Ok(bytes)
+}
+
+/// Whether a stop leaves the same of two disks.
+pub(crate) fn leave_same(alloc: Global, one: &Memory, other: &Memory) -> Result<bool> {
+    let picks = all_picks(alloc, one)?;
+    let mut right = picks == all_picks(alloc, other)?;
+    for picks in &picks {
+        right = right
+            && bytes_of(alloc, stopped(one, picks)?)? == bytes_of(alloc, stopped(other, picks)?)?;
+    }
+    Ok(right)
+}

@@ -1,0 +1,82 @@
+// Rows: each is a line of a file.
+
+use crate::course::Course;
+use crate::event::Event;
+use crate::rounds::play_rounds;
+use crate::run::{Beginning, disk_after};
+use crate::tally::Tally;
+use crate::upgrades::cut_making;
+use anyhow::{Context, Result, bail};
+use std::fs;
+use std::rc::Rc;
+
+// The lines of a file that aren't empty and no comments.
+fn lines(tally: &Tally, file: &str) -> Result<Vec<String>> {
+    let text = fs::read_to_string(tally.rt, file).context(format_args!("the file {file}"))?;
+    let mut lines = Vec::new(tally.rt.alloc());
+    for line in text.lines() {
+        if !line.is_empty() && !line.starts_with('#') {
+            lines.push(String::from_str(tally.rt.alloc(), line)?)?;
+        }
+    }
+    Ok(lines)
+}
+
+// Events on disks of these sizes after these changes.
+fn run_events(
+    tally: &mut Tally,
+    word: &str,
+    sizes: &str,
+    start: &[Rc<Event>],
+    text: &str,
+) -> Result<()> {
+    let alloc = tally.rt.alloc();
+    let events = Event::all(alloc, text)?;
+    for size in sizes.split(' ') {
+        let sectors = size.parse::<u32>()?;
+        let disk = disk_after(alloc, sectors, start)?;
+        let course = Course::on(alloc, disk, sectors, start, &events, word != "list")?;
+        match word {
+            "list" => course.cut_list(tally)?,
+            "follow" => course.follow(tally)?,
+            _ => course.cut_flights(tally)?,
+        }
+    }
+    Ok(())
+}
+
+// A row: its word, its disk, the changes before, and what comes then.
+fn run_row(tally: &mut Tally, row: &str) -> Result<()> {
+    let (front, rest) = row.split_once(" | ").unwrap_or((row, "nothing"));
+    let (word, disk) = front.split_once(' ').context("a row without a disk")?;
+    let (start, rest) = rest.split_once(" | ").unwrap_or((rest, "nothing"));
+    let start = Event::all(tally.rt.alloc(), start)?;
+    match word {
+        "format" => cut_making(tally, Beginning::Format, disk, &start),
+        "upgrade" => cut_making(tally, Beginning::Upgrade, disk, &start),
+        "full" => cut_making(tally, Beginning::Full, disk, &start),
+        "newer" => cut_making(tally, Beginning::Newer, disk, &start),
+        "rounds" => play_rounds(tally, disk.parse::<u32>()?, &start, rest),
+        "list" | "follow" | "binders" => run_events(tally, word, disk, &start, rest),
+        "lists" => {
+            for list in &lines(tally, rest)? {
+                run_events(tally, "list", disk, &start, list)?;
+            }
+            Ok(())
+        }
+        _ => bail!("the word {word}"),
+    }
+}
+
+/// Runs the rows of a file; one behind `wrong` is wrong on purpose.
+pub(crate) fn run_file(tally: &mut Tally, file: &str) -> Result<()> {
+    for line in &lines(tally, file)? {
+        let line = line.as_str();
+        if line.starts_with("wrong ") {
+            tally.on_purpose = true;
+        }
+        let row = line.strip_prefix("wrong ").unwrap_or(line);
+        run_row(tally, row).context(format_args!("{file}: {line}"))?;
+    }
+    Ok(())
+}

@@ -1,0 +1,93 @@
+// Runs of a registry on a disk in memory, of which a call may be cut.
+
+use crate::answer::event_answer;
+use crate::cut::{Cut, Powered};
+use crate::event::Event;
+use anyhow::{Result, bail};
+use binders::Binders;
+use registry::Registry;
+use sector_disk::Memory;
+use std::alloc::Global;
+use std::rc::Rc;
+use store::StoreRefusal;
+
+/// How a registry begins on a disk.
+#[derive(Clone, Copy)]
+pub(crate) enum Beginning {
+    Open,
+    /// On a disk of zeros.
+    Format,
+    /// Upgraded from version 1.
+    Upgrade,
+    /// The same, for which there is no room.
+    Full,
+    /// The same, of a disk of version 2.
+    Newer,
+}
+
+/// What events are answered, or why there is no registry.
+pub(crate) type Told = std::result::Result<Vec<Vec<u8>>, StoreRefusal>;
+
+/// A disk, how a registry begins on it, and the events that happen then.
+#[derive(Drop)]
+pub(crate) struct Run {
+    pub(crate) disk: Memory,
+    pub(crate) beginning: Beginning,
+    pub(crate) events: Vec<Rc<Event>>,
+}
+
+// Lets events happen: the answers.
+fn happen(
+    alloc: Global,
+    binders: &mut Binders<Powered>,
+    events: &[Rc<Event>],
+) -> Result<Vec<Vec<u8>>> {
+    let mut given = Vec::new(alloc);
+    for event in events {
+        given.push(event.binder_event())?;
+    }
+    let mut answers = Vec::new(alloc);
+    for reply in &binders.run_events(&given)? {
+        answers.push(event_answer(alloc, reply)?)?;
+    }
+    Ok(answers)
+}
+
+impl Run {
+    /// Lets the first events happen, cut so: what is told of them, and the disk.
+    pub(crate) fn cut(&self, alloc: Global, count: usize, cut: Cut) -> Result<(Told, Powered)> {
+        let events = self.events.get(..count).unwrap_or(&self.events);
+        let disk = cut.of(self.disk.copy()?);
+        let made = match self.beginning {
+            Beginning::Open => Registry::open(alloc, disk),
+            Beginning::Format => Registry::format(alloc, disk),
+            _ => Registry::upgrade(alloc, disk),
+        };
+        let registry = match made {
+            Ok(registry) => registry,
+            Err((refusal, disk)) => return Ok((Err(refusal), disk)),
+        };
+        let mut binders = Binders::new(alloc, registry);
+        let answers = happen(alloc, &mut binders, events);
+        let disk = binders.into_registry().into_disk();
+        Ok((Ok(answers?), disk))
+    }
+
+    /// What the first events leave where they are cut so.
+    pub(crate) fn left(&self, alloc: Global, count: usize, cut: Cut) -> Result<Memory> {
+        Ok(self.cut(alloc, count, cut)?.1.into_inner())
+    }
+}
+
+/// A disk of so many sectors with a registry after these commands.
+pub(crate) fn disk_after(alloc: Global, sectors: u32, changes: &[Rc<Event>]) -> Result<Memory> {
+    let run = Run {
+        disk: Memory::new(alloc, sectors)?,
+        beginning: Beginning::Format,
+        events: changes.to_vec(alloc)?,
+    };
+    match run.cut(alloc, changes.len(), Cut::NONE)? {
+        (Ok(_), disk) => Ok(disk.into_inner()),
+        _ => bail!("format was refused"),
+    }
+}
