@@ -3,13 +3,12 @@
 
     python3 bench/c_library.py FOLDER [NUMBER LENGTH]..
 
-FOLDER has librlibreg.a (c/build.sh). For each NUMBER and LENGTH a disk is made with so many libraries of about LENGTH
+FOLDER has librlibreg.so (c/build.sh). For each NUMBER and LENGTH a disk is made with so many libraries of about LENGTH
 bytes, through the calls over a file, and then looked at: the least of five times each. The program that is bound needs
 all libraries. What one installation takes is timed over the full disk, as a plan and carried out with its syncs.
 """
 
 import ctypes
-import subprocess
 import sys
 import tempfile
 import time
@@ -34,10 +33,8 @@ def least(call):
     return min(times) * 1000
 
 
-def library(folder):
-    words = ['gcc', '-shared', '-o', f'{folder}/it.so', '-Wl,--whole-archive', f'{sys.argv[1]}/librlibreg.a']
-    subprocess.run([*words, '-Wl,--no-whole-archive'], check=True)
-    it = ctypes.CDLL(f'{folder}/it.so')
+def library():
+    it = ctypes.CDLL(f'{sys.argv[1]}/librlibreg.so')
     it.rlibreg_create.restype, it.rlibreg_text.restype = ctypes.c_void_p, ctypes.c_char_p
     return it
 
@@ -78,7 +75,7 @@ def measure(it, folder, number, length):
 
 def main():
     with tempfile.TemporaryDirectory() as folder:
-        it = library(folder)
+        it = library()
         sizes = [int(word) for word in sys.argv[2:]] or [64, 128 * 1024, 500, 16 * 1024]
         for number, length in zip(sizes[::2], sizes[1::2]):
             measure(it, folder, number, length)

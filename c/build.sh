@@ -1,7 +1,7 @@
 #!/usr/bin/env bash
 # build.sh [COMPILER [FOLDER]] builds the C library, the loader and the program: FOLDER gets
-# librlibreg.a, rlibreg.h, rlibreg-run and rlibreg. COMPILER is `llvm` or `rattle`, the toolchain's
-# own; FOLDER is c/out.
+# librlibreg.a, librlibreg.so, rlibreg.h, rlibreg-run and rlibreg. COMPILER is `llvm` or `rattle`,
+# the toolchain's own; FOLDER is c/out.
 #
 # The crates rlibreg_c and rlibreg are proved first, and the crates below them, unless their proofs
 # are kept.
@@ -17,6 +17,7 @@ for tool in gcc ar; do
 done
 kit=$(dirname "$(rt doc)")
 flags='-std=c11 -O2 -g -fPIC -Wall -Wextra -Werror'
+hardened='-fstack-protector-strong -Wl,-z,relro,-z,now'
 mkdir -p "$folder"
 folder=$(cd "$folder" && pwd)
 
@@ -45,7 +46,11 @@ END
     rm proved.a $(printf 'rlibreg_%s.o ' $parts)
 )
 cp c/rlibreg.h "$folder/"
-gcc $flags -o "$folder/rlibreg-run" c/rlibreg_run.c "$folder/librlibreg.a"
+# The loader is a static PIE, or a PIE where there is no static C library.
+link_loader() {
+    gcc $flags $hardened "$1" -o "$folder/rlibreg-run" c/rlibreg_run*.c "$folder/librlibreg.a"
+}
+link_loader -static-pie 2> /dev/null || link_loader -pie
 
 # The program, with what its language can't ask of the system: RLIBREG_O is what `rt run` links.
 if [ -z "${RLIBREG_O:-}" ]; then
@@ -54,4 +59,23 @@ if [ -z "${RLIBREG_O:-}" ]; then
 fi
 gcc $flags -pie -Wl,--gc-sections,--wrap=fsync -o "$folder/rlibreg" c/rlibreg_forget.c \
     "$RLIBREG_O" "$kit/c/libos_c.a" "$kit/c/liblibc_c.a" -lm
-echo "built in $folder: librlibreg.a, rlibreg.h, rlibreg-run, rlibreg"
+
+# The shared library exports what the header declares, and no other name.
+version=$(c/version.sh)
+soname=librlibreg.so.${version%.*}
+(
+    cd "$folder"
+    {
+        echo '{ global:'
+        gcc -E -P rlibreg.h | grep -o 'rlibreg_[a-z_]*(' | tr '(' ';'
+        echo 'local: *; };'
+    } > exported
+    rm -f librlibreg.so*
+    gcc -shared -o "librlibreg.so.$version" -Wl,-soname,"$soname" -Wl,-z,defs,-z,relro,-z,now \
+        -Wl,-Bsymbolic-functions,--gc-sections,--version-script=exported \
+        -Wl,--whole-archive librlibreg.a -Wl,--no-whole-archive
+    rm exported
+    ln -s "librlibreg.so.$version" "$soname"
+    ln -s "$soname" librlibreg.so
+)
+echo "built in $folder: librlibreg.a, librlibreg.so, rlibreg.h, rlibreg-run, rlibreg"

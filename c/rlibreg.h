@@ -29,7 +29,8 @@
  *   DISK mv NEW DISK`). Library and program look, once they have a lock, whether the path still
  *   names the file that they locked, and else open the path again.
  * - A lock of flock(2) is advice: it stops nobody who doesn't ask. Who may read the disk can hold
- *   it. Over NFS it may do nothing. A child of fork has it too, as long as it keeps the file open.
+ *   it. Over NFS it may do nothing. A child of fork has it too, until the process that opened the
+ *   disk closes it, or, where that ends without doing so, as long as the child keeps the file open.
  * - After a sync that failed Linux takes the pages for written, and gives them to whoever reads.
  *   So an opening syncs the file, and has the system forget what it keeps of the first 2 MiB, where
  *   the registry's two roots stand: what is read then is what the medium has. Pages that a process
@@ -37,8 +38,10 @@
  * - The two roots stand in one block of 4,096 bytes. A medium that ruins a block of that size which
  *   it was writing can lose both.
  * - There is no checksum: a byte that changed on the medium within a library's code isn't seen.
- * - The file is mapped, so one that is made shorter while it is open ends the process by SIGBUS,
- *   and so does a medium that can't be read.
+ * - A sector that the medium can't read ends the process by SIGBUS, in each call over a file: the
+ *   file is mapped. So does a file that is made shorter while it is open. Who has to live on reads
+ *   the bytes into memory under the lock, which fails with an errno, and makes the calls over
+ *   bytes: the host of docs/C.md does.
  * - A disk that may only be read, or is on a file system for reading alone, can be looked at. There
  *   a sync that is answered EINVAL has nothing to do, and is taken for done; one that is answered
  *   EROFS has failed, since a file system that a failure has made read-only answers so.
@@ -76,6 +79,14 @@ extern "C" {
 #else
 #define RLIBREG_SAME(what) _Static_assert(what, #what)
 #endif
+
+/* ---- Version
+ *
+ * 10,000 * major + 100 * minor + patch. Where major or minor is another a caller is compiled again:
+ * the shared library's name has the two, as librlibreg.so.0.1. rlibreg_version gives the version of
+ * the library that is called. */
+#define RLIBREG_VERSION 100
+uint32_t rlibreg_version(void);
 
 /* ---- Statuses
  *
@@ -119,6 +130,10 @@ enum {
 
 /* The name of a status, as "B3 Missing"; "unknown" of a number that is none. Never freed. */
 const char *rlibreg_status_name(uint32_t status);
+
+/* The name of the test of a file that refuses, as "E1 TooShort", by its number: the answer's
+ * file_refusal. "unknown" of a number that is none. Never freed. */
+const char *rlibreg_file_refusal_name(uint32_t number);
 
 /* ---- What calls give */
 
@@ -221,7 +236,7 @@ uint32_t rlibreg_list(const uint8_t *disk, size_t disk_length, rlibreg_entry *en
  * a sync, the one after. The disk is the one that was given: nobody wrote to it in between.
  *
  * A plan takes 516 bytes for each sector and 4 for each sync: an installation or a replacement
- * those of the file's bytes, and at most 40 steps beside; every other plan at most 40 steps.
+ * those of the file's bytes, and at most 37 steps beside; every other plan at most 37 steps.
  *
  * With another status there is nothing to carry out. */
 #define RLIBREG_SYNC 0xffffffffu
@@ -270,6 +285,9 @@ uint32_t rlibreg_plan_preload(const uint8_t *disk, size_t disk_length, const cha
  * and is freed by rlibreg_close. It belongs to who made it. It holds the lock of its file, and a
  * map of it, until it is closed: keep it open for as long as the calls take, and no longer.
  *
+ * A child of fork can only close what its parent opened: every other call of such a struct is
+ * answered RLIBREG_BAD_ARGUMENT there.
+ *
  * After a change has failed with S1 the struct answers S2 to everything. Close it, and open the
  * file again: it then holds the registry from before the change or the one after. To ask for the
  * same change again is safe. */
@@ -281,7 +299,8 @@ typedef struct rlibreg rlibreg;
 rlibreg *rlibreg_create(void);
 
 /* Gives the file back with its lock, and frees the struct. Null is let be. What the struct gave as
- * rlibreg_text is gone; images and listings stay. */
+ * rlibreg_text is gone; images and listings stay. In a child of fork the lock stays its parent's.
+ */
 void rlibreg_close(rlibreg *registry);
 
 /* What the last call of this struct was answered: the line or the reply of the program, ended by a
@@ -299,10 +318,11 @@ enum {
 /* Opens the file of a registry, a regular file or a block device, locks it and syncs it, and maps
  * what the medium has of it. It isn't looked at what the file holds: the calls behind do that.
  *
- * RLIBREG_HELD where another struct holds the file, of this process or another, or the program
- * does, and RLIBREG_WAIT isn't given. RLIBREG_SYSTEM where a call of the system fails: errno says
- * why, EINTR where a signal came while it waited, EINVAL where the path is neither of the two,
- * EBUSY where a block device is in use, EAGAIN where the path named another file each of 16 times.
+ * RLIBREG_HELD where another process holds the file, and RLIBREG_WAIT isn't given; with that too
+ * where another struct of this process holds it, or waits for it, unless both only look, since the
+ * process would wait for itself; and where the path named another file each of 16 times.
+ * RLIBREG_SYSTEM where a call of the system fails: errno says why, EINTR where a signal came while
+ * it waited, EINVAL where the path is neither of the two, EBUSY where a block device is in use.
  * RLIBREG_BAD_ARGUMENT where the struct has a file already. */
 uint32_t rlibreg_open(rlibreg *registry, const char *path, unsigned flags);
 
@@ -317,13 +337,13 @@ uint32_t rlibreg_open(rlibreg *registry, const char *path, unsigned flags);
  * left so: its name is taken away, and it isn't written.
  *
  * RLIBREG_BAD_ARGUMENT where SECTORS isn't 8 to 4,194,304. RLIBREG_HELD, with RLIBREG_WAIT too,
- * where another process holds the other name's file. RLIBREG_SYSTEM with EINVAL where what has that
- * name is no regular file, and where what comes before the plan fails. S1 where a write or a sync of
- * the plan fails, or behind the name that of the folder, or where the other name can't be taken
- * away, errno says why: of a file that stood there a registry was made or not; of a new one there is
- * nothing, or behind the name all of it. Else as rlibreg_open and rlibreg_plan_format. After every
- * other refusal the file is left as it is, and not open, and nothing was made. A file that is made is sparse: the
- * space for it may be found missing later, which is then an S1. */
+ * where another process holds the other name's file. RLIBREG_SYSTEM with EINVAL where what has
+ * that name is no regular file, and where what comes before the plan fails. S1 where a write or a
+ * sync of the plan fails, or behind the name that of the folder, or where the other name can't be
+ * taken away, errno says why: of a file that stood there a registry was made or not; of a new one
+ * there is nothing, or behind the name all of it. Else as rlibreg_open and rlibreg_plan_format.
+ * After every other refusal the file is left as it is, and not open, and nothing was made. A file
+ * that is made is sparse: the space for it may be found missing later, which is then an S1. */
 uint32_t rlibreg_format(rlibreg *registry, const char *path, uint32_t sectors, unsigned flags);
 
 /* Changes: each is planned, carried out and synced when the call returns 0. Refusals: those of the

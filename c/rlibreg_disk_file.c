@@ -5,10 +5,10 @@
 #include <errno.h>
 #include <fcntl.h>
 #include <linux/fs.h>
+#include <pthread.h>
 #include <sys/file.h>
 #include <sys/ioctl.h>
 #include <sys/mman.h>
-#include <sys/stat.h>
 #include <time.h>
 #include <unistd.h>
 
@@ -18,6 +18,63 @@ enum { FRONT = 2 << 20 };
 
 /* How often the lock of a device is tried, ten milliseconds apart. */
 enum { DEVICE_TRIES = 200 };
+
+/* ---- The locks of this process, those that it waits for among them */
+
+static struct disk_file *enlisted;
+static pthread_mutex_t guard = PTHREAD_MUTEX_INITIALIZER; /* of the list */
+
+static void hold_list(void) {
+    pthread_mutex_lock(&guard);
+}
+
+static void free_list(void) {
+    pthread_mutex_unlock(&guard);
+}
+
+/* A child of fork begins without any, whatever another thread was doing in its parent. */
+static void empty_list(void) {
+    enlisted = NULL;
+    free_list();
+}
+
+static void watch_forks(void) {
+    pthread_atfork(hold_list, free_list, empty_list);
+}
+
+static int excludes(const struct disk_file *one, const struct disk_file *other) {
+    return one->owner == other->owner && one->device == other->device &&
+           one->number == other->number && (one->is_alone || other->is_alone);
+}
+
+uint32_t rlibreg_disk_file_enlist(struct disk_file *it, const struct stat *found, unsigned flags) {
+    static pthread_once_t once = PTHREAD_ONCE_INIT;
+    struct disk_file wanted = *it, *other;
+    wanted.owner = getpid();
+    wanted.device = found->st_dev;
+    wanted.number = found->st_ino;
+    wanted.is_alone = !!(flags & RLIBREG_CHANGES);
+    pthread_once(&once, watch_forks);
+    hold_list();
+    for (other = enlisted; other && !excludes(&wanted, other);) other = other->next;
+    if (!other) {
+        wanted.next = enlisted;
+        *it = wanted;
+        enlisted = it;
+    }
+    free_list();
+    return other ? RLIBREG_HELD : RLIBREG_DONE;
+}
+
+static void strike(struct disk_file *it) {
+    struct disk_file **at = &enlisted;
+    hold_list();
+    while (*at && *at != it) at = &(*at)->next;
+    if (*at) *at = it->next;
+    free_list();
+}
+
+/* ---- */
 
 static int open_flags(unsigned flags) {
     int access = flags & RLIBREG_CHANGES ? O_RDWR : O_RDONLY;
@@ -51,6 +108,7 @@ static uint32_t open_and_lock(struct disk_file *it, const char *path, unsigned f
         errno = EINVAL;
         return RLIBREG_SYSTEM;
     }
+    if (rlibreg_disk_file_enlist(it, found, flags)) return RLIBREG_HELD;
     if (lock(it->fd, is_device, flags)) return errno == EWOULDBLOCK ? RLIBREG_HELD : RLIBREG_SYSTEM;
     return RLIBREG_DONE;
 }
@@ -71,23 +129,22 @@ static uint32_t claim(struct disk_file *it, const char *path, unsigned flags,
     it->claim = open(path, open_flags(flags) | O_EXCL);
     if (it->claim < 0 || fstat(it->claim, &found)) return RLIBREG_SYSTEM;
     ioctl(it->claim, BLKROGET, &is_read_only); /* such a device can be opened, but not written */
-    int is_same = S_ISBLK(found.st_mode) && found.st_rdev == locked->st_rdev;
-    if (is_same && !is_read_only) return RLIBREG_DONE;
-    errno = is_same ? EROFS : EAGAIN;
-    return RLIBREG_SYSTEM;
+    if (!S_ISBLK(found.st_mode) || found.st_rdev != locked->st_rdev) return RLIBREG_HELD;
+    errno = EROFS;
+    return is_read_only ? RLIBREG_SYSTEM : RLIBREG_DONE;
 }
 
-/* Opens the file of a path and locks it. */
+/* Opens the file of a path and locks it. A path that names another file each time is in use. */
 static uint32_t open_locked(struct disk_file *it, const char *path, unsigned flags) {
     for (int tries = 0; tries < MOST_TRIES; tries++) {
         struct stat found;
         uint32_t status = open_and_lock(it, path, flags, &found);
         if (status) return status;
-        if (is_still_there(path, &found)) return claim(it, path, flags, &found);
+        status = is_still_there(path, &found) ? claim(it, path, flags, &found) : RLIBREG_HELD;
+        if (status != RLIBREG_HELD) return status;
         rlibreg_disk_file_close(it);
     }
-    errno = EAGAIN;
-    return RLIBREG_SYSTEM;
+    return RLIBREG_HELD;
 }
 
 /* Syncs a file. Where it is open for reading alone, and its file system has no syncs since it can't
@@ -127,6 +184,8 @@ void rlibreg_disk_file_close(struct disk_file *it) {
     int why = errno;
     if (it->bytes) munmap((void *)it->bytes, it->length);
     if (it->claim >= 0) close(it->claim);
+    if (it->owner) strike(it);
+    if (it->owner == getpid()) flock(it->fd, LOCK_UN);
     if (it->fd >= 0) close(it->fd);
     *it = NO_DISK_FILE;
     errno = why;

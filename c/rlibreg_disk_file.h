@@ -5,13 +5,22 @@
 #include "rlibreg.h"
 
 #include <limits.h>
+#include <sys/stat.h>
+#include <sys/types.h>
 
-/* A file, or a block device, that is open and locked. */
+/* A file, or a block device, that is open and locked. It stays where it is as long as it is open:
+ * it is in a list. */
 struct disk_file {
     int fd;               /* with its lock, or -1 */
     int claim;            /* a device is open once more, so that nothing else uses it; or -1 */
     const uint8_t *bytes; /* its map, or null */
     size_t length;
+
+    pid_t owner; /* the process that asked for the lock, or 0 */
+    dev_t device;
+    ino_t number;
+    int is_alone;           /* whether the lock is held alone */
+    struct disk_file *next; /* in the list of those whose lock was asked for */
 };
 
 #define NO_DISK_FILE ((struct disk_file){ .fd = -1, .claim = -1 })
@@ -25,7 +34,12 @@ uint32_t rlibreg_disk_file_open(struct disk_file *it, const char *path, unsigned
 /* Maps what the medium has of a file that is open and locked. */
 uint32_t rlibreg_disk_file_map(struct disk_file *it, unsigned flags);
 
-/* Closes what is open, and leaves errno as it is. */
+/* Puts a file that is to be locked into the list of the locks of this process. RLIBREG_HELD: one of
+ * them excludes it, which nobody could wait for. */
+uint32_t rlibreg_disk_file_enlist(struct disk_file *it, const struct stat *found, unsigned flags);
+
+/* Closes what is open, and leaves errno as it is. The lock goes where the process is the one that
+ * asked for it: a child of fork has the same lock. */
 void rlibreg_disk_file_close(struct disk_file *it);
 
 /* ---- Making one where there is none (rlibreg_new_disk.c)

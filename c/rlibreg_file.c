@@ -97,6 +97,11 @@ const rlibreg_answer *rlibreg_last(const rlibreg *it) {
 
 /* ---- The file */
 
+/* Whether the file was opened by another process, of which this one is a child by fork. */
+static int is_inherited(const rlibreg *it) {
+    return it->file.fd >= 0 && it->file.owner != getpid();
+}
+
 uint32_t rlibreg_open(rlibreg *it, const char *path, unsigned flags) {
     if (it->file.fd >= 0) return say(it, RLIBREG_BAD_ARGUMENT, "");
     uint32_t status = rlibreg_disk_file_open(&it->file, path, flags);
@@ -222,6 +227,7 @@ static uint32_t make_plan(rlibreg *it, plan_call *call, const void *asked, size_
 /* Plans a change and carries it out. */
 static uint32_t change(rlibreg *it, plan_call *call, const void *asked, size_t length) {
     uint8_t *plan;
+    if (is_inherited(it)) return say(it, RLIBREG_BAD_ARGUMENT, "");
     if (!it->may_change) return say(it, RLIBREG_READ_ONLY, "");
     if (it->has_failed) return say(it, RLIBREG_REOPEN, "refused S2 Reopen\n");
     uint32_t status = make_plan(it, call, asked, length, &plan);
@@ -326,6 +332,7 @@ static uint32_t list(rlibreg *it, rlibreg_listing *out, size_t entries, size_t n
 uint32_t rlibreg_listing_of(rlibreg *it, rlibreg_listing *out) {
     size_t entries = 64, names = 4096;
     *out = (rlibreg_listing){ 0 };
+    if (is_inherited(it)) return say(it, RLIBREG_BAD_ARGUMENT, "");
     if (it->has_failed) return say(it, RLIBREG_REOPEN, "refused S2 Reopen\n");
     for (;;) {
         uint32_t status = over_bytes(it, list(it, out, entries, names));
@@ -372,6 +379,7 @@ uint32_t rlibreg_image_of(rlibreg *it, const void *program, size_t length, uint6
     struct bound what = { program, length, base };
     size_t segments = 64, bytes = 1 << 20;
     *out = (rlibreg_image){ 0 };
+    if (is_inherited(it)) return say(it, RLIBREG_BAD_ARGUMENT, "");
     if (it->has_failed) return say(it, RLIBREG_REOPEN, "refused S2 Reopen\n");
     for (;;) {
         uint32_t status = over_bytes(it, bind_into(it, &what, out, segments, bytes));

@@ -7,7 +7,6 @@
 #include <stdio.h>
 #include <string.h>
 #include <sys/file.h>
-#include <sys/stat.h>
 #include <unistd.h>
 
 #define ENDING ".rlibreg-new"
@@ -128,7 +127,11 @@ uint32_t rlibreg_new_disk_make(struct new_disk *it, const char *path, size_t len
     it->name = name_in(path);
     if (snprintf(it->other, sizeof it->other, ".%s" ENDING, it->name) > NAME_MAX)
         strcpy(it->other, ENDING);
+    struct stat made;
     uint32_t status = make_locked(it, &file->fd);
+    if (status) return status;
+    if (fstat(file->fd, &made)) return RLIBREG_SYSTEM;
+    status = rlibreg_disk_file_enlist(file, &made, RLIBREG_CHANGES);
     if (status) return status;
     if (fill(file->fd, length)) return RLIBREG_SYSTEM;
     return rlibreg_disk_file_map(file, RLIBREG_CHANGES);

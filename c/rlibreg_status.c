@@ -1,5 +1,9 @@
-/* The names of statuses. */
+/* The version, and the names of statuses and of tests of a file. */
 #include "rlibreg.h"
+
+uint32_t rlibreg_version(void) {
+    return RLIBREG_VERSION;
+}
 
 const char *rlibreg_status_name(uint32_t status) {
     static const struct {
@@ -39,4 +43,44 @@ const char *rlibreg_status_name(uint32_t status) {
     for (size_t i = 0; i < sizeof all / sizeof *all; i++)
         if (all[i].status == status) return all[i].name;
     return "unknown";
+}
+
+const char *rlibreg_file_refusal_name(uint32_t number) {
+    static const char *const all[] = {
+        "E1 TooShort",
+        "E2 BadMagic",
+        "E3 BadClass",
+        "E4 BadData",
+        "E5 BadVersion",
+        "E6 BadOsAbi",
+        "E7 BadType",
+        "E8 BadMachine",
+        "E9 BadHeaderSize",
+        "E10 BadProgramHeaders",
+        "E11 TlsSegment",
+        "E12 BadSegment",
+        "E13 TooLarge",
+        "E14 SegmentOrder",
+        "E15 BadDynamic",
+        "E16 DuplicateTag",
+        "E17 SymbolVersions",
+        "E18 UnsupportedTag",
+        "E19 NoHashTable",
+        "E20 MissingTag",
+        "E21 BadEntrySize",
+        "E22 BadRange",
+        "E23 BadString",
+        "E24 CommonSymbol",
+        "E25 TlsSymbol",
+        "E26 IfuncSymbol",
+        "E27 BadBinding",
+        "E28 DuplicateDefinition",
+        "E29 BadHashTable",
+        "E30 RelocationType",
+        "E31 RelocationSymbol",
+        "E32 RelocationPlace",
+        "E33 BadSoname",
+    };
+    size_t count = sizeof all / sizeof *all;
+    return number >= 1 && number <= count ? all[number - 1] : "unknown";
 }

@@ -1,40 +1,27 @@
-/* faults LIBRARY OTHER PROGRAM NAME DISK has the calls of the system fail one by one under the
- * calls over a file: writes and syncs, the memory, and the process itself, which ends at each of
- * them. It is linked with --wrap of pwrite, fsync, malloc, calloc and realloc. LIBRARY and OTHER
- * have the SONAME NAME; PROGRAM needs it. DISK is a path for a disk. */
+/* faults LIBRARY OTHER PROGRAM NAME OLD makes every change of a disk, in the folder where it is
+ * run, and has each call of the system fail, from the opening of the disk to its closing; the
+ * process end at each; and each growth of memory fail. LIBRARY and OTHER have the SONAME NAME, and
+ * different lengths; PROGRAM needs it. OLD is a disk of version 1. The disk has to be the old one
+ * or the new one then, as the answer says. It is linked with --wrap of malloc, calloc and realloc
+ * beside the watched calls. */
 #define _GNU_SOURCE
-#include "../rlibreg.h"
+#include "watched.h"
 
-#include <errno.h>
-#include <stdio.h>
-#include <stdlib.h>
-#include <string.h>
+#include <fcntl.h>
 #include <sys/wait.h>
 #include <unistd.h>
 
-#define WANT(what)                                                                                 \
-    do {                                                                                           \
-        if (!(what)) {                                                                             \
-            fprintf(stderr, "faults: line %d: not so: %s\n", __LINE__, #what);                     \
-            exit(1);                                                                               \
-        }                                                                                          \
-    } while (0)
+#define DISK "disk"
 
-/* ---- Calls that fail */
+/* ---- Growths of memory that fail */
 
-enum fault { NONE, WRITE_FAILS, WRITE_IS_SHORT, SYNC_FAILS, PROCESS_ENDS, MEMORY_FAILS };
-static enum fault fault;
-static long countdown; /* how many calls of the kind are let through before one fails */
-static long writes, syncs;
+static long growths = -1; /* how many are let through before one fails, or -1 */
 
 static int is_due(void) {
-    return countdown-- == 0;
+    if (growths < 0) return 0;
+    return growths-- == 0;
 }
 
-ssize_t __real_pwrite(int fd, const void *from, size_t length, off_t at);
-ssize_t __wrap_pwrite(int fd, const void *from, size_t length, off_t at);
-int __real_fsync(int fd);
-int __wrap_fsync(int fd);
 void *__real_malloc(size_t size);
 void *__wrap_malloc(size_t size);
 void *__real_calloc(size_t count, size_t size);
@@ -42,244 +29,307 @@ void *__wrap_calloc(size_t count, size_t size);
 void *__real_realloc(void *at, size_t size);
 void *__wrap_realloc(void *at, size_t size);
 
-ssize_t __wrap_pwrite(int fd, const void *from, size_t length, off_t at) {
-    writes++;
-    if (fault == PROCESS_ENDS && is_due()) {
-        __real_pwrite(fd, from, length / 2, at);
-        _exit(0);
-    }
-    if (fault == WRITE_FAILS && is_due()) {
-        __real_pwrite(fd, from, length / 3, at);
-        errno = EIO;
-        return -1;
-    }
-    if (fault == WRITE_IS_SHORT && length > 1) length = 1 + length / 3;
-    return __real_pwrite(fd, from, length, at);
-}
-
-int __wrap_fsync(int fd) {
-    syncs++;
-    if (fault == PROCESS_ENDS && is_due()) _exit(0);
-    if (fault == SYNC_FAILS && is_due()) {
-        errno = EIO;
-        return -1;
-    }
-    return __real_fsync(fd);
-}
-
 void *__wrap_malloc(size_t size) {
-    return fault == MEMORY_FAILS && is_due() ? NULL : __real_malloc(size);
+    return is_due() ? NULL : __real_malloc(size);
 }
 
 void *__wrap_calloc(size_t count, size_t size) {
-    return fault == MEMORY_FAILS && is_due() ? NULL : __real_calloc(count, size);
+    return is_due() ? NULL : __real_calloc(count, size);
 }
 
 void *__wrap_realloc(void *at, size_t size) {
-    return fault == MEMORY_FAILS && is_due() ? NULL : __real_realloc(at, size);
+    return is_due() ? NULL : __real_realloc(at, size);
 }
 
 /* ---- Files and disks */
 
 struct file {
-    uint8_t *bytes;
+    char bytes[1 << 20];
     size_t length;
 };
+static struct file library, other, program, old;
+static const char *name;
 
-static struct file read_file(const char *path) {
-    struct file it;
+static void read_file(struct file *it, const char *path) {
     FILE *file = fopen(path, "rb");
-    WANT(file && !fseek(file, 0, SEEK_END));
-    it.length = (size_t)ftell(file);
-    rewind(file);
-    it.bytes = malloc(it.length + 1);
-    WANT(it.bytes && fread(it.bytes, 1, it.length, file) == it.length);
-    fclose(file);
-    return it;
+    WANT(file && (it->length = fread(it->bytes, 1, sizeof it->bytes, file)));
+    WANT(it->length < sizeof it->bytes && !fclose(file));
 }
 
-static const char *path, *name;
-static struct file library, other, program;
-
-static rlibreg *opened(unsigned flags) {
-    rlibreg *it = rlibreg_create();
-    WANT(it && !rlibreg_open(it, path, flags));
-    return it;
+static void put(const char *bytes, size_t length, off_t whole) {
+    int fd = open(DISK, O_WRONLY | O_CREAT | O_TRUNC, 0666);
+    WANT(fd >= 0 && write(fd, bytes, length) == (ssize_t)length && !ftruncate(fd, whole));
+    WANT(!close(fd));
 }
 
-/* The length of the library of a disk that has one, or 0. */
-static uint64_t listed(void) {
-    rlibreg *it = opened(0);
+/* What the disk holds, as a listing or the refusal of one. */
+static const char *state(void) {
+    static char text[4096];
     rlibreg_listing listing;
-    WANT(!rlibreg_listing_of(it, &listing));
-    WANT(listing.libraries < 2);
-    uint64_t length = listing.libraries ? listing.entries[0].file_length : 0;
-    if (listing.libraries) WANT(!strcmp(listing.names + listing.entries[0].name, name));
-    rlibreg_listing_free(&listing);
+    rlibreg *it = rlibreg_create();
+    WANT(it);
+    uint32_t status = rlibreg_open(it, DISK, 0);
+    WANT(!status || (status == RLIBREG_SYSTEM && errno == ENOENT));
+    if (!status) rlibreg_listing_of(it, &listing);
+    snprintf(text, sizeof text, "%s", status ? "none" : rlibreg_text(it));
+    if (!status) rlibreg_listing_free(&listing);
     rlibreg_close(it);
-    return length;
+    return text;
 }
 
-/* ---- Changes: from one length of the library, 0 for none, to another */
+/* ---- Changes */
 
 struct change {
     const char *what;
-    uint64_t before, after;
+    void (*prepare)(void);
+    uint32_t (*make)(rlibreg *it);
+    int opens; /* whether it opens the disk itself */
+    char before[256], after[256];
 };
 
-static uint32_t make(rlibreg *it, const struct change *change) {
-    switch (change->what[0]) {
-    case 'i':
-        return rlibreg_install(it, library.bytes, library.length);
-    case 'r':
-        return rlibreg_replace(it, other.bytes, other.length);
-    }
+static uint32_t make_install(rlibreg *it) {
+    return rlibreg_install(it, library.bytes, library.length);
+}
+
+static uint32_t make_replace(rlibreg *it) {
+    return rlibreg_replace(it, other.bytes, other.length);
+}
+
+static uint32_t make_remove(rlibreg *it) {
     return rlibreg_remove(it, name);
 }
 
-/* A disk as it is before a change. */
-static void prepare(const struct change *change) {
-    fault = NONE;
-    unlink(path);
-    rlibreg *it = rlibreg_create();
-    WANT(it && !rlibreg_format(it, path, 128, 0));
-    if (change->before) WANT(!rlibreg_install(it, library.bytes, library.length));
-    rlibreg_close(it);
-    WANT(listed() == change->before);
+static uint32_t make_preload(rlibreg *it) {
+    return rlibreg_preload(it, &name, 1);
 }
 
-/* Has one write or sync of a change fail after the other. */
-static long try_device(const struct change *change, enum fault kind) {
-    long n = 0;
-    for (;; n++) {
-        prepare(change);
-        rlibreg *it = opened(RLIBREG_CHANGES);
-        rlibreg_listing listing;
-        rlibreg_image image;
-        fault = kind;
-        countdown = n;
-        uint32_t status = make(it, change);
-        int failed = countdown < 0 && kind != WRITE_IS_SHORT;
-        fault = NONE;
-        if (!failed) WANT(!status && !strcmp(rlibreg_text(it), "ok\n"));
-        if (failed) {
-            WANT(errno == EIO);
-            WANT(status == RLIBREG_DEVICE && !strcmp(rlibreg_text(it), "refused S1 Device\n"));
-            WANT(make(it, change) == RLIBREG_REOPEN);
-            WANT(!strcmp(rlibreg_text(it), "refused S2 Reopen\n"));
-            WANT(rlibreg_listing_of(it, &listing) == RLIBREG_REOPEN && !listing.entries);
-            WANT(rlibreg_image_of(it, program.bytes, program.length, 0, &image) == RLIBREG_REOPEN);
-            WANT(rlibreg_last(it)->status == RLIBREG_REOPEN && !image.bytes);
-        }
-        rlibreg_close(it);
-        uint64_t length = listed();
-        WANT(length == change->after || (failed && length == change->before));
-        if (!failed) return n;
-        it = opened(RLIBREG_CHANGES); /* the change can be asked for again */
-        status = make(it, change);
-        WANT(!status || (length == change->after && status > 200 && status < 204));
-        rlibreg_close(it);
-        WANT(listed() == change->after);
+static uint32_t make_format(rlibreg *it) {
+    return rlibreg_format(it, DISK, 128, 0);
+}
+
+static void leave_nothing(void) {
+    unlink(DISK);
+}
+
+static void leave_zeros(void) {
+    put("", 0, 128 * 512);
+}
+
+static void leave_empty(void) {
+    unlink(DISK);
+    rlibreg *it = rlibreg_create();
+    WANT(it && !make_format(it));
+    rlibreg_close(it);
+}
+
+static void leave_library(void) {
+    unlink(DISK);
+    rlibreg *it = rlibreg_create();
+    WANT(it && !make_format(it) && !make_install(it));
+    rlibreg_close(it);
+}
+
+static void leave_old(void) {
+    put(old.bytes, old.length, (off_t)old.length);
+}
+
+static struct change changes[] = {
+    { .what = "install", .prepare = leave_empty, .make = make_install },
+    { .what = "replace", .prepare = leave_library, .make = make_replace },
+    { .what = "delete", .prepare = leave_library, .make = make_remove },
+    { .what = "preload", .prepare = leave_library, .make = make_preload },
+    { .what = "upgrade", .prepare = leave_old, .make = rlibreg_upgrade },
+    { .what = "format", .prepare = leave_nothing, .make = make_format, .opens = 1 },
+    { .what = "format in place", .prepare = leave_zeros, .make = make_format, .opens = 1 },
+};
+
+/* What a change was answered, and by which of its calls. */
+struct outcome {
+    uint32_t opened, status;
+    int why;
+};
+
+/* After S1 a struct says S2 to everything. */
+static void want_reopen(rlibreg *it, const struct change *change) {
+    rlibreg_listing listing;
+    rlibreg_image image;
+    if (change->opens) return; /* the struct has no file then */
+    WANT(change->make(it) == RLIBREG_REOPEN);
+    WANT(!strcmp(rlibreg_text(it), "refused S2 Reopen\n"));
+    WANT(rlibreg_listing_of(it, &listing) == RLIBREG_REOPEN && !listing.entries);
+    WANT(rlibreg_image_of(it, program.bytes, program.length, 0, &image) == RLIBREG_REOPEN);
+    WANT(rlibreg_last(it)->status == RLIBREG_REOPEN && !image.bytes);
+}
+
+/* Makes a change, from the opening of the disk to its closing. */
+static struct outcome attempt(const struct change *change) {
+    struct outcome it = { 0 };
+    rlibreg *registry = rlibreg_create();
+    WANT(registry);
+    if (!change->opens) it.opened = rlibreg_open(registry, DISK, RLIBREG_CHANGES);
+    it.status = it.opened ? it.opened : change->make(registry);
+    it.why = errno;
+    WANT(rlibreg_last(registry)->status == it.status);
+    if (it.status == RLIBREG_SYSTEM) WANT(!rlibreg_text(registry)[0]);
+    if (it.status == RLIBREG_DEVICE) {
+        WANT(!strcmp(rlibreg_text(registry), "refused S1 Device\n"));
+        want_reopen(registry, change);
+    }
+    rlibreg_close(registry);
+    return it;
+}
+
+/* Asks for a change that was made or not. */
+static void make_again(const struct change *change, int was_made) {
+    uint32_t status = attempt(change).status;
+    WANT(!status ||
+         (was_made && (status == RLIBREG_ALREADY_INSTALLED || status == RLIBREG_NOT_INSTALLED ||
+                       status == RLIBREG_ALREADY_FORMATTED)));
+    WANT(!strcmp(state(), change->after));
+}
+
+/* ---- Calls of the system that fail */
+
+static int has_failed(const char *word) {
+    return !strcmp(watched.failed, word);
+}
+
+/* Whether the answer is the right one to the call that failed. */
+static int is_right(const struct change *change, const struct outcome *it) {
+    if (has_failed("forget") || has_failed("unlock")) return !it->status; /* nothing hangs on it */
+    if (change->opens) /* making.c knows more of each */
+        return !it->status || ((it->status == RLIBREG_SYSTEM || it->status == RLIBREG_DEVICE) &&
+                               (it->why == EIO || it->why == EAGAIN));
+    if (has_failed("stat")) return !it->status; /* the path is opened again */
+    return it->why == EIO && it->status == (it->opened ? RLIBREG_SYSTEM : RLIBREG_DEVICE);
+}
+
+static long try_calls(const struct change *change) {
+    for (long n = 0;; n++) {
+        change->prepare();
+        watch();
+        watched.first = n;
+        watched.why = EIO;
+        struct outcome it = attempt(change);
+        unwatch();
+        int is_new = !strcmp(state(), change->after), is_old = !strcmp(state(), change->before);
+        WANT(is_new || (is_old && it.status));
+        if (it.status == RLIBREG_SYSTEM) WANT(is_old);
+        if (n >= watched.calls) return n;
+        WANT(is_right(change, &it));
+        make_again(change, is_new);
     }
 }
 
-/* Has the process end at one write or sync after the other. */
-static long try_ends(const struct change *change) {
-    for (long n = 0;; n++) {
+static void try_short_writes(const struct change *change) {
+    change->prepare();
+    watch();
+    watched.is_short = 1;
+    struct outcome it = attempt(change);
+    unwatch();
+    WANT(!it.status || (change->opens && it.why == ENOSPC)); /* a new disk's first write is whole */
+    WANT(!strcmp(state(), it.status ? change->before : change->after));
+}
+
+static void try_ends(const struct change *change, long calls) {
+    for (long n = 0; n < calls; n++) {
         int status;
-        prepare(change);
+        change->prepare();
         fflush(stdout);
         pid_t child = fork();
         WANT(child >= 0);
         if (!child) {
-            rlibreg *it = opened(RLIBREG_CHANGES);
-            fault = PROCESS_ENDS;
-            countdown = n;
-            _exit(make(it, change) ? 2 : 1);
+            watch();
+            watched.end = n;
+            attempt(change);
+            _exit(1);
         }
-        WANT(waitpid(child, &status, 0) == child && WIFEXITED(status) && WEXITSTATUS(status) < 2);
-        uint64_t length = listed();
-        WANT(length == change->after || (!WEXITSTATUS(status) && length == change->before));
-        if (WEXITSTATUS(status)) return n;
+        WANT(waitpid(child, &status, 0) == child && WIFEXITED(status) && !WEXITSTATUS(status));
+        int is_new = !strcmp(state(), change->after);
+        WANT(is_new || !strcmp(state(), change->before));
+        make_again(change, is_new);
     }
 }
 
-/* Has each growth of memory fail, from the making of the struct on. */
+/* ---- Memory */
+
+/* Looks at the disk, and says by which status, if not by those without a fault. */
+static uint32_t look(rlibreg *it, const uint32_t usual[2]) {
+    rlibreg_listing listing;
+    rlibreg_image image;
+    uint32_t status = rlibreg_listing_of(it, &listing);
+    rlibreg_listing_free(&listing);
+    if (status != usual[0]) return status;
+    status = rlibreg_image_of(it, program.bytes, program.length, 0x10000, &image);
+    rlibreg_image_free(&image);
+    return status == usual[1] ? RLIBREG_DONE : status;
+}
+
+static void find_usual(const struct change *change, uint32_t usual[2]) {
+    rlibreg_listing listing;
+    rlibreg_image image;
+    rlibreg *it = rlibreg_create();
+    change->prepare();
+    WANT(it && !rlibreg_open(it, DISK, 0));
+    usual[0] = rlibreg_listing_of(it, &listing);
+    usual[1] = rlibreg_image_of(it, program.bytes, program.length, 0x10000, &image);
+    rlibreg_listing_free(&listing);
+    rlibreg_image_free(&image);
+    rlibreg_close(it);
+}
+
+/* Has each growth fail, from the making of the struct on: nothing was done, and all goes on. */
 static long try_memory(const struct change *change) {
+    uint32_t usual[2] = { 0 };
+    if (!change->opens) find_usual(change, usual);
     for (long n = 0;; n++) {
-        rlibreg_listing listing = { 0 };
-        rlibreg_image image = { 0 };
-        prepare(change);
-        fault = MEMORY_FAILS;
-        countdown = n;
+        change->prepare();
+        growths = n;
         rlibreg *it = rlibreg_create();
         if (!it) continue;
-        WANT(!rlibreg_open(it, path, RLIBREG_CHANGES));
-        uint32_t looked = rlibreg_listing_of(it, &listing);
-        if (!looked) looked = rlibreg_image_of(it, program.bytes, program.length, 0x10000, &image);
-        int binds = !looked || looked == (change->before ? 0 : RLIBREG_MISSING);
-        uint32_t changed = binds ? make(it, change) : 0;
-        int failed = countdown < 0;
-        fault = NONE;
-        if (!binds) WANT(looked == RLIBREG_OUT_OF_MEMORY);
-        if (changed) WANT(changed == RLIBREG_OUT_OF_MEMORY);
-        if (!binds || changed) WANT(!strcmp(rlibreg_text(it), "refused S11 OutOfMemory\n"));
-        if (!failed) WANT(binds && !changed);
-        if (!binds || changed) WANT(!make(it, change)); /* nothing was done, and all goes on */
-        rlibreg_listing_free(&listing);
-        rlibreg_image_free(&image);
+        if (!change->opens) WANT(!rlibreg_open(it, DISK, RLIBREG_CHANGES));
+        uint32_t status = change->opens ? 0 : look(it, usual);
+        if (!status) status = change->make(it);
+        int has_failed = growths < 0;
+        growths = -1;
+        WANT(status == RLIBREG_OUT_OF_MEMORY || !status);
+        WANT(has_failed || !status);
+        if (status) {
+            WANT(!strcmp(rlibreg_text(it), "refused S11 OutOfMemory\n"));
+            WANT(!strcmp(names_here(), strcmp(change->before, "none") ? "disk " : ""));
+            WANT(!change->make(it));
+        }
         rlibreg_close(it);
-        WANT(listed() == change->after);
-        if (!failed) return n;
-    }
-}
-
-/* Has each growth of memory fail while a registry is made: then nothing is left. */
-static long try_making(void) {
-    char other_name[256];
-    snprintf(other_name, sizeof other_name, ".%s.rlibreg-new", path);
-    for (long n = 0;; n++) {
-        unlink(path);
-        rlibreg *it = rlibreg_create();
-        WANT(it);
-        fault = MEMORY_FAILS;
-        countdown = n;
-        uint32_t status = rlibreg_format(it, path, 128, 0);
-        int failed = countdown < 0;
-        fault = NONE;
-        WANT(status == (failed ? RLIBREG_OUT_OF_MEMORY : RLIBREG_DONE));
-        WANT(access(other_name, F_OK) && !access(path, F_OK) == !failed);
-        rlibreg_close(it);
-        if (!failed) return n;
+        WANT(!strcmp(state(), change->after));
+        if (!has_failed) return n;
     }
 }
 
 /* ---- What a struct is not for */
 
 static void try_misuse(void) {
-    const struct change install = { "install", 0, library.length };
-    prepare(&install);
     rlibreg_listing listing;
     rlibreg_image image;
+    leave_empty();
     rlibreg *it = rlibreg_create();
     WANT(!rlibreg_text(it)[0] && rlibreg_last(it)->status == 0);
     WANT(rlibreg_listing_of(it, &listing) == RLIBREG_BAD_GEOMETRY); /* it has no file */
     WANT(!strcmp(rlibreg_text(it), "refused S6 BadGeometry\n"));
     WANT(rlibreg_image_of(it, program.bytes, program.length, 0, &image) == RLIBREG_BAD_GEOMETRY);
-    WANT(rlibreg_install(it, library.bytes, library.length) == RLIBREG_READ_ONLY);
-    WANT(rlibreg_format(it, path, 7, 0) == RLIBREG_BAD_ARGUMENT);
-    WANT(rlibreg_format(it, path, 4194305, 0) == RLIBREG_BAD_ARGUMENT);
-    WANT(rlibreg_format(it, path, 128, 0) == RLIBREG_ALREADY_FORMATTED);
+    WANT(make_install(it) == RLIBREG_READ_ONLY);
+    WANT(rlibreg_format(it, DISK, 7, 0) == RLIBREG_BAD_ARGUMENT);
+    WANT(rlibreg_format(it, DISK, 4194305, 0) == RLIBREG_BAD_ARGUMENT);
+    WANT(make_format(it) == RLIBREG_ALREADY_FORMATTED);
     WANT(rlibreg_open(it, "/", 0) == RLIBREG_SYSTEM && errno == EINVAL);
     WANT(rlibreg_open(it, "/none/none", 0) == RLIBREG_SYSTEM && errno == ENOENT);
     WANT(rlibreg_format(it, "/none/none", 128, 0) == RLIBREG_SYSTEM && errno == ENOENT);
 
-    WANT(!rlibreg_open(it, path, 0) && !rlibreg_text(it)[0]); /* for reading alone */
-    WANT(rlibreg_open(it, path, 0) == RLIBREG_BAD_ARGUMENT);
-    WANT(rlibreg_format(it, path, 128, 0) == RLIBREG_BAD_ARGUMENT);
-    WANT(rlibreg_install(it, library.bytes, library.length) == RLIBREG_READ_ONLY);
+    WANT(!rlibreg_open(it, DISK, 0) && !rlibreg_text(it)[0]); /* for reading alone */
+    WANT(rlibreg_open(it, DISK, 0) == RLIBREG_BAD_ARGUMENT);
+    WANT(make_format(it) == RLIBREG_BAD_ARGUMENT);
+    WANT(make_install(it) == RLIBREG_READ_ONLY);
     WANT(!rlibreg_text(it)[0] && rlibreg_last(it)->status == RLIBREG_READ_ONLY);
-    WANT(rlibreg_upgrade(it) == RLIBREG_READ_ONLY && rlibreg_remove(it, name) == RLIBREG_READ_ONLY);
+    WANT(rlibreg_upgrade(it) == RLIBREG_READ_ONLY && make_remove(it) == RLIBREG_READ_ONLY);
     WANT(rlibreg_preload(it, NULL, 0) == RLIBREG_READ_ONLY);
     WANT(!rlibreg_listing_of(it, &listing) && listing.libraries == 0);
     rlibreg_listing_free(&listing);
@@ -287,40 +337,40 @@ static void try_misuse(void) {
     rlibreg_image_free(&image);
     rlibreg_close(it);
     rlibreg_close(NULL);
-    WANT(listed() == 0);
+    WANT(!strcmp(state(), "end\n"));
 }
 
 /* ---- */
 
+static void find_states(struct change *change) {
+    change->prepare();
+    snprintf(change->before, sizeof change->before, "%s", state());
+    WANT(!attempt(change).status);
+    snprintf(change->after, sizeof change->after, "%s", state());
+    WANT(strcmp(change->before, change->after));
+}
+
 int main(int argc, char **argv) {
     WANT(argc == 6);
-    library = read_file(argv[1]);
-    other = read_file(argv[2]);
-    program = read_file(argv[3]);
+    read_file(&library, argv[1]);
+    read_file(&other, argv[2]);
+    read_file(&program, argv[3]);
     name = argv[4];
-    path = argv[5];
+    read_file(&old, argv[5]);
+    WANT(library.length != other.length);
     try_misuse();
-    long making = try_making();
-    printf("faults: format: %ld growths failed\n", making);
-    WANT(making > 4);
-    const struct change changes[] = { { "install", 0, library.length },
-                                      { "replace", library.length, other.length },
-                                      { "delete", library.length, 0 } };
-    for (size_t i = 0; i < 3; i++) {
-        writes = syncs = 0;
-        long failing = try_device(&changes[i], WRITE_FAILS);
-        long syncing = try_device(&changes[i], SYNC_FAILS);
-        try_device(&changes[i], WRITE_IS_SHORT);
-        long ends = try_ends(&changes[i]);
-        long memory = try_memory(&changes[i]);
-        WANT(failing > 0 && syncing > 1 && ends == failing + syncing && memory > 20);
-        printf("faults: %s: %ld writes and %ld syncs failed, the process ended at each; "
-               "%ld growths failed\n",
-               changes[i].what, failing, syncing, memory);
+    for (size_t i = 0; i < sizeof changes / sizeof *changes; i++) {
+        struct change *change = &changes[i];
+        find_states(change);
+        long calls = try_calls(change);
+        try_short_writes(change);
+        try_ends(change, calls);
+        long memory = try_memory(change);
+        WANT(calls > 12 && memory > (change->opens ? 4 : 20));
+        printf("faults: %s: each of %ld calls failed, and the process ended at each; each of %ld "
+               "growths failed\n",
+               change->what, calls, memory);
     }
-    free(library.bytes);
-    free(other.bytes);
-    free(program.bytes);
-    unlink(path);
+    unlink(DISK);
     return 0;
 }

@@ -26,6 +26,7 @@ runs_alike() {
         "$(ended env LD_BIND_NOW=1 LD_LIBRARY_PATH=. LD_PRELOAD="$preloads" $glibc "${@:3}")"
 }
 
+both='memory that may be written and executed, for which -x is needed'
 count=0
 linkers=
 for linker in bfd gold lld; do
@@ -34,8 +35,11 @@ for linker in bfd gold lld; do
     library libone.so $linker
     library libtwo.so $linker libone.so
     library libbetween.so $linker
-    for name in words walls deep; do made $name $linker; done
+    for name in words deep place; do made $name $linker; done
+    made walls $linker -Wl,-z,relro
+    $compile -fuse-ld=$linker -shared -Wl,-e,_start,-z,relro -o own-walls "$programs/walls.c"
     made chain $linker libtwo.so libone.so
+    made both $linker 2> warned || { cat warned >&2; exit 1; }
     made page $linker -Wl,-z,max-page-size=512,-z,common-page-size=512
     rm -f disk
     ./tool format disk 512 > /dev/null
@@ -62,39 +66,31 @@ nothing at the end
     preloads=libbetween.so
     runs_alike 'a preload' 'between 36 13 nobody
 = 18' ./chain
-    for what in constant text x; do
+    for what in constant fixed text x; do
         runs "$what" 'before
 = 139' ./walls $what
     done
+    runs 'a program that may relocate itself' 'before
+after
+= 0' ./own-walls fixed
     runs_alike 'a variable' 'before
 after
 = 0' ./walls variable
     runs_alike 'stack and zeros' '3000
 = 1' ./deep
-    runs 'segments that share a page' 'one page
-= 42' ./page
-    want "$linker: another base" 'one page
-= 42' "$(ended ./rlibreg-run -b 0x7000000000 disk ./page)"
+    for name in page both; do
+        runs "$name" "rlibreg-run: ./$name: it has $both
+= 125" ./$name
+    done
+    want "$linker: segments that share a page" 'one page
+= 42' "$(ended ./rlibreg-run -x disk ./page)"
+    want "$linker: a segment that may be written and executed" 'rewritten
+= 0' "$(ended ./rlibreg-run -x disk ./both)"
+    want "$linker: a base" 'one page
+= 42' "$(ended ./rlibreg-run -x -b 0x7000000000 disk ./page)"
     want "$linker: a base that is no multiple of a page" 'refused B2 BadBase
 = 125' "$(ended ./rlibreg-run -b 0x10001 disk ./page)"
     runs 'a library' "rlibreg-run: libone.so: it has no entry
 = 125" libone.so
-    runs 'a file that is none' 'refused B1 E1 TooShort
-= 125' /dev/null
 done
-linker=all
-want 'a disk that is not there' 'rlibreg-run: none: No such file or directory
-= 126' "$(ended ./rlibreg-run none ./words)"
-want 'a program that is not there' 'rlibreg-run: none: No such file or directory
-= 126' "$(ended ./rlibreg-run disk none)"
-usage='rlibreg-run: usage: rlibreg-run [-b BASE] DISK PROGRAM [WORD]..
-= 127'
-want 'no words' "$usage" "$(ended ./rlibreg-run)"
-want 'a word' "$usage" "$(ended ./rlibreg-run disk)"
-for base in 0x1z 1f '' -4096 0x10000000000000000; do
-    want "the base $base" "$usage" "$(ended ./rlibreg-run -b "$base" disk ./words)"
-done
-truncate -s 4096 zeros
-want 'no registry' 'refused S3 NotFormatted
-= 125' "$(ended ./rlibreg-run zeros ./words)"
 echo "loader: $count runs of programs made by$linkers: output and status as written"

@@ -99,7 +99,7 @@ static void try_order(void) {
     WANT(!format(0));
     unwatch();
     WANT(!strcmp(watched.log, "open folder make lock-alone cut write sync forget forget map "
-                              "sync write sync link unlink sync-folder "));
+                              "sync write sync link unlink sync-folder unlock "));
     WANT(here("disk "));
     clear();
 }

@@ -5,8 +5,10 @@
 #include "watched.h"
 
 #include <fcntl.h>
+#include <signal.h>
 #include <sys/file.h>
 #include <sys/stat.h>
+#include <sys/wait.h>
 #include <unistd.h>
 
 static char library[1 << 20];
@@ -49,7 +51,7 @@ static uint64_t generation_of(const char *path, unsigned flags) {
 /* ---- The order of the calls */
 
 static void try_order(void) {
-    const char *behind = "sync forget forget map ";
+    const char *behind = "sync forget forget map unlock ";
     const struct {
         unsigned flags;
         const char *lock;
@@ -120,6 +122,28 @@ static void try_locks(void) {
     }
 }
 
+/* A lock that this process has is not waited for: the process would wait for itself. */
+static void try_own_locks(void) {
+    WANT(!link("disk", "second"));
+    for (unsigned first = 0; first <= CHANGES; first++) {
+        rlibreg *it = rlibreg_create(), *other = rlibreg_create();
+        WANT(!rlibreg_open(it, "disk", first | WAIT));
+        for (unsigned second = 0; second <= CHANGES; second++) {
+            uint32_t wanted = first || second ? RLIBREG_HELD : RLIBREG_DONE;
+            WANT(opens("disk", second | WAIT) == wanted);
+            WANT(opens("second", second | WAIT) == wanted);
+        }
+        WANT(rlibreg_format(other, "disk", 64, WAIT) == RLIBREG_HELD);
+        rlibreg_close(it);
+        WANT(!rlibreg_open(other, "disk", CHANGES | WAIT));
+        rlibreg_close(other);
+    }
+    rlibreg *it = rlibreg_create();
+    WANT(!rlibreg_format(it, "new", 64, WAIT) && opens("new", WAIT) == RLIBREG_HELD);
+    rlibreg_close(it);
+    WANT(!opens("new", CHANGES | WAIT) && !unlink("new") && !unlink("second"));
+}
+
 /* ---- Files that are replaced before they are locked */
 
 static int replacements, then_none;
@@ -151,7 +175,7 @@ static void try_replaced(void) {
     for (unsigned flags = 0; flags <= CHANGES; flags++) {
         WANT(!opens_replaced(1, 0, flags) && strstr(made("open") + 1, "open"));
         WANT(!opens_replaced(15, 0, flags));
-        WANT(fails_by(opens_replaced(16, 0, flags), EAGAIN) && !made("sync"));
+        WANT(opens_replaced(16, 0, flags) == RLIBREG_HELD && !made("sync"));
         WANT(fails_by(opens_replaced(3, 1, flags), ENOENT));
     }
     format("disk");
@@ -196,6 +220,26 @@ static void try_kinds(void) {
     WANT(!rmdir("folder"));
 }
 
+/* ---- What can't be read */
+
+static void try_cut(void) {
+    int status;
+    rlibreg_listing listing;
+    format("short");
+    fflush(stdout);
+    pid_t child = fork();
+    WANT(child >= 0);
+    if (!child) {
+        rlibreg *it = rlibreg_create();
+        signal(SIGBUS, SIG_DFL);
+        WANT(!rlibreg_open(it, "short", 0) && !truncate("short", 0));
+        rlibreg_listing_of(it, &listing);
+        _exit(0);
+    }
+    WANT(waitpid(child, &status, 0) == child && WIFSIGNALED(status) && WTERMSIG(status) == SIGBUS);
+    WANT(!unlink("short"));
+}
+
 /* ---- Block devices */
 
 static void watch_device(void) {
@@ -203,25 +247,32 @@ static void watch_device(void) {
     watched.device = 0x701;
 }
 
+static int changes_left;
+
 static void change_device(const char *word) {
-    if (!strcmp(word, "open-alone")) watched.device = 0x702;
+    if (!strcmp(word, "open-alone") && changes_left-- > 0) watched.device++;
 }
 
 static void try_devices(void) {
     uint64_t generation = generation_of("disk", 0);
     watch_device();
     WANT(generation_of("disk", 0) == generation);
-    WANT(!strcmp(watched.log, "open lock-shared sync forget forget map "));
+    WANT(!strcmp(watched.log, "open lock-shared sync forget forget map unlock "));
     watch_device();
     WANT(generation_of("disk", CHANGES) == generation);
-    WANT(!strcmp(watched.log, "open lock-alone open-alone sync forget forget map "));
+    WANT(!strcmp(watched.log, "open lock-alone open-alone sync forget forget map unlock "));
     watch_device();
     watched.refused = "open-alone";
     watched.because = EBUSY;
     WANT(fails_by(opens("disk", CHANGES), EBUSY) && !made("sync"));
     watch_device();
     watched.before = change_device;
-    WANT(fails_by(opens("disk", CHANGES), EAGAIN) && !made("sync"));
+    changes_left = 15;
+    WANT(!opens("disk", CHANGES) && made("sync"));
+    watch_device();
+    watched.before = change_device;
+    changes_left = 16;
+    WANT(opens("disk", CHANGES) == RLIBREG_HELD && !made("sync"));
     unwatch();
     WANT(!is_held("disk"));
 }
@@ -259,13 +310,16 @@ int main(int argc, char **argv) {
     name = argv[2];
     int free_number = dup(0);
     close(free_number);
+    alarm(60); /* who waits for himself doesn't wait for ever */
     format("disk");
     try_order();
     try_faults(0);
     try_faults(CHANGES);
     try_locks();
+    try_own_locks();
     try_syncs();
     try_kinds();
+    try_cut();
     try_devices();
     try_held_devices();
     try_replaced();

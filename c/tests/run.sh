@@ -18,7 +18,7 @@ trap 'rm -rf "$room"' EXIT
 
 flags="-std=c11 -g -Wall -Wextra -Werror -I$built"
 checked="$flags -O1 -fsanitize=address,undefined -fno-sanitize-recover=all"
-wraps=-Wl,--wrap=pwrite,--wrap=fsync,--wrap=malloc,--wrap=calloc,--wrap=realloc
+wraps=-Wl,--wrap=malloc,--wrap=calloc,--wrap=realloc
 beside="$(printf "$here/../rlibreg_%s.c " file disk_file new_disk status) $built/librlibreg.a"
 watched=$(printf ',--wrap=%s' open openat fstat stat fstatat lseek nanosleep flock fsync \
     posix_fadvise mmap ftruncate pwrite linkat renameat2 renameat unlink unlinkat)
@@ -26,13 +26,15 @@ watched="-Wl$watched $here/watched.c"
 for name in tool calls cuts; do
     gcc $checked -o "$room/$name" "$here/$name.c" $beside
 done
-gcc $checked $wraps -o "$room/faults" "$here/faults.c" $beside
-for name in opening making; do
+gcc $checked $wraps -o "$room/faults" "$here/faults.c" $watched $beside
+for name in opening making forked; do
     gcc $checked -o "$room/$name" "$here/$name.c" $watched $beside
 done
 # With the sanitizer of addresses a program can't be mapped at each address, so the loader has one.
-gcc $flags -O1 -fsanitize=undefined -fno-sanitize-recover=all -o "$room/rlibreg-run" \
-    "$here/../rlibreg_run.c" $beside
+loader="gcc $flags -O1 -fsanitize=undefined -fno-sanitize-recover=all $here/../rlibreg_run*.c"
+$loader -o "$room/rlibreg-run" $beside
+$loader -o "$room/run-taken" -Wl,--wrap=mmap "$here/taken.c" $beside
+gcc $flags -o "$room/within" "$here/within.c"
 
 cd "$room"
 . "$here/want.sh"
@@ -41,11 +43,20 @@ want 'other names that the archive defines' '' \
 "$room/calls" "$data/strong.so" "$data/protected.so" "$data/program-1.so" b
 gcc $flags -O1 -o "$room/calls" "$here/calls.c" $beside
 (ulimit -s 512 && "$room/calls" "$data/strong.so" "$data/protected.so" "$data/program-1.so" b)
-"$room/faults" "$data/strong.so" "$data/protected.so" "$data/program-1.so" b faults.disk
-for name in opening making; do
-    mkdir $name.files
-    (cd $name.files && "$room/$name" "$data/strong.so" b)
+# alone NAME WORD..: a test in a folder of its own.
+alone() {
+    mkdir $1.files
+    (cd $1.files && "$room/$1" "${@:2}")
+}
+alone faults "$data/strong.so" "$data/protected.so" "$data/program-1.so" b "$data/old-one.disk"
+alone opening "$data/strong.so" b
+alone making "$data/strong.so" b
+alone forked "$data/strong.so" "$data/program-1.so" b
+for part in cuts same held devices loader starting documents; do
+    (. "$here/$part.sh")
 done
-for part in cuts same held devices loader documents; do
+
+# What build.sh has made, as it stands: no C of the library is compiled anew for these.
+for part in shared installed python; do
     (. "$here/$part.sh")
 done

@@ -1,20 +1,20 @@
 # The program and the library, each on a disk of its own: what both print, their statuses, and every
-# byte of the two disks after each command. The number of a file's test in an answer is that of its
-# text.
+# byte of the two disks after each command. The test of a file in an answer is that of its text, by
+# number and name.
 
 count=0
 
 # both COMMAND [WORD]..: on the disks `theirs` and `ours`.
 both() {
-    local theirs ours number=
+    local theirs ours test=
     theirs=$("$rlibreg" "$1" theirs "${@:2}" && echo '= 0' || echo "= $?")
-    ours=$(./tool "$1" ours "${@:2}" 2> number && echo '= 0' || echo "= $?")
+    ours=$(./tool "$1" ours "${@:2}" 2> test && echo '= 0' || echo "= $?")
     case $theirs in
-        refused\ [BC]1\ E*) number=${theirs#refused ?1 } number=${number%% *} ;;
+        refused\ [BC]1\ E*) test=$(grep -o 'E[0-9]* [A-Za-z]*' <<< "$theirs") ;;
         object*) theirs=$(grep -v '^object ' <<< "$theirs") ;;
     esac
     want "$*" "$theirs" "$ours"
-    want "$*: the test" "$number" "$(< number)"
+    want "$*: the test" "$test" "$(< test)"
     cmp theirs ours
     count=$((count + 1))
 }

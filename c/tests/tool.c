@@ -106,7 +106,7 @@ int main(int argc, char **argv) {
     else if (status < 100 && status)
         fprintf(stderr, "tool: %s\n", rlibreg_status_name(status));
     if (rlibreg_last(it)->file_refusal)
-        fprintf(stderr, "E%u\n", (unsigned)rlibreg_last(it)->file_refusal);
+        fprintf(stderr, "%s\n", rlibreg_file_refusal_name(rlibreg_last(it)->file_refusal));
     fflush(stdout);
     if (holds)
         while (getchar() != EOF) {

@@ -122,6 +122,7 @@ WRAPPED(int, flock, int fd, int kind) {
     char word[32];
     snprintf(word, sizeof word, "%s%s", kind & LOCK_SH ? "lock-shared" : "lock-alone",
              kind & LOCK_NB ? "" : "-waits");
+    if (kind == LOCK_UN) strcpy(word, "unlock");
     return fails(word, 0) ? -1 : __real_flock(fd, kind);
 }
 
@@ -148,9 +149,18 @@ WRAPPED(int, ftruncate, int fd, off_t length) {
     return fails("cut", 0) ? -1 : __real_ftruncate(fd, length);
 }
 
+/* One that fails has done a part, and so has one at which the process ends. */
 WRAPPED(ssize_t, pwrite, int fd, const void *from, size_t length, off_t at) {
     watched.is_dirty = 1;
-    return fails("write", 0) ? -1 : __real_pwrite(fd, from, length, at);
+    if (watched.is_on && watched.calls == watched.end) __real_pwrite(fd, from, length / 2, at);
+    if (fails("write", 0)) {
+        int why = errno;
+        __real_pwrite(fd, from, length / 3, at);
+        errno = why;
+        return -1;
+    }
+    if (watched.is_on && watched.is_short && length > 1) length = 1 + length / 3;
+    return __real_pwrite(fd, from, length, at);
 }
 
 WRAPPED(int, linkat, int from, const char *old, int to, const char *new, int flags) {

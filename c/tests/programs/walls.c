@@ -3,6 +3,7 @@
 
 static const char constant[] = "constant";
 static char variable[] = { (char)0xc3, 0 };
+static const char *const fixed[] = { constant }; /* an address, written before the start alone */
 static char *volatile at;
 
 void begin(uint64_t *stack, uint64_t at_end) {
@@ -10,6 +11,7 @@ void begin(uint64_t *stack, uint64_t at_end) {
     const char *what = ((char **)(stack + 1))[1];
     say("before\n");
     if (what[0] == 'c') at = (char *)constant;
+    if (what[0] == 'f') at = (char *)fixed;
     if (what[0] == 't') at = (char *)(uint64_t)begin;
     if (what[0] == 'v') at = variable;
     if (what[0] == 'x') {

@@ -1,0 +1,153 @@
+#!/usr/bin/env bash
+# install.sh PREFIX [FOLDER]     installs what build.sh has put into FOLDER (c/out) below PREFIX
+# install.sh --remove LIST       removes what is in LIST: PREFIX/share/rlibreg/installed
+#
+# DESTDIR stands before every path. PYTHONDIR is where the Python module goes; without it that is
+# the folder below PREFIX/lib in which python3 looks for modules, or PREFIX/share/rlibreg.
+#
+# A file gets its name once it is whole, and the list is written before, so this can be run again
+# at any time. What an earlier run installed stays in the list.
+set -eu
+export LC_ALL=C
+umask 022
+here=$(cd "$(dirname "$0")" && pwd)
+root=${DESTDIR:-}
+mark='# Installed by install.sh of rlibreg.'
+files=() sources=() modes=()
+
+refuse() {
+    echo "c/install.sh: $*" >&2
+    exit 1
+}
+
+# add MODE SOURCE FILE: to what is installed. The mode `link` is that of a link to SOURCE.
+add() {
+    [ "$1" = link ] || [ -f "$2" ] || refuse "there is no $2: run c/build.sh first"
+    modes+=("$1") sources+=("$2") files+=("$3")
+}
+
+# put MODE SOURCE FILE: under another name first.
+put() {
+    local new=$root${3%/*}/.${3##*/}.new
+    install -d "$root${3%/*}"
+    if [ "$1" = link ]; then
+        ln -sfT "$2" "$new"
+    else
+        install -m "$1" "$2" "$new"
+    fi
+    mv -fT "$new" "$root$3"
+}
+
+# The folder below a prefix in which python3 looks for modules.
+python_folder() {
+    python3 -c 'import site, sys
+print(next(it for it in site.getsitepackages() if it.startswith(sys.argv[1] + "/lib")))' "$1" \
+        2> /dev/null || echo "$1/share/rlibreg"
+}
+
+# make_files PREFIX ROOM: the file for pkg-config, and the manual pages.
+make_files() {
+    sed "s|@PREFIX@|$1|; s|@VERSION@|$version|" "$here/rlibreg.pc.in" > "$2/rlibreg.pc"
+    if command -v pandoc > /dev/null; then
+        "$here/manual.sh" "$2"
+    else
+        echo 'left out: the manual pages, which pandoc makes'
+    fi
+}
+
+# add_all PREFIX FOLDER ROOM: everything that is installed, but the list.
+add_all() {
+    local shared=librlibreg.so page
+    add 755 "$2/rlibreg" "$1/bin/rlibreg"
+    add 755 "$2/rlibreg-run" "$1/bin/rlibreg-run"
+    add 644 "$2/rlibreg.h" "$1/include/rlibreg.h"
+    add 644 "$2/librlibreg.a" "$1/lib/librlibreg.a"
+    add 644 "$2/$shared.$version" "$1/lib/$shared.$version"
+    add link "$shared.$version" "$1/lib/$shared.${version%.*}"
+    add link "$shared.${version%.*}" "$1/lib/$shared"
+    add 644 "$3/rlibreg.pc" "$1/lib/pkgconfig/rlibreg.pc"
+    add 644 "$here/../python/rlibreg.py" "$modules/rlibreg.py"
+    for page in "$3"/*.[13]; do
+        [ ! -f "$page" ] || add 644 "$page" "$1/share/man/man${page##*.}/${page##*/}"
+    done
+}
+
+# The folders, with a `/` behind them, that aren't there yet.
+missing_folders() {
+    local folder
+    for folder in "${files[@]%/*}"; do
+        while [ -n "$folder" ] && [ ! -d "$root$folder" ]; do
+            echo "$folder/"
+            folder=${folder%/*}
+        done
+    done
+}
+
+# write_list LIST TO: with what is in it already.
+write_list() {
+    echo "$mark" > "$2"
+    {
+        [ ! -f "$root$1" ] || tail -n +2 "$root$1"
+        printf '%s\n' "${files[@]}"
+        missing_folders
+    } | sort -u >> "$2"
+}
+
+install_all() {
+    local prefix=${1%/} built=${2:-$here/out} at room version modules list
+    [ "${1#/}" != "$1" ] || refuse "PREFIX has to be an absolute path, and is $1"
+    case $prefix in *[!A-Za-z0-9/._+~=,@%-]*)
+        refuse "PREFIX has a character that a pkg-config file can't have, and is $1"
+        ;;
+    esac
+    version=$("$here/version.sh")
+    modules=${PYTHONDIR:-$(python_folder "$prefix")}
+    list=$prefix/share/rlibreg/installed
+    room=$(mktemp -d)
+    trap "rm -rf '$room'" EXIT
+    make_files "$prefix" "$room"
+    : > "$room/installed"
+    add 644 "$room/installed" "$list" # the first, so that what is behind it can be removed
+    add_all "$prefix" "$built" "$room"
+    write_list "$list" "$room/installed"
+    for at in "${!files[@]}"; do put "${modes[at]}" "${sources[at]}" "${files[at]}"; done
+    echo "installed $((${#files[@]} - 1)) files below $prefix; $list has their names"
+    echo "the Python module is $modules/rlibreg.py"
+    [ -n "$root" ] || echo 'ldconfig, as root, has programs find the shared library'
+}
+
+# remove_file FILE LIST: with what python3 has made of it; unless it is the list, which goes last.
+remove_file() {
+    local folder=${1%/*} name=${1##*/}
+    [ ! "$1" -ef "$2" ] || return 0
+    rm -f "$1" "$folder/.$name.new"
+    case $name in *.py)
+        rm -f "$folder/__pycache__/${name%py}"*.pyc
+        rmdir "$folder/__pycache__" 2> /dev/null || true
+        ;;
+    esac
+}
+
+# Files, the list, and then the folders that were made for them, from the deepest on, where nothing
+# else is in them.
+remove_all() {
+    local lines path
+    [ -f "$1" ] || refuse "there is no list $1"
+    [ "$(head -n 1 "$1")" = "$mark" ] || refuse "$1 is no list of what was installed"
+    mapfile -t lines <<< "$(sort -r "$1")"
+    for path in "${lines[@]}"; do
+        case $path in /*[!/]) remove_file "$root$path" "$1" ;; esac
+    done
+    rm "$1"
+    for path in "${lines[@]}"; do
+        case $path in /*/) rmdir "$root$path" 2> /dev/null || true ;; esac
+    done
+}
+
+if [ $# = 2 ] && [ "$1" = --remove ]; then
+    remove_all "$2"
+elif [ $# -ge 1 ] && [ $# -le 2 ] && [ -n "$1" ] && [ "${1#-}" = "$1" ]; then
+    install_all "$@"
+else
+    refuse 'give PREFIX [FOLDER], or --remove LIST'
+fi

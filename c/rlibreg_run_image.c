@@ -1,0 +1,171 @@
+/* The image in memory: its pages, their bytes and their permissions. */
+#define _GNU_SOURCE
+#include "rlibreg_run.h"
+
+#include <errno.h>
+#include <stdio.h>
+#include <stdlib.h>
+#include <string.h>
+#include <sys/mman.h>
+
+static uint64_t page_of(uint64_t address) {
+    return address & ~(PAGE - 1);
+}
+
+static uint64_t page_behind(const rlibreg_segment *segment) {
+    return page_of(segment->address + segment->length + PAGE - 1);
+}
+
+/* ---- Pages */
+
+/* Takes pages where nothing is mapped. A kernel before 4.17 takes others then. */
+static int take_pages(uint64_t from, uint64_t to) {
+    void *map = mmap((void *)from, to - from, PROT_READ | PROT_WRITE,
+                     MAP_PRIVATE | MAP_ANONYMOUS | MAP_FIXED_NOREPLACE, -1, 0);
+    if (map == (void *)from) return 0;
+    if (map == MAP_FAILED) return -1;
+    munmap(map, to - from);
+    errno = EEXIST;
+    return -1;
+}
+
+/* Gives the pages of the first segments back. */
+static void free_pages(const rlibreg_image *image, size_t count) {
+    int why = errno;
+    for (size_t i = 0; i < count; i++) {
+        uint64_t from = page_of(image->segments[i].address), to = page_behind(&image->segments[i]);
+        if (image->segments[i].length) munmap((void *)from, to - from);
+    }
+    errno = why;
+}
+
+/* Takes the pages of each segment, but for one that the segment before has: all, or none. */
+static int take_all_pages(const rlibreg_image *image) {
+    uint64_t taken = 0; /* all pages of the segments before end here */
+    for (size_t i = 0; i < image->count; i++) {
+        const rlibreg_segment *it = &image->segments[i];
+        uint64_t from = page_of(it->address), to = page_behind(it);
+        if (!it->length) continue;
+        if (from < taken) from = taken;
+        if (from < to && take_pages(from, to)) {
+            free_pages(image, i);
+            return -1;
+        }
+        taken = to;
+    }
+    return 0;
+}
+
+/* ---- Permissions */
+
+static int protection(const rlibreg_segment *it) {
+    return (it->permissions & RLIBREG_READ ? PROT_READ : 0) |
+           (it->permissions & RLIBREG_WRITE ? PROT_WRITE : 0) |
+           (it->permissions & RLIBREG_EXECUTE ? PROT_EXEC : 0);
+}
+
+/* What is done with pages of a program that are to be protected so. */
+typedef void page_action(const struct program *program, uint64_t from, uint64_t to, int how);
+
+/* Does it with pages, and takes the writing away from those that are fixed. */
+static void act(page_action *action, const struct program *program, uint64_t from, uint64_t to,
+                int how) {
+    uint64_t first = program->fixed_from, end = program->fixed_to;
+    if (first < from) first = from;
+    if (first > to) first = to;
+    if (end < first) end = first;
+    if (end > to) end = to;
+    if (from < first) action(program, from, first, how);
+    if (first < end) action(program, first, end, how & ~PROT_WRITE);
+    if (end < to) action(program, end, to, how);
+}
+
+/* Goes through the pages with what the segments in them permit. One that several segments share
+ * comes with each of them, and with what it and those before permit. */
+static void each_pages(const rlibreg_image *image, page_action *action,
+                       const struct program *program) {
+    uint64_t last = 0; /* the last page of the segments before */
+    int shared = 0;    /* what they permit it */
+    for (size_t i = 0; i < image->count; i++) {
+        const rlibreg_segment *it = &image->segments[i];
+        uint64_t from = page_of(it->address), to = page_behind(it);
+        if (!it->length) continue;
+        int own = protection(it), first = from == last ? own | shared : own;
+        act(action, program, from, from + PAGE, first);
+        act(action, program, from + PAGE, to, own);
+        last = to - PAGE;
+        shared = last == from ? first : own;
+    }
+}
+
+static void refuse_both(const struct program *program, uint64_t from, uint64_t to, int how) {
+    (void)to;
+    if (!(how & PROT_WRITE && how & PROT_EXEC) || program->may_be_both) return;
+    give_up(REFUSED, program->path,
+            from < program->base + reach_of(program)
+                ? "it has memory that may be written and executed, for which -x is needed"
+                : "a library has memory that may be written and executed, for which -x is needed");
+}
+
+static void protect(const struct program *program, uint64_t from, uint64_t to, int how) {
+    (void)program;
+    if (!mprotect((void *)from, to - from, how)) return;
+    if (how & PROT_EXEC && (errno == EACCES || errno == EPERM))
+        fail("memory that may be executed (SELinux: allow execmem; "
+             "systemd: MemoryDenyWriteExecute=no)");
+    fail("permissions");
+}
+
+/* ---- The image */
+
+static void refuse(const rlibreg *registry, uint32_t status, const char *disk) {
+    if (status < 100) give_up(FAILED, disk, rlibreg_status_name(status));
+    fputs(rlibreg_text(registry), stderr);
+    exit(status == RLIBREG_OUT_OF_MEMORY ? FAILED : REFUSED);
+}
+
+/* Whether an image ends below what the kernel maps. */
+static int is_low(const rlibreg_image *image) {
+    if (!image->count) return 1;
+    const rlibreg_segment *last = &image->segments[image->count - 1];
+    return last->address + last->length <= END_OF_BASES;
+}
+
+/* Binds the program at a base, and takes the pages of the image. Gives whether they are free and,
+ * where the loader chooses, low enough: else errno says what they aren't, and another base may do.
+ */
+static int bind_at(struct program *it, rlibreg *registry, const char *disk, rlibreg_image *image) {
+    uint32_t status = rlibreg_image_of(registry, it->bytes, it->length, it->base, image);
+    if (status) refuse(registry, status, disk);
+    if (!has_entry(it)) give_up(REFUSED, it->path, "it has no entry");
+    find_fixed_pages(it);
+    each_pages(image, refuse_both, it);
+    if (!it->has_base && !is_low(image))
+        errno = ENOMEM;
+    else if (!take_all_pages(image))
+        return 1;
+    else if (errno != EEXIST)
+        fail("memory at the base");
+    rlibreg_image_free(image);
+    return 0;
+}
+
+static void put_bytes(const rlibreg_image *image) {
+    for (size_t i = 0; i < image->count; i++) {
+        const rlibreg_segment *it = &image->segments[i];
+        if (it->length) memcpy((void *)it->address, image->bytes + it->from, it->length);
+    }
+}
+
+void map_program(struct program *it, rlibreg *registry, const char *disk) {
+    rlibreg_image image;
+    int tries = it->has_base ? 1 : MOST_BASES, is_there = 0;
+    for (int i = 0; i < tries && !is_there; i++) {
+        if (!it->has_base) it->base = base_of_try(it, i);
+        is_there = bind_at(it, registry, disk, &image);
+    }
+    if (!is_there) fail("memory at the base");
+    put_bytes(&image);
+    each_pages(&image, protect, it);
+    rlibreg_image_free(&image);
+}

@@ -1,0 +1,77 @@
+/* The program's stack, and the jump to its entry. */
+#define _GNU_SOURCE
+#include "rlibreg_run.h"
+
+#include <alloca.h>
+#include <elf.h>
+#include <stdlib.h>
+#include <string.h>
+
+static size_t words_in(char **list) {
+    size_t count = 0;
+    while (list[count]) count++;
+    return count;
+}
+
+/* How many entries the auxiliary vector has that the kernel gave this process, the last included.
+ * It stands behind the environment. */
+static size_t entries_in(const Elf64_auxv_t *vector) {
+    size_t count = 1;
+    for (; vector->a_type != AT_NULL; vector++) count++;
+    return count;
+}
+
+/* An entry as the program is to see it: what the kernel says of this loader is said of the program.
+ */
+static Elf64_auxv_t entry_for(const struct program *it, Elf64_auxv_t entry) {
+    uint64_t count, headers = headers_of(it, &count);
+    switch (entry.a_type) {
+    case AT_PHDR:
+        entry.a_un.a_val = headers;
+        break;
+    case AT_PHNUM:
+        entry.a_un.a_val = count;
+        break;
+    case AT_PHENT:
+        entry.a_un.a_val = sizeof(Elf64_Phdr);
+        break;
+    case AT_BASE:
+        entry.a_un.a_val = 0;
+        break;
+    case AT_ENTRY:
+        entry.a_un.a_val = entry_of(it);
+        break;
+    case AT_EXECFN:
+        entry.a_un.a_val = (uint64_t)it->path;
+        break;
+    }
+    return entry;
+}
+
+/* Jumps to the program with a stack that has the words, the environment and the auxiliary vector.
+ * It lies below what this process has on its own stack, which goes on growing down from there. */
+void start(const struct program *it, char **words, char **environment) {
+    size_t argc = words_in(words), variables = words_in(environment);
+    const Elf64_auxv_t *vector = (const Elf64_auxv_t *)(environment + variables + 1);
+    size_t entries = entries_in(vector);
+    size_t room = 8 * (1 + argc + 1 + variables + 1) + sizeof *vector * entries;
+    uint64_t *stack = (uint64_t *)(((uint64_t)alloca(room + 16) + 15) & ~(uint64_t)15), *at = stack;
+    *at++ = argc;
+    for (size_t i = 0; i <= argc; i++) *at++ = (uint64_t)words[i];
+    for (size_t i = 0; i <= variables; i++) *at++ = (uint64_t)environment[i];
+    for (size_t i = 0; i < entries; i++) {
+        Elf64_auxv_t entry = entry_for(it, vector[i]);
+        memcpy(at, &entry, sizeof entry);
+        at += sizeof entry / sizeof *at;
+    }
+    uint64_t entry = entry_of(it);
+    free(it->bytes);
+    __asm__ volatile("mov %0, %%rsp\n\t"
+                     "xor %%edx, %%edx\n\t" /* nothing to be called at the end */
+                     "xor %%ebp, %%ebp\n\t"
+                     "jmp *%1"
+                     :
+                     : "r"(stack), "a"(entry)
+                     : "memory");
+    __builtin_unreachable();
+}

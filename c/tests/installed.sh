@@ -1,0 +1,39 @@
+# install.sh: into an empty folder, and away again; between the two a program that is built by
+# pkg-config alone, and what else was installed.
+
+install=$here/../install.sh
+target=$PWD/target
+prefix=/opt/rlibreg
+list=$target$prefix/share/rlibreg/installed
+export DESTDIR=$target
+want 'where nothing is built' \
+    'c/install.sh: there is no nowhere/rlibreg: run c/build.sh first
+= 1' "$(ended "$install" $prefix nowhere | grep -v '^left out')"
+want 'what it left' '' "$(ls -A "$target" 2> /dev/null)"
+
+"$install" $prefix "$built" > said
+"$install" $prefix "$built" > again
+want 'a second time' "$(< said)" "$(< again)"
+want 'the list, and what is there' "$(tail -n +2 "$list" | sed 's/\/$//' | sort)" \
+    "$(cd "$target" && find . -mindepth 1 | sed 's/^\.//' | sort)"
+grep "^left out" said || true
+
+export LD_LIBRARY_PATH=$target$prefix/lib
+"$target$prefix/bin/rlibreg" format installed.disk 64 > /dev/null
+if command -v pkg-config > /dev/null; then
+    export PKG_CONFIG_SYSROOT_DIR=$target PKG_CONFIG_LIBDIR=$target$prefix/lib/pkgconfig
+    want 'the version' "$("$here/../version.sh")" "$(pkg-config --modversion rlibreg)"
+    gcc -o installed "$here/shared.c" $(pkg-config --cflags --libs rlibreg)
+    ./installed by-pkg-config.disk > /dev/null
+else
+    echo 'skipped: a program that is built by pkg-config, which is not here'
+fi
+if command -v python3 > /dev/null; then
+    PYTHONPATH=$target$(dirname "$(grep 'rlibreg.py$' "$list")") python3 -c '
+import rlibreg
+assert rlibreg.Registry("installed.disk").list() == (0, [], [])'
+fi
+
+"$install" --remove "$list"
+want 'what is left' '' "$(ls -A "$target")"
+echo "installed: $(sed -n 's/^installed \(.* files\) .*/\1/p' said), used, and removed"

@@ -1,0 +1,17 @@
+# The Python module: the stored cases that it has calls for, what these can't say, and the page
+# docs/PYTHON.md, whose commands and lines of Python give what stands below them.
+
+if ! command -v python3 > /dev/null; then
+    echo 'skipped: the Python module, which needs python3'
+    exit 0
+fi
+module=$here/../../python
+page=$here/../../docs/PYTHON.md
+export LD_LIBRARY_PATH=$built PYTHONPATH=$module
+python3 -B "$module/tests/run_cases.py" .
+python3 -B "$module/tests/test_module.py" 2> unittest || { cat unittest >&2; exit 1; }
+mkdir python.files
+cd python.files
+eval "$(sed -n 's/^    \$ //p' "$page")"
+python3 -B -m doctest "$page"
+echo "python: $(sed -n 's/^Ran \([0-9]* tests\) .*/\1/p' ../unittest) of the module, and its page"

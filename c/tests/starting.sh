@@ -1,0 +1,166 @@
+# What rlibreg-run does before a program runs: its words, files, places and permissions, and what it
+# tells of the program. The programs are those of gcc's usual linker.
+
+programs=$here/programs
+compile='gcc -g -O1 -fPIC -nostdlib -fno-stack-protector -fno-asynchronous-unwind-tables'
+compile="$compile -Wl,--hash-style=sysv"
+$compile -shared -Wl,-soname,libone.so -o libone.so "$programs/one.c"
+$compile -shared -Wl,-soname,libtwo.so -o libtwo.so "$programs/two.c" libone.so
+$compile -shared -Wl,-soname,libboth.so -o libboth.so "$programs/both.c" 2> warned ||
+    { cat warned >&2; exit 1; }
+for name in words place; do $compile -pie -Wl,-e,_start -o $name "$programs/$name.c"; done
+$compile -pie -Wl,-e,_start -o chain "$programs/chain.c" libtwo.so libone.so
+$compile -pie -Wl,-e,_start -o needs-both "$programs/words.c" -Wl,--no-as-needed libboth.so
+rm -f disk
+./tool format disk 512 > /dev/null
+for name in one two both; do ./tool install disk lib$name.so > /dev/null; done
+
+# Words.
+usage='rlibreg-run: usage: rlibreg-run [-x] [-b BASE] DISK PROGRAM [WORD]..
+= 127'
+want 'no words' "$usage" "$(ended ./rlibreg-run)"
+want 'not even a name' "$usage" "$(ended ./within no-words ./rlibreg-run)"
+want 'a word' "$usage" "$(ended ./rlibreg-run disk)"
+want 'an option that is none' "$usage" "$(ended ./rlibreg-run -y disk ./words)"
+want '-b alone' "$usage" "$(ended ./rlibreg-run -b 0x10000)"
+for base in 0x 0x1z 1f '' ' 5' +5 -4096 '0x 5' 0x+5 0x10000000000000000; do
+    want "the base '$base'" "$usage" "$(ended ./rlibreg-run -b "$base" disk ./words)"
+done
+
+# Files.
+truncate -s 4096 zeros
+mkfifo pipe
+: > empty
+want 'no disk' 'rlibreg-run: none: No such file or directory
+= 126' "$(ended ./rlibreg-run none ./words)"
+want 'no registry' 'refused S3 NotFormatted
+= 125' "$(ended ./rlibreg-run zeros ./words)"
+want 'no program' 'rlibreg-run: none: No such file or directory
+= 126' "$(ended ./rlibreg-run disk none)"
+want 'a file that is none' 'refused B1 E1 TooShort
+= 125' "$(ended ./rlibreg-run disk empty)"
+for file in pipe . /dev/null; do
+    want "the program $file" "rlibreg-run: $file: it is no regular file
+= 126" "$(ended ./rlibreg-run disk $file)"
+done
+cp disk cut
+want 'a disk that is cut under it' "rlibreg-run: the disk can't be read
+= 126" "$(ended env CUT=cut ./run-taken cut ./words)"
+for kibibytes in {6000..30000..1500}; do
+    found=$(ulimit -v $kibibytes && ended "$built/rlibreg-run" disk ./words)
+    case $found in
+        *': Cannot allocate memory
+= 126' | *'refused S11 OutOfMemory
+= 126') few=yes ;;
+        *'
+= 3') [ $few = yes ] && break ;;
+        *) want "$kibibytes KiB of memory" 'a start, or a refusal' "$found" ;;
+    esac
+done
+
+# An entry in the memory of a library.
+at=$("$rlibreg" bind disk chain 0x100000 | awk '/^object/ {library = / libtwo/} library && /r-x/ {print $2; exit}')
+cp chain strayed
+for shift in 0 8 16 24 32 40 48 56; do
+    printf "\\x$(printf %02x $((((at - 0x100000) >> shift) & 255)))"
+done | dd of=strayed bs=1 seek=24 conv=notrunc 2> lost
+want 'an entry in a library' 'rlibreg-run: strayed: it has no entry
+= 125' "$(ended ./rlibreg-run disk strayed)"
+
+# Places: what is mapped below what the kernel chooses, that is, of the image.
+low() {
+    grep -E '^([0-3][0-9a-f]{11}|[0-9a-f]{8,11})-'
+}
+pieces=$(./rlibreg-run disk place | low | wc -l)
+for _ in 1 2 3 4 5 6 7 8; do
+    at=$((16#$(./rlibreg-run disk place | low | head -1 | sed 's/-.*//')))
+    [ $((at % (2 << 20))) = 0 ] || { echo "a base that is no multiple of 2 MiB: $at" >&2; exit 1; }
+    echo $at
+done > bases
+want 'bases of eight starts' 8 "$(sort -u bases | wc -l)"
+if setarch -R true 2> lost; then
+    want 'a base where the user wants no other in each start' 10000000000 \
+        "$(setarch -R ./rlibreg-run disk place | low | head -1 | sed 's/-.*//')"
+fi
+for how in 'TAKEN=1' 'TAKEN=15' 'FREE=2 TAKEN=1' 'FREE=1 TAKEN=2 ELSEWHERE=1' 'TAKEN=15 ELSEWHERE=1'; do
+    want "pieces of memory, $how" "$pieces" "$(env $how ./run-taken disk place | low | wc -l)"
+done
+taken='rlibreg-run: memory at the base: File exists
+= 126'
+for how in 'TAKEN=16' 'TAKEN=16 ELSEWHERE=1'; do
+    want "no place, $how" "$taken" "$(ended env $how ./run-taken disk place)"
+    want "a place that the user named, $how" "$taken" \
+        "$(ended env TAKEN=1 ./run-taken -b 0x10000000000 disk place)"
+done
+
+# The disk.
+held_by ./rlibreg-run disk ./place /dev/stdin
+want 'a change beside a program that runs' ok "$(./tool install disk "$data/strong.so")"
+let_go
+held_by ./tool hold remove disk b
+./rlibreg-run disk chain > waited 9>&- &
+sleep 0.1
+want 'a start beside a change' '' "$(cat waited)"
+let_go
+want 'a start after it' 'one 36 13 nobody' "$(cat waited)"
+
+# Alignments. aligned FILE NEW BYTE: its first segment gets one of BYTE, hexadecimal, times 2^40.
+aligned() {
+    number=$(readelf -lW "$1" | awk '$1 == "LOAD" {print seen + 0; exit} / 0x/ {seen++}')
+    cp "$1" "$2"
+    printf "\\x0\\x0\\x0\\x0\\x0\\x$3" |
+        dd of="$2" bs=1 seek=$((64 + 56 * number + 48)) conv=notrunc 2> lost
+}
+aligned place aligned-20 20
+aligned place aligned-40 40
+want 'the one base of a great unit' 200000000000 \
+    "$(./rlibreg-run disk aligned-20 | low | head -1 | sed 's/-.*//')"
+want 'a unit that is too great' 'refused B2 BadBase
+= 125' "$(ended ./rlibreg-run disk aligned-40)"
+aligned libone.so libone-20.so 20
+cp disk wide
+./tool replace wide libone-20.so > /dev/null
+$compile -pie -Wl,-e,_start -o far "$programs/place.c" -Wl,--no-as-needed libone.so
+pieces=$(./rlibreg-run -b 0x10000000000 wide far | low | wc -l)
+for _ in 1 2 3 4 5 6; do
+    want 'pieces of memory, with a library of a great unit' "$pieces" \
+        "$(./rlibreg-run wide far | low | wc -l)"
+done
+
+# Permissions.
+want 'a library with a segment that may be written and executed' \
+    'rlibreg-run: needs-both: a library has memory that may be written and executed, for which -x is needed
+= 125' "$(ended ./rlibreg-run disk needs-both)"
+want 'the same with -x' '= 3' "$(ended ./rlibreg-run -x disk needs-both | tail -1)"
+found=$(ended ./within no-gain ./rlibreg-run disk words)
+case $found in
+    "this kernel hasn't"*) echo 'starting: this kernel lets all memory be executed' ;;
+    *) want 'where memory may not become executable' 'rlibreg-run: memory that may be executed (SELinux: allow execmem; systemd: MemoryDenyWriteExecute=no): Permission denied
+= 126' "$found" ;;
+esac
+
+# What the system and a debugger are told.
+cp place a-program-of-a-long-name
+want 'the name' place "$(./rlibreg-run disk ./place | head -1)"
+want 'a long name' a-program-of-a- "$(./rlibreg-run disk a-program-of-a-long-name | head -1)"
+if command -v gdb > /dev/null && setarch -R true 2> lost; then
+    at=$("$rlibreg" bind disk chain 0x10000000000 | awk '/^object.*libtwo/ {print $2}')
+    gdb -batch -nx -ex 'set breakpoint pending on' -ex 'break begin' -ex run -ex 'print own_count' \
+        -ex "add-symbol-file libtwo.so -o $at" -ex 'break two' -ex continue \
+        --args "$built/rlibreg-run" disk chain > found 2>&1 < /dev/null || true
+    want 'where gdb stops' 'Breakpoint 1, begin
+$1 = 5
+Breakpoint 2, two' "$(grep -oE '^Breakpoint [12], [a-z]+|^\$1 = .*' found)"
+else
+    echo "starting: there is no gdb here, or it may not fix addresses ($(cat lost))"
+fi
+
+# The loader as it is built.
+want 'the built loader' 'one 36 13 nobody
+= 18' "$(ended "$built/rlibreg-run" disk chain)"
+readelf -lhdW "$built/rlibreg-run" > found
+for what in 'DYN (' GNU_RELRO 'BIND_NOW'; do
+    grep -qF "$what" found || { echo "the built loader has no $what" >&2; exit 1; }
+done
+nm "$built/rlibreg-run" | grep -q __stack_chk_fail
+echo "starting: words, files, places, permissions, and what is told of a program: as wanted"

@@ -1,0 +1,292 @@
+"""Runs the stored cases that the module has calls for, and compares answers and the disk's bytes.
+
+    python3 run_cases.py [FOLDER]
+
+FOLDER is where disks are made. An answer is put into the words of the program: its text, without
+the lines `object`, which an image of the module hasn't got, and its exit status.
+"""
+
+import collections
+import functools
+import re
+import sys
+import tempfile
+from pathlib import Path
+from typing import NamedTuple
+
+import rlibreg
+from case_lists import DATA, answer, cases, change, file, number
+from rlibreg import Status
+
+WORDS = {'format': 1, 'upgrade': 0, 'install': 1, 'replace': 1, 'remove': 1, 'list': 0, 'bind': 2}
+LINE = re.compile(r'(install|replace) (?:[0-9a-fA-F]{2})+|remove [!-~]+|preload(?: [!-~]+)*|list'
+                  r'|bind 0x[0-9a-fA-F]{1,16} (?:[0-9a-fA-F]{2})+')
+
+
+class NotMapped(Exception):
+    """A case that the module has no calls for."""
+
+
+# ---- The program's words for what the module gives
+
+
+def listing_text(listing):
+    lines = [f'library {it.name} {it.length}' for it in listing.libraries]
+    lines += [f'preload {name}' for name in listing.preloads]
+    return '\n'.join([*lines, 'end']).replace('\\', '\\x5c')
+
+
+def image_text(image):
+    lines = []
+    for it in image.segments:
+        if it.data:
+            bits = ''.join(c if it.permissions & p else '-' for c, p in zip('rwx', (4, 2, 1)))
+            lines.append(f'segment 0x{it.address:016x} {len(it.data)} {bits}')
+            lines += [it.data[at:at + 16].hex() for at in range(0, len(it.data), 16)]
+    return '\n'.join([*lines, 'end'])
+
+
+def exit_status(error):
+    if not isinstance(error, rlibreg.Refusal):
+        return 3
+    return {Status.DEVICE: 3, Status.REOPEN: 3, Status.OUT_OF_MEMORY: 4}.get(error.number, 1)
+
+
+def without_objects(text):
+    return b''.join(line for line in text.splitlines(True) if not line.startswith(b'object '))
+
+
+def told(call):
+    """What the program prints of a call, and its exit status."""
+    try:
+        text = call()
+    except (rlibreg.Error, OSError) as error:
+        return getattr(error, 'text', ''), exit_status(error)
+    return 'ok' if text is None else text, 0
+
+
+# ---- Commands
+
+
+def ask(registry, command, words):
+    """What the program prints of a command over an open registry."""
+    if command == 'list':
+        return listing_text(registry.list())
+    if command == 'bind':
+        return image_text(registry.bind(words[0], int(words[1], 16)))
+    if command == 'preload':
+        return registry.preload(words)
+    return getattr(registry, command)(words[0])
+
+
+def run_command(disk, command, words):
+    if command == 'format':
+        return rlibreg.format(disk, int(words[0]))
+    if command == 'upgrade':
+        return rlibreg.upgrade(disk)
+    if command in ('install', 'replace', 'bind') and words[0] != str(disk):
+        words = [Path(words[0]).read_bytes(), *words[1:]]  # as the program: before the disk
+    with rlibreg.Registry(disk, changes=command not in ('list', 'bind')) as registry:
+        return ask(registry, command, words)
+
+
+def run_lines(registry, script):
+    """The replies to a script's lines, and how many lines were refused."""
+    replies, statuses = [], [0]
+    for line in script.decode('latin-1').splitlines():
+        command, *words = line.split(' ')
+        if command in ('install', 'replace'):
+            words = [bytes.fromhex(words[0])]
+        elif command == 'bind':
+            words = [bytearray.fromhex(words[1]), words[0]]
+        reply, status = told(functools.partial(ask, registry, command, words))
+        replies.append(reply + '\n')
+        statuses.append(status)
+    return ''.join(replies).encode(), statuses
+
+
+def script_of(data):
+    lines = data.decode('latin-1').split('\n')
+    if lines.pop() or not all(LINE.fullmatch(line) for line in lines):
+        raise NotMapped
+    return data
+
+
+# ---- Calls of cases, each with what it gives
+
+
+class Run(NamedTuple):
+    """`on BEFORE run WORD .. [< FILE] => STATUS ANSWER then AFTER`."""
+
+    before: bytes  # or None
+    command: str
+    words: list
+    script: bytes  # on standard input
+    status: int
+    text: bytes
+    after: bytes  # or None
+
+
+def run_of(case):
+    before, run = ' '.join(case.words).split(' run ', 1)
+    run, _, script = run.partition(' < ')
+    command, *words = run.split(' ')
+    status, wanted = case.answer.split(' ', 1)
+    wanted, after = wanted.split(' then ')
+    before = None if before == 'none' else file(before)
+    text = b'' if wanted.startswith('error ') else without_objects(answer(wanted))
+    script = file(script or 'bytes=')
+    return Run(before, command, words, script, int(status), text, left(after, before))
+
+
+def on_disk(case, disk):
+    run = run_of(case)
+    if run.status == 2 or not is_mapped(run):
+        raise NotMapped
+    if run.before is not None:
+        disk.write_bytes(run.before)
+    name, *words = run.words
+    path = disk if name == 'disk' else name and disk.parent / name
+    if run.command == 'script':
+        text, status = told_script(path, run.script)
+    else:
+        if run.command in ('install', 'replace', 'bind'):
+            words[0] = str(disk if words[0] == 'disk' else words[0] and DATA / words[0])
+        text, status = told(functools.partial(run_command, path, run.command, words))
+    after = disk.read_bytes() if disk.exists() else None
+    return (run.status, run.text, run.after), (status, as_printed(text), after)
+
+
+def told_script(path, script):
+    try:
+        with rlibreg.Registry(path, changes=True) as registry:
+            replies, statuses = run_lines(registry, script)
+    except OSError:
+        return '', 3
+    if re.match(rb'refused S(3|5|6|12) ', replies):
+        replies = replies.splitlines(True)[0]  # the program says of the disk itself, and ends
+    return replies, max(statuses)
+
+
+def is_mapped(run):
+    """Whether the words are those of a command that the module has."""
+    _, *words = run.words
+    if run.command == 'script':
+        return run.script and script_of(run.script)
+    if run.command == 'preload':
+        return True
+    if len(words) != WORDS.get(run.command):
+        return False
+    if run.command == 'format':
+        return re.fullmatch('[0-9]{1,7}', words[0])
+    return run.command != 'bind' or re.fullmatch('0x[0-9a-fA-F]{1,16}', words[1])
+
+
+def as_printed(text):
+    return text if isinstance(text, bytes) else text.encode() + b'\n' if text else b''
+
+
+def left(spelt, before):
+    """The bytes of AFTER."""
+    if spelt == 'none' or spelt.startswith('same') and before is None:
+        return None
+    if spelt.startswith('same'):
+        data = bytearray(before)
+        for word in spelt.split()[1:]:
+            change(data, word)
+        return bytes(data)
+    return file(spelt)
+
+
+def script_on(case, disk):
+    """`script SECTORS FILE => LINES REFUSED ANSWER`."""
+    sectors, *words = case.words
+    script = script_of(file(' '.join(words)))
+    lines, refused, wanted = case.answer.split(' ', 2)
+    rlibreg.format(disk, number(sectors))
+    with rlibreg.Registry(disk, changes=True) as registry:
+        replies, statuses = run_lines(registry, script)
+    counts = len(statuses) - 1, sum(1 for it in statuses if it)
+    return (int(lines), int(refused), without_objects(answer(wanted))), (*counts, replies)
+
+
+@functools.lru_cache(maxsize=1)
+def bound(spelt, disk):
+    """The image of a BIND, or the text of its refusal."""
+    program, *libraries = spelt.split(' + ')
+    if ' as ' in spelt:
+        raise NotMapped  # a library that goes by another name than its SONAME
+    program, _, preloads = program.partition(' preload ')
+    program, base = program.rsplit(' ', 1)
+    disk.unlink(missing_ok=True)
+    rlibreg.format(disk, 8192)
+    with rlibreg.Registry(disk, changes=True) as registry:
+        for library in libraries:
+            registry.install(file(library))
+        registry.preload(preloads.split())
+        try:
+            return registry.bind(memoryview(file(program)), number(base))
+        except rlibreg.Refusal as error:
+            return error.text
+
+
+def bind_on(case, disk):
+    image = bound(' '.join(case.words), disk)
+    text = image if isinstance(image, str) else image_text(image)
+    return without_objects(answer(case.answer)), as_printed(text)
+
+
+def bytes_at(image, address, length):
+    """The bytes that an image has from an address on, or None."""
+    found = []
+    for at in range(address, address + length):
+        here = [it.data[at - it.address] for it in image.segments
+                if it.address <= at < it.address + len(it.data)]
+        found += here
+    return bytes(found) if len(found) == length else None
+
+
+def word_on(case, disk):
+    image = bound(' '.join(case.words[1:]), disk)
+    if isinstance(image, str):
+        return case.answer, image
+    word = bytes_at(image, number(case.words[0]), 8)
+    return case.answer, 'none' if word is None else hex(int.from_bytes(word, 'little'))
+
+
+def byte_on(case, disk):
+    image = bound(' '.join(case.words[:-1]), disk)
+    byte = bytes_at(image, number(case.words[-1]), 1)
+    return case.answer, 'none' if byte is None else byte.hex()
+
+
+def not_mapped(case, disk):
+    raise NotMapped
+
+
+CALLS = {'on': on_disk, 'script': script_on, 'bind': bind_on, 'image': bind_on, 'word': word_on,
+         'byte': byte_on}
+
+
+def main():
+    ran, left_out = collections.Counter(), collections.Counter()
+    with tempfile.TemporaryDirectory(dir=sys.argv[1] if len(sys.argv) > 1 else None) as folder:
+        disk = Path(folder) / 'disk'
+        for case in cases():
+            if case.call in ('on', 'script'):
+                disk.unlink(missing_ok=True)
+            try:
+                wanted, found = CALLS.get(case.call, not_mapped)(case, disk)
+            except NotMapped:
+                left_out[case.call] += 1
+                continue
+            if (wanted == found) != case.holds:
+                sys.exit(f'{case.where}: wanted {wanted!r}, found {found!r}'[:4000])
+            ran[case.call] += 1
+    counts = ', '.join(f'{count:,} of {call}' for call, count in ran.items())
+    print(f'python: {sum(ran.values()):,} cases as stored: {counts}')
+    counts = ', '.join(f'{count:,} of {call}' for call, count in left_out.items())
+    print(f'python: no calls for {counts}')
+
+
+main()

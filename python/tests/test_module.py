@@ -1,0 +1,318 @@
+"""What the stored cases can't say of the module: its types, its errors, locks, processes, threads
+and memory.
+
+    python3 -m unittest test_module
+"""
+
+import ctypes
+import errno
+import os
+import pickle
+import re
+import resource
+import signal
+import sys
+import tempfile
+import threading
+import time
+import unittest
+from pathlib import Path
+
+import rlibreg
+from case_lists import DATA, file
+from rlibreg import Registry, Status
+
+HEADER = (Path(__file__).resolve().parents[2] / 'c' / 'rlibreg.h').read_text()
+LIBRARY, PROGRAM = DATA / 'strong.so', DATA / 'program-1.so'  # `b`, and a program that needs it
+SECTORS = 512
+
+
+class OnDisk(unittest.TestCase):
+    """A test that has an empty registry."""
+
+    def setUp(self):
+        folder = tempfile.TemporaryDirectory(dir='.')
+        self.addCleanup(folder.cleanup)
+        self.disk = Path(folder.name) / 'disk'
+        rlibreg.format(self.disk, SECTORS)
+
+    def refused(self, number, call, *words):
+        with self.assertRaises(rlibreg.Error) as found:
+            call(*words)
+        self.assertEqual(found.exception.number, number)
+        return found.exception
+
+
+class Header(unittest.TestCase):
+    """The module says what rlibreg.h says."""
+
+    def test_statuses(self):
+        flags = ('EXECUTE', 'WRITE', 'READ', 'CHANGES', 'WAIT')
+        found = dict(re.findall(r'RLIBREG_(\w+) = (\d+)', HEADER))
+        found = {name: int(number) for name, number in found.items()}
+        self.assertEqual({name: found.pop(name) for name in flags},
+                         {**rlibreg.Permissions.__members__, 'CHANGES': 1, 'WAIT': 2})
+        self.assertEqual(found, dict(Status.__members__))
+
+    def test_structures(self):
+        for name, size in re.findall(r'sizeof\(rlibreg_(\w+)\) == (\d+)', HEADER):
+            self.assertEqual(ctypes.sizeof(getattr(rlibreg, f'_{name.title()}')), int(size))
+        for name, field, at in re.findall(r'offsetof\(rlibreg_(\w+), (\w+)\) == (\d+)', HEADER):
+            kind = getattr(rlibreg, f'_{name.title()}')
+            self.assertEqual(getattr(kind, field).offset, int(at))
+
+    def test_version(self):
+        number = int(re.search(r'#define RLIBREG_VERSION (\d+)', HEADER)[1])
+        self.assertEqual(rlibreg.version(), number)
+        self.assertEqual(rlibreg._INTERFACE, f'{number // 10000}.{number // 100 % 100}')
+
+
+class Arguments(OnDisk):
+    def test_whatever_has_bytes_or_a_path(self):
+        data = LIBRARY.read_bytes()
+        spread = bytearray(2 * len(data))
+        spread[::2] = data
+        given = (data, bytearray(data), memoryview(data), memoryview(spread)[::2], LIBRARY,
+                 str(LIBRARY))
+        with Registry(self.disk, changes=True) as registry:
+            for it in given:
+                registry.install(it)
+                self.assertEqual(registry.list().libraries, [('b', len(data))])
+                registry.remove('b')
+
+    def test_names_of_disks(self):
+        for name in (self.disk, str(self.disk), os.fsencode(self.disk)):
+            Registry(name).close()
+
+    def test_a_byte_0_ends_no_name(self):
+        with Registry(self.disk, changes=True) as registry:
+            registry.install(LIBRARY)
+            for call in (lambda: registry.remove('b\0c'), lambda: registry.preload(['b\0']),
+                         lambda: Registry(f'{self.disk}\0'), lambda: rlibreg.format('a\0', 64)):
+                self.assertRaises(ValueError, call)
+
+    def test_numbers_that_c_has_not(self):
+        with Registry(self.disk) as registry:
+            for base in (-1, 1 << 64):
+                self.assertRaises(OverflowError, registry.bind, PROGRAM, base)
+            self.assertRaises(TypeError, registry.bind, PROGRAM, 1.0)
+        self.assertRaises(OverflowError, rlibreg.format, self.disk, (1 << 32) + SECTORS)
+        self.refused(Status.BAD_ARGUMENT, rlibreg.format, self.disk, 7)
+
+    def test_other_types(self):
+        with Registry(self.disk, changes=True) as registry:
+            self.assertRaises(TypeError, registry.install, 5)
+            self.assertRaises(TypeError, registry.preload, 'b')
+            self.assertRaises(TypeError, registry.remove, 5)
+
+
+class Errors(OnDisk):
+    def test_a_refusal_has_number_name_and_text(self):
+        with Registry(self.disk, changes=True) as registry:
+            error = self.refused(Status.MISSING, registry.bind, PROGRAM, 0x10000)
+            self.assertIsInstance(error, rlibreg.Refusal)
+            self.assertEqual((error.name, error.text, error.file_refusal),
+                             ('B3 Missing', 'refused B3 Missing /program b', 0))
+            self.assertEqual(str(error), error.text)
+            copy = pickle.loads(pickle.dumps(error))
+            self.assertEqual((copy.number, copy.text), (error.number, error.text))
+
+    def test_a_file_that_is_refused(self):
+        with Registry(self.disk, changes=True) as registry:
+            error = self.refused(Status.BAD_FILE, registry.install, b'')
+            self.assertEqual((error.file_refusal, error.file_refusal_name), (1, 'E1 TooShort'))
+
+    def test_what_the_system_refuses(self):
+        error = self.refused(Status.SYSTEM, Registry, 'no-such-disk')
+        self.assertIsInstance(error, OSError)
+        self.assertEqual((error.errno, error.filename), (errno.ENOENT, 'no-such-disk'))
+        with Registry(self.disk, changes=True) as registry:
+            self.assertRaises(FileNotFoundError, registry.install, 'no-such-file')
+
+    def test_a_change_of_a_registry_that_is_open_for_reading(self):
+        with Registry(self.disk) as registry:
+            self.refused(Status.READ_ONLY, registry.install, LIBRARY)
+
+    def test_a_write_that_fails(self):
+        limits = resource.getrlimit(resource.RLIMIT_FSIZE)
+        with Registry(self.disk, changes=True) as registry:
+            resource.setrlimit(resource.RLIMIT_FSIZE, (0, limits[1]))
+            try:
+                error = self.refused(Status.DEVICE, registry.install, LIBRARY)
+            finally:
+                resource.setrlimit(resource.RLIMIT_FSIZE, limits)
+            self.assertEqual((error.errno, error.text), (errno.EFBIG, 'refused S1 Device'))
+            self.refused(Status.REOPEN, registry.list)
+        with Registry(self.disk, changes=True) as registry:
+            registry.install(LIBRARY)
+
+    def test_after_close(self):
+        registry = Registry(self.disk, changes=True)
+        registry.close()
+        registry.close()
+        for call in (registry.list, registry.__enter__, lambda: registry.install(LIBRARY),
+                     lambda: registry.bind(PROGRAM, 0)):
+            self.assertIsInstance(self.refused(Status.BAD_ARGUMENT, call), rlibreg.Closed)
+
+
+class Locks(OnDisk):
+    def test_held_and_let_go(self):
+        with Registry(self.disk, changes=True):
+            self.assertIsInstance(self.refused(Status.HELD, Registry, self.disk), rlibreg.Held)
+        with Registry(self.disk), Registry(self.disk):
+            self.refused(Status.HELD, Registry, self.disk, True)
+        self.assertRaises(ZeroDivisionError, self.ends_by_an_exception)
+        Registry(self.disk, changes=True)  # and one that nobody names any more
+        Registry(self.disk, changes=True).close()
+
+    def test_its_own_lock_is_not_waited_for(self):
+        with Registry(self.disk, changes=True):
+            self.refused(Status.HELD, Registry, self.disk, True, True)
+        with Registry(self.disk), Registry(self.disk, wait=True):
+            self.refused(Status.HELD, Registry, self.disk, True, True)
+
+    def ends_by_an_exception(self):
+        with Registry(self.disk, changes=True):
+            raise ZeroDivisionError
+
+    def held_by_a_child(self, seconds):
+        """A child that holds the disk, and says when it does."""
+        says, said = os.pipe()
+        child = os.fork()
+        if not child:
+            with Registry(self.disk, changes=True):
+                os.write(said, b'!')
+                time.sleep(seconds)
+            os._exit(0)
+        os.read(says, 1)
+        os.close(says)
+        os.close(said)
+        self.addCleanup(os.waitpid, child, 0)
+
+    def test_wait(self):
+        self.held_by_a_child(0.2)
+        start = time.monotonic()
+        Registry(self.disk, wait=True).close()
+        self.assertGreater(time.monotonic() - start, 0.1)
+
+    def test_a_signal_while_it_waits(self):
+        heard = []
+        before = signal.signal(signal.SIGALRM, lambda *_: heard.append(1))
+        self.addCleanup(signal.signal, signal.SIGALRM, before)
+        self.held_by_a_child(0.3)
+        signal.setitimer(signal.ITIMER_REAL, 0.05)
+        Registry(self.disk, wait=True).close()
+        self.assertEqual(heard, [1])
+
+    def test_a_signal_that_ends_the_wait(self):
+        before = signal.signal(signal.SIGALRM, lambda *_: 1 // 0)
+        self.addCleanup(signal.signal, signal.SIGALRM, before)
+        self.held_by_a_child(0.3)
+        signal.setitimer(signal.ITIMER_REAL, 0.05)
+        self.assertRaises(ZeroDivisionError, Registry, self.disk, False, True)
+
+
+class Processes(OnDisk):
+    def in_a_child(self, call):
+        child = os.fork()
+        if not child:
+            try:
+                call()
+                os._exit(0)
+            except BaseException as error:
+                os.write(2, f'{error!r}\n'.encode())
+                os._exit(1)
+        self.assertEqual(os.waitpid(child, 0)[1], 0)
+
+    def test_a_child_only_closes(self):
+        registry = Registry(self.disk, changes=True)
+
+        def child():
+            error = self.refused(Status.BAD_ARGUMENT, registry.list)
+            assert 'another process' in str(error)
+            registry.close()
+            self.refused(Status.HELD, Registry, self.disk)
+
+        self.in_a_child(child)
+        registry.install(LIBRARY)
+        self.refused(Status.HELD, Registry, self.disk)
+        registry.close()
+
+    def test_a_child_while_another_thread_waits(self):
+        registry = Registry(self.disk, changes=True)
+        with registry._handle.lock:
+            thread = threading.Thread(target=self.in_a_child, args=(registry.close,))
+            thread.start()
+            thread.join()
+        registry.close()
+
+
+class Memory(OnDisk):
+    def test_buffers_grow(self):
+        self.disk.write_bytes(file('made=many.changes'))
+        with Registry(self.disk) as registry:
+            self.assertEqual(len(registry.list().libraries), 2048)
+
+    def test_an_image_stays(self):
+        with Registry(self.disk, changes=True) as registry:
+            registry.install(LIBRARY)
+            image = registry.bind(PROGRAM, 0x10000)
+        self.assertEqual(image.segments[0].data[:4], b'\x7fELF')
+
+    def test_nothing_is_lost(self):
+        """Neither memory nor files, where calls succeed and where they are refused."""
+        with Registry(self.disk, changes=True) as registry:
+            registry.install(LIBRARY)
+            self.is_kept(100, lambda: registry.bind(PROGRAM, 0x10000))
+            self.is_kept(100, lambda: self.refused(Status.BAD_BASE, registry.bind, PROGRAM, 1))
+            self.is_kept(2000, registry.list)
+            self.is_kept(2000, lambda: self.refused(Status.HELD, Registry, self.disk))
+
+    def is_kept(self, count, call):
+        """So many calls want no more memory and files than fifty."""
+        self.many(50, call)
+        memory, files = self.in_use()
+        self.many(count, call)
+        self.assertLess(self.in_use()[0] - memory, 1 << 20)
+        self.assertEqual(self.in_use()[1], files)
+
+    @staticmethod
+    def many(count, call):
+        for _ in range(count):
+            call()
+
+    @staticmethod
+    def in_use():
+        """Bytes of memory, whether they were written or not, and files."""
+        pages = int(Path('/proc/self/statm').read_text().split()[5])
+        return pages * resource.getpagesize(), len(os.listdir('/proc/self/fd'))
+
+    def test_threads_take_turns(self):
+        """Each hears what it was answered itself."""
+        failed = []
+        self.addCleanup(sys.setswitchinterval, sys.getswitchinterval())
+        sys.setswitchinterval(1e-6)
+        with Registry(self.disk, changes=True) as registry:
+            asked = {'refused B2 BadBase': lambda: registry.bind(PROGRAM, 1),
+                     'refused B3 Missing /program b': lambda: registry.bind(PROGRAM, 0),
+                     'refused C1 E1 TooShort': lambda: registry.install(b''),
+                     'refused C3 NotInstalled': lambda: registry.remove('b')}
+
+            def work(text, call):
+                for _ in range(500):
+                    try:
+                        call()
+                    except rlibreg.Refusal as refusal:
+                        if refusal.text != text or not text.startswith(refusal.name, 8):
+                            failed.append((text, refusal))
+
+            threads = [threading.Thread(target=work, args=it) for it in asked.items()]
+            for thread in threads:
+                thread.start()
+            for thread in threads:
+                thread.join()
+        self.assertEqual(failed, [])
+
+
+if __name__ == '__main__':
+    unittest.main()
