@@ -3,6 +3,7 @@
 ghost use Rattle.std.specs.Prelude.{◌≡◌, ◌<◌, length, Some, None, slice_get};
 ghost use Rattle.std.specs.Prelude.{IfSome, MatchOption, MatchResult};
 ghost use Rattle.elf_file.specs.Dynamic.{is_symbolic};
+ghost use Rattle.elf_file.specs.ObjectAddresses.{addresses_of};
 ghost use Rattle.elf_file.specs.Segment.{loads, contents};
 ghost use Rattle.elf_dynamic.specs.Relocation.{relocations};
 ghost use Rattle.elf_dynamic.specs.HashTable.{buckets, chains};
@@ -15,7 +16,7 @@ use crate::relocation::Relocation;
 use crate::strings::NeededNames;
 use crate::symbol::Symbol;
 use crate::tables::Tables;
-use elf_file::{Dynamic, LoadSegments, ObjectRefusal, ProgramHeader};
+use elf_file::{Dynamic, LoadSegments, ObjectAddresses, ObjectRefusal, ProgramHeader};
 use std::marker::Model;
 
 /// A shared object that no test refuses. Contracts see the bytes of its file.
@@ -125,6 +126,14 @@ impl<'a> Object<'a> {
         let start = segment.offset.min(length);
         let size = segment.file_size.min(length - start);
         &file[start as usize..(start + size) as usize]
+    }
+
+    /// Where its program headers and its dynamic section lie, and its entry. Three passes over the
+    /// program headers.
+    pub fn addresses(&self) -> ObjectAddresses
+        ensures { result ≡ addresses_of self.now }
+    {
+        self.tables.segments().addresses()
     }
 
     /// How many relocations there are.

@@ -5,7 +5,7 @@ use Rattle.std.specs.List.{list_any, range_with_len}
 use Rattle.std.proofs.lemmas.Bool.{cases_lt}
 use Rattle.std.proofs.lemmas.Bool.Decides.{nat_tests}
 use Rattle.elf_file.specs.Header.{header_count}
-use Rattle.elf_file.specs.Segment.{program_header, program_headers, is_load, loads}
+use Rattle.elf_file.specs.Segment.{program_header, is_load, loads}
 use Rattle.elf_file.specs.Address.{is_in_memory_part, is_in_memory}
 use Rattle.elf_file.specs.inside.Index.{AllAbove, IsBlockAt}
 use Rattle.elf_file.specs.declared.segment.ProgramHeader.{ProgramHeader}

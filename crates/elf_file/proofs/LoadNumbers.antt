@@ -8,7 +8,7 @@ use Rattle.std.specs.Prelude.{slice_get}
 use Rattle.std.proofs.lemmas.List.Elements.{filter-append}
 use Rattle.std.proofs.lemmas.List.FromFn.{filter_of_map_range_with_len_more}
 use Rattle.elf_file.specs.Header.{header_count}
-use Rattle.elf_file.specs.Segment.{program_header, program_headers, is_load, loads, has_bad_order}
+use Rattle.elf_file.specs.Segment.{program_header, is_load, loads, has_bad_order}
 use Rattle.elf_file.specs.inside.Index.{loads_before, loads_from}
 use Rattle.elf_file.specs.declared.segment.ProgramHeader.{ProgramHeader}
 

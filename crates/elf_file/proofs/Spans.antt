@@ -1,11 +1,12 @@
 -- What a PT_LOAD that was found by an address says of the file.
-use Rattle.std.proofs.Common.{◌≡◌, ◌≢◌, Option, ℕ, ◌<◌, ◌≤◌, ◌+◌, Bool, true, false, cond, List, [], ◌∷◌, length, arith, refl, ◌∙◌, sym, ap, Some, filter, nat_lt}
+use Rattle.std.proofs.Common.{◌≡◌, ◌≢◌, Option, ℕ, ◌<◌, ◌≤◌, ◌+◌, ◌-◌, Bool, true, false, cond, List, [], ◌∷◌, length, arith, refl, ◌∙◌, sym, ap, Some, filter, nat_lt}
 use Rattle.std.specs.List.{list_any, find}
 use Rattle.std.specs.Prelude.{◌||◌}
 use Rattle.std.proofs.lemmas.Bool.Decides.{nat_tests}
-use Rattle.elf_file.specs.Segment.{is_load, is_bad_load, has_bad_load, loads, program_headers, is_too_large, has_high_segment}
-use Rattle.elf_file.specs.Constant.{LARGEST_FILE}
+use Rattle.elf_file.specs.Segment.{is_load, is_bad_load, has_bad_load, loads, program_headers, is_too_large, has_high_segment, is_too_high}
+use Rattle.elf_file.specs.Constant.{LARGEST_FILE, HIGHEST_END}
 use Rattle.elf_file.specs.Address.{is_in_file_part, find_file_part}
+use Rattle.elf_file.specs.ObjectAddresses.{has_file_bytes}
 use Rattle.elf_file.specs.declared.segment.ProgramHeader.{ProgramHeader}
 
 abbrev Found : {X : Type 0} → (X → Bool) → (X → Bool) → (X → Bool) → X → Type 0
@@ -59,3 +60,34 @@ pub found_fits : (file same : List ℕ) (address size : ℕ) (r : Option Program
     → size ≢ 0 → has_bad_load file ≡ false → Spans file address size h
 found_fits file same address size r h e found is some fine =
     span_fits file address size h (omega (arith, some)) fine (ap (λ f. find_file_part f address size) (sym e) ∙ sym found ∙ is)
+
+-- a PT_LOAD that has so many bytes of the file from an offset on, as a search for one found it
+pub record HasBytes (offset : ℕ) (h : ProgramHeader) : Type 0 where
+  pub from : h.offset ≤ offset
+  pub within : h.address + (offset - h.offset) ≤ HIGHEST_END
+
+bytes_by : (length offset size : ℕ) (h : ProgramHeader) → is_load h ≡ true → has_file_bytes offset size h ≡ true → is_bad_load length h ≡ false → is_too_high h ≡ false
+    → (h.offset ≤ offset) × (offset + size ≤ h.offset + h.file_size) × (h.file_size ≤ h.memory_size) × (h.address + h.memory_size ≤ HIGHEST_END)
+bytes_by length offset size h load has fine low = grind (arith, nat_tests)
+
+low_segments : (file : List ℕ) → is_too_large file ≡ false → has_high_segment file ≡ false
+low_segments file fine = low-by (nat_lt LARGEST_FILE (length file)) (has_high_segment file) fine
+  where
+    low-by : (a b : Bool) → (a || b) ≡ false → b ≡ false
+    low-by false b fine = fine
+    low-by true b fine = cc
+
+has_bytes : (file : List ℕ) (offset size : ℕ) (h : ProgramHeader) → has_bad_load file ≡ false → has_high_segment file ≡ false
+    → find (has_file_bytes offset size) (loads file) ≡ Some h → HasBytes offset h
+unfolding loads has_bad_load has_high_segment
+has_bytes file offset size h fine low found =
+    let f = found_in (has_file_bytes offset size) is_load (is_bad_load (length file)) h (program_headers file) fine found in
+    let g = found_in (has_file_bytes offset size) is_load is_too_high h (program_headers file) low found in
+    let t = bytes_by (length file) offset size h f.0 f.1 f.2 g.2 in
+    record { from = t.0; within = omega (arith, t.0, t.1, t.2, t.3) }
+
+-- a PT_LOAD that a search over the same file found by the file's bytes
+pub found_bytes : (file same : List ℕ) (offset size : ℕ) (r : Option ProgramHeader) (h : ProgramHeader) → same ≡ file
+    → r ≡ find (has_file_bytes offset size) (loads same) → r ≡ Some h → has_bad_load file ≡ false → is_too_large file ≡ false → HasBytes offset h
+found_bytes file same offset size r h e found is fine small =
+    has_bytes file offset size h fine (low_segments file small) (ap (λ f. find (has_file_bytes offset size) (loads f)) (sym e) ∙ sym found ∙ is)

@@ -4,6 +4,10 @@ use Rattle.elf_file.specs.Number.{number_at}
 use Rattle.elf_file.specs.Constant.{ELF_MAGIC, ELFCLASS64, ELFDATA2LSB, EV_CURRENT, ELFOSABI_SYSV, ELFOSABI_GNU}
 use Rattle.elf_file.specs.Constant.{ET_DYN, EM_X86_64, PN_XNUM, FILE_HEADER_SIZE, PROGRAM_HEADER_SIZE}
 
+-- e_entry: where the object begins to run, before a base is added; 0 where it has no such place
+abbrev pub entry_address : List ℕ → ℕ
+entry_address file = number_at 8 file 24
+
 -- e_phoff: where the program headers begin, in bytes from the file's start
 abbrev pub headers_offset : List ℕ → ℕ
 headers_offset file = number_at 8 file 32

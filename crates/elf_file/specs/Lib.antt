@@ -6,5 +6,6 @@ pub mod Segment
 pub mod Address
 pub mod Tag
 pub mod Dynamic
+pub mod ObjectAddresses
 pub mod Refusal
 pub mod inside

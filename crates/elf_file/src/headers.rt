@@ -1,7 +1,7 @@
 // A file whose headers have been tested.
 
 ghost use Rattle.std.specs.Prelude.{◌≡◌, ◌≤◌, ◌<◌, ◌+◌, length, Some, None, MatchResult};
-ghost use Rattle.elf_file.specs.Header.{header_count};
+ghost use Rattle.elf_file.specs.Header.{entry_address, header_count, headers_offset};
 ghost use Rattle.elf_file.specs.Segment.{header_at, is_load, program_header};
 ghost use Rattle.elf_file.specs.Refusal.{header_refusal};
 
@@ -68,6 +68,20 @@ impl<'a> Headers<'a> {
         ensures { result.now ≡ self.now }
     {
         self.file
+    }
+
+    /// `e_entry`.
+    pub(crate) fn entry(&self) -> u64
+        ensures { result ≡ entry_address self.now }
+    {
+        u64_at(self.file, 24)
+    }
+
+    /// `e_phoff`: where the program headers begin, in bytes from the file's start.
+    pub(crate) fn offset(&self) -> u64
+        ensures { result ≡ headers_offset self.now }
+    {
+        u64_at(self.file, 32)
     }
 
     /// How many program headers there are.
