@@ -31,11 +31,14 @@ fn image_objects(alloc: Global, objects: &PlacedOrder<'_>) -> Result<Vec<ImageOb
     for i in 0..count {
         let name = Name::copy_of(alloc, objects.name(i))?;
         let base = objects.base(i);
-        let segment_count = objects.object(i).segment_count();
+        let object = objects.object(i);
+        let segment_count = object.segment_count();
+        let addresses = object.addresses();
         named.push(ImageObject {
             name,
             base,
             segment_count,
+            addresses,
         })?;
     }
     Ok(named)

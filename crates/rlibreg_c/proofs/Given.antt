@@ -24,9 +24,10 @@ use Rattle.requests.specs.declared.reply.Reply.TheVariants as reply
 use Rattle.rlibreg_c.specs.declared.answer.Answer.{Answer}
 use Rattle.byte_registry.specs.Asked.{IsAsked}
 use Rattle.rlibreg_c.specs.declared.entry.EntryPlace.{EntryPlace}
+use Rattle.rlibreg_c.specs.declared.object.ObjectPlace.{ObjectPlace}
 use Rattle.rlibreg_c.specs.declared.place.SegmentPlace.{SegmentPlace}
 use Rattle.rlibreg_c.specs.Answers.{HasPlan, IsTold, IsToldAlone, IsTurnedAway, IsPlanned, IsLeft, IsPlanOf, IsChangeTold, IsChangeAnswered, IsFormatPlan, IsFormatAnswered, IsUpgradePlan, IsUpgradeAnswered, IsBindTold, IsBindAnswered, IsListTold, IsListGiven, IsListAnswered, IsPreloadAnswered}
-use Rattle.rlibreg_c.specs.Layout.{IsLaidOut, IsImageOf, IsImageGiven}
+use Rattle.rlibreg_c.specs.Layout.{CountsImage, IsLaidOut, IsImageOf, IsImageGiven}
 use Rattle.rlibreg_c.specs.Listing.{IsListingOf, AreListed, Counts, entries_of}
 use Rattle.rlibreg_c.specs.Names.{AreNames}
 use Rattle.rlibreg_c.specs.Numbers.{store_number, bind_number, refusal_number}
@@ -87,8 +88,8 @@ module _ (bytes : List ℕ) (request : Request) (not_listing : (s : State) (l : 
 
 -- what is told of a listing reads no generation
 listing_told : (l : Listed) (entries : List EntryPlace) (names text : List ℕ) (answer : Answer) (generation status : ℕ) → IsListGiven l entries names text answer status → IsListGiven l entries names text (record answer { generation = generation }) status
-listing_told l entries names text answer generation status (counts, inl listed) = (counts, inl listed)
-listing_told l entries names text answer generation status (counts, inr (full, lack, silent)) = (counts, inr (full, lack, record { text = silent.text; file = silent.file }))
+listing_told l entries names text answer generation status ((counts, unbound), inl listed) = ((counts, record { objects = unbound.objects }), inl listed)
+listing_told l entries names text answer generation status ((counts, unbound), inr (full, lack, silent)) = ((counts, record { objects = unbound.objects }), inr (full, lack, record { text = silent.text; file = silent.file }))
 
 -- a reply that is a listing is told with the generation
 pub list_told : (s : State) (r : Reply) (l : Listed) (entries : List EntryPlace) (names text : List ℕ) (answer : Answer) (generation status : ℕ) → r ≡ reply.Listing l → generation ≡ s.generation → IsListGiven l entries names text answer status → IsListTold s r entries names text (record answer { generation = generation }) status
@@ -104,11 +105,12 @@ status_alone n = record {
   bytes = 0;
   text = 0;
   generation = 0;
+  objects = 0;
 }
 
 pub nothing_said : (answer : Answer) (n : ℕ) → answer ≡ status_alone n → IsUncounted answer × IsSilent answer
 nothing_said answer n is = subst (λ (a : Answer). IsUncounted a × IsSilent a) (sym is) (
-  record { count = refl; bytes = refl; unlisted = record { preloads = refl; generation = refl } },
+  record { count = refl; bytes = refl; unlisted = record { preloads = refl; generation = refl }; unbound = record { objects = refl } },
   record { text = refl; file = refl },
 )
 
@@ -145,18 +147,18 @@ none_mapped f None e = refl
 none_mapped f (Some x) e = cc
 
 -- A bind whose status is 0 has its image.
-module _ (disk program : List ℕ) (base : ℕ) (segments : List SegmentPlace) (bytes text : List ℕ) (answer : Answer) (status : ℕ) (zero : status ≡ 0) where
+module _ (disk program : List ℕ) (base : ℕ) (objects : List ObjectPlace) (segments : List SegmentPlace) (bytes text : List ℕ) (answer : Answer) (status : ℕ) (zero : status ≡ 0) where
   not_done : (image : MemoryImage) → reply.Done ≡ reply.Bound image → ⊥
   not_done image e = cc
 
   not_listed : (l : Listed) (image : MemoryImage) → reply.Listing l ≡ reply.Bound image → ⊥
   not_listed l image e = cc
 
-  laid_out : (image : MemoryImage) → IsImageGiven image segments bytes answer status → IsLaidOut image segments bytes answer.count answer.bytes
-  laid_out image (inl given, unlisted, silent) = given.1
-  laid_out image (inr lacks, unlisted, silent) = absurd (omega (arith, zero, lacks.0))
+  laid_out : (image : MemoryImage) → IsImageGiven image objects segments bytes answer status → CountsImage image answer × IsLaidOut image objects segments bytes answer.bytes
+  laid_out image (inl given, counts, unlisted, silent) = (counts, given.1)
+  laid_out image (inr lacks, counts, unlisted, silent) = absurd (omega (arith, zero, lacks.0))
 
-  bound : (s : State) (r : Reply) (steps : List Step) → IsAsked disk s (request.bind program base) r steps → IsBindTold r segments bytes text answer status → IsImageOf disk program base segments bytes answer
+  bound : (s : State) (r : Reply) (steps : List Step) → IsAsked disk s (request.bind program base) r steps → IsBindTold r objects segments bytes text answer status → IsImageOf disk program base objects segments bytes answer
   bound s reply.Done steps asked told = absurd (not_done (bound_image s program base) asked.by_table.step.2)
   bound s (reply.Listing l) steps asked told = absurd (not_listed l (bound_image s program base) asked.by_table.step.2)
   bound s (reply.Bound image) steps asked told =
@@ -166,12 +168,13 @@ module _ (disk program : List ℕ) (base : ℕ) (segments : List SegmentPlace) (
         holds = asked.holds;
         only = asked.only;
         accepted = none_mapped refusal.Bind (binding_refusal s program base) asked.by_table.step.1;
-        given = subst (λ i. IsLaidOut i segments bytes answer.count answer.bytes) is.0 (laid_out image told);
+        counts = subst (λ i. CountsImage i answer) is.0 (laid_out image told).0;
+        given = subst (λ i. IsLaidOut i objects segments bytes answer.bytes) is.0 (laid_out image told).1;
         each = subst (λ i. (a : ℕ) → image_byte i a ≡ byte_of (bound_objects s program base) a) is.0 is.1;
       }
   bound s (reply.Refused why) steps asked told = absurd (refused_not_done why text answer status zero told.0)
 
-  pub image_given : IsBindAnswered disk (request.bind program base) segments bytes text answer status → IsImageOf disk program base segments bytes answer
+  pub image_given : IsBindAnswered disk (request.bind program base) objects segments bytes text answer status → IsImageOf disk program base objects segments bytes answer
   image_given (inl asked) = bound asked.0 asked.1 asked.2 asked.3 asked.4
   image_given (inr refused) = absurd (turned_not_done refused.0 text answer status zero refused.2)
 
@@ -199,7 +202,7 @@ module _ (disk : List ℕ) (entries : List EntryPlace) (names text : List ℕ) (
         state = s;
         holds = asked.holds;
         only = asked.only;
-        counts = subst (λ k. Counts k answer.count answer.preloads) is given.0.0;
+        counts = subst (λ k. Counts k answer.count answer.preloads) is given.0.0.0;
         given = subst (λ k. AreListed (entries_of k) entries names answer.bytes) is (are_listed l given.0);
         generation = given.1;
       }

@@ -1,6 +1,7 @@
 mod Entries
 mod Given
 mod Names
+mod Objects
 mod Places
 mod Rows
 mod Steps

@@ -15,6 +15,7 @@ use Rattle.byte_disk.specs.Bytes.{sectors_in}
 use Rattle.rlibreg_c.specs.declared.answer.Answer.{Answer}
 use Rattle.byte_registry.specs.Asked.{IsAsked, IsUnopened, IsFormatted, IsUnformatted, IsUpgraded, IsUnupgraded}
 use Rattle.rlibreg_c.specs.declared.place.SegmentPlace.{SegmentPlace}
+use Rattle.rlibreg_c.specs.declared.object.ObjectPlace.{ObjectPlace}
 use Rattle.rlibreg_c.specs.declared.entry.EntryPlace.{EntryPlace}
 use Rattle.rlibreg_c.specs.Layout.{IsImageGiven}
 use Rattle.rlibreg_c.specs.Listing.{Counts, AreListed, LackSpace, entries_of}
@@ -22,7 +23,7 @@ use Rattle.rlibreg_c.specs.Names.{AreNames}
 use Rattle.rlibreg_c.specs.Numbers.{done, no_room, bad_argument, out_of_memory, store_number, reply_number, file_number_in}
 use Rattle.byte_registry.specs.Plans.{Holds, LeadsTo}
 use Rattle.rlibreg_c.specs.Spelling.{plan_bytes}
-use Rattle.rlibreg_c.specs.Unsaid.{IsSilent, IsUncounted, IsUnlisted}
+use Rattle.rlibreg_c.specs.Unsaid.{IsSilent, IsUnbound, IsUncounted, IsUnlisted}
 
 -- The text says this: as much of it as has room, and its whole length.
 pub record Says (said text : List ℕ) (told_size : ℕ) : Type 0 where
@@ -78,7 +79,7 @@ abbrev pub IsPlanned : List Step → List ℕ → List ℕ → Answer → ℕ �
 IsPlanned steps plan text answer status =
     ((HasPlan steps plan answer.bytes answer.count × IsTold reply.Done text answer status)
     ⊎ (LacksRoom steps plan answer.bytes answer.count status × IsSilent answer))
-    × IsUnlisted answer
+    × IsUnlisted answer × IsUnbound answer
 
 -- with a status that says neither this nor that memory was refused, the buffer is as it was
 abbrev pub IsLeft : List ℕ → List ℕ → ℕ → Type 0
@@ -107,15 +108,15 @@ IsChangeAnswered bytes request plan text answer status =
     ⊎ ((refusal : StoreRefusal) × IsUnopened bytes refusal × IsTurnedAway refusal text answer status)
 
 -- what a reply to a bind is told by
-abbrev pub IsBindTold : Reply → List SegmentPlace → List ℕ → List ℕ → Answer → ℕ → Type 0
-IsBindTold (reply.Bound image) segments bytes text answer status = IsImageGiven image segments bytes answer status
-IsBindTold other segments bytes text answer status = IsToldAlone other text answer status
+abbrev pub IsBindTold : Reply → List ObjectPlace → List SegmentPlace → List ℕ → List ℕ → Answer → ℕ → Type 0
+IsBindTold (reply.Bound image) objects segments bytes text answer status = IsImageGiven image objects segments bytes answer status
+IsBindTold other objects segments bytes text answer status = IsToldAlone other text answer status
 
 -- A bind with the registry that the bytes hold was asked, and its reply is told;
 -- or there is no registry, and it is told why.
-abbrev pub IsBindAnswered : List ℕ → Request → List SegmentPlace → List ℕ → List ℕ → Answer → ℕ → Type 0
-IsBindAnswered disk request segments bytes text answer status =
-    ((s : State) × (reply : Reply) × (steps : List Step) × IsAsked disk s request reply steps × IsBindTold reply segments bytes text answer status)
+abbrev pub IsBindAnswered : List ℕ → Request → List ObjectPlace → List SegmentPlace → List ℕ → List ℕ → Answer → ℕ → Type 0
+IsBindAnswered disk request objects segments bytes text answer status =
+    ((s : State) × (reply : Reply) × (steps : List Step) × IsAsked disk s request reply steps × IsBindTold reply objects segments bytes text answer status)
     ⊎ ((refusal : StoreRefusal) × IsUnopened disk refusal × IsTurnedAway refusal text answer status)
 
 -- The plan of an empty registry on a disk of these bytes.
@@ -145,7 +146,7 @@ IsUpgradeAnswered bytes plan text answer status =
 
 -- a listing is given, and told; or a buffer is too small
 abbrev pub IsListGiven : Listed → List EntryPlace → List ℕ → List ℕ → Answer → ℕ → Type 0
-IsListGiven l entries names text answer status = Counts l answer.count answer.preloads
+IsListGiven l entries names text answer status = (Counts l answer.count answer.preloads × IsUnbound answer)
     × ((AreListed (entries_of l) entries names answer.bytes × IsTold (reply.Listing l) text answer status)
     ⊎ ((status ≡ no_room) × LackSpace (entries_of l) entries names answer.bytes × IsSilent answer))
 

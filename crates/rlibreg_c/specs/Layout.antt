@@ -1,5 +1,5 @@
--- An image as C gets it: in two buffers (own).
-use Rattle.std.specs.Prelude.{◌≡◌, ◌⊎◌, ◌<◌, ◌+◌, ◌-◌, ◌^◌, ℕ, List, [], ◌∷◌, length, take, min, None}
+-- An image as C gets it: in three buffers (own).
+use Rattle.std.specs.Prelude.{◌≡◌, ◌⊎◌, ◌<◌, ◌+◌, ◌-◌, ◌^◌, ℕ, List, [], ◌∷◌, ◌++◌, length, take, min, None}
 use Rattle.std.specs.List.{flat_map}
 use Rattle.image.specs.Byte.{byte_of}
 use Rattle.image.specs.Image.{ImageSegment, MemoryImage, image_byte}
@@ -7,7 +7,9 @@ use Rattle.states.specs.State.{State}
 use Rattle.requests.specs.Binding.{bound_objects, bound_image, binding_refusal}
 use Rattle.rlibreg_c.specs.declared.answer.Answer.{Answer}
 use Rattle.rlibreg_c.specs.declared.place.SegmentPlace.{SegmentPlace}
+use Rattle.rlibreg_c.specs.declared.object.ObjectPlace.{ObjectPlace}
 use Rattle.rlibreg_c.specs.Numbers.{done, no_room}
+use Rattle.rlibreg_c.specs.Objects.{object_names, object_places}
 use Rattle.rlibreg_c.specs.Unsaid.{IsSilent, IsUnlisted}
 use Rattle.byte_registry.specs.Plans.{Holds}
 
@@ -24,32 +26,41 @@ abbrev pub places_of : ℕ → List ImageSegment → List SegmentPlace
 places_of from [] = []
 places_of from (s ∷ segments) = place_of from s ∷ places_of (from + length s.bytes) segments
 
--- The buffers have the image: its segments, which are so many, and their bytes, which are so many.
-pub record IsLaidOut (image : MemoryImage) (segments : List SegmentPlace) (row : List ℕ) (told_count told_size : ℕ) : Type 0 where
-  pub count : told_count ≡ length image.segments
-  pub places : take told_count segments ≡ places_of 0 image.segments
-  pub size : told_size ≡ length (segment_bytes image.segments)
-  pub bytes : take told_size row ≡ segment_bytes image.segments
+-- the bytes of all segments, and behind them the names of all objects, each with a byte 0 behind it
+abbrev pub image_row : MemoryImage → List ℕ
+image_row image = segment_bytes image.segments ++ object_names image.objects
 
--- A buffer is too small for the image, whose segments are so many, and their bytes so many.
-pub record LacksSpace (image : MemoryImage) (segments : List SegmentPlace) (row : List ℕ) (told_count told_size : ℕ) : Type 0 where
-  pub small : (length segments < length image.segments) ⊎ (length row < length (segment_bytes image.segments))
-  pub count : told_count ≡ length image.segments
-  pub size : told_size ≡ min (length (segment_bytes image.segments)) (2 ^ 64 - 1)
+-- So many objects and so many segments are told of.
+pub record CountsImage (image : MemoryImage) (answer : Answer) : Type 0 where
+  pub objects : answer.objects ≡ length image.objects
+  pub segments : answer.count ≡ length image.segments
+
+-- The buffers have the image: its objects, its segments, and its bytes, which are so many.
+pub record IsLaidOut (image : MemoryImage) (objects : List ObjectPlace) (segments : List SegmentPlace) (row : List ℕ) (told_size : ℕ) : Type 0 where
+  pub object_places : take (length image.objects) objects ≡ object_places (length (segment_bytes image.segments)) 0 image.objects
+  pub segment_places : take (length image.segments) segments ≡ places_of 0 image.segments
+  pub size : told_size ≡ length (image_row image)
+  pub bytes : take told_size row ≡ image_row image
+
+-- A buffer is too small for the image, whose bytes are so many.
+pub record LacksSpace (image : MemoryImage) (objects : List ObjectPlace) (segments : List SegmentPlace) (row : List ℕ) (told_size : ℕ) : Type 0 where
+  pub small : (length objects < length image.objects) ⊎ (length segments < length image.segments) ⊎ (length row < length (image_row image))
+  pub size : told_size ≡ min (length (image_row image)) (2 ^ 64 - 1)
 
 -- the image is given, or a buffer is too small; no text is told
-abbrev pub IsImageGiven : MemoryImage → List SegmentPlace → List ℕ → Answer → ℕ → Type 0
-IsImageGiven image segments bytes answer status =
-    (((status ≡ done) × IsLaidOut image segments bytes answer.count answer.bytes)
-    ⊎ ((status ≡ no_room) × LacksSpace image segments bytes answer.count answer.bytes))
-    × IsUnlisted answer × IsSilent answer
+abbrev pub IsImageGiven : MemoryImage → List ObjectPlace → List SegmentPlace → List ℕ → Answer → ℕ → Type 0
+IsImageGiven image objects segments bytes answer status =
+    (((status ≡ done) × IsLaidOut image objects segments bytes answer.bytes)
+    ⊎ ((status ≡ no_room) × LacksSpace image objects segments bytes answer.bytes))
+    × CountsImage image answer × IsUnlisted answer × IsSilent answer
 
 -- The buffers have the image that is defined for a program at a base over the registry that the
 -- bytes hold, with the defined byte at each address.
-pub record IsImageOf (disk program : List ℕ) (base : ℕ) (segments : List SegmentPlace) (bytes : List ℕ) (answer : Answer) : Type 0 where
+pub record IsImageOf (disk program : List ℕ) (base : ℕ) (objects : List ObjectPlace) (segments : List SegmentPlace) (bytes : List ℕ) (answer : Answer) : Type 0 where
   pub state : State
   pub holds : Holds disk state
   pub only : (other : State) → Holds disk other → other ≡ state
   pub accepted : binding_refusal state program base ≡ None
-  pub given : IsLaidOut (bound_image state program base) segments bytes answer.count answer.bytes
+  pub counts : CountsImage (bound_image state program base) answer
+  pub given : IsLaidOut (bound_image state program base) objects segments bytes answer.bytes
   pub each : (a : ℕ) → image_byte (bound_image state program base) a ≡ byte_of (bound_objects state program base) a

@@ -6,7 +6,7 @@ use Rattle.requests.specs.Table.{Listed, listed}
 use Rattle.rlibreg_c.specs.declared.answer.Answer.{Answer}
 use Rattle.rlibreg_c.specs.declared.entry.EntryPlace.{EntryPlace}
 use Rattle.rlibreg_c.specs.Numbers.{done, no_room}
-use Rattle.rlibreg_c.specs.Unsaid.{IsSilent}
+use Rattle.rlibreg_c.specs.Unsaid.{IsSilent, IsUnbound}
 use Rattle.byte_registry.specs.Plans.{Holds}
 
 -- a name and the length of a file, of a library or, with 0, of a preload
@@ -52,7 +52,7 @@ pub record Counts (l : Listed) (told_libraries told_preloads : ℕ) : Type 0 whe
 
 -- the listing is given, or a buffer is too small; no text is told yet
 abbrev pub IsListingGiven : Listed → List EntryPlace → List ℕ → Answer → ℕ → Type 0
-IsListingGiven l entries names answer status = IsSilent answer × Counts l answer.count answer.preloads
+IsListingGiven l entries names answer status = IsSilent answer × IsUnbound answer × Counts l answer.count answer.preloads
     × ((status ≡ done) × AreListed (entries_of l) entries names answer.bytes
     ⊎ (status ≡ no_room) × LackSpace (entries_of l) entries names answer.bytes)
 

@@ -12,8 +12,13 @@ pub record IsUnlisted (answer : Answer) : Type 0 where
   pub preloads : answer.preloads ≡ 0
   pub generation : answer.generation ≡ 0
 
+-- Nothing is told that an image alone has.
+pub record IsUnbound (answer : Answer) : Type 0 where
+  pub objects : answer.objects ≡ 0
+
 -- Nothing is counted.
 pub record IsUncounted (answer : Answer) : Type 0 where
   pub count : answer.count ≡ 0
   pub bytes : answer.bytes ≡ 0
   pub unlisted : IsUnlisted answer
+  pub unbound : IsUnbound answer

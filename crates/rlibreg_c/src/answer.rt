@@ -13,12 +13,14 @@ pub struct Answer {
     pub count: u64,
     /// How many preloads there are.
     pub preloads: u64,
-    /// How many bytes there are: of all segments, of all names or of the plan.
+    /// How many bytes there are: of an image with its names, of all names or of the plan.
     pub bytes: u64,
     /// How many bytes the whole text has.
     pub text: u64,
     /// How many changes the registry has taken.
     pub generation: u64,
+    /// How many objects an image has.
+    pub objects: u64,
 }
 
 impl Answer {
@@ -32,6 +34,7 @@ impl Answer {
           bytes = 0;
           text = 0;
           generation = 0;
+          objects = 0;
         } }
     {
         Answer {
@@ -42,6 +45,7 @@ impl Answer {
             bytes: 0,
             text: 0,
             generation: 0,
+            objects: 0,
         }
     }
 }

@@ -1,5 +1,5 @@
 // An entry of a listing in two buffers: what is known of it, and its name in a row of names.
-ghost use Rattle.std.specs.Prelude.{◌≡◌, ◌⊎◌, ◌+◌, ◌<◌, ◌≤◌, ◌++◌, ◌∷◌, [], length, take};
+ghost use Rattle.std.specs.Prelude.{◌≡◌, ◌⊎◌, ◌+◌, ◌<◌, ◌≤◌, ◌-◌, ◌^◌, ◌++◌, ◌∷◌, [], length, min, take};
 ghost use Rattle.std.specs.Prelude.{IfSome, IfNone};
 ghost use Rattle.rlibreg_c.specs.Listing.{place_of};
 
@@ -29,8 +29,15 @@ fn place_of(name: &Name, file_length: u32, at: usize) -> EntryPlace
     }
 }
 
+/// How many bytes a name takes with the byte 0 behind it.
+pub(crate) fn name_bytes(name: &Name) -> u64
+    ensures { result ≡ min (length name.now + 1) (2 ^ 64 - 1) }
+{
+    (name.as_bytes().len() as u64).saturating_add(1)
+}
+
 /// Puts a name with a byte 0 at a place of a buffer, where it has room. Says which place is behind.
-fn put_name(name: &Name, at: usize, names: &mut [u8]) -> Option<usize>
+pub(crate) fn put_name(name: &Name, at: usize, names: &mut [u8]) -> Option<usize>
     ensures end { IfSome result (λ end. end ≡ at + length name.now + 1) }
     ensures front { IfSome result (λ end. take end names.new
         ≡ take at names.old ++ (name.now ++ 0 ∷ [])) }

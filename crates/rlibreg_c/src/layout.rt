@@ -1,15 +1,21 @@
-// An image in two buffers: where its segments lie, and the bytes of all of them in a row.
-ghost use Rattle.std.specs.Prelude.{◌≡◌, ◌⊎◌, ◌<◌, ◌-◌, ◌^◌, length, take, min, IfSome, IfNone};
-ghost use Rattle.rlibreg_c.specs.Layout.{segment_bytes, places_of, IsImageGiven};
+// An image in three buffers: where its objects and its segments lie, and the bytes of all segments
+// in a row with the names of all objects behind them.
+ghost use Rattle.std.specs.Prelude.{◌≡◌, ◌⊎◌, ◌+◌, ◌<◌, ◌-◌, ◌^◌, ◌++◌, length, take, min};
+ghost use Rattle.std.specs.Prelude.{IfSome, IfNone};
+ghost use Rattle.rlibreg_c.specs.Layout.{segment_bytes, places_of, image_row};
+ghost use Rattle.rlibreg_c.specs.Layout.{IsImageGiven};
+ghost use Rattle.rlibreg_c.specs.Objects.{object_names, object_places};
 
 use crate::answer::Answer;
+use crate::entry::{name_bytes, put_name};
+use crate::object::{ObjectPlace, object_place};
 use crate::place::{SegmentPlace, place_of};
 use crate::put::put;
 use crate::status::{DONE, NO_ROOM};
 use image::Image;
 
 /// How many bytes all segments have.
-fn image_bytes(image: &Image) -> u64
+fn segments_bytes(image: &Image) -> u64
     ensures { result ≡ min (length (segment_bytes image.now.segments)) (2 ^ 64 - 1) }
 {
     let mut bytes = 0u64;
@@ -19,14 +25,26 @@ fn image_bytes(image: &Image) -> u64
     bytes
 }
 
-/// Puts the segments of an image into the two buffers, where they have room: the bytes of all of
-/// them stand in a row. Says how many bytes they are.
-fn lay_out(image: &Image, places: &mut [SegmentPlace], bytes: &mut [u8]) -> Option<usize>
+/// How many bytes the names of all objects take.
+fn objects_bytes(image: &Image) -> u64
+    ensures { result ≡ min (length (object_names image.now.objects)) (2 ^ 64 - 1) }
+{
+    let mut bytes = 0u64;
+    for object in image.objects() {
+        bytes = bytes.saturating_add(name_bytes(&object.name));
+    }
+    bytes
+}
+
+/// Puts the segments of an image into two buffers, where they have room: the bytes of all of them
+/// stand in a row. Says how many bytes they are.
+fn put_segments(image: &Image, places: &mut [SegmentPlace], bytes: &mut [u8]) -> Option<usize>
     ensures end { IfSome result (λ end. end ≡ length (segment_bytes image.now.segments)) }
     ensures bytes { IfSome result (λ end.
         take end bytes.new ≡ segment_bytes image.now.segments) }
     ensures places { IfSome result (λ _. take (length image.now.segments) places.new
         ≡ places_of 0 image.now.segments) }
+    ensures size { length bytes.new ≡ length bytes.old }
     ensures small { IfNone result ((length places.old < length image.now.segments)
         ⊎ (length bytes.old < length (segment_bytes image.now.segments))) }
 {
@@ -41,21 +59,79 @@ fn lay_out(image: &Image, places: &mut [SegmentPlace], bytes: &mut [u8]) -> Opti
     Some(at)
 }
 
-/// Puts an image into the two buffers. Where one is too small the answer has what both need.
-pub(crate) fn put_image(image: &Image, segments: &mut [SegmentPlace], bytes: &mut [u8]) -> Answer
-    ensures { IsImageGiven image.now segments.new bytes.new result result.status }
+/// Puts the objects of an image into two buffers, where they have room: their names stand in a row
+/// behind so many bytes. Says which place is behind them.
+fn put_objects(
+    image: &Image,
+    from: usize,
+    places: &mut [ObjectPlace],
+    bytes: &mut [u8],
+) -> Option<usize>
+    ensures end { IfSome result (λ end. end ≡ from + length (object_names image.now.objects)) }
+    ensures bytes { IfSome result (λ end.
+        take end bytes.new ≡ take from bytes.old ++ object_names image.now.objects) }
+    ensures places { IfSome result (λ _. take (length image.now.objects) places.new
+        ≡ object_places from 0 image.now.objects) }
+    ensures small { IfNone result ((length places.old < length image.now.objects)
+        ⊎ (length bytes.old < from + length (object_names image.now.objects))) }
 {
-    let count = image.segments().len() as u64;
-    match lay_out(image, segments, bytes) {
+    let mut at = from;
+    let mut first_segment = 0usize;
+    for (i, object) in image.objects().iter().enumerate() {
+        if i >= places.len() {
+            return None;
+        }
+        places[i] = object_place(object, at, first_segment);
+        at = put_name(&object.name, at, bytes)?;
+        first_segment = first_segment.saturating_add(object.segment_count);
+    }
+    Some(at)
+}
+
+/// Puts an image into the three buffers, where they have room. Says how many bytes it has there.
+fn lay_out(
+    image: &Image,
+    objects: &mut [ObjectPlace],
+    segments: &mut [SegmentPlace],
+    bytes: &mut [u8],
+) -> Option<usize>
+    ensures end { IfSome result (λ end. end ≡ length (image_row image.now)) }
+    ensures bytes { IfSome result (λ end. take end bytes.new ≡ image_row image.now) }
+    ensures segments { IfSome result (λ _. take (length image.now.segments) segments.new
+        ≡ places_of 0 image.now.segments) }
+    ensures objects { IfSome result (λ _. take (length image.now.objects) objects.new
+        ≡ object_places (length (segment_bytes image.now.segments)) 0 image.now.objects) }
+    ensures small { IfNone result ((length objects.old < length image.now.objects)
+        ⊎ (length segments.old < length image.now.segments)
+        ⊎ (length bytes.old < length (image_row image.now))) }
+{
+    let at = put_segments(image, segments, bytes)?;
+    put_objects(image, at, objects, bytes)
+}
+
+/// Puts an image into the three buffers. Where one is too small the answer has what all need.
+pub(crate) fn put_image(
+    image: &Image,
+    objects: &mut [ObjectPlace],
+    segments: &mut [SegmentPlace],
+    bytes: &mut [u8],
+) -> Answer
+    ensures { IsImageGiven image.now objects.new segments.new bytes.new result result.status }
+{
+    let counted = Answer {
+        count: image.segments().len() as u64,
+        objects: image.objects().len() as u64,
+        ..Answer::of(DONE)
+    };
+    match lay_out(image, objects, segments, bytes) {
         Some(end) => Answer {
-            count,
             bytes: end as u64,
-            ..Answer::of(DONE)
+            ..counted
         },
         None => Answer {
-            count,
-            bytes: image_bytes(image),
-            ..Answer::of(NO_ROOM)
+            status: NO_ROOM,
+            bytes: segments_bytes(image).saturating_add(objects_bytes(image)),
+            ..counted
         },
     }
 }

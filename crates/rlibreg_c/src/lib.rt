@@ -13,6 +13,7 @@ mod format;
 mod layout;
 mod list;
 mod listing;
+mod object;
 mod place;
 mod plan;
 mod preload;
@@ -23,4 +24,5 @@ mod upgrade;
 
 pub use answer::Answer;
 pub use entry::EntryPlace;
+pub use object::ObjectPlace;
 pub use place::SegmentPlace;

@@ -5,17 +5,10 @@ ghost use Rattle.rlibreg_c.specs.Listing.{entries_of, preload_entries, names_in_
 ghost use Rattle.rlibreg_c.specs.Listing.{IsListingGiven};
 
 use crate::answer::Answer;
-use crate::entry::{EntryPlace, put_entry};
+use crate::entry::{EntryPlace, name_bytes, put_entry};
 use crate::status::{DONE, NO_ROOM};
 use names::Name;
 use requests::Listing;
-
-/// How many bytes a name takes with the byte 0 behind it.
-fn name_bytes(name: &Name) -> u64
-    ensures { result ≡ min (length name.now + 1) (2 ^ 64 - 1) }
-{
-    (name.as_bytes().len() as u64).saturating_add(1)
-}
 
 /// How many bytes the names of the libraries take.
 fn library_bytes(libraries: &[(Name, u32)]) -> u64

@@ -4,4 +4,4 @@ use Rattle.rlibreg_c.proofs.bind.rlibreg_bind.Goals as goal
 pub returns-clause-image : goal.returns-clause-image
 returns-clause-image c zero =
     let on = c.bind_on in
-    image_given c.args.disk.now c.args.program.now c.args.base on.new.segments on.new.bytes on.new.text on.result on.result.status zero on.ensures
+    image_given c.args.disk.now c.args.program.now c.args.base on.new.objects on.new.segments on.new.bytes on.new.text on.result on.result.status zero on.ensures

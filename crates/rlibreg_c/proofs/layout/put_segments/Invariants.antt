@@ -1,6 +1,6 @@
 use Rattle.std.proofs.Common.{◌≡◌, length, take}
 use Rattle.rlibreg_c.specs.Layout.{segment_bytes, places_of}
-use Rattle.rlibreg_c.proofs.layout.lay_out.Given as goal
+use Rattle.rlibreg_c.proofs.layout.put_segments.Given as goal
 
 abbrev pub invariant-loop-i : goal.invariant-loop-i
 invariant-loop-i l = record {

@@ -4,7 +4,7 @@ use Rattle.image.specs.Image.{ImageSegment}
 use Rattle.rlibreg_c.specs.Layout.{place_of, places_of}
 use Rattle.rlibreg_c.proofs.Places.{segment_more}
 use Rattle.rlibreg_c.proofs.Rows.{end_more, front_more, room_lacks, none_holds}
-use Rattle.rlibreg_c.proofs.layout.lay_out.Goals as goal
+use Rattle.rlibreg_c.proofs.layout.put_segments.Goals as goal
 
 pub returns-in_err-at-clause-small : goal.returns-in_err-at-clause-small
 returns-in_err-at-clause-small c =
