@@ -14,7 +14,7 @@ use Rattle.extents.specs.Limits.{root_sectors}
 use Rattle.extents.specs.Extent.{places, sector_count}
 use Rattle.extents.specs.Layout.{free_count}
 use Rattle.extents.specs.Longest.{longest_runs}
-use Rattle.extents.specs.Used.{layout_of}
+use Rattle.extents.specs.Used.{layout_of, ClaimsSame}
 use Rattle.extents.proofs.UsedLemmas.{layout_of-claims, same-from_used, longest_runs-same}
 use Rattle.extents.specs.declared.refusal.TakeRefusal.{TakeRefusal}
 use Rattle.extents.specs.declared.refusal.TakeRefusal.TheVariants as take
@@ -73,13 +73,16 @@ module _ (root : Root) (entries : List PlacedEntry) (held : List Holding) (layou
   pub catalogues_enough : version_of root ≡ Two → length (catalogues_of root) ≡ catalogues_for (length entries)
   catalogues_enough two = enough_in root.library_count root.sectors root.list two kept.root_fits.list ∙ ap catalogues_for (sym kept.counted)
 
-  -- The longest free runs beside the sectors in use are the layout's.
-  pub longest_is : sector_count (longest_runs (layout_of root.sectors (in_use root entries held))) ≡ sector_count (longest_runs layout)
-  longest_is =
+  -- The same sectors are free beside the sectors in use as in the layout,
+  pub same_layout : ClaimsSame (layout_of root.sectors (in_use root entries held)) layout
+  same_layout =
       let sectors = in_use root entries held in
       let claims = layout_of-claims root.sectors sectors (λ k d lt. (all_usable kept k d lt).1) in
-      ap sector_count (longest_runs-same (layout_of root.sectors sectors) layout
-      (same-from_used (layout_of root.sectors sectors) layout sectors (length-map-range_with_len _ 0 root.sectors ∙ sym kept.size) claims kept.claimed.claims))
+      same-from_used (layout_of root.sectors sectors) layout sectors (length-map-range_with_len _ 0 root.sectors ∙ sym kept.size) claims kept.claimed.claims
+
+  -- so the longest free runs are the layout's.
+  pub longest_is : sector_count (longest_runs (layout_of root.sectors (in_use root entries held))) ≡ sector_count (longest_runs layout)
+  longest_is = ap sector_count (longest_runs-same (layout_of root.sectors (in_use root entries held)) layout same_layout)
 
   -- What a state of version 2 leaves free beside what is held, and its catalogues once more, are what the layout has free.
   pub free_is : (m : List Sector) (s : State) → All IsWhole m → StandsBy Two m root entries s
@@ -121,18 +124,18 @@ module _ (sectors longest more : ℕ) (s : State) (bytes : List ℕ) (usable : s
   going_on : nat_eq s.generation last_generation ≡ true → ⊥
   going_on is = usable (eqb-true s.generation last_generation is)
 
-  bytes_full : free sectors s < needed → refusal_of_bytes sectors longest more s bytes ≡ Some Full
+  pub bytes_full : free sectors s < needed → refusal_of_bytes sectors longest more s bytes ≡ Some Full
   bytes_full room =
       if_no (nat_eq s.generation last_generation) _ _ going_on
       ∙ if_yes (nat_lt (free sectors s) needed) _ _ (λ is. omega (arith, ltb-false (free sectors s) needed is, room))
 
-  bytes_fragmented : needed ≤ free sectors s → longest < sector_need → refusal_of_bytes sectors longest more s bytes ≡ Some Fragmented
+  pub bytes_fragmented : needed ≤ free sectors s → longest < sector_need → refusal_of_bytes sectors longest more s bytes ≡ Some Fragmented
   bytes_fragmented room runs =
       if_no (nat_eq s.generation last_generation) _ _ going_on
       ∙ if_no (nat_lt (free sectors s) needed) _ _ (λ is. omega (arith, ltb-true (free sectors s) needed is, room))
       ∙ if_yes (nat_lt longest sector_need) _ _ (λ is. omega (arith, ltb-false longest sector_need is, runs))
 
-  bytes_accepted : needed ≤ free sectors s → sector_need ≤ longest → refusal_of_bytes sectors longest more s bytes ≡ None
+  pub bytes_accepted : needed ≤ free sectors s → sector_need ≤ longest → refusal_of_bytes sectors longest more s bytes ≡ None
   bytes_accepted room runs =
       if_no (nat_eq s.generation last_generation) _ _ going_on
       ∙ if_no (nat_lt (free sectors s) needed) _ _ (λ is. omega (arith, ltb-true (free sectors s) needed is, room))

@@ -11,6 +11,7 @@ pub mod Counts
 pub mod EntryReads
 pub mod First
 pub mod Following
+pub mod FreeSpaces
 pub mod Frees
 pub mod Given
 pub mod GivenUp
@@ -18,6 +19,7 @@ pub mod Handles
 pub mod HeldRows
 pub mod Holders
 pub mod Holdings
+pub mod IsReadLemmas
 pub mod Libraries
 pub mod Listings
 pub mod NameIndex

@@ -8,6 +8,7 @@ pub mod Opening
 pub mod Looked
 pub mod Names
 pub mod Reads
+pub mod IsRead
 pub mod Changed
 pub mod Step
 pub mod Taken

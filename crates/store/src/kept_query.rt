@@ -19,6 +19,23 @@ impl<D: Disk> Kept<D> {
     ghost use Rattle.store.specs.Holders.{AreFlagged};
     ghost use Rattle.states.specs.State.{State};
 
+    /// How many sectors the disk has.
+    pub(crate) fn sectors(&self) -> u32
+        ensures value { result ≡ self.now.root.sectors }
+        ensures disk { result ≡ (D.facts self.now.disk).sectors }
+    {
+        self.root.sectors
+    }
+
+    /// How many changes were accepted since the disk was formatted.
+    pub(crate) fn generation(&self) -> u64
+        ensures value { result ≡ self.now.root.generation }
+        ensures state { (version : Version) → (s : State) → IsAtBy version D.facts self.now s
+            → result ≡ s.generation }
+    {
+        self.root.generation
+    }
+
     /// How many byte strings there are.
     pub(crate) fn count(&self) -> usize
         ensures value { result ≡ length self.now.entries }

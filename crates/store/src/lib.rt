@@ -14,6 +14,7 @@ mod delete;
 mod entries;
 mod format;
 mod found;
+mod free_space;
 mod held;
 mod held_versions;
 mod hold;
@@ -41,6 +42,7 @@ mod store;
 mod upgrade;
 mod used;
 
+pub use free_space::FreeSpace;
 pub use held::Held;
 pub use holding::Holding;
 pub use look::Look;

@@ -1,0 +1,36 @@
+use Rattle.std.proofs.Common.{◌+◌, length, sym, ap, ◌∙◌}
+use Rattle.extents.specs.Layout.{free_count}
+use Rattle.extents.specs.Runs.{free_runs}
+use Rattle.extents.specs.Used.{layout_of}
+use Rattle.extents.proofs.UsedLemmas.{free_count-same, free_runs-same}
+use Rattle.states.specs.Cost.{catalogues_for, free}
+use Rattle.store.specs.Held.{in_use}
+use Rattle.store.specs.Opened.{layout_in_use, room_of}
+use Rattle.store.proofs.Frees.{facts_of, same_layout}
+use Rattle.store.proofs.kept.Kept.free_space.Goals as goal
+
+pub returns-clause-sectors : goal.returns-clause-sectors
+returns-clause-sectors g c =
+    let root = c.self.inside.root in
+    let entries = c.self.inside.entries.items in
+    let used = layout_of root.sectors (in_use root entries c.self.inside.held) in
+    c.free_count.ensures.value
+    ∙ sym (free_count-same used c.self.inside.layout (same_layout root entries c.self.inside.held c.self.inside.layout c.self.invariant.0))
+    ∙ ap (λ store. free_count (layout_in_use store)) c.self.view_is
+
+pub returns-clause-runs : goal.returns-clause-runs
+returns-clause-runs g c =
+    let root = c.self.inside.root in
+    let entries = c.self.inside.entries.items in
+    let used = layout_of root.sectors (in_use root entries c.self.inside.held) in
+    c.run_count.ensures
+    ∙ ap length (sym (free_runs-same used c.self.inside.layout (same_layout root entries c.self.inside.held c.self.inside.layout c.self.invariant.0)))
+    ∙ ap (λ store. length (free_runs (layout_in_use store))) c.self.view_is
+
+pub returns-clause-state : goal.returns-clause-state
+returns-clause-state g c s at =
+    let counted = facts_of g.D.Disk.facts (λ disk honest. g.met.D.Disk.holds_now _ honest) (λ disk honest. g.met.D.Disk.whole_sectors _ honest) c.self.view_is c.self.invariant.0 at in
+    c.free_count.ensures.value
+    ∙ sym counted.room
+    ∙ ap (λ store. free (room_of store) s + catalogues_for (length store.entries)) c.self.view_is
+    ∙ ap (λ n. free (room_of c.args.self.now) s + catalogues_for n) (sym (counted.count ∙ ap (λ store. length store.entries) c.self.view_is))

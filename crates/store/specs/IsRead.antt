@@ -1,0 +1,28 @@
+-- What reading byte strings does to a store, whatever comes of it: it only reads.
+use Rattle.std.specs.Prelude.{◌≡◌, ℕ, IsTrue}
+use Rattle.std.specs.Int.{div_ceil}
+use Rattle.sector_disk.specs.Disk.{sector_bytes, DiskFacts, Mixture, IsUnchanged, LeavesOnly, AreCalls}
+use Rattle.roots.specs.declared.version.Version.{Version}
+use Rattle.roots.specs.declared.version.Version.TheVariants.{Two}
+use Rattle.states.specs.State.{State}
+use Rattle.store.specs.declared.placed_entry.PlacedEntry.{PlacedEntry}
+use Rattle.store.specs.Opened.{Opened, IsAtBy}
+
+-- how many sectors the file of an entry takes
+abbrev pub file_sectors : PlacedEntry → ℕ
+file_sectors placed = div_ceil placed.entry.file_length sector_bytes
+
+-- it keeps what a stop may leave, and the state that a store of this version is at
+pub record IsReadBy (version : Version) {D : Type 0} (facts : D → DiskFacts) (old new : Opened D) : Type 0 where
+  pub leaves : IsTrue (facts old.disk).honest → LeavesOnly (facts old.disk) (facts new.disk) (Mixture (facts old.disk))
+  pub same : (s : State) → IsAtBy version facts old s → IsAtBy version facts new s
+  pub unchanged : IsTrue (facts old.disk).honest → IsUnchanged (facts old.disk) (facts new.disk)
+  pub root : new.root ≡ old.root
+  pub entries : new.entries ≡ old.entries
+  pub held : new.held ≡ old.held
+  pub failed : new.failed ≡ old.failed
+  pub calls : AreCalls (facts old.disk) (facts new.disk)
+
+-- of a store of version 2
+abbrev pub IsRead : {D : Type 0} → (D → DiskFacts) → Opened D → Opened D → Type 0
+IsRead facts old new = IsReadBy Two facts old new
