@@ -1,0 +1,41 @@
+// What a disk has.
+use sector_disk::Disk;
+use std::marker::Model;
+use store::Store;
+
+/// What a disk of version 2 has. In memory are names, lengths and the places of files, and no byte
+/// of a file. Contracts see the store that keeps it, which nobody changes and whose byte strings
+/// nobody holds.
+pub struct Contents<D: Disk> {
+    pub(crate) store: Store<D>,
+}
+
+impl<D: Disk> Model for Contents<D> {
+    ghost use Rattle.std.specs.Prelude.{◌≡◌, [], IsFalse};
+    ghost use Rattle.store.specs.Opened.{Opened};
+
+    ghost Value = { Opened D };
+
+    ghost view = { λ contents. contents.store };
+
+    ghost invariant = { λ contents. IsFalse contents.store.failed × (contents.store.held ≡ []) };
+}
+
+impl<D: Disk> Contents<D> {
+    ghost use Rattle.std.specs.Prelude.{◌≡◌};
+
+    /// The store, which tells names, lengths and preloads.
+    pub fn store(&self) -> &Store<D>
+        ensures { result.now ≡ self.now }
+    {
+        &self.store
+    }
+
+    /// The disk.
+    pub fn into_disk(self) -> D
+        ensures { result ≡ self.disk }
+    {
+        let Contents { store } = self;
+        store.into_disk()
+    }
+}

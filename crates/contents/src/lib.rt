@@ -1,0 +1,18 @@
+//! What a disk has, and how it is: read from roots, catalogues and entries, and from a library's
+//! file only where it is asked for.
+//!
+//! `Contents::open` opens a disk of version 2 to be read alone. `file` gives a library's bytes,
+//! `info` tells of the whole, and `check` tells of each library whether it is one: a library that
+//! is damaged or can't be read keeps none of the others from being read.
+#![tactic(auto)]
+
+mod contents;
+mod file;
+mod info;
+mod open;
+mod unread;
+
+pub use contents::Contents;
+pub use info::Info;
+pub use unread::Unread;
+

@@ -1,0 +1,13 @@
+// Why a library's bytes aren't given.
+use std::alloc::AllocError;
+
+/// Why the bytes of a library aren't given.
+#[derive(Clone, Copy, Debug, PartialEq, Eq)]
+pub enum Unread {
+    /// No library of this name is installed.
+    NotInstalled,
+    /// A read of the disk failed: S1.
+    Unreadable,
+    /// Memory was refused: S11.
+    OutOfMemory,
+}
