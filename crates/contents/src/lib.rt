@@ -6,13 +6,15 @@
 //! is damaged or can't be read keeps none of the others from being read.
 #![tactic(auto)]
 
+mod check;
 mod contents;
 mod file;
+mod finding;
 mod info;
 mod open;
 mod unread;
 
 pub use contents::Contents;
+pub use finding::Finding;
 pub use info::Info;
 pub use unread::Unread;
-
