@@ -177,7 +177,8 @@ CRATES = [
     ('text_output', 'Text on its way to a writer'), ('image', 'Images'), ('requests', 'Requests and the step table'),
     ('sector_disk', 'The disk model'), ('file_disk', 'A disk over a file'), ('extents', 'Free and claimed sectors'),
     ('states', 'States'), ('roots', 'Root, catalogue and entry sectors'), ('passes', 'Passes over a disk'), ('store', 'Named byte strings'),
-    ('snapshots', 'Snapshots'), ('registry', 'The registry on a disk'), ('binders', 'Binders in slots'), ('byte_disk', 'A disk over given bytes'),
+    ('snapshots', 'Snapshots'), ('contents', 'What a disk has'), ('registry', 'The registry on a disk'),
+    ('binders', 'Binders in slots'), ('byte_disk', 'A disk over given bytes'),
     ('byte_registry', 'A registry on given bytes'), ('rlibreg_c', 'The calls for C'), ('commands', 'The program')]
 HEAD = """# Definitions
 
