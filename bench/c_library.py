@@ -21,7 +21,7 @@ RUNS, ROOM = 5, 1 << 26
 
 class Answer(ctypes.Structure):
     _fields_ = [(name, ctypes.c_uint32) for name in ('status', 'file_refusal')]
-    _fields_ += [(name, ctypes.c_uint64) for name in ('count', 'preloads', 'bytes', 'text', 'generation')]
+    _fields_ += [(name, ctypes.c_uint64) for name in ('count', 'preloads', 'bytes', 'text', 'generation', 'objects')]
 
 
 def least(call):
@@ -66,7 +66,9 @@ def measure(it, folder, number, length):
 
     big, names_room = (room, ctypes.c_size_t(ROOM)), ctypes.c_size_t(ROOM)
     print(f'  rlibreg_list: {least(lambda: ask("list", entries, ctypes.c_size_t(4096), room, names_room)):.1f} ms')
-    bind = (*bytes_and_length(program), ctypes.c_uint64(1 << 32), entries, ctypes.c_size_t(4096), *big)
+    objects = ctypes.create_string_buffer(72 * 4096)
+    bind = (*bytes_and_length(program), ctypes.c_uint64(1 << 32), objects, ctypes.c_size_t(4096), entries)
+    bind += (ctypes.c_size_t(4096), *big)
     print(f'  rlibreg_bind: {least(lambda: ask("bind", *bind)):.1f} ms, an image of {answer.bytes} bytes')
     install = (*bytes_and_length(made[number]), *big)
     print(f'  rlibreg_plan_install: {least(lambda: ask("plan_install", *install)):.1f} ms, {answer.count} steps')

@@ -52,8 +52,9 @@
  * - Each call opens the registry anew, which reads and tests each installed library once: some 2 ms
  *   for 8 MiB in 64 libraries, 4 ms in 500. So many changes, one by one, cost the square of their
  *   number; the program's `script` opens a disk once (docs/COMMANDS.md).
- * - A bound image is memory, and not a process: nothing of the library runs what is in it, and no
- *   initializer (DT_INIT, DT_INIT_ARRAY) is called, by rlibreg-run neither.
+ * - A bound image is memory, and not a process: nothing of the library runs what is in it. Who maps
+ *   it calls the initializers of the libraries (DT_INIT, DT_INIT_ARRAY) before its entry, as
+ *   rlibreg-run does; they are in the dynamic sections of the objects.
  * - Calls may be made at once in several threads, on different struct rlibreg. One struct is used
  *   by one thread at a time. No call is made from a signal handler, nor, in a process of several
  *   threads, from a child between fork and exec. A thread that makes calls has 512 KiB of stack.
@@ -83,9 +84,9 @@ extern "C" {
 /* ---- Version
  *
  * 10,000 * major + 100 * minor + patch. Where major or minor is another a caller is compiled again:
- * the shared library's name has the two, as librlibreg.so.0.1. rlibreg_version gives the version of
+ * the shared library's name has the two, as librlibreg.so.0.2. rlibreg_version gives the version of
  * the library that is called. */
-#define RLIBREG_VERSION 100
+#define RLIBREG_VERSION 200
 uint32_t rlibreg_version(void);
 
 /* ---- Statuses
@@ -146,6 +147,7 @@ typedef struct rlibreg_answer {
     uint64_t bytes;        /* how many bytes there are: of segments, of names, of the plan */
     uint64_t text;         /* how many bytes the whole text has */
     uint64_t generation;   /* of a listing: how many changes the registry has taken */
+    uint64_t objects;      /* how many objects an image has */
 } rlibreg_answer;
 
 enum { RLIBREG_EXECUTE = 1, RLIBREG_WRITE = 2, RLIBREG_READ = 4 };
@@ -158,6 +160,19 @@ typedef struct rlibreg_segment {
     uint64_t permissions; /* a sum of RLIBREG_EXECUTE, RLIBREG_WRITE and RLIBREG_READ */
 } rlibreg_segment;
 
+/* An object of an image: the program, or a library. An address is one of the image. */
+typedef struct rlibreg_object {
+    uint64_t base;          /* what is added to the addresses of its file */
+    uint64_t name;          /* where its name begins in the buffer of bytes, behind the segments' */
+    uint64_t name_length;   /* how many bytes the name has, without the byte 0 behind it */
+    uint64_t first_segment; /* the number of its first segment in the image */
+    uint64_t segments;      /* how many of the image's segments are its own: they are in a row */
+    uint64_t headers;       /* the address of its program headers, or 0 where no segment has them */
+    uint64_t header_count;  /* how many program headers its file has */
+    uint64_t dynamic;       /* the address of its dynamic section, or 0 where no segment has it */
+    uint64_t entry;         /* its base and its file's e_entry together, modulo 2^64 */
+} rlibreg_object;
+
 /* A library or a preload of a listing. */
 typedef struct rlibreg_entry {
     uint64_t name;        /* where its name begins in the buffer of names */
@@ -165,23 +180,27 @@ typedef struct rlibreg_entry {
     uint32_t file_length; /* how many bytes a library's file has; 0 of a preload */
 } rlibreg_entry;
 
-RLIBREG_SAME(sizeof(rlibreg_answer) == 48);
+RLIBREG_SAME(sizeof(rlibreg_answer) == 56);
 RLIBREG_SAME(offsetof(rlibreg_answer, file_refusal) == 4);
 RLIBREG_SAME(offsetof(rlibreg_answer, count) == 8);
 RLIBREG_SAME(offsetof(rlibreg_answer, generation) == 40);
+RLIBREG_SAME(offsetof(rlibreg_answer, objects) == 48);
 RLIBREG_SAME(sizeof(rlibreg_segment) == 32);
 RLIBREG_SAME(offsetof(rlibreg_segment, permissions) == 24);
+RLIBREG_SAME(sizeof(rlibreg_object) == 72);
+RLIBREG_SAME(offsetof(rlibreg_object, first_segment) == 24);
+RLIBREG_SAME(offsetof(rlibreg_object, entry) == 64);
 RLIBREG_SAME(sizeof(rlibreg_entry) == 16);
 RLIBREG_SAME(offsetof(rlibreg_entry, file_length) == 12);
 RLIBREG_SAME(sizeof(size_t) == 8 && sizeof(void *) == 8);
 
 /* ---- Layer 1: bytes
  *
- * OWED by who calls, and checked by nothing: a pointer has as many bytes (or segments, or entries)
- * behind it as the length or the room that follows it says; what is only read isn't changed by
- * anybody before the call returns; what is written overlaps nothing else that the call is given. A
- * pointer may be null where its length is 0. Nothing else is owed: whatever the bytes are, each
- * call returns, with a status.
+ * OWED by who calls, and checked by nothing: a pointer has as many bytes (or segments, objects,
+ * entries) behind it as the length or the room that follows it says; what is only read isn't
+ * changed by anybody before the call returns; what is written overlaps nothing else that the call
+ * is given. A pointer may be null where its length is 0. Nothing else is owed: whatever the bytes
+ * are, each call returns, with a status.
  *
  * OWNED by who calls: all of it. A call keeps no pointer, and gives none.
  *
@@ -203,16 +222,19 @@ RLIBREG_SAME(sizeof(size_t) == 8 && sizeof(void *) == 8);
  * open, and the answer has what is needed: ask again with that much. */
 
 /* Binds the program whose file is PROGRAM at the address BASE, with the preloads and the libraries
- * of the registry. With the status 0 SEGMENTS has the answer's `count` segments, from low addresses
- * to high ones, and BYTES the bytes of all of them in a row, `bytes` in number. Segments don't
- * overlap; two of one object may share a page, two of different objects never do. Nothing of the
- * registry is changed.
+ * of the registry. With the status 0 OBJECTS has the answer's `objects` objects in load order, the
+ * program first; SEGMENTS has `count` segments, from low addresses to high ones, those of an object
+ * in a row; and BYTES has the bytes of all segments in a row, and behind them the objects' names,
+ * each with a byte 0 behind it, `bytes` in number. The program's name is "/program", a library's
+ * its SONAME. Segments don't overlap; two of one object may share a page, two of different objects
+ * never do. Nothing of the registry is changed.
  *
  * Refusals: B1 to B5; S3, S5, S6, S11, S12. */
 uint32_t rlibreg_bind(const uint8_t *disk, size_t disk_length, const uint8_t *program,
-                      size_t program_length, uint64_t base, rlibreg_segment *segments,
-                      size_t segments_room, uint8_t *bytes, size_t bytes_room, char *text,
-                      size_t text_room, rlibreg_answer *answer);
+                      size_t program_length, uint64_t base, rlibreg_object *objects,
+                      size_t objects_room, rlibreg_segment *segments, size_t segments_room,
+                      uint8_t *bytes, size_t bytes_room, char *text, size_t text_room,
+                      rlibreg_answer *answer);
 
 /* Lists the registry. With the status 0 ENTRIES has the answer's `count` libraries in the order of
  * their installation, and behind them `preloads` preloads in theirs; NAMES has all their names in a
@@ -373,9 +395,11 @@ void rlibreg_listing_free(rlibreg_listing *listing);
 /* An image, as rlibreg_bind gives it. It belongs to who asked, is written in every case, and is
  * freed by rlibreg_image_free, which may be called twice. */
 typedef struct rlibreg_image {
-    size_t count;
+    size_t count;        /* how many segments */
+    size_t object_count; /* how many objects */
+    rlibreg_object *objects;
     rlibreg_segment *segments;
-    uint8_t *bytes;
+    uint8_t *bytes; /* an object's name is bytes + object.name, with a byte 0 behind it */
 } rlibreg_image;
 
 uint32_t rlibreg_image_of(rlibreg *registry, const void *program, size_t length, uint64_t base,

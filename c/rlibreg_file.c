@@ -363,39 +363,45 @@ struct bound {
     uint64_t base;
 };
 
-/* An image with so much room for segments and bytes. */
+/* How much room an image has. */
+struct room {
+    size_t objects, segments, bytes;
+};
+
 static uint32_t bind_into(rlibreg *it, const struct bound *what, rlibreg_image *out,
-                          size_t segments, size_t bytes) {
-    out->segments = malloc(segments * sizeof *out->segments);
-    out->bytes = malloc(bytes);
-    if (!out->segments || !out->bytes) return say_memory(it);
+                          struct room room) {
+    out->objects = malloc(room.objects * sizeof *out->objects);
+    out->segments = malloc(room.segments * sizeof *out->segments);
+    out->bytes = malloc(room.bytes);
+    if (!out->objects || !out->segments || !out->bytes) return say_memory(it);
     return rlibreg_bind(it->file.bytes, it->file.length, what->program, what->length, what->base,
-                        out->segments, segments, out->bytes, bytes, it->text, it->text_room,
-                        &it->answer);
+                        out->objects, room.objects, out->segments, room.segments, out->bytes,
+                        room.bytes, it->text, it->text_room, &it->answer);
 }
 
 uint32_t rlibreg_image_of(rlibreg *it, const void *program, size_t length, uint64_t base,
                           rlibreg_image *out) {
     struct bound what = { program, length, base };
-    size_t segments = 64, bytes = 1 << 20;
+    struct room room = { 16, 64, 1 << 20 };
     *out = (rlibreg_image){ 0 };
     if (is_inherited(it)) return say(it, RLIBREG_BAD_ARGUMENT, "");
     if (it->has_failed) return say(it, RLIBREG_REOPEN, "refused S2 Reopen\n");
     for (;;) {
-        uint32_t status = over_bytes(it, bind_into(it, &what, out, segments, bytes));
+        uint32_t status = over_bytes(it, bind_into(it, &what, out, room));
         int again = text_was_cut(it) || status == RLIBREG_NO_ROOM;
         if (!status && !again) break;
         rlibreg_image_free(out);
         if (!again) return status;
-        if (status != RLIBREG_NO_ROOM) continue;
-        segments = it->answer.count;
-        bytes = it->answer.bytes;
+        if (status == RLIBREG_NO_ROOM)
+            room = (struct room){ it->answer.objects, it->answer.count, it->answer.bytes };
     }
     out->count = it->answer.count;
+    out->object_count = it->answer.objects;
     return RLIBREG_DONE;
 }
 
 void rlibreg_image_free(rlibreg_image *it) {
+    free(it->objects);
     free(it->segments);
     free(it->bytes);
     *it = (rlibreg_image){ 0 };

@@ -18,13 +18,13 @@ import os
 import threading
 from typing import Iterable, NamedTuple, Union
 
-__all__ = ['Closed', 'Error', 'Held', 'Image', 'Library', 'Listing', 'Permissions', 'Refusal',
-           'Registry', 'Segment', 'Status', 'SystemFault', 'format', 'upgrade', 'version']
+__all__ = ['Closed', 'Error', 'Held', 'Image', 'Library', 'Listing', 'Object', 'Permissions',
+           'Refusal', 'Registry', 'Segment', 'Status', 'SystemFault', 'format', 'upgrade', 'version']
 
 PathName = Union[str, bytes, os.PathLike]
 Content = Union[bytes, bytearray, memoryview, str, os.PathLike]
 
-_INTERFACE = '0.1'  # major and minor of the library that has the structures and the calls below
+_INTERFACE = '0.2'  # major and minor of the library that has the structures and the calls below
 
 
 class Status(enum.IntEnum):
@@ -92,11 +92,25 @@ class Segment(NamedTuple):
     data: memoryview
 
 
+class Object(NamedTuple):
+    """The program of an image, or one of its libraries, with the segments that are its own. An
+    address is one of the image; `headers` and `dynamic` are 0 where no segment has them."""
+
+    base: int  # what is added to the addresses of its file
+    name: str  # a library's SONAME; the program's is '/program'
+    segments: list[Segment]
+    headers: int  # of its program headers
+    header_count: int  # how many of them its file has
+    dynamic: int  # of its dynamic section
+    entry: int  # its base and its file's e_entry together, modulo 2^64
+
+
 class Image(NamedTuple):
     """A program in memory, as bound: its segments and those of its libraries, from low addresses
-    to high ones."""
+    to high ones; and these objects in load order, the program first."""
 
     segments: list[Segment]
+    objects: list[Object]
 
 
 # ---- Errors
@@ -148,12 +162,18 @@ class _Answer(ctypes.Structure):
     _fields_ = [('status', ctypes.c_uint32), ('file_refusal', ctypes.c_uint32),
                 ('count', ctypes.c_uint64), ('preloads', ctypes.c_uint64),
                 ('bytes', ctypes.c_uint64), ('text', ctypes.c_uint64),
-                ('generation', ctypes.c_uint64)]
+                ('generation', ctypes.c_uint64), ('objects', ctypes.c_uint64)]
 
 
 class _Segment(ctypes.Structure):
     _fields_ = [('address', ctypes.c_uint64), ('length', ctypes.c_uint64),
                 ('from_', ctypes.c_uint64), ('permissions', ctypes.c_uint64)]
+
+
+class _Object(ctypes.Structure):
+    _fields_ = [(name, ctypes.c_uint64) for name in
+                ('base', 'name', 'name_length', 'first_segment', 'segments', 'headers',
+                 'header_count', 'dynamic', 'entry')]
 
 
 class _Entry(ctypes.Structure):
@@ -168,7 +188,8 @@ class _Listing(ctypes.Structure):
 
 
 class _Image(ctypes.Structure):
-    _fields_ = [('count', ctypes.c_size_t), ('segments', ctypes.POINTER(_Segment)),
+    _fields_ = [('count', ctypes.c_size_t), ('object_count', ctypes.c_size_t),
+                ('objects', ctypes.POINTER(_Object)), ('segments', ctypes.POINTER(_Segment)),
                 ('bytes', ctypes.c_void_p)]
 
 
@@ -319,8 +340,16 @@ def _image(given: _Image) -> Image:
     places = given.segments[:given.count]
     length = sum(it.length for it in places)
     data = memoryview(ctypes.string_at(given.bytes, length))
-    return Image([Segment(it.address, Permissions(it.permissions),
-                          data[it.from_:it.from_ + it.length]) for it in places])
+    segments = [Segment(it.address, Permissions(it.permissions),
+                        data[it.from_:it.from_ + it.length]) for it in places]
+    return Image(segments, [_object(it, given, segments)
+                            for it in given.objects[:given.object_count]])
+
+
+def _object(it: _Object, given: _Image, segments: list[Segment]) -> Object:
+    name = ctypes.string_at(given.bytes + it.name, it.name_length).decode()
+    own = segments[it.first_segment:it.first_segment + it.segments]
+    return Object(it.base, name, own, it.headers, it.header_count, it.dynamic, it.entry)
 
 
 class Registry:

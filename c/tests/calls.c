@@ -180,36 +180,81 @@ static void try_listing(uint64_t libraries, uint64_t preloads, uint64_t generati
     }
 }
 
-static void try_image(struct file program) {
+/* An image, and how much room it has. */
+struct image {
+    rlibreg_object *objects;
+    rlibreg_segment *segments;
+    uint8_t *bytes;
+    size_t object_room, segment_room, room;
+};
+
+static uint32_t bind_into(struct file program, struct image it, rlibreg_answer *answer) {
+    return rlibreg_bind(disk, sizeof disk, program.bytes, program.length, 0x10000, it.objects,
+                        it.object_room, it.segments, it.segment_room, it.bytes, it.room, NULL, 0,
+                        answer);
+}
+
+/* An image of one library, which needs nothing. */
+static void check_image(struct image it, const rlibreg_answer *answer, const char *library) {
+    uint64_t at = 0, segment = 0;
+    const char *names[] = { "/program", library };
+    WANT(answer->count > 1 && answer->objects == 2 && answer->text == 0);
+    for (size_t i = 0; i < answer->count; i++) {
+        const rlibreg_segment *one = &it.segments[i];
+        WANT(one->from == at && one->permissions < 8);
+        if (i) WANT(one[-1].address + one[-1].length <= one->address);
+        at += one->length;
+    }
+    for (size_t i = 0; i < 2; i++) {
+        const rlibreg_object *one = &it.objects[i];
+        WANT(one->name == at && !strcmp((char *)it.bytes + at, names[i]));
+        WANT(one->name_length == strlen(names[i]) && one->first_segment == segment);
+        WANT(one->base % 4096 == 0 && one->base <= it.segments[segment].address);
+        at += one->name_length + 1;
+        segment += one->segments;
+    }
+    WANT(at == answer->bytes && segment == answer->count);
+    WANT(it.objects[0].base == 0x10000 && it.objects[1].base > 0x10000);
+}
+
+static void try_room(struct file program, const struct image *whole, const rlibreg_answer *wanted,
+                     struct image it) {
+    rlibreg_answer answer;
+    int fits = it.object_room == wanted->objects && it.segment_room == wanted->count &&
+               it.room == wanted->bytes;
+    size_t objects = it.object_room * sizeof *it.objects,
+           segments = it.segment_room * sizeof *it.segments;
+    it.objects = guarded(objects);
+    it.segments = guarded(segments);
+    it.bytes = guarded(it.room);
+    uint32_t status = bind_into(program, it, &answer);
+    WANT(status == (fits ? RLIBREG_DONE : RLIBREG_NO_ROOM) && answer.status == status);
+    WANT(answer.objects == wanted->objects && answer.count == wanted->count);
+    WANT(answer.bytes == wanted->bytes);
+    if (fits)
+        WANT(!memcmp(it.bytes, whole->bytes, it.room) &&
+             !memcmp(it.segments, whole->segments, segments) &&
+             !memcmp(it.objects, whole->objects, objects));
+    check_guard(it.objects, objects);
+    check_guard(it.segments, segments);
+    check_guard(it.bytes, it.room);
+}
+
+static void try_image(struct file program, const char *library) {
+    static rlibreg_object objects[8];
     static rlibreg_segment segments[64];
     static uint8_t bytes[ROOM];
-    rlibreg_answer answer, other;
-    WANT(!rlibreg_bind(disk, sizeof disk, program.bytes, program.length, 0x10000, segments, 64,
-                       bytes, ROOM, NULL, 0, &answer));
-    WANT(answer.count > 1 && answer.text == 0);
-    uint64_t at = 0;
-    for (size_t i = 0; i < answer.count; i++) {
-        WANT(segments[i].from == at && segments[i].permissions < 8);
-        if (i) WANT(segments[i - 1].address + segments[i - 1].length <= segments[i].address);
-        at += segments[i].length;
-    }
-    WANT(at == answer.bytes);
-    for (size_t count = 0; count <= answer.count; count++) {
-        for (size_t room = 0; room <= answer.bytes; room++) {
-            int fits = count == answer.count && room == answer.bytes;
-            rlibreg_segment *list = guarded(count * sizeof *list);
-            uint8_t *out = guarded(room);
-            uint32_t status = rlibreg_bind(disk, sizeof disk, program.bytes, program.length,
-                                           0x10000, list, count, out, room, NULL, 0, &other);
-            WANT(status == (fits ? RLIBREG_DONE : RLIBREG_NO_ROOM) && other.status == status);
-            WANT(other.count == answer.count && other.bytes == answer.bytes);
-            if (fits)
-                WANT(!memcmp(out, bytes, room) && !memcmp(list, segments, count * sizeof *list));
-            check_guard(list, count * sizeof *list);
-            check_guard(out, room);
-            if (room + 2 < answer.bytes && count < answer.count) room += answer.bytes / 8;
-        }
-    }
+    struct image whole = { objects, segments, bytes, 8, 64, ROOM }, it = { 0 };
+    rlibreg_answer answer;
+    WANT(!bind_into(program, whole, &answer));
+    check_image(whole, &answer, library);
+    for (; it.object_room <= answer.objects; it.object_room++)
+        for (it.segment_room = 0; it.segment_room <= answer.count; it.segment_room++)
+            for (it.room = 0; it.room <= answer.bytes; it.room++) {
+                int is_last = it.segment_room == answer.count && it.object_room == answer.objects;
+                try_room(program, &whole, &answer, it);
+                if (it.room + 40 < answer.bytes && !is_last) it.room += answer.bytes / 8;
+            }
 }
 
 static void try_bind_refusal(struct file program, uint64_t base, uint32_t wanted,
@@ -217,7 +262,7 @@ static void try_bind_refusal(struct file program, uint64_t base, uint32_t wanted
     char text[256];
     rlibreg_answer answer;
     uint32_t status = rlibreg_bind(disk, sizeof disk, program.bytes, program.length, base, NULL, 0,
-                                   NULL, 0, text, sizeof text, &answer);
+                                   NULL, 0, NULL, 0, text, sizeof text, &answer);
     WANT(status == wanted && answer.text == strlen(line) && !memcmp(text, line, strlen(line)));
 }
 
@@ -229,6 +274,7 @@ static int is_status(uint32_t status) {
 
 static void try_damaged(struct file program, struct file library) {
     static rlibreg_entry entries[64];
+    static rlibreg_object objects[64];
     static rlibreg_segment segments[64];
     static uint8_t kept[sizeof disk], bytes[ROOM];
     static char names[ROOM], text[ROOM];
@@ -245,7 +291,7 @@ static void try_damaged(struct file program, struct file library) {
         WANT(is_status(listed) && listed == answer.status && listed != RLIBREG_BAD_ARGUMENT);
         refused += listed == RLIBREG_DAMAGED;
         uint32_t bound = rlibreg_bind(disk, sizeof disk, program.bytes, program.length, 0x10000,
-                                      segments, 64, bytes, ROOM, text, ROOM, &answer);
+                                      objects, 64, segments, 64, bytes, ROOM, text, ROOM, &answer);
         WANT(is_status(bound) && bound != RLIBREG_BAD_ARGUMENT);
         struct call replace = { 'r', library.bytes, library.length };
         WANT(is_status(plan(replace, bytes, ROOM, text, ROOM, &answer)));
@@ -270,7 +316,8 @@ static void try_lengths(void) {
         WANT(!memcmp(text, line, strlen(line)));
         WANT(rlibreg_plan_format(disk, length, NULL, 0, text, sizeof text, &answer) == status);
         WANT(rlibreg_plan_upgrade(disk, length, NULL, 0, NULL, 0, &answer) == status);
-        WANT(rlibreg_bind(disk, length, NULL, 0, 0, NULL, 0, NULL, 0, NULL, 0, &answer) == status);
+        WANT(rlibreg_bind(disk, length, NULL, 0, 0, NULL, 0, NULL, 0, NULL, 0, NULL, 0, &answer) ==
+             status);
     }
 }
 
@@ -306,7 +353,7 @@ int main(int argc, char **argv) {
     try_refusal(install, RLIBREG_ALREADY_INSTALLED, "refused C2 AlreadyInstalled\n");
     snprintf(said, sizeof said, "library %s %zu\nend\n", name, library.length);
     try_listing(1, 0, 1, names, one, said);
-    try_image(program);
+    try_image(program, name);
     try_bind_refusal(program, 0x7ffffffff000, RLIBREG_NO_PLACE, "refused B4 NoRoom\n");
     try_plan(replace);
     try_plan(preload);

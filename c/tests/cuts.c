@@ -55,6 +55,7 @@ struct seen {
 
 static struct seen look(const struct files *it, const uint8_t *disk) {
     static rlibreg_entry entries[64];
+    static rlibreg_object objects[64];
     static rlibreg_segment segments[64];
     static char names[ROOM], text[ROOM];
     static uint8_t bytes[ROOM];
@@ -63,8 +64,9 @@ static struct seen look(const struct files *it, const uint8_t *disk) {
     seen.listed = rlibreg_list(disk, it->length, entries, 64, names, ROOM, text, ROOM, &answer);
     seen.generation = answer.generation;
     size_t listing = answer.text;
-    seen.bound = rlibreg_bind(disk, it->length, it->program, it->program_length, 0x10000, segments,
-                              64, bytes, ROOM, text + listing, ROOM - listing, &answer);
+    seen.bound =
+        rlibreg_bind(disk, it->length, it->program, it->program_length, 0x10000, objects, 64,
+                     segments, 64, bytes, ROOM, text + listing, ROOM - listing, &answer);
     size_t image = seen.bound ? 0 : answer.bytes, refusal = answer.text;
     seen.length = listing + refusal + image;
     seen.bytes = malloc(seen.length + 1);

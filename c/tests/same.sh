@@ -11,7 +11,6 @@ both() {
     ours=$(./tool "$1" ours "${@:2}" 2> test && echo '= 0' || echo "= $?")
     case $theirs in
         refused\ [BC]1\ E*) test=$(grep -o 'E[0-9]* [A-Za-z]*' <<< "$theirs") ;;
-        object*) theirs=$(grep -v '^object ' <<< "$theirs") ;;
     esac
     want "$*" "$theirs" "$ours"
     want "$*: the test" "$test" "$(< test)"

@@ -20,17 +20,24 @@ static void *read_file(const char *path, size_t *length) {
 }
 
 /* As `rlibreg bind` prints it. */
+static void print_segment(const rlibreg_image *image, const rlibreg_segment *it) {
+    if (!it->length) return;
+    printf("segment 0x%016llx %llu %c%c%c\n", (unsigned long long)it->address,
+           (unsigned long long)it->length, it->permissions & RLIBREG_READ ? 'r' : '-',
+           it->permissions & RLIBREG_WRITE ? 'w' : '-',
+           it->permissions & RLIBREG_EXECUTE ? 'x' : '-');
+    for (size_t at = 0; at < it->length; at++)
+        printf(at % 16 == 15 || at + 1 == it->length ? "%02x\n" : "%02x",
+               image->bytes[it->from + at]);
+}
+
 static void print_image(const rlibreg_image *image) {
-    for (size_t i = 0; i < image->count; i++) {
-        const rlibreg_segment *it = &image->segments[i];
-        if (!it->length) continue;
-        printf("segment 0x%016llx %llu %c%c%c\n", (unsigned long long)it->address,
-               (unsigned long long)it->length, it->permissions & RLIBREG_READ ? 'r' : '-',
-               it->permissions & RLIBREG_WRITE ? 'w' : '-',
-               it->permissions & RLIBREG_EXECUTE ? 'x' : '-');
-        for (size_t at = 0; at < it->length; at++)
-            printf(at % 16 == 15 || at + 1 == it->length ? "%02x\n" : "%02x",
-                   image->bytes[it->from + at]);
+    for (size_t i = 0; i < image->object_count; i++) {
+        const rlibreg_object *it = &image->objects[i];
+        printf("object 0x%016llx %s\n", (unsigned long long)it->base,
+               (char *)image->bytes + it->name);
+        for (size_t number = 0; number < it->segments; number++)
+            print_segment(image, &image->segments[it->first_segment + number]);
     }
     puts("end");
 }

@@ -11,6 +11,7 @@ import pickle
 import re
 import resource
 import signal
+import struct
 import sys
 import tempfile
 import threading
@@ -247,6 +248,23 @@ class Processes(OnDisk):
         registry.close()
 
 
+class Objects(OnDisk):
+    def test_an_image_has_its_objects(self):
+        with Registry(self.disk, changes=True) as registry:
+            registry.install(LIBRARY)
+            image = registry.bind(PROGRAM, 0x10000)
+        program, library = image.objects
+        self.assertEqual(program.segments + library.segments, image.segments)
+        for it, file in ((program, PROGRAM), (library, LIBRARY)):
+            header = file.read_bytes()[:64]
+            entry, headers = struct.unpack_from('<QQ', header, 24)
+            count, = struct.unpack_from('<H', header, 56)
+            self.assertEqual((it.entry, it.header_count), (it.base + entry, count))
+            self.assertEqual(it.headers, it.base + headers)
+            self.assertTrue(any(one.address <= it.dynamic < one.address + len(one.data)
+                                for one in it.segments))
+
+
 class Memory(OnDisk):
     def test_buffers_grow(self):
         self.disk.write_bytes(file('made=many.changes'))
@@ -258,6 +276,7 @@ class Memory(OnDisk):
             registry.install(LIBRARY)
             image = registry.bind(PROGRAM, 0x10000)
         self.assertEqual(image.segments[0].data[:4], b'\x7fELF')
+        self.assertEqual([it.name for it in image.objects], ['/program', 'b'])
 
     def test_nothing_is_lost(self):
         """Neither memory nor files, where calls succeed and where they are refused."""
