@@ -16,7 +16,7 @@ for tool in gcc ar; do
     fi
 done
 kit=$(dirname "$(rt doc)")
-flags='-std=c11 -O2 -g -fPIC -Wall -Wextra -Werror'
+flags='-std=c11 -O2 -g -fPIC -Wall -Wextra -Wpedantic -Werror'
 hardened='-fstack-protector-strong -Wl,-z,relro,-z,now'
 mkdir -p "$folder"
 folder=$(cd "$folder" && pwd)

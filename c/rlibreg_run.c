@@ -2,10 +2,11 @@
  * registry.
  *
  * It binds PROGRAM over the registry on DISK, maps the image's segments at their addresses with
- * their permissions, and jumps to PROGRAM's entry, as the kernel enters a static program: on the
- * stack are the words, PROGRAM first, the environment and the auxiliary vector (System V ABI, AMD64
- * supplement, section 3.4.1). No initializer is run before that. It waits while another process
- * holds DISK for changes, and lets it go before it jumps. docs/C.md is the manual. */
+ * their permissions, calls the initializers of the libraries, and jumps to PROGRAM's entry, as the
+ * kernel enters a program: on the stack are the words, PROGRAM first, the environment and the
+ * auxiliary vector, and in rdx is what calls the finalizers (System V ABI, AMD64 supplement,
+ * section 3.4.1). It waits while another process holds DISK for changes, and lets it go before it
+ * calls anything. docs/C.md is the manual. */
 #define _GNU_SOURCE
 #include "rlibreg_run.h"
 
@@ -90,7 +91,10 @@ int main(int argc, char **argv, char **environment) {
     program.path = words[0];
     read_program(&program);
     load(&program, argv[optind]);
+    free(program.bytes);
+    find_calls(&program);
     take_name(program.path);
     tell_debugger(&program);
+    rlibreg_image_free(&program.image);
     start(&program, words, environment);
 }

@@ -4,6 +4,8 @@
 
 #include "rlibreg.h"
 
+#include <elf.h>
+
 enum {
     REFUSED = 125,  /* there is no image, or not one that is started */
     FAILED = 126,   /* a file can't be read, or memory isn't given where it is needed */
@@ -16,34 +18,24 @@ struct program {
     const char *path;
     uint8_t *bytes; /* its file's */
     size_t length;
-    uint64_t base;                 /* where it is bound */
-    int has_base;                  /* whether the user named that */
-    int may_be_both;               /* whether its memory may be written and executed at once */
-    uint64_t fixed_from, fixed_to; /* the pages that nothing writes once it is relocated */
+    uint64_t base;         /* where it is bound */
+    int has_base;          /* whether the user named that */
+    int may_be_both;       /* whether memory may be written and executed at once */
+    rlibreg_image image;   /* it and its libraries, until it is started */
+    rlibreg_object object; /* the first of the image: the program itself */
 };
 
 /* Each of these ends the process: with FAILED, behind it what errno says; and with a status. */
 _Noreturn void fail(const char *what);
 _Noreturn void give_up(int status, const char *what, const char *why);
 
-/* ---- The program's file (rlibreg_run_program.c)
- *
- * Before the program is bound its bytes may be any, and what these give of them is good for nothing
- * but to bind it: that says what is wrong with them. */
+/* ---- The program's file (rlibreg_run_program.c) */
 
 void read_program(struct program *it);
-uint64_t unit_of(const struct program *it);  /* of which the base has to be a multiple */
-uint64_t reach_of(const struct program *it); /* how far its memory reaches from the base */
 
-/* Whether it has an entry, in a segment of its own that may be executed; 0 is none. */
-int has_entry(const struct program *it);
-uint64_t entry_of(const struct program *it);
-
-/* Where its program headers and its dynamic section are in memory; 0 where they aren't. */
-uint64_t headers_of(const struct program *it, uint64_t *count);
-uint64_t dynamic_of(const struct program *it);
-
-void find_fixed_pages(struct program *it);
+/* Of what the base has to be a multiple. Before the program is bound its bytes may be any, and what
+ * this gives of them is good for nothing but to bind it: that says what is wrong with them. */
+uint64_t unit_of(const struct program *it);
 
 /* ---- Memory (rlibreg_run_image.c, rlibreg_run_base.c) */
 
@@ -55,6 +47,49 @@ void map_program(struct program *it, rlibreg *registry, const char *disk);
 enum { MOST_BASES = 16 };
 #define END_OF_BASES ((uint64_t)1 << 46)
 uint64_t base_of_try(const struct program *it, int number);
+
+/* ---- The objects of the image, which the bytes of their segments say (rlibreg_run_objects.c) */
+
+/* What a message calls an object. */
+const char *name_of(const struct program *it, const rlibreg_object *object);
+
+/* Whether an address is one of the object's memory that may be executed. */
+int is_code(const rlibreg_image *image, const rlibreg_object *object, uint64_t address);
+
+/* The bytes of the object's memory from an address to the end of its segment, how many they are,
+ * and null where the address is in none of its segments. */
+const uint8_t *memory_at(const rlibreg_image *image, const rlibreg_object *object, uint64_t address,
+                         uint64_t *length);
+
+/* The pages that nothing writes once the object is relocated. */
+struct pages {
+    uint64_t from, to;
+};
+struct pages fixed_pages(const rlibreg_image *image, const rlibreg_object *object);
+
+/* A dynamic section up to its DT_NULL; the entry of a number; and the value of the last entry of a
+ * tag, where it has one. */
+struct dynamic {
+    const uint8_t *bytes;
+    size_t count;
+};
+struct dynamic dynamic_of(const rlibreg_image *image, const rlibreg_object *object);
+Elf64_Dyn entry_at(const struct dynamic *it, size_t number);
+int has_tag(const struct dynamic *it, int64_t tag, uint64_t *value);
+
+/* ---- Initializers (rlibreg_run_order.c, rlibreg_run_calls.c) */
+
+/* The numbers of the libraries in the order in which they are initialized. The caller frees them.
+ */
+size_t *order_of_libraries(const struct program *it);
+
+/* Finds what is called before the program and behind it, or refuses to start the program. */
+void find_calls(const struct program *it);
+void call_initializers(int argc, char **argv, char **environment);
+
+/* What the program is to call at its end; null where nothing is. */
+typedef void finalizer(void);
+finalizer *finalizers_of_all(void);
 
 /* ---- The start (rlibreg_run_debugger.c, rlibreg_run_start.c) */
 

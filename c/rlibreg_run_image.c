@@ -64,51 +64,64 @@ static int protection(const rlibreg_segment *it) {
            (it->permissions & RLIBREG_EXECUTE ? PROT_EXEC : 0);
 }
 
-/* What is done with pages of a program that are to be protected so. */
-typedef void page_action(const struct program *program, uint64_t from, uint64_t to, int how);
+/* An object of a program, and the pages of it that are fixed. */
+struct part {
+    const struct program *program;
+    const rlibreg_object *object;
+    struct pages fixed;
+};
+
+/* What is done with pages of an object that are to be protected so. */
+typedef void page_action(const struct part *part, uint64_t from, uint64_t to, int how);
 
 /* Does it with pages, and takes the writing away from those that are fixed. */
-static void act(page_action *action, const struct program *program, uint64_t from, uint64_t to,
-                int how) {
-    uint64_t first = program->fixed_from, end = program->fixed_to;
+static void act(page_action *action, const struct part *part, uint64_t from, uint64_t to, int how) {
+    uint64_t first = part->fixed.from, end = part->fixed.to;
     if (first < from) first = from;
     if (first > to) first = to;
     if (end < first) end = first;
     if (end > to) end = to;
-    if (from < first) action(program, from, first, how);
-    if (first < end) action(program, first, end, how & ~PROT_WRITE);
-    if (end < to) action(program, end, to, how);
+    if (from < first) action(part, from, first, how);
+    if (first < end) action(part, first, end, how & ~PROT_WRITE);
+    if (end < to) action(part, end, to, how);
 }
 
-/* Goes through the pages with what the segments in them permit. One that several segments share
- * comes with each of them, and with what it and those before permit. */
-static void each_pages(const rlibreg_image *image, page_action *action,
-                       const struct program *program) {
+/* Goes through the pages of an object with what the segments in them permit. One that several
+ * segments share comes with each of them, and with what it and those before permit. */
+static void each_pages_of(const struct part *part, page_action *action) {
     uint64_t last = 0; /* the last page of the segments before */
     int shared = 0;    /* what they permit it */
-    for (size_t i = 0; i < image->count; i++) {
-        const rlibreg_segment *it = &image->segments[i];
+    const rlibreg_segment *it = part->program->image.segments + part->object->first_segment;
+    for (const rlibreg_segment *end = it + part->object->segments; it < end; it++) {
         uint64_t from = page_of(it->address), to = page_behind(it);
         if (!it->length) continue;
         int own = protection(it), first = from == last ? own | shared : own;
-        act(action, program, from, from + PAGE, first);
-        act(action, program, from + PAGE, to, own);
+        act(action, part, from, from + PAGE, first);
+        act(action, part, from + PAGE, to, own);
         last = to - PAGE;
         shared = last == from ? first : own;
     }
 }
 
-static void refuse_both(const struct program *program, uint64_t from, uint64_t to, int how) {
-    (void)to;
-    if (!(how & PROT_WRITE && how & PROT_EXEC) || program->may_be_both) return;
-    give_up(REFUSED, program->path,
-            from < program->base + reach_of(program)
-                ? "it has memory that may be written and executed, for which -x is needed"
-                : "a library has memory that may be written and executed, for which -x is needed");
+/* Two objects never share a page. */
+static void each_pages(const struct program *program, page_action *action) {
+    const rlibreg_image *image = &program->image;
+    for (size_t i = 0; i < image->object_count; i++) {
+        const rlibreg_object *it = &image->objects[i];
+        struct part part = { program, it, fixed_pages(image, it) };
+        each_pages_of(&part, action);
+    }
 }
 
-static void protect(const struct program *program, uint64_t from, uint64_t to, int how) {
-    (void)program;
+static void refuse_both(const struct part *part, uint64_t from, uint64_t to, int how) {
+    (void)from, (void)to;
+    if (how & PROT_WRITE && how & PROT_EXEC && !part->program->may_be_both)
+        give_up(REFUSED, name_of(part->program, part->object),
+                "it has memory that may be written and executed, for which -x is needed");
+}
+
+static void protect(const struct part *part, uint64_t from, uint64_t to, int how) {
+    (void)part;
     if (!mprotect((void *)from, to - from, how)) return;
     if (how & PROT_EXEC && (errno == EACCES || errno == EPERM))
         fail("memory that may be executed (SELinux: allow execmem; "
@@ -131,22 +144,27 @@ static int is_low(const rlibreg_image *image) {
     return last->address + last->length <= END_OF_BASES;
 }
 
+/* Whether the program has an entry in code of its own; 0 in its file is none. */
+static int has_entry(const struct program *it) {
+    return it->object.entry != it->base && is_code(&it->image, it->image.objects, it->object.entry);
+}
+
 /* Binds the program at a base, and takes the pages of the image. Gives whether they are free and,
  * where the loader chooses, low enough: else errno says what they aren't, and another base may do.
  */
-static int bind_at(struct program *it, rlibreg *registry, const char *disk, rlibreg_image *image) {
-    uint32_t status = rlibreg_image_of(registry, it->bytes, it->length, it->base, image);
+static int bind_at(struct program *it, rlibreg *registry, const char *disk) {
+    uint32_t status = rlibreg_image_of(registry, it->bytes, it->length, it->base, &it->image);
     if (status) refuse(registry, status, disk);
+    it->object = it->image.objects[0];
     if (!has_entry(it)) give_up(REFUSED, it->path, "it has no entry");
-    find_fixed_pages(it);
-    each_pages(image, refuse_both, it);
-    if (!it->has_base && !is_low(image))
+    each_pages(it, refuse_both);
+    if (!it->has_base && !is_low(&it->image))
         errno = ENOMEM;
-    else if (!take_all_pages(image))
+    else if (!take_all_pages(&it->image))
         return 1;
     else if (errno != EEXIST)
         fail("memory at the base");
-    rlibreg_image_free(image);
+    rlibreg_image_free(&it->image);
     return 0;
 }
 
@@ -158,14 +176,12 @@ static void put_bytes(const rlibreg_image *image) {
 }
 
 void map_program(struct program *it, rlibreg *registry, const char *disk) {
-    rlibreg_image image;
     int tries = it->has_base ? 1 : MOST_BASES, is_there = 0;
     for (int i = 0; i < tries && !is_there; i++) {
         if (!it->has_base) it->base = base_of_try(it, i);
-        is_there = bind_at(it, registry, disk, &image);
+        is_there = bind_at(it, registry, disk);
     }
     if (!is_there) fail("memory at the base");
-    put_bytes(&image);
-    each_pages(&image, protect, it);
-    rlibreg_image_free(&image);
+    put_bytes(&it->image);
+    each_pages(it, protect);
 }

@@ -2,7 +2,6 @@
 #define _GNU_SOURCE
 #include "rlibreg_run.h"
 
-#include <elf.h>
 #include <errno.h>
 #include <fcntl.h>
 #include <stdlib.h>
@@ -48,70 +47,10 @@ static int header_at(const struct program *it, size_t number, Elf64_Phdr *one) {
     return 1;
 }
 
-static int of_type(const struct program *it, uint32_t type, Elf64_Phdr *one) {
-    for (size_t i = 0; header_at(it, i, one); i++)
-        if (one->p_type == type) return 1;
-    return 0;
-}
-
 uint64_t unit_of(const struct program *it) {
     Elf64_Phdr one;
     uint64_t unit = PAGE;
     for (size_t i = 0; header_at(it, i, &one); i++)
         if (one.p_type == PT_LOAD && one.p_align > unit) unit = one.p_align;
     return unit;
-}
-
-uint64_t reach_of(const struct program *it) {
-    Elf64_Phdr one;
-    uint64_t reach = 0;
-    for (size_t i = 0; header_at(it, i, &one); i++)
-        if (one.p_type == PT_LOAD && one.p_vaddr + one.p_memsz > reach)
-            reach = one.p_vaddr + one.p_memsz;
-    return reach;
-}
-
-uint64_t entry_of(const struct program *it) {
-    return it->base + file_header(it).e_entry;
-}
-
-int has_entry(const struct program *it) {
-    Elf64_Phdr one;
-    uint64_t entry = file_header(it).e_entry;
-    for (size_t i = 0; entry && header_at(it, i, &one); i++)
-        if (one.p_type == PT_LOAD && one.p_flags & PF_X && one.p_vaddr <= entry &&
-            entry - one.p_vaddr < one.p_memsz)
-            return 1;
-    return 0;
-}
-
-uint64_t headers_of(const struct program *it, uint64_t *count) {
-    Elf64_Phdr one;
-    uint64_t at = file_header(it).e_phoff, length = file_header(it).e_phnum * sizeof one;
-    *count = file_header(it).e_phnum;
-    for (size_t i = 0; header_at(it, i, &one); i++)
-        if (one.p_type == PT_LOAD && one.p_offset <= at && at - one.p_offset <= one.p_filesz &&
-            length <= one.p_filesz - (at - one.p_offset))
-            return it->base + one.p_vaddr + (at - one.p_offset);
-    *count = 0;
-    return 0;
-}
-
-uint64_t dynamic_of(const struct program *it) {
-    Elf64_Phdr one;
-    return of_type(it, PT_DYNAMIC, &one) ? it->base + one.p_vaddr : 0;
-}
-
-/* As other loaders do, from the page in which they begin to the last whole one; but none behind the
- * program's memory, and none of a program that names no loader: the start of a static PIE relocates
- * it once more. */
-void find_fixed_pages(struct program *it) {
-    Elf64_Phdr one;
-    uint64_t reach = reach_of(it);
-    it->fixed_from = it->fixed_to = it->base;
-    if (!of_type(it, PT_INTERP, &one)) return;
-    if (!of_type(it, PT_GNU_RELRO, &one) || one.p_vaddr > reach) return;
-    uint64_t length = one.p_memsz < reach - one.p_vaddr ? one.p_memsz : reach - one.p_vaddr;
-    it->fixed_from += one.p_vaddr / PAGE * PAGE;
-    it->fixed_to += (one.p_vaddr + length) / PAGE * PAGE;
 }

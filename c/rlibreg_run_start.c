@@ -1,10 +1,8 @@
-/* The program's stack, and the jump to its entry. */
+/* The program's stack, the calls before it is entered, and the jump to its entry. */
 #define _GNU_SOURCE
 #include "rlibreg_run.h"
 
 #include <alloca.h>
-#include <elf.h>
-#include <stdlib.h>
 #include <string.h>
 
 static size_t words_in(char **list) {
@@ -24,13 +22,12 @@ static size_t entries_in(const Elf64_auxv_t *vector) {
 /* An entry as the program is to see it: what the kernel says of this loader is said of the program.
  */
 static Elf64_auxv_t entry_for(const struct program *it, Elf64_auxv_t entry) {
-    uint64_t count, headers = headers_of(it, &count);
     switch (entry.a_type) {
     case AT_PHDR:
-        entry.a_un.a_val = headers;
+        entry.a_un.a_val = it->object.headers;
         break;
     case AT_PHNUM:
-        entry.a_un.a_val = count;
+        entry.a_un.a_val = it->object.headers ? it->object.header_count : 0;
         break;
     case AT_PHENT:
         entry.a_un.a_val = sizeof(Elf64_Phdr);
@@ -39,7 +36,7 @@ static Elf64_auxv_t entry_for(const struct program *it, Elf64_auxv_t entry) {
         entry.a_un.a_val = 0;
         break;
     case AT_ENTRY:
-        entry.a_un.a_val = entry_of(it);
+        entry.a_un.a_val = it->object.entry;
         break;
     case AT_EXECFN:
         entry.a_un.a_val = (uint64_t)it->path;
@@ -48,8 +45,9 @@ static Elf64_auxv_t entry_for(const struct program *it, Elf64_auxv_t entry) {
     return entry;
 }
 
-/* Jumps to the program with a stack that has the words, the environment and the auxiliary vector.
- * It lies below what this process has on its own stack, which goes on growing down from there. */
+/* Calls the initializers and jumps to the program, with a stack that has the words, the environment
+ * and the auxiliary vector. It lies below what this process has on its own stack, which goes on
+ * growing down from there. */
 void start(const struct program *it, char **words, char **environment) {
     size_t argc = words_in(words), variables = words_in(environment);
     const Elf64_auxv_t *vector = (const Elf64_auxv_t *)(environment + variables + 1);
@@ -64,14 +62,12 @@ void start(const struct program *it, char **words, char **environment) {
         memcpy(at, &entry, sizeof entry);
         at += sizeof entry / sizeof *at;
     }
-    uint64_t entry = entry_of(it);
-    free(it->bytes);
+    call_initializers((int)argc, (char **)(stack + 1), (char **)(stack + 1 + argc + 1));
     __asm__ volatile("mov %0, %%rsp\n\t"
-                     "xor %%edx, %%edx\n\t" /* nothing to be called at the end */
                      "xor %%ebp, %%ebp\n\t"
                      "jmp *%1"
                      :
-                     : "r"(stack), "a"(entry)
+                     : "r"(stack), "a"(it->object.entry), "d"(finalizers_of_all())
                      : "memory");
     __builtin_unreachable();
 }

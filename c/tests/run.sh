@@ -16,10 +16,17 @@ for place in /dev/shm "${TMPDIR:-/tmp}"; do
 done
 trap 'rm -rf "$room"' EXIT
 
-flags="-std=c11 -g -Wall -Wextra -Werror -I$built"
+flags="-std=c11 -g -Wall -Wextra -Wpedantic -Werror -I$built"
 checked="$flags -O1 -fsanitize=address,undefined -fno-sanitize-recover=all"
 wraps=-Wl,--wrap=malloc,--wrap=calloc,--wrap=realloc
-beside="$(printf "$here/../rlibreg_%s.c " file disk_file new_disk status) $built/librlibreg.a"
+# compiled NAME FLAGS FILE..: objects of C files, in a folder of the name.
+compiled() {
+    mkdir "$room/$1"
+    (cd "$room/$1" && gcc $2 -c "${@:3}")
+}
+library=$(printf "$here/../rlibreg_%s.c " file disk_file new_disk status)
+compiled library "$checked" $library
+beside="$room/library/*.o $built/librlibreg.a"
 watched=$(printf ',--wrap=%s' open openat fstat stat fstatat lseek nanosleep flock fsync \
     posix_fadvise mmap ftruncate pwrite linkat renameat2 renameat unlink unlinkat)
 watched="-Wl$watched $here/watched.c"
@@ -31,9 +38,11 @@ for name in opening making forked; do
     gcc $checked -o "$room/$name" "$here/$name.c" $watched $beside
 done
 # With the sanitizer of addresses a program can't be mapped at each address, so the loader has one.
-loader="gcc $flags -O1 -fsanitize=undefined -fno-sanitize-recover=all $here/../rlibreg_run*.c"
-$loader -o "$room/rlibreg-run" $beside
-$loader -o "$room/run-taken" -Wl,--wrap=mmap "$here/taken.c" $beside
+loader="$flags -O1 -fsanitize=undefined -fno-sanitize-recover=all"
+compiled loader "$loader" "$here"/../rlibreg_run*.c $library
+gcc $loader -o "$room/rlibreg-run" "$room"/loader/*.o "$built/librlibreg.a"
+gcc $loader -o "$room/run-taken" -Wl,--wrap=mmap "$here/taken.c" "$room"/loader/*.o \
+    "$built/librlibreg.a"
 gcc $flags -o "$room/within" "$here/within.c"
 
 cd "$room"
@@ -41,7 +50,7 @@ cd "$room"
 want 'other names that the archive defines' '' \
     "$(nm -g --defined-only "$built/librlibreg.a" | awk 'NF == 3 && $3 !~ /^(rlibreg|rattle)_/')"
 "$room/calls" "$data/strong.so" "$data/protected.so" "$data/program-1.so" b
-gcc $flags -O1 -o "$room/calls" "$here/calls.c" $beside
+gcc $flags -O1 -o "$room/calls" "$here/calls.c" "$built/librlibreg.a"
 (ulimit -s 512 && "$room/calls" "$data/strong.so" "$data/protected.so" "$data/program-1.so" b)
 # alone NAME WORD..: a test in a folder of its own.
 alone() {
@@ -52,7 +61,7 @@ alone faults "$data/strong.so" "$data/protected.so" "$data/program-1.so" b "$dat
 alone opening "$data/strong.so" b
 alone making "$data/strong.so" b
 alone forked "$data/strong.so" "$data/program-1.so" b
-for part in cuts same held devices loader starting documents; do
+for part in cuts same held devices loader starting initializers documents; do
     (. "$here/$part.sh")
 done
 

@@ -129,7 +129,7 @@ done
 
 # Permissions.
 want 'a library with a segment that may be written and executed' \
-    'rlibreg-run: needs-both: a library has memory that may be written and executed, for which -x is needed
+    'rlibreg-run: libboth.so: it has memory that may be written and executed, for which -x is needed
 = 125' "$(ended ./rlibreg-run disk needs-both)"
 want 'the same with -x' '= 3' "$(ended ./rlibreg-run -x disk needs-both | tail -1)"
 found=$(ended ./within no-gain ./rlibreg-run disk words)
@@ -144,13 +144,15 @@ cp place a-program-of-a-long-name
 want 'the name' place "$(./rlibreg-run disk ./place | head -1)"
 want 'a long name' a-program-of-a- "$(./rlibreg-run disk a-program-of-a-long-name | head -1)"
 if command -v gdb > /dev/null && setarch -R true 2> lost; then
-    at=$("$rlibreg" bind disk chain 0x10000000000 | awk '/^object.*libtwo/ {print $2}')
-    gdb -batch -nx -ex 'set breakpoint pending on' -ex 'break begin' -ex run -ex 'print own_count' \
-        -ex "add-symbol-file libtwo.so -o $at" -ex 'break two' -ex continue \
-        --args "$built/rlibreg-run" disk chain > found 2>&1 < /dev/null || true
+    mkdir debugged
+    (cd debugged && gdb -batch -nx -ex 'set breakpoint pending on' -ex 'set solib-search-path ..' \
+        -ex 'break begin' -ex 'break two' -ex run -ex 'print own_count' -ex continue \
+        -ex 'print one_count' --args "$built/rlibreg-run" ../disk ../chain) \
+        > found 2>&1 < /dev/null || true
     want 'where gdb stops' 'Breakpoint 1, begin
 $1 = 5
-Breakpoint 2, two' "$(grep -oE '^Breakpoint [12], [a-z]+|^\$1 = .*' found)"
+Breakpoint 2, two
+$2 = 11' "$(grep -oE '^Breakpoint [12], [a-z]+|^\$[12] = .*' found)"
 else
     echo "starting: there is no gdb here, or it may not fix addresses ($(cat lost))"
 fi

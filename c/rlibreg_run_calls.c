@@ -1,0 +1,112 @@
+/* The initializers and finalizers of the libraries: found in their dynamic sections, before the
+ * program is started, and called. */
+#define _GNU_SOURCE
+#include "rlibreg_run.h"
+
+#include <stdio.h>
+#include <stdlib.h>
+#include <string.h>
+
+/* Addresses of functions, each in code of the object that names it. */
+struct calls {
+    uint64_t *at;
+    size_t count, room;
+};
+
+static struct calls initializers; /* in the order in which they are called */
+static struct calls finalizers;   /* in the opposite one */
+
+static void add(struct calls *calls, uint64_t address) {
+    if (calls->count == calls->room) {
+        calls->room = 2 * calls->room + 16;
+        calls->at = realloc(calls->at, calls->room * sizeof *calls->at);
+        if (!calls->at) fail("memory");
+    }
+    calls->at[calls->count++] = address;
+}
+
+/* ---- Finding them */
+
+/* An object with its dynamic section. */
+struct source {
+    const struct program *program;
+    const rlibreg_object *object;
+    struct dynamic dynamic;
+};
+
+static struct source source_of(const struct program *it, size_t number) {
+    const rlibreg_object *object = it->image.objects + number;
+    struct source source = { it, object, dynamic_of(&it->image, object) };
+    if (!source.dynamic.bytes)
+        give_up(REFUSED, name_of(it, object), "its dynamic section isn't in its memory");
+    return source;
+}
+
+static _Noreturn void refuse(const struct source *it, const char *tag, const char *why) {
+    char text[96];
+    snprintf(text, sizeof text, "%s %s", tag, why);
+    give_up(REFUSED, name_of(it->program, it->object), text);
+}
+
+static void add_code(struct calls *calls, const struct source *it, uint64_t address,
+                     const char *tag) {
+    if (!is_code(&it->program->image, it->object, address))
+        refuse(it, tag, "names a function that isn't in its own code");
+    add(calls, address);
+}
+
+static void add_function(struct calls *calls, const struct source *it, int64_t tag,
+                         const char *name) {
+    uint64_t value;
+    if (has_tag(&it->dynamic, tag, &value)) add_code(calls, it, it->object->base + value, name);
+}
+
+/* Adds the addresses of an array, which are relocated. */
+static void add_array(struct calls *calls, const struct source *it, int64_t tag, int64_t size_tag,
+                      const char *name) {
+    uint64_t value, size = 0, room = 0, address;
+    if (!has_tag(&it->dynamic, tag, &value)) return;
+    int is_sized = has_tag(&it->dynamic, size_tag, &size);
+    if (is_sized && !size) return;
+    const uint8_t *array =
+        memory_at(&it->program->image, it->object, it->object->base + value, &room);
+    if (!is_sized || !array || size > room) refuse(it, name, "isn't in its memory");
+    if (size % sizeof address) refuse(it, name, "has no whole number of addresses");
+    for (uint64_t at = 0; at < size; at += sizeof address) {
+        memcpy(&address, array + at, sizeof address);
+        add_code(calls, it, address, name);
+    }
+}
+
+void find_calls(const struct program *it) {
+    size_t *order = order_of_libraries(it);
+    struct source source = source_of(it, 0);
+    add_array(&initializers, &source, DT_PREINIT_ARRAY, DT_PREINIT_ARRAYSZ, "DT_PREINIT_ARRAY");
+    for (size_t i = 0; i + 1 < it->image.object_count; i++) {
+        source = source_of(it, order[i]);
+        add_function(&initializers, &source, DT_INIT, "DT_INIT");
+        add_array(&initializers, &source, DT_INIT_ARRAY, DT_INIT_ARRAYSZ, "DT_INIT_ARRAY");
+        add_function(&finalizers, &source, DT_FINI, "DT_FINI");
+        add_array(&finalizers, &source, DT_FINI_ARRAY, DT_FINI_ARRAYSZ, "DT_FINI_ARRAY");
+    }
+    free(order);
+}
+
+/* ---- Calling them */
+
+void call_initializers(int argc, char **argv, char **environment) {
+    typedef void initializer(int, char **, char **);
+    for (size_t i = 0; i < initializers.count; i++)
+        ((initializer *)initializers.at[i])(argc, argv, environment);
+    free(initializers.at);
+}
+
+/* The program calls this. Thread-local data are its own by then, so nothing of this process's C
+ * library may be used. Each finalizer is called once, even where one ends the program. */
+static void call_finalizers(void) {
+    while (finalizers.count) ((finalizer *)finalizers.at[--finalizers.count])();
+}
+
+finalizer *finalizers_of_all(void) {
+    return finalizers.count ? call_finalizers : NULL;
+}
