@@ -38,6 +38,9 @@ want 'an end that calls nothing' "before 3 ./stages$began" \
 want 'preloads' "before 3 ./stages$(printf ' %s' {c,b,a}-{first,early,late}) entered" \
     "$(./rlibreg-run disk ./stages two words)"
 ./tool preload disk > /dev/null
+gcc $checked -o damaged "$here/damaged.c" "$here"/../rlibreg_run_{objects,order,calls}.c \
+    "$built/librlibreg.a"
+./damaged disk stages
 
 # C++, and what initializers are given.
 cxx="g++ ${compile#gcc} -fno-exceptions -fno-rtti -fno-use-cxa-atexit"
