@@ -43,15 +43,19 @@ gcc $checked -o damaged "$here/damaged.c" "$here"/../rlibreg_run_{objects,order,
 ./damaged disk stages
 
 # C++, and what initializers are given.
-cxx="g++ ${compile#gcc} -fno-exceptions -fno-rtti -fno-use-cxa-atexit"
-$cxx -shared -Wl,-soname,libobjects.so -o libobjects.so "$programs/objects.cc"
-$compile -shared -Wl,-soname,libgiven.so,-z,relro -o libgiven.so "$programs/given.c"
-$compile -pie -Wl,-e,_start -o uses "$programs/uses.c" libobjects.so libgiven.so
-for name in objects given; do ./tool install disk lib$name.so > /dev/null; done
-want 'objects of C++' ' +one +two given 2 -two -one 0
+if command -v g++ > /dev/null; then
+    cxx="g++ ${compile#gcc} -fno-exceptions -fno-rtti -fno-use-cxa-atexit"
+    $cxx -shared -Wl,-soname,libobjects.so -o libobjects.so "$programs/objects.cc"
+    $compile -shared -Wl,-soname,libgiven.so,-z,relro -o libgiven.so "$programs/given.c"
+    $compile -pie -Wl,-e,_start -o uses "$programs/uses.c" libobjects.so libgiven.so
+    for name in objects given; do ./tool install disk lib$name.so > /dev/null; done
+    want 'objects of C++' ' +one +two given 2 -two -one 0
 = 0' "$(ended ./rlibreg-run disk ./uses)"
-want 'a library that writes what is fixed' ' +one +two given= 139' \
-    "$(ended ./rlibreg-run disk ./uses fixed)"
+    want 'a library that writes what is fixed' ' +one +two given= 139' \
+        "$(ended ./rlibreg-run disk ./uses fixed)"
+else
+    echo 'skipped: a library in C++, which needs g++'
+fi
 
 # number_at FILE OFFSET NUMBER: eight bytes, little endian.
 number_at() {
