@@ -2,5 +2,4 @@
 mod against_memory;
 mod failures;
 mod fake;
-mod making;
 mod system;

@@ -1,11 +1,9 @@
-// The spellings of root, catalogue and entry sectors, as they are written down.
+// The limits of root, catalogue and entry sectors.
 
-mod catalogue_roots;
 mod catalogue_sectors;
 mod entry_sectors;
 mod root_sectors;
 
-use roots::{Root, Slot, decode_root, encode_root};
 use sector_disk::SECTOR_BYTES;
 
 // A sector of zeros, but for these bytes, each row behind one another from its place on.
@@ -19,9 +17,4 @@ fn sector_of(rows: &[(usize, &[u8])]) -> [u8; SECTOR_BYTES] {
         }
     }
     sector
-}
-
-// Whether the sector is the one spelling of the root.
-fn is_spelt(root: &Root, sector: &[u8; SECTOR_BYTES]) -> bool {
-    root.has_spelling() && encode_root(root) == *sector && decode_root(sector) == Slot::Good(*root)
 }

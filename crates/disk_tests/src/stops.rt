@@ -161,7 +161,7 @@ fn fused_otherwise(alloc: Global) -> Option<(u64, bool, bool)> {
 
 #[test]
 fn a_fuse_fails_the_planned_calls(rt: HostRuntime) {
-    assert_eq!(rt; fused_otherwise(rt.alloc()), None);
+    assert!(rt; fused_otherwise(rt.alloc()) == None);
 }
 
 #[test]
@@ -182,7 +182,7 @@ fn a_liar_gives_its_answers_in_turn_and_keeps_nothing(rt: HostRuntime) -> Result
     let second = [read(&mut liar, 1), read(&mut liar, 1)];
     let written = write(&mut liar, 1, 7) && liar.sync().is_ok();
     let fifth = read(&mut liar, 1);
-    assert_eq!(rt; (first, second), ([Some(3), Some(1)], [Some(2), Some(3)]));
+    assert!(rt; (first, second) == ([Some(3), Some(1)], [Some(2), Some(3)]));
     assert!(rt; liar.sectors() == 2 && written && fifth == Some(1));
     Ok(())
 }

@@ -105,5 +105,5 @@ fn waiting_and_kept(alloc: Global) -> Option<[Option<u8>; 4]> {
 #[test]
 fn what_is_not_synced_is_lost_and_what_is_stays(rt: HostRuntime) {
     let wanted = [Some(9), Some(7), Some(7), Some(8)];
-    assert_eq!(rt; waiting_and_kept(rt.alloc()), Some(wanted));
+    assert!(rt; waiting_and_kept(rt.alloc()) == Some(wanted));
 }

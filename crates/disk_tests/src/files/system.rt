@@ -5,7 +5,6 @@ use file_disk::{DiskFile, FileDisk, Made, OpenFault};
 use sector_disk::Disk;
 use std::fs;
 use std::fs::File;
-use std::os::unix::fs::PermissionsExt;
 
 // What opening answers: how many sectors there are.
 fn sectors(rt: &HostRuntime, path: &str) -> Result<u32, OpenFault> {
@@ -54,54 +53,6 @@ fn is_file(rt: &HostRuntime, path: &str, length: usize, content: u8) -> bool {
         }
     }
     bytes.len() == length
-}
-
-// Makes a disk of eight sectors and writes two of them; then a third, which isn't synced. What
-// the last one holds at first and then.
-fn make_and_write(rt: &HostRuntime, path: &str) -> Result<[Option<u8>; 2], OpenFault> {
-    let mut disk = make(rt, path, 8)?;
-    let before = read(&mut disk, 7);
-    let written = write(&mut disk, 7, 17) && write(&mut disk, 6, 16);
-    let after = read(&mut disk, 7);
-    let synced = disk.sync().is_ok() && write(&mut disk, 5, 15);
-    Ok(if written && synced {
-        [before, after]
-    } else {
-        [None; 2]
-    })
-}
-
-// What the last three of the sectors hold, where the disk can be synced.
-fn last_three(rt: &HostRuntime, path: &str) -> Result<[Option<u8>; 3], OpenFault> {
-    let mut disk: FileDisk<DiskFile> = FileDisk::open(rt, rt.alloc(), path)?;
-    let contents = [read(&mut disk, 5), read(&mut disk, 6), read(&mut disk, 7)];
-    Ok(if disk.sync().is_ok() {
-        contents
-    } else {
-        [None; 3]
-    })
-}
-
-#[test]
-fn a_disk_is_made_written_and_opened_again(rt: HostRuntime) {
-    let folder = "file_disk_test";
-    let path = "file_disk_test/disk";
-    let begun = make_folder(&rt, folder);
-    let written = make_and_write(&rt, path);
-    let kept = last_three(&rt, path);
-
-    // What stands is left as it is.
-    let again = (made(&rt, path, 8), made(&rt, path, 16));
-    let left = last_three(&rt, path);
-
-    // A file that may not be written is read; so as root may write it, no more is asked of it.
-    let closed = fs::set_permissions(&rt, path, fs::Permissions::from_mode(0o444)).is_ok();
-    let opened = last_three(&rt, path);
-    let ended = fs::remove_dir_all(&rt, folder).is_ok();
-    assert!(rt; begun && closed && ended && written == Ok([Some(0), Some(17)]));
-    assert!(rt; again == (Ok(8), Err(OpenFault::BadLength)));
-    let synced = Ok([Some(0), Some(16), Some(17)]);
-    assert!(rt; kept == synced && left == synced && opened == synced);
 }
 
 // Makes a disk of eight sectors of which sector 1 holds fives: whether that succeeds.
@@ -221,5 +172,5 @@ fn other_files_and_lengths_are_refused(rt: HostRuntime) {
     let other = opened_otherwise(&rt);
     let length = measured_otherwise(&rt, "file_disk_test_refused/length");
     let ended = fs::remove_dir_all(&rt, "file_disk_test_refused").is_ok();
-    assert_eq!(rt; (begun && ended, other, length), (true, None, None));
+    assert!(rt; (begun && ended, other, length) == (true, None, None));
 }

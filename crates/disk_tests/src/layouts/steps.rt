@@ -156,5 +156,5 @@ fn are_many(times: &[u32; 10]) -> bool {
 fn a_layout_answers_as_the_plain_one(rt: HostRuntime) {
     let mut times = [0; 10];
     let wrong = answered_otherwise(rt.alloc(), &mut times);
-    assert_eq!(rt; (wrong, are_many(&times)), (None, true));
+    assert!(rt; (wrong, are_many(&times)) == (None, true));
 }
