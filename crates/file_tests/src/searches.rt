@@ -149,7 +149,7 @@ fn makes_keys_of_names(rt: HostRuntime) {
         0xf09c_bc5d_ba45_a70d,
         0xb19e_71bd_eaf6_6dda,
     ];
-    assert_eq!(rt; keys, expected);
+    assert!(rt; keys == expected);
 }
 
 /// What the library exports.
@@ -189,20 +189,7 @@ fn names_of_library(alloc: Global) -> Option<(bool, &'static [u8], &'static [u8]
 #[test]
 fn exported_names_have_their_keys(rt: HostRuntime) {
     let names = names_of_library(rt.alloc());
-    assert_eq!(rt; names, Some((true, b"g".as_slice(), b"".as_slice())));
-}
-
-/// Whether the one segment of the library has the whole file, by its number.
-fn is_loaded_whole() -> bool {
-    match Object::read(library()) {
-        Ok(object) => object.segment_count() == 1 && object.contents(0) == library(),
-        Err(_) => false,
-    }
-}
-
-#[test]
-fn a_segment_has_its_contents(rt: HostRuntime) {
-    assert!(rt; is_loaded_whole());
+    assert!(rt; names == Some((true, b"g".as_slice(), b"".as_slice())));
 }
 
 #[test]
@@ -215,5 +202,5 @@ fn finds_as_a_plain_search_does(rt: HostRuntime) {
         assert!(rt; outcome.agrees, "table {n}");
         admitted = u32::from(outcome.admitted).saturating_add(admitted);
     }
-    assert_eq!(rt; admitted, 180);
+    assert!(rt; admitted == 180);
 }

@@ -80,9 +80,8 @@ fn a_full_buffer_at_each_place_of_a_line(rt: HostRuntime) -> Result<(), Fail> {
     let filler = [b'-'; 65];
     for waiting in 0..65 {
         let seen = segment_behind(rt.alloc(), &filler[..waiting])?;
-        assert_eq!(rt;
-            seen,
-            (waiting + SEGMENT.len(), true, true),
+        assert!(rt;
+            seen == (waiting + SEGMENT.len(), true, true),
             "behind {waiting}"
         );
     }
@@ -105,7 +104,7 @@ fn a_line_goes_out_with_one_write(rt: HostRuntime) -> Result<(), Fail> {
     for &(length, writes) in &WRITES {
         let name = &name[..length.min(name.len())];
         let seen = (name.len(), writes_of_name(rt.alloc(), name, writes)?);
-        assert_eq!(rt; seen, (length, writes));
+        assert!(rt; seen == (length, writes));
     }
     Ok(())
 }
@@ -127,14 +126,11 @@ fn failing(alloc: Global, writes: usize) -> ([bool; 3], usize, usize) {
 fn a_writer_that_fails_gets_nothing_more(rt: HostRuntime) {
     let alloc = rt.alloc();
     for writes in 0..10 {
-        assert_eq!(rt;
-            failing(alloc, writes),
-            ([true; 3], 33 * writes, writes + 1)
-        );
+        assert!(rt; failing(alloc, writes) == ([true; 3], 33 * writes, writes + 1));
     }
     let mut out = writer_of(alloc, 0);
     let fails = write_name(&mut out, b"name").is_err();
-    assert_eq!(rt; (fails, out.calls), (true, 1));
+    assert!(rt; (fails, out.calls) == (true, 1));
 }
 
 #[test]
@@ -145,6 +141,6 @@ fn a_text_longer_than_the_buffer_goes_out_whole(rt: HostRuntime) -> Result<(), F
     let mut buffer = OutputBuffer::<64>::new();
     buffer.put(&mut out, &text)?;
     buffer.send(&mut out)?;
-    assert_eq!(rt; out.held.as_slice(), text.as_slice());
+    assert!(rt; out.held.as_slice() == text.as_slice());
     Ok(())
 }
