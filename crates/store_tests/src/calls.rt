@@ -11,7 +11,7 @@ use std::process::Abort;
 use store::{Store, StoreRefusal};
 
 /// A change of a store. Byte strings have the names of their numbers.
-#[derive(Clone, Copy, Debug, PartialEq)]
+#[derive(Clone, Copy)]
 pub(crate) enum Change {
     /// So many bytes of this value under a name that is there or isn't.
     Put(u32, u8, usize),
@@ -119,8 +119,7 @@ pub(crate) fn make_all<D: Disk>(
     changes: &[(Change, Option<StoreRefusal>)],
 ) {
     for (change, wanted) in changes {
-        let refusal = make(rt, store, *change);
-        assert_eq!(rt; (*change, refusal), (*change, *wanted));
+        assert!(rt; make(rt, store, *change) == *wanted);
     }
 }
 

@@ -1,5 +1,4 @@
-//! Tests of `store` through its public calls: what no clause says, on disks of both
-//! versions.
+//! Tests of `store` and `snapshots` through their public calls: what no clause says.
 #![tactic(auto)]
 
 #[cfg(test)]
@@ -11,8 +10,6 @@ mod faults;
 #[cfg(test)]
 mod holds;
 #[cfg(test)]
-mod liars;
-#[cfg(test)]
 mod reads;
 #[cfg(test)]
 mod sectors;
@@ -20,5 +17,3 @@ mod sectors;
 mod seen;
 #[cfg(test)]
 mod snapshot;
-#[cfg(test)]
-mod versions;

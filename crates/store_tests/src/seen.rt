@@ -1,10 +1,9 @@
 // What can be seen of a disk of either version.
-use sector_disk::{Disk, Memory};
-use std::process::Abort;
-use store::{Look, OldStore, Store, StoreRefusal};
+use sector_disk::Disk;
+use store::{Look, Store, StoreRefusal};
 
 /// What `look` answers: how many byte strings there are in which version.
-#[derive(Clone, Copy, Debug, PartialEq, Eq)]
+#[derive(Clone, Copy, PartialEq)]
 pub(crate) enum Seen {
     Current(usize),
     Old(usize),
@@ -25,18 +24,6 @@ pub(crate) fn look<D: Disk + Drop>(rt: &impl AllocGlobal, disk: D) -> Seen {
             seen
         }
         Err((refusal, _)) => Seen::Refused(refusal),
-    }
-}
-
-/// The store of version 1 that is seen on a disk.
-pub(crate) fn old_store(rt: &(impl Abort + AllocGlobal), disk: Memory) -> OldStore<Memory> {
-    match Store::look(rt.alloc(), disk) {
-        Ok(Look::Old(store)) => store,
-        Ok(Look::Current(store)) => {
-            let _ = store.into_disk();
-            panic!(rt; "it is of version 2")
-        }
-        Err(_) => panic!(rt; "it isn't seen"),
     }
 }
 
