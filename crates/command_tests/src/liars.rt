@@ -104,6 +104,6 @@ fn all_lie(alloc: Global, version: u8, rows: &[Row]) -> Option<bool> {
 
 #[test]
 fn a_liar_is_refused_or_answers_a_script(rt: HostRuntime) {
-    assert_eq!(rt; all_lie(rt.alloc(), 1, &OLD_ROWS), Some(true));
-    assert_eq!(rt; all_lie(rt.alloc(), 2, &ROWS), Some(true));
+    assert!(rt; all_lie(rt.alloc(), 1, &OLD_ROWS) == Some(true));
+    assert!(rt; all_lie(rt.alloc(), 2, &ROWS) == Some(true));
 }

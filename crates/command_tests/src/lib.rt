@@ -7,8 +7,6 @@ mod every_line;
 #[cfg(test)]
 mod harms;
 #[cfg(test)]
-mod images;
-#[cfg(test)]
 mod liars;
 #[cfg(test)]
 mod lines;

@@ -45,7 +45,7 @@ const NAMELESS: [(BindRefusal, usize); 6] = [
 #[test]
 fn a_line_without_names_is_one_write(rt: HostRuntime) {
     for (refusal, length) in &NAMELESS {
-        assert_eq!(rt; calls_of(refusal), Some((1, *length)));
+        assert!(rt; calls_of(refusal) == Some((1, *length)));
     }
 }
 
@@ -58,7 +58,7 @@ fn a_line_with_names_is_one_write(rt: HostRuntime) -> Result<(), Fail> {
     let undefined = calls_of(&BindRefusal::undefined(alloc, &name, &[0xff; 240]));
     // A byte that isn't visible has four in the text.
     let wanted = [Some((1, 269)), Some((1, 983)), Some((1, 1223))];
-    assert_eq!(rt; [long, zeros, undefined], wanted);
+    assert!(rt; [long, zeros, undefined] == wanted);
     Ok(())
 }
 
@@ -67,7 +67,7 @@ fn the_refusal_of_a_file_is_one_write(rt: HostRuntime) {
     let refusal = FileRefusal::Object(ObjectRefusal::RelocationType(7));
     let mut out = Full::with_room(40);
     let is_written = write_file_refusal(&mut out, refusal).is_ok();
-    assert_eq!(rt; (is_written, out.calls, out.room), (true, 1, 20));
+    assert!(rt; (is_written, out.calls, out.room) == (true, 1, 20));
 }
 
 /// The text of a refusal.
@@ -75,27 +75,6 @@ fn text_of(alloc: Global, refusal: &BindRefusal) -> Vec<u8> {
     let mut text = Vec::new(alloc);
     let _ = write_refusal(&mut text, refusal);
     text
-}
-
-#[test]
-fn a_name_is_spelt(rt: HostRuntime) -> Result<(), Fail> {
-    let alloc = rt.alloc();
-    let blank = text_of(alloc, &missing(alloc, b"/program", b"a b")?);
-    assert_eq!(rt;
-        blank.as_slice(),
-        b"refused B3 Missing /program a\\x20b\n".as_slice()
-    );
-    let empty = text_of(alloc, &missing(alloc, b"", b"\\")?);
-    assert_eq!(rt;
-        empty.as_slice(),
-        b"refused B3 Missing \\e \\x5c\n".as_slice()
-    );
-    let plain = text_of(alloc, &BindRefusal::undefined(alloc, b"liba.so", b"f"));
-    assert_eq!(rt;
-        plain.as_slice(),
-        b"refused B5 Undefined liba.so f\n".as_slice()
-    );
-    Ok(())
 }
 
 // A name that is longer than any buffer.
@@ -107,6 +86,6 @@ fn a_name_of_100000_bytes_is_spelt(rt: HostRuntime) -> Result<(), Fail> {
     let is_spelt = text.starts_with(front)
         && text.ends_with(b"x\n")
         && text.iter().filter(|byte| **byte == b'x').count() == 100_000;
-    assert_eq!(rt; (is_spelt, text.len()), (true, front.len() + 100_001));
+    assert!(rt; (is_spelt, text.len()) == (true, front.len() + 100_001));
     Ok(())
 }

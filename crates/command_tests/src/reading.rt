@@ -46,6 +46,6 @@ fn length_read(alloc: Global, turns: &[Turn], limit: usize) -> Result<usize, Fil
 #[test]
 fn reads_end_or_fail(rt: HostRuntime) {
     for &(turns, limit, wanted) in &ROWS {
-        assert_eq!(rt; length_read(rt.alloc(), turns, limit), wanted);
+        assert!(rt; length_read(rt.alloc(), turns, limit) == wanted);
     }
 }

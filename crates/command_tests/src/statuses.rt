@@ -48,7 +48,7 @@ fn a_message_is_one_write_that_changes_no_status(rt: HostRuntime) {
         (&[], (24, 100), (4, 0, 0, 100)),
         (&[], (23, 100), (3, 23, 0, 100)),
     ] {
-        assert_eq!(rt; told(&rt, words, rooms), wanted);
+        assert!(rt; told(&rt, words, rooms) == wanted);
     }
 }
 
@@ -107,7 +107,7 @@ fn input_that_fails_is_status_3_or_4(rt: HostRuntime) -> Result<(), Fail> {
         (&[Turn::Fails(ErrorKind::Other)], 3),
         (&[Turn::Fails(ErrorKind::OutOfMemory)], 4),
     ] {
-        assert_eq!(rt; script_status(&rt, "input.disk", turns), status);
+        assert!(rt; script_status(&rt, "input.disk", turns) == status);
     }
     fs::remove_file(&rt, "input.disk")?;
     Ok(())
