@@ -1,0 +1,19 @@
+-- What bytes hold, whatever their files are (own).
+use Rattle.std.specs.Prelude.{◌≡◌, ◌⊎◌, ℕ, List, length}
+use Rattle.byte_disk.specs.Bytes.{IsDiskLength, sectors_in}
+use Rattle.states.specs.State.{State}
+use Rattle.store.specs.Opening.{RefusesOpen}
+use Rattle.store.specs.Stands.{Stands}
+use Rattle.store.specs.declared.refusal.StoreRefusal.{StoreRefusal}
+use Rattle.store.specs.declared.refusal.StoreRefusal.TheVariants.{BadGeometry}
+
+-- The bytes are those of a disk: whole sectors, and these hold the state.
+pub record HoldStore (bytes : List ℕ) (s : State) : Type 0 where
+  pub size : IsDiskLength (length bytes)
+  pub stands : Stands (sectors_in bytes) s
+
+-- Why nothing is opened: the bytes aren't whole sectors, or the store refuses these.
+abbrev pub IsUnopened : List ℕ → StoreRefusal → Type 0
+IsUnopened bytes refusal =
+    ((refusal ≡ BadGeometry) × (IsDiskLength (length bytes) → ⊥))
+    ⊎ (IsDiskLength (length bytes) × RefusesOpen Stands (sectors_in bytes) refusal)

@@ -1,0 +1,77 @@
+// What is told of that disk.
+use crate::disk::disk;
+use contents::{Contents, Finding, Info, Unread};
+use elf_dynamic::ObjectRefusal;
+use hash_check::FileRefusal;
+use roots::Version;
+use samples::library;
+use sector_disk::Memory;
+use std::process::Abort;
+use store::FreeSpace;
+
+fn opened(rt: &(impl Abort + AllocGlobal)) -> Contents<Memory> {
+    match Contents::open(rt.alloc(), disk(rt)) {
+        Ok(contents) => contents,
+        Err(_) => panic!(rt; "open refused"),
+    }
+}
+
+// Of 64 sectors two are the roots', nine have bytes and entries, one has the catalogue. Of the
+// others an install takes three beside the bytes: an entry, a catalogue, and one for the next.
+const INFO: Info = Info {
+    version: Version::Two,
+    sectors: 64,
+    generation: 5,
+    libraries: 4,
+    preloads: 1,
+    free: FreeSpace {
+        sectors: 52,
+        runs: 2,
+        largest: 512 * 50,
+    },
+};
+
+// What is found of each.
+const FINDINGS: [Finding; 4] = [
+    Finding::Sound,
+    Finding::Refused(FileRefusal::Object(ObjectRefusal::BadMagic)),
+    Finding::OtherName,
+    Finding::Sound,
+];
+
+#[test]
+fn the_whole_is_told(rt: HostRuntime) {
+    let contents = opened(&rt);
+    let info = contents.info();
+    let _ = contents.into_disk();
+    assert!(rt; info == INFO);
+}
+
+#[test]
+fn each_library_is_looked_at(rt: HostRuntime) {
+    let mut contents = opened(&rt);
+    let findings = contents.check(rt.alloc());
+    let _ = contents.into_disk();
+    let are_these = match findings {
+        Ok(findings) => findings.as_slice() == FINDINGS.as_slice(),
+        Err(_) => false,
+    };
+    assert!(rt; are_these);
+}
+
+#[test]
+fn bytes_are_given_by_name(rt: HostRuntime) {
+    let mut contents = opened(&rt);
+    let file = contents.file(rt.alloc(), b"e");
+    let other = contents.file(rt.alloc(), b"d");
+    let _ = contents.into_disk();
+    let is_its = match file {
+        Ok(bytes) => bytes.as_slice() == library(b'e', 2).as_slice(),
+        Err(_) => false,
+    };
+    let is_none = match other {
+        Ok(_) => false,
+        Err(refusal) => refusal == Unread::NotInstalled,
+    };
+    assert!(rt; is_its && is_none);
+}
