@@ -58,14 +58,14 @@ refused_not_done why text answer status zero (inr wants) = omega (arith, zero, w
 
 -- where steps were given the buffer has them
 pub planned_done : (steps : List Step) (plan text : List ℕ) (answer : Answer) (status : ℕ) → status ≡ 0 → IsPlanned steps plan text answer status → HasPlan steps plan answer.bytes answer.count
-planned_done steps plan text answer status zero (inl given, unlisted) = given.0
-planned_done steps plan text answer status zero (inr lacks, unlisted) = absurd (omega (arith, zero, lacks.0.status))
+planned_done steps plan text answer status zero (inl given, unlisted, unbound) = given.0
+planned_done steps plan text answer status zero (inr lacks, unlisted, unbound) = absurd (omega (arith, zero, lacks.0.status))
 
 -- where it isn't said that they were, nor that there was no room or no memory, no steps were given
 pub planned_left : (steps : List Step) (plan text old : List ℕ) (answer : Answer) (status : ℕ) → IsPlanned steps plan text answer status → IsLeft old plan status
-planned_left steps plan text old answer status (inl (has, inl tells), unlisted) not_done no_room no_memory = absurd (not_done tells.status)
-planned_left steps plan text old answer status (inl (has, inr wants), unlisted) not_done no_room no_memory = absurd (no_memory wants.status)
-planned_left steps plan text old answer status (inr lacks, unlisted) not_done no_room no_memory = absurd (no_room lacks.0.status)
+planned_left steps plan text old answer status (inl (has, inl tells), unlisted, unbound) not_done no_room no_memory = absurd (not_done tells.status)
+planned_left steps plan text old answer status (inl (has, inr wants), unlisted, unbound) not_done no_room no_memory = absurd (no_memory wants.status)
+planned_left steps plan text old answer status (inr lacks, unlisted, unbound) not_done no_room no_memory = absurd (no_room lacks.0.status)
 
 -- A change whose status is 0 has its plan, where its request is one of a change.
 module _ (bytes : List ℕ) (request : Request) (not_listing : (s : State) (l : Listed) → registry.IsReply s request (reply.Listing l) → ⊥) (not_bound : (s : State) (image : MemoryImage) → registry.IsReply s request (reply.Bound image) → ⊥) (plan text : List ℕ) (answer : Answer) (status : ℕ) (zero : status ≡ 0) where
