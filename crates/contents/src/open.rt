@@ -5,8 +5,8 @@ use std::alloc::Global;
 use store::{Store, StoreRefusal};
 
 impl<D: Disk> Contents<D> {
-    ghost use Rattle.std.specs.Prelude.{◌≡◌, ◌+◌, ◌<◌, ◌⊎◌, IsTrue, IfOk, IfErr, MatchResult};
-    ghost use Rattle.std.specs.Prelude.{length};
+    ghost use Rattle.std.specs.Prelude.{◌≡◌, ◌+◌, ◌<◌, ◌⊎◌, [], IsTrue, IsFalse, IfOk, IfErr};
+    ghost use Rattle.std.specs.Prelude.{MatchResult, length};
     ghost use Rattle.sector_disk.specs.Disk.{Mixture, LeavesOnly, MayAddSync};
     ghost use Rattle.sector_disk.specs.Disk.{AreCallsExactly, AreCallsAtMost};
     ghost use Rattle.roots.specs.Limits.{most_catalogues};
@@ -42,15 +42,22 @@ impl<D: Disk> Contents<D> {
             → IfErr result (λ e. RefusesOpen Stands (D.facts disk).now e.0) }
 
         // On any disk
+        ensures unheld { IfOk result (λ contents. contents.held ≡ []) }
+        ensures usable { IfOk result (λ contents. IsFalse contents.failed) }
         ensures geometry { IfOk result (λ _. IsGeometry (D.facts disk).sectors) }
         ensures refusals { IfErr result (λ e. IsRefusalOfOpen (D.facts disk).sectors e.0) }
         ensures device { IfErr result (λ e. e.0 ≡ StoreRefusal.Device
             → (D.facts disk).failures < (D.facts e.1).failures) }
+        ensures untouched { IfErr result (λ e. e.0 ≡ StoreRefusal.BadGeometry → e.1 ≡ disk) }
         ensures calls { AreCallsAtMost (3 + most_catalogues + most_libraries)
             (D.facts disk) (D.facts (disk_after result)) }
         ensures all_calls { IfOk result (λ contents.
             AreCallsExactly (3 + length (catalogues_of contents.root) + length contents.entries)
             (D.facts disk) (D.facts contents.disk)) }
+
+        // A root of version 1 is all that is read of its disk.
+        ensures old_calls { IfErr result (λ e. e.0 ≡ StoreRefusal.OldFormat
+            → AreCallsExactly 3 (D.facts disk) (D.facts e.1)) }
     {
         match Store::open(alloc, disk) {
             Ok(store) => Ok(Contents { store }),
