@@ -1,5 +1,5 @@
 // The contents of a disk of given bytes.
-ghost use Rattle.std.specs.Prelude.{◌≡◌, ◌⊎◌, IfOk, IfErr, MatchResult, length};
+ghost use Rattle.std.specs.Prelude.{◌≡◌, ◌⊎◌, [], IfOk, IfErr, MatchResult, length};
 ghost use Rattle.byte_disk.specs.Bytes.{sectors_in};
 ghost use Rattle.byte_disk.specs.ByteDisk.{byte_facts};
 ghost use Rattle.states.specs.State.{State};
@@ -26,6 +26,9 @@ pub fn contents_of<'a>(
         (λ e. (e ≡ Device) ⊎ (e ≡ OutOfMemory)) }
     ensures sectors { IfOk result (λ contents.
         (byte_facts contents.disk).sectors ≡ length (sectors_in disk.now)) }
+    ensures now { IfOk result (λ contents.
+        (byte_facts contents.disk).now ≡ sectors_in disk.now) }
+    ensures unheld { IfOk result (λ contents. contents.held ≡ []) }
     ensures err { IfErr result (IsUnopened disk.now) }
 {
     let Some(disk) = ByteDisk::over(alloc, disk) else {

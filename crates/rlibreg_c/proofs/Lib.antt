@@ -1,3 +1,4 @@
+mod Contents
 mod Entries
 mod Given
 mod Names

@@ -1,4 +1,5 @@
 pub mod Answers
+pub mod Contents
 pub mod Layout
 pub mod Listing
 pub mod Names

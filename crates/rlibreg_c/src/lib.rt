@@ -9,7 +9,9 @@ mod answer;
 mod bind;
 mod change;
 mod entry;
+mod file;
 mod format;
+mod information;
 mod layout;
 mod list;
 mod listing;
@@ -24,5 +26,6 @@ mod upgrade;
 
 pub use answer::Answer;
 pub use entry::EntryPlace;
+pub use information::Information;
 pub use object::ObjectPlace;
 pub use place::SegmentPlace;

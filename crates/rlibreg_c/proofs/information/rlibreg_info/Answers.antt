@@ -1,0 +1,7 @@
+use Rattle.rlibreg_c.proofs.Contents.{info_given}
+use Rattle.rlibreg_c.proofs.information.rlibreg_info.Goals as goal
+
+pub returns-clause-info : goal.returns-clause-info
+returns-clause-info c zero =
+    let on = c.info_on in
+    info_given c.args.disk.now on.new.information on.new.text on.result on.result.status zero on.ensures.answered
