@@ -78,8 +78,7 @@ information_of info =
       largest = info.free.largest;
     }
 
--- It is told of the state that the bytes hold, and of the sectors that are free in them: `largest`
--- is the greatest length of a file that the step table takes under a new name.
+-- It is told of the state that the bytes hold, and of what is free in them, by the step table.
 pub record IsInfoOf (disk : List ℕ) (information : Information) : Type 0 where
   pub state : State
   pub holds : HoldStore disk state
