@@ -48,8 +48,8 @@ IsFileTold s name bytes text answer status =
     ((file : List ℕ) × HasFile s name file × IsFileGiven file bytes answer status)
     ⊎ ((why : Unread) × IsUnread s name why × IsToldAlone (Refused (refusal_of why)) text answer status)
 
--- A library's file of the state that the bytes hold was asked for, and is given, or it is told why not;
--- or there is no registry, and it is told why.
+-- a library's file of the state that the bytes hold is given, or it is told why not; or there is no
+-- registry, and it is told why
 abbrev pub IsFileAnswered : (disk name bytes text : List ℕ) → Answer → ℕ → Type 0
 IsFileAnswered disk name bytes text answer status =
     ((s : State) × HoldStore disk s × IsFileTold s name bytes text answer status)
