@@ -179,7 +179,8 @@ CRATES = [
     ('states', 'States'), ('roots', 'Root, catalogue and entry sectors'), ('passes', 'Passes over a disk'), ('store', 'Named byte strings'),
     ('snapshots', 'Snapshots'), ('contents', 'What a disk has'), ('registry', 'The registry on a disk'),
     ('binders', 'Binders in slots'), ('byte_disk', 'A disk over given bytes'),
-    ('byte_contents', 'What a disk of given bytes has'), ('byte_registry', 'A registry on given bytes'), ('rlibreg_c', 'The calls for C'), ('commands', 'The program')]
+    ('byte_contents', 'What a disk of given bytes has'), ('byte_registry', 'A registry on given bytes'), ('rlibreg_c', 'The calls for C'), ('commands', 'The program'),
+    ('program_parts', 'What programs share'), ('tool_commands', 'The second program')]
 HEAD = """# Definitions
 
 For who reads a clause: all definitions but the main ones, which [PROOFS](PROOFS.md) has in the order of a reading. `bench/documents.py` makes this page from the comments in `specs/`.

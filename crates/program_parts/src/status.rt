@@ -1,0 +1,41 @@
+// How a run of a program ends.
+
+ghost use Rattle.std.specs.Prelude.{◌≡◌};
+ghost use Rattle.program_parts.specs.Status.{status_number, disk_status};
+
+use store::StoreRefusal;
+
+/// The exit status of a program.
+#[derive(Clone, Copy, Debug, PartialEq, Eq)]
+pub enum Status {
+    /// Done.
+    Done = 0,
+    /// What was asked was refused.
+    Refused = 1,
+    /// The words are none of the program's forms.
+    BadWords = 2,
+    /// The disk, a file or a standard stream failed.
+    Failed = 3,
+    /// Memory was refused.
+    NoMemory = 4,
+}
+
+impl Status {
+    /// The number that the process exits with.
+    pub fn number(self) -> u8
+        ensures { result ≡ status_number self }
+    {
+        self as u8
+    }
+
+    /// What a disk ends with that is refused so.
+    pub fn of_disk(refusal: StoreRefusal) -> Status
+        ensures { result ≡ disk_status refusal }
+    {
+        match refusal {
+            StoreRefusal::Device | StoreRefusal::Reopen => Status::Failed,
+            StoreRefusal::OutOfMemory => Status::NoMemory,
+            _ => Status::Refused,
+        }
+    }
+}

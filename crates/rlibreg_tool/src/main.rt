@@ -1,0 +1,20 @@
+//! The program `rlibreg-tool`: tells what the disk of a registry has, gives a library's bytes and
+//! the script that makes the registry anew, and reads no more of the disk than that takes.
+#![tactic(auto)]
+
+use program_parts::{StandardStreams, read_arguments};
+use std::process::ExitCode;
+use tool_commands::{cannot_hold, run_arguments};
+
+fn main(rt: HostRuntime) -> ExitCode {
+    let mut output = rt.stdout();
+    let mut errors = rt.stderr();
+    let streams = match StandardStreams::hold(&rt) {
+        Ok(streams) => streams,
+        Err(_) => return ExitCode::from(cannot_hold(&mut errors)),
+    };
+    let words = read_arguments(&rt);
+    let status = run_arguments(&rt, rt.alloc(), words, &mut output, &mut errors);
+    streams.release();
+    ExitCode::from(status)
+}

@@ -1,0 +1,41 @@
+-- Lines of a script, one behind the other.
+use Rattle.std.proofs.Common.{◌≡◌, ℕ, ◌+◌, ◌/◌, ◌%◌, ◌<◌, ◌==◌, false, List, codes, [], ◌∷◌, ◌++◌, get_or, take, length, slice_index, refl, sym, ap, ◌∙◌, append-nil}
+use Rattle.std.proofs.lemmas.Bool.{false≢true}
+use Rattle.std.proofs.lemmas.Grind.{flat_map-append}
+use Rattle.std.proofs.lemmas.List.{take_more}
+use Rattle.std.specs.List.{flat_map}
+use Rattle.hex.specs.Hex.{encode_with}
+use Rattle.states.specs.State.{Library}
+use Rattle.store.specs.Stands.{no_library, names_at}
+use Rattle.tool_commands.specs.Dump.{behind_space, preload_text}
+
+-- the digits of bytes behind others
+pub encode-append : (t xs ys : List ℕ) → encode_with t (xs ++ ys) ≡ encode_with t xs ++ encode_with t ys
+unfolding encode_with
+encode-append t [] ys = refl
+encode-append t (x ∷ xs) ys = ap (λ (r : List ℕ). slice_index t (x / 16) ∷ slice_index t (x % 16) ∷ r) (encode-append t xs ys)
+
+-- no digits
+pub encode-nil : (t : List ℕ) → [] ≡ encode_with t []
+unfolding encode_with
+encode-nil t = refl
+
+-- the text of one element more
+pub text-more : {T : Type 0} (f : T → List ℕ) (xs : List T) (i : ℕ) (d : T) → i < length xs → flat_map f (take (i + 1) xs) ≡ flat_map f (take i xs) ++ f (get_or xs i d)
+text-more f xs i d h =
+    ap (flat_map f) (take_more xs i d h) ∙ flat_map-append f (take i xs) (get_or xs i d ∷ []) ∙ ap (λ l. flat_map f (take i xs) ++ l) (append-nil (f (get_or xs i d)))
+
+-- the name at a position, behind a space
+abbrev pub spaced : List Library → ℕ → List ℕ
+spaced libraries i = behind_space (get_or libraries i no_library).name
+
+-- the names at positions
+pub all-spaced : (libraries : List Library) (positions : List ℕ) → flat_map (spaced libraries) positions ≡ flat_map behind_space (names_at libraries positions)
+all-spaced libraries [] = refl
+all-spaced libraries (p ∷ ps) = ap (λ l. spaced libraries p ++ l) (all-spaced libraries ps)
+
+-- the line of some preloads
+pub preload-line : (libraries : List Library) (positions : List ℕ) → (length positions == 0) ≡ false
+    → codes "preload" ++ flat_map behind_space (names_at libraries positions) ++ codes "\n" ≡ preload_text (names_at libraries positions)
+preload-line libraries [] h = absurd (false≢true (sym h))
+preload-line libraries (p ∷ ps) h = refl

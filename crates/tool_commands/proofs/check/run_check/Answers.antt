@@ -1,0 +1,17 @@
+use Rattle.std.proofs.Common.{inl, ◌∙◌, sym, subst}
+use Rattle.roots.specs.declared.version.Version.TheVariants.{Two}
+use Rattle.store.specs.Opened.{IsAt}
+use Rattle.store.proofs.Queries.{count_is}
+use Rattle.tool_commands.specs.Check.{check_status, check_text}
+use Rattle.tool_commands.specs.Ends.{IsTold}
+use Rattle.tool_commands.proofs.check.run_check.Goals as goal
+
+pub returns-in-Ok-clause-ends : goal.returns-in-Ok-clause-ends
+returns-in-Ok-clause-ends g c s at =
+    let here = subst (λ store. IsAt g.D.Disk.facts store s) (sym c.store.ensures) (c.check.ensures.read.same s at) in
+    inl (
+      c.in-Ok.findings.items,
+      record { all = c.in-Ok.ensures.all ∙ count_is g.D.Disk.facts Two c.args.contents.now s (g.met.D.Disk.holds_now _) at; each = c.in-Ok.ensures.findings s at },
+      subst (λ l. IsTold (check_status l) (check_text s.libraries l) (g.O.Write.contents c.args.output.now) (g.O.Write.contents c.tell_findings.new.output) c.tell_findings.result)
+          c.deref.ensures.value (c.tell_findings.ensures s here),
+    )

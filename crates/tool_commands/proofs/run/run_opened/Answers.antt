@@ -1,0 +1,25 @@
+use Rattle.std.proofs.Common.{sym, subst}
+use Rattle.store.proofs.IsReadLemmas.{read_none}
+use Rattle.tool_commands.specs.Ends.{FileEnds, FormEnds}
+use Rattle.tool_commands.specs.Form.{question_of}
+use Rattle.tool_commands.proofs.run.run_opened.Goals as goal
+
+pub returns-in-Info-clause-read : goal.returns-in-Info-clause-read
+returns-in-Info-clause-read g c = read_none c.args.contents.now
+
+pub returns-in-Info-clause-ends : goal.returns-in-Info-clause-ends
+returns-in-Info-clause-ends g c s at =
+    subst (λ f. FormEnds g.D.Disk.facts c.args.contents.now s (question_of f) (g.O.Write.contents c.args.output.now) (g.O.Write.contents c.run_info.new.output) c.run_info.result)
+    (sym c.in-Info.is) (c.run_info.ensures.ends s at)
+
+pub returns-in-Check-clause-ends : goal.returns-in-Check-clause-ends
+returns-in-Check-clause-ends g c s at =
+    subst (λ f. FormEnds g.D.Disk.facts c.args.contents.now s (question_of f) (g.O.Write.contents c.args.output.now) (g.O.Write.contents c.run_check.new.output) c.run_check.result)
+    (sym c.in-Check.is) (c.run_check.ensures.ends s at)
+
+pub returns-in-File-clause-ends : goal.returns-in-File-clause-ends
+returns-in-File-clause-ends g c s at =
+    let before = g.O.Write.contents c.args.output.now in
+    let after = g.O.Write.contents c.run_file.new.output in
+    let named = subst (λ n. FileEnds s n before after c.run_file.result) c.as_bytes.ensures.value (c.run_file.ensures.ends s at) in
+    subst (λ f. FormEnds g.D.Disk.facts c.args.contents.now s (question_of f) before after c.run_file.result) (sym c.in-File.is) named

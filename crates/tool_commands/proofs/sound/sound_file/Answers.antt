@@ -1,0 +1,25 @@
+use Rattle.std.proofs.Common.{◌≡◌, ℕ, List, get_or, sym, subst, ◌∙◌}
+use Rattle.store.specs.Opened.{IsAt}
+use Rattle.store.specs.Stands.{no_library}
+use Rattle.contents.specs.File.{HasFile}
+use Rattle.tool_commands.proofs.Named.{is_given, is_lacking}
+use Rattle.tool_commands.proofs.sound.sound_file.Goals as goal
+
+pub returns-in-Ok-clause-ok : goal.returns-in-Ok-clause-ok
+returns-in-Ok-clause-ok g c s at lt =
+    let here = subst (λ store. IsAt g.D.Disk.facts store s) (sym c.store.ensures) at in
+    let named = c.as_bytes.ensures ∙ c.in_ok-name.ensures ∙ c.name.ensures.state s here in
+    let again = c.as_bytes.ensures ∙ sym c.as_bytes-in-Ok.ensures in
+    let only = subst (λ n. (other : List ℕ) → HasFile s n other → other ≡ c.in-Ok.file.items) again (c.in-Ok.ensures.only s at) in
+    is_given s c.args.position c.as_bytes-in-Ok.result.now c.in-Ok.file.items lt (sym again ∙ named) only c.tested.result c.tested.ensures.ok
+
+pub returns-in-Ok-clause-err : goal.returns-in-Ok-clause-err
+returns-in-Ok-clause-err g c s at lt =
+    let here = subst (λ store. IsAt g.D.Disk.facts store s) (sym c.store.ensures) at in
+    let named = c.as_bytes.ensures ∙ c.in_ok-name.ensures ∙ c.name.ensures.state s here in
+    let again = c.as_bytes.ensures ∙ sym c.as_bytes-in-Ok.ensures in
+    let only = subst (λ n. (other : List ℕ) → HasFile s n other → other ≡ c.in-Ok.file.items) again (c.in-Ok.ensures.only s at) in
+    is_lacking s c.args.position c.as_bytes-in-Ok.result.now c.in-Ok.file.items lt (sym again ∙ named) only c.tested.result c.tested.ensures.err
+
+pub returns-clause-err : goal.returns-clause-err
+returns-clause-err g c s at lt = c.in-Err.ensures.err (get_or s.libraries c.args.position no_library)

@@ -1,0 +1,40 @@
+-- The script that makes a registry anew (own).
+use Rattle.std.specs.Prelude.{ℕ, List, [], ◌∷◌, ◌++◌, take, codes}
+use Rattle.std.specs.List.{flat_map}
+use Rattle.hex.specs.Hex.{encode_lower}
+use Rattle.states.specs.State.{Library, State}
+use Rattle.contents.specs.declared.finding.Finding.{Finding}
+use Rattle.contents.specs.declared.finding.Finding.TheVariants.{Sound, Unreadable}
+use Rattle.program_parts.specs.declared.status.Status.{Status}
+use Rattle.program_parts.specs.declared.status.Status.TheVariants as status
+
+-- the line that installs a file of these bytes
+abbrev pub install_line : List ℕ → List ℕ
+install_line bytes = codes "install " ++ encode_lower bytes ++ codes "\n"
+
+-- the line that installs a library
+abbrev pub install_text : Library → List ℕ
+install_text l = install_line l.bytes
+
+-- a name behind a space
+abbrev pub behind_space : List ℕ → List ℕ
+behind_space name = codes " " ++ name
+
+-- the line that sets the preloads, where there are any
+abbrev pub preload_text : List (List ℕ) → List ℕ
+preload_text [] = []
+preload_text (name ∷ names) = codes "preload" ++ flat_map behind_space (name ∷ names) ++ codes "\n"
+
+-- the script: the libraries in their order, and then the preloads
+abbrev pub dump_text : State → List ℕ
+dump_text s = flat_map install_text s.libraries ++ preload_text s.preloads
+
+-- the script of the first k libraries, cut: its last line has no newline
+abbrev pub cut_text : State → ℕ → List ℕ
+cut_text s k = flat_map install_text (take k s.libraries) ++ codes "cut"
+
+-- what a script ends with that is cut at a library of which this was found
+abbrev pub cut_status : Finding → Status
+cut_status Sound = status.Done
+cut_status Unreadable = status.Failed
+cut_status finding = status.Refused

@@ -1,0 +1,56 @@
+-- Why a library isn't given.
+use Rattle.std.specs.Prelude.{◌≢◌, ℕ, ◌<◌, List, All, Option, Some, None, codes, length, slice_index_or, take}
+use Rattle.std.specs.List.{flat_map}
+use Rattle.requests.specs.Library.{IsLibrary}
+use Rattle.states.specs.State.{Library, State}
+use Rattle.store.specs.Stands.{no_library}
+use Rattle.store.specs.declared.refusal.StoreRefusal.TheVariants as store
+use Rattle.contents.specs.Finding.{IsFinding}
+use Rattle.contents.specs.declared.finding.Finding.TheVariants.{Sound}
+use Rattle.program_parts.specs.declared.status.Status.{Status}
+use Rattle.program_parts.specs.declared.status.Status.TheVariants.{Done, NoMemory}
+use Rattle.tool_commands.specs.Check.{finding_text}
+use Rattle.tool_commands.specs.Dump.{cut_status, install_text, preload_text}
+use Rattle.tool_commands.specs.Said.{said_line, refusal_line}
+use Rattle.tool_commands.specs.declared.dump.Cut.{Cut}
+use Rattle.tool_commands.specs.declared.sound.Lack.{Lack}
+use Rattle.tool_commands.specs.declared.sound.Lack.TheVariants.{Found, OutOfMemory}
+
+-- it can't be read, or isn't a library of its name; or memory was refused
+abbrev pub IsLack : Library → Lack → Type 0
+IsLack l (Found finding) = IsFinding l finding × (finding ≢ Sound)
+IsLack l OutOfMemory = Unit {0}
+
+-- the library at a position isn't given, and why
+abbrev pub IsCut : State → ℕ → Lack → Type 0
+IsCut s k lack = (k < length s.libraries) × IsLack (slice_index_or s.libraries k no_library) lack
+
+-- what a script ends with that is cut so
+abbrev pub lack_status : Lack → Status
+lack_status (Found finding) = cut_status finding
+lack_status OutOfMemory = NoMemory
+
+-- what is said of it
+abbrev pub lack_line : Library → Lack → List ℕ
+lack_line l (Found finding) = said_line (finding_text l finding)
+lack_line l OutOfMemory = refusal_line store.OutOfMemory
+
+-- how far the libraries of a script went: each is one of its name, or it was cut
+abbrev pub IsGone : State → Option Cut → Type 0
+IsGone s None = All IsLibrary s.libraries
+IsGone s (Some cut) = IsCut s cut.position cut.lack
+
+-- their lines
+abbrev pub libraries_text : State → Option Cut → List ℕ
+libraries_text s None = flat_map install_text s.libraries
+libraries_text s (Some cut) = flat_map install_text (take cut.position s.libraries)
+
+-- what stands behind them
+abbrev pub end_text : State → Option Cut → List ℕ
+end_text s None = preload_text s.preloads
+end_text s (Some cut) = codes "cut"
+
+-- what a script ends with
+abbrev pub dump_status : Option Cut → Status
+dump_status None = Done
+dump_status (Some cut) = lack_status cut.lack

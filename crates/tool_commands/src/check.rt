@@ -1,0 +1,132 @@
+// Whether the libraries are libraries.
+
+ghost use Rattle.std.specs.Prelude.{◌≡◌, OnOk, length};
+ghost use Rattle.std.specs.List.{list_all};
+ghost use Rattle.std.specs.Io.KnownBytes.{Appends};
+ghost use Rattle.states.specs.State.{State};
+ghost use Rattle.store.specs.IsRead.{IsRead};
+ghost use Rattle.store.specs.Opened.{IsAt};
+ghost use Rattle.text_output.specs.Sends.{Sends};
+ghost use Rattle.tool_commands.specs.Check.{check_status, check_text, findings_text, is_sound};
+ghost use Rattle.tool_commands.specs.Ends.{CheckEnds, IsTold};
+
+use crate::finding::{Line, put_finding};
+use crate::said::{cannot_write, say_refusal};
+use contents::{Contents, Finding};
+use program_parts::Status;
+use sector_disk::Disk;
+use std::alloc::Global;
+use std::io::Write;
+use store::{Store, StoreRefusal};
+use text_output::WriteFault;
+
+/// The line of each library, in their order.
+fn put_findings<D: Disk, W: Write>(
+    store: &Store<D>,
+    findings: &[Finding],
+    line: &mut Line,
+    out: &mut W,
+) -> Result<(), WriteFault>
+    requires { length findings.now ≡ length store.now.entries }
+    ensures { (s : State) → IsAt D.facts store.now s → OnOk result
+        (Sends (W.contents out.old) line.old (W.contents out.new) line.new
+        (findings_text s.libraries findings.now)) }
+{
+    for position in 0..store.count() {
+        let name = store.name(position);
+        put_finding(line, out, findings[position], name, store.length(position))?;
+    }
+    Ok(())
+}
+
+/// The line of each library, and the line `end`.
+fn put_check<D: Disk, W: Write>(
+    store: &Store<D>,
+    findings: &[Finding],
+    line: &mut Line,
+    out: &mut W,
+) -> Result<(), WriteFault>
+    requires { length findings.now ≡ length store.now.entries }
+    ensures { (s : State) → IsAt D.facts store.now s → OnOk result
+        (Sends (W.contents out.old) line.old (W.contents out.new) line.new
+        (check_text s.libraries findings.now)) }
+{
+    put_findings(store, findings, line, out)?;
+    line.put(out, b"end\n")
+}
+
+/// Writes the line of each library, and the line `end`.
+fn write_findings<D: Disk, W: Write>(
+    store: &Store<D>,
+    findings: &[Finding],
+    out: &mut W,
+) -> Result<(), WriteFault>
+    requires { length findings.now ≡ length store.now.entries }
+    ensures { (s : State) → IsAt D.facts store.now s → OnOk result
+        (Appends (W.contents out.old) (W.contents out.new)
+        (check_text s.libraries findings.now)) }
+{
+    let mut line = Line::new();
+    put_check(store, findings, &mut line, out)?;
+    line.send(out)
+}
+
+/// Whether it is a library of its name.
+fn is_sound(finding: Finding) -> bool
+    ensures { result ≡ is_sound finding }
+{
+    matches!(&finding, Finding::Sound)
+}
+
+/// Whether all are.
+fn are_sound(findings: &[Finding]) -> bool
+    ensures { result ≡ list_all is_sound findings.now }
+{
+    findings.iter().all(|finding| is_sound(*finding))
+}
+
+/// 1 where a library isn't one, or can't be read.
+fn status_of_findings(findings: &[Finding]) -> Status
+    ensures { result ≡ check_status findings.now }
+{
+    if are_sound(findings) {
+        Status::Done
+    } else {
+        Status::Refused
+    }
+}
+
+/// Writes what was found, or says that the output failed.
+fn tell_findings<D: Disk, O: Write, E: Write>(
+    store: &Store<D>,
+    findings: &[Finding],
+    output: &mut O,
+    errors: &mut E,
+) -> Status
+    requires { length findings.now ≡ length store.now.entries }
+    ensures { (s : State) → IsAt D.facts store.now s
+        → IsTold (check_status findings.now) (check_text s.libraries findings.now)
+        (O.contents output.old) (O.contents output.new) result }
+{
+    match write_findings(store, findings, output) {
+        Ok(()) => status_of_findings(findings),
+        Err(_) => cannot_write(errors),
+    }
+}
+
+/// Reads each library, and writes what is found of it: a line for each, in their order, and `end`.
+pub fn run_check<D: Disk, O: Write, E: Write>(
+    contents: &mut Contents<D>,
+    alloc: Global,
+    output: &mut O,
+    errors: &mut E,
+) -> Status
+    ensures read { IsRead D.facts contents.old contents.new }
+    ensures ends { (s : State) → IsAt D.facts contents.old s
+        → CheckEnds s (O.contents output.old) (O.contents output.new) result }
+{
+    match contents.check(alloc) {
+        Ok(findings) => tell_findings(contents.store(), &findings, output, errors),
+        Err(_) => say_refusal(alloc, StoreRefusal::OutOfMemory, errors),
+    }
+}

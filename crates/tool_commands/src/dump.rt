@@ -1,0 +1,271 @@
+// The script that makes a registry anew.
+
+ghost use Rattle.std.specs.Prelude.{◌≡◌, ◌++◌, ◌<◌, IfOk, IfSome, OnOk, length, slice_index_or};
+ghost use Rattle.std.specs.List.{flat_map};
+ghost use Rattle.std.specs.Io.KnownBytes.{Appends};
+ghost use Rattle.states.specs.State.{State};
+ghost use Rattle.store.specs.IsRead.{IsRead};
+ghost use Rattle.store.specs.Opened.{IsAt};
+ghost use Rattle.store.specs.Stands.{no_library};
+ghost use Rattle.program_parts.specs.Said.{AppendsFront};
+ghost use Rattle.text_output.specs.Sends.{Sends};
+ghost use Rattle.tool_commands.specs.Check.{finding_line};
+ghost use Rattle.tool_commands.specs.Dump.{behind_space, cut_status, install_line, preload_text};
+ghost use Rattle.tool_commands.specs.Ends.{DumpEnds};
+ghost use Rattle.tool_commands.specs.Said.{said_line};
+ghost use Rattle.tool_commands.specs.inside.Lack.{IsGone, dump_status, end_text, lack_line, lack_status};
+ghost use Rattle.tool_commands.specs.inside.Lack.{libraries_text};
+
+use crate::finding::{Line, put_finding};
+use crate::hexadecimal::put_hex;
+use crate::said::{cannot_write, say_refusal};
+use crate::sound::{Lack, sound_file};
+use contents::{Contents, Finding};
+use program_parts::{Status, say};
+use sector_disk::Disk;
+use std::alloc::Global;
+use std::io::Write;
+use store::{Store, StoreRefusal};
+use text_output::{OutputBuffer, WriteFault};
+
+/// How many bytes go out with one write.
+const PAGE: usize = 0x10000;
+
+/// A script on its way to a writer.
+type Script = OutputBuffer<PAGE>;
+
+/// Where a script was cut, and why.
+#[derive(Clone, Copy, Debug, PartialEq, Eq)]
+struct Cut {
+    position: usize,
+    lack: Lack,
+}
+
+/// The line that installs a file.
+fn put_install<W: Write>(script: &mut Script, out: &mut W, file: &[u8]) -> Result<(), WriteFault>
+    ensures { OnOk result
+        (Sends (W.contents out.old) script.old (W.contents out.new) script.new
+        (install_line file.now)) }
+{
+    script.put(out, b"install ")?;
+    put_hex(script, out, file)?;
+    script.put(out, b"\n")
+}
+
+/// The lines of the libraries, in their order, one in memory at a time. At one that isn't given it
+/// ends.
+fn put_libraries<D: Disk, W: Write>(
+    contents: &mut Contents<D>,
+    alloc: Global,
+    script: &mut Script,
+    out: &mut W,
+) -> Result<Option<Cut>, WriteFault>
+    ensures read { IsRead D.facts contents.old contents.new }
+    ensures inside { IfOk result (λ cut. IfSome cut (λ c.
+        c.position < length contents.new.entries)) }
+    ensures ok { (s : State) → IsAt D.facts contents.old s → IfOk result (λ cut.
+        IsGone s cut × Sends (W.contents out.old) script.old (W.contents out.new) script.new
+        (libraries_text s cut)) }
+{
+    for position in 0..contents.store().count() {
+        match sound_file(contents, alloc, position) {
+            Ok(file) => put_install(script, out, &file)?,
+            Err(lack) => return Ok(Some(Cut { position, lack })),
+        }
+    }
+    Ok(None)
+}
+
+/// The names of the preloads, each behind a space.
+fn put_preload_names<D: Disk, W: Write>(
+    store: &Store<D>,
+    script: &mut Script,
+    out: &mut W,
+) -> Result<(), WriteFault>
+    ensures { (s : State) → IsAt D.facts store.now s → OnOk result
+        (Sends (W.contents out.old) script.old (W.contents out.new) script.new
+        (flat_map behind_space s.preloads)) }
+{
+    let positions = store.preloads();
+    for position in positions {
+        script.put(out, b" ")?;
+        script.put(out, store.name(usize::from(*position)))?;
+    }
+    Ok(())
+}
+
+/// The line that sets the preloads, where there are any.
+fn put_preloads<D: Disk, W: Write>(
+    store: &Store<D>,
+    script: &mut Script,
+    out: &mut W,
+) -> Result<(), WriteFault>
+    ensures { (s : State) → IsAt D.facts store.now s → OnOk result
+        (Sends (W.contents out.old) script.old (W.contents out.new) script.new
+        (preload_text s.preloads)) }
+{
+    if store.preloads().is_empty() {
+        return Ok(());
+    }
+    script.put(out, b"preload")?;
+    put_preload_names(store, script, out)?;
+    script.put(out, b"\n")
+}
+
+/// What stands behind the libraries: the preloads, or `cut`, without a line's end.
+fn put_end<D: Disk, W: Write>(
+    store: &Store<D>,
+    cut: &Option<Cut>,
+    script: &mut Script,
+    out: &mut W,
+) -> Result<(), WriteFault>
+    ensures { (s : State) → IsAt D.facts store.now s → OnOk result
+        (Sends (W.contents out.old) script.old (W.contents out.new) script.new
+        (end_text s cut.now)) }
+{
+    match cut {
+        Some(_) => script.put(out, b"cut"),
+        None => put_preloads(store, script, out),
+    }
+}
+
+/// The script.
+fn put_script<D: Disk, W: Write>(
+    contents: &mut Contents<D>,
+    alloc: Global,
+    script: &mut Script,
+    out: &mut W,
+) -> Result<Option<Cut>, WriteFault>
+    ensures read { IsRead D.facts contents.old contents.new }
+    ensures inside { IfOk result (λ cut. IfSome cut (λ c.
+        c.position < length contents.new.entries)) }
+    ensures ok { (s : State) → IsAt D.facts contents.old s → IfOk result (λ cut.
+        IsGone s cut × Sends (W.contents out.old) script.old (W.contents out.new) script.new
+        (libraries_text s cut ++ end_text s cut)) }
+{
+    let cut = put_libraries(contents, alloc, script, out)?;
+    put_end(contents.store(), &cut, script, out)?;
+    Ok(cut)
+}
+
+/// Writes the script.
+fn write_script<D: Disk, W: Write>(
+    contents: &mut Contents<D>,
+    alloc: Global,
+    out: &mut W,
+) -> Result<Option<Cut>, WriteFault>
+    ensures read { IsRead D.facts contents.old contents.new }
+    ensures inside { IfOk result (λ cut. IfSome cut (λ c.
+        c.position < length contents.new.entries)) }
+    ensures ok { (s : State) → IsAt D.facts contents.old s → IfOk result (λ cut.
+        IsGone s cut × Appends (W.contents out.old) (W.contents out.new)
+        (libraries_text s cut ++ end_text s cut)) }
+{
+    let mut script = Script::new();
+    let cut = put_script(contents, alloc, &mut script, out)?;
+    script.send(out)?;
+    Ok(cut)
+}
+
+/// Spells the line of what was found of a library of this name and of so many bytes.
+fn spell_finding(
+    finding: Finding,
+    name: &[u8],
+    length: u32,
+    spelt: &mut Vec<u8>,
+) -> Result<(), WriteFault>
+    ensures { OnOk result (spelt.new.items
+        ≡ spelt.old.items ++ said_line (finding_line name.now length finding)) }
+{
+    let mut line = Line::new();
+    line.put(spelt, b"rlibreg-tool: ")?;
+    put_finding(&mut line, spelt, finding, name, length)?;
+    line.send(spelt)
+}
+
+/// Says what was found of a library, where there is memory for the line.
+fn say_finding<E: Write>(
+    alloc: Global,
+    finding: Finding,
+    name: &[u8],
+    length: u32,
+    errors: &mut E,
+) -> Status
+    ensures status { result ≡ cut_status finding }
+    ensures said { AppendsFront (E.contents errors.old) (E.contents errors.new)
+        (said_line (finding_line name.now length finding)) }
+{
+    let mut spelt = Vec::new(alloc);
+    if spell_finding(finding, name, length, &mut spelt).is_ok() {
+        say(errors, &spelt);
+    }
+    finding_status(finding)
+}
+
+/// What a library ends with of which this was found.
+fn finding_status(finding: Finding) -> Status
+    ensures { result ≡ cut_status finding }
+{
+    match finding {
+        Finding::Sound => Status::Done,
+        Finding::Refused(_) | Finding::OtherName => Status::Refused,
+        Finding::Unreadable => Status::Failed,
+    }
+}
+
+/// Says why a script was cut.
+fn say_cut<D: Disk, E: Write>(store: &Store<D>, alloc: Global, cut: Cut, errors: &mut E) -> Status
+    requires { cut.position < length store.now.entries }
+    ensures status { result ≡ lack_status cut.lack }
+    ensures said { (s : State) → IsAt D.facts store.now s
+        → AppendsFront (E.contents errors.old) (E.contents errors.new)
+        (lack_line (slice_index_or s.libraries cut.position no_library) cut.lack) }
+{
+    let position = cut.position;
+    match cut.lack {
+        Lack::OutOfMemory => say_refusal(alloc, StoreRefusal::OutOfMemory, errors),
+        Lack::Found(finding) => say_finding(
+            alloc,
+            finding,
+            store.name(position),
+            store.length(position),
+            errors,
+        ),
+    }
+}
+
+/// Says why a script was cut, where it was.
+fn end_dump<D: Disk, E: Write>(
+    store: &Store<D>,
+    alloc: Global,
+    cut: Option<Cut>,
+    errors: &mut E,
+) -> Status
+    requires { IfSome cut (λ c. c.position < length store.now.entries) }
+    ensures { result ≡ dump_status cut }
+{
+    match cut {
+        Some(cut) => say_cut(store, alloc, cut, errors),
+        None => Status::Done,
+    }
+}
+
+/// Writes the script that makes the registry anew: an `install` line for each library, in their
+/// order, and a `preload` line where there are preloads. One library is in memory at a time, and
+/// its sectors are read once. Where one can't be read, or isn't one of its name, or memory is
+/// refused, the script ends with `cut`, without a line's end.
+pub fn run_dump<D: Disk, O: Write, E: Write>(
+    contents: &mut Contents<D>,
+    alloc: Global,
+    output: &mut O,
+    errors: &mut E,
+) -> Status
+    ensures read { IsRead D.facts contents.old contents.new }
+    ensures ends { (s : State) → IsAt D.facts contents.old s
+        → DumpEnds s (O.contents output.old) (O.contents output.new) result }
+{
+    match write_script(contents, alloc, output) {
+        Ok(cut) => end_dump(contents.store(), alloc, cut, errors),
+        Err(_) => cannot_write(errors),
+    }
+}

@@ -1,0 +1,89 @@
+// The line of what is found of a library.
+
+ghost use Rattle.std.specs.Prelude.{◌++◌, codes, OnOk};
+ghost use Rattle.std.specs.Fmt.{decimal};
+ghost use Rattle.text_output.specs.Name.{name_text};
+ghost use Rattle.text_output.specs.Sends.{Sends};
+ghost use Rattle.program_parts.specs.Refusal.{file_refusal_text};
+ghost use Rattle.tool_commands.specs.Check.{finding_line};
+
+use contents::Finding;
+use hash_check::FileRefusal;
+use program_parts::put_file_refusal;
+use std::io::Write;
+use text_output::{LINE, OutputBuffer, WriteFault};
+
+/// A line on its way to a writer.
+pub(crate) type Line = OutputBuffer<LINE>;
+
+/// A name between texts.
+fn put_around<W: Write>(
+    line: &mut Line,
+    out: &mut W,
+    front: &[u8],
+    name: &[u8],
+    back: &[u8],
+) -> Result<(), WriteFault>
+    ensures { OnOk result (Sends (W.contents out.old) line.old (W.contents out.new) line.new
+        (front.now ++ name_text name.now ++ back.now)) }
+{
+    line.put(out, front)?;
+    line.put_name(out, name)?;
+    line.put(out, back)
+}
+
+/// The line of a library of its name.
+fn put_sound<W: Write>(
+    line: &mut Line,
+    out: &mut W,
+    name: &[u8],
+    length: u32,
+) -> Result<(), WriteFault>
+    ensures { OnOk result (Sends (W.contents out.old) line.old (W.contents out.new) line.new
+        (codes "ok " ++ name_text name.now ++ codes " " ++ decimal length ++ codes "\n")) }
+{
+    line.put(out, b"ok ")?;
+    line.put_name(out, name)?;
+    line.put(out, b" ")?;
+    line.put_decimal(out, u64::from(length))?;
+    line.put(out, b"\n")?;
+    Ok(())
+}
+
+/// The line of a library that a test refuses.
+fn put_refused<W: Write>(
+    line: &mut Line,
+    out: &mut W,
+    name: &[u8],
+    refusal: FileRefusal,
+) -> Result<(), WriteFault>
+    ensures { OnOk result (Sends (W.contents out.old) line.old (W.contents out.new) line.new
+        (codes "damaged " ++ name_text name.now ++ codes " " ++ file_refusal_text refusal
+        ++ codes "\n")) }
+{
+    line.put(out, b"damaged ")?;
+    line.put_name(out, name)?;
+    line.put(out, b" ")?;
+    put_file_refusal(line, out, refusal)?;
+    line.put(out, b"\n")?;
+    Ok(())
+}
+
+/// The line of what is found of a library of this name and of so many bytes.
+pub(crate) fn put_finding<W: Write>(
+    line: &mut Line,
+    out: &mut W,
+    finding: Finding,
+    name: &[u8],
+    length: u32,
+) -> Result<(), WriteFault>
+    ensures { OnOk result (Sends (W.contents out.old) line.old (W.contents out.new) line.new
+        (finding_line name.now length finding)) }
+{
+    match finding {
+        Finding::Sound => put_sound(line, out, name, length),
+        Finding::Refused(refusal) => put_refused(line, out, name, refusal),
+        Finding::OtherName => put_around(line, out, b"damaged ", name, b" OtherName\n"),
+        Finding::Unreadable => put_around(line, out, b"unreadable ", name, b"\n"),
+    }
+}

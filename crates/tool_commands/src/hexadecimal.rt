@@ -1,0 +1,42 @@
+// Bytes in hexadecimal, on one line.
+
+ghost use Rattle.std.specs.Prelude.{◌≤◌, OnOk, length};
+ghost use Rattle.hex.specs.Hex.{encode_lower};
+ghost use Rattle.text_output.specs.Sends.{Sends};
+
+use std::io::Write;
+use text_output::{OutputBuffer, WriteFault};
+
+/// How many bytes are spelt at once.
+const PIECE_BYTES: usize = 32;
+
+/// Puts bytes in lower case hexadecimal behind what waits, without a line's end.
+pub(crate) fn put_hex<const SIZE: usize, W: Write>(
+    text: &mut OutputBuffer<SIZE>,
+    out: &mut W,
+    bytes: &[u8],
+) -> Result<(), WriteFault>
+    ensures { OnOk result (Sends (W.contents out.old) text.old (W.contents out.new) text.new
+        (encode_lower bytes.now)) }
+{
+    for piece in bytes.chunks(PIECE_BYTES) {
+        put_hex_piece(text, out, piece)?;
+    }
+    Ok(())
+}
+
+/// The same of a few bytes.
+fn put_hex_piece<const SIZE: usize, W: Write>(
+    text: &mut OutputBuffer<SIZE>,
+    out: &mut W,
+    piece: &[u8],
+) -> Result<(), WriteFault>
+    requires { length piece.now ≤ PIECE_BYTES }
+    ensures { OnOk result (Sends (W.contents out.old) text.old (W.contents out.new) text.new
+        (encode_lower piece.now)) }
+{
+    let mut digits = [0u8; 2 * PIECE_BYTES];
+    let spelt = &mut digits[..2 * piece.len()];
+    let _ = hex::encode_to_slice(piece, spelt);
+    text.put(out, spelt)
+}

@@ -1,0 +1,125 @@
+// What is told of the whole.
+
+ghost use Rattle.std.specs.Prelude.{◌++◌, codes, length, OnOk};
+ghost use Rattle.std.specs.Fmt.{decimal};
+ghost use Rattle.std.specs.Io.KnownBytes.{Appends};
+ghost use Rattle.states.specs.State.{State};
+ghost use Rattle.store.specs.Opened.{IsAt};
+ghost use Rattle.text_output.specs.Sends.{Sends};
+ghost use Rattle.program_parts.specs.declared.status.Status.TheVariants.{Done};
+ghost use Rattle.tool_commands.specs.Ends.{InfoEnds, IsTold};
+ghost use Rattle.tool_commands.specs.Info.{disk_lines, count_lines, free_lines, info_text};
+
+use crate::said::cannot_write;
+use contents::{Contents, Info};
+use program_parts::Status;
+use sector_disk::Disk;
+use std::io::Write;
+use text_output::{LINE, OutputBuffer, WriteFault};
+
+/// A line on its way to a writer.
+type Line = OutputBuffer<LINE>;
+
+/// A number between texts.
+fn put_number<W: Write>(
+    line: &mut Line,
+    out: &mut W,
+    front: &[u8],
+    number: u64,
+    back: &[u8],
+) -> Result<(), WriteFault>
+    ensures { OnOk result (Sends (W.contents out.old) line.old (W.contents out.new) line.new
+        (front.now ++ decimal number ++ back.now)) }
+{
+    line.put(out, front)?;
+    line.put_decimal(out, number)?;
+    line.put(out, back)
+}
+
+/// The lines of the disk and of its changes.
+fn put_disk<W: Write>(line: &mut Line, out: &mut W, info: &Info) -> Result<(), WriteFault>
+    ensures { OnOk result (Sends (W.contents out.old) line.old (W.contents out.new) line.new
+        (disk_lines info.now.sectors info.now.generation)) }
+{
+    line.put(out, b"version 2\n")?;
+    put_number(line, out, b"sectors ", u64::from(info.sectors), b"\n")?;
+    put_number(line, out, b"generation ", info.generation, b"\n")
+}
+
+/// The lines of what is installed, with its limits.
+fn put_counts<W: Write>(line: &mut Line, out: &mut W, info: &Info) -> Result<(), WriteFault>
+    ensures { OnOk result (Sends (W.contents out.old) line.old (W.contents out.new) line.new
+        (count_lines info.now.libraries info.now.preloads)) }
+{
+    put_number(
+        line,
+        out,
+        b"libraries ",
+        info.libraries as u64,
+        b" of 2048\n",
+    )?;
+    put_number(line, out, b"preloads ", info.preloads as u64, b" of 16\n")
+}
+
+/// The lines of what is free.
+fn put_free<W: Write>(line: &mut Line, out: &mut W, info: &Info) -> Result<(), WriteFault>
+    ensures { OnOk result (Sends (W.contents out.old) line.old (W.contents out.new) line.new
+        (free_lines info.now.free.sectors info.now.free.runs info.now.free.largest)) }
+{
+    put_number(line, out, b"free ", info.free.sectors as u64, b"\n")?;
+    put_number(line, out, b"runs ", info.free.runs as u64, b"\n")?;
+    put_number(
+        line,
+        out,
+        b"largest ",
+        u64::from(info.free.largest),
+        b"\nend\n",
+    )
+}
+
+/// All of it.
+fn put_info<W: Write>(line: &mut Line, out: &mut W, info: &Info) -> Result<(), WriteFault>
+    ensures { OnOk result (Sends (W.contents out.old) line.old (W.contents out.new) line.new
+        (info_text info.now.sectors info.now.generation info.now.libraries info.now.preloads
+        info.now.free.sectors info.now.free.runs info.now.free.largest)) }
+{
+    put_disk(line, out, info)?;
+    put_counts(line, out, info)?;
+    put_free(line, out, info)
+}
+
+/// Writes it, with one write.
+fn write_info<W: Write>(out: &mut W, info: &Info) -> Result<(), WriteFault>
+    ensures { OnOk result (Appends (W.contents out.old) (W.contents out.new)
+        (info_text info.now.sectors info.now.generation info.now.libraries info.now.preloads
+        info.now.free.sectors info.now.free.runs info.now.free.largest)) }
+{
+    let mut line = Line::new();
+    put_info(&mut line, out, info)?;
+    line.send(out)
+}
+
+/// Writes what is told of the whole, or says that the output failed.
+fn tell_info<O: Write, E: Write>(info: &Info, output: &mut O, errors: &mut E) -> Status
+    ensures { IsTold Done (info_text info.now.sectors info.now.generation info.now.libraries
+        info.now.preloads info.now.free.sectors info.now.free.runs info.now.free.largest)
+        (O.contents output.old) (O.contents output.new) result }
+{
+    match write_info(output, info) {
+        Ok(()) => Status::Done,
+        Err(_) => cannot_write(errors),
+    }
+}
+
+/// Writes what is told of the whole: its lines, with one write. It takes no memory and makes no
+/// call of the disk.
+pub fn run_info<D: Disk, O: Write, E: Write>(
+    contents: &Contents<D>,
+    output: &mut O,
+    errors: &mut E,
+) -> Status
+    ensures ends { (s : State) → IsAt D.facts contents.now s
+        → InfoEnds D.facts contents.now s (O.contents output.old) (O.contents output.new) result }
+{
+    tell_info(&contents.info(), output, errors)
+}

@@ -1,0 +1,106 @@
+// A form over a disk, whatever the disk is.
+
+ghost use Rattle.std.specs.Prelude.{◌≡◌, IsTrue, OnOk};
+ghost use Rattle.std.specs.Io.KnownBytes.{Appends};
+ghost use Rattle.states.specs.State.{State};
+ghost use Rattle.store.specs.IsRead.{IsRead};
+ghost use Rattle.store.specs.Opened.{IsAt};
+ghost use Rattle.program_parts.specs.Status.{disk_status};
+ghost use Rattle.tool_commands.specs.Ends.{DiskEnds, FormEnds, IsTold, cut_of};
+ghost use Rattle.tool_commands.specs.Form.{question_of};
+
+use crate::check::run_check;
+use crate::dump::run_dump;
+use crate::file::run_file;
+use crate::form::Form;
+use crate::info::run_info;
+use crate::said::say_refusal;
+use contents::Contents;
+use program_parts::Status;
+use sector_disk::Disk;
+use std::alloc::Global;
+use std::io::Write;
+use store::StoreRefusal;
+use text_output::{OutputBuffer, PIECE, WriteFault};
+
+/// Cuts a script of which there is nothing: it is none that could be taken for a whole one.
+pub(crate) fn cut_script<O: Write>(form: &Form<'_>, output: &mut O) -> Result<(), WriteFault>
+    ensures { OnOk result (Appends (O.contents output.old) (O.contents output.new)
+        (cut_of (question_of form.now))) }
+{
+    match form {
+        Form::Dump => {
+            let mut text = OutputBuffer::<PIECE>::new();
+            text.put(output, b"cut")?;
+            text.send(output)
+        }
+        _ => Ok(()),
+    }
+}
+
+/// Says why a disk isn't opened.
+pub(crate) fn turn_away<O: Write, E: Write>(
+    alloc: Global,
+    form: &Form<'_>,
+    refusal: StoreRefusal,
+    output: &mut O,
+    errors: &mut E,
+) -> Status
+    ensures { IsTold (disk_status refusal) (cut_of (question_of form.now))
+        (O.contents output.old) (O.contents output.new) result }
+{
+    let said = say_refusal(alloc, refusal, errors);
+    match cut_script(form, output) {
+        Ok(()) => said,
+        Err(_) => Status::Failed,
+    }
+}
+
+/// Does what is asked of what a disk has.
+fn run_opened<D: Disk, O: Write, E: Write>(
+    contents: &mut Contents<D>,
+    alloc: Global,
+    form: &Form<'_>,
+    output: &mut O,
+    errors: &mut E,
+) -> Status
+    ensures read { IsRead D.facts contents.old contents.new }
+    ensures ends { (s : State) → IsAt D.facts contents.old s
+        → FormEnds D.facts contents.old s (question_of form.now)
+        (O.contents output.old) (O.contents output.new) result }
+{
+    match *form {
+        Form::Info => run_info(contents, output, errors),
+        Form::Check => run_check(contents, alloc, output, errors),
+        Form::File(name) => run_file(contents, alloc, name.as_bytes(), output, errors),
+        Form::Dump => run_dump(contents, alloc, output, errors),
+    }
+}
+
+/// Opens what a disk has, does what is asked, and hands the disk back. Nothing is written to the
+/// disk.
+pub fn run_form<D: Disk, O: Write, E: Write>(
+    alloc: Global,
+    disk: D,
+    form: &Form<'_>,
+    output: &mut O,
+    errors: &mut E,
+) -> (Status, D)
+    ensures ends { IsTrue (D.facts disk).honest → DiskEnds D.facts disk (question_of form.now)
+        (O.contents output.old) (O.contents output.new) result.0 }
+
+    // What reads give stays.
+    ensures now { IsTrue (D.facts disk).honest → (D.facts result.1).now ≡ (D.facts disk).now }
+{
+    match Contents::open(alloc, disk) {
+        Ok(contents) => {
+            let mut contents = contents;
+            let status = run_opened(&mut contents, alloc, form, output, errors);
+            (status, contents.into_disk())
+        }
+        Err((refusal, disk)) => {
+            let status = turn_away(alloc, form, refusal, output, errors);
+            (status, disk)
+        }
+    }
+}

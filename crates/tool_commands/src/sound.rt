@@ -1,0 +1,99 @@
+// The file of a library that is one.
+
+ghost use Rattle.std.specs.Prelude.{◌≡◌, ◌<◌, ℕ, List, IfOk, IfErr, length, slice_index_or};
+ghost use Rattle.states.specs.State.{Library, State};
+ghost use Rattle.requests.specs.Library.{IsLibrary};
+ghost use Rattle.store.specs.IsRead.{IsRead};
+ghost use Rattle.store.specs.Opened.{IsAt};
+ghost use Rattle.store.specs.Stands.{no_library};
+ghost use Rattle.contents.specs.File.{HasFile};
+ghost use Rattle.contents.specs.Finding.{IsFinding};
+ghost use Rattle.tool_commands.specs.declared.sound.Lack.TheVariants.{OutOfMemory};
+ghost use Rattle.tool_commands.specs.inside.Lack.{IsLack};
+
+use contents::{Contents, Finding, Unread};
+use names::Name;
+use requests::{Refusal, library_name};
+use sector_disk::Disk;
+use std::alloc::{AllocError, Global};
+
+/// Why a library isn't given.
+#[derive(Clone, Copy, Debug, PartialEq, Eq)]
+pub(crate) enum Lack {
+    /// It can't be read, or isn't one of its name.
+    Found(Finding),
+    /// Memory was refused.
+    OutOfMemory,
+}
+
+impl From<AllocError> for Lack {
+    ghost from_gives = { λ _ lack. lack ≡ OutOfMemory };
+
+    fn from(_refused: AllocError) -> Lack {
+        Lack::OutOfMemory
+    }
+}
+
+/// What is found of a file under this name.
+fn finding_of(alloc: Global, name: &[u8], file: &[u8]) -> Result<Finding, AllocError>
+    ensures { IfOk result (IsFinding (record { name = name.now; bytes = file.now })) }
+{
+    match library_name(alloc, file) {
+        Ok(soname) if soname == name => Ok(Finding::Sound),
+        Ok(_) => Ok(Finding::OtherName),
+        Err(Refusal::Object(refusal)) => Ok(Finding::Refused(refusal)),
+        Err(_) => Err(AllocError),
+    }
+}
+
+/// The file of this name. Its sectors are read once.
+fn named_file<D: Disk>(
+    contents: &mut Contents<D>,
+    alloc: Global,
+    name: &[u8],
+) -> Result<Vec<u8>, Lack>
+    ensures read { IsRead D.facts contents.old contents.new }
+    ensures only { (s : State) → IsAt D.facts contents.old s → IfOk result (λ file.
+        (other : List ℕ) → HasFile s name.now other → other ≡ file.items) }
+    ensures err { (l : Library) → IfErr result (IsLack l) }
+{
+    match contents.file(alloc, name) {
+        Ok(file) => Ok(file),
+        Err(Unread::OutOfMemory) => Err(Lack::OutOfMemory),
+        Err(_) => Err(Lack::Found(Finding::Unreadable)),
+    }
+}
+
+/// A file that is a library of this name.
+fn tested(alloc: Global, name: &[u8], file: Vec<u8>) -> Result<Vec<u8>, Lack>
+    ensures ok { IfOk result (λ f. (f.items ≡ file.items)
+        × IsLibrary (record { name = name.now; bytes = file.items })) }
+    ensures err { IfErr result (IsLack (record { name = name.now; bytes = file.items })) }
+{
+    match finding_of(alloc, name, &file)? {
+        Finding::Sound => Ok(file),
+        finding => Err(Lack::Found(finding)),
+    }
+}
+
+/// The file of the library at this position. Its sectors are read once.
+pub(crate) fn sound_file<D: Disk>(
+    contents: &mut Contents<D>,
+    alloc: Global,
+    position: usize,
+) -> Result<Vec<u8>, Lack>
+    requires { position < length contents.old.entries }
+    ensures read { IsRead D.facts contents.old contents.new }
+    ensures ok { (s : State) → IsAt D.facts contents.old s → position < length s.libraries
+        → IfOk result (λ file.
+        (file.items ≡ (slice_index_or s.libraries position no_library).bytes)
+        × IsLibrary (slice_index_or s.libraries position no_library)) }
+    ensures err { (s : State) → IsAt D.facts contents.old s → position < length s.libraries
+        → IfErr result (IsLack (slice_index_or s.libraries position no_library)) }
+{
+    let name = Name::copy_of(alloc, contents.store().name(position))?;
+    match named_file(contents, alloc, name.as_bytes()) {
+        Ok(file) => tested(alloc, name.as_bytes(), file),
+        Err(lack) => Err(lack),
+    }
+}
