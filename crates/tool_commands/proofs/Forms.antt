@@ -1,5 +1,5 @@
 -- Words of another number than a form has.
-use Rattle.std.proofs.Common.{◌≡◌, ℕ, ◌<◌, List, [], ◌∷◌, length, map, None, refl, arith}
+use Rattle.std.proofs.Common.{◌≡◌, ℕ, List, [], ◌∷◌, length, map, None, refl}
 use Rattle.std.specs.Prelude.{◌≢◌}
 use Rattle.tool_commands.specs.Form.{Question, of_one, of_two}
 

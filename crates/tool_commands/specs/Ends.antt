@@ -1,5 +1,5 @@
 -- What the forms end with, over a state: the text that was appended to the output, and the status.
-use Rattle.std.specs.Prelude.{◌≡◌, ◌≢◌, ◌⊎◌, ◌↔◌, ◌≤◌, ◌<◌, ℕ, List, [], All, None, Option, Contains, length, slice_index_or, codes}
+use Rattle.std.specs.Prelude.{◌≡◌, ◌≢◌, ◌⊎◌, ◌↔◌, ◌≤◌, ◌<◌, ℕ, List, [], All, None, Option, length, slice_index_or, codes}
 use Rattle.std.specs.Io.KnownBytes.{Appends}
 use Rattle.extents.specs.Layout.{free_count}
 use Rattle.extents.specs.Runs.{free_runs}

@@ -1,5 +1,5 @@
 -- Which form the words of a command line are (own).
-use Rattle.std.specs.Prelude.{ℕ, List, [], ◌∷◌, Option, Some, None, Bool, true, false, if◌then◌else◌, bytes_eq, codes}
+use Rattle.std.specs.Prelude.{ℕ, List, [], ◌∷◌, Option, Some, None, if◌then◌else◌, bytes_eq, codes}
 use Rattle.tool_commands.specs.declared.form.Asked.{Asked}
 use Rattle.tool_commands.specs.declared.form.Form.{Form}
 use Rattle.tool_commands.specs.declared.form.Form.TheVariants as form

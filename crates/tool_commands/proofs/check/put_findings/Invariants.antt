@@ -1,4 +1,4 @@
-use Rattle.std.proofs.Common.{◌≡◌, take}
+use Rattle.std.proofs.Common.{take}
 use Rattle.states.specs.State.{State}
 use Rattle.store.specs.Opened.{IsAt}
 use Rattle.text_output.specs.Sends.{Sends}

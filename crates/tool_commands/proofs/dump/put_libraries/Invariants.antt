@@ -1,4 +1,4 @@
-use Rattle.std.proofs.Common.{◌≡◌, All, take}
+use Rattle.std.proofs.Common.{All, take}
 use Rattle.std.specs.List.{flat_map}
 use Rattle.requests.specs.Library.{IsLibrary}
 use Rattle.states.specs.State.{State}

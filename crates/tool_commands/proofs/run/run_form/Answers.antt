@@ -1,4 +1,4 @@
-use Rattle.std.proofs.Common.{inl, inr, sym, subst, ap, ◌∙◌, IsTrue}
+use Rattle.std.proofs.Common.{inl, inr, ap, ◌∙◌}
 use Rattle.tool_commands.proofs.run.run_form.Goals as goal
 
 pub returns-in-Ok-clause-ends : goal.returns-in-Ok-clause-ends
