@@ -8,10 +8,11 @@
  *
  * There are two layers.
  *
- * 1. Calls over bytes (rlibreg_bind, rlibreg_list, rlibreg_plan_*). Each is proved to return, to do
- *    nothing undefined, and to give what is defined (docs/C.md). They do no input or output: who
- *    calls has the bytes of the disk in memory, and gets an image, a listing, or a plan, which is
- *    the list of the writes and syncs that make a change.
+ * 1. Calls over bytes (rlibreg_bind, rlibreg_list, rlibreg_file, rlibreg_info, rlibreg_plan_*).
+ *    Each is proved to return, to do nothing undefined, and to give what is defined (docs/C.md).
+ *    They do no input or output: who calls has the bytes of the disk in memory, and gets an image,
+ *    a listing, a library's bytes, what is told of the whole, or a plan, which is the list of the
+ *    writes and syncs that make a change.
  * 2. Calls over a file (struct rlibreg and the calls behind it), in C over the first layer, which
  *    open, lock and map the file, and carry plans out. They are tested.
  *
@@ -51,7 +52,8 @@
  *   after each change, so a change without RLIBREG_WAIT tries for two seconds there.
  * - Each call opens the registry anew, which reads and tests each installed library once: some 2 ms
  *   for 8 MiB in 64 libraries, 4 ms in 500. So many changes, one by one, cost the square of their
- *   number; the program's `script` opens a disk once (docs/COMMANDS.md).
+ *   number; the program's `script` opens a disk once (docs/COMMANDS.md). A library's bytes and what
+ *   is told of the whole are had without that.
  * - A bound image is memory, and not a process: nothing of the library runs what is in it. Who maps
  *   it calls the initializers of the libraries (DT_INIT, DT_INIT_ARRAY) before its entry, as
  *   rlibreg-run does; they are in the dynamic sections of the objects.
@@ -144,7 +146,7 @@ typedef struct rlibreg_answer {
     uint32_t file_refusal; /* where the status is B1 or C1: n of the first test En that refuses */
     uint64_t count;        /* how many segments, libraries or steps there are */
     uint64_t preloads;     /* how many preloads there are */
-    uint64_t bytes;        /* how many bytes there are: of segments, of names, of the plan */
+    uint64_t bytes;        /* how many bytes there are: of segments, names, a file, the plan */
     uint64_t text;         /* how many bytes the whole text has */
     uint64_t generation;   /* of a listing: how many changes the registry has taken */
     uint64_t objects;      /* how many objects an image has */
@@ -180,6 +182,19 @@ typedef struct rlibreg_entry {
     uint32_t file_length; /* how many bytes a library's file has; 0 of a preload */
 } rlibreg_entry;
 
+/* What is told of a registry as a whole. */
+typedef struct rlibreg_information {
+    uint64_t version;      /* of the disk's layout: 2 */
+    uint64_t sectors;      /* how many sectors the disk has */
+    uint64_t generation;   /* how many changes the registry has taken */
+    uint64_t libraries;    /* how many are installed */
+    uint64_t preloads;     /* how many there are */
+    uint64_t free_sectors; /* how many sectors are free */
+    uint64_t free_runs;    /* in how many runs they are */
+    uint64_t largest;      /* the greatest length in bytes of a file that an installation under a
+                              new name would take now; 0 where it would take none */
+} rlibreg_information;
+
 RLIBREG_SAME(sizeof(rlibreg_answer) == 56);
 RLIBREG_SAME(offsetof(rlibreg_answer, file_refusal) == 4);
 RLIBREG_SAME(offsetof(rlibreg_answer, count) == 8);
@@ -192,6 +207,10 @@ RLIBREG_SAME(offsetof(rlibreg_object, first_segment) == 24);
 RLIBREG_SAME(offsetof(rlibreg_object, entry) == 64);
 RLIBREG_SAME(sizeof(rlibreg_entry) == 16);
 RLIBREG_SAME(offsetof(rlibreg_entry, file_length) == 12);
+RLIBREG_SAME(sizeof(rlibreg_information) == 64);
+RLIBREG_SAME(offsetof(rlibreg_information, generation) == 16);
+RLIBREG_SAME(offsetof(rlibreg_information, free_sectors) == 40);
+RLIBREG_SAME(offsetof(rlibreg_information, largest) == 56);
 RLIBREG_SAME(sizeof(size_t) == 8 && sizeof(void *) == 8);
 
 /* ---- Layer 1: bytes
@@ -211,9 +230,9 @@ RLIBREG_SAME(sizeof(size_t) == 8 && sizeof(void *) == 8);
  * TEXT gets the line or the reply that the program `rlibreg` prints of the same: "ok\n", a listing,
  * or a refusal with its number and its names, as "refused B3 Missing libtwo.so libone.so\n". It
  * isn't ended by a byte 0. The answer's `text` has the length of the whole; where `text_room` is
- * less, the buffer has the beginning. It is empty of an image, whose bytes are in their own buffer,
- * and with the statuses 1 to 9, of which the program knows nothing. A text that was cut changes no
- * status.
+ * less, the buffer has the beginning. It is empty of an image, of a library's bytes and of what is
+ * told of the whole, which are in places of their own, and with the statuses 1 to 9, of which the
+ * program knows nothing. A text that was cut changes no status.
  *
  * MEMORY that is refused is answered S11, or S1 where it was that of a step of the plan or of the
  * sync with which each call begins: no other call of the disk can fail. Nothing was done then.
@@ -245,6 +264,26 @@ uint32_t rlibreg_bind(const uint8_t *disk, size_t disk_length, const uint8_t *pr
 uint32_t rlibreg_list(const uint8_t *disk, size_t disk_length, rlibreg_entry *entries,
                       size_t entries_room, char *names, size_t names_room, char *text,
                       size_t text_room, rlibreg_answer *answer);
+
+/* Gives a library's file. With the status 0 BYTES has the bytes of the library of this name, which
+ * has no byte 0 behind it, as they were installed, the answer's `bytes` of them. They alone are
+ * read: what has become of another library's file doesn't matter. Whether they still are those of a
+ * library isn't looked at.
+ *
+ * Refusals: C3; S3, S5, S6, S11, S12. */
+uint32_t rlibreg_file(const uint8_t *disk, size_t disk_length, const char *name, size_t name_length,
+                      uint8_t *bytes, size_t bytes_room, char *text, size_t text_room,
+                      rlibreg_answer *answer);
+
+/* Tells of the registry as a whole. With the status 0 INFORMATION is written, with another one it
+ * is left as it was. No library's file is read.
+ *
+ * An installation under a new name of a file of at most `largest` bytes meets none of S7, S8, S9
+ * and S10; that of a longer one meets one of them, or C1.
+ *
+ * Refusals: S3, S5, S6, S11, S12. */
+uint32_t rlibreg_info(const uint8_t *disk, size_t disk_length, rlibreg_information *information,
+                      char *text, size_t text_room, rlibreg_answer *answer);
 
 /* PLANS. With the status 0 PLAN has the answer's `count` steps, `bytes` bytes in all. A step is
  *
@@ -391,6 +430,13 @@ typedef struct rlibreg_listing {
 
 uint32_t rlibreg_listing_of(rlibreg *registry, rlibreg_listing *listing);
 void rlibreg_listing_free(rlibreg_listing *listing);
+
+/* A library's bytes, as rlibreg_file gives them. They belong to who asked, and are freed by free.
+ * BYTES and LENGTH are written in every case: null and 0 where the status isn't 0. */
+uint32_t rlibreg_file_of(rlibreg *registry, const char *name, void **bytes, size_t *length);
+
+/* What is told of the whole, as rlibreg_info tells it. */
+uint32_t rlibreg_info_of(rlibreg *registry, rlibreg_information *information);
 
 /* An image, as rlibreg_bind gives it. It belongs to who asked, is written in every case, and is
  * freed by rlibreg_image_free, which may be called twice. */

@@ -7,7 +7,7 @@
 #include <string.h>
 #include <unistd.h>
 
-enum { SECTOR = 512, STEP_NUMBER = 4, SMALL_PLAN = 40, FIRST_TEXT = 4096 };
+enum { SECTOR = 512, STEP_NUMBER = 4, SMALL_PLAN = 40, FIRST_TEXT = 4096, FIRST_FILE = 1 << 16 };
 
 struct rlibreg {
     struct disk_file file;
@@ -108,6 +108,13 @@ uint32_t rlibreg_open(rlibreg *it, const char *path, unsigned flags) {
     if (status) let_go(it);
     it->may_change = !status && flags & RLIBREG_CHANGES;
     return say(it, status, "");
+}
+
+/* Why nothing can be asked of the file by this struct, or 0. */
+static uint32_t refuse(rlibreg *it) {
+    if (is_inherited(it)) return say(it, RLIBREG_BAD_ARGUMENT, "");
+    if (it->has_failed) return say(it, RLIBREG_REOPEN, "refused S2 Reopen\n");
+    return RLIBREG_DONE;
 }
 
 /* ---- Carrying out a plan */
@@ -227,10 +234,10 @@ static uint32_t make_plan(rlibreg *it, plan_call *call, const void *asked, size_
 /* Plans a change and carries it out. */
 static uint32_t change(rlibreg *it, plan_call *call, const void *asked, size_t length) {
     uint8_t *plan;
-    if (is_inherited(it)) return say(it, RLIBREG_BAD_ARGUMENT, "");
+    uint32_t status = refuse(it);
+    if (status) return status;
     if (!it->may_change) return say(it, RLIBREG_READ_ONLY, "");
-    if (it->has_failed) return say(it, RLIBREG_REOPEN, "refused S2 Reopen\n");
-    uint32_t status = make_plan(it, call, asked, length, &plan);
+    status = make_plan(it, call, asked, length, &plan);
     if (status) return status;
     it->has_failed = carry_out(it->file.fd, plan, it->answer.bytes) != 0;
     int why = errno;
@@ -332,10 +339,10 @@ static uint32_t list(rlibreg *it, rlibreg_listing *out, size_t entries, size_t n
 uint32_t rlibreg_listing_of(rlibreg *it, rlibreg_listing *out) {
     size_t entries = 64, names = 4096;
     *out = (rlibreg_listing){ 0 };
-    if (is_inherited(it)) return say(it, RLIBREG_BAD_ARGUMENT, "");
-    if (it->has_failed) return say(it, RLIBREG_REOPEN, "refused S2 Reopen\n");
+    uint32_t status = refuse(it);
+    if (status) return status;
     for (;;) {
-        uint32_t status = over_bytes(it, list(it, out, entries, names));
+        status = over_bytes(it, list(it, out, entries, names));
         int again = text_was_cut(it) || status == RLIBREG_NO_ROOM;
         if (!status && !again) break;
         rlibreg_listing_free(out);
@@ -354,6 +361,39 @@ void rlibreg_listing_free(rlibreg_listing *it) {
     free(it->entries);
     free(it->names);
     *it = (rlibreg_listing){ 0 };
+}
+
+uint32_t rlibreg_file_of(rlibreg *it, const char *name, void **bytes, size_t *length) {
+    size_t room = FIRST_FILE;
+    *bytes = NULL;
+    *length = 0;
+    uint32_t status = refuse(it);
+    if (status) return status;
+    for (;;) {
+        uint8_t *out = malloc(room);
+        if (!out) return say_memory(it);
+        status = over_bytes(it, rlibreg_file(it->file.bytes, it->file.length, name, strlen(name),
+                                             out, room, it->text, it->text_room, &it->answer));
+        int again = text_was_cut(it) || status == RLIBREG_NO_ROOM;
+        if (!status && !again) {
+            *bytes = out;
+            *length = it->answer.bytes;
+            return RLIBREG_DONE;
+        }
+        free(out);
+        if (!again) return status;
+        if (status == RLIBREG_NO_ROOM) room = it->answer.bytes;
+    }
+}
+
+uint32_t rlibreg_info_of(rlibreg *it, rlibreg_information *out) {
+    uint32_t status = refuse(it);
+    if (status) return status;
+    do {
+        status = over_bytes(it, rlibreg_info(it->file.bytes, it->file.length, out, it->text,
+                                             it->text_room, &it->answer));
+    } while (text_was_cut(it));
+    return status;
 }
 
 /* What is bound, and where. */
@@ -384,10 +424,10 @@ uint32_t rlibreg_image_of(rlibreg *it, const void *program, size_t length, uint6
     struct bound what = { program, length, base };
     struct room room = { 16, 64, 1 << 20 };
     *out = (rlibreg_image){ 0 };
-    if (is_inherited(it)) return say(it, RLIBREG_BAD_ARGUMENT, "");
-    if (it->has_failed) return say(it, RLIBREG_REOPEN, "refused S2 Reopen\n");
+    uint32_t status = refuse(it);
+    if (status) return status;
     for (;;) {
-        uint32_t status = over_bytes(it, bind_into(it, &what, out, room));
+        status = over_bytes(it, bind_into(it, &what, out, room));
         int again = text_was_cut(it) || status == RLIBREG_NO_ROOM;
         if (!status && !again) break;
         rlibreg_image_free(out);
