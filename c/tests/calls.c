@@ -180,6 +180,77 @@ static void try_listing(uint64_t libraries, uint64_t preloads, uint64_t generati
     }
 }
 
+/* An answer that speaks of nothing but this. */
+static int is_answer(const rlibreg_answer *it, uint32_t status, uint64_t bytes, uint64_t text) {
+    rlibreg_answer wanted = { .status = status, .bytes = bytes, .text = text };
+    return !memcmp(it, &wanted, sizeof wanted);
+}
+
+static void try_file(const char *name, struct file wanted) {
+    rlibreg_answer answer;
+    for (size_t room = 0; room <= wanted.length + 1; room++) {
+        uint8_t *bytes = guarded(room);
+        uint32_t status = rlibreg_file(disk, sizeof disk, name, strlen(name), bytes, room, NULL, 0,
+                                       &answer);
+        WANT(status == (room < wanted.length ? RLIBREG_NO_ROOM : RLIBREG_DONE));
+        WANT(is_answer(&answer, status, wanted.length, 0));
+        if (!status) WANT(!memcmp(bytes, wanted.bytes, wanted.length));
+        check_guard(bytes, room);
+    }
+}
+
+/* A name that no library has, with every room for the text. */
+static void try_no_file(const char *name, size_t length) {
+    const char *line = "refused C3 NotInstalled\n";
+    for (size_t room = 0; room <= strlen(line) + 1; room++) {
+        rlibreg_answer answer;
+        uint8_t *bytes = guarded(8);
+        char *text = guarded(room);
+        uint32_t status =
+            rlibreg_file(disk, sizeof disk, name, length, bytes, 8, text, room, &answer);
+        WANT(status == RLIBREG_NOT_INSTALLED && is_answer(&answer, status, 0, strlen(line)));
+        WANT(!memcmp(text, line, room < strlen(line) ? room : strlen(line)));
+        check_guard(bytes, 0);
+        check_guard(text, room);
+    }
+}
+
+/* Names of no form, beside one that a library has. */
+static void try_no_files(const char *name) {
+    char names[1000];
+    size_t length = strlen(name);
+    memset(names, name[0], sizeof names);
+    memcpy(names, name, length + 1);
+    try_no_file(NULL, 0);
+    try_no_file(names, length - 1);
+    try_no_file(names, length + 1); /* with the byte 0 behind it */
+    try_no_file(names, sizeof names);
+    names[0] ^= 0x80;
+    try_no_file(names, length);
+}
+
+static void try_info(rlibreg_information wanted) {
+    rlibreg_answer answer;
+    rlibreg_information *it = guarded(sizeof *it);
+    WANT(!rlibreg_info(disk, sizeof disk, it, NULL, 0, &answer));
+    WANT(!memcmp(it, &wanted, sizeof wanted) && is_answer(&answer, RLIBREG_DONE, 0, 0));
+    check_guard(it, sizeof *it);
+}
+
+/* Without a registry neither is told, and nothing is written but the text. */
+static void try_nothing_told(size_t length, uint32_t wanted, const char *line) {
+    char text[64];
+    rlibreg_answer answer;
+    rlibreg_information *it = guarded(sizeof *it);
+    WANT(rlibreg_info(disk, length, it, text, sizeof text, &answer) == wanted);
+    WANT(is_answer(&answer, wanted, 0, strlen(line)) && !memcmp(text, line, strlen(line)));
+    memset(text, 0, sizeof text);
+    WANT(rlibreg_file(disk, length, "", 0, (uint8_t *)it, sizeof *it, text, sizeof text, &answer) ==
+         wanted);
+    WANT(is_answer(&answer, wanted, 0, strlen(line)) && !memcmp(text, line, strlen(line)));
+    check_guard(it, 0);
+}
+
 /* An image, and how much room it has. */
 struct image {
     rlibreg_object *objects;
@@ -293,6 +364,13 @@ static void try_damaged(struct file program, struct file library) {
         uint32_t bound = rlibreg_bind(disk, sizeof disk, program.bytes, program.length, 0x10000,
                                       objects, 64, segments, 64, bytes, ROOM, text, ROOM, &answer);
         WANT(is_status(bound) && bound != RLIBREG_BAD_ARGUMENT);
+        rlibreg_information told;
+        uint32_t informed = rlibreg_info(disk, sizeof disk, &told, text, ROOM, &answer);
+        WANT(informed ? is_status(informed) && listed == informed
+                      : !listed || listed == RLIBREG_DAMAGED);
+        uint32_t given =
+            rlibreg_file(disk, sizeof disk, names, 1, bytes, ROOM, text, ROOM, &answer);
+        WANT(informed ? given == informed : !given || given == RLIBREG_NOT_INSTALLED);
         struct call replace = { 'r', library.bytes, library.length };
         WANT(is_status(plan(replace, bytes, ROOM, text, ROOM, &answer)));
         struct call upgrade = { 'u', NULL, 0 };
@@ -309,6 +387,8 @@ static void try_lengths(void) {
     char text[64];
     rlibreg_answer answer;
     const char *line = "refused S6 BadGeometry\n";
+    try_nothing_told(sizeof disk - 1, RLIBREG_BAD_GEOMETRY, line);
+    try_nothing_told(0, RLIBREG_BAD_GEOMETRY, line);
     for (size_t length = 0; length < 8 * SECTOR; length += 61) {
         uint32_t status = rlibreg_list(length ? disk : NULL, length, NULL, 0, NULL, 0, text,
                                        sizeof text, &answer);
@@ -339,10 +419,12 @@ int main(int argc, char **argv) {
 
     try_lengths();
     try_refusal(install, RLIBREG_NOT_FORMATTED, "refused S3 NotFormatted\n");
+    try_nothing_told(sizeof disk, RLIBREG_NOT_FORMATTED, "refused S3 NotFormatted\n");
     try_steps(format, 3); /* a sync, the root, a sync */
     try_plan(format);
     try_refusal(format, RLIBREG_ALREADY_FORMATTED, "refused S4 AlreadyFormatted\n");
     try_listing(0, 0, 0, "", 0, "end\n");
+    try_info((rlibreg_information){ 2, SECTORS, 0, 0, 0, 38, 1, 35 * SECTOR });
     try_bind_refusal(program, 0x10000, RLIBREG_MISSING, missing);
     try_bind_refusal(program, 0x10001, RLIBREG_BAD_BASE, "refused B2 BadBase\n");
     try_bind_refusal((struct file){ NULL, 0 }, 0, RLIBREG_BAD_PROGRAM, "refused B1 E1 TooShort\n");
@@ -353,12 +435,17 @@ int main(int argc, char **argv) {
     try_refusal(install, RLIBREG_ALREADY_INSTALLED, "refused C2 AlreadyInstalled\n");
     snprintf(said, sizeof said, "library %s %zu\nend\n", name, library.length);
     try_listing(1, 0, 1, names, one, said);
+    try_info((rlibreg_information){ 2, SECTORS, 1, 1, 0, 35, 1, 33 * SECTOR });
+    try_file(name, library);
+    try_no_files(name);
     try_image(program, name);
     try_bind_refusal(program, 0x7ffffffff000, RLIBREG_NO_PLACE, "refused B4 NoRoom\n");
     try_plan(replace);
     try_plan(preload);
     snprintf(said, sizeof said, "library %s %zu\npreload %s\nend\n", name, other.length, name);
     try_listing(1, 1, 3, names, 2 * one, said);
+    try_info((rlibreg_information){ 2, SECTORS, 3, 1, 1, 35, 2, 33 * SECTOR });
+    try_file(name, other);
     try_refusal(remove, RLIBREG_IN_PRELOADS, "refused C4 InPreloads\n");
     try_names(name);
     try_damaged(program, library);
@@ -366,6 +453,8 @@ int main(int argc, char **argv) {
     try_plan(upgrade);
     try_plan(remove);
     try_listing(0, 0, 5, "", 0, "end\n");
+    try_info((rlibreg_information){ 2, SECTORS, 5, 0, 0, 38, 1, 35 * SECTOR });
+    try_no_file(name, one - 1);
     try_refusal(remove, RLIBREG_NOT_INSTALLED, "refused C3 NotInstalled\n");
     WANT(!strcmp(rlibreg_status_name(0), "done") && !strcmp(rlibreg_status_name(7), "unknown"));
     free(library.bytes);
