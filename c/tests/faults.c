@@ -153,12 +153,17 @@ struct outcome {
 static void want_reopen(rlibreg *it, const struct change *change) {
     rlibreg_listing listing;
     rlibreg_image image;
+    rlibreg_information information;
+    void *bytes;
+    size_t length;
     if (change->opens) return; /* the struct has no file then */
     WANT(change->make(it) == RLIBREG_REOPEN);
     WANT(!strcmp(rlibreg_text(it), "refused S2 Reopen\n"));
     WANT(rlibreg_listing_of(it, &listing) == RLIBREG_REOPEN && !listing.entries);
     WANT(rlibreg_image_of(it, program.bytes, program.length, 0, &image) == RLIBREG_REOPEN);
     WANT(rlibreg_last(it)->status == RLIBREG_REOPEN && !image.bytes);
+    WANT(rlibreg_file_of(it, name, &bytes, &length) == RLIBREG_REOPEN && !bytes && !length);
+    WANT(rlibreg_info_of(it, &information) == RLIBREG_REOPEN);
 }
 
 /* Makes a change, from the opening of the disk to its closing. */
@@ -253,34 +258,53 @@ static void try_ends(const struct change *change, long calls) {
 
 /* ---- Memory */
 
-/* Looks at the disk, and says by which status, if not by those without a fault. */
-static uint32_t look(rlibreg *it, const uint32_t usual[2]) {
+enum { LOOKS = 4 };
+
+/* Looks at the disk, by the call of this number. */
+static uint32_t look_by(rlibreg *it, int number) {
+    uint32_t status;
     rlibreg_listing listing;
     rlibreg_image image;
-    uint32_t status = rlibreg_listing_of(it, &listing);
-    rlibreg_listing_free(&listing);
-    if (status != usual[0]) return status;
-    status = rlibreg_image_of(it, program.bytes, program.length, 0x10000, &image);
-    rlibreg_image_free(&image);
-    return status == usual[1] ? RLIBREG_DONE : status;
+    rlibreg_information information;
+    void *bytes;
+    size_t length;
+    switch (number) {
+    case 0:
+        status = rlibreg_listing_of(it, &listing);
+        rlibreg_listing_free(&listing);
+        return status;
+    case 1:
+        status = rlibreg_image_of(it, program.bytes, program.length, 0x10000, &image);
+        rlibreg_image_free(&image);
+        return status;
+    case 2:
+        status = rlibreg_file_of(it, name, &bytes, &length);
+        free(bytes);
+        return status;
+    }
+    return rlibreg_info_of(it, &information);
 }
 
-static void find_usual(const struct change *change, uint32_t usual[2]) {
-    rlibreg_listing listing;
-    rlibreg_image image;
+/* Looks at the disk, and says by which status, if not by those without a fault. */
+static uint32_t look(rlibreg *it, const uint32_t usual[LOOKS]) {
+    for (int i = 0; i < LOOKS; i++) {
+        uint32_t status = look_by(it, i);
+        if (status != usual[i]) return status;
+    }
+    return RLIBREG_DONE;
+}
+
+static void find_usual(const struct change *change, uint32_t usual[LOOKS]) {
     rlibreg *it = rlibreg_create();
     change->prepare();
     WANT(it && !rlibreg_open(it, DISK, 0));
-    usual[0] = rlibreg_listing_of(it, &listing);
-    usual[1] = rlibreg_image_of(it, program.bytes, program.length, 0x10000, &image);
-    rlibreg_listing_free(&listing);
-    rlibreg_image_free(&image);
+    for (int i = 0; i < LOOKS; i++) usual[i] = look_by(it, i);
     rlibreg_close(it);
 }
 
 /* Has each growth fail, from the making of the struct on: nothing was done, and all goes on. */
 static long try_memory(const struct change *change) {
-    uint32_t usual[2] = { 0 };
+    uint32_t usual[LOOKS] = { 0 };
     if (!change->opens) find_usual(change, usual);
     for (long n = 0;; n++) {
         change->prepare();
@@ -310,12 +334,17 @@ static long try_memory(const struct change *change) {
 static void try_misuse(void) {
     rlibreg_listing listing;
     rlibreg_image image;
+    rlibreg_information information;
+    void *bytes;
+    size_t length;
     leave_empty();
     rlibreg *it = rlibreg_create();
     WANT(!rlibreg_text(it)[0] && rlibreg_last(it)->status == 0);
     WANT(rlibreg_listing_of(it, &listing) == RLIBREG_BAD_GEOMETRY); /* it has no file */
     WANT(!strcmp(rlibreg_text(it), "refused S6 BadGeometry\n"));
     WANT(rlibreg_image_of(it, program.bytes, program.length, 0, &image) == RLIBREG_BAD_GEOMETRY);
+    WANT(rlibreg_file_of(it, name, &bytes, &length) == RLIBREG_BAD_GEOMETRY && !bytes);
+    WANT(rlibreg_info_of(it, &information) == RLIBREG_BAD_GEOMETRY);
     WANT(make_install(it) == RLIBREG_READ_ONLY);
     WANT(rlibreg_format(it, DISK, 7, 0) == RLIBREG_BAD_ARGUMENT);
     WANT(rlibreg_format(it, DISK, 4194305, 0) == RLIBREG_BAD_ARGUMENT);
