@@ -18,8 +18,9 @@ import os
 import threading
 from typing import Iterable, NamedTuple, Union
 
-__all__ = ['Closed', 'Error', 'Held', 'Image', 'Library', 'Listing', 'Object', 'Permissions',
-           'Refusal', 'Registry', 'Segment', 'Status', 'SystemFault', 'format', 'upgrade', 'version']
+__all__ = ['Closed', 'Error', 'Held', 'Image', 'Info', 'Library', 'Listing', 'Object',
+           'Permissions', 'Refusal', 'Registry', 'Segment', 'Status', 'SystemFault', 'format',
+           'upgrade', 'version']
 
 PathName = Union[str, bytes, os.PathLike]
 Content = Union[bytes, bytearray, memoryview, str, os.PathLike]
@@ -82,6 +83,19 @@ class Listing(NamedTuple):
     generation: int
     libraries: list[Library]
     preloads: list[str]
+
+
+class Info(NamedTuple):
+    """What is told of a registry as a whole."""
+
+    version: int  # of the disk's layout: 2
+    sectors: int  # how many the disk has
+    generation: int  # how many changes the registry has taken
+    libraries: int  # how many are installed
+    preloads: int  # how many there are
+    free_sectors: int
+    free_runs: int  # in how many runs these are
+    largest: int  # the most bytes of a file that goes in now under a new name, or 0
 
 
 class Segment(NamedTuple):
@@ -181,6 +195,10 @@ class _Entry(ctypes.Structure):
                 ('file_length', ctypes.c_uint32)]
 
 
+class _Information(ctypes.Structure):
+    _fields_ = [(name, ctypes.c_uint64) for name in Info._fields]
+
+
 class _Listing(ctypes.Structure):
     _fields_ = [('generation', ctypes.c_uint64), ('libraries', ctypes.c_size_t),
                 ('preloads', ctypes.c_size_t), ('entries', ctypes.POINTER(_Entry)),
@@ -214,6 +232,8 @@ _CALLS = {  # what each gives, and what it takes
     'preload': (_NUMBER, _POINTER, ctypes.POINTER(_TEXT), _SIZE),
     'listing_of': (_NUMBER, _POINTER, ctypes.POINTER(_Listing)),
     'listing_free': (None, ctypes.POINTER(_Listing)),
+    'file_of': (_NUMBER, _POINTER, _TEXT, ctypes.POINTER(_POINTER), ctypes.POINTER(_SIZE)),
+    'info_of': (_NUMBER, _POINTER, ctypes.POINTER(_Information)),
     'image_of': (_NUMBER, _POINTER, _TEXT, _SIZE, ctypes.c_uint64, ctypes.POINTER(_Image)),
     'image_free': (None, ctypes.POINTER(_Image)),
 }
@@ -232,6 +252,8 @@ def _load() -> ctypes.CDLL:
 
 
 _library = _load()
+_free = ctypes.CDLL(None).free  # of the process, as the library's malloc
+_free.restype, _free.argtypes = None, [_POINTER]
 
 
 def version() -> int:
@@ -414,6 +436,22 @@ class Registry:
             return _listing(given)
         finally:
             _library.rlibreg_listing_free(ctypes.byref(given))
+
+    def file(self, name: str) -> bytes:
+        """The bytes of the library of this name, as they were installed. Whether they still are
+        those of a library isn't looked at, nor is any other library's file."""
+        word, given, length = _word(name), _POINTER(), _SIZE()
+        try:
+            self._handle.call('file_of', word, ctypes.byref(given), ctypes.byref(length))
+            return ctypes.string_at(given, length.value)
+        finally:
+            _free(given)
+
+    def info(self) -> Info:
+        """What is told of the registry as a whole. It reads no library's file."""
+        given = _Information()
+        self._handle.call('info_of', ctypes.byref(given))
+        return Info(*(getattr(given, name) for name in Info._fields))
 
     def bind(self, program: Content, base: int) -> Image:
         """Binds a program at an address, with the preloads and the libraries that it needs."""

@@ -89,6 +89,7 @@ class Arguments(OnDisk):
         with Registry(self.disk, changes=True) as registry:
             registry.install(LIBRARY)
             for call in (lambda: registry.remove('b\0c'), lambda: registry.preload(['b\0']),
+                         lambda: registry.file('b\0'),
                          lambda: Registry(f'{self.disk}\0'), lambda: rlibreg.format('a\0', 64)):
                 self.assertRaises(ValueError, call)
 
@@ -105,6 +106,7 @@ class Arguments(OnDisk):
             self.assertRaises(TypeError, registry.install, 5)
             self.assertRaises(TypeError, registry.preload, 'b')
             self.assertRaises(TypeError, registry.remove, 5)
+            self.assertRaises(TypeError, registry.file, 5)
 
 
 class Errors(OnDisk):
@@ -151,8 +153,9 @@ class Errors(OnDisk):
         registry = Registry(self.disk, changes=True)
         registry.close()
         registry.close()
-        for call in (registry.list, registry.__enter__, lambda: registry.install(LIBRARY),
-                     lambda: registry.bind(PROGRAM, 0)):
+        for call in (registry.list, registry.info, registry.__enter__,
+                     lambda: registry.install(LIBRARY), lambda: registry.bind(PROGRAM, 0),
+                     lambda: registry.file('b')):
             self.assertIsInstance(self.refused(Status.BAD_ARGUMENT, call), rlibreg.Closed)
 
 
@@ -248,6 +251,51 @@ class Processes(OnDisk):
         registry.close()
 
 
+class Contents(OnDisk):
+    def test_each_library_has_its_bytes(self):
+        """Each stored library, by itself on the disk."""
+        count = 0
+        with Registry(self.disk, changes=True) as registry:
+            for path in sorted(DATA.glob('*.so')):
+                try:
+                    registry.install(path)
+                except rlibreg.Refusal:
+                    continue
+                name = registry.list().libraries[-1].name
+                self.assertEqual(registry.file(name), path.read_bytes())
+                registry.remove(name)
+                self.refused(Status.NOT_INSTALLED, registry.file, name)
+                count += 1
+        self.assertGreater(count, 50)
+
+    def test_what_is_damaged_keeps_nothing_else_from_being_read(self):
+        with Registry(self.disk, changes=True) as registry:
+            registry.install(LIBRARY)
+            registry.install(file('first.so'))
+            info = registry.info()
+            first, second = (it.name for it in registry.list().libraries)
+        with open(self.disk, 'r+b') as disk:
+            disk.seek(2 * 512)  # the first library's data
+            disk.write(b'\0')
+        with Registry(self.disk) as registry:
+            self.refused(Status.DAMAGED, registry.list)
+            self.assertEqual(registry.file(second), file('first.so'))
+            self.assertEqual(registry.file(first), b'\0' + LIBRARY.read_bytes()[1:])
+            self.assertEqual(registry.info(), info)
+
+    def test_the_greatest_file_goes_in(self):
+        with Registry(self.disk, changes=True) as registry:
+            info = registry.info()
+            self.assertEqual(info[:7], (2, SECTORS, 0, 0, 0, SECTORS - 2, 1))
+            data = LIBRARY.read_bytes()
+            self.refused(Status.FULL, registry.install, data.ljust(info.largest + 1, b'+'))
+            data = data.ljust(info.largest, b'+')
+            registry.install(data)
+            registry.preload(['b'])
+            self.assertEqual(registry.file('b'), data)
+            self.assertEqual(registry.info(), (2, SECTORS, 2, 1, 1, 1, 1, 0))
+
+
 class Objects(OnDisk):
     def test_an_image_has_its_objects(self):
         with Registry(self.disk, changes=True) as registry:
@@ -270,6 +318,7 @@ class Memory(OnDisk):
         self.disk.write_bytes(file('made=many.changes'))
         with Registry(self.disk) as registry:
             self.assertEqual(len(registry.list().libraries), 2048)
+            self.assertEqual((registry.info().libraries, registry.info().largest), (2048, 0))
 
     def test_an_image_stays(self):
         with Registry(self.disk, changes=True) as registry:
@@ -285,6 +334,9 @@ class Memory(OnDisk):
             self.is_kept(100, lambda: registry.bind(PROGRAM, 0x10000))
             self.is_kept(100, lambda: self.refused(Status.BAD_BASE, registry.bind, PROGRAM, 1))
             self.is_kept(2000, registry.list)
+            self.is_kept(2000, registry.info)
+            self.is_kept(2000, lambda: registry.file('b'))
+            self.is_kept(2000, lambda: self.refused(Status.NOT_INSTALLED, registry.file, 'c'))
             self.is_kept(2000, lambda: self.refused(Status.HELD, Registry, self.disk))
 
     def is_kept(self, count, call):
