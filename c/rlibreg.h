@@ -189,10 +189,9 @@ typedef struct rlibreg_information {
     uint64_t generation;   /* how many changes the registry has taken */
     uint64_t libraries;    /* how many are installed */
     uint64_t preloads;     /* how many there are */
-    uint64_t free_sectors; /* how many sectors are free */
+    uint64_t free_sectors; /* how many sectors nothing uses: catalogues need some of them */
     uint64_t free_runs;    /* in how many runs they are */
-    uint64_t largest;      /* the greatest length in bytes of a file that an installation under a
-                              new name would take now; 0 where it would take none */
+    uint64_t largest;      /* how many bytes a library of a new name may have now; 0: none goes in */
 } rlibreg_information;
 
 RLIBREG_SAME(sizeof(rlibreg_answer) == 56);

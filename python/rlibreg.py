@@ -93,9 +93,9 @@ class Info(NamedTuple):
     generation: int  # how many changes the registry has taken
     libraries: int  # how many are installed
     preloads: int  # how many there are
-    free_sectors: int
+    free_sectors: int  # how many nothing uses: catalogues need some of them
     free_runs: int  # in how many runs these are
-    largest: int  # the most bytes of a file that goes in now under a new name, or 0
+    largest: int  # how many bytes a library of a new name may have now; 0: none goes in
 
 
 class Segment(NamedTuple):
