@@ -191,7 +191,7 @@ typedef struct rlibreg_information {
     uint64_t preloads;     /* how many there are */
     uint64_t free_sectors; /* how many sectors nothing uses: catalogues need some of them */
     uint64_t free_runs;    /* in how many runs they are */
-    uint64_t largest;      /* how many bytes a library of a new name may have now; 0: none goes in */
+    uint64_t largest;      /* how many bytes a library of a new name may have now, or 0 */
 } rlibreg_information;
 
 RLIBREG_SAME(sizeof(rlibreg_answer) == 56);

@@ -95,7 +95,7 @@ class Info(NamedTuple):
     preloads: int  # how many there are
     free_sectors: int  # how many nothing uses: catalogues need some of them
     free_runs: int  # in how many runs these are
-    largest: int  # how many bytes a library of a new name may have now; 0: none goes in
+    largest: int  # how many bytes a library of a new name may have now, or 0
 
 
 class Segment(NamedTuple):
