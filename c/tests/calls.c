@@ -190,8 +190,8 @@ static void try_file(const char *name, struct file wanted) {
     rlibreg_answer answer;
     for (size_t room = 0; room <= wanted.length + 1; room++) {
         uint8_t *bytes = guarded(room);
-        uint32_t status = rlibreg_file(disk, sizeof disk, name, strlen(name), bytes, room, NULL, 0,
-                                       &answer);
+        uint32_t status =
+            rlibreg_file(disk, sizeof disk, name, strlen(name), bytes, room, NULL, 0, &answer);
         WANT(status == (room < wanted.length ? RLIBREG_NO_ROOM : RLIBREG_DONE));
         WANT(is_answer(&answer, status, wanted.length, 0));
         if (!status) WANT(!memcmp(bytes, wanted.bytes, wanted.length));
