@@ -401,65 +401,96 @@ static void try_lengths(void) {
     }
 }
 
-int main(int argc, char **argv) {
-    WANT(argc == 5);
-    struct file library = read_file(argv[1]), other = read_file(argv[2]),
-                program = read_file(argv[3]);
-    const char *name = argv[4];
-    char names[600], said[600], missing[600];
-    size_t one = strlen(name) + 1;
-    struct call format = { 'f', NULL, 0 }, upgrade = { 'u', NULL, 0 },
-                install = { 'i', library.bytes, library.length },
-                replace = { 'r', other.bytes, other.length }, remove = { 'd', name, one - 1 },
-                preload = { 'p', name, one }, none = { 'p', NULL, 0 },
-                short_file = { 'i', library.bytes, 63 };
-    snprintf(missing, sizeof missing, "refused B3 Missing /program %s\n", name);
-    memcpy(names, name, one);
-    memcpy(names + one, name, one);
+/* ---- A registry, from the first call to the last */
 
-    try_lengths();
-    try_refusal(install, RLIBREG_NOT_FORMATTED, "refused S3 NotFormatted\n");
+struct given {
+    struct file library, other, program;
+    const char *name; /* the SONAME of the first two, with a byte 0 behind it */
+};
+
+static struct call install_of(struct file file) {
+    return (struct call){ 'i', file.bytes, file.length };
+}
+
+static struct call replace_by(struct file file) {
+    return (struct call){ 'r', file.bytes, file.length };
+}
+
+static void try_empty(const struct given *it) {
+    char missing[600];
+    struct call format = { 'f', NULL, 0 };
+    snprintf(missing, sizeof missing, "refused B3 Missing /program %s\n", it->name);
+    try_refusal(install_of(it->library), RLIBREG_NOT_FORMATTED, "refused S3 NotFormatted\n");
     try_nothing_told(sizeof disk, RLIBREG_NOT_FORMATTED, "refused S3 NotFormatted\n");
     try_steps(format, 3); /* a sync, the root, a sync */
     try_plan(format);
     try_refusal(format, RLIBREG_ALREADY_FORMATTED, "refused S4 AlreadyFormatted\n");
     try_listing(0, 0, 0, "", 0, "end\n");
     try_info((rlibreg_information){ 2, SECTORS, 0, 0, 0, 38, 1, 35 * SECTOR });
-    try_bind_refusal(program, 0x10000, RLIBREG_MISSING, missing);
-    try_bind_refusal(program, 0x10001, RLIBREG_BAD_BASE, "refused B2 BadBase\n");
+    try_bind_refusal(it->program, 0x10000, RLIBREG_MISSING, missing);
+    try_bind_refusal(it->program, 0x10001, RLIBREG_BAD_BASE, "refused B2 BadBase\n");
     try_bind_refusal((struct file){ NULL, 0 }, 0, RLIBREG_BAD_PROGRAM, "refused B1 E1 TooShort\n");
+}
 
-    try_refusal(short_file, RLIBREG_BAD_FILE, "refused C1 E1 TooShort\n");
-    try_refusal(replace, RLIBREG_NOT_INSTALLED, "refused C3 NotInstalled\n");
-    try_plan(install);
-    try_refusal(install, RLIBREG_ALREADY_INSTALLED, "refused C2 AlreadyInstalled\n");
-    snprintf(said, sizeof said, "library %s %zu\nend\n", name, library.length);
-    try_listing(1, 0, 1, names, one, said);
+static void try_installed(const struct given *it) {
+    char said[600];
+    struct file short_file = { it->library.bytes, 63 };
+    try_refusal(install_of(short_file), RLIBREG_BAD_FILE, "refused C1 E1 TooShort\n");
+    try_refusal(replace_by(it->other), RLIBREG_NOT_INSTALLED, "refused C3 NotInstalled\n");
+    try_plan(install_of(it->library));
+    try_refusal(install_of(it->library), RLIBREG_ALREADY_INSTALLED,
+                "refused C2 AlreadyInstalled\n");
+    snprintf(said, sizeof said, "library %s %zu\nend\n", it->name, it->library.length);
+    try_listing(1, 0, 1, it->name, strlen(it->name) + 1, said);
     try_info((rlibreg_information){ 2, SECTORS, 1, 1, 0, 35, 1, 33 * SECTOR });
-    try_file(name, library);
-    try_no_files(name);
-    try_image(program, name);
-    try_bind_refusal(program, 0x7ffffffff000, RLIBREG_NO_PLACE, "refused B4 NoRoom\n");
-    try_plan(replace);
+    try_file(it->name, it->library);
+    try_no_files(it->name);
+    try_image(it->program, it->name);
+    try_bind_refusal(it->program, 0x7ffffffff000, RLIBREG_NO_PLACE, "refused B4 NoRoom\n");
+}
+
+static void try_changed(const struct given *it) {
+    char names[600], said[600];
+    size_t one = strlen(it->name) + 1;
+    struct call preload = { 'p', it->name, one }, remove = { 'd', it->name, one - 1 };
+    memcpy(names, it->name, one);
+    memcpy(names + one, it->name, one);
+    try_plan(replace_by(it->other));
     try_plan(preload);
-    snprintf(said, sizeof said, "library %s %zu\npreload %s\nend\n", name, other.length, name);
+    snprintf(said, sizeof said, "library %s %zu\npreload %s\nend\n", it->name, it->other.length,
+             it->name);
     try_listing(1, 1, 3, names, 2 * one, said);
     try_info((rlibreg_information){ 2, SECTORS, 3, 1, 1, 35, 2, 33 * SECTOR });
-    try_file(name, other);
+    try_file(it->name, it->other);
     try_refusal(remove, RLIBREG_IN_PRELOADS, "refused C4 InPreloads\n");
-    try_names(name);
-    try_damaged(program, library);
+    try_names(it->name);
+    try_damaged(it->program, it->library);
+}
+
+static void try_removed(const struct given *it) {
+    struct call none = { 'p', NULL, 0 }, upgrade = { 'u', NULL, 0 },
+                remove = { 'd', it->name, strlen(it->name) };
     try_plan(none);
     try_plan(upgrade);
     try_plan(remove);
     try_listing(0, 0, 5, "", 0, "end\n");
     try_info((rlibreg_information){ 2, SECTORS, 5, 0, 0, 38, 1, 35 * SECTOR });
-    try_no_file(name, one - 1);
+    try_no_file(it->name, strlen(it->name));
     try_refusal(remove, RLIBREG_NOT_INSTALLED, "refused C3 NotInstalled\n");
+}
+
+int main(int argc, char **argv) {
+    WANT(argc == 5);
+    struct given it = { read_file(argv[1]), read_file(argv[2]), read_file(argv[3]), argv[4] };
+    try_lengths();
+    try_empty(&it);
+    try_installed(&it);
+    try_changed(&it);
+    try_removed(&it);
     WANT(!strcmp(rlibreg_status_name(0), "done") && !strcmp(rlibreg_status_name(7), "unknown"));
-    free(library.bytes);
-    free(other.bytes);
-    free(program.bytes);
+    free(it.library.bytes);
+    free(it.other.bytes);
+    free(it.program.bytes);
     puts("calls: buffers of every size, damaged bytes, and refusals: as wanted");
     return 0;
 }
