@@ -1,10 +1,10 @@
 #!/usr/bin/env bash
-# build.sh [COMPILER [FOLDER]] builds the C library, the loader and the program: FOLDER gets
-# librlibreg.a, librlibreg.so, rlibreg.h, rlibreg-run and rlibreg. COMPILER is `llvm` or `rattle`,
-# the toolchain's own; FOLDER is c/out.
+# build.sh [COMPILER [FOLDER]] builds the C library, the loader and the programs: FOLDER gets
+# librlibreg.a, librlibreg.so, rlibreg.h, rlibreg-run, rlibreg and rlibreg-tool. COMPILER is `llvm`
+# or `rattle`, the toolchain's own; FOLDER is c/out.
 #
-# The crates rlibreg_c and rlibreg are proved first, and the crates below them, unless their proofs
-# are kept.
+# The crates rlibreg_c, rlibreg and rlibreg_tool are proved first, and the crates below them, unless
+# their proofs are kept.
 set -eu
 cd "$(dirname "$0")/.."
 compiler=${1:-llvm}
@@ -52,13 +52,20 @@ link_loader() {
 }
 link_loader -static-pie 2> /dev/null || link_loader -pie
 
-# The program, with what its language can't ask of the system: RLIBREG_O is what `rt run` links.
-if [ -z "${RLIBREG_O:-}" ]; then
-    (cd crates/rlibreg && rt run --backend "$compiler" -- image data/minimal.so 0x10000 > /dev/null)
-    RLIBREG_O=crates/rlibreg/out/rlibreg.o
-fi
-gcc $flags -pie -Wl,--gc-sections,--wrap=fsync -o "$folder/rlibreg" c/rlibreg_forget.c \
-    "$RLIBREG_O" "$kit/c/libos_c.a" "$kit/c/liblibc_c.a" -lm
+# program NAME OBJECT CRATE WORD..: a program, with what its language can't ask of the system. OBJECT
+# is what `rt run` links, by which it is made where it is empty; the words are those of a run.
+program() {
+    local name=$1 object=$2 crate=$3
+    shift 3
+    if [ -z "$object" ]; then
+        (cd "crates/$crate" && rt run --backend "$compiler" -- "$@" > /dev/null)
+        object=crates/$crate/out/$crate.o
+    fi
+    gcc $flags -pie -Wl,--gc-sections,--wrap=fsync -o "$folder/$name" c/rlibreg_forget.c \
+        "$object" "$kit/c/libos_c.a" "$kit/c/liblibc_c.a" -lm
+}
+program rlibreg "${RLIBREG_O:-}" rlibreg image data/minimal.so 0x10000
+program rlibreg-tool "${RLIBREG_TOOL_O:-}" rlibreg_tool info data/disk
 
 # The shared library exports what the header declares, and no other name.
 version=$(c/version.sh)
@@ -78,4 +85,4 @@ soname=librlibreg.so.${version%.*}
     ln -s "librlibreg.so.$version" "$soname"
     ln -s "$soname" librlibreg.so
 )
-echo "built in $folder: librlibreg.a, librlibreg.so, rlibreg.h, rlibreg-run, rlibreg"
+echo "built in $folder: librlibreg.a, librlibreg.so, rlibreg.h, rlibreg-run, rlibreg, rlibreg-tool"

@@ -60,6 +60,7 @@ add_all() {
     local shared=librlibreg.so page
     add 755 "$2/rlibreg" "$1/bin/rlibreg"
     add 755 "$2/rlibreg-run" "$1/bin/rlibreg-run"
+    add 755 "$2/rlibreg-tool" "$1/bin/rlibreg-tool"
     add 644 "$2/rlibreg.h" "$1/include/rlibreg.h"
     add 644 "$2/librlibreg.a" "$1/lib/librlibreg.a"
     add 644 "$2/$shared.$version" "$1/lib/$shared.$version"

@@ -1,6 +1,6 @@
 #!/usr/bin/env bash
-# manual.sh FOLDER makes the manual pages rlibreg.1, rlibreg-run.1 and rlibreg.3 from docs/C.md and
-# docs/COMMANDS.md, by pandoc.
+# manual.sh FOLDER makes the manual pages rlibreg.1, rlibreg-tool.1, rlibreg-run.1 and rlibreg.3 from
+# docs/COMMANDS.md, docs/TOOL.md and docs/C.md, by pandoc.
 set -eu
 cd "$(dirname "$0")/../docs"
 folder=$1
@@ -18,6 +18,8 @@ page() {
 
 awk '/^## Synopsis/ {inside = 1} inside' COMMANDS.md |
     page rlibreg 1 'keeps a registry of shared libraries, and binds programs'
+awk '/^## Synopsis/ {inside = 1} inside' TOOL.md |
+    page rlibreg-tool 1 'tells what the disk of a registry has, and gives it back'
 
 # The section of C.md on the loader, which begins with its words; and the other sections.
 awk '/^## / {inside = $2 == "rlibreg-run"; if (inside) print "## Synopsis"; next}
