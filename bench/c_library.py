@@ -66,6 +66,10 @@ def measure(it, folder, number, length):
 
     big, names_room = (room, ctypes.c_size_t(ROOM)), ctypes.c_size_t(ROOM)
     print(f'  rlibreg_list: {least(lambda: ask("list", entries, ctypes.c_size_t(4096), room, names_room)):.1f} ms')
+    asked = (*bytes_and_length(names[0]), *big)
+    print(f'  rlibreg_file: {least(lambda: ask("file", *asked)):.1f} ms, {answer.bytes} bytes')
+    information = ctypes.create_string_buffer(64)
+    print(f'  rlibreg_info: {least(lambda: ask("info", information)):.1f} ms')
     objects = ctypes.create_string_buffer(72 * 4096)
     bind = (*bytes_and_length(program), ctypes.c_uint64(1 << 32), objects, ctypes.c_size_t(4096), entries)
     bind += (ctypes.c_size_t(4096), *big)
