@@ -50,10 +50,10 @@
  *   refused with EBUSY where it is mounted or in use in another way; who looks shares it. The lock
  *   is that of its node: everybody names the same node. The system's udev holds it for a moment
  *   after each change, so a change without RLIBREG_WAIT tries for two seconds there.
- * - Each call opens the registry anew, which reads and tests each installed library once: some 2 ms
- *   for 8 MiB in 64 libraries, 4 ms in 500. So many changes, one by one, cost the square of their
- *   number; the program's `script` opens a disk once (docs/COMMANDS.md). A library's bytes and what
- *   is told of the whole are had without that.
+ * - Each call opens the registry anew, which reads and tests each installed library once, but not
+ *   for rlibreg_file and rlibreg_info: some 2 ms for 8 MiB in 64 libraries, 4 ms in 500. So many
+ *   changes, one by one, cost the square of their number; the program's `script` opens a disk once
+ *   (docs/COMMANDS.md).
  * - A bound image is memory, and not a process: nothing of the library runs what is in it. Who maps
  *   it calls the initializers of the libraries (DT_INIT, DT_INIT_ARRAY) before its entry, as
  *   rlibreg-run does; they are in the dynamic sections of the objects.
