@@ -14,7 +14,7 @@ room=$(mktemp -d)
 trap 'rm -rf "$room"' EXIT
 awk '/^```c$/ {block++; next} /^```$/ {inside = 0} block == 1 && /^\/\*/ {inside = 1} inside' \
     docs/C.md > "$room/updater.c"
-cp c/tests/programs/start.h "$room/"
+cp c/tests/programs/{start,say}.h "$room/"
 cd "$room"
 gcc -I"$out" -o updater updater.c "$out/librlibreg.a"
 cat > greeting.c << 'END'

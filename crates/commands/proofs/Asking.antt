@@ -15,7 +15,8 @@ use Rattle.store.specs.declared.refusal.StoreRefusal.{StoreRefusal}
 use Rattle.store.specs.declared.refusal.StoreRefusal.TheVariants as store
 use Rattle.file_disk.specs.FileDisk.{file_facts, IsNew}
 use Rattle.file_disk.specs.declared.disk.FileDisk.{FileDisk}
-use Rattle.commands.specs.Disk.{disk_refusal_text, disk_answer_text, IsOpenRefusal, IsFormatRefusal, IsUpgradeRefusal}
+use Rattle.commands.specs.Disk.{disk_answer_text, IsOpenRefusal, IsFormatRefusal, IsUpgradeRefusal}
+use Rattle.program_parts.specs.Refusal.{disk_refusal_text}
 use Rattle.commands.specs.DiskStep.{DiskStep}
 use Rattle.commands.specs.OnDisk.{RequestEnds, FormatEnds, UpgradeEnds}
 use Rattle.commands.specs.Opened.{IsOpened, IsMade, IsUpgraded}
@@ -23,9 +24,10 @@ use Rattle.commands.specs.Opening.{EndsMaking, EndsUpgrading}
 use Rattle.commands.specs.Printed.{IsTold}
 use Rattle.commands.specs.Refusal.{memory_text}
 use Rattle.commands.specs.Reply.{command_refusal_text, reply_text}
-use Rattle.commands.specs.Status.{disk_status, disk_answer_status, refusal_status, reply_status}
-use Rattle.commands.specs.declared.status.Status.{Status}
-use Rattle.commands.specs.declared.status.Status.TheVariants.{Done, Refused, BadWords, Failed, NoMemory}
+use Rattle.commands.specs.Status.{disk_answer_status, refusal_status, reply_status}
+use Rattle.program_parts.specs.Status.{disk_status}
+use Rattle.program_parts.specs.declared.status.Status.{Status}
+use Rattle.program_parts.specs.declared.status.Status.TheVariants.{Done, Refused, BadWords, Failed, NoMemory}
 use Rattle.commands.specs.Outcome.{are_bad, Asks, IsDone, IsRefused, LacksMemory, Replies, TurnsAway}
 use Rattle.commands.specs.Script.{Streams}
 use Rattle.commands.specs.Words.{CommandLine, install, replace, remove, preload, list}

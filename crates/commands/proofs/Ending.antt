@@ -8,8 +8,8 @@ use Rattle.requests.specs.declared.reply.Reply.{Reply}
 use Rattle.requests.specs.declared.reply.Reply.TheVariants as reply
 use Rattle.commands.specs.declared.file.FileFault.{FileFault}
 use Rattle.commands.specs.declared.file.FileFault.TheVariants.{CannotRead, OutOfMemory}
-use Rattle.commands.specs.declared.status.Status.{Status}
-use Rattle.commands.specs.declared.status.Status.TheVariants.{Done, Refused, BadWords, Failed, NoMemory}
+use Rattle.program_parts.specs.declared.status.Status.{Status}
+use Rattle.program_parts.specs.declared.status.Status.TheVariants.{Done, Refused, BadWords, Failed, NoMemory}
 use Rattle.commands.specs.File.{read_limit}
 use Rattle.commands.specs.Status.{reply_status, refusal_status}
 use Rattle.commands.specs.inside.Ends.{ImageEnds, IsShown, IsNotRead}

@@ -1,6 +1,6 @@
 -- What is said on standard error.
 use Rattle.std.proofs.Common.{ℕ, List, Option, None, refl, inl, inr}
-use Rattle.commands.specs.declared.status.Status.{Status}
+use Rattle.program_parts.specs.declared.status.Status.{Status}
 use Rattle.commands.specs.inside.Ends.{IsSaid}
 
 -- what is said without an output is said beside one that stays as it was

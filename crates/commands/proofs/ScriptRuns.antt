@@ -16,8 +16,8 @@ use Rattle.commands.specs.Script.{Streams, Finishes, Stops}
 use Rattle.commands.specs.declared.answer.Answer.{Answer}
 use Rattle.commands.specs.declared.answer.Answer.TheVariants.{Replied, BadLine, CutLine}
 use Rattle.commands.specs.declared.fault.ScriptFault.{ScriptFault}
-use Rattle.commands.specs.declared.status.Status.{Status}
-use Rattle.commands.specs.declared.status.Status.TheVariants.{Done}
+use Rattle.program_parts.specs.declared.status.Status.{Status}
+use Rattle.program_parts.specs.declared.status.Status.TheVariants.{Done}
 use Rattle.commands.specs.declared.summary.Summary.{Summary}
 use Rattle.commands.specs.inside.Ends.{IsRun}
 use Rattle.commands.proofs.Seen.{run_seen}

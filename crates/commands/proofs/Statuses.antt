@@ -15,11 +15,12 @@ use Rattle.commands.specs.Outcome.{EndsEarly, Runs, RunsInPart, RunsToTheEnd}
 use Rattle.commands.specs.Script.{Streams}
 use Rattle.commands.specs.declared.disk.NoRegistry.{NoRegistry}
 use Rattle.commands.specs.declared.disk.NoRegistry.TheVariants as no
-use Rattle.commands.specs.Status.{status_number, greatest, event_status, fault_status, lines_status}
+use Rattle.commands.specs.Status.{greatest, event_status, fault_status, lines_status}
+use Rattle.program_parts.specs.Status.{status_number}
 use Rattle.commands.specs.declared.fault.ScriptFault.{ScriptFault}
 use Rattle.commands.specs.declared.fault.ScriptFault.TheVariants as fault
-use Rattle.commands.specs.declared.status.Status.{Status}
-use Rattle.commands.specs.declared.status.Status.TheVariants.{Done, Refused, BadWords, Failed, NoMemory}
+use Rattle.program_parts.specs.declared.status.Status.{Status}
+use Rattle.program_parts.specs.declared.status.Status.TheVariants.{Done, Refused, BadWords, Failed, NoMemory}
 use Rattle.commands.specs.inside.Ends.{IsNoRegistry, IsRun, IsTurnedAway, ScriptEnds}
 use Rattle.commands.proofs.Asking.{told_away}
 use Rattle.commands.proofs.Ending.{reply_answers}

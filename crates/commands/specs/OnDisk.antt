@@ -12,7 +12,8 @@ use Rattle.registry.specs.Phase.{phase_of}
 use Rattle.registry.specs.Stands.{Stands}
 use Rattle.binders.specs.EventsRan.{EventStep}
 use Rattle.binders.specs.Slotted.{HoldAlone, Slotted}
-use Rattle.commands.specs.Disk.{disk_refusal_text, disk_answer_text}
+use Rattle.commands.specs.Disk.{disk_answer_text}
+use Rattle.program_parts.specs.Refusal.{disk_refusal_text}
 use Rattle.commands.specs.DiskScript.{LinesRan}
 use Rattle.commands.specs.DiskStep.{DiskStep}
 use Rattle.commands.specs.Opening.{EndsOpening, EndsMaking, EndsUpgrading}
@@ -20,11 +21,12 @@ use Rattle.commands.specs.Outcome.{Worsens}
 use Rattle.commands.specs.Printed.{IsTold}
 use Rattle.commands.specs.Reply.{reply_text}
 use Rattle.commands.specs.Script.{Streams, Ends, Breaks}
-use Rattle.commands.specs.Status.{greatest, reply_status, disk_status, disk_answer_status, fault_status, lines_status}
+use Rattle.commands.specs.Status.{greatest, reply_status, disk_answer_status, fault_status, lines_status}
+use Rattle.program_parts.specs.Status.{disk_status}
 use Rattle.commands.specs.declared.answer.Answer.{Answer}
 use Rattle.commands.specs.declared.fault.ScriptFault.{ScriptFault}
-use Rattle.commands.specs.declared.status.Status.{Status}
-use Rattle.commands.specs.declared.status.Status.TheVariants.{Done}
+use Rattle.program_parts.specs.declared.status.Status.{Status}
+use Rattle.program_parts.specs.declared.status.Status.TheVariants.{Done}
 use Rattle.commands.specs.declared.summary.Summary.{Summary}
 
 -- The registry on a disk was opened, a request was applied to it, and the disk is left so.

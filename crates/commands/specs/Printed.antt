@@ -4,8 +4,8 @@ use Rattle.std.specs.Io.KnownBytes.{Appends}
 use Rattle.commands.specs.declared.show.Shown.TheVariants as shown
 use Rattle.commands.specs.File.{read_limit}
 use Rattle.commands.specs.RunImage.{Shows}
-use Rattle.commands.specs.declared.status.Status.{Status}
-use Rattle.commands.specs.declared.status.Status.TheVariants.{Failed}
+use Rattle.program_parts.specs.declared.status.Status.{Status}
+use Rattle.program_parts.specs.declared.status.Status.TheVariants.{Failed}
 
 -- exactly this text was appended, and the status is the one that goes with it; or the writer failed
 abbrev pub IsTold : Status → List ℕ → Option (List ℕ) → Option (List ℕ) → Status → Type 0

@@ -1,64 +1,10 @@
 -- The text of a refusal.
-use Rattle.std.specs.Prelude.{ℕ, List, [], ◌++◌, codes}
-use Rattle.std.specs.Fmt.{decimal}
+use Rattle.std.specs.Prelude.{ℕ, List, ◌++◌, codes}
 use Rattle.image.specs.declared.refusal.BindRefusal.{BindRefusal}
 use Rattle.image.specs.declared.refusal.BindRefusal.TheVariants.{Program, BadBase, Missing, NoRoom, Undefined, OutOfMemory}
 use Rattle.text_output.specs.Name.{name_text}
-use Rattle.elf_file.specs.declared.refusal.ObjectRefusal.{ObjectRefusal}
-use Rattle.elf_file.specs.declared.refusal.ObjectRefusal.TheVariants.{TooShort, BadMagic, BadClass, BadData, BadVersion, BadOsAbi, BadType, BadMachine}
-use Rattle.elf_file.specs.declared.refusal.ObjectRefusal.TheVariants.{BadHeaderSize, BadProgramHeaders, TlsSegment, BadSegment, TooLarge, SegmentOrder}
-use Rattle.elf_file.specs.declared.refusal.ObjectRefusal.TheVariants.{BadDynamic, DuplicateTag, SymbolVersions, UnsupportedTag, NoHashTable, MissingTag}
-use Rattle.elf_file.specs.declared.refusal.ObjectRefusal.TheVariants.{BadEntrySize, BadRange, BadString, CommonSymbol, TlsSymbol, IfuncSymbol}
-use Rattle.elf_file.specs.declared.refusal.ObjectRefusal.TheVariants.{BadBinding, RelocationType, RelocationSymbol, RelocationPlace, BadSoname}
-use Rattle.hash_check.specs.declared.file_refusal.FileRefusal.{FileRefusal}
-use Rattle.hash_check.specs.declared.file_refusal.FileRefusal.TheVariants.{Object, DuplicateDefinition, BadHashTable}
 use Rattle.store.specs.declared.refusal.StoreRefusal.TheVariants as disk
-use Rattle.commands.specs.Disk.{disk_refusal_text}
-
--- the number and the name of the refusal of an object
-abbrev pub object_refusal_name : ObjectRefusal → List ℕ
-object_refusal_name TooShort = codes "E1 TooShort"
-object_refusal_name BadMagic = codes "E2 BadMagic"
-object_refusal_name BadClass = codes "E3 BadClass"
-object_refusal_name BadData = codes "E4 BadData"
-object_refusal_name BadVersion = codes "E5 BadVersion"
-object_refusal_name BadOsAbi = codes "E6 BadOsAbi"
-object_refusal_name BadType = codes "E7 BadType"
-object_refusal_name BadMachine = codes "E8 BadMachine"
-object_refusal_name BadHeaderSize = codes "E9 BadHeaderSize"
-object_refusal_name BadProgramHeaders = codes "E10 BadProgramHeaders"
-object_refusal_name TlsSegment = codes "E11 TlsSegment"
-object_refusal_name BadSegment = codes "E12 BadSegment"
-object_refusal_name TooLarge = codes "E13 TooLarge"
-object_refusal_name SegmentOrder = codes "E14 SegmentOrder"
-object_refusal_name BadDynamic = codes "E15 BadDynamic"
-object_refusal_name DuplicateTag = codes "E16 DuplicateTag"
-object_refusal_name SymbolVersions = codes "E17 SymbolVersions"
-object_refusal_name UnsupportedTag = codes "E18 UnsupportedTag"
-object_refusal_name NoHashTable = codes "E19 NoHashTable"
-object_refusal_name MissingTag = codes "E20 MissingTag"
-object_refusal_name BadEntrySize = codes "E21 BadEntrySize"
-object_refusal_name BadRange = codes "E22 BadRange"
-object_refusal_name BadString = codes "E23 BadString"
-object_refusal_name CommonSymbol = codes "E24 CommonSymbol"
-object_refusal_name TlsSymbol = codes "E25 TlsSymbol"
-object_refusal_name IfuncSymbol = codes "E26 IfuncSymbol"
-object_refusal_name BadBinding = codes "E27 BadBinding"
-object_refusal_name (RelocationType kind) = codes "E30 RelocationType"
-object_refusal_name RelocationSymbol = codes "E31 RelocationSymbol"
-object_refusal_name RelocationPlace = codes "E32 RelocationPlace"
-object_refusal_name BadSoname = codes "E33 BadSoname"
-
--- what follows the name: of a relocation's type, the type
-abbrev pub object_refusal_detail : ObjectRefusal → List ℕ
-object_refusal_detail (RelocationType kind) = codes " " ++ decimal kind
-object_refusal_detail refusal = []
-
--- the refusal of a file: its number, its name, and what follows them
-abbrev pub file_refusal_text : FileRefusal → List ℕ
-file_refusal_text (Object refusal) = object_refusal_name refusal ++ object_refusal_detail refusal
-file_refusal_text DuplicateDefinition = codes "E28 DuplicateDefinition"
-file_refusal_text BadHashTable = codes "E29 BadHashTable"
+use Rattle.program_parts.specs.Refusal.{disk_refusal_text, file_refusal_text}
 
 -- the line of a refusal that names an object, and what it lacks
 abbrev pub named_text : List ℕ → List ℕ → List ℕ → List ℕ

@@ -1,6 +1,5 @@
 -- What a command line says on standard error (own).
-use Rattle.std.specs.Prelude.{ℕ, List, take, Option, Some, None, codes}
-use Rattle.std.specs.Io.KnownBytes.{Appends}
+use Rattle.std.specs.Prelude.{ℕ, List, Option, Some, None, codes}
 use Rattle.commands.specs.Words.{CommandLine}
 
 -- the line of words that are no command
@@ -15,7 +14,3 @@ base_text = codes "rlibreg: bad base\n"
 abbrev pub bad_text : Option CommandLine → List ℕ
 bad_text None = words_text
 bad_text (Some line) = base_text
-
--- a front of the text was appended, perhaps none of it, and nothing else
-abbrev pub AppendsFront : Option (List ℕ) → Option (List ℕ) → List ℕ → Type 0
-AppendsFront before after text = (n : ℕ) × Appends before after (take n text)

@@ -8,21 +8,13 @@ use Rattle.requests.specs.declared.reply.Reply.TheVariants as reply
 use Rattle.binders.specs.declared.event.EventReply.{EventReply}
 use Rattle.binders.specs.declared.event.EventReply.TheVariants as event
 use Rattle.store.specs.declared.refusal.StoreRefusal.{StoreRefusal}
-use Rattle.store.specs.declared.refusal.StoreRefusal.TheVariants as store
 use Rattle.commands.specs.declared.fault.ScriptFault.{ScriptFault}
 use Rattle.commands.specs.declared.fault.ScriptFault.TheVariants as fault
 use Rattle.commands.specs.declared.show.Shown.{Shown}
 use Rattle.commands.specs.declared.show.Shown.TheVariants as shown
-use Rattle.commands.specs.declared.status.Status.{Status}
-use Rattle.commands.specs.declared.status.Status.TheVariants.{Done, Refused, BadWords, Failed, NoMemory}
-
--- the number that the process exits with
-abbrev pub status_number : Status → ℕ
-status_number Done = 0
-status_number Refused = 1
-status_number BadWords = 2
-status_number Failed = 3
-status_number NoMemory = 4
+use Rattle.program_parts.specs.Status.{disk_status, status_number}
+use Rattle.program_parts.specs.declared.status.Status.{Status}
+use Rattle.program_parts.specs.declared.status.Status.TheVariants.{Done, Refused, Failed, NoMemory}
 
 -- the one of the greater number
 abbrev pub greatest : Status → Status → Status
@@ -53,13 +45,6 @@ reply_status other = Done
 abbrev pub event_status : EventReply → Status
 event_status (event.Replied reply) = reply_status reply
 event_status other = Done
-
--- what a disk that isn't made or upgraded to a registry, or isn't opened as one, ends with
-abbrev pub disk_status : StoreRefusal → Status
-disk_status store.Device = Failed
-disk_status store.Reopen = Failed
-disk_status store.OutOfMemory = NoMemory
-disk_status other = Refused
 
 -- what making or upgrading one ends with
 abbrev pub disk_answer_status : Result (Unit {0}) StoreRefusal → Status

@@ -5,7 +5,8 @@ ghost use Rattle.std.specs.Prelude.{IfOk, IfErr, OnErr, false};
 ghost use Rattle.std.specs.IoError.{error_kind};
 ghost use Rattle.commands.specs.Outcome.{are_bad, reads_input, IsDone, IsRefused, LacksMemory};
 ghost use Rattle.commands.specs.Refusal.{memory_text};
-ghost use Rattle.commands.specs.Said.{AppendsFront, bad_text, words_text};
+ghost use Rattle.commands.specs.Said.{bad_text, words_text};
+ghost use Rattle.program_parts.specs.Said.{AppendsFront};
 ghost use Rattle.commands.specs.Words.{command_line};
 ghost use Rattle.std.specs.Io.KnownBytes.{Appends};
 ghost use Rattle.file_disk.specs.declared.disk_file.DiskFile.{DiskFile};
@@ -15,19 +16,9 @@ use crate::message::bad_command_line;
 use crate::unread::no_memory;
 use std::alloc::Global;
 use std::fs::File;
+use std::io;
 use std::io::{ErrorKind, Read, Write};
-use std::rt::{Clock, Env, Files};
-use std::{env, io};
-
-/// The words of the process after the program's name: an error of the kind `OutOfMemory` where
-/// memory was refused, and any other where a word isn't UTF-8.
-pub fn read_arguments<R: Env + AllocGlobal>(rt: &R) -> io::Result<Vec<String>> {
-    let mut words = Vec::new(rt.alloc());
-    for word in env::args(rt)?.skip(1) {
-        words.push(word)?;
-    }
-    Ok(words)
-}
+use std::rt::{Clock, Files};
 
 /// Does what `run_words` does with words that were read. Where they weren't, want of memory is
 /// answered as want of memory, and anything else as a bad command line.

@@ -5,9 +5,10 @@ ghost use Rattle.std.specs.Prelude.{Some, None, MatchResult, IfOk, map, string_b
 ghost use Rattle.commands.specs.Base.{base_of};
 ghost use Rattle.commands.specs.File.{read_limit};
 ghost use Rattle.commands.specs.Outcome.{are_bad, reads_input, IsDone, IsRefused, LacksMemory};
-ghost use Rattle.commands.specs.Said.{AppendsFront, bad_text, base_text};
+ghost use Rattle.commands.specs.Said.{bad_text, base_text};
+ghost use Rattle.program_parts.specs.Said.{AppendsFront};
 ghost use Rattle.commands.specs.Words.{command_line, line_of};
-ghost use Rattle.commands.specs.declared.status.Status.TheVariants.{BadWords, Failed};
+ghost use Rattle.program_parts.specs.declared.status.Status.TheVariants.{BadWords, Failed};
 ghost use Rattle.commands.specs.inside.Ends.{CommandEnds, ImageEnds, IsNotRead, IsSaid, IsShown};
 ghost use Rattle.file_disk.specs.declared.disk_file.DiskFile.{DiskFile};
 
@@ -18,9 +19,9 @@ use crate::message::{bad_base, bad_command_line, cannot_read};
 use crate::on_disk::{ask, bind, format, install, preload, replace, upgrade};
 use crate::script_on_disk::script;
 use crate::show::run_image;
-use crate::status::{Status, status_of};
-use crate::streams::{Behind, behind_streams};
+use crate::status::status_of;
 use crate::unread::not_read;
+use program_parts::{Behind, Status, behind_streams};
 use requests::Command;
 use std::alloc::Global;
 use std::fs::File;

@@ -6,7 +6,7 @@ ghost use Rattle.commands.specs.Status.{disk_answer_status};
 
 use crate::disk_refusal::write_disk_refusal;
 use crate::reply::write_reply;
-use crate::status::{Status, disk_status};
+use program_parts::Status;
 use requests::Reply;
 use std::io::Write;
 use store::StoreRefusal;
@@ -23,7 +23,7 @@ pub fn write_disk_answer<O: Write>(answer: Result<(), StoreRefusal>, output: &mu
             Err(_) => Status::Failed,
         },
         Err(refusal) => match write_disk_refusal(output, refusal) {
-            Ok(()) => disk_status(refusal),
+            Ok(()) => Status::of_disk(refusal),
             Err(_) => Status::Failed,
         },
     }

@@ -3,8 +3,8 @@
 //! `run_image` and `run_script` are the work over bytes, readers and writers, and have their texts
 //! as their contracts. `run_request`, `run_format`, `run_upgrade` and `run_disk_script` are the
 //! work over a disk, whatever it is. `run_words` reads the words of a command line, opens files,
-//! gives them to these calls and has the exit status; `read_arguments` has the words of the
-//! process, and `run_arguments` does the same with them.
+//! gives them to these calls and has the exit status; `run_arguments` does the same with the words
+//! of the process.
 #![tactic(auto)]
 
 mod access;
@@ -34,7 +34,6 @@ mod script_on_disk;
 mod sectors;
 mod show;
 mod status;
-mod streams;
 mod summary;
 mod takes_events;
 mod unread;
@@ -42,7 +41,7 @@ mod watched;
 mod word;
 
 pub use action::{Action, read_words};
-pub use arguments::{read_arguments, run_arguments};
+pub use arguments::run_arguments;
 pub use command::run_words;
 pub use disk_answer::write_disk_answer;
 pub use disk_refusal::write_disk_refusal;
@@ -50,13 +49,13 @@ pub use disk_script::run_script_on_disk;
 pub use fault::ScriptFault;
 pub use file::{FileFault, read_all};
 pub use making::{run_format, run_upgrade};
+pub use message::cannot_hold;
+pub use program_parts::Status;
 pub use refusal::{write_file_refusal, write_refusal};
 pub use reply::write_reply;
 pub use request::run_request;
 pub use script::run_script;
 pub use script_on_disk::run_disk_script;
 pub use show::{Shown, run_image};
-pub use status::Status;
-pub use streams::StandardStreams;
 pub use summary::Summary;
 pub use takes_events::TakesEvents;

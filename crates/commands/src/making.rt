@@ -3,7 +3,7 @@
 ghost use Rattle.commands.specs.OnDisk.{FormatEnds, UpgradeEnds};
 
 use crate::disk_answer::write_disk_answer;
-use crate::status::Status;
+use program_parts::Status;
 use registry::Registry;
 use sector_disk::Disk;
 use std::alloc::Global;

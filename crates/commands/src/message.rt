@@ -2,10 +2,11 @@
 
 ghost use Rattle.std.specs.Prelude.{◌≡◌, ◌++◌, codes, OnOk};
 ghost use Rattle.std.specs.Io.KnownBytes.{Appends};
-ghost use Rattle.commands.specs.Said.{AppendsFront, base_text, words_text};
+ghost use Rattle.commands.specs.Said.{base_text, words_text};
+ghost use Rattle.program_parts.specs.Said.{AppendsFront};
 
-use crate::status::Status;
-use std::io::{ErrorKind, Write};
+use program_parts::{Status, say};
+use std::io::Write;
 use text_output::{LINE, OutputBuffer, WriteFault};
 
 /// Writes what a line says of a path, with one write where it isn't longer than a line's buffer.
@@ -28,25 +29,6 @@ pub(crate) fn cannot_read<E: Write>(errors: &mut E, path: &str) -> Status
     Status::Failed
 }
 
-/// Gives a line to a stream, with one write where that takes it whole. A stream that fails, or
-/// takes no more, is given nothing more.
-fn say<E: Write>(errors: &mut E, line: &[u8])
-    ensures { AppendsFront (E.contents errors.old) (E.contents errors.new) line.now }
-{
-    let mut given = 0;
-    for _ in 0..u64::MAX {
-        if given == line.len() {
-            return;
-        }
-        match errors.write(&line[given..]) {
-            Ok(0) => return,
-            Ok(count) => given += count,
-            Err(fault) if fault.kind() == ErrorKind::Interrupted => {}
-            Err(_) => return,
-        }
-    }
-}
-
 /// Says that the words aren't a command.
 pub(crate) fn bad_command_line<E: Write>(errors: &mut E) -> Status
     ensures status { result ≡ Status.BadWords }
@@ -63,4 +45,11 @@ pub(crate) fn bad_base<E: Write>(errors: &mut E) -> Status
 {
     say(errors, b"rlibreg: bad base\n");
     Status::BadWords
+}
+
+/// Says that the standard streams can't be held. Gives the exit status.
+pub fn cannot_hold<E: Write>(errors: &mut E) -> u8
+    ensures { result ≡ 3 }
+{
+    cannot_read(errors, "/").number()
 }

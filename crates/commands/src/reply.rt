@@ -10,10 +10,10 @@ ghost use Rattle.commands.specs.Reply.{command_refusal_text, library_text, prelo
 ghost use Rattle.commands.specs.Reply.{listing_text, refused_line, reply_text};
 ghost use Rattle.commands.specs.inside.Short.{short_text};
 
-use crate::disk_refusal::put_disk_refusal;
 use crate::fault::ScriptFault;
 use crate::refusal::{Line, put_file_line, put_refusal};
 use names::Name;
+use program_parts::put_disk_refusal;
 use requests::{Listing, Refusal, Reply};
 use std::io::Write;
 use store::StoreRefusal;

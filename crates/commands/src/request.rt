@@ -8,7 +8,8 @@ ghost use Rattle.commands.specs.inside.Ends.{IsWritten};
 
 use crate::disk_answer::write_disk_answer;
 use crate::reply::write_reply;
-use crate::status::{Status, reply_status};
+use crate::status::reply_status;
+use program_parts::Status;
 use registry::Registry;
 use requests::{Command, Reply};
 use sector_disk::Disk;

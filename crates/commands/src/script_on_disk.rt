@@ -4,17 +4,18 @@ ghost use Rattle.std.specs.Prelude.{◌≡◌, ◌≢◌, false};
 ghost use Rattle.commands.specs.OnDisk.{DiskScriptEnds};
 ghost use Rattle.commands.specs.Said.{base_text};
 ghost use Rattle.commands.specs.inside.Ends.{IsRun, ScriptEnds, IsSaid};
-ghost use Rattle.commands.specs.declared.status.Status.TheVariants.{BadWords, Done};
+ghost use Rattle.program_parts.specs.declared.status.Status.TheVariants.{BadWords, Done};
 ghost use Rattle.file_disk.specs.declared.disk_file.DiskFile.{DiskFile};
 
 use crate::access::Access;
 use crate::disk::{no_disk, open_disk, turn_away};
 use crate::disk_answer::write_disk_answer;
 use crate::script::run_script;
-use crate::status::{Status, fault_status, lines_status};
+use crate::status::{fault_status, greatest, lines_status};
 use crate::takes_events::TakesEvents;
 use crate::watched::Watched;
 use binders::Binders;
+use program_parts::Status;
 use registry::Registry;
 use sector_disk::Disk;
 use std::alloc::Global;
@@ -40,8 +41,8 @@ pub(crate) fn run_watched<I: Read, O: Write, G: TakesEvents>(
     ensures answers { result ≢ BadWords }
 {
     match run_script(alloc, input, output, watched) {
-        Ok(summary) => watched.worst.greatest(lines_status(summary.refused)),
-        Err(fault) => watched.worst.greatest(fault_status(fault)),
+        Ok(summary) => greatest(watched.worst, lines_status(summary.refused)),
+        Err(fault) => greatest(watched.worst, fault_status(fault)),
     }
 }
 

@@ -1,49 +1,27 @@
 // How a run of the program ends.
 
 ghost use Rattle.std.specs.Prelude.{◌≡◌};
-ghost use Rattle.commands.specs.Status.{status_number, greatest, status_of, refusal_status};
-ghost use Rattle.commands.specs.Status.{reply_status, event_status, disk_status, fault_status};
+ghost use Rattle.commands.specs.Status.{greatest, status_of, refusal_status};
+ghost use Rattle.program_parts.specs.Status.{status_number};
+ghost use Rattle.commands.specs.Status.{reply_status, event_status, fault_status};
+ghost use Rattle.program_parts.specs.Status.{disk_status};
 ghost use Rattle.commands.specs.Status.{lines_status};
 
 use crate::fault::ScriptFault;
 use crate::show::Shown;
 use binders::EventReply;
 use image::BindRefusal;
+use program_parts::Status;
 use requests::{Refusal, Reply};
-use store::StoreRefusal;
 
-/// The exit status of the program.
-#[derive(Clone, Copy, Debug, PartialEq, Eq)]
-pub enum Status {
-    /// Done.
-    Done = 0,
-    /// The command, or a line of the script, was refused.
-    Refused = 1,
-    /// The words aren't a command, or BASE isn't read.
-    BadWords = 2,
-    /// The disk, a file or a standard stream failed.
-    Failed = 3,
-    /// Memory was refused.
-    NoMemory = 4,
-}
-
-impl Status {
-    /// The number that the process exits with.
-    pub fn number(self) -> u8
-        ensures { result ≡ status_number self }
-    {
-        self as u8
-    }
-
-    /// The one of the greater number.
-    pub(crate) fn greatest(self, other: Status) -> Status
-        ensures { result ≡ greatest self other }
-    {
-        if self.number() < other.number() {
-            other
-        } else {
-            self
-        }
+/// The one of the greater number.
+pub(crate) fn greatest(status: Status, other: Status) -> Status
+    ensures { result ≡ greatest status other }
+{
+    if status.number() < other.number() {
+        other
+    } else {
+        status
     }
 }
 
@@ -87,17 +65,6 @@ pub(crate) fn event_status(reply: &EventReply) -> Status
     match reply {
         EventReply::Replied(reply) => reply_status(reply),
         EventReply::Slot(_) | EventReply::Going => Status::Done,
-    }
-}
-
-/// What a disk that isn't made or upgraded to a registry, or isn't opened as one, ends with.
-pub(crate) fn disk_status(refusal: StoreRefusal) -> Status
-    ensures { result ≡ disk_status refusal }
-{
-    match refusal {
-        StoreRefusal::Device | StoreRefusal::Reopen => Status::Failed,
-        StoreRefusal::OutOfMemory => Status::NoMemory,
-        _ => Status::Refused,
     }
 }
 

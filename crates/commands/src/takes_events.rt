@@ -3,7 +3,7 @@
 ghost use Rattle.binders.specs.Events.{Happening, happening_of};
 ghost use Rattle.binders.specs.declared.event.EventReply.{EventReply};
 
-use crate::status::event_status;
+use crate::status::{event_status, greatest};
 use crate::watched::Watched;
 use binders::{Binders, Event, EventReply};
 use sector_disk::Disk;
@@ -37,7 +37,7 @@ impl<G: TakesEvents> TakesEvents for Watched<G> {
     #[tactic(auto, using(crate::proofs::Statuses::watched_answers))]
     fn happen(&mut self, event: &Event<'_>) -> EventReply {
         let reply = self.binders.happen(event);
-        self.worst = self.worst.greatest(event_status(&reply));
+        self.worst = greatest(self.worst, event_status(&reply));
         reply
     }
 }

@@ -7,7 +7,7 @@ ghost use Rattle.commands.specs.inside.Ends.{IsNotRead, SaysNoMemory, IsSaid};
 use crate::file::FileFault;
 use crate::message::cannot_read;
 use crate::refusal::write_memory;
-use crate::status::Status;
+use program_parts::Status;
 use std::io::Write;
 
 /// Writes that memory was refused.

@@ -1,9 +1,9 @@
 // A registry with binders, and how bad its replies are.
 
 ghost use Rattle.std.specs.Prelude.{◌≢◌};
-ghost use Rattle.commands.specs.declared.status.Status.TheVariants.{BadWords};
+ghost use Rattle.program_parts.specs.declared.status.Status.TheVariants.{BadWords};
 
-use crate::status::Status;
+use program_parts::Status;
 
 /// A registry with binders, and the greatest of the statuses of its replies.
 #[derive(Drop)]

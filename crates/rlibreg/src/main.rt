@@ -2,16 +2,17 @@
 //! image of a program bound over it, or says by number why not.
 #![tactic(auto)]
 
-use commands::{StandardStreams, read_arguments, run_arguments};
+use commands::{cannot_hold, run_arguments};
+use program_parts::{StandardStreams, read_arguments};
 use std::process::ExitCode;
 
 fn main(rt: HostRuntime) -> ExitCode {
     let mut input = rt.stdin();
     let mut output = rt.stdout();
     let mut errors = rt.stderr();
-    let streams = match StandardStreams::hold(&rt, &mut errors) {
+    let streams = match StandardStreams::hold(&rt) {
         Ok(streams) => streams,
-        Err(status) => return ExitCode::from(status),
+        Err(_) => return ExitCode::from(cannot_hold(&mut errors)),
     };
     let words = read_arguments(&rt);
     let status = run_arguments(&rt, rt.alloc(), words, &mut input, &mut output, &mut errors);

@@ -8,7 +8,7 @@ use Rattle.requests.specs.Table.{Listed}
 use Rattle.requests.specs.Step.{accepted}
 use Rattle.requests.specs.declared.reply.Reply.{Reply}
 use Rattle.requests.specs.declared.reply.Reply.TheVariants as reply
-use Rattle.commands.specs.Disk.{disk_refusal_text}
+use Rattle.program_parts.specs.Refusal.{disk_refusal_text}
 use Rattle.commands.specs.Refusal.{memory_text}
 use Rattle.commands.specs.Reply.{reply_text}
 use Rattle.byte_disk.specs.Bytes.{sectors_in}

@@ -5,8 +5,8 @@ use Rattle.requests.specs.declared.reply.Reply.{Reply}
 use Rattle.commands.specs.declared.file.FileFault.{FileFault}
 use Rattle.commands.specs.declared.file.FileFault.TheVariants.{CannotRead, OutOfMemory}
 use Rattle.commands.specs.declared.show.Shown.TheVariants as shown
-use Rattle.commands.specs.declared.status.Status.{Status}
-use Rattle.commands.specs.declared.status.Status.TheVariants.{Done, Refused, BadWords, Failed, NoMemory}
+use Rattle.program_parts.specs.declared.status.Status.{Status}
+use Rattle.program_parts.specs.declared.status.Status.TheVariants.{Done, Refused, BadWords, Failed, NoMemory}
 use Rattle.requests.specs.Request.{Request}
 use Rattle.binders.specs.Events.{Happening}
 use Rattle.binders.specs.declared.event.EventReply.{EventReply}
@@ -19,7 +19,7 @@ use Rattle.commands.specs.Printed.{IsTold, PrintsImage, PrintsRefusal}
 use Rattle.commands.specs.Refusal.{memory_text}
 use Rattle.commands.specs.Reply.{reply_text}
 use Rattle.commands.specs.RunImage.{Shows}
-use Rattle.commands.specs.Said.{AppendsFront}
+use Rattle.program_parts.specs.Said.{AppendsFront}
 use Rattle.commands.specs.Script.{Streams}
 use Rattle.commands.specs.Status.{reply_status}
 use Rattle.commands.specs.Words.{CommandLine}

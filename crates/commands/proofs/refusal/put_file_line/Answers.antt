@@ -1,7 +1,7 @@
 use Rattle.std.proofs.Common.{◌++◌, codes}
 use Rattle.std.specs.Io.KnownBytes.{append_known}
 use Rattle.std.proofs.KnownBytes.{Appends-trans}
-use Rattle.commands.specs.Refusal.{file_refusal_text}
+use Rattle.program_parts.specs.Refusal.{file_refusal_text}
 use Rattle.commands.proofs.Then.{then}
 use Rattle.commands.proofs.refusal.put_file_line.Goals as goal
 
