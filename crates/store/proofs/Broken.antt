@@ -28,19 +28,20 @@ module _ (m : List Sector) (root : Root) (size : root.sectors ≡ length m) wher
 
   module _ (listed : List ℕ) (are : AreListed m root.library_count root.list listed) where
     -- one of them spells no entry
-    pub not_spelt : ((entries : List PlacedEntry) → entry_sectors entries ≡ listed → All (λ placed. SpellsEntry (sector m placed.at) placed.entry) entries → ⊥) → (entries : List PlacedEntry) → IsIntact m root entries → ⊥
+    pub not_spelt : ((entries : List PlacedEntry) → entry_sectors entries ≡ listed → All (λ placed. SpellsEntry (sector m placed.at) placed.entry) entries → ⊥)
+        → (entries : List PlacedEntry) → IsIntact m root entries → ⊥
     not_spelt never entries intact =
         never entries
         (one_listing m root.library_count root.sectors root.list (entry_sectors entries) listed (current_fits (sector m 0) (sector m 1) root intact.current).list intact.listed.sectors are)
         intact.listed.each
 
-    -- the entries that they spell have no names of their own, or use a sector twice, or have no room
-    pub not_apart : (entries : List PlacedEntry) → entry_sectors entries ≡ listed → All (λ placed. SpellsEntry (sector m placed.at) placed.entry) entries → (HaveOwnNames entries → UsesApart root.sectors root entries → HasRoom root.sectors root.list entries → ⊥) → (others : List PlacedEntry) → IsIntact m root others → ⊥
-    not_apart entries same each broken others intact =
-        let fits = current_fits (sector m 0) (sector m 1) root intact.current in
-        let here : IsListed m root entries = record { sectors = subst (AreListed m root.library_count root.list) (sym same) are; each = each } in
-        let is = one_list m root others entries fits intact.listed here in
-        let at = subst (IsIntact m root) is intact in
-        broken at.names
-        (subst (λ n. UsesApart n root entries) (sym size) at.apart)
-        (subst (λ n. HasRoom n root.list entries) (sym size) at.room)
+  -- the entries that are listed have no names of their own, or use a sector twice, or have no room
+  pub not_apart : (entries : List PlacedEntry) → IsListed m root entries
+      → (HaveOwnNames entries → UsesApart root.sectors root entries → HasRoom root.sectors root.list entries → ⊥) → (others : List PlacedEntry) → IsIntact m root others → ⊥
+  not_apart entries here broken others intact =
+      let fits = current_fits (sector m 0) (sector m 1) root intact.current in
+      let is = one_list m root others entries fits intact.listed here in
+      let at = subst (IsIntact m root) is intact in
+      broken at.names
+      (subst (λ n. UsesApart n root entries) (sym size) at.apart)
+      (subst (λ n. HasRoom n root.list entries) (sym size) at.room)

@@ -18,14 +18,12 @@ use Rattle.extents.specs.Used.{layout_of, ClaimsSame}
 use Rattle.extents.proofs.UsedLemmas.{layout_of-claims, same-from_used, longest_runs-same}
 use Rattle.extents.specs.declared.refusal.TakeRefusal.{TakeRefusal}
 use Rattle.extents.specs.declared.refusal.TakeRefusal.TheVariants as take
-use Rattle.roots.specs.declared.entry_list.EntryList.{EntryList}
-use Rattle.roots.specs.declared.entry_list.EntryList.TheVariants.{InRoot, InCatalogues}
 use Rattle.roots.specs.declared.root.Root.{Root}
 use Rattle.roots.specs.declared.version.Version.{Version}
 use Rattle.roots.specs.declared.version.Version.TheVariants.{One, Two}
 use Rattle.states.specs.Limits.{most_libraries, last_generation}
 use Rattle.states.specs.Cost.{catalogues_for, cost, catalogue_cost, free, taken_by}
-use Rattle.roots.specs.Root.{version_of, version_of_list}
+use Rattle.roots.specs.Root.{version_of}
 use Rattle.states.specs.State.{Library, State}
 use Rattle.store.specs.declared.placed_entry.PlacedEntry.{PlacedEntry}
 use Rattle.store.specs.declared.refusal.StoreRefusal.{StoreRefusal}
@@ -33,12 +31,13 @@ use Rattle.store.specs.declared.refusal.StoreRefusal.TheVariants.{Device, Full, 
 use Rattle.store.specs.declared.holding.Holding.{Holding}
 use Rattle.store.specs.Held.{in_use, lone_sectors}
 use Rattle.store.specs.Opened.{Opened, IsAtBy, room_of}
-use Rattle.store.specs.Stands.{StandsBy, catalogues_in, catalogues_of, entries_cost, extents_of, library_of, sectors_of, used}
+use Rattle.store.specs.Stands.{StandsBy, catalogues_of, entries_cost, extents_of, library_of, sectors_of, used}
 use Rattle.store.specs.Step.{longest_free, refusal_of_bytes, refusal_of_put, refusal_of_new, refusal_of_upgrade, refusal_of_take, refusal_of_change, IsAnswer, IsExactAnswer}
 use Rattle.store.specs.inside.Kept.{HaveSpellings, IsKept}
 use Rattle.store.proofs.Libraries.{length-library}
 pub use Rattle.store.proofs.Libraries.{length-libraries}
 use Rattle.store.proofs.Preloads.{enough_in, room_in}
+use Rattle.store.proofs.Relistings.{none_in}
 use Rattle.store.proofs.Rooms.{kept_sectors}
 use Rattle.store.proofs.Anew.{all_usable}
 
@@ -63,10 +62,6 @@ taken_is version m root entries s fit whole by =
     let inside : (k : ℕ) → Contains (flat_map sectors_of entries) k → k < length m = λ k found. (All-contains (λ n. (root_sectors ≤ n) × (n < length m)) (used root entries) k by.intact.apart.inside (Contains-append_right (catalogues_of root) (flat_map sectors_of entries) k found)).1 in
     let costs = costs_are m entries whole fit inside in
     ap taken_by by.is ∙ omega (arith, costs, length-libraries m entries)
-
-none_in : (list : EntryList) → version_of_list list ≡ One → catalogues_in list ≡ []
-none_in (InRoot sectors) is = refl
-none_in (InCatalogues count listed) is = absurd (cc is)
 
 module _ (root : Root) (entries : List PlacedEntry) (held : List Holding) (layout : List Bool) (kept : IsKept root entries held layout) where
   -- a root of version 2 lists as many catalogues as its byte strings take

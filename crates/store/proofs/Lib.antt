@@ -11,6 +11,7 @@ pub mod Counts
 pub mod EntryReads
 pub mod First
 pub mod Following
+pub mod Founds
 pub mod FreeSpaces
 pub mod Frees
 pub mod Given

@@ -5,6 +5,7 @@ pub mod Opened
 pub mod Holders
 pub mod Holding
 pub mod Opening
+pub mod Opens
 pub mod Looked
 pub mod Names
 pub mod Reads

@@ -12,6 +12,7 @@ mod change;
 mod commit;
 mod delete;
 mod entries;
+mod find;
 mod format;
 mod found;
 mod free_space;

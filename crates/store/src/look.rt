@@ -1,5 +1,5 @@
 // What a disk of either version holds.
-use crate::found::find_store;
+use crate::find::find_store;
 use crate::old_store::OldStore;
 use crate::refusal::StoreRefusal;
 use crate::store::Store;

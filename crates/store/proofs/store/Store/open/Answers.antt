@@ -1,33 +1,51 @@
-use Rattle.std.proofs.Common.{IsTrue, refl, sym, subst}
+use Rattle.std.proofs.Common.{IsTrue, refl, sym, subst, rules}
 use Rattle.roots.specs.declared.version.Version.TheVariants.{Two}
-use Rattle.store.specs.Stands.{state_of}
+use Rattle.store.specs.Stands.{Stands, state_of}
 use Rattle.store.proofs.Openings.{refuses_open, found_at, found_at_state}
+use Rattle.store.proofs.StandsLemmas.{one_state}
 use Rattle.store.proofs.store.Store.open.Goals as goal
 
-pub returns-in-Ok-clause-ok : goal.returns-in-Ok-clause-ok
-returns-in-Ok-clause-ok g c honest =
-    let now = (g.D.Disk.facts c.args.disk).now in
+pub returns-in-Ok-clause-opened : goal.returns-in-Ok-clause-opened
+returns-in-Ok-clause-opened g c =
+    let facts = g.D.Disk.facts in
+    let now = (facts c.args.disk).now in
     let root = c.in-Ok.found.root in
     let items = c.in-Ok.found.entries.items in
-    let intact = c.in-Ok.ensures.intact honest in
-    let two = c.in-Ok.ensures.kept.2 in (
-      state_of now root items,
-      (root, items, record { of_version = two; intact = intact; is = refl }),
-      found_at g.D.Disk.facts c.beside.result c.find_current.new.disk now root items Two c.beside.ensures.disk c.beside.ensures.root c.beside.ensures.entries c.beside.ensures.usable
-          (subst IsTrue (sym c.find_current.ensures.calls.some.honest) honest) (c.find_current.ensures.now honest) (c.in-Ok.ensures.synced honest) intact two,
-    )
-
-pub returns-in-Ok-clause-stands : goal.returns-in-Ok-clause-stands
-returns-in-Ok-clause-stands g c honest s stands =
-    let now = (g.D.Disk.facts c.args.disk).now in
-    let root = c.in-Ok.found.root in
-    let items = c.in-Ok.found.entries.items in
-    let intact = c.in-Ok.ensures.intact honest in
     let two = c.in-Ok.ensures.kept.2 in
-    let at = found_at g.D.Disk.facts c.beside.result c.find_current.new.disk now root items Two c.beside.ensures.disk c.beside.ensures.root c.beside.ensures.entries c.beside.ensures.usable
-    (subst IsTrue (sym c.find_current.ensures.calls.some.honest) honest) (c.find_current.ensures.now honest) (c.in-Ok.ensures.synced honest) intact two in
-    found_at_state g.D.Disk.facts c.beside.result c.find_current.new.disk now root items Two s stands at intact two
+    let calls = c.find_current.ensures.calls.some in
+    let at = λ (honest : IsTrue (facts c.args.disk).honest). found_at facts c.beside.result c.find_current.new.disk now root items Two c.beside.ensures.disk c.beside.ensures.root c.beside.ensures.entries c.beside.ensures.usable
+    (subst IsTrue (sym calls.honest) honest) (c.find_current.ensures.now honest) (c.in-Ok.ensures.synced honest) (c.in-Ok.ensures.intact honest) two in
+    let held : IsTrue (facts c.args.disk).honest → Stands now (state_of now root items) = λ honest. (root, items, record { of_version = two; intact = c.in-Ok.ensures.intact honest; is = refl }) in record {
+      any_moment = search rules;
+      now = search rules;
+      log = search rules;
+      ok = λ honest. (state_of now root items, held honest, at honest, λ other stands. one_state now Two Two other (state_of now root items) stands (held honest));
+      stands = λ honest s stands. found_at_state facts c.beside.result c.find_current.new.disk now root items Two s stands (at honest) (c.in-Ok.ensures.intact honest) two;
+      refused = λ _. tt;
+      geometry = search rules;
+      usable = search rules;
+      unheld = c.beside.ensures.unheld;
+      refusals = tt;
+      device = tt;
+      untouched = tt;
+      calls = search rules;
+      old_calls = tt;
+    }
 
-pub returns-in-Err-clause-stands : goal.returns-in-Err-clause-stands
-returns-in-Err-clause-stands g c honest s stands =
-    refuses_open (g.D.Disk.facts c.args.disk).now s stands c.in-Err.refusal c.in-Err.ensures.refusals (c.in-Err.ensures.refused honest)
+pub returns-in-Err-clause-opened : goal.returns-in-Err-clause-opened
+returns-in-Err-clause-opened g c = record {
+  any_moment = c.find_current.ensures.any_moment;
+  now = c.find_current.ensures.now;
+  log = c.find_current.ensures.log;
+  ok = λ _. tt;
+  stands = λ honest s stands. refuses_open (g.D.Disk.facts c.args.disk).now s stands c.in-Err.refusal c.in-Err.ensures.refusals (c.in-Err.ensures.refused honest);
+  refused = c.in-Err.ensures.refused;
+  geometry = tt;
+  usable = tt;
+  unheld = tt;
+  refusals = search rules;
+  device = c.in-Err.ensures.device;
+  untouched = search rules;
+  calls = c.find_current.ensures.calls.some;
+  old_calls = c.in-Err.ensures.old_calls;
+}

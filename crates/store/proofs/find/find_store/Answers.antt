@@ -7,7 +7,7 @@ use Rattle.store.specs.Opening.{RefusesLook}
 use Rattle.store.specs.Stands.{IsIntact, StandsEither}
 use Rattle.store.specs.inside.Reading.{RefusesEntries}
 use Rattle.store.proofs.Openings.{root_refused, entries_refused, then_reads_leave, reads_synced}
-use Rattle.store.proofs.found.find_store.Goals as goal
+use Rattle.store.proofs.find.find_store.Goals as goal
 
 pub returns-in_err-root-clause-refused : goal.returns-in_err-root-clause-refused
 returns-in_err-root-clause-refused g c honest =

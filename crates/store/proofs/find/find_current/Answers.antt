@@ -8,7 +8,7 @@ use Rattle.store.specs.Opening.{RefusesOpen}
 use Rattle.store.specs.Stands.{IsIntact, Stands}
 use Rattle.store.specs.inside.Reading.{RefusesEntries}
 use Rattle.store.proofs.Openings.{root_refused_open, entries_refused_open, old_refused, then_reads_leave, reads_synced}
-use Rattle.store.proofs.found.find_current.Goals as goal
+use Rattle.store.proofs.find.find_current.Goals as goal
 
 pub returns-in_err-root-clause-refused : goal.returns-in_err-root-clause-refused
 returns-in_err-root-clause-refused g c honest =

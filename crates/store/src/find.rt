@@ -1,0 +1,188 @@
+// Reading what a disk holds: the current root, and the entries that it lists.
+ghost use Rattle.std.specs.Prelude.{◌≡◌, ◌+◌, ◌<◌, ◌⊎◌, [], IsTrue, IfOk, IfErr, OnOk, List};
+ghost use Rattle.std.specs.Prelude.{length};
+ghost use Rattle.sector_disk.specs.Disk.{sector, Mixture, LeavesOnly, IsSynced, MayAddSync};
+ghost use Rattle.sector_disk.specs.Disk.{AreCallsExactly, AreCallsAtMost};
+ghost use Rattle.passes.specs.Calls.{AreReads};
+ghost use Rattle.roots.specs.declared.version.Version.TheVariants.{Two};
+ghost use Rattle.roots.specs.Limits.{most_catalogues};
+ghost use Rattle.states.specs.Limits.{most_libraries};
+ghost use Rattle.roots.specs.Root.{RootHasSpelling, version_of};
+ghost use Rattle.roots.specs.Choice.{IsCurrent};
+ghost use Rattle.store.specs.Opening.{RefusesLook, RefusesOpen};
+ghost use Rattle.states.specs.Geometry.{IsGeometry};
+ghost use Rattle.store.specs.declared.placed_entry.PlacedEntry.{PlacedEntry};
+ghost use Rattle.store.specs.Stands.{IsIntact, IsListed, Stands, StandsEither, catalogues_of};
+ghost use Rattle.store.specs.inside.Kept.{HaveSpellings, IsKept};
+ghost use Rattle.store.specs.inside.NameIndex.{IsIndex};
+ghost use Rattle.store.specs.inside.Reading.{RefusesRoot, RefusesEntries};
+
+use crate::entries::read_entries;
+use crate::found::Found;
+use crate::listed::read_listed;
+use crate::placed_entry::PlacedEntry;
+use crate::refusal::StoreRefusal;
+use crate::slots::read_slots;
+use roots::{Root, Version, choose};
+use sector_disk::Disk;
+use std::alloc::Global;
+
+/// The current root of a disk that a stop may have left, of either version: it is synced first.
+fn read_root<D: Disk>(disk: &mut D) -> Result<Root, StoreRefusal>
+    requires { IsGeometry (D.facts disk.old).sectors }
+    ensures calls { AreCallsAtMost 3 (D.facts disk.old) (D.facts disk.new) }
+    ensures all_calls { OnOk result (AreCallsExactly 3 (D.facts disk.old) (D.facts disk.new)) }
+    ensures any_moment { IsTrue (D.facts disk.old).honest
+        → LeavesOnly (D.facts disk.old) (D.facts disk.new) (Mixture (D.facts disk.old)) }
+    ensures now { IsTrue (D.facts disk.old).honest
+        → (D.facts disk.new).now ≡ (D.facts disk.old).now }
+    ensures log { IsTrue (D.facts disk.old).honest
+        → MayAddSync (D.facts disk.old).log (D.facts disk.new).log }
+    ensures synced { IsTrue (D.facts disk.old).honest → OnOk result (IsSynced (D.facts disk.new)) }
+    ensures root { IfOk result RootHasSpelling }
+    ensures current { IsTrue (D.facts disk.old).honest → IfOk result
+        (IsCurrent (sector (D.facts disk.old).now 0) (sector (D.facts disk.old).now 1)) }
+    ensures refused { IsTrue (D.facts disk.old).honest
+        → IfErr result (RefusesRoot (D.facts disk.old).now) }
+    ensures device { IfErr result (λ e. e ≡ StoreRefusal.Device
+        → (D.facts disk.old).failures < (D.facts disk.new).failures) }
+    ensures refusals { IfErr result (λ e. (e ≡ StoreRefusal.Device)
+        ⊎ (e ≡ StoreRefusal.NotFormatted) ⊎ (e ≡ StoreRefusal.Damaged)) }
+{
+    let (zero, one) = read_slots(disk)?;
+    let root = choose(zero, one)?;
+    Ok(root)
+}
+
+/// The entries that a root lists. It reads each catalogue and each entry once.
+fn read_listed_entries<D: Disk>(
+    alloc: Global,
+    disk: &mut D,
+    root: &Root,
+) -> Result<Vec<PlacedEntry>, StoreRefusal>
+    requires root { RootHasSpelling root.now }
+    requires sectors { root.now.sectors ≡ (D.facts disk.old).sectors }
+    ensures calls { AreCallsAtMost (most_catalogues + most_libraries)
+        (D.facts disk.old) (D.facts disk.new) }
+    ensures all_calls { IfOk result (λ entries.
+        AreCallsExactly (length (catalogues_of root.now) + length entries.items)
+        (D.facts disk.old) (D.facts disk.new)) }
+    ensures same { IsTrue (D.facts disk.old).honest
+        → AreReads (D.facts disk.old) (D.facts disk.new) }
+    ensures fit { IfOk result (λ entries. HaveSpellings entries.items) }
+    ensures count { IfOk result (λ entries. length entries.items ≡ root.now.library_count) }
+    ensures listed { IsTrue (D.facts disk.old).honest → IfOk result (λ entries.
+        IsListed (D.facts disk.old).now root.now entries.items) }
+    ensures damaged { IsTrue (D.facts disk.old).honest → IfErr result (λ e.
+        e ≡ StoreRefusal.Damaged → (entries : List PlacedEntry)
+        → IsIntact (D.facts disk.old).now root.now entries → ⊥) }
+    ensures device { IfErr result (λ e. e ≡ StoreRefusal.Device
+        → (D.facts disk.old).failures < (D.facts disk.new).failures) }
+    ensures refusals { IfErr result (λ e. (e ≡ StoreRefusal.Device)
+        ⊎ (e ≡ StoreRefusal.Damaged) ⊎ (e ≡ StoreRefusal.OutOfMemory)) }
+{
+    let listed = read_listed(alloc, disk, root)?;
+    read_entries(alloc, disk, &listed)
+}
+
+/// The entries of a current root, and what is kept with them. It reads each catalogue and each
+/// entry once, and writes nothing.
+fn find_entries<D: Disk>(alloc: Global, disk: &mut D, root: Root) -> Result<Found, StoreRefusal>
+    requires root { RootHasSpelling root }
+    ensures calls { AreCallsAtMost (most_catalogues + most_libraries)
+        (D.facts disk.old) (D.facts disk.new) }
+    ensures all_calls { IfOk result (λ found.
+        AreCallsExactly (length (catalogues_of root) + length found.entries.items)
+        (D.facts disk.old) (D.facts disk.new)) }
+    ensures same { IsTrue (D.facts disk.old).honest
+        → AreReads (D.facts disk.old) (D.facts disk.new) }
+    ensures kept { IfOk result (λ found. IsKept found.root found.entries.items [] found.layout
+        × IsIndex found.entries.items found.index
+        × (found.root ≡ root) × (root.sectors ≡ (D.facts disk.old).sectors)) }
+    ensures intact { IsTrue (D.facts disk.old).honest
+        → IsCurrent (sector (D.facts disk.old).now 0) (sector (D.facts disk.old).now 1) root
+        → IfOk result (λ found.
+        IsIntact (D.facts disk.old).now found.root found.entries.items) }
+    ensures refused { IsTrue (D.facts disk.old).honest
+        → IfErr result (RefusesEntries (D.facts disk.old).now root) }
+    ensures device { IfErr result (λ e. e ≡ StoreRefusal.Device
+        → (D.facts disk.old).failures < (D.facts disk.new).failures) }
+    ensures refusals { IfErr result (λ e. (e ≡ StoreRefusal.Device)
+        ⊎ (e ≡ StoreRefusal.Damaged) ⊎ (e ≡ StoreRefusal.OutOfMemory)) }
+{
+    if root.sectors != disk.sectors() {
+        return Err(StoreRefusal::Damaged);
+    }
+    let entries = read_listed_entries(alloc, disk, &root)?;
+    Found::over(alloc, root, entries)
+}
+
+/// What a disk of either version holds. It writes nothing.
+pub(crate) fn find_store<D: Disk>(alloc: Global, disk: &mut D) -> Result<Found, StoreRefusal>
+    requires { IsGeometry (D.facts disk.old).sectors }
+    ensures calls { AreCallsAtMost (3 + most_catalogues + most_libraries)
+        (D.facts disk.old) (D.facts disk.new) }
+    ensures all_calls { IfOk result (λ found.
+        AreCallsExactly (3 + length (catalogues_of found.root) + length found.entries.items)
+        (D.facts disk.old) (D.facts disk.new)) }
+    ensures any_moment { IsTrue (D.facts disk.old).honest
+        → LeavesOnly (D.facts disk.old) (D.facts disk.new) (Mixture (D.facts disk.old)) }
+    ensures now { IsTrue (D.facts disk.old).honest
+        → (D.facts disk.new).now ≡ (D.facts disk.old).now }
+    ensures log { IsTrue (D.facts disk.old).honest
+        → MayAddSync (D.facts disk.old).log (D.facts disk.new).log }
+    ensures synced { IsTrue (D.facts disk.old).honest → OnOk result (IsSynced (D.facts disk.new)) }
+    ensures kept { IfOk result (λ found. IsKept found.root found.entries.items [] found.layout
+        × IsIndex found.entries.items found.index
+        × (found.root.sectors ≡ (D.facts disk.old).sectors)) }
+    ensures intact { IsTrue (D.facts disk.old).honest → IfOk result (λ found.
+        IsIntact (D.facts disk.old).now found.root found.entries.items) }
+    ensures refused { IsTrue (D.facts disk.old).honest
+        → IfErr result (RefusesLook StandsEither (D.facts disk.old).now) }
+    ensures device { IfErr result (λ e. e ≡ StoreRefusal.Device
+        → (D.facts disk.old).failures < (D.facts disk.new).failures) }
+    ensures refusals { IfErr result (λ e. (e ≡ StoreRefusal.Device)
+        ⊎ (e ≡ StoreRefusal.NotFormatted) ⊎ (e ≡ StoreRefusal.Damaged)
+        ⊎ (e ≡ StoreRefusal.OutOfMemory)) }
+{
+    let root = read_root(disk)?;
+    find_entries(alloc, disk, root)
+}
+
+/// What a disk of version 2 holds; OldFormat where its root is of version 1. It writes nothing.
+pub(crate) fn find_current<D: Disk>(alloc: Global, disk: &mut D) -> Result<Found, StoreRefusal>
+    requires { IsGeometry (D.facts disk.old).sectors }
+    ensures calls { AreCallsAtMost (3 + most_catalogues + most_libraries)
+        (D.facts disk.old) (D.facts disk.new) }
+    ensures all_calls { IfOk result (λ found.
+        AreCallsExactly (3 + length (catalogues_of found.root) + length found.entries.items)
+        (D.facts disk.old) (D.facts disk.new)) }
+    ensures any_moment { IsTrue (D.facts disk.old).honest
+        → LeavesOnly (D.facts disk.old) (D.facts disk.new) (Mixture (D.facts disk.old)) }
+    ensures now { IsTrue (D.facts disk.old).honest
+        → (D.facts disk.new).now ≡ (D.facts disk.old).now }
+    ensures log { IsTrue (D.facts disk.old).honest
+        → MayAddSync (D.facts disk.old).log (D.facts disk.new).log }
+    ensures synced { IsTrue (D.facts disk.old).honest → OnOk result (IsSynced (D.facts disk.new)) }
+    ensures kept { IfOk result (λ found. IsKept found.root found.entries.items [] found.layout
+        × IsIndex found.entries.items found.index
+        × (version_of found.root ≡ Two)
+        × (found.root.sectors ≡ (D.facts disk.old).sectors)) }
+    ensures intact { IsTrue (D.facts disk.old).honest → IfOk result (λ found.
+        IsIntact (D.facts disk.old).now found.root found.entries.items) }
+    ensures refused { IsTrue (D.facts disk.old).honest
+        → IfErr result (RefusesOpen Stands (D.facts disk.old).now) }
+    ensures device { IfErr result (λ e. e ≡ StoreRefusal.Device
+        → (D.facts disk.old).failures < (D.facts disk.new).failures) }
+    ensures refusals { IfErr result (λ e. (e ≡ StoreRefusal.Device)
+        ⊎ (e ≡ StoreRefusal.NotFormatted) ⊎ (e ≡ StoreRefusal.Damaged)
+        ⊎ (e ≡ StoreRefusal.OutOfMemory) ⊎ (e ≡ StoreRefusal.OldFormat)) }
+    ensures old_calls { IfErr result (λ e. e ≡ StoreRefusal.OldFormat
+        → AreCallsExactly 3 (D.facts disk.old) (D.facts disk.new)) }
+{
+    let root = read_root(disk)?;
+    match root.version() {
+        Version::One => Err(StoreRefusal::OldFormat),
+        Version::Two => find_entries(alloc, disk, root),
+    }
+}
