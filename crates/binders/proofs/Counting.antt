@@ -1,18 +1,18 @@
 -- The sectors that aren't free since binders live are those of each version that they alone hold, once.
-use Rattle.std.proofs.Common.{◌≡◌, ◌≢◌, ◌↔◌, ℕ, ◌+◌, ◌<◌, List, [], ◌∷◌, length, get_or, if◌then◌else◌, Bool, true, false, refl, ap, suc, sym, subst, ◌∙◌, arith}
+use Rattle.std.proofs.Common.{◌≡◌, ◌≢◌, ℕ, ◌+◌, ◌<◌, List, [], ◌∷◌, length, get_or, if◌then◌else◌, Bool, true, false, refl, ap, suc, sym, subst, ◌∙◌, arith}
 use Rattle.std.specs.Prelude.{All, AllPairs, Contains, sum_by}
 use Rattle.std.proofs.lemmas.List.{get_or_default, length-append}
 use Rattle.std.proofs.lemmas.List.Elements.{All-contains, All-cons, All-head, All-nil, All-tail}
 use Rattle.std.proofs.lemmas.List.Kept.{AllPairs-cons}
 use Rattle.std.proofs.lemmas.List.Sums.{sum_by-cons}
 use Rattle.scope.proofs.LoadOrderLemmas.{contains-here, contains-later}
-use Rattle.store.specs.Held.{HaveOwnRows, IsHeldBy, holders_of, lone_sectors}
+use Rattle.store.specs.Held.{HaveOwnRows, IsHeldBy, lone_sectors}
 use Rattle.store.specs.Stands.{sectors_of}
 use Rattle.store.specs.declared.holding.Holding.{Holding}
 use Rattle.store.specs.declared.placed_entry.PlacedEntry.{PlacedEntry}
 use Rattle.registry.specs.Versions.{AreVersions}
 use Rattle.binders.specs.Counted.{CountsOnce, IsLone}
-use Rattle.binders.specs.Slotted.{HoldAlone, Slotted, held_by}
+use Rattle.binders.specs.Slotted.{HoldAlone, Slotted}
 
 -- the entry of a row, before others, where the state doesn't list it
 abbrev add : Bool → PlacedEntry → List PlacedEntry → List PlacedEntry

@@ -1,5 +1,6 @@
 // The slots of binders.
-ghost use Rattle.std.specs.Prelude.{◌≡◌, ◌<◌, IfSome, None, Some, replicate, slice_index_or, slice_set};
+ghost use Rattle.std.specs.Prelude.{◌≡◌, ◌<◌, IfSome, None, Some};
+ghost use Rattle.std.specs.Prelude.{replicate, slice_index_or, slice_set};
 ghost use Rattle.binders.specs.Slotted.{lowest_free};
 
 use registry::Binder;

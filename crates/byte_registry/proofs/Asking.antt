@@ -12,22 +12,25 @@ use Rattle.byte_disk.specs.inside.Laws.{byte_holds}
 use Rattle.byte_disk.proofs.Plans.{is_plan, same_given, plan_leaves, plan_ends}
 use Rattle.states.specs.State.{State}
 use Rattle.store.specs.Held.{lone_sectors}
-use Rattle.store.specs.Opened.{Opened}
+use Rattle.store.specs.Opened.{Opened, IsAt}
+use Rattle.store.specs.Stands as sectors
 use Rattle.store.specs.Step.{longest_free}
 use Rattle.store.specs.declared.holding.Holding.{Holding}
 use Rattle.requests.specs.Phase.{Phase}
 use Rattle.requests.specs.Request.{Request, install, replace, remove, set_preloads, bind, list}
 use Rattle.requests.specs.Step as registry
-use Rattle.requests.specs.Step.{accepted, LeavesFailed}
-use Rattle.requests.specs.declared.refusal.Refusal.TheVariants.{Device}
+use Rattle.requests.specs.Step.{accepted}
+use Rattle.requests.specs.declared.refusal.Refusal.TheVariants.{Damaged, Device}
 use Rattle.requests.specs.declared.reply.Reply.{Reply}
 use Rattle.requests.specs.declared.reply.Reply.TheVariants.{Done, Refused}
-use Rattle.registry.specs.Applied.{Applied, Applies, MayLeaveWithin}
+use Rattle.registry.specs.Applied.{MayLeaveBy}
 use Rattle.registry.specs.Calls.{IfAccepted, calls_of}
-use Rattle.registry.specs.Opened.{IsAt}
 use Rattle.registry.specs.Phase.{phase_of}
 use Rattle.registry.specs.Stands.{Stands}
-use Rattle.registry.proofs.States.{is_state}
+use Rattle.registry.specs.Untested.{AppliedUntested, AppliesUntested, UntestedStep}
+use Rattle.registry.proofs.States.{few_libraries}
+use Rattle.registry.proofs.Untested.{each_accepted, other_step}
+use Rattle.byte_contents.specs.Bytes.{HoldStore}
 use Rattle.byte_registry.specs.Asked.{IsDiskOf, IsAsked}
 use Rattle.byte_registry.specs.Plans.{Holds, LeadsFrom, LeadsTo, behind_sync, synced_plan, most_steps}
 use Rattle.byte_registry.specs.Replies.{phase_on, opened_on, IsReplyOn}
@@ -48,13 +51,13 @@ leads_from bytes old new Before After is leaves found =
     }
 
 -- a failed call is counted
-failed_risen : (p : Phase) (request : Request) (p' : Phase) → LeavesFailed p request p' → p.failures < p'.failures
-failed_risen p (install bytes) p' lacks = lacks.risen
-failed_risen p (replace bytes) p' lacks = lacks.risen
-failed_risen p (remove name) p' lacks = lacks.risen
-failed_risen p (set_preloads names) p' lacks = lacks.risen
-failed_risen p (bind program base) p' lacks = lacks.risen
-failed_risen p list p' lacks = absurd lacks
+failed_risen : (p : Phase) (request : Request) (p' : Phase) → UntestedStep p request (Refused Device) p' → p.failures < p'.failures
+failed_risen p (install bytes) p' step = step.1.risen
+failed_risen p (replace bytes) p' step = step.1.risen
+failed_risen p (remove name) p' step = step.1.risen
+failed_risen p (set_preloads names) p' step = step.1.risen
+failed_risen p (bind program base) p' step = step.0.1.risen
+failed_risen p list p' step = absurd step.1
 
 -- what a disk of bytes may leave before any call is its sectors
 pub starts_with : (bytes : List ℕ) (disk : ByteDisk) → IsDiskOf bytes disk → (m : List Sector) → Mixture (byte_facts disk) m → m ≡ sectors_in bytes
@@ -63,7 +66,7 @@ starts_with bytes disk is m mixture = (starts_synced (byte_holds disk) is.starts
 module _ (bytes : List ℕ) (old : ByteDisk) (is : IsDiskOf bytes old) (opened : Opened ByteDisk)
     (quiet : LeavesOnly (byte_facts old) (byte_facts opened.disk) (Mixture (byte_facts old)))
     (same_now : (byte_facts opened.disk).now ≡ (byte_facts old).now)
-    (found : (s : State) × Stands (byte_facts old).now s × IsAt byte_facts opened s × ((other : State) → Stands (byte_facts old).now other → other ≡ s))
+    (found : (s : State) × sectors.Stands (byte_facts old).now s × IsAt byte_facts opened s × ((other : State) → sectors.Stands (byte_facts old).now other → other ≡ s))
     (unheld : opened.held ≡ []) where
   abbrev s : State
   s = found.0
@@ -71,11 +74,11 @@ module _ (bytes : List ℕ) (old : ByteDisk) (is : IsDiskOf bytes old) (opened :
   abbrev start : List Sector
   start = sectors_in bytes
 
-  pub holds : Holds bytes s
-  holds = record { size = is.size; stands = subst (λ m. Stands m s) is.starts.now found.1 }
+  pub holds : HoldStore bytes s
+  holds = record { size = is.size; stands = subst (λ m. sectors.Stands m s) is.starts.now found.1 }
 
-  pub only : (other : State) → Holds bytes other → other ≡ s
-  only other held = found.3 other (subst (λ m. Stands m other) (sym is.starts.now) held.stands)
+  pub only : (other : State) → HoldStore bytes other → other ≡ s
+  only other held = found.3 other (subst (λ m. sectors.Stands m other) (sym is.starts.now) held.stands)
 
   -- the phase of the opened registry, in terms of the sectors
   same_sectors : (byte_facts opened.disk).sectors ≡ length start
@@ -95,9 +98,9 @@ module _ (bytes : List ℕ) (old : ByteDisk) (is : IsDiskOf bytes old) (opened :
   same_phase =
       ap (λ n. phase_by n opened.held) same_sectors
       ∙ ap (λ held. phase_by (length start) held) unheld
-      ∙ ap (λ b. let p : Phase = record { sectors = length start; lone = 0; longest = longest_free (opened_on start opened.root opened.entries); failures = (byte_facts opened.disk).failures; failed = b; state = s } in p) found.2.stored.usable
+      ∙ ap (λ b. let p : Phase = record { sectors = length start; lone = 0; longest = longest_free (opened_on start opened.root opened.entries); failures = (byte_facts opened.disk).failures; failed = b; state = s } in p) found.2.usable
 
-  module _ (request : Request) (reply : Reply) (new : Opened ByteDisk) (applies : Applies byte_facts opened new s request reply) where
+  module _ (request : Request) (reply : Reply) (new : Opened ByteDisk) (applies : AppliesUntested byte_facts opened new s request reply) where
     abbrev s' : State
     s' = applies.0
 
@@ -105,38 +108,51 @@ module _ (bytes : List ℕ) (old : ByteDisk) (is : IsDiskOf bytes old) (opened :
     is_reply = record {
       root = opened.root;
       entries = opened.entries;
-      by = found.2.stored.stands start (subst (Mixture (byte_facts opened.disk)) (same_now ∙ is.starts.now) (byte_holds opened.disk));
+      by = found.2.stands start (subst (Mixture (byte_facts opened.disk)) (same_now ∙ is.starts.now) (byte_holds opened.disk));
       failures = (byte_facts opened.disk).failures;
       after = phase_of byte_facts new s';
-      step = subst (λ p. registry.Step p request reply (phase_of byte_facts new s')) same_phase applies.1.step;
+      step = subst (λ p. UntestedStep p request reply (phase_of byte_facts new s')) same_phase applies.1.step;
     }
 
     module _ (is_done : reply ≡ Done) where
-      applied : Applied byte_facts opened new s s' request Done
-      applied = subst (λ r. Applied byte_facts opened new s s' request r) is_done applies.1
+      applied : AppliedUntested byte_facts opened new s s' request Done
+      applied = subst (λ r. AppliedUntested byte_facts opened new s s' request r) is_done applies.1
+
+      step : registry.Step (phase_of byte_facts opened s) request Done (phase_of byte_facts new s')
+      step = other_step (phase_of byte_facts opened s) request Done (phase_of byte_facts new s') not_damaged applied.step
+        where
+          not_damaged : Done ≡ Refused Damaged → ⊥
+          not_damaged is = cc
 
       same_state : s' ≡ accepted s request
-      same_state = applied.step.3.state
-
-      may : (m : List Sector) → MayLeaveWithin (phase_of byte_facts opened s) request Done s' m → Stands m s ⊎ Stands m (accepted s request)
-      may m left = ⊎_elim (λ before. inl before) (λ later. ⊎_elim (λ after. inr (subst (Stands m) same_state after)) (λ flight. absurd (not_device flight.0)) later) left
-        where
-          not_device : Done ≡ Refused Device → ⊥
-          not_device e = cc
-
-      leaves : LeavesOnly (byte_facts old) (byte_facts new.disk) (λ m. Stands m s ⊎ Stands m (accepted s request))
-      leaves = goes_on (λ m. Stands m s ⊎ Stands m (accepted s request))
-          (weaken (Mixture (byte_facts old)) (λ m. Stands m s ⊎ Stands m (accepted s request)) (λ m mixture. inl (subst (λ m. Stands m s) (sym (starts_with bytes old is m mixture)) holds.stands)) quiet)
-          (weaken (MayLeaveWithin (phase_of byte_facts opened s) request Done s') (λ m. Stands m s ⊎ Stands m (accepted s request)) may applied.any_moment)
+      same_state = step.3.state
 
       at_end : IsAt byte_facts new s'
-      at_end = ⊎_elim (λ at. at) (λ broken. absurd (both_ways new.failed (applied.step.3.failed ∙ applied.step.0) broken.0)) applied.kept
+      at_end = ⊎_elim (λ at. at) (λ broken. absurd (both_ways new.failed (step.3.failed ∙ step.0) broken.0)) applied.kept
 
-      found_after : (m : List Sector) → Mixture (byte_facts new.disk) m → Stands m (accepted s request)
-      found_after m mixture = subst (Stands m) same_state (record { stored = (new.root, new.entries, at_end.stored.stands m mixture); libraries = at_end.libraries })
+      -- what holds of the states before and after holds of the plan
+      module _ (HoldsIt : List Sector → State → Type 0) (before_holds : (m : List Sector) → sectors.Stands m s → HoldsIt m s) (after_holds : (m : List Sector) → sectors.Stands m (accepted s request) → HoldsIt m (accepted s request)) where
+        may : (m : List Sector) → MayLeaveBy sectors.Stands (phase_of byte_facts opened s) request Done s' m → HoldsIt m s ⊎ HoldsIt m (accepted s request)
+        may m left = ⊎_elim (λ before. inl (before_holds m before)) (λ later. ⊎_elim (λ after. inr (after_holds m (subst (sectors.Stands m) same_state after))) (λ flight. absurd (not_device flight.0)) later) left
+          where
+            not_device : Done ≡ Refused Device → ⊥
+            not_device e = cc
 
-      leads : LeadsTo start s (accepted s request) (synced_plan new.disk)
-      leads = leads_from bytes old new.disk (λ m. Stands m s) (λ m. Stands m (accepted s request)) is leaves found_after
+        leaves : LeavesOnly (byte_facts old) (byte_facts new.disk) (λ m. HoldsIt m s ⊎ HoldsIt m (accepted s request))
+        leaves = goes_on (λ m. HoldsIt m s ⊎ HoldsIt m (accepted s request))
+            (weaken (Mixture (byte_facts old)) (λ m. HoldsIt m s ⊎ HoldsIt m (accepted s request)) (λ m mixture. inl (before_holds m (subst (λ m. sectors.Stands m s) (sym (starts_with bytes old is m mixture)) holds.stands))) quiet)
+            (weaken (MayLeaveBy sectors.Stands (phase_of byte_facts opened s) request Done s') (λ m. HoldsIt m s ⊎ HoldsIt m (accepted s request)) may applied.any_moment)
+
+        found_after : (m : List Sector) → Mixture (byte_facts new.disk) m → HoldsIt m (accepted s request)
+        found_after m mixture = after_holds m (subst (sectors.Stands m) same_state (new.root, new.entries, at_end.stands m mixture))
+
+        leads : LeadsTo HoldsIt start s (accepted s request) (synced_plan new.disk)
+        leads = leads_from bytes old new.disk (λ m. HoldsIt m s) (λ m. HoldsIt m (accepted s request)) is leaves found_after
+
+      leads_registry : Holds bytes s → LeadsTo Stands start s (accepted s request) (synced_plan new.disk)
+      leads_registry held =
+          let after = each_accepted (phase_of byte_facts opened s) request step.1 held.stands.libraries in
+          leads Stands (λ m stands. record { stored = stands; libraries = held.stands.libraries }) (λ m stands. record { stored = stands; libraries = after })
 
       -- the opening kept a sync at most, and the change its calls
       module _ (opening : MayAddSync (byte_facts old).log (byte_facts opened.disk).log) (calls : IfAccepted reply (AreCallsExactly (calls_of s request) (byte_facts opened.disk) (byte_facts new.disk))) where
@@ -150,14 +166,14 @@ module _ (bytes : List ℕ) (old : ByteDisk) (is : IsDiskOf bytes old) (opened :
             })
 
         at_most : length (synced_plan new.disk) ≤ most_steps request
-        at_most = few_steps request s (length (synced_plan new.disk)) applied.step.2 few
-            (is_state byte_facts opened s found.2 (λ honest. byte_holds opened.disk)).few
-            (subst (λ t. length t.libraries ≤ 2048) same_state (is_state byte_facts new s' at_end (λ honest. byte_holds new.disk)).few)
+        at_most = few_steps request s (length (synced_plan new.disk)) step.2 few
+            (few_libraries byte_facts opened s found.2 (λ honest. byte_holds opened.disk))
+            (subst (λ t. length t.libraries ≤ 2048) same_state (few_libraries byte_facts new s' at_end (λ honest. byte_holds new.disk)))
 
     module _ (opening : MayAddSync (byte_facts old).log (byte_facts opened.disk).log) (calls : IfAccepted reply (AreCallsExactly (calls_of s request) (byte_facts opened.disk) (byte_facts new.disk))) where
       pub asked : (s : State) × IsAsked bytes s request reply (synced_plan new.disk)
-      asked = (s, record { holds = holds; only = only; by_table = is_reply; leads = leads; few = λ is_done. few is_done opening calls; at_most = λ is_done. at_most is_done opening calls })
+      asked = (s, record { holds = holds; only = only; by_table = is_reply; leads = λ is_done. leads is_done sectors.Stands (λ m stands. stands) (λ m stands. stands); registry = leads_registry; few = λ is_done. few is_done opening calls; at_most = λ is_done. at_most is_done opening calls })
 
     -- S1 is answered where a call failed.
     pub failed : reply ≡ Refused Device → 0 < (byte_facts new.disk).failures
-    failed e = omega (arith, failed_risen (phase_of byte_facts opened s) request (phase_of byte_facts new s') (subst (λ r. registry.Step (phase_of byte_facts opened s) request r (phase_of byte_facts new s')) e applies.1.step).1)
+    failed e = omega (arith, failed_risen (phase_of byte_facts opened s) request (phase_of byte_facts new s') (subst (λ r. UntestedStep (phase_of byte_facts opened s) request r (phase_of byte_facts new s')) e applies.1.step))

@@ -4,7 +4,7 @@ use Rattle.std.specs.Prelude.{Result, Ok, Option, Some}
 use Rattle.roots.specs.declared.root.Root.{Root}
 use Rattle.roots.specs.declared.choice.ChooseRefusal.{ChooseRefusal}
 use Rattle.states.specs.State.{State}
-use Rattle.byte_registry.specs.Plans.{Holds}
+use Rattle.byte_contents.specs.Bytes.{HoldStore}
 
 pub same_root : (a b : Root) → ◌≡◌ {A = Result Root ChooseRefusal} (Ok a) (Ok b) → ◌≡◌ {A = Option Root} (Some a) (Some b)
 same_root a b e = cc
@@ -14,5 +14,5 @@ pub one_root : (a b : Root) → ◌≡◌ {A = Option Root} (Some a) (Some b) �
 one_root a b e = cc
 
 -- its generation is that of the state
-pub generation_is : {bytes : List ℕ} (s : State) (held : Holds bytes s) (root : Root) → ◌≡◌ {A = Option Root} (Some root) (Some held.stands.stored.0) → root.generation ≡ s.generation
-generation_is s held root is = ap (λ (r : Root). r.generation) (one_root root held.stands.stored.0 is) ∙ sym (ap (λ (t : State). t.generation) held.stands.stored.2.is)
+pub generation_is : {bytes : List ℕ} (s : State) (held : HoldStore bytes s) (root : Root) → ◌≡◌ {A = Option Root} (Some root) (Some held.stands.0) → root.generation ≡ s.generation
+generation_is s held root is = ap (λ (r : Root). r.generation) (one_root root held.stands.0 is) ∙ sym (ap (λ (t : State). t.generation) held.stands.2.is)

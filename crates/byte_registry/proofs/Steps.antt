@@ -1,7 +1,6 @@
 -- How many steps a change has at most, whatever is installed.
-use Rattle.std.proofs.Common.{◌≡◌, ℕ, ◌+◌, ◌-◌, ◌≤◌, List, [], ◌∷◌, ◌++◌, length, arith}
+use Rattle.std.proofs.Common.{ℕ, ◌+◌, ◌-◌, ◌≤◌, [], ◌∷◌, length, arith}
 use Rattle.std.proofs.lemmas.List.{length-append}
-use Rattle.std.specs.Int.{div_ceil}
 use Rattle.states.specs.Cost.{catalogues_for}
 use Rattle.states.specs.State.{State}
 use Rattle.requests.specs.Library.{name_of}

@@ -21,6 +21,7 @@ use Rattle.store.specs.Opening.{HasRootMagic, RefusesOpen, RefusesLook}
 use Rattle.store.specs.Step.{refusal_of_upgrade, IsUpgradeAnswer}
 use Rattle.store.specs.declared.refusal.StoreRefusal.{StoreRefusal}
 use Rattle.store.specs.declared.refusal.StoreRefusal.TheVariants.{Device, OutOfMemory}
+use Rattle.store.specs.Stands as sectors
 use Rattle.store.specs.Stands.{StandsBy, library_of}
 use Rattle.store.specs.Upgraded.{upgraded, IsRelistedFrom}
 use Rattle.store.proofs.StandsLemmas.{one_root_intact}
@@ -115,9 +116,9 @@ unupgraded bytes old is refusal answer stands refused = record {
   why = inr (is.size, λ not_old. subst (λ m. RefusesLook StandsEither m refusal) is.starts.now (refused (subst IsNotOld (sym is.starts.now) not_old)));
 }
 
--- No registry is opened.
-pub unopened : (bytes : List ℕ) (old : ByteDisk) → IsDiskOf bytes old → (refusal : StoreRefusal) → ((s : State) → Stands (byte_facts old).now s → (refusal ≡ Device) ⊎ (refusal ≡ OutOfMemory)) → RefusesOpen Stands (byte_facts old).now refusal → IsUnopened bytes refusal
+-- Nothing is opened.
+pub unopened : (bytes : List ℕ) (old : ByteDisk) → IsDiskOf bytes old → (refusal : StoreRefusal) → ((s : State) → sectors.Stands (byte_facts old).now s → (refusal ≡ Device) ⊎ (refusal ≡ OutOfMemory)) → RefusesOpen sectors.Stands (byte_facts old).now refusal → IsUnopened bytes refusal
 unopened bytes old is refusal stands refused = record {
-  why = inr (is.size, subst (λ m. RefusesOpen Stands m refusal) is.starts.now refused);
-  held = λ s held. stands s (subst (λ m. Stands m s) (sym is.starts.now) held.stands);
+  why = inr (is.size, subst (λ m. RefusesOpen sectors.Stands m refusal) is.starts.now refused);
+  held = λ s held. stands s (subst (λ m. sectors.Stands m s) (sym is.starts.now) held.stands);
 }

@@ -8,7 +8,8 @@ use Rattle.byte_disk.specs.Bytes.{IsDiskLength, sectors_in}
 use Rattle.byte_disk.specs.ByteDisk.{byte_facts, given_to, plan_of}
 use Rattle.states.specs.Cost.{catalogues_for}
 use Rattle.states.specs.State.{State, empty_state}
-use Rattle.store.specs.Opening.{HasRootMagic, RefusesOpen, RefusesFormat, RefusesLook}
+use Rattle.store.specs.Opening.{HasRootMagic, RefusesFormat, RefusesLook}
+use Rattle.store.specs.Stands as sectors
 use Rattle.store.specs.Step.{refusal_of_upgrade, IsUpgradeAnswer}
 use Rattle.store.specs.Upgraded.{upgraded}
 use Rattle.store.specs.declared.refusal.StoreRefusal.{StoreRefusal}
@@ -17,6 +18,8 @@ use Rattle.requests.specs.Request.{Request}
 use Rattle.requests.specs.Step.{accepted}
 use Rattle.requests.specs.declared.reply.Reply.{Reply}
 use Rattle.requests.specs.declared.reply.Reply.TheVariants.{Done}
+use Rattle.byte_contents.specs.Bytes as contents
+use Rattle.byte_contents.specs.Bytes.{HoldStore}
 use Rattle.registry.specs.Calls.{calls_of}
 use Rattle.registry.specs.Stands.{Stands, StandsOld, StandsEither}
 use Rattle.registry.specs.Upgraded.{IsNotOld}
@@ -34,19 +37,22 @@ pub record IsDiskOf (bytes : List ℕ) (disk : ByteDisk) : Type 0 where
 abbrev pub IsBadLength : List ℕ → StoreRefusal → Type 0
 IsBadLength bytes refusal = (refusal ≡ BadGeometry) × (IsDiskLength (length bytes) → ⊥)
 
--- No registry is opened on these bytes, for this reason: where they hold a state, for want of
--- memory alone.
+-- Nothing is opened on these bytes, for this reason: where they hold a state, whatever its files are,
+-- for want of memory alone.
 pub record IsUnopened (bytes : List ℕ) (refusal : StoreRefusal) : Type 0 where
-  pub why : IsBadLength bytes refusal ⊎ IsDiskLength (length bytes) × RefusesOpen Stands (sectors_in bytes) refusal
-  pub held : (s : State) → Holds bytes s → (refusal ≡ Device) ⊎ (refusal ≡ OutOfMemory)
+  pub why : contents.IsUnopened bytes refusal
+  pub held : (s : State) → HoldStore bytes s → (refusal ≡ Device) ⊎ (refusal ≡ OutOfMemory)
 
--- The bytes hold this state and no other. The registry on them was asked this and answered so, by
--- the step table; and once it answered Done, these steps lead to the state that acceptance gives.
+-- The bytes hold this state and no other, whatever its files are. The registry on them was asked
+-- this and answered so, by the step table; and once it answered Done, these steps lead to the state
+-- that acceptance gives. No file is read but those that a bind needs.
 pub record IsAsked (bytes : List ℕ) (s : State) (request : Request) (reply : Reply) (steps : List Step) : Type 0 where
-  pub holds : Holds bytes s
-  pub only : (other : State) → Holds bytes other → other ≡ s
+  pub holds : HoldStore bytes s
+  pub only : (other : State) → HoldStore bytes other → other ≡ s
   pub by_table : IsReplyOn (sectors_in bytes) s request reply
-  pub leads : reply ≡ Done → LeadsTo (sectors_in bytes) s (accepted s request) steps
+  pub leads : reply ≡ Done → LeadsTo sectors.Stands (sectors_in bytes) s (accepted s request) steps
+  -- and where it is the state of a registry, to such a one
+  pub registry : reply ≡ Done → Holds bytes s → LeadsTo Stands (sectors_in bytes) s (accepted s request) steps
   -- no more steps than the change makes calls of its disk, and the sync before them
   pub few : reply ≡ Done → length steps ≤ calls_of s request + 1
   pub at_most : reply ≡ Done → length steps ≤ most_steps request
@@ -81,7 +87,7 @@ pub record LeadsOver (bytes : List ℕ) (s : State) (steps : List Step) : Type 0
 abbrev pub IsUpgraded : List ℕ → State → List Step → Type 0
 IsUpgraded bytes s steps =
     LeadsOver bytes s steps
-    ⊎ (Holds bytes s × LeadsTo (sectors_in bytes) s s steps × (steps ≡ Sync ∷ []))
+    ⊎ (Holds bytes s × LeadsTo Stands (sectors_in bytes) s s steps × (steps ≡ Sync ∷ []))
 
 -- No registry is upgraded on these bytes, for this reason: where they hold a state of version 1,
 -- the one of the tests of an upgrade or want of memory; where they hold one of version 2, want of

@@ -12,7 +12,7 @@ use Rattle.states.specs.State.{State}
 use Rattle.requests.specs.Request.{Request, install, replace}
 use Rattle.registry.specs.Stands.{Stands}
 
--- The bytes are those of a disk: whole sectors, and these hold the state.
+-- The bytes are those of a disk: whole sectors, and these hold the state of a registry.
 pub record Holds (bytes : List ℕ) (s : State) : Type 0 where
   pub size : IsDiskLength (length bytes)
   pub stands : Stands (sectors_in bytes) s
@@ -38,9 +38,9 @@ pub record LeadsFrom (start : List Sector) (Before After : List Sector → Type 
   -- every write is one of a sector that there is
   pub inside : All (λ write. write.0 < length start) (writes_in steps)
 
--- they lead from a state to another
-abbrev pub LeadsTo : List Sector → State → State → List Step → Type 0
-LeadsTo start s s' steps = LeadsFrom start (λ m. Stands m s) (λ m. Stands m s') steps
+-- they lead from a state to another, by what sectors hold a state
+abbrev pub LeadsTo : (List Sector → State → Type 0) → List Sector → State → State → List Step → Type 0
+LeadsTo HoldsIt start s s' steps = LeadsFrom start (λ m. HoldsIt m s) (λ m. HoldsIt m s') steps
 
 -- how many steps the plan of a change has at most, whatever is installed: one for each sector of the
 -- file's bytes, and 37

@@ -10,8 +10,8 @@ use Rattle.store.specs.Stands.{StandsBy}
 use Rattle.store.specs.Step.{longest_free}
 use Rattle.requests.specs.Phase.{Phase}
 use Rattle.requests.specs.Request.{Request}
-use Rattle.requests.specs.Step.{Step}
 use Rattle.requests.specs.declared.reply.Reply.{Reply}
+use Rattle.registry.specs.Untested.{UntestedStep}
 
 -- a registry just opened on these sectors, by this root and these entries: nobody holds anything
 abbrev pub opened_on : List Sector → Root → List PlacedEntry → Opened (List Sector)
@@ -35,4 +35,4 @@ pub record IsReplyOn (m : List Sector) (s : State) (request : Request) (reply : 
   pub by : StandsBy Two m root entries s
   pub failures : ℕ
   pub after : Phase
-  pub step : Step (phase_on m root entries failures s) request reply after
+  pub step : UntestedStep (phase_on m root entries failures s) request reply after

@@ -25,7 +25,8 @@ pub(crate) fn disk_of(alloc: Global, disk: &[u8]) -> Result<ByteDisk<'_>, StoreR
     }
 }
 
-/// The reply of the registry on a disk to a command, and the disk then, or why there is none.
+/// The reply of the registry on a disk to a command, and the disk then, or why there is none. No
+/// file is read but those that a bind needs.
 pub fn ask<'a>(
     alloc: Global,
     disk: &'a [u8],
@@ -43,7 +44,7 @@ pub fn ask<'a>(
         Ok(disk) => disk,
         Err(refusal) => return Err(refusal),
     };
-    match Registry::open(alloc, disk) {
+    match Registry::open_untested(alloc, disk) {
         Ok(registry) => {
             let mut registry = registry;
             let reply = registry.apply(command);

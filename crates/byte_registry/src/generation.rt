@@ -5,7 +5,7 @@ ghost use Rattle.roots.specs.declared.version.Version.{Version};
 ghost use Rattle.states.specs.State.{State};
 ghost use Rattle.store.specs.declared.placed_entry.PlacedEntry.{PlacedEntry};
 ghost use Rattle.store.specs.Stands.{StandsBy};
-ghost use Rattle.byte_registry.specs.Plans.{Holds};
+ghost use Rattle.byte_contents.specs.Bytes.{HoldStore};
 
 use roots::{Root, choose, decode_root};
 use sector_disk::SECTOR_BYTES;
@@ -27,7 +27,7 @@ pub(crate) fn current_root(disk: &[u8]) -> Option<Root>
 
 /// The generation of the current root on a disk of these bytes; 0 where there is none.
 pub fn generation_of(disk: &[u8]) -> u64
-    ensures { (s : State) → Holds disk.now s → result ≡ s.generation }
+    ensures { (s : State) → HoldStore disk.now s → result ≡ s.generation }
 {
     match current_root(disk) {
         Some(root) => root.generation,

@@ -72,7 +72,7 @@ device_state p (remove name) p' leaves kept = ⊎_elim (λ usable. absurd (false
 device_state p (set_preloads names) p' leaves kept = ⊎_elim (λ usable. absurd (false≢true (sym usable ∙ leaves.failed))) (λ same. same) kept
 
 -- A command that is acknowledged leads to the state in which it is accepted, and no other changes the state.
-step_state : (p : Phase) (q : Request) (r : Reply) (p' : Phase) → Step p q r p' → IsFalse p'.failed ⊎ (p'.state ≡ p.state) → p'.state ≡ cond (is_acknowledged r) (accepted p.state q) p.state
+pub step_state : (p : Phase) (q : Request) (r : Reply) (p' : Phase) → Step p q r p' → IsFalse p'.failed ⊎ (p'.state ≡ p.state) → p'.state ≡ cond (is_acknowledged r) (accepted p.state q) p.state
 step_state p q (Refused refusal.Device) p' h kept = device_state p q p' h.1 kept
 step_state p q (Refused refusal.Reopen) p' h kept = h.1.state
 step_state p q (Refused refusal.OutOfMemory) p' h kept = h.2.state

@@ -1,15 +1,13 @@
 -- What a command does to a registry on a disk, by what the store did.
-use Rattle.std.proofs.Common.{◌≡◌, ◌≢◌, ℕ, ◌⊎◌, inl, inr, ⊎_elim, ◌<◌, List, Option, Some, None, Result, Ok, Err, IsTrue, IsFalse, All, refl, sym, ap, subst, ◌∙◌}
+use Rattle.std.proofs.Common.{◌≡◌, ◌≢◌, ℕ, ◌⊎◌, inl, inr, ⊎_elim, ◌<◌, List, Option, Some, None, Result, Ok, Err, IsTrue, IsFalse, refl, sym, ap, subst, ◌∙◌}
 use Rattle.std.specs.Option.{option_map}
 use Rattle.sector_disk.specs.Disk.{Sector, DiskFacts, LeavesOnly}
 use Rattle.sector_disk.proofs.Moments.{at_rest, weaken}
-use Rattle.store.specs.Opened as store
-use Rattle.store.specs.Opened.{Opened}
+use Rattle.store.specs.Opened.{Opened, IsAt}
 use Rattle.store.specs.Stands as sectors
 use Rattle.store.specs.Step.{IsAnswer, IsExactAnswer, IsRefusalOfPutNew}
 use Rattle.store.specs.declared.refusal.StoreRefusal.{StoreRefusal}
 use Rattle.store.specs.declared.refusal.StoreRefusal.TheVariants as e
-use Rattle.requests.specs.Library.{IsLibrary}
 use Rattle.states.specs.State.{State}
 use Rattle.requests.specs.Request.{Request, install, replace, remove, set_preloads, bind, list}
 use Rattle.requests.specs.Phase.{Phase}
@@ -18,14 +16,12 @@ use Rattle.requests.specs.declared.refusal.Refusal.TheVariants.{Device, Full, Fr
 use Rattle.requests.specs.declared.reply.Reply.{Reply}
 use Rattle.requests.specs.declared.reply.Reply.TheVariants.{Done, Refused}
 use Rattle.requests.specs.declared.reply.Reply.TheVariants as reply
-use Rattle.registry.specs.Stands.{Stands}
-use Rattle.registry.specs.Opened.{IsAt}
 use Rattle.registry.specs.Phase.{phase_of}
-use Rattle.registry.specs.Applied.{Applies, MayLeaveWithin}
+use Rattle.registry.specs.Applied.{MayLeaveBy}
+use Rattle.registry.specs.Untested.{AppliesUntested, UntestedStep}
 use Rattle.registry.specs.Binding.{IfBound}
 use Rattle.registry.specs.Calls.{IfAccepted}
 use Rattle.registry.specs.Refusals.{refusal_of}
-use Rattle.registry.proofs.States.{mixture_stands}
 
 pub leads_same : (p : Phase) → Leads p p.state p
 leads_same p = record { sectors = refl; failed = refl; state = refl }
@@ -54,6 +50,15 @@ broken (remove name) is p p' breaks = breaks
 broken (set_preloads names) is p p' breaks = breaks
 broken (bind program base) is p p' breaks = absurd is
 broken list is p p' breaks = absurd is
+
+-- a change is answered by the step table, whatever the files are
+pub change_step : (q : Request) → IsChange q → (p p' : Phase) (r : Reply) → Step p q r p' → UntestedStep p q r p'
+change_step (install bytes) is p p' r step = step
+change_step (replace bytes) is p p' r step = step
+change_step (remove name) is p p' r step = step
+change_step (set_preloads names) is p p' r step = step
+change_step (bind program base) is p p' r step = absurd is
+change_step list is p p' r step = absurd is
 
 -- what takes no memory answers as what takes some
 pub exact_answer : (first : Option StoreRefusal) (result : Result (Unit {0}) StoreRefusal) → IsExactAnswer first result → IsAnswer first result
@@ -115,51 +120,51 @@ module _ {D : Type 0} (facts : D → DiskFacts) (old : Opened D) (s : State) (at
   before = phase_of facts old s
 
   -- Nothing was called.
-  pub untouched : (answer : Reply) → Step (phase_of facts old s) q answer (phase_of facts old s) → Applies facts old old s q answer
+  pub untouched : (answer : Reply) → UntestedStep (phase_of facts old s) q answer (phase_of facts old s) → AppliesUntested facts old old s q answer
   untouched answer step = (
     s,
     record {
       step = step;
-      any_moment = at_rest (facts old.disk) (MayLeaveWithin before q answer s) (λ m mixture. inl (mixture_stands facts old s at m mixture));
+      any_moment = at_rest (facts old.disk) (MayLeaveBy sectors.Stands before q answer s) (λ m mixture. inl (old.root, old.entries, at.stands m mixture));
       kept = inl at;
     },
   )
 
   -- A change that the store was asked for, behind all tests but its own, whose first refusal is this one.
-  module _ (new : Opened D) (first : Option StoreRefusal) (change : IsChange q) (tested : refusal_at (phase_of facts old s) q ≡ option_map refusal_of first) (libraries : All IsLibrary (accepted s q).libraries)
+  module _ (new : Opened D) (first : Option StoreRefusal) (change : IsChange q) (tested : refusal_at (phase_of facts old s) q ≡ option_map refusal_of first)
       (leaves : LeavesOnly (facts old.disk) (facts new.disk) (λ m. sectors.Stands m s ⊎ sectors.Stands m (accepted s q))) where
-    either : (m : List Sector) (answer : Reply) (s' : State) → (Stands m (accepted s q) → MayLeaveWithin before q answer s' m) → sectors.Stands m s ⊎ sectors.Stands m (accepted s q) → MayLeaveWithin before q answer s' m
-    either m answer s' new_stands h = ⊎_elim (λ stands. inl (record { stored = stands; libraries = at.libraries })) (λ stands. new_stands (record { stored = stands; libraries = libraries })) h
+    within : (m : List Sector) (answer : Reply) (s' : State) → (sectors.Stands m (accepted s q) → MayLeaveBy sectors.Stands before q answer s' m) → sectors.Stands m s ⊎ sectors.Stands m (accepted s q) → MayLeaveBy sectors.Stands before q answer s' m
+    within m answer s' new_stands h = ⊎_elim inl new_stands h
 
     -- it did
-    pub change_done : (done : Unit {0}) → IsAnswer first (Ok done) → IsFalse new.failed → store.IsAt facts new (accepted s q) → Applies facts old new s q Done
+    pub change_done : (done : Unit {0}) → IsAnswer first (Ok done) → IsFalse new.failed → IsAt facts new (accepted s q) → AppliesUntested facts old new s q Done
     change_done done answer usable after = (
       accepted s q,
       record {
-        step = (
-          at.stored.usable,
+        step = change_step q change before (phase_of facts new (accepted s q)) Done (
+          at.usable,
           tested ∙ ap (option_map refusal_of) (none_first first done answer),
           is_done q change s,
-          record { sectors = leaves.past.sectors; failed = usable ∙ sym at.stored.usable; state = refl },
+          record { sectors = leaves.past.sectors; failed = usable ∙ sym at.usable; state = refl },
         );
-        any_moment = weaken (λ m. sectors.Stands m s ⊎ sectors.Stands m (accepted s q)) (MayLeaveWithin before q Done (accepted s q))
-            (λ m. either m Done (accepted s q) (λ stands. inr (inl stands))) leaves;
-        kept = inl (record { stored = after; libraries = libraries });
+        any_moment = weaken (λ m. sectors.Stands m s ⊎ sectors.Stands m (accepted s q)) (MayLeaveBy sectors.Stands before q Done (accepted s q))
+            (λ m. within m Done (accepted s q) (λ stands. inr (inl stands))) leaves;
+        kept = inl after;
       },
     )
 
     -- a call of its failed
-    change_broken : IsAnswer first (Err e.Device) → first ≢ Some e.Device → (facts old.disk).failures < (facts new.disk).failures → IsTrue new.failed → Applies facts old new s q (Refused Device)
+    change_broken : IsAnswer first (Err e.Device) → first ≢ Some e.Device → (facts old.disk).failures < (facts new.disk).failures → IsTrue new.failed → AppliesUntested facts old new s q (Refused Device)
     change_broken answer tests risen failed =
         let untested : refusal_at before q ≡ None = tested ∙ ap (option_map refusal_of) (none_before first answer tests) in (
           s,
           record {
-            step = (
-              at.stored.usable,
+            step = change_step q change before (phase_of facts new s) (Refused Device) (
+              at.usable,
               broken q change before (phase_of facts new s) (record { sectors = leaves.past.sectors; risen = risen; failed = failed; untested = untested; state = inl refl }),
             );
-            any_moment = weaken (λ m. sectors.Stands m s ⊎ sectors.Stands m (accepted s q)) (MayLeaveWithin before q (Refused Device) s)
-                (λ m. either m (Refused Device) s (λ stands. inr (inr (refl, untested, stands)))) leaves;
+            any_moment = weaken (λ m. sectors.Stands m s ⊎ sectors.Stands m (accepted s q)) (MayLeaveBy sectors.Stands before q (Refused Device) s)
+                (λ m. within m (Refused Device) s (λ stands. inr (inr (refl, untested, stands)))) leaves;
             kept = inr (failed, refl);
           },
         )
@@ -167,22 +172,22 @@ module _ {D : Type 0} (facts : D → DiskFacts) (old : Opened D) (s : State) (at
     -- or it refused
     pub change_refused : (refusal : StoreRefusal) → IsAnswer first (Err refusal) → first ≢ Some e.Device → refusal ≢ e.Reopen → IsRefusalOfPutNew refusal
         → (refusal ≡ e.Device → ((facts old.disk).failures < (facts new.disk).failures) × IsTrue new.failed) → (refusal ≢ e.Device → new ≡ old) → (refusal ≡ e.OutOfMemory → TakesMemory q)
-        → Applies facts old new s q (Refused (refusal_of refusal))
+        → AppliesUntested facts old new s q (Refused (refusal_of refusal))
     change_refused e.Device answer tests usable may device same memory = change_broken answer tests (device refl).0 (device refl).1
     change_refused e.OutOfMemory answer tests usable may device same memory =
-        subst (λ r. Applies facts old r s q (Refused OutOfMemory)) (sym (same (λ is. cc))) (untouched (Refused OutOfMemory) (at.stored.usable, memory refl, leads_same before))
+        subst (λ r. AppliesUntested facts old r s q (Refused OutOfMemory)) (sym (same (λ is. cc))) (untouched (Refused OutOfMemory) (change_step q change before before (Refused OutOfMemory) (at.usable, memory refl, leads_same before)))
     change_refused e.Full answer tests usable may device same memory =
-        subst (λ r. Applies facts old r s q (Refused Full)) (sym (same (λ is. cc)))
-        (untouched (Refused Full) (at.stored.usable, tested ∙ ap (option_map refusal_of) (is_first first e.Full answer (λ is. cc) (λ is. cc)), leads_same before))
+        subst (λ r. AppliesUntested facts old r s q (Refused Full)) (sym (same (λ is. cc)))
+        (untouched (Refused Full) (change_step q change before before (Refused Full) (at.usable, tested ∙ ap (option_map refusal_of) (is_first first e.Full answer (λ is. cc) (λ is. cc)), leads_same before)))
     change_refused e.Fragmented answer tests usable may device same memory =
-        subst (λ r. Applies facts old r s q (Refused Fragmented)) (sym (same (λ is. cc)))
-        (untouched (Refused Fragmented) (at.stored.usable, tested ∙ ap (option_map refusal_of) (is_first first e.Fragmented answer (λ is. cc) (λ is. cc)), leads_same before))
+        subst (λ r. AppliesUntested facts old r s q (Refused Fragmented)) (sym (same (λ is. cc)))
+        (untouched (Refused Fragmented) (change_step q change before before (Refused Fragmented) (at.usable, tested ∙ ap (option_map refusal_of) (is_first first e.Fragmented answer (λ is. cc) (λ is. cc)), leads_same before)))
     change_refused e.TooMany answer tests usable may device same memory =
-        subst (λ r. Applies facts old r s q (Refused TooMany)) (sym (same (λ is. cc)))
-        (untouched (Refused TooMany) (at.stored.usable, tested ∙ ap (option_map refusal_of) (is_first first e.TooMany answer (λ is. cc) (λ is. cc)), leads_same before))
+        subst (λ r. AppliesUntested facts old r s q (Refused TooMany)) (sym (same (λ is. cc)))
+        (untouched (Refused TooMany) (change_step q change before before (Refused TooMany) (at.usable, tested ∙ ap (option_map refusal_of) (is_first first e.TooMany answer (λ is. cc) (λ is. cc)), leads_same before)))
     change_refused e.GenerationEnd answer tests usable may device same memory =
-        subst (λ r. Applies facts old r s q (Refused GenerationEnd)) (sym (same (λ is. cc)))
-        (untouched (Refused GenerationEnd) (at.stored.usable, tested ∙ ap (option_map refusal_of) (is_first first e.GenerationEnd answer (λ is. cc) (λ is. cc)), leads_same before))
+        subst (λ r. AppliesUntested facts old r s q (Refused GenerationEnd)) (sym (same (λ is. cc)))
+        (untouched (Refused GenerationEnd) (change_step q change before before (Refused GenerationEnd) (at.usable, tested ∙ ap (option_map refusal_of) (is_first first e.GenerationEnd answer (λ is. cc) (λ is. cc)), leads_same before)))
     change_refused e.Reopen answer tests usable may device same memory = absurd (usable refl)
     change_refused e.NotFormatted answer tests usable may device same memory = absurd may
     change_refused e.AlreadyFormatted answer tests usable may device same memory = absurd may
@@ -191,12 +196,12 @@ module _ {D : Type 0} (facts : D → DiskFacts) (old : Opened D) (s : State) (at
     change_refused e.OldFormat answer tests usable may device same memory = absurd may
 
 -- a command and its answer by other words
-pub applies_as : {D : Type 0} (facts : D → DiskFacts) (old new : Opened D) (s : State) {q q' : Request} {r r' : Reply} → q' ≡ q → r' ≡ r → Applies facts old new s q r → Applies facts old new s q' r'
-applies_as facts old new s {q = q} {r' = r'} asked told applies = subst (λ x. Applies facts old new s x r') (sym asked) (subst (λ y. Applies facts old new s q y) (sym told) applies)
+pub applies_as : {D : Type 0} (facts : D → DiskFacts) (old new : Opened D) (s : State) {q q' : Request} {r r' : Reply} → q' ≡ q → r' ≡ r → AppliesUntested facts old new s q r → AppliesUntested facts old new s q' r'
+applies_as facts old new s {q = q} {r' = r'} asked told applies = subst (λ x. AppliesUntested facts old new s x r') (sym asked) (subst (λ y. AppliesUntested facts old new s q y) (sym told) applies)
 
 -- a bind is accepted with an image alone
-pub bound_alone : (p p' : Phase) (program : List ℕ) (base : ℕ) (r : Reply) (P : Type 0) → Step p (bind program base) r p' → IfBound r P → IfAccepted r P
+pub bound_alone : (p p' : Phase) (program : List ℕ) (base : ℕ) (r : Reply) (P : Type 0) → UntestedStep p (bind program base) r p' → IfBound r P → IfAccepted r P
 bound_alone p p' program base (Refused refusal) P step h = tt
 bound_alone p p' program base (reply.Bound image) P step h = h
-bound_alone p p' program base Done P step h = absurd (let is : Done ≡ reply_of p.state (bind program base) = step.2 in cc)
-bound_alone p p' program base (reply.Listing listing) P step h = absurd (let is : reply.Listing listing ≡ reply_of p.state (bind program base) = step.2 in cc)
+bound_alone p p' program base Done P step h = absurd (let is : Done ≡ reply_of p.state (bind program base) = step.0.2 in cc)
+bound_alone p p' program base (reply.Listing listing) P step h = absurd (let is : reply.Listing listing ≡ reply_of p.state (bind program base) = step.0.2 in cc)

@@ -1,5 +1,5 @@
 -- What a bind answers by what its walk has found.
-use Rattle.std.proofs.Common.{◌≡◌, ℕ, ◌+◌, List, [], ◌∷◌, map, drop, sum_by, Option, None, inl, refl, sym, ap, subst, ◌∙◌}
+use Rattle.std.proofs.Common.{◌≡◌, ℕ, ◌+◌, List, [], ◌∷◌, map, drop, sum_by, Option, Some, None, inl, refl, sym, ap, subst, ◌∙◌}
 use Rattle.std.specs.Option.{option_map}
 use Rattle.std.proofs.lemmas.List.Sums.{sum_by-cons}
 use Rattle.elf_file.specs.FirstOf.{first_of}
@@ -10,26 +10,28 @@ use Rattle.scope.specs.Objects.{Named}
 use Rattle.image.specs.Byte.{byte_of}
 use Rattle.image.specs.Image.{MemoryImage, image_byte}
 use Rattle.image.specs.Placement.{place}
-use Rattle.image.specs.Refusal.{IsAnswer, IsFirstOrWantsMemory, placed_refusal, missing_by, program_refusal}
+use Rattle.image.specs.Refusal.{IsAnswer, IsProgramAnswer, IsFirstOrWantsMemory, placed_refusal, missing_by, program_refusal}
 use Rattle.image.specs.declared.refusal.BindRefusal.{BindRefusal}
 use Rattle.image.specs.declared.refusal.BindRefusal.TheVariants as binding
 use Rattle.image.proofs.Answering.{program-taken, program-based, behind, later-answer}
-use Rattle.store.specs.Opened.{Opened}
+use Rattle.store.specs.Opened.{Opened, IsAt}
+use Rattle.store.specs.Stands as sectors
 use Rattle.store.specs.declared.refusal.StoreRefusal.{StoreRefusal}
 use Rattle.store.specs.declared.refusal.StoreRefusal.TheVariants as reading
 use Rattle.requests.specs.Binding.{object_of, objects, preload_numbers, binding_refusal, bound_objects, bound_image, of_bind}
 use Rattle.states.specs.State.{Library, State}
 use Rattle.requests.specs.Request.{bind}
-use Rattle.requests.specs.Step.{Step, Leads}
+use Rattle.requests.specs.Step.{Leads}
 use Rattle.requests.specs.declared.refusal.Refusal.TheVariants.{Bind}
 use Rattle.requests.specs.declared.reply.Reply.{Reply}
 use Rattle.requests.specs.declared.reply.Reply.TheVariants.{Refused, Bound}
 use Rattle.requests.proofs.Bindings.{memory}
-use Rattle.registry.specs.Applied.{Applied, MayLeaveWithin}
+use Rattle.registry.specs.Applied.{MayLeaveBy}
+use Rattle.registry.specs.Untested.{AppliedUntested, ComesBehindReading, ReadsLibraries, UntestedStep}
 use Rattle.registry.specs.Binding.{data_sectors, bind_sectors}
-use Rattle.registry.specs.Opened.{IsAt}
 use Rattle.registry.specs.Phase.{phase_of}
-use Rattle.registry.specs.inside.Reading.{IsRead, IsReadRefusal, refusal_of_read}
+use Rattle.store.specs.IsRead.{IsRead}
+use Rattle.registry.specs.inside.Reading.{IsReadRefusal, refusal_of_read}
 use Rattle.registry.specs.inside.Walked.{walked_objects, walked_refusal}
 
 module _ (s : State) (program : List ℕ) (base : ℕ) (files : List Library) (lacks : Option Need) (taken : program_refusal program base ≡ None)
@@ -65,44 +67,53 @@ module _ {D : Type 0} (facts : D → DiskFacts) (old new : Opened D) (s : State)
   pub leads : Leads (phase_of facts old s) s (phase_of facts new s)
   leads = record { sectors = read.calls.sectors; failed = read.failed; state = refl }
 
-  -- a refusal of a bind is a step
-  pub refused : (e : BindRefusal) → IsAnswer program base (objects s) (preload_numbers s) e
-      → Step (phase_of facts old s) (bind program base) (Refused (of_bind e)) (phase_of facts new s)
-  refused (binding.Program r) h = (at.stored.usable, ap (option_map Bind) h, leads)
-  refused binding.BadBase h = (at.stored.usable, ap (option_map Bind) h, leads)
-  refused (binding.Missing needer name) h = (at.stored.usable, ap (option_map Bind) h, leads)
-  refused binding.NoRoom h = (at.stored.usable, ap (option_map Bind) h, leads)
-  refused (binding.Undefined object symbol) h = (at.stored.usable, ap (option_map Bind) h, leads)
-  refused binding.OutOfMemory h = (at.stored.usable, h, leads)
+  -- a refusal of a bind is a step, where each file that it reads is a library if it comes behind reading
+  pub refused : (e : BindRefusal) → IsAnswer program base (objects s) (preload_numbers s) e → (ComesBehindReading program base (Refused (of_bind e)) → ReadsLibraries s program)
+      → UntestedStep (phase_of facts old s) (bind program base) (Refused (of_bind e)) (phase_of facts new s)
+  refused (binding.Program r) h all = ((at.usable, ap (option_map Bind) h, leads), all)
+  refused binding.BadBase h all = ((at.usable, ap (option_map Bind) h, leads), all)
+  refused (binding.Missing needer name) h all = ((at.usable, ap (option_map Bind) h, leads), all)
+  refused binding.NoRoom h all = ((at.usable, ap (option_map Bind) h, leads), all)
+  refused (binding.Undefined object symbol) h all = ((at.usable, ap (option_map Bind) h, leads), all)
+  refused binding.OutOfMemory h all = ((at.usable, h, leads), all)
+
+  -- one of the program by itself doesn't,
+  pub alone : (e : BindRefusal) → IsProgramAnswer program base e → ComesBehindReading program base (Refused (of_bind e)) → ReadsLibraries s program
+  alone binding.OutOfMemory h behind = absurd behind
+  alone (binding.Program r) h behind = absurd (let no : ◌≡◌ {A = Option BindRefusal} None (Some (binding.Program r)) = sym behind ∙ h in cc)
+  alone binding.BadBase h behind = absurd (let no : ◌≡◌ {A = Option BindRefusal} None (Some binding.BadBase) = sym behind ∙ h in cc)
+  alone (binding.Missing needer name) h behind = absurd (let no : ◌≡◌ {A = Option BindRefusal} None (Some (binding.Missing needer name)) = sym behind ∙ h in cc)
+  alone binding.NoRoom h behind = absurd (let no : ◌≡◌ {A = Option BindRefusal} None (Some binding.NoRoom) = sym behind ∙ h in cc)
+  alone (binding.Undefined object symbol) h behind = absurd (let no : ◌≡◌ {A = Option BindRefusal} None (Some (binding.Undefined object symbol)) = sym behind ∙ h in cc)
 
   -- so is an image
   pub bound : (image : MemoryImage) → binding_refusal s program base ≡ None → image ≡ bound_image s program base
-      → ((a : ℕ) → image_byte image a ≡ byte_of (bound_objects s program base) a)
-      → Step (phase_of facts old s) (bind program base) (Bound image) (phase_of facts new s)
-  bound image accepted is bytes = (at.stored.usable, ap (option_map Bind) accepted, (is, bytes), leads)
+      → ((a : ℕ) → image_byte image a ≡ byte_of (bound_objects s program base) a) → ReadsLibraries s program
+      → UntestedStep (phase_of facts old s) (bind program base) (Bound image) (phase_of facts new s)
+  bound image accepted is bytes all = ((at.usable, ap (option_map Bind) accepted, (is, bytes), leads), λ behind. all)
 
   -- and a reading that is refused
-  pub unread : program_refusal program base ≡ None → (e : StoreRefusal) → IsReadRefusal facts old new e → (e ≡ reading.Damaged → ⊥)
-      → Step (phase_of facts old s) (bind program base) (Refused (refusal_of_read e)) (phase_of facts new s)
-  unread taken reading.Device is intact = (at.stored.usable, record { risen = is; untested = taken; same = leads })
-  unread taken reading.Reopen is intact = (is, leads)
-  unread taken reading.OutOfMemory is intact = (at.stored.usable, memory program base taken, leads)
-  unread taken reading.Damaged is intact = absurd (intact refl)
-  unread taken reading.NotFormatted is intact = absurd is
-  unread taken reading.AlreadyFormatted is intact = absurd is
-  unread taken reading.BadGeometry is intact = absurd is
-  unread taken reading.Full is intact = absurd is
-  unread taken reading.Fragmented is intact = absurd is
-  unread taken reading.TooMany is intact = absurd is
-  unread taken reading.GenerationEnd is intact = absurd is
-  unread taken reading.OldFormat is intact = absurd is
+  pub unread : program_refusal program base ≡ None → (e : StoreRefusal) → IsReadRefusal facts old new e → (e ≡ reading.Damaged → ReadsLibraries s program → ⊥)
+      → UntestedStep (phase_of facts old s) (bind program base) (Refused (refusal_of_read e)) (phase_of facts new s)
+  unread taken reading.Device is damaged = ((at.usable, record { risen = is; untested = taken; same = leads }), λ none. absurd none)
+  unread taken reading.Reopen is damaged = ((is, leads), λ none. absurd none)
+  unread taken reading.OutOfMemory is damaged = ((at.usable, memory program base taken, leads), λ none. absurd none)
+  unread taken reading.Damaged is damaged = (at.usable, taken, damaged refl, leads)
+  unread taken reading.NotFormatted is damaged = absurd is
+  unread taken reading.AlreadyFormatted is damaged = absurd is
+  unread taken reading.BadGeometry is damaged = absurd is
+  unread taken reading.Full is damaged = absurd is
+  unread taken reading.Fragmented is damaged = absurd is
+  unread taken reading.TooMany is damaged = absurd is
+  unread taken reading.GenerationEnd is damaged = absurd is
+  unread taken reading.OldFormat is damaged = absurd is
 
   -- what a step that only reads does to a registry
-  pub applied : (answer : Reply) → Step (phase_of facts old s) (bind program base) answer (phase_of facts new s) → Applied facts old new s s (bind program base) answer
+  pub applied : (answer : Reply) → UntestedStep (phase_of facts old s) (bind program base) answer (phase_of facts new s) → AppliedUntested facts old new s s (bind program base) answer
   applied answer step = record {
     step = step;
-    any_moment = weaken (Mixture (facts old.disk)) (MayLeaveWithin (phase_of facts old s) (bind program base) answer s)
-        (λ m mixture. inl (record { stored = (old.root, old.entries, at.stored.stands m mixture); libraries = at.libraries }))
-        (read.leaves at.stored.honest);
-    kept = inl (record { stored = read.same s at.stored; libraries = at.libraries });
+    any_moment = weaken (Mixture (facts old.disk)) (MayLeaveBy sectors.Stands (phase_of facts old s) (bind program base) answer s)
+        (λ m mixture. inl (old.root, old.entries, at.stands m mixture))
+        (read.leaves at.honest);
+    kept = inl (read.same s at);
   }

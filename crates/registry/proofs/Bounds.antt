@@ -3,8 +3,8 @@ use Rattle.std.proofs.Common.{◌≡◌, ℕ, zero, suc, ◌+◌, ◌-◌, ◌<�
 use Rattle.std.specs.Prelude.{All}
 use Rattle.std.specs.List.{IsDistinct}
 use Rattle.std.proofs.lemmas.Bool.{cases_lt}
-use Rattle.std.proofs.lemmas.List.{drop_all, drop_more, length-map, get_or-map}
-use Rattle.std.proofs.lemmas.List.Elements.{All-get_or}
+use Rattle.std.proofs.lemmas.List.{drop_all, drop_more, get_or_default, length-map, get_or-map}
+use Rattle.std.proofs.lemmas.List.Elements.{All-get_or, All-nil}
 use Rattle.std.proofs.lemmas.List.Sums.{sum_by-cons}
 use Rattle.sector_disk.specs.Disk.{DiskFacts, HoldsNow}
 use Rattle.roots.specs.Root.{listed_preloads}
@@ -17,12 +17,11 @@ use Rattle.image.specs.Refusal.{program_refusal}
 use Rattle.image.specs.declared.refusal.BindRefusal.{BindRefusal}
 use Rattle.requests.specs.Binding.{object_of, objects, preload_numbers}
 use Rattle.states.specs.State.{Library, State}
-use Rattle.store.specs.Opened.{Opened}
+use Rattle.store.specs.Opened.{Opened, IsAt}
 use Rattle.store.specs.Stands.{HaveOwnNames, no_library}
 use Rattle.registry.specs.Binding.{data_sectors}
 use Rattle.registry.specs.Flight.{Flight, IsBounded, goings_by, sectors_at}
 use Rattle.registry.specs.Flying.{Flies}
-use Rattle.registry.specs.Opened.{IsAt}
 use Rattle.registry.specs.inside.Binding.{Binding}
 use Rattle.registry.proofs.FilesRead.{library-at, place-above}
 use Rattle.registry.proofs.StateNames.{numbers_are, object_count}
@@ -84,9 +83,12 @@ module _ {D : Type 0} (facts : D → DiskFacts) (taken : Opened D) (holds : IsTr
   most_steps : length (load_order program libraries numbers) ≤ length s.libraries + 1
   most_steps = omega (arith, long, few (length (available program libraries)) places apart, length-map s.libraries object_of)
 
-  -- each library of it has no more sectors than one of the state's
-  module _ (n : ℕ) (each : All (λ library. data_sectors library.bytes ≤ n) s.libraries) where
-    at_place : (k : ℕ) → suc k < length (load_order program libraries numbers) → of_object (get_or (load_order program libraries numbers) (suc k) (object_at (available program libraries) 0)) ≤ n
+  -- what is so of each library of the state is so of each object behind the program
+  module _ (P : Library → Type 0) (each : All P s.libraries) where
+    abbrev Of : Named → Type 0
+    Of o = P (record { name = o.name; bytes = o.file })
+
+    at_place : (k : ℕ) → suc k < length (load_order program libraries numbers) → Of (get_or (load_order program libraries numbers) (suc k) (object_at (available program libraries) 0))
     at_place k lt =
         let object = object_at (available program libraries) in
         let next : k + 1 ≡ suc k = omega arith in
@@ -98,17 +100,25 @@ module _ {D : Type 0} (facts : D → DiskFacts) (taken : Opened D) (holds : IsTr
         let is : object_of file ≡ object p = library-at facts program taken holds s at p file above below refl in
         let there : get_or (load_order program libraries numbers) (suc k) (object 0) ≡ object p =
         ap (λ (i : ℕ). get_or (load_order program libraries numbers) i (object 0)) (sym next) ∙ ap (λ (l : List Named). get_or l (k + 1) (object 0)) order_is ∙ get_or-map object places (k + 1) 0 (object 0) inner in
-        let small : data_sectors file.bytes ≤ n = All-get_or (λ (l : Library). data_sectors l.bytes ≤ n) s.libraries (p - 1) no_library (omega (arith, above, below, count, length-map s.libraries object_of)) each in
-        subst (λ (o : Named). of_object o ≤ n) (is ∙ sym there) small
+        let its : P file = All-get_or P s.libraries (p - 1) no_library (omega (arith, above, below, count, length-map s.libraries object_of)) each in
+        subst Of (is ∙ sym there) its
       where
         begins : take (suc (length numbers)) places ≡ 0 ∷ map (λ q. q + 1) numbers
         begins =
             let size : length (level_0 numbers) ≡ suc (length numbers) = omega (arith, length-map numbers (λ q. q + 1)) in
             subst (λ (i : ℕ). take i places ≡ level_0 numbers) size (load_order-first program libraries numbers)
 
-    most_sectors : (going : ℕ) → sectors_at going (load_order program libraries numbers) ≤ n
-    most_sectors zero = omega arith
-    most_sectors (suc k) = sectors_one (load_order program libraries numbers) (suc k) (object_at (available program libraries) 0) n (at_place k)
+    pub all_behind : All Of (drop 1 (load_order program libraries numbers))
+    all_behind = by (load_order program libraries numbers) at_place
+      where
+        by : (os : List Named) → ((k : ℕ) → suc k < length os → Of (get_or os (suc k) (object_at (available program libraries) 0))) → All Of (drop 1 os)
+        by [] at_each = All-nil Of
+        by (o ∷ os) at_each = λ k d lt. subst Of (get_or_default os k (object_at (available program libraries) 0) d lt) (at_each k (omega (arith, lt)))
+
+  -- each library of it has no more sectors than one of the state's
+  most_sectors : (n : ℕ) → All (λ library. data_sectors library.bytes ≤ n) s.libraries → (going : ℕ) → sectors_at going (load_order program libraries numbers) ≤ n
+  most_sectors n each zero = omega arith
+  most_sectors n each (suc k) = sectors_one (load_order program libraries numbers) (suc k) (object_at (available program libraries) 0) n (at_place (λ library. data_sectors library.bytes ≤ n) each k)
 
   -- no flight is answered Going more often
   steps_by : (o : Option BindRefusal) → goings_by o (load_order program libraries numbers) ≤ length s.libraries + 1
@@ -125,6 +135,6 @@ bounded facts now binder flight flies holds inside once =
     let low : All (λ p. p < length flies.taken.entries) (listed_preloads flies.taken.root) = subst (All (λ p. p < length flies.taken.entries)) listed within in
     let distinct : IsDistinct nat_eq (listed_preloads flies.taken.root) = subst (IsDistinct nat_eq) listed once in
     record {
-      steps = steps_by facts flies.taken holds flight.state flies.at flies.own low distinct flight.program (program_refusal flight.program flight.base);
-      sectors = λ n each. most_sectors facts flies.taken holds flight.state flies.at flies.own low distinct flight.program n each flight.going;
+      steps = steps_by facts flies.taken holds flight.state flies.at.stored flies.own low distinct flight.program (program_refusal flight.program flight.base);
+      sectors = λ n each. most_sectors facts flies.taken holds flight.state flies.at.stored flies.own low distinct flight.program n each flight.going;
     }

@@ -1,10 +1,10 @@
 -- Files of a store that are admitted one after the other.
-use Rattle.std.proofs.Common.{◌≡◌, ◌<◌, ◌≤◌, ℕ, ◌+◌, List, length, get_or, take, sum_by, All, IsTrue, refl, sym, ap, subst, ◌∙◌, arith, ⊎_elim}
+use Rattle.std.proofs.Common.{◌≡◌, ◌<◌, ◌≤◌, ℕ, ◌+◌, List, length, get_or, take, sum_by, All, IsTrue, sym, ap, subst, ◌∙◌, arith, ⊎_elim}
 use Rattle.std.proofs.lemmas.List.{get_or_default}
 use Rattle.std.proofs.lemmas.List.Sums.{sum_by_more}
 use Rattle.std.proofs.lemmas.Bool.{cases_lt}
-use Rattle.sector_disk.specs.Disk.{DiskFacts, Mixture, IsUnchanged, LeavesOnly, AreCallsExactly}
-use Rattle.sector_disk.proofs.Moments.{goes_on, weaken, left_now, at_rest, no_calls, more_calls, exactly_none, exactly_sum}
+use Rattle.sector_disk.specs.Disk.{DiskFacts, Mixture, LeavesOnly, AreCallsExactly}
+use Rattle.sector_disk.proofs.Moments.{goes_on, weaken, left_now, exactly_none, exactly_sum}
 use Rattle.store.specs.declared.placed_entry.PlacedEntry.{PlacedEntry}
 use Rattle.states.specs.State.{Library, State}
 use Rattle.store.specs.Stands.{no_library}
@@ -12,10 +12,11 @@ use Rattle.roots.specs.declared.version.Version.{Version}
 use Rattle.store.specs.Opened.{Opened, IsAtBy}
 use Rattle.store.specs.declared.refusal.StoreRefusal.{StoreRefusal}
 use Rattle.store.specs.declared.refusal.StoreRefusal.TheVariants as refusal
+use Rattle.store.proofs.IsReadLemmas.{read_more, read_none}
 use Rattle.store.proofs.UsedAlone.{no_entry}
 use Rattle.requests.specs.Library.{IsLibrary}
-use Rattle.registry.specs.Stands.{file_sectors}
-use Rattle.registry.specs.inside.Reading.{IsReadBy, IsReadRefusal}
+use Rattle.store.specs.IsRead.{IsReadBy, file_sectors}
+use Rattle.registry.specs.inside.Reading.{IsReadRefusal}
 
 -- The files before this position were read, each once, and are libraries.
 pub record AdmittedSoFar (version : Version) {D : Type 0} (facts : D → DiskFacts) (start now : Opened D) (position : ℕ) : Type 0 where
@@ -35,41 +36,6 @@ same_library P name bytes l named is p =
     subst P same p
 
 module _ {version : Version} {D : Type 0} {facts : D → DiskFacts} where
-  pub read_none : (start : Opened D) → IsReadBy version facts start start
-  read_none start = record {
-    leaves = λ honest. at_rest (facts start.disk) (Mixture (facts start.disk)) (λ m mixture. mixture);
-    same = λ s at. at;
-    unchanged = λ honest. record { now = refl; log = refl; stop = λ k c. (λ may. may, λ may. may) };
-    root = refl;
-    entries = refl;
-    held = refl;
-    failed = refl;
-    calls = no_calls (facts start.disk);
-  }
-
-  -- and then more
-  pub read_more : {start mid new : Opened D} → IsReadBy version facts start mid → IsReadBy version facts mid new → IsReadBy version facts start new
-  read_more {start = start} {mid = mid} first second = record {
-    leaves = λ is.
-        let so_far = first.leaves is in
-        goes_on (Mixture (facts start.disk)) so_far
-        (weaken (Mixture (facts mid.disk)) (Mixture (facts start.disk)) (left_now (Mixture (facts start.disk)) so_far) (second.leaves (subst IsTrue (sym first.calls.honest) is)));
-    same = λ s at. second.same s (first.same s at);
-    unchanged = λ is. still (first.unchanged is) (second.unchanged (subst IsTrue (sym first.calls.honest) is));
-    root = second.root ∙ first.root;
-    entries = second.entries ∙ first.entries;
-    held = second.held ∙ first.held;
-    failed = second.failed ∙ first.failed;
-    calls = more_calls first.calls second.calls;
-  }
-    where
-      still : {before between after : DiskFacts} → IsUnchanged before between → IsUnchanged between after → IsUnchanged before after
-      still one two = record {
-        now = two.now ∙ one.now;
-        log = two.log ∙ one.log;
-        stop = λ k c. (λ may. (one.stop k c).0 ((two.stop k c).0 may), λ may. (two.stop k c).1 ((one.stop k c).1 may));
-      }
-
   -- what refuses more refuses the whole
   pub refused_more : {start mid : Opened D} (new : Opened D) (e : StoreRefusal) → IsReadBy version facts start mid → IsReadRefusal facts mid new e → IsReadRefusal facts start new e
   refused_more new refusal.Device first is = omega (arith, is, first.calls.failures)

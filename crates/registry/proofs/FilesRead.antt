@@ -6,15 +6,15 @@ use Rattle.std.specs.Option.{option_or}
 use Rattle.std.proofs.Math.Seq.{take-length}
 use Rattle.std.proofs.lemmas.Bool.{eqb-false}
 use Rattle.std.proofs.lemmas.Grind.{flat_map-append}
-use Rattle.std.proofs.lemmas.List.{length-map, get_or-map, map_push, take_more, length_push}
-use Rattle.std.proofs.lemmas.List.Elements.{All-get_or}
+use Rattle.std.proofs.lemmas.List.{length-map, length-take, get_or-map, map-append, map_push, take_more, length_push}
+use Rattle.std.proofs.lemmas.List.Elements.{All-get_or, All-nil, All-cons, All-head, All-tail}
 use Rattle.std.proofs.lemmas.List.Folds.{find-append}
 use Rattle.std.proofs.lemmas.Map.Keys.{apart_from_distinct}
 use Rattle.sector_disk.specs.Disk.{DiskFacts, HoldsNow}
 use Rattle.roots.specs.Root.{listed_preloads}
 use Rattle.elf_dynamic.specs.Strings.{needed}
 use Rattle.scope.specs.LoadOrder as order
-use Rattle.scope.specs.LoadOrder.{Need, available, needs_of, level_0, object_at, place_of, load_order, missing, needed_by, is_missing}
+use Rattle.scope.specs.LoadOrder.{Need, available, needs_of, level_0, object_at, place_of, load_order, load_places, missing, needed_by, is_missing}
 use Rattle.scope.specs.Objects.{Named, program_name}
 use Rattle.scope.specs.inside.Growing.{grown}
 use Rattle.scope.specs.Queue.{AreApart}
@@ -23,13 +23,13 @@ use Rattle.scope.proofs.Growing.{grown_is, grown-take, grown-longer}
 use Rattle.scope.proofs.LoadOrderLemmas.{low-level_0}
 use Rattle.scope.proofs.Naming.{object_later}
 use Rattle.scope.proofs.Queueing.{IsReached, reached-more, places-end, order-behind, order-whole}
-use Rattle.scope.proofs.Reaching.{reached-start}
-use Rattle.store.specs.Opened.{Opened}
+use Rattle.scope.proofs.Reaching.{at-begins, reached-at, reached-start}
+use Rattle.store.specs.Opened.{Opened, IsAt}
 use Rattle.store.specs.Stands.{HaveOwnNames, no_library}
 use Rattle.requests.specs.Binding.{object_of, objects, preload_numbers}
 use Rattle.requests.specs.Library.{IsLibrary}
 use Rattle.states.specs.State.{Library, State}
-use Rattle.registry.specs.Opened.{IsAt}
+use Rattle.registry.specs.Untested.{ReadsLibraries}
 use Rattle.registry.specs.inside.Walked.{more_needs, walked, next_place, IsWalked}
 use Rattle.registry.specs.declared.needs.Needs.{Needs}
 use Rattle.store.specs.NameOrder.{entry_names}
@@ -79,12 +79,24 @@ place-above places i first distinct lt =
     by zero some = absurd (some refl)
     by (suc k) some = omega arith
 
--- each byte string of a state is a library
-pub library_there : {D : Type 0} (facts : D → DiskFacts) (start : Opened D) (holds : IsTrue (facts start.disk).honest → HoldsNow (facts start.disk)) (s : State) → IsAt facts start s
-    → (i : ℕ) → i < length start.entries → IsLibrary (get_or s.libraries i no_library)
-library_there facts start holds s at i lt =
-    let within : i < length s.libraries = omega (arith, lt, object_count facts start s holds at, length-map s.libraries object_of) in
-    All-get_or IsLibrary s.libraries i no_library within at.libraries
+-- the object that a walk has come to stands at this place of the load order
+pub order-at : (program : List ℕ) (libraries : List Named) (preloads places : List ℕ) (i : ℕ) → IsReached program libraries preloads places i → i < length places → length places ≤ length (available program libraries)
+    → (more : List Named) × (load_order program libraries preloads ≡ map (object_at (available program libraries)) (take i places) ++ object_at (available program libraries) (get_or places i 0) ∷ more)
+unfolding load_order load_places
+order-at program libraries preloads places i reached lt few =
+    let object = object_at (available program libraries) in
+    let x : ℕ = get_or places i 0 in
+    let begins = at-begins (needs_of program libraries) (length (available program libraries)) (level_0 preloads) places i x (reached-at (needs_of program libraries) (length (available program libraries)) (level_0 preloads) places i reached lt few) in
+    (map object begins.more, ap (map object) begins.begins ∙ map-append object (take i places) (x ∷ begins.more))
+
+-- what is so of each of a list behind a first one is so of one in it
+one_behind : {X : Type 0} (P : X → Type 0) (front : List X) (x : X) (more : List X) → All P (front ++ x ∷ more) → P x
+one_behind P [] x more all = All-head P x more all
+one_behind P (y ∷ ys) x more all = one_behind P ys x more (All-tail P y (ys ++ x ∷ more) all)
+
+one_of : {X : Type 0} (P : X → Type 0) (front : List X) (x : X) (more : List X) → 0 < length front → All P (drop 1 (front ++ x ∷ more)) → P x
+one_of P [] x more some all = absurd (omega (arith, some))
+one_of P (y ∷ ys) x more some all = one_behind P ys x more all
 
 module _ {D : Type 0} (facts : D → DiskFacts) (program : List ℕ) (start : Opened D) (holds : IsTrue (facts start.disk).honest → HoldsNow (facts start.disk)) where
   -- what a file needs, by the entries and by the state
@@ -194,6 +206,27 @@ module _ {D : Type 0} (facts : D → DiskFacts) (program : List ℕ) (start : Op
       front [] qs first some = absurd (omega (arith, some))
       front (x ∷ ps) qs first some = ap (λ l. get_or l 0 1) (grown_is (x ∷ ps) qs) ∙ first
 
+  -- where each file that the bind reads is a library, the one that is read next is one
+  pub next_is_library : {needs : Needs} {files : List Library} → IsWalked facts program start needs files
+      → AreApart (length start.entries + 1) needs.places.places → length files + 1 < length needs.places.places
+      → (s : State) → IsAt facts start s → ReadsLibraries s program → IsLibrary (get_or s.libraries (next_place needs files - 1) no_library)
+  next_is_library {needs = needs} {files = files} so_far apart lt s at all =
+      let n : ℕ = length files in
+      let places : List ℕ = needs.places.places in
+      let p : ℕ = get_or places (n + 1) 0 in
+      let l : Library = get_or s.libraries (p - 1) no_library in
+      let object = object_at (available program (objects s)) in
+      let below : p < length start.entries + 1 = All-get_or (λ q. q < length start.entries + 1) places (n + 1) 0 lt apart.below in
+      let above : 0 < p = place-above places n so_far.among.places.first apart.distinct lt in
+      let limit : length (available program (objects s)) ≡ length start.entries + 1 = omega (arith, object_count facts start s holds at) in
+      let fits : length places ≤ length (available program (objects s)) = omega (arith, few (length start.entries + 1) places apart, limit) in
+      let ordered = order-at program (objects s) (preload_numbers s) places (n + 1) (so_far.reached s at) lt fits in
+      let front : List Named = map object (take (n + 1) places) in
+      let some : 0 < length front = omega (arith, length-map (take (n + 1) places) object, length-take (n + 1) places, lt) in
+      let its : IsLibrary (record { name = (object p).name; bytes = (object p).file }) =
+      one_of (λ o. IsLibrary (record { name = o.name; bytes = o.file })) front (object p) ordered.0 some (subst (λ os. All (λ o. IsLibrary (record { name = o.name; bytes = o.file })) (drop 1 os)) ordered.1 all) in
+      subst (λ (o : Named). IsLibrary (record { name = o.name; bytes = o.file })) (sym (library-at s at p l above below refl)) its
+
   whole-walked : (places : List ℕ) (n : ℕ) → n < length places → length places ≤ n + 1 → walked places n ≡ drop 1 places
   whole-walked places n inside outside =
       let e : n + 1 ≡ length places = omega (arith, inside, outside) in
@@ -211,6 +244,16 @@ module _ {D : Type 0} (facts : D → DiskFacts) (program : List ℕ) (start : Op
       (sym (whole-walked needs.places.places (length files) so_far.among.within outside
       ∙ ap (drop 1) (sym (places-end program (objects s) ks needs.places.places (length files + 1) (so_far.reached s at) outside))))
       ∙ sym (so_far.each s at))
+
+  -- and each file that the bind reads is a library, as those that were read are
+  pub libraries_read : {needs : Needs} {files : List Library} → IsWalked facts program start needs files → length needs.places.places ≤ length files + 1 → All IsLibrary files
+      → (s : State) → IsAt facts start s → ReadsLibraries s program
+  libraries_read {needs = needs} {files = files} so_far outside each s at =
+      subst (λ os. All (λ o. IsLibrary (record { name = o.name; bytes = o.file })) (drop 1 os)) (sym (all_read so_far outside s at)) (by files each)
+    where
+      by : (fs : List Library) → All IsLibrary fs → All (λ o. IsLibrary (record { name = o.name; bytes = o.file })) (map object_of fs)
+      by [] all = All-nil (λ (o : Named). IsLibrary (record { name = o.name; bytes = o.file }))
+      by (f ∷ fs) all = All-cons (λ (o : Named). IsLibrary (record { name = o.name; bytes = o.file })) (object_of f) (map object_of fs) (All-head IsLibrary f fs all) (by fs (All-tail IsLibrary f fs all))
 
   -- and the first missing name is noted
   pub missing_read : {needs : Needs} {files : List Library} → IsWalked facts program start needs files → length needs.places.places ≤ length files + 1

@@ -4,17 +4,16 @@ use Rattle.std.specs.Prelude.{◌⊎◌, ◌↔◌, IfErr, IfOk}
 use Rattle.std.specs.Option.{option_map}
 use Rattle.std.proofs.lemmas.Bool.{false≢true}
 use Rattle.std.proofs.Math.Seq.{drop-append_seam}
-use Rattle.std.proofs.lemmas.List.{length-map, length-take, map-append, length_push, length-append}
+use Rattle.std.proofs.lemmas.List.{length-map, length-take, length_push, length-append}
 use Rattle.std.proofs.lemmas.List.Elements.{All-get_or}
 use Rattle.std.proofs.lemmas.List.Sums.{sum_by-cons}
 use Rattle.sector_disk.specs.Disk.{DiskFacts, HoldsNow, AreCallsAtMost, AreCallsExactly, sector_bytes}
 use Rattle.sector_disk.proofs.Moments.{exactly_at_most, exactly_none}
-use Rattle.scope.specs.LoadOrder.{available, load_order, load_places, level_0, missing, needs_of, object_at}
+use Rattle.scope.specs.LoadOrder.{available, load_order, missing, object_at}
 use Rattle.scope.specs.Objects.{Named}
 use Rattle.scope.specs.Queue.{AreApart}
 use Rattle.scope.proofs.Apart.{few}
-use Rattle.scope.proofs.Queueing.{IsReached, order-whole}
-use Rattle.scope.proofs.Reaching.{at-begins, reached-at}
+use Rattle.scope.proofs.Queueing.{order-whole}
 use Rattle.image.specs.Byte.{byte_of}
 use Rattle.image.specs.Image.{MemoryImage, image_byte, image_of}
 use Rattle.image.specs.Refusal.{IsAnswer, IsProgramAnswer, IsFirstOrWantsMemory, WantsMemory, program_refusal}
@@ -33,13 +32,14 @@ use Rattle.store.specs.declared.refusal.StoreRefusal.{StoreRefusal}
 use Rattle.store.specs.declared.refusal.StoreRefusal.TheVariants as reading
 use Rattle.requests.proofs.Bindings.{memory}
 use Rattle.requests.specs.Binding.{object_of, objects, preload_numbers, binding_refusal, bound_objects}
+use Rattle.requests.specs.Library.{IsLibrary}
 use Rattle.requests.specs.declared.refusal.Refusal.{Refusal}
 use Rattle.requests.specs.declared.refusal.Refusal.TheVariants.{Bind, OutOfMemory, Reopen}
 use Rattle.requests.specs.declared.reply.Reply.TheVariants.{Bound, Refused}
 use Rattle.std.specs.Int.{div_ceil}
 use Rattle.store.proofs.UsedAlone.{no_entry}
 use Rattle.registry.specs.Binding.{data_sectors}
-use Rattle.registry.specs.Stands.{file_sectors}
+use Rattle.store.specs.IsRead.{IsRead, file_sectors}
 use Rattle.registry.specs.Flight.{Flight, IsBounded, goings, goings_by, sectors_at, step_sectors}
 use Rattle.registry.specs.Flying.{Advances, Begins, Ends, Flies, IsLastStep, IsStep, IsStepRefusal}
 use Rattle.registry.specs.declared.binder.Step.{Step}
@@ -47,13 +47,13 @@ use Rattle.registry.specs.declared.binder.Step.TheVariants.{Going, Final}
 use Rattle.registry.specs.declared.needs.Needs.{Needs}
 use Rattle.registry.specs.declared.source.Source.TheVariants.{Held}
 use Rattle.registry.specs.inside.Binding.{Binding, Found, HasCome, Stays}
-use Rattle.registry.specs.inside.Reading.{IsRead, IsReadRefusal, refusal_of_read}
+use Rattle.registry.specs.inside.Reading.{IsReadRefusal, refusal_of_read}
 use Rattle.registry.specs.inside.Source.{Offers}
 use Rattle.registry.specs.inside.Stepping.{refused_step, unread_step}
 use Rattle.registry.specs.inside.Walked.{IsWalked, next_place, walked_objects, walked_refusal}
 use Rattle.registry.proofs.Bindings.{refusal_same, objects_same}
-use Rattle.registry.proofs.Files.{read_none}
-use Rattle.registry.proofs.FilesRead.{all_read, missing_read, place-above, library-at}
+use Rattle.store.proofs.IsReadLemmas.{read_none}
+use Rattle.registry.proofs.FilesRead.{all_read, missing_read, order-at, place-above, library-at}
 use Rattle.registry.proofs.Keeping.{keeps_held_read, keeps_held_same}
 use Rattle.registry.proofs.StateNames.{object_count}
 
@@ -110,16 +110,6 @@ module _ {D : Type 0} (facts : D → DiskFacts) {now : Opened D} {binder : Bindi
 -- a load order has the program
 order_some : (program : List ℕ) (s : State) → 0 < length (load_order program (objects s) (preload_numbers s))
 order_some program s = omega (arith, ap length (order-whole program (objects s) (preload_numbers s)))
-
--- the object that a walk has come to stands at this place of the load order
-order-at : (program : List ℕ) (libraries : List Named) (preloads places : List ℕ) (i : ℕ) → IsReached program libraries preloads places i → i < length places → length places ≤ length (available program libraries)
-    → (more : List Named) × (load_order program libraries preloads ≡ map (object_at (available program libraries)) (take i places) ++ object_at (available program libraries) (get_or places i 0) ∷ more)
-unfolding load_order load_places
-order-at program libraries preloads places i reached lt few =
-    let object = object_at (available program libraries) in
-    let x : ℕ = get_or places i 0 in
-    let begins = at-begins (needs_of program libraries) (length (available program libraries)) (level_0 preloads) places i x (reached-at (needs_of program libraries) (length (available program libraries)) (level_0 preloads) places i reached lt few) in
-    (map object begins.more, ap (map object) begins.begins ∙ map-append object (take i places) (x ∷ begins.more))
 
 -- a step that makes no call reads no more than its sectors
 pub quiet : {D : Type 0} (facts : D → DiskFacts) (store : Opened D) (most : ℕ) → AreCallsAtMost most (facts store.disk) (facts store.disk)
@@ -213,7 +203,7 @@ module _ {D : Type 0} (facts : D → DiskFacts) (old : Opened D) (before : Bindi
     libraries = objects flight.state
 
     count : length libraries ≡ length flies.taken.entries
-    count = object_count facts flies.taken flight.state holds flies.at
+    count = object_count facts flies.taken flight.state holds flies.at.stored
 
     limit : needs.places.limit ≡ length flies.taken.entries + 1
     limit = come.1.among.places.limit
@@ -224,11 +214,17 @@ module _ {D : Type 0} (facts : D → DiskFacts) (old : Opened D) (before : Bindi
     above : 0 < place
     above = place-above needs.places.places (length files) come.1.among.places.first apart.distinct lt
 
+    -- it is a library,
+    pub next_library : IsLibrary (get_or flight.state.libraries (place - 1) no_library)
+    next_library =
+        All-get_or IsLibrary flight.state.libraries (place - 1) no_library
+        (omega (arith, within, above, count, length-map flight.state.libraries object_of)) flies.at.libraries
+
     at_place : (suc (length files) < length order) × (take 1 (drop (suc (length files)) order) ≡ object_at (available before.program libraries) place ∷ [])
     at_place =
         let i : ℕ = length files + 1 in
         let size : length needs.places.places ≤ length (available before.program libraries) = omega (arith, few needs.places.limit needs.places.places apart, limit, count) in
-        let reached = order-at before.program libraries (preload_numbers flight.state) needs.places.places i (come.1.reached flight.state flies.at) lt size in
+        let reached = order-at before.program libraries (preload_numbers flight.state) needs.places.places i (come.1.reached flight.state flies.at.stored) lt size in
         let front : List Named = map (object_at (available before.program libraries)) (take i needs.places.places) in
         let long : length front ≡ suc (length files) = omega (arith, length-map (take i needs.places.places) (object_at (available before.program libraries)), length-take i needs.places.places, lt) in
         subst (λ (l : List Named). (suc (length files) < length l) × (take 1 (drop (suc (length files)) l) ≡ object_at (available before.program libraries) place ∷ [])) (sym reached.1)
@@ -238,7 +234,7 @@ module _ {D : Type 0} (facts : D → DiskFacts) (old : Opened D) (before : Bindi
     sectors : (file : Library) → file ≡ get_or flight.state.libraries (place - 1) no_library → step_sectors (own_flight before flight.state flight.going) ≡ data_sectors file.bytes
     sectors file is =
         let e : flight.going ≡ suc (length files) = omega (arith, come.2) in
-        let object : object_of file ≡ object_at (available before.program libraries) place = library-at facts before.program flies.taken holds flight.state flies.at place file above within is in
+        let object : object_of file ≡ object_at (available before.program libraries) place = library-at facts before.program flies.taken holds flight.state flies.at.stored place file above within is in
         ap (λ (k : ℕ). sectors_at k order) e
         ∙ ap (sum_by (λ (o : Named). data_sectors o.file)) at_place.1
         ∙ (let one : sum_by (λ (o : Named). data_sectors o.file) (object_at (available before.program libraries) place ∷ []) ≡ data_sectors (object_at (available before.program libraries) place).file = omega (arith, sum_by-cons (λ (o : Named). data_sectors o.file) (object_at (available before.program libraries) place) []) in one)
@@ -292,10 +288,10 @@ module _ {D : Type 0} (facts : D → DiskFacts) (old : Opened D) (before : Bindi
   -- Where no file is left, the step is answered as the bind is.
   module _ (outside : length needs.places.places ≤ length files + 1) where
     ordered : order ≡ available before.program (map object_of files)
-    ordered = all_read facts before.program flies.taken holds come.1 outside flight.state flies.at
+    ordered = all_read facts before.program flies.taken holds come.1 outside flight.state flies.at.stored
 
     lacking : missing before.program (objects flight.state) (preload_numbers flight.state) ≡ needs.missing
-    lacking = missing_read facts before.program flies.taken holds come.1 outside flight.state flies.at
+    lacking = missing_read facts before.program flies.taken holds come.1 outside flight.state flies.at.stored
 
     at_end : flight.going ≡ goings (own_flight before flight.state flight.going)
     at_end = omega (arith, all_goings, ap length ordered, length-map files object_of, come.2)

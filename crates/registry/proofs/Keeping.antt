@@ -8,7 +8,7 @@ use Rattle.store.proofs.Holders.{keeps_reads, keeps_same}
 use Rattle.requests.specs.Request.{Request}
 use Rattle.requests.specs.declared.reply.Reply.{Reply}
 use Rattle.registry.specs.Answered.{AreAnswered}
-use Rattle.registry.specs.inside.Reading.{IsRead}
+use Rattle.store.specs.IsRead.{IsRead}
 
 module _ {D : Type 0} (facts : D → DiskFacts) where
   -- what does nothing keeps all that is held,

@@ -23,4 +23,5 @@ pub mod FilesRead
 pub mod Flights
 pub mod Bindings
 pub mod Bounds
+pub mod Untested
 pub mod Upgrades

@@ -1,15 +1,17 @@
 -- What an opening finds, and where it stands for no state of a registry.
-use Rattle.std.proofs.Common.{◌≡◌, ◌≢◌, ◌<◌, ◌⊎◌, inl, inr, ⊎_elim, List, length, All, IsFalse, Result, Ok, Err, IfOk, refl, sym, subst, ◌∙◌}
+use Rattle.std.proofs.Common.{◌≡◌, ◌≢◌, ◌<◌, ◌⊎◌, inl, inr, ⊎_elim, List, [], length, All, IsTrue, IsFalse, Result, Ok, Err, IfOk, refl, sym, subst, ◌∙◌, arith}
 use Rattle.std.specs.Prelude.{IfErr, MatchResult}
 use Rattle.std.proofs.lemmas.List.Elements.{All-nil}
 use Rattle.std.proofs.lemmas.Bool.{false≢true}
-use Rattle.sector_disk.specs.Disk.{Sector, DiskFacts, Mixture, LeavesOnly}
-use Rattle.sector_disk.proofs.Moments.{goes_on, left_now, weaken}
+use Rattle.std.proofs.lemmas.Result.{IfOk-weaker}
+use Rattle.sector_disk.specs.Disk.{Sector, DiskFacts, Mixture, HoldsNow, LeavesOnly, MayAddSync, AreCalls, AreCallsExactly}
+use Rattle.sector_disk.proofs.Moments.{goes_on, left_now, more_calls, weaken}
 use Rattle.roots.specs.declared.version.Version.{Version}
 use Rattle.roots.specs.declared.version.Version.TheVariants.{One, Two}
 use Rattle.store.specs.Stands as sectors
 use Rattle.store.specs.Opened as opened
-use Rattle.store.specs.Opening.{HasRootMagic, HasCurrentRoot, RefusesOpen, RefusesLook}
+use Rattle.store.specs.Opening.{HasRootMagic, HasCurrentRoot, IsRefusalOfOpen, RefusesOpen, RefusesLook}
+use Rattle.store.specs.Opens.{Opens}
 use Rattle.states.specs.Geometry.{IsGeometry}
 use Rattle.store.specs.declared.refusal.StoreRefusal.{StoreRefusal}
 use Rattle.store.specs.declared.refusal.StoreRefusal.TheVariants as refusal
@@ -17,6 +19,7 @@ use Rattle.store.proofs.StandsLemmas as sectors_lemmas
 use Rattle.store.proofs.Openings.{current_magic, of_version}
 use Rattle.requests.specs.Library.{IsLibrary}
 use Rattle.states.specs.State.{State, empty_state}
+use Rattle.registry.specs.Opened.{IsAt}
 use Rattle.registry.specs.Stands.{Stands, StandsOld, StandsEither}
 use Rattle.registry.specs.inside.Reading.{IsReadRefusal}
 
@@ -137,3 +140,72 @@ refuses_look m e is = record {
   damaged = λ same s either. is.damaged same s (⊎_elim (λ stands. inl stands.stored) (λ stands. inr stands.stored) either);
   memory = is.memory;
 }
+
+-- The registry that is opened by testing each file, by what opening the store did
+module _ {D : Type 0} (facts : D → DiskFacts) (disk : D) where
+  -- and refused,
+  pub opens_refused : (e : StoreRefusal × D) → Opens sectors.Stands facts (opened.IsAt facts) disk (Err e) → Opens Stands facts (IsAt facts) disk (Err e)
+  opens_refused e store = record {
+    any_moment = store.any_moment;
+    now = store.now;
+    log = store.log;
+    ok = λ honest. tt;
+    stands = λ honest s stands. store.stands honest s stands.stored;
+    refused = λ honest. refuses_store (facts disk).now e.0 (store.refused honest);
+    geometry = tt;
+    usable = tt;
+    unheld = tt;
+    refusals = store.refusals;
+    device = store.device;
+    untouched = store.untouched;
+    calls = store.calls;
+    old_calls = store.old_calls;
+  }
+
+  -- or by what admitting its files did.
+  module _ (holds : IsTrue (facts disk).honest → HoldsNow (facts disk)) (store : opened.Opened D) (is : Opens sectors.Stands facts (opened.IsAt facts) disk (Ok store)) (result : Result (opened.Opened D) (StoreRefusal × D))
+      (any_moment : IsTrue (facts store.disk).honest → LeavesOnly (facts store.disk) (facts (opened.disk_after result)) (Mixture (facts store.disk)))
+      (now : IsTrue (facts store.disk).honest → (facts (opened.disk_after result)).now ≡ (facts store.disk).now)
+      (log : IsTrue (facts store.disk).honest → (facts (opened.disk_after result)).log ≡ (facts store.disk).log)
+      (ok : (s : State) → opened.IsAt facts store s → IfOk result (λ registry. IsAt facts registry s))
+      (damaged : (s : State) → opened.IsAt facts store s → IfErr result (λ e. e.0 ≡ refusal.Damaged → All IsLibrary s.libraries → ⊥))
+      (usable : IfOk result (λ registry. IsFalse registry.failed))
+      (unheld : IfOk result (λ registry. registry.held ≡ []))
+      (refusals : IfErr result (λ e. (e.0 ≡ refusal.Device) ⊎ (e.0 ≡ refusal.Damaged) ⊎ (e.0 ≡ refusal.OutOfMemory)))
+      (device : IfErr result (λ e. e.0 ≡ refusal.Device → (facts store.disk).failures < (facts e.1).failures))
+      (calls : AreCalls (facts store.disk) (facts (opened.disk_after result))) where
+    still : IsTrue (facts disk).honest → IsTrue (facts store.disk).honest
+    still honest = subst IsTrue (sym is.calls.honest) honest
+
+    pub opens_admitted : Opens Stands facts (IsAt facts) disk result
+    opens_admitted = record {
+      any_moment = λ honest. leaves_then (is.any_moment honest) (any_moment (still honest));
+      now = λ honest. now (still honest) ∙ is.now honest;
+      log = λ honest. subst (MayAddSync (facts disk).log) (sym (log (still honest))) (is.log honest);
+      ok = λ honest.
+          let found = is.ok honest in
+          IfOk-weaker result (λ registry. IsAt facts registry found.0)
+          (λ registry. (s : State) × Stands (facts disk).now s × IsAt facts registry s × ((other : State) → Stands (facts disk).now other → other ≡ s))
+          (λ registry at.
+          let stands : Stands (facts disk).now found.0 = record { stored = found.1; libraries = at.libraries } in
+          (found.0, stands, at, λ other others. found.3 other others.stored))
+          (ok found.0 found.2);
+      stands = λ honest s stands.
+          let at = is.stands honest s stands.stored in
+          either_result _ _ result (ok s at) (err_both _ _ _ result (λ e which isnt. libraries_refuse e.0 which (λ same. isnt same stands.libraries)) refusals (damaged s at));
+      refused = λ honest.
+          let found = is.ok honest in
+          let geometry : IsGeometry (length (facts disk).now) = subst IsGeometry (sym (holds honest).size) is.geometry in
+          err_both _ _ _ result (λ e which isnt. refuses_files (facts disk).now found.0 e.0 found.1 which geometry isnt) refusals (damaged found.0 found.2);
+      geometry = IfOk-weaker result _ _ (λ registry usable. is.geometry) usable;
+      usable = usable;
+      unheld = unheld;
+      refusals = err_both _ _ (λ e. IsRefusalOfOpen (facts disk).sectors e.0) result
+          (λ e which same. ⊎_elim (λ a. rw a is.geometry) (λ rest. ⊎_elim (λ a. rw a is.geometry) (λ a. rw a is.geometry) rest) which) refusals refusals;
+      device = err_both _ _ (λ e. e.0 ≡ refusal.Device → (facts disk).failures < (facts e.1).failures) result (λ e rose same a. omega (arith, rose a, is.calls.failures)) device device;
+      untouched = err_both _ _ (λ e. e.0 ≡ refusal.BadGeometry → e.1 ≡ disk) result
+          (λ e which same a. ⊎_elim (λ b. absurd (cc (a, b))) (λ rest. ⊎_elim (λ b. absurd (cc (a, b))) (λ b. absurd (cc (a, b))) rest) which) refusals refusals;
+      calls = more_calls is.calls calls;
+      old_calls = err_both _ _ (λ e. e.0 ≡ refusal.OldFormat → AreCallsExactly 3 (facts disk) (facts e.1)) result
+          (λ e which same a. ⊎_elim (λ b. absurd (cc (a, b))) (λ rest. ⊎_elim (λ b. absurd (cc (a, b))) (λ b. absurd (cc (a, b))) rest) which) refusals refusals;
+    }

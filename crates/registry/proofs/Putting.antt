@@ -9,8 +9,7 @@ use Rattle.hash_check.specs.declared.file_refusal.FileRefusal.{FileRefusal}
 use Rattle.sector_disk.specs.Disk.{DiskFacts, LeavesOnly}
 use Rattle.states.specs.Changes.{with_new, with_bytes}
 use Rattle.store.specs.Held.{lone_sectors}
-use Rattle.store.specs.Opened as store
-use Rattle.store.specs.Opened.{Opened, room_of}
+use Rattle.store.specs.Opened.{Opened, IsAt, room_of}
 use Rattle.store.specs.Stands as sectors
 use Rattle.store.specs.Stands.{no_library}
 use Rattle.store.specs.Step.{longest_free, refusal_of_new, refusal_of_put, IsAnswer, IsExactAnswer, IsRefusalOfPutOver, IsRefusalOfPutNew}
@@ -25,13 +24,12 @@ use Rattle.requests.specs.Step.{Step, accepted, refusal_at}
 use Rattle.requests.specs.declared.refusal.Refusal.{Refusal}
 use Rattle.requests.specs.declared.refusal.Refusal.TheVariants as refusal
 use Rattle.requests.specs.declared.reply.Reply.TheVariants.{Done, Refused}
-use Rattle.registry.specs.Opened.{IsAt}
 use Rattle.registry.specs.Phase.{phase_of}
-use Rattle.registry.specs.Applied.{Applies}
+use Rattle.registry.specs.Untested.{AppliesUntested}
 use Rattle.registry.specs.Refusals.{refusal_of}
 use Rattle.registry.proofs.Applying.{untouched, leads_same, exact_answer, change_done, change_refused}
 use Rattle.registry.proofs.Names.{name_stands, name_nowhere}
-use Rattle.registry.proofs.Puts.{each_installed, each_put, install_refusal, replace_refusal, is_there, is_lacking, no_failed_new, no_failed_put}
+use Rattle.registry.proofs.Puts.{install_refusal, replace_refusal, is_there, is_lacking, no_failed_new, no_failed_put}
 
 -- a name is installed where it has a position
 pub installed : (s : State) (name : List ℕ) (position : Option ℕ) → ((i : ℕ) → (position ≡ Some i) ↔ ((i < length s.libraries) × ((get_or s.libraries i no_library).name ≡ name)))
@@ -105,21 +103,21 @@ over_is_new store_refusal.OldFormat is = absurd is
 
 module _ {D : Type 0} (facts : D → DiskFacts) (old : Opened D) (s : State) (at : IsAt facts old s) (bytes : List ℕ) where
   -- the file is no library, or memory to admit it is refused
-  pub install_no_library : (e : Refusal) → IsLibraryRefusal bytes e → Applies facts old old s (install bytes) (Refused e)
-  install_no_library e is = untouched facts old s at (install bytes) (Refused e) (install_step (phase_of facts old s) bytes e at.stored.usable is)
+  pub install_no_library : (e : Refusal) → IsLibraryRefusal bytes e → AppliesUntested facts old old s (install bytes) (Refused e)
+  install_no_library e is = untouched facts old s at (install bytes) (Refused e) (install_step (phase_of facts old s) bytes e at.usable is)
 
-  pub replace_no_library : (e : Refusal) → IsLibraryRefusal bytes e → Applies facts old old s (replace bytes) (Refused e)
-  replace_no_library e is = untouched facts old s at (replace bytes) (Refused e) (replace_step (phase_of facts old s) bytes e at.stored.usable is)
+  pub replace_no_library : (e : Refusal) → IsLibraryRefusal bytes e → AppliesUntested facts old old s (replace bytes) (Refused e)
+  replace_no_library e is = untouched facts old s at (replace bytes) (Refused e) (replace_step (phase_of facts old s) bytes e at.usable is)
 
   module _ (taken : library_refusal bytes ≡ None) (name : List ℕ) (named : name ≡ name_of bytes) where
     -- its name is there already, or isn't there
-    pub install_there : has_name (names_of s.libraries) name ≡ true → Applies facts old old s (install bytes) (Refused refusal.AlreadyInstalled)
+    pub install_there : has_name (names_of s.libraries) name ≡ true → AppliesUntested facts old old s (install bytes) (Refused refusal.AlreadyInstalled)
     install_there there = untouched facts old s at (install bytes) (Refused refusal.AlreadyInstalled)
-        (at.stored.usable, is_there (phase_of facts old s) bytes taken (subst (λ n. has_name (names_of s.libraries) n ≡ true) named there), leads_same (phase_of facts old s))
+        (at.usable, is_there (phase_of facts old s) bytes taken (subst (λ n. has_name (names_of s.libraries) n ≡ true) named there), leads_same (phase_of facts old s))
 
-    pub replace_lacking : has_name (names_of s.libraries) name ≡ false → Applies facts old old s (replace bytes) (Refused refusal.NotInstalled)
+    pub replace_lacking : has_name (names_of s.libraries) name ≡ false → AppliesUntested facts old old s (replace bytes) (Refused refusal.NotInstalled)
     replace_lacking absent = untouched facts old s at (replace bytes) (Refused refusal.NotInstalled)
-        (at.stored.usable, is_lacking (phase_of facts old s) bytes taken (subst (λ n. has_name (names_of s.libraries) n ≡ false) named absent), leads_same (phase_of facts old s))
+        (at.usable, is_lacking (phase_of facts old s) bytes taken (subst (λ n. has_name (names_of s.libraries) n ≡ false) named absent), leads_same (phase_of facts old s))
 
     module _ (new : Opened D) (root : old.root.sectors ≡ (facts old.disk).sectors) where
       -- it is put behind the others
@@ -134,18 +132,18 @@ module _ {D : Type 0} (facts : D → DiskFacts) (old : Opened D) (s : State) (at
             ∙ ap (λ n. option_map refusal_of (refusal_of_new (n - length (lone_sectors old.held)) (longest_free old) s bytes)) (sym root)
 
         pub install_done : (done : Unit {0}) → IsAnswer (refusal_of_new (room_of old) (longest_free old) s bytes) (Ok done) → IsFalse new.failed
-            → store.IsAt facts new (with_new name bytes s) → Applies facts old new s (install bytes) Done
+            → IsAt facts new (with_new name bytes s) → AppliesUntested facts old new s (install bytes) Done
         install_done done answer usable after =
-            change_done facts old s at (install bytes) new (refusal_of_new (room_of old) (longest_free old) s bytes) tt new_tested (each_installed s bytes taken at.libraries) new_leaves
-            done answer usable (subst (λ n. store.IsAt facts new (with_new n bytes s)) named after)
+            change_done facts old s at (install bytes) new (refusal_of_new (room_of old) (longest_free old) s bytes) tt new_tested new_leaves
+            done answer usable (subst (λ n. IsAt facts new (with_new n bytes s)) named after)
 
         pub install_refused : (e : StoreRefusal) → IsAnswer (refusal_of_new (room_of old) (longest_free old) s bytes) (Err e)
             → ◌↔◌ (◌≡◌ {A = Result (Unit {0}) StoreRefusal} (Err e) (Err store_refusal.Reopen)) (IsTrue old.failed) → IsRefusalOfPutNew e
             → (e ≡ store_refusal.Device → ((facts old.disk).failures < (facts new.disk).failures) × IsTrue new.failed) → (e ≢ store_refusal.Device → new ≡ old) → ReadNeedsMemory bytes
-            → Applies facts old new s (install bytes) (Refused (refusal_of e))
+            → AppliesUntested facts old new s (install bytes) (Refused (refusal_of e))
         install_refused e answer reopen may device same memory =
-            change_refused facts old s at (install bytes) new (refusal_of_new (room_of old) (longest_free old) s bytes) tt new_tested (each_installed s bytes taken at.libraries) new_leaves
-            e answer (no_failed_new (room_of old) (longest_free old) s bytes) (λ is. false≢true (sym at.stored.usable ∙ reopen.0 (ap Err is))) may device same (λ is. memory)
+            change_refused facts old s at (install bytes) new (refusal_of_new (room_of old) (longest_free old) s bytes) tt new_tested new_leaves
+            e answer (no_failed_new (room_of old) (longest_free old) s bytes) (λ is. false≢true (sym at.usable ∙ reopen.0 (ap Err is))) may device same (λ is. memory)
 
       -- it is put in the place of the one of its name
       module _ (there : has_name (names_of s.libraries) name ≡ true)
@@ -159,17 +157,17 @@ module _ {D : Type 0} (facts : D → DiskFacts) (old : Opened D) (s : State) (at
             ∙ ap (λ n. option_map refusal_of (refusal_of_put (n - length (lone_sectors old.held)) (longest_free old) s bytes)) (sym root)
 
         pub replace_done : (done : Unit {0}) → IsExactAnswer (refusal_of_put (room_of old) (longest_free old) s bytes) (Ok done) → IsFalse new.failed
-            → store.IsAt facts new (with_bytes name bytes s) → Applies facts old new s (replace bytes) Done
+            → IsAt facts new (with_bytes name bytes s) → AppliesUntested facts old new s (replace bytes) Done
         replace_done done answer usable after =
             let first = refusal_of_put (room_of old) (longest_free old) s bytes in
-            change_done facts old s at (replace bytes) new first tt over_tested (each_put s bytes taken at.libraries) over_leaves
-            done (exact_answer first (Ok done) answer) usable (subst (λ n. store.IsAt facts new (with_bytes n bytes s)) named after)
+            change_done facts old s at (replace bytes) new first tt over_tested over_leaves
+            done (exact_answer first (Ok done) answer) usable (subst (λ n. IsAt facts new (with_bytes n bytes s)) named after)
 
         pub replace_refused : (e : StoreRefusal) → IsExactAnswer (refusal_of_put (room_of old) (longest_free old) s bytes) (Err e)
             → ◌↔◌ (◌≡◌ {A = Result (Unit {0}) StoreRefusal} (Err e) (Err store_refusal.Reopen)) (IsTrue old.failed) → IsRefusalOfPutOver e
             → (e ≡ store_refusal.Device → ((facts old.disk).failures < (facts new.disk).failures) × IsTrue new.failed) → (e ≢ store_refusal.Device → new ≡ old) → ReadNeedsMemory bytes
-            → Applies facts old new s (replace bytes) (Refused (refusal_of e))
+            → AppliesUntested facts old new s (replace bytes) (Refused (refusal_of e))
         replace_refused e answer reopen may device same memory =
             let first = refusal_of_put (room_of old) (longest_free old) s bytes in
-            change_refused facts old s at (replace bytes) new first tt over_tested (each_put s bytes taken at.libraries) over_leaves
-            e (exact_answer first (Err e) answer) (no_failed_put (room_of old) (longest_free old) s bytes) (λ is. false≢true (sym at.stored.usable ∙ reopen.0 (ap Err is))) (over_is_new e may) device same (λ is. memory)
+            change_refused facts old s at (replace bytes) new first tt over_tested over_leaves
+            e (exact_answer first (Err e) answer) (no_failed_put (room_of old) (longest_free old) s bytes) (λ is. false≢true (sym at.usable ∙ reopen.0 (ap Err is))) (over_is_new e may) device same (λ is. memory)

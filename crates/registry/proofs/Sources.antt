@@ -1,7 +1,8 @@
 -- What a walk finds its files in, as files are read.
 use Rattle.std.proofs.Common.{◌≡◌, ℕ, ◌+◌, List, [], ◌∷◌, ◌++◌, length, sum_by, get_or, IsTrue, Result, Ok, Err, refl, sym, ap, subst, ◌∙◌, arith}
-use Rattle.std.specs.Prelude.{IfOk, OnOk}
+use Rattle.std.specs.Prelude.{All, IfOk, OnOk}
 use Rattle.std.specs.Global.{Vec}
+use Rattle.std.proofs.lemmas.List.Elements.{All-nil}
 use Rattle.std.proofs.lemmas.List.Sums.{sum_by-append, sum_by-cons}
 use Rattle.sector_disk.specs.Disk.{DiskFacts, HoldsNow, AreCallsExactly}
 use Rattle.sector_disk.proofs.Moments.{exactly_none, exactly_sum}
@@ -14,14 +15,15 @@ use Rattle.store.specs.Holders.{HeldIs}
 use Rattle.store.specs.Opened.{Opened}
 use Rattle.store.specs.Stands.{HaveOwnNames, name_of, no_library}
 use Rattle.snapshots.specs.Snapshot.{IsTakenOf, AreHeldAs}
+use Rattle.requests.specs.Library.{IsLibrary}
 use Rattle.registry.specs.Binding.{data_sectors}
 use Rattle.registry.specs.declared.needs.Needs.{Needs}
 use Rattle.registry.specs.declared.source.Source.{Source}
 use Rattle.registry.specs.declared.source.Source.TheVariants.{Current, Held}
-use Rattle.registry.specs.inside.Reading.{IsRead}
+use Rattle.store.specs.IsRead.{IsRead}
 use Rattle.registry.specs.inside.Source.{HasEntries, HasFiles, Offers, offered, offered_preloads}
 use Rattle.registry.specs.inside.Walked.{IsWalked}
-use Rattle.registry.proofs.Files.{read_more, read_none}
+use Rattle.store.proofs.IsReadLemmas.{read_more, read_none}
 use Rattle.registry.proofs.Keeping.{keeps_held_read}
 
 -- it offers as many files as it has entries
@@ -77,22 +79,24 @@ held_named facts store holds honest sector library is = ap (λ (l : Library). l.
 -- How far a bind's walk through the files of a store has come.
 pub record HasCome {D : Type 0} (facts : D → DiskFacts) (program : List ℕ) (start now : Opened D) (needs : Needs) (files : List Library) : Type 0 where
   pub walked : IsWalked facts program start needs files
+  pub libraries : All IsLibrary files
   pub own : HaveOwnNames start.entries
   pub read : IsRead facts start now
   pub calls : AreCallsExactly (sum_by (λ file. data_sectors file.bytes) files) (facts start.disk) (facts now.disk)
 
 module _ {D : Type 0} (facts : D → DiskFacts) {program : List ℕ} {start : Opened D} where
   pub come_none : {needs : Needs} → HaveOwnNames start.entries → IsWalked facts program start needs [] → HasCome facts program start start needs []
-  come_none own walked = record { walked = walked; own = own; read = read_none start; calls = exactly_none (facts start.disk) }
+  come_none own walked = record { walked = walked; libraries = All-nil IsLibrary; own = own; read = read_none start; calls = exactly_none (facts start.disk) }
 
   pub come_offers : {now : Opened D} {needs : Needs} {files : List Library} → HasCome facts program start now needs files → Offers facts Current start now
   come_offers {now = now} come = offers_read facts start now come.read Current start (offers_current facts start come.own)
 
   pub come_more : {now new : Opened D} {needs more : Needs} {files : List Library} → HasCome facts program start now needs files → IsRead facts now new
-      → (file : Library) → IsWalked facts program start more (files ++ file ∷ []) → AreCallsExactly (data_sectors file.bytes) (facts now.disk) (facts new.disk)
+      → (file : Library) → All IsLibrary (files ++ file ∷ []) → IsWalked facts program start more (files ++ file ∷ []) → AreCallsExactly (data_sectors file.bytes) (facts now.disk) (facts new.disk)
       → HasCome facts program start new more (files ++ file ∷ [])
-  come_more {files = files} come read file walked calls = record {
+  come_more {files = files} come read file libraries walked calls = record {
     walked = walked;
+    libraries = libraries;
     own = come.own;
     read = read_more come.read read;
     calls = exactly_sum come.calls calls (sym (sum_by-append (λ (l : Library). data_sectors l.bytes) files (file ∷ []) ∙ one-sum));

@@ -15,12 +15,11 @@ use Rattle.store.specs.declared.placed_entry.PlacedEntry.{PlacedEntry}
 use Rattle.roots.specs.Root.{listed_preloads}
 use Rattle.scope.specs.LoadOrder as order
 use Rattle.scope.specs.Objects.{Named}
-use Rattle.store.specs.Opened.{Opened}
+use Rattle.store.specs.Opened.{Opened, IsAt}
 use Rattle.roots.specs.declared.version.Version.TheVariants.{Two}
 use Rattle.store.specs.Stands.{StandsBy, HaveOwnNames, library_of, no_library, names_at}
 use Rattle.requests.specs.Binding.{object_of, objects, preload_numbers}
 use Rattle.states.specs.State.{Library, State, names_of}
-use Rattle.registry.specs.Opened.{IsAt}
 use Rattle.registry.specs.inside.Named.{placed_name}
 use Rattle.store.specs.NameOrder.{entry_names}
 use Rattle.store.proofs.UsedAlone.{no_entry}
@@ -73,7 +72,7 @@ module _ {D : Type 0} (facts : D → DiskFacts) (kept : Opened D) (s : State) (h
   now = (facts kept.disk).now
 
   now_stands : StandsBy Two now kept.root kept.entries s
-  now_stands = at.stored.stands now (holds at.stored.honest)
+  now_stands = at.stands now (holds at.honest)
 
   names_known : names_of s.libraries ≡ entry_names kept.entries
   names_known = ap (λ (t : State). names_of t.libraries) now_stands.is ∙ kept_names now kept.entries

@@ -21,7 +21,8 @@ use Rattle.store.specs.Taken.{IsRelisted}
 use Rattle.store.specs.Upgraded.{upgraded}
 use Rattle.states.specs.Cost.{catalogues_for}
 use Rattle.requests.specs.Library.{IsLibrary}
-use Rattle.registry.specs.Stands.{Stands, StandsOld, file_sectors}
+use Rattle.store.specs.IsRead.{file_sectors}
+use Rattle.registry.specs.Stands.{Stands, StandsOld}
 
 -- What reading files refuses may come in place of every answer of an upgrade.
 pub as_read : (first : Option StoreRefusal) (e : StoreRefusal) → (e ≡ Device) ⊎ (e ≡ OutOfMemory) → IsUpgradeAnswer first (Err e)

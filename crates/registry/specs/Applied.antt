@@ -13,20 +13,36 @@ use Rattle.registry.specs.Stands.{Stands}
 use Rattle.registry.specs.Opened.{IsAt}
 use Rattle.registry.specs.Phase.{phase_of}
 
--- A change that a failing device cut off may be found done: only one that no test refuses.
-abbrev pub InFlight : Phase → Request → Reply → List Sector → Type 0
-InFlight p request answer m = (answer ≡ Refused Device) × (refusal_at p request ≡ None) × Stands m (accepted p.state request)
+-- How a command may be answered at a state, and what it leaves, in the words of what sectors hold a
+-- state, of a table of steps, and of when a registry is at a state.
+module _ (Holds : List Sector → State → Type 0) where
+  -- A change that a failing device cut off may be found done: only one that no test refuses.
+  abbrev pub InFlightBy : Phase → Request → Reply → List Sector → Type 0
+  InFlightBy p request answer m = (answer ≡ Refused Device) × (refusal_at p request ≡ None) × Holds m (accepted p.state request)
 
--- a stop within a command may leave the state before, the state after, or the change in flight
-abbrev pub MayLeaveWithin : Phase → Request → Reply → State → List Sector → Type 0
-MayLeaveWithin p request answer s' m = Stands m p.state ⊎ Stands m s' ⊎ InFlight p request answer m
+  -- a stop within a command may leave the state before, the state after, or the change in flight
+  abbrev pub MayLeaveBy : Phase → Request → Reply → State → List Sector → Type 0
+  MayLeaveBy p request answer s' m = Holds m p.state ⊎ Holds m s' ⊎ InFlightBy p request answer m
 
 -- A command was answered so, and led from a state to another.
-pub record Applied {D : Type 0} (facts : D → DiskFacts) (old new : Opened D) (s s' : State) (request : Request) (answer : Reply) : Type 0 where
-  pub step : Step (phase_of facts old s) request answer (phase_of facts new s')
-  pub any_moment : LeavesOnly (facts old.disk) (facts new.disk) (MayLeaveWithin (phase_of facts old s) request answer s')
+pub record AppliedBy (Holds : List Sector → State → Type 0) (StepsTo : Phase → Request → Reply → Phase → Type 0)
+    {D : Type 0} (facts : D → DiskFacts) (At : Opened D → State → Type 0) (old new : Opened D) (s s' : State) (request : Request) (answer : Reply) : Type 0 where
+  pub step : StepsTo (phase_of facts old s) request answer (phase_of facts new s')
+  pub any_moment : LeavesOnly (facts old.disk) (facts new.disk) (MayLeaveBy Holds (phase_of facts old s) request answer s')
   -- at the end it is at the state after; or a write or a sync failed, and that is the state before
-  pub kept : IsAt facts new s' ⊎ (IsTrue new.failed × (s' ≡ s))
+  pub kept : At new s' ⊎ (IsTrue new.failed × (s' ≡ s))
+
+-- the change of a registry that a failing device cut off
+abbrev pub InFlight : Phase → Request → Reply → List Sector → Type 0
+InFlight p request answer m = InFlightBy Stands p request answer m
+
+-- a stop within a command of a registry
+abbrev pub MayLeaveWithin : Phase → Request → Reply → State → List Sector → Type 0
+MayLeaveWithin p request answer s' m = MayLeaveBy Stands p request answer s' m
+
+-- A command of a registry was answered so, and led from a state to another.
+abbrev pub Applied : {D : Type 0} → (D → DiskFacts) → Opened D → Opened D → State → State → Request → Reply → Type 0
+Applied facts old new s s' request answer = AppliedBy Stands Step facts (IsAt facts) old new s s' request answer
 
 -- the same, with the state after it
 abbrev pub Applies : {D : Type 0} → (D → DiskFacts) → Opened D → Opened D → State → Request → Reply → Type 0

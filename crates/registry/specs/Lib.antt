@@ -1,5 +1,6 @@
 pub mod Stands
 pub mod Opened
+pub mod Opening
 pub mod Phase
 pub mod Applied
 pub mod Acknowledged
@@ -11,6 +12,7 @@ pub mod Flying
 pub mod Ran
 pub mod Rounds
 pub mod Refusals
+pub mod Untested
 pub mod Upgraded
 pub mod Versions
 pub mod inside

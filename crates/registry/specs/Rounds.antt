@@ -15,7 +15,8 @@ use Rattle.requests.specs.declared.reply.Reply.{Reply}
 use Rattle.registry.specs.declared.rounds.Round.{Round}
 use Rattle.registry.specs.declared.rounds.RoundReplies.{RoundReplies}
 use Rattle.registry.specs.declared.rounds.RoundReplies.TheVariants.{Ran, NotRun}
-use Rattle.registry.specs.Stands.{Stands, file_sectors}
+use Rattle.store.specs.IsRead.{file_sectors}
+use Rattle.registry.specs.Stands.{Stands}
 use Rattle.registry.specs.Opened.{IsAt}
 use Rattle.registry.specs.Ran.{RunsOver}
 use Rattle.registry.specs.Acknowledged.{commanded, AreAccepted, state_after}

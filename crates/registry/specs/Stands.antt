@@ -1,15 +1,9 @@
 -- Which state of a registry a list of sectors holds (own).
-use Rattle.std.specs.Prelude.{◌⊎◌, ℕ, List, All}
-use Rattle.std.specs.Int.{div_ceil}
-use Rattle.sector_disk.specs.Disk.{Sector, sector_bytes}
+use Rattle.std.specs.Prelude.{◌⊎◌, List, All}
+use Rattle.sector_disk.specs.Disk.{Sector}
 use Rattle.states.specs.State.{State}
-use Rattle.store.specs.declared.placed_entry.PlacedEntry.{PlacedEntry}
 use Rattle.store.specs.Stands as store
 use Rattle.requests.specs.Library.{IsLibrary}
-
--- how many sectors the file of an entry takes
-abbrev pub file_sectors : PlacedEntry → ℕ
-file_sectors placed = div_ceil placed.entry.file_length sector_bytes
 
 -- the sectors hold this state, and each of its files is a library under its SONAME
 pub record Stands (m : List Sector) (s : State) : Type 0 where

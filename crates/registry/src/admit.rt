@@ -7,8 +7,8 @@ ghost use Rattle.store.specs.Opened.{IsAt};
 ghost use Rattle.store.specs.Stands.{no_library};
 ghost use Rattle.states.specs.State.{State};
 ghost use Rattle.requests.specs.Library.{IsLibrary};
-ghost use Rattle.registry.specs.Stands.{file_sectors};
-ghost use Rattle.registry.specs.inside.Reading.{IsRead, IsReadRefusal};
+ghost use Rattle.store.specs.IsRead.{IsRead, file_sectors};
+ghost use Rattle.registry.specs.inside.Reading.{IsReadRefusal};
 
 use hash_check::{AdmittedFile, ReadRefusal};
 use sector_disk::Disk;

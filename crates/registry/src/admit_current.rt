@@ -6,7 +6,7 @@ ghost use Rattle.store.specs.Opened as opened;
 ghost use Rattle.store.specs.Opened.{disk_after};
 ghost use Rattle.requests.specs.Library.{IsLibrary};
 ghost use Rattle.registry.specs.Opened.{IsAt};
-ghost use Rattle.registry.specs.Stands.{file_sectors};
+ghost use Rattle.store.specs.IsRead.{file_sectors};
 
 use crate::admit::admit_files;
 use crate::registry::Registry;

@@ -13,8 +13,9 @@ ghost use Rattle.store.specs.Taken.{IsRelisted};
 ghost use Rattle.store.specs.Upgraded.{upgraded};
 ghost use Rattle.requests.specs.Library.{IsLibrary};
 ghost use Rattle.registry.specs.Opened.{IsAt};
-ghost use Rattle.registry.specs.Stands.{Stands, StandsOld, file_sectors};
-ghost use Rattle.registry.specs.inside.Reading.{IsReadBy, IsReadRefusal};
+ghost use Rattle.store.specs.IsRead.{IsReadBy, file_sectors};
+ghost use Rattle.registry.specs.Stands.{Stands, StandsOld};
+ghost use Rattle.registry.specs.inside.Reading.{IsReadRefusal};
 
 use crate::admit::admit_file;
 use crate::registry::Registry;

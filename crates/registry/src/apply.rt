@@ -22,18 +22,20 @@ impl<D: Disk> Registry<D> {
     ghost use Rattle.sector_disk.specs.Disk.{AreCallsExactly};
     ghost use Rattle.requests.specs.Request.{request_of};
     ghost use Rattle.states.specs.State.{State};
+    ghost use Rattle.store.specs.Opened as stored;
     ghost use Rattle.registry.specs.Answered.{Answered, AreAnswered};
     ghost use Rattle.registry.specs.Applied.{Applies};
     ghost use Rattle.registry.specs.Calls.{IfAccepted, calls_of};
     ghost use Rattle.registry.specs.Opened.{IsAt};
     ghost use Rattle.registry.specs.Ran.{RunsOver};
+    ghost use Rattle.registry.specs.Untested.{AppliesUntested};
     ghost use Rattle.registry.specs.Versions.{AreVersions};
 
     // The reply to a command, by what it asks.
     fn reply_to(&mut self, command: &Command<'_>) -> Reply
-        ensures applied { (s : State) → IsAt D.facts self.old s
-            → Applies D.facts self.old self.new s (request_of command.now) result }
-        ensures all_calls { (s : State) → IsAt D.facts self.old s → IfAccepted result
+        ensures untested { (s : State) → stored.IsAt D.facts self.old s
+            → AppliesUntested D.facts self.old self.new s (request_of command.now) result }
+        ensures all_calls { (s : State) → stored.IsAt D.facts self.old s → IfAccepted result
             (AreCallsExactly (calls_of s (request_of command.now))
             (D.facts self.old.disk) (D.facts self.new.disk)) }
 
@@ -59,7 +61,12 @@ impl<D: Disk> Registry<D> {
         // after, also where a call failed.
         ensures applied { (s : State) → IsAt D.facts self.old s
             → Applies D.facts self.old self.new s (request_of command.now) result }
-        ensures all_calls { (s : State) → IsAt D.facts self.old s → IfAccepted result
+
+        // The same where files aren't all libraries, of which a change reads none, and a bind those
+        // that it needs.
+        ensures untested { (s : State) → stored.IsAt D.facts self.old s
+            → AppliesUntested D.facts self.old self.new s (request_of command.now) result }
+        ensures all_calls { (s : State) → stored.IsAt D.facts self.old s → IfAccepted result
             (AreCallsExactly (calls_of s (request_of command.now))
             (D.facts self.old.disk) (D.facts self.new.disk)) }
 

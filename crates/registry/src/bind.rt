@@ -28,22 +28,22 @@ impl<D: Disk> Registry<D> {
     ghost use Rattle.sector_disk.specs.Disk.{AreCalls, AreCallsExactly};
     ghost use Rattle.image.specs.Refusal.{program_refusal};
     ghost use Rattle.store.specs.Holders.{KeepsHeld};
+    ghost use Rattle.store.specs.Opened.{IsAt};
     ghost use Rattle.requests.specs.Request.{bind};
     ghost use Rattle.states.specs.State.{State};
-    ghost use Rattle.requests.specs.Step.{Step};
     ghost use Rattle.registry.specs.Answered.{IsBindAnswer, IsBindRefusal};
-    ghost use Rattle.registry.specs.Applied.{Applied};
     ghost use Rattle.registry.specs.Binding.{bind_sectors, bound_answer, IfBound};
-    ghost use Rattle.registry.specs.Opened.{IsAt};
     ghost use Rattle.registry.specs.Phase.{phase_of};
-    ghost use Rattle.registry.specs.inside.Reading.{IsRead};
+    ghost use Rattle.registry.specs.Untested.{AppliedUntested, UntestedStep};
+    ghost use Rattle.store.specs.IsRead.{IsRead};
 
     /// The image of a program that is admitted at a base that is good for it, or a refusal: S1, S5
     /// or S11 of the first reading that has one, else B3, B4 or B5.
     fn bind_admitted(&mut self, program: &Admitted<'_>, base: u64) -> Result<Image, Refusal>
         requires { program_refusal program.now base ≡ None }
-        ensures step { (s : State) → IsAt D.facts self.old s → Step (phase_of D.facts self.old s)
-            (bind program.now base) (bound_answer result) (phase_of D.facts self.new s) }
+        ensures step { (s : State) → IsAt D.facts self.old s
+            → UntestedStep (phase_of D.facts self.old s) (bind program.now base)
+            (bound_answer result) (phase_of D.facts self.new s) }
         ensures read { IsRead D.facts self.old self.new }
         ensures refusals { IfErr result IsBindRefusal }
         ensures reopen { result ≡ Err Refusal.Reopen → IsTrue self.old.failed }
@@ -64,8 +64,9 @@ impl<D: Disk> Registry<D> {
     /// The image of a program, or the first refusal. The program by itself is tested before any
     /// call of the disk.
     fn image(&mut self, file: &[u8], base: u64) -> Result<Image, Refusal>
-        ensures step { (s : State) → IsAt D.facts self.old s → Step (phase_of D.facts self.old s)
-            (bind file.now base) (bound_answer result) (phase_of D.facts self.new s) }
+        ensures step { (s : State) → IsAt D.facts self.old s
+            → UntestedStep (phase_of D.facts self.old s) (bind file.now base)
+            (bound_answer result) (phase_of D.facts self.new s) }
         ensures read { IsRead D.facts self.old self.new }
         ensures failed { IsTrue self.old.failed → (result ≡ Err Refusal.Reopen)
             × (self.new ≡ self.old) }
@@ -90,7 +91,7 @@ impl<D: Disk> Registry<D> {
     pub(crate) fn bind(&mut self, program: &[u8], base: u64) -> Reply
         // A step of the table, which leaves the state, at any moment too.
         ensures applied { (s : State) → IsAt D.facts self.old s
-            → Applied D.facts self.old self.new s s (bind program.now base) result }
+            → AppliedUntested D.facts self.old self.new s s (bind program.now base) result }
 
         // An image takes as many calls as the files of the load order have sectors.
         ensures all_calls { (s : State) → IsAt D.facts self.old s → IfBound result

@@ -133,7 +133,7 @@ impl Binder {
     ghost use Rattle.registry.specs.Flight.{Flight};
     ghost use Rattle.registry.specs.Flying.{Flies, IsLastStep, IsStep, IsStepRefusal};
     ghost use Rattle.registry.specs.inside.Binding.{Stays};
-    ghost use Rattle.registry.specs.inside.Reading.{IsRead};
+    ghost use Rattle.store.specs.IsRead.{IsRead};
 
     /// The first step.
     fn first<D: Disk>(&mut self, alloc: Global, store: &Store<D>) -> Result<Step, Refusal>

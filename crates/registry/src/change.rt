@@ -20,14 +20,14 @@ impl<D: Disk> Registry<D> {
     ghost use Rattle.requests.specs.Phase.{table_of};
     ghost use Rattle.store.specs.Changed.{Changed};
     ghost use Rattle.store.specs.Holders.{KeepsHeld};
+    ghost use Rattle.store.specs.Opened.{IsAt};
     ghost use Rattle.requests.specs.Request.{remove, set_preloads};
     ghost use Rattle.states.specs.State.{State};
     ghost use Rattle.requests.specs.Step.{Step, refusal_at, answer_of};
     ghost use Rattle.requests.specs.Tests.{has_repeat, is_installed, is_last};
     ghost use Rattle.requests.specs.declared.reply.Reply.TheVariants.{Refused};
     ghost use Rattle.registry.specs.Answered.{IsRemoveRefusal, IsPreloadsRefusal};
-    ghost use Rattle.registry.specs.Applied.{Applies};
-    ghost use Rattle.registry.specs.Opened.{IsAt};
+    ghost use Rattle.registry.specs.Untested.{AppliesUntested};
     ghost use Rattle.registry.specs.Phase.{phase_of};
     ghost use Rattle.registry.specs.inside.Named.{AreNamed};
 
@@ -71,7 +71,7 @@ impl<D: Disk> Registry<D> {
     /// Removes a library. It takes no memory.
     pub(crate) fn remove(&mut self, name: &[u8]) -> Result<(), Refusal>
         ensures applied { (s : State) → IsAt D.facts self.old s
-            → Applies D.facts self.old self.new s (remove name.now) (answer_of result) }
+            → AppliesUntested D.facts self.old self.new s (remove name.now) (answer_of result) }
 
         // What somebody holds stays as it was.
         ensures held { KeepsHeld D.facts self.old self.new }
@@ -147,8 +147,8 @@ impl<D: Disk> Registry<D> {
     /// Sets the preloads. It takes no memory.
     pub(crate) fn set_preloads(&mut self, names: &[&[u8]]) -> Result<(), Refusal>
         ensures applied { (s : State) → IsAt D.facts self.old s
-            → Applies D.facts self.old self.new s (set_preloads (map (λ n. n.now) names.now))
-            (answer_of result) }
+            → AppliesUntested D.facts self.old self.new s
+            (set_preloads (map (λ n. n.now) names.now)) (answer_of result) }
 
         // What somebody holds stays as it was.
         ensures held { KeepsHeld D.facts self.old self.new }

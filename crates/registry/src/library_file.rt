@@ -40,6 +40,7 @@ impl LibraryFile {
     ) -> Result<LibraryFile, StoreRefusal>
         ensures ok { IfOk result (λ file. file
             ≡ record { name = name.now; bytes = bytes.items }) }
+        ensures library { IfOk result IsLibrary }
         ensures damaged { IfErr result (λ e. e ≡ StoreRefusal.Damaged
             → IsLibrary (record { name = name.now; bytes = bytes.items }) → ⊥) }
         ensures refusals { IfErr result (λ e. (e ≡ StoreRefusal.Damaged)

@@ -9,10 +9,10 @@ impl<D: Disk> Registry<D> {
     ghost use Rattle.std.specs.Prelude.{◌≡◌, ◌↔◌, map, IfOk, IsTrue};
     ghost use Rattle.requests.specs.Request.{list};
     ghost use Rattle.states.specs.State.{State};
+    ghost use Rattle.store.specs.Opened.{IsAt};
     ghost use Rattle.requests.specs.Table.{entry_of, listed};
     ghost use Rattle.registry.specs.Answered.{IsListAnswer};
-    ghost use Rattle.registry.specs.Applied.{Applies};
-    ghost use Rattle.registry.specs.Opened.{IsAt};
+    ghost use Rattle.registry.specs.Untested.{AppliesUntested};
 
     /// The libraries' names, and the lengths of their files in bytes.
     fn entries(&self) -> Result<Vec<(Name, u32)>, AllocError>
@@ -56,7 +56,7 @@ impl<D: Disk> Registry<D> {
     /// The reply to `List`.
     pub(crate) fn list(&self) -> Reply
         ensures applied { (s : State) → IsAt D.facts self.now s
-            → Applies D.facts self.now self.now s list result }
+            → AppliesUntested D.facts self.now self.now s list result }
 
         // On any disk
         ensures reopen { (result ≡ Reply.Refused Refusal.Reopen) ↔ IsTrue self.now.failed }

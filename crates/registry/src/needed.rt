@@ -1,12 +1,14 @@
 // The files that a bind needs, read one after the other.
-ghost use Rattle.std.specs.Prelude.{◌≡◌, map, sum_by, IfOk, IfErr};
+ghost use Rattle.std.specs.Prelude.{◌≡◌, map, sum_by, IfOk, IfErr, OnOk};
 ghost use Rattle.sector_disk.specs.Disk.{AreCallsExactly};
 ghost use Rattle.scope.specs.LoadOrder.{available, load_order, missing};
 ghost use Rattle.requests.specs.Binding.{object_of, objects, preload_numbers};
 ghost use Rattle.states.specs.State.{State};
-ghost use Rattle.registry.specs.Opened.{IsAt};
+ghost use Rattle.store.specs.Opened.{IsAt};
 ghost use Rattle.registry.specs.Binding.{data_sectors};
-ghost use Rattle.registry.specs.inside.Reading.{IsRead, IsReadRefusal};
+ghost use Rattle.registry.specs.Untested.{ReadsLibraries};
+ghost use Rattle.store.specs.IsRead.{IsRead};
+ghost use Rattle.registry.specs.inside.Reading.{IsReadRefusal};
 
 use crate::source::Source;
 use crate::walk::Walk;
@@ -32,8 +34,12 @@ pub(crate) fn read_needed<D: Disk>(
         ≡ available program.now (map object_of walk.files.items)) }
     ensures missing { (s : State) → IsAt D.facts store.old s → IfOk result (λ walk.
         missing program.now (objects s) (preload_numbers s) ≡ walk.needs.missing) }
-    ensures intact { (s : State) → IsAt D.facts store.old s
-        → IfErr result (λ e. e ≡ StoreRefusal.Damaged → ⊥) }
+
+    // It ends with each of them read just where each is a library; S5 is for one that isn't.
+    ensures libraries { (s : State) → IsAt D.facts store.old s
+        → OnOk result (ReadsLibraries s program.now) }
+    ensures damaged { (s : State) → IsAt D.facts store.old s
+        → IfErr result (λ e. e ≡ StoreRefusal.Damaged → ReadsLibraries s program.now → ⊥) }
     ensures refusals { IfErr result (IsReadRefusal D.facts store.old store.new) }
     ensures all_calls { IfOk result (λ walk. AreCallsExactly
         (sum_by (λ file. data_sectors file.bytes) walk.files.items)

@@ -11,19 +11,19 @@ impl<D: Disk> Registry<D> {
     ghost use Rattle.states.specs.Cost.{catalogues_for};
     ghost use Rattle.store.specs.Changed.{Changed};
     ghost use Rattle.store.specs.Holders.{KeepsHeld};
+    ghost use Rattle.store.specs.Opened.{IsAt};
     ghost use Rattle.requests.specs.Request.{install, replace};
     ghost use Rattle.states.specs.State.{State};
     ghost use Rattle.requests.specs.Step.{answer_of};
     ghost use Rattle.registry.specs.Answered.{IsInstallRefusal, IsReplaceRefusal};
-    ghost use Rattle.registry.specs.Applied.{Applies};
-    ghost use Rattle.registry.specs.Opened.{IsAt};
+    ghost use Rattle.registry.specs.Untested.{AppliesUntested};
 
     /// Installs a library: its file goes into free sectors, behind the others. It makes a call of
     /// the disk for each of its sectors, for its entry, for each catalogue of the new list, for the
     /// root, and two to sync.
     pub(crate) fn install(&mut self, bytes: &[u8]) -> Result<(), Refusal>
         ensures applied { (s : State) → IsAt D.facts self.old s
-            → Applies D.facts self.old self.new s (install bytes.now) (answer_of result) }
+            → AppliesUntested D.facts self.old self.new s (install bytes.now) (answer_of result) }
 
         // What somebody holds stays as it was.
         ensures held { KeepsHeld D.facts self.old self.new }
@@ -50,7 +50,7 @@ impl<D: Disk> Registry<D> {
     /// catalogues of as many libraries as before.
     pub(crate) fn replace(&mut self, bytes: &[u8]) -> Result<(), Refusal>
         ensures applied { (s : State) → IsAt D.facts self.old s
-            → Applies D.facts self.old self.new s (replace bytes.now) (answer_of result) }
+            → AppliesUntested D.facts self.old self.new s (replace bytes.now) (answer_of result) }
 
         // What somebody holds stays as it was.
         ensures held { KeepsHeld D.facts self.old self.new }

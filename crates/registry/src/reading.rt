@@ -7,8 +7,8 @@ ghost use Rattle.store.specs.declared.placed_entry.PlacedEntry.{PlacedEntry};
 ghost use Rattle.states.specs.State.{State};
 ghost use Rattle.requests.specs.Library.{IsLibrary};
 ghost use Rattle.registry.specs.Binding.{data_sectors};
-ghost use Rattle.registry.specs.Stands.{file_sectors};
-ghost use Rattle.registry.specs.inside.Reading.{IsRead, IsReadRefusal};
+ghost use Rattle.store.specs.IsRead.{IsRead, file_sectors};
+ghost use Rattle.registry.specs.inside.Reading.{IsReadRefusal};
 ghost use Rattle.registry.specs.inside.Source.{HasEntries, HasFiles, offered};
 
 use crate::library_file::LibraryFile;
@@ -68,6 +68,7 @@ pub(crate) fn read_library<D: Disk>(
     ensures read { IsRead D.facts store.old store.new }
     ensures ok { (s : State) → HasFiles D.facts source.entry store.old s → IfOk result (λ file.
         file ≡ slice_index_or s.libraries position no_library) }
+    ensures library { IfOk result IsLibrary }
     ensures damaged { (s : State) → HasFiles D.facts source.entry store.old s
         → IfErr result (λ e. e ≡ StoreRefusal.Damaged
         → IsLibrary (slice_index_or s.libraries position no_library) → ⊥) }

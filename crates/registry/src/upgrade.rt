@@ -20,7 +20,8 @@ impl<D: Disk> Registry<D> {
     ghost use Rattle.store.specs.Step.{refusal_of_upgrade, answer_of, IsUpgradeAnswer};
     ghost use Rattle.store.specs.Upgraded.{upgraded, IsRelistedFrom};
     ghost use Rattle.registry.specs.Opened.{IsAt};
-    ghost use Rattle.registry.specs.Stands.{Stands, StandsOld, StandsEither, file_sectors};
+    ghost use Rattle.store.specs.IsRead.{file_sectors};
+    ghost use Rattle.registry.specs.Stands.{Stands, StandsOld, StandsEither};
     ghost use Rattle.registry.specs.Upgraded.{IsNotOld, IsUpgradeOf};
 
     /// Opens the registry that a disk of either version holds, after a stop too, as one of version

@@ -1,16 +1,16 @@
 // The walk of a bind through the files of its load order.
 ghost use Rattle.std.specs.Prelude.{◌≡◌, ◌<◌, ◌≤◌, ◌+◌, ◌-◌, ◌++◌, ◌∷◌, [], ℕ, List, length};
-ghost use Rattle.std.specs.Prelude.{get_or, slice_index_or, true, false, IfOk, IfErr, OnOk, OnErr};
+ghost use Rattle.std.specs.Prelude.{get_or, slice_index_or, true, false, All, IfOk, IfErr, OnOk, OnErr};
 ghost use Rattle.sector_disk.specs.Disk.{AreCallsAtMost, AreCallsExactly};
 ghost use Rattle.scope.specs.Queue.{AreApart};
-ghost use Rattle.store.specs.Opened.{Opened};
+ghost use Rattle.store.specs.Opened.{Opened, IsAt};
 ghost use Rattle.store.specs.Stands.{no_library};
 ghost use Rattle.store.specs.declared.placed_entry.PlacedEntry.{PlacedEntry};
 ghost use Rattle.states.specs.State.{Library, State};
+ghost use Rattle.requests.specs.Library.{IsLibrary};
 ghost use Rattle.registry.specs.Binding.{data_sectors};
-ghost use Rattle.registry.specs.Opened.{IsAt};
-ghost use Rattle.registry.specs.Stands.{file_sectors};
-ghost use Rattle.registry.specs.inside.Reading.{IsRead, IsReadRefusal};
+ghost use Rattle.store.specs.IsRead.{IsRead, file_sectors};
+ghost use Rattle.registry.specs.inside.Reading.{IsReadRefusal};
 ghost use Rattle.registry.specs.inside.Source.{HasEntries, HasFiles, Offers, offered};
 ghost use Rattle.registry.specs.inside.Walked.{ArePlaces, IsAmong, IsWalked, next_place};
 
@@ -119,9 +119,12 @@ impl Walk {
         ensures same { OnErr result ((self.new.needs ≡ self.old.needs)
             × (self.new.files.items ≡ self.old.files.items)) }
         ensures read { IsRead D.facts store.old store.new }
-        ensures intact { (s : State) → (taken : Opened D)
+        ensures libraries { OnOk result (All IsLibrary self.old.files.items
+            → All IsLibrary self.new.files.items) }
+        ensures damaged { (s : State) → (taken : Opened D)
             → Offers D.facts source.entry taken store.old → IsAt D.facts taken s
-            → IfErr result (λ e. e ≡ StoreRefusal.Damaged → ⊥) }
+            → IfErr result (λ e. e ≡ StoreRefusal.Damaged → IsLibrary (slice_index_or s.libraries
+            (next_place self.old.needs self.old.files.items - 1) no_library) → ⊥) }
         ensures refusals { IfErr result (IsReadRefusal D.facts store.old store.new) }
     {
         let position = self.next_position();

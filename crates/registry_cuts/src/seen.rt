@@ -60,8 +60,8 @@ impl Probe {
     }
 }
 
-// What a registry answers when it is looked at. An opening makes a sync, and reads two root sectors,
-// the catalogues, and of each library the entry and the file.
+// What a registry answers when it is looked at. An opening makes a sync, and reads two root
+// sectors, the catalogues, and of each library the entry and the file.
 fn seen_of(alloc: Global, replies: &[Reply]) -> Result<Seen> {
     let mut opening = 3u64;
     if let Some(Reply::Listing(listing)) = replies.first() {

@@ -11,10 +11,9 @@ use Rattle.scope.specs.inside.Reached.{Reached}
 use Rattle.image.specs.Placement.{Placed, place}
 use Rattle.image.specs.Refusal.{placed_refusal, missing_by}
 use Rattle.image.specs.declared.refusal.BindRefusal.{BindRefusal}
-use Rattle.store.specs.Opened.{Opened}
+use Rattle.store.specs.Opened.{Opened, IsAt}
 use Rattle.requests.specs.Binding.{object_of, objects, preload_numbers}
 use Rattle.states.specs.State.{Library, State}
-use Rattle.registry.specs.Opened.{IsAt}
 use Rattle.store.specs.NameOrder.{entry_names}
 use Rattle.registry.specs.declared.needs.Needs.{Needs}
 

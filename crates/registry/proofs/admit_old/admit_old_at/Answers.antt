@@ -1,47 +1,20 @@
 use Rattle.std.proofs.Common.{sym, ◌∙◌}
 use Rattle.std.proofs.lemmas.Result.{err_from_is_err_and}
-use Rattle.store.proofs.UsedAlone.{no_entry}
 use Rattle.store.specs.Stands.{no_library}
 use Rattle.std.specs.Prelude.{slice_index_or}
+use Rattle.store.proofs.IsReadLemmas.{read_one}
 use Rattle.requests.specs.Library.{IsLibrary}
 use Rattle.registry.proofs.Files.{same_library}
 use Rattle.registry.proofs.admit_old.admit_old_at.Goals as goal
 
 pub returns-in_err-bytes-clause-read : goal.returns-in_err-bytes-clause-read
-returns-in_err-bytes-clause-read g c = record {
-  leaves = c.read_blob.ensures.any_moment;
-  same = c.read_blob.ensures.same;
-  unchanged = c.read_blob.ensures.unchanged;
-  root = c.read_blob.ensures.kept.0;
-  entries = c.read_blob.ensures.kept.1;
-  held = c.read_blob.ensures.table;
-  failed = c.read_blob.ensures.kept.2;
-  calls = (c.read_blob.ensures.calls no_entry).some;
-}
+returns-in_err-bytes-clause-read g c = read_one c.read_blob.ensures
 
 pub returns-clause-read : goal.returns-clause-read
-returns-clause-read g c = record {
-  leaves = c.read_blob.ensures.any_moment;
-  same = c.read_blob.ensures.same;
-  unchanged = c.read_blob.ensures.unchanged;
-  root = c.read_blob.ensures.kept.0;
-  entries = c.read_blob.ensures.kept.1;
-  held = c.read_blob.ensures.table;
-  failed = c.read_blob.ensures.kept.2;
-  calls = (c.read_blob.ensures.calls no_entry).some;
-}
+returns-clause-read g c = read_one c.read_blob.ensures
 
 pub returns-in_err-admit_file-clause-read : goal.returns-in_err-admit_file-clause-read
-returns-in_err-admit_file-clause-read g c = record {
-  leaves = c.read_blob.ensures.any_moment;
-  same = c.read_blob.ensures.same;
-  unchanged = c.read_blob.ensures.unchanged;
-  root = c.read_blob.ensures.kept.0;
-  entries = c.read_blob.ensures.kept.1;
-  held = c.read_blob.ensures.table;
-  failed = c.read_blob.ensures.kept.2;
-  calls = (c.read_blob.ensures.calls no_entry).some;
-}
+returns-in_err-admit_file-clause-read g c = read_one c.read_blob.ensures
 
 pub returns-in_err-admit_file-clause-damaged : goal.returns-in_err-admit_file-clause-damaged
 returns-in_err-admit_file-clause-damaged g c s at =

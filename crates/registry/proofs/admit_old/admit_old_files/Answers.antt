@@ -1,6 +1,7 @@
 use Rattle.std.proofs.Common.{◌<◌, ◌≤◌, length, sym, ◌∙◌, arith}
 use Rattle.std.proofs.lemmas.Result.{err_from_is_err_and}
-use Rattle.registry.proofs.Files.{read_more, one_admitted, one_refused, all_admitted}
+use Rattle.store.proofs.IsReadLemmas.{read_more}
+use Rattle.registry.proofs.Files.{one_admitted, one_refused, all_admitted}
 use Rattle.registry.proofs.admit_old.admit_old_files.Goals as goal
 
 pub returns-in_err-admit_old_at-clause-read : goal.returns-in_err-admit_old_at-clause-read

@@ -1,9 +1,12 @@
 use Rattle.std.proofs.Common.{◌≡◌, ◌+◌, ◌∙◌, length, refl, sym, ap, subst, arith}
+use Rattle.std.specs.Prelude.{All}
 use Rattle.std.proofs.lemmas.List.{length_push}
 use Rattle.std.proofs.lemmas.Result.{err_from_is_err_and}
+use Rattle.scope.specs.Queue.{AreApart}
+use Rattle.requests.specs.Library.{IsLibrary}
 use Rattle.registry.specs.inside.Walked.{IsWalked}
-use Rattle.registry.proofs.Files.{read_more}
-use Rattle.registry.proofs.FilesRead.{all_read, missing_read}
+use Rattle.store.proofs.IsReadLemmas.{read_more}
+use Rattle.registry.proofs.FilesRead.{all_read, libraries_read, missing_read, next_is_library}
 use Rattle.registry.proofs.Sources.{HasCome, come_more, come_offers}
 use Rattle.registry.proofs.needed.read_needed.Goals as goal
 
@@ -14,7 +17,7 @@ loop-source-preserved g c =
     let offers = come_offers g.D.Disk.facts come in
     let walked = c.in_ok-step.ensures.walked c.args.program.now c.args.store.now offers come.walked in
     subst (HasCome g.D.Disk.facts c.args.program.now c.args.store.now c.step.new.store c.step.new.self.needs) (sym more.1)
-    (come_more g.D.Disk.facts come c.step.ensures.read more.0
+    (come_more g.D.Disk.facts come c.step.ensures.read more.0 (subst (All IsLibrary) more.1 (c.in_ok-step.ensures.libraries come.libraries))
     (subst (IsWalked g.D.Disk.facts c.args.program.now c.args.store.now c.step.new.self.needs) more.1 walked)
     (more.3 c.args.store.now.entries offers.entries))
 
@@ -27,10 +30,18 @@ loop-source-smaller g c =
 pub returns-in_err-step-clause-read : goal.returns-in_err-step-clause-read
 returns-in_err-step-clause-read g c = read_more c.loop-source.invariant.read c.step.ensures.read
 
-pub returns-in_err-step-clause-intact : goal.returns-in_err-step-clause-intact
-returns-in_err-step-clause-intact g c s at =
+pub returns-in_err-step-clause-damaged : goal.returns-in_err-step-clause-damaged
+returns-in_err-step-clause-damaged g c s at =
+    let start = c.args.store.now in
+    let come = c.loop-source.invariant in
     let p = err_from_is_err_and c.from_residual-in_err-step.result c.from_residual-in_err-step.ensures.1 in
-    rw p.1 (λ is. c.in_err-step.ensures.intact s c.args.store.now (come_offers g.D.Disk.facts c.loop-source.invariant) at (sym p.2 ∙ is))
+    let apart : AreApart (length start.entries + 1) c.loop-source.walk.needs.places.places = subst (λ k. AreApart k c.loop-source.walk.needs.places.places) come.walked.among.places.limit c.loop-source-test.ensures.apart in
+    rw p.1 (λ is all. c.in_err-step.ensures.damaged s start (come_offers g.D.Disk.facts come) at (sym p.2 ∙ is)
+    (next_is_library g.D.Disk.facts c.args.program.now start (g.met.D.Disk.holds_now start.disk) come.walked apart (c.loop-source-test.ensures.yes refl) s at all))
+
+pub returns-clause-libraries : goal.returns-clause-libraries
+returns-clause-libraries g c s at =
+    libraries_read g.D.Disk.facts c.args.program.now c.args.store.now (g.met.D.Disk.holds_now c.args.store.now.disk) c.loop-source.invariant.walked (c.loop-source-test.ensures.no refl) c.loop-source.invariant.libraries s at
 
 pub returns-clause-ok : goal.returns-clause-ok
 returns-clause-ok g c s at =

@@ -3,23 +3,15 @@ use Rattle.std.specs.Int.{div_ceil}
 use Rattle.sector_disk.specs.Disk.{sector_bytes, AreCallsAtMost, AreCallsExactly}
 use Rattle.store.specs.declared.placed_entry.PlacedEntry.{PlacedEntry}
 use Rattle.store.proofs.UsedAlone.{no_entry}
-use Rattle.registry.specs.Stands.{file_sectors}
+use Rattle.store.specs.IsRead.{file_sectors}
+use Rattle.store.proofs.IsReadLemmas.{read_one}
 use Rattle.registry.specs.declared.source.Source.{Source}
 use Rattle.registry.specs.inside.Source.{offered}
 use Rattle.registry.proofs.Sources.{sized}
 use Rattle.registry.proofs.reading.read_at.Goals as goal
 
 pub returns-in-Current-clause-read : goal.returns-in-Current-clause-read
-returns-in-Current-clause-read g c = record {
-  leaves = c.read_blob.ensures.any_moment;
-  same = c.read_blob.ensures.same;
-  unchanged = c.read_blob.ensures.unchanged;
-  root = c.read_blob.ensures.kept.0;
-  entries = c.read_blob.ensures.kept.1;
-  held = c.read_blob.ensures.table;
-  failed = c.read_blob.ensures.kept.2;
-  calls = (c.read_blob.ensures.calls no_entry).some;
-}
+returns-in-Current-clause-read g c = read_one c.read_blob.ensures
 
 pub returns-in-Current-clause-all_calls : goal.returns-in-Current-clause-all_calls
 returns-in-Current-clause-all_calls g c entries has =

@@ -1,7 +1,9 @@
 use Rattle.std.proofs.Common.{IsTrue, sym, subst, ◌∙◌}
 use Rattle.states.specs.State.{State}
 use Rattle.requests.specs.Request.{request_of}
+use Rattle.sector_disk.specs.Disk.{AreCallsExactly}
 use Rattle.registry.specs.Applied.{Applies}
+use Rattle.registry.specs.Calls.{IfAccepted, calls_of}
 use Rattle.registry.specs.Opened.{IsAt}
 use Rattle.registry.proofs.Flights.{flies_kept}
 use Rattle.binders.specs.Counted.{CountsOnce}
@@ -14,6 +16,12 @@ use Rattle.binders.proofs.binders.Binders.apply.Goals as goal
 pub returns-clause-applied : goal.returns-clause-applied
 returns-clause-applied g c =
     subst (λ (k : Slotted g.row.D.Denot). (s : State) → IsAt g.D.Disk.facts k.registry s → Applies g.D.Disk.facts k.registry c.apply.new.self s (request_of c.args.command.now) c.apply.result) c.self.view_is c.apply.ensures.applied
+
+pub returns-clause-all_calls : goal.returns-clause-all_calls
+returns-clause-all_calls g c =
+    let facts = g.D.Disk.facts in
+    subst (λ (k : Slotted g.row.D.Denot). (s : State) → IsAt facts k.registry s → IfAccepted c.apply.result (AreCallsExactly (calls_of s (request_of c.args.command.now)) (facts k.registry.disk) (facts c.apply.new.self.disk))) c.self.view_is
+    (λ s at. c.apply.ensures.all_calls s at.stored)
 
 pub returns-clause-fly_on : goal.returns-clause-fly_on
 returns-clause-fly_on g c =

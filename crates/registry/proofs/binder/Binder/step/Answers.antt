@@ -9,7 +9,7 @@ use Rattle.registry.specs.declared.walk.Walk.{Walk}
 use Rattle.registry.specs.inside.Binding.{Binding, found_of}
 use Rattle.registry.specs.inside.Stepping.{unread_step}
 use Rattle.registry.specs.inside.Walked.{walked_objects, walked_refusal}
-use Rattle.registry.proofs.Flights.{bound_at_last, flies_offers, gone_on, refused_at_last, unread_on, with_found}
+use Rattle.registry.proofs.Flights.{bound_at_last, flies_offers, gone_on, next_library, refused_at_last, unread_on, with_found}
 use Rattle.registry.proofs.binder.Binder.step.Goals.{in-Ok, in-Err, in-Ok-step, in-Err-step}
 use Rattle.registry.proofs.binder.Binder.step.Goals as goal
 
@@ -50,5 +50,6 @@ returns-clause-step g c flight flies =
           rw w.result-is (rw w.unread.ensures.value (subst (λ (k : Binding). IsStep g.D.Disk.facts c.args.store.now c.step.new.store flight k (unread_step e)) (λ i. with_found (whole (Some walk)) (sym same.0 i) (sym same.1 i))
           (unread_on g.D.Disk.facts c.args.store.now (whole (Some walk)) flight here holds walk.needs walk.files.items refl c.step.new.store c.step.ensures.read c.if-not-has_next.ensures.apart (c.if-not-has_next.ensures.yes refl)
           (c.step.ensures.calls here.taken.entries offers.entries no_entry) e w.in-Err-step.ensures.refusals
-          (w.in-Err-step.ensures.intact flight.state here.taken offers here.at))))
+          (λ is. w.in-Err-step.ensures.damaged flight.state here.taken offers here.at.stored is
+          (next_library g.D.Disk.facts c.args.store.now (whole (Some walk)) flight here holds walk.needs walk.files.items refl c.step.new.store c.step.ensures.read c.if-not-has_next.ensures.apart (c.if-not-has_next.ensures.yes refl))))))
     ]

@@ -1,4 +1,7 @@
+use Rattle.requests.specs.Request.{request_of}
+use Rattle.registry.proofs.Untested.{tested}
 use Rattle.registry.proofs.registry.Registry.apply.Goals as goal
 
-pub returns-clause-on_any_disk : goal.returns-clause-on_any_disk
-returns-clause-on_any_disk g c = c.reply_to-reply.ensures.on_any_disk c.has_failed-failed.ensures.versions c.has_failed-failed-2.ensures.versions
+pub returns-clause-applied : goal.returns-clause-applied
+returns-clause-applied g c s at =
+    tested g.D.Disk.facts c.args.self.now c.reply_to-reply.new.self s at (g.met.D.Disk.holds_now c.args.self.now.disk) (request_of c.args.command.now) c.reply_to-reply.result (c.reply_to-reply.ensures.untested s at.stored)

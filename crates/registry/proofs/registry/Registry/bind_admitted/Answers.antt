@@ -7,13 +7,14 @@ use Rattle.image.specs.Byte.{byte_of}
 use Rattle.image.specs.Image.{image_of}
 use Rattle.states.specs.State.{Library}
 use Rattle.requests.specs.Request.{bind}
-use Rattle.requests.specs.Step.{Step}
 use Rattle.requests.specs.declared.reply.Reply.TheVariants.{Refused}
 use Rattle.registry.specs.Binding.{data_sectors}
-use Rattle.registry.specs.Opened.{IsAt}
+use Rattle.store.specs.Opened.{IsAt}
 use Rattle.registry.specs.Phase.{phase_of}
+use Rattle.registry.specs.Untested.{UntestedStep}
 use Rattle.registry.specs.declared.walk.Walk.{Walk}
-use Rattle.registry.specs.inside.Reading.{IsRead, IsReadRefusal}
+use Rattle.store.specs.IsRead.{IsRead}
+use Rattle.registry.specs.inside.Reading.{IsReadRefusal}
 use Rattle.registry.proofs.Bindings.{refusal_same, objects_same, answer_same, sectors_read, refused, bound, unread}
 use Rattle.registry.proofs.registry.Registry.bind_admitted.Goals as goal
 
@@ -21,9 +22,9 @@ pub returns-in-Err-clause-step : goal.returns-in-Err-clause-step
 returns-in-Err-clause-step g c s at =
     let read : IsRead g.D.Disk.facts c.args.self.now c.read_needed.new.store = subst (λ k. IsRead g.D.Disk.facts k c.read_needed.new.store) c.self.view_is c.read_needed.ensures.read in
     let here : IsAt g.D.Disk.facts c.self.inside.store s = subst (λ k. IsAt g.D.Disk.facts k s) (sym c.self.view_is) at in
-    subst (λ r. Step (phase_of g.D.Disk.facts c.args.self.now s) (bind c.args.program.now c.args.base) (Refused r) (phase_of g.D.Disk.facts c.read_needed.new.store s)) (sym c.refusal_of_read.ensures)
+    subst (λ r. UntestedStep (phase_of g.D.Disk.facts c.args.self.now s) (bind c.args.program.now c.args.base) (Refused r) (phase_of g.D.Disk.facts c.read_needed.new.store s)) (sym c.refusal_of_read.ensures)
     (unread g.D.Disk.facts c.args.self.now c.read_needed.new.store s read at c.args.program.now c.args.base c.requires c.in-Err.refusal
-    (subst (λ k. IsReadRefusal g.D.Disk.facts k c.read_needed.new.store c.in-Err.refusal) c.self.view_is c.in-Err.ensures.refusals) (c.in-Err.ensures.intact s here))
+    (subst (λ k. IsReadRefusal g.D.Disk.facts k c.read_needed.new.store c.in-Err.refusal) c.self.view_is c.in-Err.ensures.refusals) (c.in-Err.ensures.damaged s here))
 
 pub bind_walked-requires : goal.bind_walked-requires
 bind_walked-requires g c = program-based c.args.program.now c.args.base c.requires
@@ -36,7 +37,7 @@ returns-in_err-image-clause-step g c s at =
     let p = err_from_is_err_and c.from_residual.result c.from_residual.ensures.1 in
     rw (p.1, p.2) (refused g.D.Disk.facts c.args.self.now c.read_needed.new.store s read at c.args.program.now c.args.base c.in_err-image.field-0.0
     (answer_same s c.args.program.now c.args.base walk.files.items walk.needs.missing c.requires (c.in-Ok.ensures.ok s here) (c.in-Ok.ensures.missing s here)
-    c.in_err-image.field-0.0 c.in_err-image.ensures.refused))
+    c.in_err-image.field-0.0 c.in_err-image.ensures.refused) (λ behind. c.in-Ok.ensures.libraries s here))
 
 pub returns-clause-step : goal.returns-clause-step
 returns-clause-step g c s at =
@@ -49,7 +50,7 @@ returns-clause-step g c s at =
     bound g.D.Disk.facts c.args.self.now c.read_needed.new.store s read at c.args.program.now c.args.base c.in_ok-image.image
     (refusal_same s c.args.program.now c.args.base walk.files.items walk.needs.missing c.requires ordered lacking ∙ c.in_ok-image.ensures.accepted)
     (c.in_ok-image.ensures.ok ∙ ap image_of same)
-    (λ a. c.in_ok-image.ensures.bytes a ∙ ap (λ os. byte_of os a) same)
+    (λ a. c.in_ok-image.ensures.bytes a ∙ ap (λ os. byte_of os a) same) (c.in-Ok.ensures.libraries s here)
 
 pub returns-clause-all_calls : goal.returns-clause-all_calls
 returns-clause-all_calls g c s at =

@@ -1,7 +1,7 @@
 use Rattle.std.proofs.Common.{◌≡◌, map, take}
 use Rattle.states.specs.State.{State}
 use Rattle.requests.specs.Table.{entry_of}
-use Rattle.registry.specs.Opened.{IsAt}
+use Rattle.store.specs.Opened.{IsAt}
 use Rattle.registry.proofs.registry.Registry.entries.Given as goal
 
 abbrev pub invariant-loop-position : goal.invariant-loop-position

@@ -3,20 +3,21 @@ use Rattle.std.proofs.lemmas.Result.{err_from_is_err_and}
 use Rattle.image.proofs.Answering.{program-answer}
 use Rattle.requests.specs.Binding.{objects, preload_numbers}
 use Rattle.requests.specs.Request.{bind}
-use Rattle.requests.specs.Step.{Step}
 use Rattle.registry.specs.Binding.{bound_answer}
 use Rattle.registry.specs.Phase.{phase_of}
-use Rattle.registry.proofs.Bindings.{refused}
-use Rattle.registry.proofs.Files.{read_none}
+use Rattle.registry.specs.Untested.{UntestedStep}
+use Rattle.registry.proofs.Bindings.{alone, refused}
+use Rattle.store.proofs.IsReadLemmas.{read_none}
 use Rattle.registry.proofs.registry.Registry.image.Goals as goal
 
 pub returns-in_err-program-clause-step : goal.returns-in_err-program-clause-step
 returns-in_err-program-clause-step g c s at =
     let p = err_from_is_err_and c.from_residual.result c.from_residual.ensures.1 in
     rw (p.1, p.2) (refused g.D.Disk.facts c.args.self.now c.args.self.now s (read_none c.args.self.now) at c.args.file.now c.args.base c.in_err-program.field-0.0
-    (program-answer c.args.file.now c.args.base (objects s) (preload_numbers s) c.in_err-program.field-0.0 c.in_err-program.ensures.refused))
+    (program-answer c.args.file.now c.args.base (objects s) (preload_numbers s) c.in_err-program.field-0.0 c.in_err-program.ensures.refused)
+    (alone g.D.Disk.facts c.args.self.now c.args.self.now s (read_none c.args.self.now) at c.args.file.now c.args.base c.in_err-program.field-0.0 c.in_err-program.ensures.refused))
 
 pub returns-clause-step : goal.returns-clause-step
 returns-clause-step g c s at =
-    subst (λ f. Step (phase_of g.D.Disk.facts c.args.self.now s) (bind f c.args.base) (bound_answer c.bind_admitted.result) (phase_of g.D.Disk.facts c.bind_admitted.new.self s))
+    subst (λ f. UntestedStep (phase_of g.D.Disk.facts c.args.self.now s) (bind f c.args.base) (bound_answer c.bind_admitted.result) (phase_of g.D.Disk.facts c.bind_admitted.new.self s))
     c.in_ok-program.ensures.same (c.bind_admitted.ensures.step s at)

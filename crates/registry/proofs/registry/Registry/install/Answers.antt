@@ -5,8 +5,8 @@ use Rattle.states.specs.State.{names_of, has_name}
 use Rattle.requests.specs.Request.{install}
 use Rattle.requests.specs.Step.{answer_of}
 use Rattle.requests.specs.declared.reply.Reply.TheVariants.{Refused}
-use Rattle.registry.specs.Applied.{Applies}
-use Rattle.registry.specs.Opened.{IsAt}
+use Rattle.registry.specs.Untested.{AppliesUntested}
+use Rattle.store.specs.Opened.{IsAt}
 use Rattle.registry.proofs.Forms.{is_name, file_size}
 use Rattle.registry.proofs.Putting.{installed, install_no_library, install_there, install_done, install_refused}
 use Rattle.registry.proofs.States.{same_sectors}
@@ -21,7 +21,7 @@ returns-in_err-name-clause-applied g c s at =
 pub returns-then-is_some-clause-applied : goal.returns-then-is_some-clause-applied
 returns-then-is_some-clause-applied g c s at =
     let here : IsAt g.D.Disk.facts c.self.inside.store s = subst (λ r. IsAt g.D.Disk.facts r s) (sym c.self.view_is) at in
-    let there : has_name (names_of s.libraries) c.in_ok-name.name.now ≡ true = installed s c.in_ok-name.name.now c.position.result (c.position.ensures.state s here.stored) ∙ sym c.is_some.ensures ∙ c.if-is_some.true in
+    let there : has_name (names_of s.libraries) c.in_ok-name.name.now ≡ true = installed s c.in_ok-name.name.now c.position.result (c.position.ensures.state s here) ∙ sym c.is_some.ensures ∙ c.if-is_some.true in
     install_there g.D.Disk.facts c.args.self.now s at c.args.bytes.now c.in_ok-name.ensures.ok c.in_ok-name.name.now c.in_ok-name.ensures.name there
 
 pub put_new-requires-clause-name : goal.put_new-requires-clause-name
@@ -38,15 +38,15 @@ returns-clause-applied g c s at =
     let new = c.put_new.new.self in
     let name = c.in_ok-name.name.now in
     let bytes = c.args.bytes.now in
-    let absent : has_name (names_of s.libraries) name ≡ false = installed s name c.position.result (c.position.ensures.state s here.stored) ∙ sym c.is_some.ensures ∙ c.if-is_some.false in
+    let absent : has_name (names_of s.libraries) name ≡ false = installed s name c.position.result (c.position.ensures.state s here) ∙ sym c.is_some.ensures ∙ c.if-is_some.false in
     let root = same_sectors facts old s here (λ honest. g.met.D.Disk.holds_now _ honest) in
-    let leaves = c.put_new.ensures.any_moment s here.stored in
-    subst (λ r. Applies facts r new s (install bytes) (answer_of c.match-put_new.result)) c.self.view_is (elim c.match-put_new.branch [
-      | in-Ok w ↦ subst (λ r. Applies facts old new s (install bytes) (answer_of r)) (sym w.result-is)
+    let leaves = c.put_new.ensures.any_moment s here in
+    subst (λ r. AppliesUntested facts r new s (install bytes) (answer_of c.match-put_new.result)) c.self.view_is (elim c.match-put_new.branch [
+      | in-Ok w ↦ subst (λ r. AppliesUntested facts old new s (install bytes) (answer_of r)) (sym w.result-is)
           (install_done facts old s here bytes c.in_ok-name.ensures.ok name c.in_ok-name.ensures.name new root absent leaves tt
-          (w.in-Ok.ensures.refused s here.stored) w.in-Ok.ensures.on_any_disk.usable (w.in-Ok.ensures.ok s here.stored))
-      | in-Err w ↦ subst (λ r. Applies facts old new s (install bytes) (answer_of r)) (sym w.result-is)
-          (subst (λ r. Applies facts old new s (install bytes) (Refused r)) (sym w.refusal_of.ensures)
+          (w.in-Ok.ensures.refused s here) w.in-Ok.ensures.on_any_disk.usable (w.in-Ok.ensures.ok s here))
+      | in-Err w ↦ subst (λ r. AppliesUntested facts old new s (install bytes) (answer_of r)) (sym w.result-is)
+          (subst (λ r. AppliesUntested facts old new s (install bytes) (Refused r)) (sym w.refusal_of.ensures)
           (install_refused facts old s here bytes c.in_ok-name.ensures.ok name c.in_ok-name.ensures.name new root absent leaves w.in-Err.refusal
-          (w.in-Err.ensures.refused s here.stored) w.in-Err.ensures.on_any_disk.reopen w.in-Err.ensures.on_any_disk.refusals w.in-Err.ensures.on_any_disk.device w.in-Err.ensures.on_any_disk.same c.in_ok-name.ensures.memory))
+          (w.in-Err.ensures.refused s here) w.in-Err.ensures.on_any_disk.reopen w.in-Err.ensures.on_any_disk.refusals w.in-Err.ensures.on_any_disk.device w.in-Err.ensures.on_any_disk.same c.in_ok-name.ensures.memory))
     ])

@@ -15,7 +15,7 @@ use Rattle.registry.proofs.registry.Registry.positions_of.Goals as goal
 
 pub returns-in_default-clause-lacking : goal.returns-in_default-clause-lacking
 returns-in_default-clause-lacking g c s at =
-    let here = subst (λ r. store.IsAt g.D.Disk.facts r s) (sym c.self.view_is) at.stored in
+    let here = subst (λ r. store.IsAt g.D.Disk.facts r s) (sym c.self.view_is) at in
     let i = c.loop-name.name-index in
     let names = map (λ (n : Bor (List ℕ)). n.now) c.args.names.now in
     let none : Bor (List ℕ) = record { ref_ptr = (0, 0); now = [] } in
@@ -39,7 +39,7 @@ loop-name-preserved g c =
       named = subst (λ ps. AreNamed entries ps (map now (take (i + 1) c.args.names.now))) (sym c.push.ensures.items)
           (subst (AreNamed entries (c.loop-name.positions.items ++ position ∷ [])) (sym more) (named_more position name c.loop-name.invariant.named found.0 found.1));
       state = λ s at.
-          let here = subst (λ r. store.IsAt g.D.Disk.facts r s) (sym c.self.view_is) at.stored in
+          let here = subst (λ r. store.IsAt g.D.Disk.facts r s) (sym c.self.view_is) at in
           ap (names_at s.libraries) c.push.ensures.items
           ∙ names_more s c.loop-name.positions.items position (map now (take i c.args.names.now)) name (c.loop-name.invariant.state s at) ((c.in-Some.ensures.state s here position).0 refl).1
           ∙ sym more;

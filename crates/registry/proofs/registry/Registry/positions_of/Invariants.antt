@@ -1,7 +1,7 @@
 use Rattle.std.proofs.Common.{◌≡◌, length, map, take}
 use Rattle.store.specs.Stands.{names_at}
 use Rattle.states.specs.State.{State}
-use Rattle.registry.specs.Opened.{IsAt}
+use Rattle.store.specs.Opened.{IsAt}
 use Rattle.registry.specs.inside.Named.{AreNamed}
 use Rattle.registry.proofs.registry.Registry.positions_of.Given as goal
 

@@ -1,7 +1,7 @@
 use Rattle.std.proofs.Common.{◌≡◌, take}
 use Rattle.store.specs.Stands.{names_at}
 use Rattle.states.specs.State.{State}
-use Rattle.registry.specs.Opened.{IsAt}
+use Rattle.store.specs.Opened.{IsAt}
 use Rattle.registry.proofs.registry.Registry.preload_names.Given as goal
 
 abbrev pub invariant-loop-position : goal.invariant-loop-position

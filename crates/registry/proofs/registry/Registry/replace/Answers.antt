@@ -5,8 +5,8 @@ use Rattle.states.specs.State.{names_of, has_name}
 use Rattle.requests.specs.Request.{replace}
 use Rattle.requests.specs.Step.{answer_of}
 use Rattle.requests.specs.declared.reply.Reply.TheVariants.{Refused}
-use Rattle.registry.specs.Applied.{Applies}
-use Rattle.registry.specs.Opened.{IsAt}
+use Rattle.registry.specs.Untested.{AppliesUntested}
+use Rattle.store.specs.Opened.{IsAt}
 use Rattle.registry.proofs.Forms.{file_size}
 use Rattle.registry.proofs.Putting.{installed, has_position, replace_no_library, replace_lacking, replace_done, replace_refused}
 use Rattle.registry.proofs.States.{same_sectors}
@@ -21,7 +21,7 @@ returns-in_err-name-clause-applied g c s at =
 pub returns-then-is_none-clause-applied : goal.returns-then-is_none-clause-applied
 returns-then-is_none-clause-applied g c s at =
     let here : IsAt g.D.Disk.facts c.self.inside.store s = subst (λ r. IsAt g.D.Disk.facts r s) (sym c.self.view_is) at in
-    let absent : has_name (names_of s.libraries) c.in_ok-name.name.now ≡ false = installed s c.in_ok-name.name.now c.position.result (c.position.ensures.state s here.stored) ∙ c.is_none.ensures ∙ ap not c.if-is_none.true in
+    let absent : has_name (names_of s.libraries) c.in_ok-name.name.now ≡ false = installed s c.in_ok-name.name.now c.position.result (c.position.ensures.state s here) ∙ c.is_none.ensures ∙ ap not c.if-is_none.true in
     replace_lacking g.D.Disk.facts c.args.self.now s at c.args.bytes.now c.in_ok-name.ensures.ok c.in_ok-name.name.now c.in_ok-name.ensures.name absent
 
 pub put_over-requires-clause-present : goal.put_over-requires-clause-present
@@ -40,15 +40,15 @@ returns-clause-applied g c s at =
     let new = c.put_over.new.self in
     let name = c.in_ok-name.name.now in
     let bytes = c.args.bytes.now in
-    let there : has_name (names_of s.libraries) name ≡ true = installed s name c.position.result (c.position.ensures.state s here.stored) ∙ c.is_none.ensures ∙ ap not c.if-is_none.false in
+    let there : has_name (names_of s.libraries) name ≡ true = installed s name c.position.result (c.position.ensures.state s here) ∙ c.is_none.ensures ∙ ap not c.if-is_none.false in
     let root = same_sectors facts old s here (λ honest. g.met.D.Disk.holds_now _ honest) in
-    let leaves = c.put_over.ensures.any_moment s here.stored in
-    subst (λ r. Applies facts r new s (replace bytes) (answer_of c.match-put_over.result)) c.self.view_is (elim c.match-put_over.branch [
-      | in-Ok w ↦ subst (λ r. Applies facts old new s (replace bytes) (answer_of r)) (sym w.result-is)
+    let leaves = c.put_over.ensures.any_moment s here in
+    subst (λ r. AppliesUntested facts r new s (replace bytes) (answer_of c.match-put_over.result)) c.self.view_is (elim c.match-put_over.branch [
+      | in-Ok w ↦ subst (λ r. AppliesUntested facts old new s (replace bytes) (answer_of r)) (sym w.result-is)
           (replace_done facts old s here bytes c.in_ok-name.ensures.ok name c.in_ok-name.ensures.name new root there leaves tt
-          (w.in-Ok.ensures.refused s here.stored) w.in-Ok.ensures.on_any_disk.usable (w.in-Ok.ensures.ok s here.stored))
-      | in-Err w ↦ subst (λ r. Applies facts old new s (replace bytes) (answer_of r)) (sym w.result-is)
-          (subst (λ r. Applies facts old new s (replace bytes) (Refused r)) (sym w.refusal_of.ensures)
+          (w.in-Ok.ensures.refused s here) w.in-Ok.ensures.on_any_disk.usable (w.in-Ok.ensures.ok s here))
+      | in-Err w ↦ subst (λ r. AppliesUntested facts old new s (replace bytes) (answer_of r)) (sym w.result-is)
+          (subst (λ r. AppliesUntested facts old new s (replace bytes) (Refused r)) (sym w.refusal_of.ensures)
           (replace_refused facts old s here bytes c.in_ok-name.ensures.ok name c.in_ok-name.ensures.name new root there leaves w.in-Err.refusal
-          (w.in-Err.ensures.refused s here.stored) w.in-Err.ensures.on_any_disk.reopen w.in-Err.ensures.on_any_disk.refusals w.in-Err.ensures.on_any_disk.device w.in-Err.ensures.on_any_disk.same c.in_ok-name.ensures.memory))
+          (w.in-Err.ensures.refused s here) w.in-Err.ensures.on_any_disk.reopen w.in-Err.ensures.on_any_disk.refusals w.in-Err.ensures.on_any_disk.device w.in-Err.ensures.on_any_disk.same c.in_ok-name.ensures.memory))
     ])

@@ -25,7 +25,7 @@ pub returns-in-None-clause-refused : goal.returns-in-None-clause-refused
 returns-in-None-clause-refused g c s at =
     let names = map (λ n. n.now) c.args.names.now in
     let p = phase_of g.D.Disk.facts c.args.self.now s in (
-      at.stored.usable,
+      at.usable,
       preloads_lacking p names (sym c.are_too_many.ensures ∙ c.if-are_too_many.false) (sym c.has_repeat.ensures ∙ c.if-has_repeat.false) ((c.in-None.ensures.lacking s at).0 refl),
       leads_same p,
     )

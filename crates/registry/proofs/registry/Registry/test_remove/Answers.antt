@@ -13,26 +13,26 @@ use Rattle.registry.proofs.registry.Registry.test_remove.Goals as goal
 
 pub returns-in_default-clause-refused : goal.returns-in_default-clause-refused
 returns-in_default-clause-refused g c s at =
-    let here = subst (λ r. store.IsAt g.D.Disk.facts r s) (sym c.self.view_is) at.stored in
+    let here = subst (λ r. store.IsAt g.D.Disk.facts r s) (sym c.self.view_is) at in
     let p = phase_of g.D.Disk.facts c.args.self.now s in
-    (at.stored.usable, remove_absent p c.args.name.now (name_nowhere s c.args.name.now (λ i lt is. none_some ((c.in_default.ensures.state s here i).1 (lt, is)))), leads_same p)
+    (at.usable, remove_absent p c.args.name.now (name_nowhere s c.args.name.now (λ i lt is. none_some ((c.in_default.ensures.state s here i).1 (lt, is)))), leads_same p)
 
 pub returns-then-is_preload-clause-refused : goal.returns-then-is_preload-clause-refused
 returns-then-is_preload-clause-refused g c s at =
     let facts = g.D.Disk.facts in
-    let here = subst (λ r. store.IsAt facts r s) (sym c.self.view_is) at.stored in
+    let here = subst (λ r. store.IsAt facts r s) (sym c.self.view_is) at in
     let p = phase_of facts c.args.self.now s in
     let name = c.args.name.now in
     let position = c.in-Some.position in
     let stands = (c.in-Some.ensures.state s here position).0 refl in
     let preload = same_preload_name facts c.args.self.now s at (g.met.D.Disk.holds_now c.args.self.now.disk) name position
     (λ k. (λ is. (c.in-Some.ensures.state s here k).0 (ap Some is), λ both. some_same ((c.in-Some.ensures.state s here k).1 both))) in
-    (at.stored.usable, remove_preload p name (name_stands s name position stands.0 stands.1) (sym preload ∙ sym c.is_preload.ensures.is ∙ c.if-is_preload.true), leads_same p)
+    (at.usable, remove_preload p name (name_stands s name position stands.0 stands.1) (sym preload ∙ sym c.is_preload.ensures.is ∙ c.if-is_preload.true), leads_same p)
 
 pub returns-clause-ok : goal.returns-clause-ok
 returns-clause-ok g c s at =
     let facts = g.D.Disk.facts in
-    let here = subst (λ r. store.IsAt facts r s) (sym c.self.view_is) at.stored in
+    let here = subst (λ r. store.IsAt facts r s) (sym c.self.view_is) at in
     let p = phase_of facts c.args.self.now s in
     let name = c.args.name.now in
     let position = c.in-Some.position in

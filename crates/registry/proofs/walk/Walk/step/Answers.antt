@@ -1,25 +1,31 @@
-use Rattle.std.proofs.Common.{◌≡◌, ◌+◌, ◌<◌, ◌++◌, ◌∷◌, [], ℕ, List, length, get_or, sym, ap, subst, ◌∙◌, arith}
+use Rattle.std.proofs.Common.{◌≡◌, ◌+◌, ◌-◌, ◌++◌, ◌∷◌, [], ℕ, List, length, get_or, sym, ap, subst, ◌∙◌}
+use Rattle.std.specs.Prelude.{All}
+use Rattle.std.proofs.lemmas.List.Elements.{All-push}
 use Rattle.std.proofs.lemmas.Result.{err_from_is_err_and}
 use Rattle.elf_dynamic.specs.Strings.{needed}
 use Rattle.scope.specs.Queue.{AreApart}
 use Rattle.store.specs.Stands.{no_library}
+use Rattle.requests.specs.Library.{IsLibrary}
 use Rattle.states.specs.State.{Library}
 use Rattle.registry.specs.declared.needs.Needs.{Needs}
 use Rattle.store.specs.NameOrder.{entry_names}
-use Rattle.registry.specs.inside.Source.{offered}
-use Rattle.registry.specs.inside.Walked.{IsWalked, more_needs}
-use Rattle.registry.proofs.FilesRead.{one_read, library_there}
-use Rattle.registry.proofs.Sources.{entries_read, offered_count}
+use Rattle.registry.specs.inside.Walked.{IsWalked, more_needs, next_place}
+use Rattle.registry.proofs.FilesRead.{one_read}
+use Rattle.registry.proofs.Sources.{entries_read}
 use Rattle.registry.proofs.walk.Walk.step.Goals as goal
 
-pub returns-in_err-file-clause-intact : goal.returns-in_err-file-clause-intact
-returns-in_err-file-clause-intact g c s taken offers at =
-    let position : ℕ = c.next_position-position.result in
-    let count : offered c.args.source c.args.store.now ≡ length taken.entries = offered_count c.args.source c.args.store.now taken.entries offers.entries in
-    let inside : position < length taken.entries = omega (arith, c.next_position-position.ensures.inside, c.requires.among.places.limit, count) in
+pub returns-in_err-file-clause-damaged : goal.returns-in_err-file-clause-damaged
+returns-in_err-file-clause-damaged g c s taken offers at =
     let p = err_from_is_err_and c.from_residual.result c.from_residual.ensures.1 in
-    rw p.1 (λ is. c.in_err-file.ensures.damaged s (offers.files s at.stored) (sym p.2 ∙ is)
-    (library_there g.D.Disk.facts taken (g.met.D.Disk.holds_now taken.disk) s at position inside))
+    let named : c.next_position-position.result ≡ next_place c.args.self.now.needs c.args.self.now.files.items - 1 = c.next_position-position.ensures.next in
+    rw p.1 (λ is library. c.in_err-file.ensures.damaged s (offers.files s at) (sym p.2 ∙ is)
+    (subst (λ (k : ℕ). IsLibrary (get_or s.libraries k no_library)) (sym named) library))
+
+pub returns-clause-libraries : goal.returns-clause-libraries
+returns-clause-libraries g c all =
+    let f : Library = c.in_ok-file.file in
+    subst (All IsLibrary) (sym (c.in-Ok.ensures.items ∙ ap (λ (l : List Library). l ++ f ∷ []) c.reserve.ensures.items))
+    (All-push IsLibrary c.args.self.now.files.items f all c.in_ok-file.ensures.library)
 
 pub returns-clause-walked : goal.returns-clause-walked
 returns-clause-walked g c program taken offers so_far =
@@ -29,7 +35,7 @@ returns-clause-walked g c program taken offers so_far =
     let has = entries_read g.D.Disk.facts c.args.store.now c.read_library.new.store c.read_library.ensures.read c.args.source taken.entries offers.entries in
     subst (IsWalked g.D.Disk.facts program taken c.add_needed.new.self) (sym (c.in-Ok.ensures.items ∙ ap (λ (l : List Library). l ++ f ∷ []) c.reserve.ensures.items))
     (one_read g.D.Disk.facts program taken (g.met.D.Disk.holds_now taken.disk) so_far apart c.requires.next f
-    (λ t at. c.in_ok-file.ensures.ok t (offers.files t at.stored) ∙ ap (λ (k : ℕ). get_or t.libraries k no_library) c.next_position-position.ensures.next)
+    (λ t at. c.in_ok-file.ensures.ok t (offers.files t at) ∙ ap (λ (k : ℕ). get_or t.libraries k no_library) c.next_position-position.ensures.next)
     c.add_needed.new.self
     (c.in_ok-add_needed.ensures.ok taken.entries has offers.own
     ∙ ap (λ (m : List ℕ). more_needs (entry_names taken.entries) before m (needed c.object.result)) c.name.ensures
