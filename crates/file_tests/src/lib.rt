@@ -3,6 +3,8 @@
 #![tactic(auto)]
 
 #[cfg(test)]
+mod executables;
+#[cfg(test)]
 mod images;
 #[cfg(test)]
 mod searches;

@@ -1,0 +1,13 @@
+pub mod Bytes
+pub mod Zeros
+pub mod Joining
+pub mod Chains
+pub mod Reading
+pub mod Loading
+pub mod Fine
+pub mod Lengths
+pub mod Exact
+pub mod Placing
+pub mod Congruent
+pub mod Final
+pub mod Refusing

@@ -1,0 +1,10 @@
+use Rattle.std.proofs.Common.{length, ap, ◌∙◌, arith}
+use Rattle.executable.proofs.Lengths.{length-table_of}
+use Rattle.executable.proofs.executable.file_of.Goals as goal
+
+pub front_of-requires : goal.front_of-requires
+front_of-requires c =
+    let counted = ap length (c.deref-2.ensures.value ∙ c.in_ok-table.ensures) in
+    let long = length-table_of c.args.place c.deref.result.now in
+    let same = ap length c.deref.ensures.value in
+    omega (arith, counted, long, same, c.requires.count)

@@ -1,0 +1,36 @@
+-- The numbers of executable files (gABI chapters 4 and 5; elf(5)), and the kernel's limits.
+use Rattle.std.specs.Prelude.{ℕ}
+
+-- e_type of an executable file
+abbrev pub ET_EXEC : ℕ
+ET_EXEC = 2
+
+-- the segment of the program headers themselves, by p_type
+abbrev pub PT_PHDR : ℕ
+PT_PHDR = 6
+
+-- what may be done with the stack, by p_type
+abbrev pub PT_GNU_STACK : ℕ
+PT_GNU_STACK = 0x6474e551
+
+-- tags by d_tag: an initializer, an array of them, its size in bytes
+abbrev pub DT_INIT : ℕ
+DT_INIT = 12
+
+abbrev pub DT_INIT_ARRAY : ℕ
+DT_INIT_ARRAY = 25
+
+abbrev pub DT_INIT_ARRAYSZ : ℕ
+DT_INIT_ARRAYSZ = 27
+
+-- bytes of an entry of that array
+abbrev pub ARRAY_ENTRY_SIZE : ℕ
+ARRAY_ENTRY_SIZE = 8
+
+-- the lowest address that the kernel gives to whoever isn't root (vm.mmap_min_addr)
+abbrev pub LOWEST : ℕ
+LOWEST = 0x10000
+
+-- the most program headers that the kernel takes: 65,536 bytes of them
+abbrev pub MOST_HEADERS : ℕ
+MOST_HEADERS = 1170

@@ -1,0 +1,9 @@
+pub mod Constant
+pub mod Entry
+pub mod Initializers
+pub mod Piece
+pub mod Place
+pub mod File
+pub mod Refusal
+pub mod Meaning
+pub mod inside

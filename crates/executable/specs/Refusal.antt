@@ -1,0 +1,30 @@
+-- Why a bound program isn't written as an executable file.
+use Rattle.std.specs.Prelude.{◌≡◌, ◌⊎◌, List, [], ◌∷◌, Option, Some, not, nat_lt, is_none}
+use Rattle.std.specs.Option.{option_map}
+use Rattle.elf_file.specs.FirstOf.{◌when◌, first_of}
+use Rattle.image.specs.Image.{MemoryImage}
+use Rattle.executable.specs.Constant.{MOST_HEADERS}
+use Rattle.executable.specs.Entry.{entry_of}
+use Rattle.executable.specs.Initializers.{first_initialized}
+use Rattle.executable.specs.Piece.{is_rising, pieces_of}
+use Rattle.executable.specs.Place.{header_count_of, place_of}
+use Rattle.executable.specs.declared.refusal.ExecutableRefusal.{ExecutableRefusal}
+use Rattle.executable.specs.declared.refusal.ExecutableRefusal.TheVariants.{NoEntry, Initializers, OutOfOrder, TooManyHeaders, NoRoom, OutOfMemory}
+
+-- no entry in own code; initializers; segments out of order, as no bind gives; too many headers; no room for them
+abbrev pub executable_tests : MemoryImage → List (Option ExecutableRefusal)
+executable_tests image =
+    (NoEntry when is_none (entry_of image))
+    ∷ option_map Initializers (first_initialized image)
+    ∷ (OutOfOrder when not (is_rising 0 image.segments))
+    ∷ (TooManyHeaders when nat_lt MOST_HEADERS (header_count_of (pieces_of image.segments)))
+    ∷ (NoRoom when is_none (place_of (pieces_of image.segments)))
+    ∷ []
+
+-- the refusal of an image: that of the first test that applies
+unfoldable pub executable_refusal : MemoryImage → Option ExecutableRefusal
+executable_refusal image = first_of (executable_tests image)
+
+-- an answer where no file is given: that refusal, or want of memory
+abbrev pub IsAnswer : MemoryImage → ExecutableRefusal → Type 0
+IsAnswer image answer = (executable_refusal image ≡ Some answer) ⊎ (answer ≡ OutOfMemory)

@@ -1,0 +1,51 @@
+// Where a bound program begins to run.
+
+ghost use Rattle.std.specs.Prelude.{◌≡◌};
+ghost use Rattle.std.specs.List.{list_any};
+ghost use Rattle.executable.specs.Entry.{is_code, own_entry, entry_of};
+
+use crate::place::MEMORY_LIMIT;
+use crate::segments::{holds, split};
+use bitflags::Flags;
+use image::{Image, ImageObject, Permissions, Segment};
+
+/// Whether an address is one of a segment that may be executed.
+fn is_code(segment: &Segment, address: u64) -> bool
+    ensures { result ≡ is_code address segment.now }
+{
+    segment.permissions().contains(Permissions::EXECUTE) && holds(segment, address)
+}
+
+/// Whether an address is one of segments that may be executed.
+fn has_code(segments: &[Segment], address: u64) -> bool
+    ensures { result ≡ list_any (is_code address) segments.now }
+{
+    segments.iter().any(|s| is_code(s, address))
+}
+
+/// The entry of a program in its own code, if it has one; its own segments are the first of these.
+fn own_entry(program: &ImageObject, segments: &[Segment]) -> Option<u64>
+    ensures { result ≡ own_entry program.now segments.now }
+{
+    let entry = program.addresses.entry;
+    if entry == 0 || entry > MEMORY_LIMIT || program.base > MEMORY_LIMIT - entry {
+        return None;
+    }
+    let address = program.base + entry;
+    let (own, _) = split(segments, program.segment_count);
+    if has_code(own, address) {
+        Some(address)
+    } else {
+        None
+    }
+}
+
+/// The entry of a bound program, if it has one in code of its own.
+pub(crate) fn entry_of(image: &Image) -> Option<u64>
+    ensures { result ≡ entry_of image.now }
+{
+    match image.objects() {
+        [] => None,
+        [program, ..] => own_entry(program, image.segments()),
+    }
+}

@@ -1,0 +1,19 @@
+//! A bound program as a static ELF executable for x86-64 (gABI chapters 4 and 5, elf(5)).
+//!
+//! `executable_of` makes the file of an image, which loads exactly that image: a PT_LOAD for the
+//! segments that share pages, one for the headers, PT_PHDR and PT_GNU_STACK. The file is started
+//! without a loader and without a registry.
+#![tactic(auto)]
+
+mod entry;
+mod executable;
+mod front;
+mod initializers;
+mod piece;
+mod pieces;
+mod place;
+mod refusal;
+mod segments;
+
+pub use executable::{Executable, executable_of};
+pub use refusal::ExecutableRefusal;

@@ -1,0 +1,147 @@
+// A part of an image that a file loads.
+
+ghost use Rattle.std.specs.Prelude.{◌≡◌, ◌+◌, ◌≤◌, length, take, IfOk, OnOk};
+ghost use Rattle.image.specs.Constant.{MEMORY_LIMIT};
+ghost use Rattle.image.specs.Permissions.{permission_bits};
+ghost use Rattle.executable.specs.Piece.{page_of, end_of, piece_of, shares_page, joined};
+ghost use Rattle.executable.specs.Piece.{without_zeros, finished};
+
+use crate::place::PAGE;
+use bitflags::Flags;
+use image::Segment;
+use std::alloc::{AllocError, Global};
+use std::marker::Model;
+
+/// What may be done with memory that may be written, as in `p_flags`.
+const PF_W: u32 = 2;
+
+/// The first address of a page.
+pub(crate) fn page_of(address: u64) -> u64
+    ensures { result ≡ page_of address }
+{
+    address - address % PAGE
+}
+
+/// The permissions of a segment, as in `p_flags`.
+fn flags_of(segment: &Segment) -> u32
+    ensures { result ≡ permission_bits segment.now.permissions }
+{
+    u32::from(segment.permissions().bits()) & 7
+}
+
+/// How many bytes there are before the zeros at the end.
+fn length_without_zeros(bytes: &[u8]) -> usize
+    ensures bound { result ≤ length bytes.now }
+    ensures kept { take result bytes.now ≡ without_zeros bytes.now }
+{
+    let mut length = bytes.len();
+    while length > 0 && bytes[length - 1] == 0 {
+        length -= 1;
+    }
+    length
+}
+
+/// A part of an image that a file loads: segments that share pages. Contracts see it as the reader
+/// of files sees a PT_LOAD in memory.
+#[derive(Drop)]
+pub(crate) struct Piece {
+    address: u64,
+    flags: u32,
+    size: u64,
+    contents: Vec<u8>,
+}
+
+impl Model for Piece {
+    ghost use Rattle.image.specs.Loading.{Loaded};
+
+    ghost Value = { Loaded };
+
+    ghost view = { λ p. record {
+      heading = record { address = p.address; permissions = p.flags; size = p.size };
+      contents = p.contents.items;
+    } };
+}
+
+impl Piece {
+    /// A segment as a piece.
+    pub(crate) fn of(alloc: Global, segment: &Segment) -> Result<Piece, AllocError>
+        ensures { IfOk result (λ piece. piece ≡ piece_of segment.now) }
+    {
+        Ok(Piece {
+            address: segment.address(),
+            flags: flags_of(segment),
+            size: segment.bytes().len() as u64,
+            contents: segment.bytes().to_vec(alloc)?,
+        })
+    }
+
+    /// The first address.
+    pub(crate) fn address(&self) -> u64
+        ensures { result ≡ self.now.heading.address }
+    {
+        self.address
+    }
+
+    /// What may be done with it, as in `p_flags`.
+    pub(crate) fn flags(&self) -> u32
+        ensures { result ≡ self.now.heading.permissions }
+    {
+        self.flags
+    }
+
+    /// Bytes of memory.
+    pub(crate) fn size(&self) -> u64
+        ensures { result ≡ self.now.heading.size }
+    {
+        self.size
+    }
+
+    /// The bytes that the file has.
+    pub(crate) fn contents(&self) -> &[u8]
+        ensures { result.now ≡ self.now.contents }
+    {
+        &self.contents
+    }
+
+    /// Where it ends.
+    pub(crate) fn end(&self) -> u64
+        requires { end_of self.now ≤ MEMORY_LIMIT }
+        ensures { result ≡ end_of self.now }
+    {
+        self.address + self.size
+    }
+
+    /// Whether its last page is the first of a segment behind it.
+    pub(crate) fn shares_page(&self, segment: &Segment) -> bool
+        requires { end_of self.now ≤ MEMORY_LIMIT }
+        ensures { result ≡ shares_page self.now segment.now }
+    {
+        page_of(segment.address()) < self.end()
+    }
+
+    /// Joins a segment behind it to it.
+    pub(crate) fn join(&mut self, segment: &Segment) -> Result<(), AllocError>
+        requires within { length self.old.contents ≤ self.old.heading.size }
+        requires behind { end_of self.old ≤ segment.now.address }
+        requires limit { segment.now.address + length segment.now.bytes ≤ MEMORY_LIMIT }
+        ensures { OnOk result (self.new ≡ joined self.old segment.now) }
+    {
+        let begin = segment.address() - self.address;
+        self.contents.resize(begin as usize, 0)?;
+        self.contents.extend_from_slice(segment.bytes())?;
+        self.flags |= flags_of(segment);
+        self.size = begin + segment.bytes().len() as u64;
+        Ok(())
+    }
+
+    /// The piece as the file has it: without the zeros at the end of one that may be written.
+    pub(crate) fn finish(mut self) -> Piece
+        ensures { result ≡ finished self }
+    {
+        if self.flags & PF_W == PF_W {
+            let length = length_without_zeros(&self.contents);
+            self.contents.truncate(length);
+        }
+        self
+    }
+}

@@ -1,0 +1,87 @@
+// Where a file's own headers are mapped.
+
+ghost use Rattle.std.specs.Prelude.{◌≡◌, ◌+◌, ◌-◌, ◌%◌, ◌^◌, ◌<◌, ◌≤◌, length};
+ghost use Rattle.std.specs.List.{All};
+ghost use Rattle.std.specs.Int.{next_multiple_of};
+ghost use Rattle.executable.specs.Piece.{end_of};
+ghost use Rattle.executable.specs.Place.{headers_size, headers_room, highest_end};
+ghost use Rattle.executable.specs.Place.{place_above, place_for, place_of};
+
+use crate::piece::{Piece, page_of};
+
+/// A page, in bytes.
+pub(crate) const PAGE: u64 = 4096;
+/// The highest address that memory may end at: a page below 2^47.
+pub(crate) const MEMORY_LIMIT: u64 = 0x7fff_ffff_f000;
+/// The lowest address that the kernel gives to whoever isn't root.
+const LOWEST: u64 = 0x10000;
+/// The most program headers that the kernel takes.
+pub(crate) const MOST_HEADERS: usize = 1170;
+
+/// Bytes of the file header and of so many program headers.
+pub(crate) fn headers_size(count: usize) -> u64
+    requires { count ≤ MOST_HEADERS }
+    ensures { result ≡ headers_size count }
+{
+    64 + 56 * count as u64
+}
+
+/// How many bytes are left to the end of the page behind so many.
+pub(crate) fn padding(size: u64) -> u64
+    ensures { result ≡ (PAGE - size % PAGE) % PAGE }
+{
+    (PAGE - size % PAGE) % PAGE
+}
+
+/// So many bytes in whole pages.
+pub(crate) fn whole_pages(size: u64) -> u64
+    requires { size < 2 ^ 63 }
+    ensures { result ≡ next_multiple_of size PAGE }
+{
+    size + padding(size)
+}
+
+/// The first page at or above an end, where so many bytes have room there.
+fn place_above(end: u64, room: u64) -> Option<u64>
+    requires end { end ≤ MEMORY_LIMIT }
+    requires room { room ≤ MEMORY_LIMIT }
+    ensures { result ≡ place_above end room }
+{
+    let place = whole_pages(end).max(LOWEST);
+    if place + room <= MEMORY_LIMIT {
+        Some(place)
+    } else {
+        None
+    }
+}
+
+/// The greatest address at which a piece ends.
+fn highest_end(pieces: &[Piece]) -> u64
+    requires { All (λ p. end_of p ≤ MEMORY_LIMIT) pieces.now }
+    ensures end { result ≡ highest_end pieces.now }
+    ensures bound { result ≤ MEMORY_LIMIT }
+{
+    let mut highest = 0;
+    for piece in pieces {
+        highest = highest.max(piece.end());
+    }
+    highest
+}
+
+/// Where the headers of pieces are mapped, `count` program headers of them.
+pub(crate) fn place_of(pieces: &[Piece]) -> Option<u64>
+    requires pieces { All (λ p. end_of p ≤ MEMORY_LIMIT) pieces.now }
+    requires count { length pieces.now + 3 ≤ MOST_HEADERS }
+    ensures { result ≡ place_of pieces.now }
+{
+    let room = whole_pages(headers_size(pieces.len() + 3));
+    let [first, ..] = pieces else {
+        return Some(LOWEST);
+    };
+    let page = page_of(first.address());
+    if LOWEST + room <= page {
+        Some(page - room)
+    } else {
+        place_above(highest_end(pieces), room)
+    }
+}

@@ -1,0 +1,42 @@
+// Why a bound program isn't written as an executable file.
+
+use names::Name;
+use std::alloc::AllocError;
+use thiserror::Error;
+
+/// Why an image isn't written as an executable file, in the order in which the tests are made.
+#[derive(Debug, Drop, PartialEq, Eq, Error)]
+pub enum ExecutableRefusal {
+    /// `e_entry` is 0, or in no segment of the program's own that may be executed.
+    #[error("the program has no entry in code of its own")]
+    NoEntry,
+    /// A library has a DT_INIT, or a DT_INIT_ARRAY with entries.
+    #[error("a library has initializers, which nobody would run")]
+    Initializers {
+        /// Its name.
+        name: Name,
+    },
+    /// The segments don't rise, or end above 2^47 - 4,096. No image that a bind gives is so.
+    #[error("the image is out of order")]
+    OutOfOrder,
+    /// There would be more than 1,170 program headers.
+    #[error("the image has more segments than the kernel takes")]
+    TooManyHeaders,
+    /// No pages from 0x10000 on, below or above the image, have room for the headers.
+    #[error("there is no room for the headers")]
+    NoRoom,
+    /// A growth of memory was refused.
+    #[error("memory was refused")]
+    OutOfMemory,
+}
+
+impl From<AllocError> for ExecutableRefusal {
+    ghost use Rattle.std.specs.Prelude.{◌≡◌};
+    ghost use Rattle.executable.specs.declared.refusal.ExecutableRefusal.TheVariants.{OutOfMemory};
+
+    ghost from_gives = { λ _ e. e ≡ OutOfMemory };
+
+    fn from(_: AllocError) -> ExecutableRefusal {
+        ExecutableRefusal::OutOfMemory
+    }
+}

@@ -1,0 +1,81 @@
+// An executable file is made, and refused, where memory is ample.
+
+use executable::{Executable, ExecutableRefusal, executable_of};
+use hash_check::Admitted;
+use image::{Image, bind_alone, bind_program};
+use names::Name;
+use samples::{SIZE, library, program, put};
+use scope::Library;
+use std::alloc::Global;
+use std::test::Fail;
+
+/// Where a file has its entry; of its PT_LOAD the permissions; the tag of its first dynamic entry.
+const ENTRY_AT: usize = 24;
+
+const FLAGS_AT: usize = 68;
+
+const TAG_AT: usize = 224;
+
+/// The sample, which may be executed, with this entry.
+fn with_entry(mut file: [u8; SIZE], entry: u64) -> [u8; SIZE] {
+    put(&mut file, FLAGS_AT, &[7]);
+    put(&mut file, ENTRY_AT, &entry.to_le_bytes());
+    file
+}
+
+/// The image of a program without libraries.
+fn alone(alloc: Global, file: &[u8]) -> Result<Image, Fail> {
+    bind_alone(alloc, file, 0x20000).map_err(|_| Fail::from("refused"))
+}
+
+/// The bytes of a file.
+fn bytes_of(alloc: Global, file: &Executable) -> Result<Vec<u8>, Fail> {
+    let mut bytes = Vec::new(alloc);
+    file.write_to(&mut bytes)?;
+    Ok(bytes)
+}
+
+/// The number of eight bytes, by readelf's names: e_entry at 24, p_offset of header i at 72 + 56 i.
+fn word(bytes: &[u8], at: usize) -> Option<u64> {
+    let word = bytes.get(at..at.saturating_add(8))?;
+    Some(elf_file::u64_at(word, 0))
+}
+
+#[test]
+fn a_file_is_made(rt: HostRuntime) -> Result<(), Fail> {
+    let alloc = rt.alloc();
+    let image = alone(alloc, &with_entry(library(b'a', 1), 0x40))?;
+    let file = executable_of(alloc, &image)?;
+    let bytes = bytes_of(alloc, &file)?;
+    assert_eq!(rt; bytes.len(), 8192);
+    assert_eq!(rt; word(&bytes, 24), Some(0x20040));
+    assert_eq!(rt; word(&bytes, 64 + 56 + 16), Some(0x1f000));
+    assert_eq!(rt; word(&bytes, 64 + 112 + 16), Some(0x20000));
+    assert_eq!(rt; word(&bytes, 64 + 112 + 40), Some(344));
+    Ok(())
+}
+
+#[test]
+fn a_program_without_an_entry(rt: HostRuntime) -> Result<(), Fail> {
+    let alloc = rt.alloc();
+    let image = alone(alloc, &with_entry(library(b'a', 1), 0))?;
+    assert!(rt; executable_of(alloc, &image).err() == Some(ExecutableRefusal::NoEntry));
+    Ok(())
+}
+
+#[test]
+fn a_library_with_initializers(rt: HostRuntime) -> Result<(), Fail> {
+    let alloc = rt.alloc();
+    let mut own = library(b'a', 1);
+    put(&mut own, TAG_AT, &[12]);
+    let object = Admitted::read(alloc, &own).map_err(|_| Fail::from("refused"))?;
+    let libraries = [Library { name: b"a", object }];
+    let file = with_entry(program(b'a'), 0x40);
+    let image = bind_program(alloc, &file, 0x20000, &libraries, &[]).map_err(|_| Fail::from(
+        "refused",
+    ))?;
+    let name = Name::copy_of(alloc, b"a")?;
+    let refusal = ExecutableRefusal::Initializers { name };
+    assert!(rt; executable_of(alloc, &image).err() == Some(refusal));
+    Ok(())
+}
