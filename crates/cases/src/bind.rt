@@ -5,9 +5,9 @@ use crate::number::parse_number;
 use crate::preload::preloads_of;
 use crate::shelf::{libraries_of, read_libraries};
 use anyhow::{Context, Result, bail};
-use commands::write_refusal;
 use image::{BindRefusal, Image, bind_program};
 use plain_registry::{are_preloads, have_distinct_names};
+use program_parts::write_refusal;
 use std::alloc::Global;
 use std::io::Write;
 

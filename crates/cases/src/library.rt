@@ -2,8 +2,8 @@
 
 use crate::file::changed_file;
 use anyhow::{Context, Result, bail};
-use commands::write_file_refusal;
 use hash_check::{Admitted, FileRefusal, ReadRefusal, elf_hash};
+use program_parts::write_file_refusal;
 use std::alloc::Global;
 use std::io::Write;
 use text_output::write_name;

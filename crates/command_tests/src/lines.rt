@@ -1,11 +1,11 @@
 // Lines of refusals: each goes out whole, with one write.
 
 use crate::streams::Full;
-use commands::{write_file_refusal, write_refusal};
 use elf_dynamic::ObjectRefusal;
 use hash_check::FileRefusal;
 use image::BindRefusal;
 use names::Name;
+use program_parts::{write_file_refusal, write_refusal};
 use std::alloc::{AllocError, Global};
 use std::test::Fail;
 

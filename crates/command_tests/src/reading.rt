@@ -2,7 +2,7 @@
 
 use crate::streams::Turn::{Fails, Gives};
 use crate::streams::{Turn, Turns};
-use commands::{FileFault, read_all};
+use program_parts::{FileFault, read_all};
 use std::alloc::Global;
 use std::io::ErrorKind;
 

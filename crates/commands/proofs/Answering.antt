@@ -9,7 +9,7 @@ use Rattle.store.specs.Opened.{Opened}
 use Rattle.registry.specs.Applied.{MayLeaveWithin}
 use Rattle.registry.specs.Phase.{phase_of}
 use Rattle.commands.specs.DiskStep.{DiskStep}
-use Rattle.commands.specs.Opening.{EndsOpening}
+use Rattle.registry.specs.Opening.{EndsOpening}
 use Rattle.commands.specs.OnDisk.{IsAnswered}
 
 module _ {D : Type 0} (facts : D → DiskFacts) (disk left : D) (old new : Opened D) (request : Request) (reply : Reply) where
@@ -25,11 +25,11 @@ module _ {D : Type 0} (facts : D → DiskFacts) (disk left : D) (old new : Opene
     new = new;
     step = step;
     applied = λ honest s stands.
-        let did = step.applied s (opened.stands honest s stands) in (
+        let did = step.applied s (opened.opened.stands honest s stands) in (
           did.0,
           did.1,
           subst (λ (d : D). LeavesOnly (facts disk) (facts d) (MayBeLeft s did.0)) (sym back)
-              (goes_on (MayBeLeft s did.0) (weaken _ (MayBeLeft s did.0) (λ m h. inl h) (opened.any_moment honest)) (weaken _ (MayBeLeft s did.0) (λ m h. inr h) did.1.any_moment)),
+              (goes_on (MayBeLeft s did.0) (weaken _ (MayBeLeft s did.0) (λ m h. inl h) (opened.opened.any_moment honest)) (weaken _ (MayBeLeft s did.0) (λ m h. inr h) did.1.any_moment)),
         );
     back = back;
   }

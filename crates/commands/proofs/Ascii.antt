@@ -7,8 +7,8 @@ use Rattle.std.specs.Str.{IsAscii, IsUtf8}
 use Rattle.std.specs.Str.Parse.{digits_value}
 use Rattle.std.proofs.lemmas.Str.{IsUtf8-from_ascii}
 use Rattle.std.proofs.lemmas.Bool.Decides.{nat_tests}
-use Rattle.commands.specs.Base.{is_base, base_of}
-use Rattle.commands.proofs.Digits.{and_left, and_right, base_digits, base_front}
+use Rattle.program_parts.specs.Base.{is_base, base_of}
+use Rattle.program_parts.proofs.Digits.{and_left, and_right, base_digits, base_front}
 
 small : (c : ℕ) → is_ascii_hexdigit c ≡ true → c < 128
 small c h = grind (arith, nat_tests)

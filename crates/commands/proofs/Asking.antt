@@ -16,16 +16,15 @@ use Rattle.store.specs.declared.refusal.StoreRefusal.TheVariants as store
 use Rattle.file_disk.specs.FileDisk.{file_facts, IsNew}
 use Rattle.file_disk.specs.declared.disk.FileDisk.{FileDisk}
 use Rattle.commands.specs.Disk.{disk_answer_text, IsOpenRefusal, IsFormatRefusal, IsUpgradeRefusal}
-use Rattle.program_parts.specs.Refusal.{disk_refusal_text}
+use Rattle.program_parts.specs.Refusal.{disk_refusal_text, memory_text}
 use Rattle.commands.specs.DiskStep.{DiskStep}
 use Rattle.commands.specs.OnDisk.{RequestEnds, FormatEnds, UpgradeEnds}
 use Rattle.commands.specs.Opened.{IsOpened, IsMade, IsUpgraded}
 use Rattle.commands.specs.Opening.{EndsMaking, EndsUpgrading}
-use Rattle.commands.specs.Printed.{IsTold}
-use Rattle.commands.specs.Refusal.{memory_text}
-use Rattle.commands.specs.Reply.{command_refusal_text, reply_text}
-use Rattle.commands.specs.Status.{disk_answer_status, refusal_status, reply_status}
-use Rattle.program_parts.specs.Status.{disk_status}
+use Rattle.program_parts.specs.Told.{IsTold}
+use Rattle.program_parts.specs.Reply.{command_refusal_text, reply_text}
+use Rattle.commands.specs.Status.{disk_answer_status}
+use Rattle.program_parts.specs.Status.{refusal_status, reply_status, disk_status}
 use Rattle.program_parts.specs.declared.status.Status.{Status}
 use Rattle.program_parts.specs.declared.status.Status.TheVariants.{Done, Refused, BadWords, Failed, NoMemory}
 use Rattle.commands.specs.Outcome.{are_bad, Asks, IsDone, IsRefused, LacksMemory, Replies, TurnsAway}
@@ -33,8 +32,8 @@ use Rattle.commands.specs.Script.{Streams}
 use Rattle.commands.specs.Words.{CommandLine, install, replace, remove, preload, list}
 use Rattle.commands.specs.declared.disk.NoRegistry.{NoRegistry}
 use Rattle.commands.specs.declared.disk.NoRegistry.TheVariants as no
-use Rattle.commands.specs.declared.file.FileFault.{FileFault}
-use Rattle.commands.specs.declared.file.FileFault.TheVariants.{CannotRead, OutOfMemory}
+use Rattle.program_parts.specs.declared.file.FileFault.{FileFault}
+use Rattle.program_parts.specs.declared.file.FileFault.TheVariants.{CannotRead, OutOfMemory}
 use Rattle.commands.specs.inside.Ends.{BindEnds, CommandEnds, IsFormatted, IsNoRegistry, IsNotRead, IsTurnedAway, IsWritten, Replied, SaysNoMemory, IsUpgradedOver}
 use Rattle.commands.proofs.Ending.{reply_answers}
 
@@ -194,7 +193,7 @@ module _ (F : Type 0) (before after : Option (List ℕ)) where
   request_replied disk left q status new (inl h) =
       let a = h.1 in written_replied disk a.old a.new q h.0 status (record { new = new; opening = a.opened }) a.step h.2
   request_replied disk left q status new (inr h) =
-      away_told (λ asked. asked ≡ q) status (told_away IsOpenRefusal h.0 status ((file_facts disk).sectors, h.1.refusals) h.2)
+      away_told (λ asked. asked ≡ q) status (told_away IsOpenRefusal h.0 status ((file_facts disk).sectors, h.1.opened.refusals) h.2)
 
   -- a registry was made, and that was told
   pub made_told : (n : ℕ) (disk : FileDisk F) (registry : Opened (FileDisk F)) (status : Status) → IsMade n disk registry
@@ -337,6 +336,9 @@ module _ (F : Type 0) (io : Streams) where
 
   pub list_ends : (disk : List ℕ) (status : Status) → Replied F (λ asked. asked ≡ request.list) io.before io.after status → CommandEnds F (Some (list disk)) io status
   list_ends disk status h = ends_as (list disk) refl (λ k. k) (λ k. k) (λ k. k) status h
+
+-- for a command whose words are paths alone
+pub ruleset commands_end = (install_ends, replace_ends, list_ends)
 
 module _ {F : Type 0} (n : ℕ) (disk : FileDisk F) where
   made_as : (making : Result (Opened (FileDisk F)) (StoreRefusal × FileDisk F)) → IsNew disk → (file_facts disk).sectors ≡ n → EndsMaking file_facts disk making

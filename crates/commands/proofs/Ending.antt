@@ -6,12 +6,12 @@ use Rattle.requests.specs.declared.refusal.Refusal.{Refusal}
 use Rattle.requests.specs.declared.refusal.Refusal.TheVariants as refusal
 use Rattle.requests.specs.declared.reply.Reply.{Reply}
 use Rattle.requests.specs.declared.reply.Reply.TheVariants as reply
-use Rattle.commands.specs.declared.file.FileFault.{FileFault}
-use Rattle.commands.specs.declared.file.FileFault.TheVariants.{CannotRead, OutOfMemory}
+use Rattle.program_parts.specs.declared.file.FileFault.{FileFault}
+use Rattle.program_parts.specs.declared.file.FileFault.TheVariants.{CannotRead, OutOfMemory}
 use Rattle.program_parts.specs.declared.status.Status.{Status}
 use Rattle.program_parts.specs.declared.status.Status.TheVariants.{Done, Refused, BadWords, Failed, NoMemory}
-use Rattle.commands.specs.File.{read_limit}
-use Rattle.commands.specs.Status.{reply_status, refusal_status}
+use Rattle.program_parts.specs.File.{read_limit}
+use Rattle.program_parts.specs.Status.{reply_status, refusal_status}
 use Rattle.commands.specs.inside.Ends.{ImageEnds, IsShown, IsNotRead}
 
 shown_ends : (file : List ℕ) (base : ℕ) (asked : Option ℕ) (before after : Option (List ℕ)) (status : Status) → asked ≡ Some base

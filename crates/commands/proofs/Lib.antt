@@ -1,8 +1,7 @@
 pub mod Answering
 pub mod Asking
-pub mod Digits
+pub mod Decimals
 pub mod Ending
-pub mod Forms
 pub mod Fronts
 pub mod Ascii
 pub mod Lines
@@ -12,7 +11,6 @@ pub mod Pieces
 pub mod ScriptRuns
 pub mod Saying
 pub mod Scripts
-pub mod Then
 pub mod Seen
 pub mod Sent
 pub mod Statuses

@@ -140,7 +140,7 @@ pub disk_script_ends : (F : Type 0) (disk left : FileDisk F) (io : Streams) (sta
 disk_script_ends F disk left io status new words (inl h) =
     run_ends F disk h.old h.new io status (record { new = new; opening = h.opened }) h.empty h.alone words (run_of file_facts io h.old h.new status h.run)
 disk_script_ends F disk left io status new words (inr h) =
-    away_ends F io status (told_away F io.before io.after IsOpenRefusal h.0 status ((file_facts disk).sectors, h.1.refusals) h.2)
+    away_ends F io status (told_away F io.before io.after IsOpenRefusal h.0 status ((file_facts disk).sectors, h.1.opened.refusals) h.2)
 
 pub away_script : (F : Type 0) (io : Streams) (why : NoRegistry) (status : Status) → IsNoRegistry IsOpenRefusal why → IsTurnedAway (λ r. why ≡ no.Refused r) io.before io.after status → ScriptEnds F io status
 away_script F io why Done is h = absurd h

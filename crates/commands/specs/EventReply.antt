@@ -3,7 +3,7 @@ use Rattle.std.specs.Prelude.{ℕ, List, ◌++◌, codes}
 use Rattle.std.specs.Fmt.{decimal}
 use Rattle.binders.specs.declared.event.EventReply.{EventReply}
 use Rattle.binders.specs.declared.event.EventReply.TheVariants.{Replied, Slot, Going}
-use Rattle.commands.specs.Reply.{reply_text}
+use Rattle.program_parts.specs.Reply.{reply_text}
 
 -- the line of a slot in which a binder was begun
 abbrev pub slot_text : ℕ → List ℕ

@@ -8,7 +8,7 @@ use Rattle.std.specs.Result.{result_ok}
 use Rattle.hex.specs.Hex.{decode_of}
 use Rattle.requests.specs.Request.{install, replace, remove, set_preloads, bind, list}
 use Rattle.binders.specs.Events.{Happening, apply, begin, advance, cancel}
-use Rattle.commands.specs.Base.{base_of}
+use Rattle.program_parts.specs.Base.{base_of}
 
 -- HEX: one or more pairs of hexadecimal digits of either case, and the bytes that they spell
 abbrev pub hex_bytes : List ℕ → Option (List ℕ)

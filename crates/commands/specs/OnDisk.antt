@@ -16,13 +16,14 @@ use Rattle.commands.specs.Disk.{disk_answer_text}
 use Rattle.program_parts.specs.Refusal.{disk_refusal_text}
 use Rattle.commands.specs.DiskScript.{LinesRan}
 use Rattle.commands.specs.DiskStep.{DiskStep}
-use Rattle.commands.specs.Opening.{EndsOpening, EndsMaking, EndsUpgrading}
+use Rattle.commands.specs.Opening.{EndsMaking, EndsUpgrading}
+use Rattle.registry.specs.Opening.{EndsOpening}
 use Rattle.commands.specs.Outcome.{Worsens}
-use Rattle.commands.specs.Printed.{IsTold}
-use Rattle.commands.specs.Reply.{reply_text}
+use Rattle.program_parts.specs.Told.{IsTold}
+use Rattle.program_parts.specs.Reply.{reply_text}
 use Rattle.commands.specs.Script.{Streams, Ends, Breaks}
-use Rattle.commands.specs.Status.{greatest, reply_status, disk_answer_status, fault_status, lines_status}
-use Rattle.program_parts.specs.Status.{disk_status}
+use Rattle.commands.specs.Status.{greatest, disk_answer_status, fault_status, lines_status}
+use Rattle.program_parts.specs.Status.{reply_status, disk_status}
 use Rattle.commands.specs.declared.answer.Answer.{Answer}
 use Rattle.commands.specs.declared.fault.ScriptFault.{ScriptFault}
 use Rattle.program_parts.specs.declared.status.Status.{Status}

@@ -3,7 +3,8 @@ use Rattle.std.specs.Prelude.{◌≡◌, ℕ, Ok}
 use Rattle.store.specs.Opened.{Opened}
 use Rattle.file_disk.specs.FileDisk.{file_facts, IsNew}
 use Rattle.file_disk.specs.declared.disk.FileDisk.{FileDisk}
-use Rattle.commands.specs.Opening.{EndsOpening, EndsMaking, EndsUpgrading}
+use Rattle.commands.specs.Opening.{EndsMaking, EndsUpgrading}
+use Rattle.registry.specs.Opening.{EndsOpening}
 
 -- it was opened on a new disk: of a good size, without failure, by exactly the calls of opening,
 -- and nothing is held

@@ -1,45 +1,20 @@
--- What opening, making or upgrading the registry on a disk ends with (own).
+-- What making or upgrading the registry on a disk ends with (own).
 use Rattle.std.specs.Prelude.{◌≡◌, ◌≢◌, ◌+◌, ◌<◌, ◌⊎◌, [], Result, IsTrue, IsFalse, IfOk, IfErr, OnOk, MatchResult, length, sum_by}
 use Rattle.sector_disk.specs.Disk.{DiskFacts, Mixture, LeavesOnly, AreCalls, AreCallsExactly, AreCallsAtMost}
 use Rattle.states.specs.Cost.{catalogues_for}
 use Rattle.states.specs.Geometry.{IsGeometry}
 use Rattle.states.specs.State.{State, empty_state}
 use Rattle.store.specs.Opened.{Opened, disk_after}
-use Rattle.store.specs.Opening.{HasRootMagic, RefusesFormat, RefusesLook, RefusesOpen, IsRefusalOfFormat, IsRefusalOfOpen, IsRefusalOfUpgrade}
+use Rattle.store.specs.Opening.{HasRootMagic, RefusesFormat, RefusesLook, IsRefusalOfFormat, IsRefusalOfUpgrade}
 use Rattle.store.specs.Stands.{catalogues_of}
 use Rattle.store.specs.Step.{refusal_of_upgrade, answer_of, IsUpgradeAnswer}
 use Rattle.store.specs.Upgraded.{upgraded, IsRelistedFrom}
 use Rattle.store.specs.declared.refusal.StoreRefusal.{StoreRefusal}
-use Rattle.store.specs.declared.refusal.StoreRefusal.TheVariants.{Device, AlreadyFormatted, BadGeometry, OutOfMemory, OldFormat}
+use Rattle.store.specs.declared.refusal.StoreRefusal.TheVariants.{Device, AlreadyFormatted, BadGeometry, OutOfMemory}
 use Rattle.registry.specs.Opened.{IsAt}
-use Rattle.registry.specs.Stands.{Stands, StandsOld, StandsEither, file_sectors}
+use Rattle.store.specs.IsRead.{file_sectors}
+use Rattle.registry.specs.Stands.{Stands, StandsOld, StandsEither}
 use Rattle.registry.specs.Upgraded.{IsNotOld, IsUpgradeOf}
-
--- the registry that the disk holds was opened, or the disk was refused and handed back
-pub record EndsOpening {D : Type 0} (facts : D → DiskFacts) (disk : D) (opening : Result (Opened D) (StoreRefusal × D)) : Type 0 where
-  -- what reads of an honest disk give holds one state and no other, and the registry is at it
-  pub ok : IsTrue (facts disk).honest → IfOk opening (λ registry.
-      (s : State) × Stands (facts disk).now s × IsAt facts registry s × ((other : State) → Stands (facts disk).now other → other ≡ s))
-  -- where they hold one, only a failed call or want of memory is a reason to refuse
-  pub stands : IsTrue (facts disk).honest → (s : State) → Stands (facts disk).now s
-      → MatchResult opening (λ registry. IsAt facts registry s) (λ e. (e.0 ≡ Device) ⊎ (e.0 ≡ OutOfMemory))
-  pub refused : IsTrue (facts disk).honest → IfErr opening (λ e. RefusesOpen Stands (facts disk).now e.0)
-  -- nothing was written
-  pub any_moment : IsTrue (facts disk).honest → LeavesOnly (facts disk) (facts (disk_after opening)) (Mixture (facts disk))
-  pub now : IsTrue (facts disk).honest → (facts (disk_after opening)).now ≡ (facts disk).now
-  -- the rest holds on any disk, also on one that lies
-  pub geometry : IfOk opening (λ registry. IsGeometry (facts disk).sectors)
-  pub usable : IfOk opening (λ registry. IsFalse registry.failed)
-  pub unheld : IfOk opening (λ registry. registry.held ≡ [])
-  pub refusals : IfErr opening (λ e. IsRefusalOfOpen (facts disk).sectors e.0)
-  pub device : IfErr opening (λ e. e.0 ≡ Device → (facts disk).failures < (facts e.1).failures)
-  pub untouched : IfErr opening (λ e. e.0 ≡ BadGeometry → e.1 ≡ disk)
-  pub calls : AreCalls (facts disk) (facts (disk_after opening))
-  -- it made exactly the calls of opening; of a disk of version 1 it read the roots alone
-  pub all_calls : IfOk opening (λ registry.
-      AreCallsExactly (3 + length (catalogues_of registry.root) + length registry.entries + sum_by file_sectors registry.entries)
-      (facts disk) (facts registry.disk))
-  pub old_calls : IfErr opening (λ e. e.0 ≡ OldFormat → AreCallsExactly 3 (facts disk) (facts e.1))
 
 -- an empty registry was made on the disk, or the disk was refused and handed back
 pub record EndsMaking {D : Type 0} (facts : D → DiskFacts) (disk : D) (making : Result (Opened D) (StoreRefusal × D)) : Type 0 where

@@ -11,19 +11,18 @@ use Rattle.store.specs.Opened.{Opened}
 use Rattle.store.specs.declared.refusal.StoreRefusal.{StoreRefusal}
 use Rattle.file_disk.specs.FileDisk.{file_facts}
 use Rattle.file_disk.specs.declared.disk.FileDisk.{FileDisk}
-use Rattle.commands.specs.Base.{base_of}
+use Rattle.program_parts.specs.Base.{base_of}
 use Rattle.commands.specs.Disk.{IsOpenRefusal, IsFormatRefusal, IsUpgradeRefusal}
-use Rattle.program_parts.specs.Refusal.{disk_refusal_text}
+use Rattle.program_parts.specs.Refusal.{disk_refusal_text, memory_text}
 use Rattle.commands.specs.DiskStep.{DiskStep}
 use Rattle.binders.specs.EventsRan.{EventStep}
-use Rattle.commands.specs.File.{read_limit}
+use Rattle.program_parts.specs.File.{read_limit}
 use Rattle.commands.specs.Opened.{IsOpened, IsMade, IsUpgraded}
 use Rattle.commands.specs.Printed.{PrintsImage, PrintsRefusal}
-use Rattle.commands.specs.Refusal.{memory_text}
-use Rattle.commands.specs.Reply.{reply_text}
+use Rattle.program_parts.specs.Reply.{reply_text}
 use Rattle.commands.specs.Script.{Streams, Finishes, Stops}
-use Rattle.commands.specs.Status.{greatest, reply_status, event_status, fault_status, lines_status}
-use Rattle.program_parts.specs.Status.{disk_status}
+use Rattle.commands.specs.Status.{greatest, event_status, fault_status, lines_status}
+use Rattle.program_parts.specs.Status.{reply_status, disk_status}
 use Rattle.commands.specs.Words.{CommandLine, image, format, upgrade, install, replace, remove, preload, list, bind, script}
 use Rattle.commands.specs.declared.fault.ScriptFault.{ScriptFault}
 use Rattle.program_parts.specs.declared.status.Status.{Status}

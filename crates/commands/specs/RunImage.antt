@@ -8,7 +8,7 @@ use Rattle.image.specs.Text.{image_text}
 use Rattle.image.specs.Refusal.{alone_refusal, WantsMemory}
 use Rattle.commands.specs.declared.show.Shown.{Shown}
 use Rattle.commands.specs.declared.show.Shown.TheVariants as shown
-use Rattle.commands.specs.Refusal.{refusal_text, memory_text}
+use Rattle.program_parts.specs.Refusal.{refusal_text, memory_text}
 
 -- exactly this was appended: the text of the image, or of the refusal, or of want of memory
 abbrev pub Shows : List ℕ → ℕ → Option (List ℕ) → Option (List ℕ) → Shown → Type 0

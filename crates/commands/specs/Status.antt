@@ -1,10 +1,5 @@
 -- Exit statuses.
 use Rattle.std.specs.Prelude.{ℕ, ◌==◌, Result, Ok, Err, if◌then◌else◌, nat_lt}
-use Rattle.image.specs.declared.refusal.BindRefusal.TheVariants as bind
-use Rattle.requests.specs.declared.refusal.Refusal.{Refusal}
-use Rattle.requests.specs.declared.refusal.Refusal.TheVariants as refusal
-use Rattle.requests.specs.declared.reply.Reply.{Reply}
-use Rattle.requests.specs.declared.reply.Reply.TheVariants as reply
 use Rattle.binders.specs.declared.event.EventReply.{EventReply}
 use Rattle.binders.specs.declared.event.EventReply.TheVariants as event
 use Rattle.store.specs.declared.refusal.StoreRefusal.{StoreRefusal}
@@ -12,7 +7,7 @@ use Rattle.commands.specs.declared.fault.ScriptFault.{ScriptFault}
 use Rattle.commands.specs.declared.fault.ScriptFault.TheVariants as fault
 use Rattle.commands.specs.declared.show.Shown.{Shown}
 use Rattle.commands.specs.declared.show.Shown.TheVariants as shown
-use Rattle.program_parts.specs.Status.{disk_status, status_number}
+use Rattle.program_parts.specs.Status.{disk_status, reply_status, status_number}
 use Rattle.program_parts.specs.declared.status.Status.{Status}
 use Rattle.program_parts.specs.declared.status.Status.TheVariants.{Done, Refused, Failed, NoMemory}
 
@@ -27,19 +22,6 @@ status_of (Ok shown.Refused) = Refused
 status_of (Ok shown.NoMemory) = NoMemory
 status_of (Err fault.OutOfMemory) = NoMemory
 status_of (Err other) = Failed
-
--- what a refusal of a command ends with: S1 and S2 are failures, and S11 is want of memory
-abbrev pub refusal_status : Refusal → Status
-refusal_status refusal.Device = Failed
-refusal_status refusal.Reopen = Failed
-refusal_status refusal.OutOfMemory = NoMemory
-refusal_status (refusal.Bind bind.OutOfMemory) = NoMemory
-refusal_status other = Refused
-
--- what a reply ends with
-abbrev pub reply_status : Reply → Status
-reply_status (reply.Refused refusal) = refusal_status refusal
-reply_status other = Done
 
 -- what an event ends with that is answered so
 abbrev pub event_status : EventReply → Status

@@ -2,5 +2,4 @@ pub mod Access
 pub mod Asked
 pub mod Ends
 pub mod Progress
-pub mod Short
 pub mod Watched

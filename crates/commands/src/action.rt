@@ -1,11 +1,11 @@
 // The commands of the program, and which of them words are.
 
-ghost use Rattle.std.specs.Prelude.{◌≡◌, ◌∷◌, map, string_bytes};
+ghost use Rattle.std.specs.Prelude.{◌≡◌, map, string_bytes};
 ghost use Rattle.std.specs.Option.{option_map};
 ghost use Rattle.commands.specs.Words.{command_line, line_of};
 ghost use Rattle.commands.specs.inside.Access.{disk_of};
 
-use crate::sectors::parse_sectors;
+use crate::form::read_form;
 
 /// A command of the program with its words in their order, each as it stands in the command line.
 /// The first word of all but one is the path of the file that is the disk.
@@ -96,33 +96,6 @@ impl<'a> Action<'a> {
             | Action::Bind { disk, .. }
             | Action::Script { disk } => Some(disk),
         }
-    }
-}
-
-/// The command of this name and these words.
-fn read_form<'a>(name: &str, words: &'a [String]) -> Option<Action<'a>>
-    ensures { option_map line_of result
-        ≡ command_line (name.now ∷ map (λ word. string_bytes word) words.now) }
-{
-    match (name, words) {
-        ("image", [program, base]) => Some(Action::Image { program, base }),
-        ("format", [disk, sectors]) => {
-            let sectors = parse_sectors(sectors)?;
-            Some(Action::Format { disk, sectors })
-        }
-        ("upgrade", [disk]) => Some(Action::Upgrade { disk }),
-        ("install", [disk, file]) => Some(Action::Install { disk, file }),
-        ("replace", [disk, file]) => Some(Action::Replace { disk, file }),
-        ("remove", [disk, name]) => Some(Action::Remove { disk, name }),
-        ("preload", [disk, names @ ..]) => Some(Action::Preload { disk, names }),
-        ("list", [disk]) => Some(Action::List { disk }),
-        ("bind", [disk, program, base]) => Some(Action::Bind {
-            disk,
-            program,
-            base,
-        }),
-        ("script", [disk]) => Some(Action::Script { disk }),
-        _ => None,
     }
 }
 

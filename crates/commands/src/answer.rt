@@ -10,15 +10,15 @@ ghost use Rattle.commands.specs.inside.Asked.{happening_asked};
 use crate::asked::Asked;
 use crate::event_reply::put_event_reply;
 use crate::fault::ScriptFault;
-use crate::refusal::Line;
 use crate::takes_events::TakesEvents;
 use binders::{Event, EventReply};
+use program_parts::Line;
 use requests::{Command, Reply};
 use std::io::Write;
 
 /// The answer to a line.
 #[derive(Drop)]
-pub(crate) enum Answer {
+pub enum Answer {
     /// What the event is answered that the line asks.
     Replied(EventReply),
     /// L1: the line asks nothing.

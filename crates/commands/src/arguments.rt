@@ -4,7 +4,7 @@ ghost use Rattle.std.specs.Prelude.{◌≡◌, ◌≢◌, ◌≤◌, ◌==◌, �
 ghost use Rattle.std.specs.Prelude.{IfOk, IfErr, OnErr, false};
 ghost use Rattle.std.specs.IoError.{error_kind};
 ghost use Rattle.commands.specs.Outcome.{are_bad, reads_input, IsDone, IsRefused, LacksMemory};
-ghost use Rattle.commands.specs.Refusal.{memory_text};
+ghost use Rattle.program_parts.specs.Refusal.{memory_text};
 ghost use Rattle.commands.specs.Said.{bad_text, words_text};
 ghost use Rattle.program_parts.specs.Said.{AppendsFront};
 ghost use Rattle.commands.specs.Words.{command_line};

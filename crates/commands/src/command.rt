@@ -2,8 +2,8 @@
 
 ghost use Rattle.std.specs.Prelude.{◌≡◌, ◌≢◌, ◌≤◌, ◌<◌, ◌==◌, ◌⊎◌, true, false};
 ghost use Rattle.std.specs.Prelude.{Some, None, MatchResult, IfOk, map, string_bytes, vec_len};
-ghost use Rattle.commands.specs.Base.{base_of};
-ghost use Rattle.commands.specs.File.{read_limit};
+ghost use Rattle.program_parts.specs.Base.{base_of};
+ghost use Rattle.program_parts.specs.File.{read_limit};
 ghost use Rattle.commands.specs.Outcome.{are_bad, reads_input, IsDone, IsRefused, LacksMemory};
 ghost use Rattle.commands.specs.Said.{bad_text, base_text};
 ghost use Rattle.program_parts.specs.Said.{AppendsFront};
@@ -13,15 +13,13 @@ ghost use Rattle.commands.specs.inside.Ends.{CommandEnds, ImageEnds, IsNotRead, 
 ghost use Rattle.file_disk.specs.declared.disk_file.DiskFile.{DiskFile};
 
 use crate::action::{Action, read_words};
-use crate::base::parse_base;
-use crate::file::{FileFault, read_file};
 use crate::message::{bad_base, bad_command_line, cannot_read};
 use crate::on_disk::{ask, bind, format, install, preload, replace, upgrade};
 use crate::script_on_disk::script;
 use crate::show::run_image;
 use crate::status::status_of;
 use crate::unread::not_read;
-use program_parts::{Behind, Status, behind_streams};
+use program_parts::{Behind, FileFault, Status, behind_streams, parse_base, read_file};
 use requests::Command;
 use std::alloc::Global;
 use std::fs::File;
@@ -73,7 +71,7 @@ fn image<R: Files, O: Write, E: Write>(
 }
 
 /// Does a command.
-#[tactic(auto, using(crate::proofs::Asking::install_ends, crate::proofs::Asking::replace_ends, crate::proofs::Asking::remove_ends, crate::proofs::Asking::preload_ends, crate::proofs::Asking::list_ends))]
+#[tactic(auto, using(crate::proofs::Asking::commands_end))]
 fn run_action<R: Files<File = File> + Clock, I: Read, O: Write, E: Write>(
     rt: &R,
     alloc: Global,

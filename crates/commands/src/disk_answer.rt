@@ -1,12 +1,10 @@
 // What is told of a disk on which a registry was to be opened, made or upgraded.
 
 ghost use Rattle.commands.specs.Disk.{disk_answer_text};
-ghost use Rattle.commands.specs.Printed.{IsTold};
+ghost use Rattle.program_parts.specs.Told.{IsTold};
 ghost use Rattle.commands.specs.Status.{disk_answer_status};
 
-use crate::disk_refusal::write_disk_refusal;
-use crate::reply::write_reply;
-use program_parts::Status;
+use program_parts::{Status, write_disk_refusal, write_reply};
 use requests::Reply;
 use std::io::Write;
 use store::StoreRefusal;

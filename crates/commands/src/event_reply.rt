@@ -6,9 +6,8 @@ ghost use Rattle.text_output.specs.Sends.{Sends};
 ghost use Rattle.commands.specs.EventReply.{event_text, slot_text};
 
 use crate::fault::ScriptFault;
-use crate::refusal::Line;
-use crate::reply::put_reply;
 use binders::EventReply;
+use program_parts::{Line, put_reply};
 use std::io::Write;
 use text_output::WriteFault;
 

@@ -2,7 +2,7 @@
 
 ghost use Rattle.std.specs.Prelude.{◌≡◌, false, map, string_bytes, IfOk};
 ghost use Rattle.requests.specs.Request.{request_of};
-ghost use Rattle.commands.specs.Base.{base_of};
+ghost use Rattle.program_parts.specs.Base.{base_of};
 ghost use Rattle.commands.specs.Outcome.{Asks};
 ghost use Rattle.commands.specs.Words as words;
 ghost use Rattle.commands.specs.Said.{base_text};
@@ -11,15 +11,13 @@ ghost use Rattle.commands.specs.inside.Ends.{Replied, IsSaid};
 ghost use Rattle.file_disk.specs.declared.disk_file.DiskFile.{DiskFile};
 
 use crate::access::{Access, access_of};
-use crate::base::parse_base;
 use crate::disk::{make_registry, no_disk, open_disk, turn_away};
 use crate::disk_answer::write_disk_answer;
-use crate::file::read_file;
 use crate::making::run_upgrade;
 use crate::message::bad_base;
 use crate::request::run_request;
 use crate::unread::{no_memory, not_read};
-use program_parts::Status;
+use program_parts::{Status, parse_base, read_file};
 use requests::Command;
 use std::alloc::{AllocError, Global};
 use std::fs::File;

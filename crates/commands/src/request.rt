@@ -7,9 +7,7 @@ ghost use Rattle.commands.specs.OnDisk.{RequestEnds};
 ghost use Rattle.commands.specs.inside.Ends.{IsWritten};
 
 use crate::disk_answer::write_disk_answer;
-use crate::reply::write_reply;
-use crate::status::reply_status;
-use program_parts::Status;
+use program_parts::{Status, write_reply};
 use registry::Registry;
 use requests::{Command, Reply};
 use sector_disk::Disk;
@@ -21,7 +19,7 @@ fn tell<O: Write>(reply: &Reply, output: &mut O) -> Status
     ensures { IsWritten reply.now (O.contents output.old) (O.contents output.new) result }
 {
     match write_reply(output, reply) {
-        Ok(()) => reply_status(reply),
+        Ok(()) => Status::of_reply(reply),
         Err(_) => Status::Failed,
     }
 }

@@ -17,9 +17,9 @@ use crate::answer::{Answer, answer_asked, asks_change, is_refused, put_answer};
 use crate::asked::{Asked, parse_line};
 use crate::fault::ScriptFault;
 use crate::reading::{Got, read_line};
-use crate::refusal::Line;
 use crate::summary::Summary;
 use crate::takes_events::TakesEvents;
+use program_parts::Line;
 use std::alloc::Global;
 use std::io::{BufReader, Read, Write};
 

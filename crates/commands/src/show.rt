@@ -4,10 +4,11 @@ ghost use Rattle.std.specs.Prelude.{◌≡◌, IfOk, IfErr};
 ghost use Rattle.commands.specs.RunImage.{Shows};
 
 use crate::fault::ScriptFault;
-use crate::refusal::{write_memory, write_refusal};
 use image::{BindRefusal, bind_alone};
+use program_parts::{write_disk_refusal, write_refusal};
 use std::alloc::Global;
 use std::io::Write;
+use store::StoreRefusal;
 
 /// What was shown.
 #[derive(Clone, Copy, Debug, PartialEq, Eq)]
@@ -38,7 +39,7 @@ pub fn run_image<W: Write>(
             Err(_) => Err(ScriptFault::Write),
         },
         Err(BindRefusal::OutOfMemory) => {
-            write_memory(writer)?;
+            write_disk_refusal(writer, StoreRefusal::OutOfMemory)?;
             Ok(Shown::NoMemory)
         }
         Err(refusal) => {

@@ -1,18 +1,13 @@
 // How a run of the program ends.
 
 ghost use Rattle.std.specs.Prelude.{◌≡◌};
-ghost use Rattle.commands.specs.Status.{greatest, status_of, refusal_status};
-ghost use Rattle.program_parts.specs.Status.{status_number};
-ghost use Rattle.commands.specs.Status.{reply_status, event_status, fault_status};
-ghost use Rattle.program_parts.specs.Status.{disk_status};
+ghost use Rattle.commands.specs.Status.{greatest, status_of, event_status, fault_status};
 ghost use Rattle.commands.specs.Status.{lines_status};
 
 use crate::fault::ScriptFault;
 use crate::show::Shown;
 use binders::EventReply;
-use image::BindRefusal;
 use program_parts::Status;
-use requests::{Refusal, Reply};
 
 /// The one of the greater number.
 pub(crate) fn greatest(status: Status, other: Status) -> Status
@@ -37,33 +32,12 @@ pub(crate) fn status_of(shown: Result<Shown, ScriptFault>) -> Status
     }
 }
 
-/// What a refusal of a command ends with.
-fn refusal_status(refusal: &Refusal) -> Status
-    ensures { result ≡ refusal_status refusal.now }
-{
-    match refusal {
-        Refusal::Device | Refusal::Reopen => Status::Failed,
-        Refusal::OutOfMemory | Refusal::Bind(BindRefusal::OutOfMemory) => Status::NoMemory,
-        _ => Status::Refused,
-    }
-}
-
-/// What a reply ends with.
-pub(crate) fn reply_status(reply: &Reply) -> Status
-    ensures { result ≡ reply_status reply.now }
-{
-    match reply {
-        Reply::Refused(refusal) => refusal_status(refusal),
-        _ => Status::Done,
-    }
-}
-
 /// What an event ends with that is answered so.
 pub(crate) fn event_status(reply: &EventReply) -> Status
     ensures { result ≡ event_status reply.now }
 {
     match reply {
-        EventReply::Replied(reply) => reply_status(reply),
+        EventReply::Replied(reply) => Status::of_reply(reply),
         EventReply::Slot(_) | EventReply::Going => Status::Done,
     }
 }

@@ -4,17 +4,16 @@ ghost use Rattle.std.specs.Prelude.{◌≡◌, false};
 ghost use Rattle.commands.specs.Said.{base_text};
 ghost use Rattle.commands.specs.inside.Ends.{IsNotRead, SaysNoMemory, IsSaid};
 
-use crate::file::FileFault;
 use crate::message::cannot_read;
-use crate::refusal::write_memory;
-use program_parts::Status;
+use program_parts::{FileFault, Status, write_disk_refusal};
 use std::io::Write;
+use store::StoreRefusal;
 
 /// Writes that memory was refused.
 pub(crate) fn no_memory<O: Write>(output: &mut O) -> Status
     ensures { SaysNoMemory (O.contents output.old) (O.contents output.new) result }
 {
-    match write_memory(output) {
+    match write_disk_refusal(output, StoreRefusal::OutOfMemory) {
         Ok(()) => Status::NoMemory,
         Err(_) => Status::Failed,
     }

@@ -3,11 +3,11 @@
 ghost use Rattle.std.specs.Prelude.{◌≡◌, ◌==◌, ◌≤◌, map, take_while, length, not, IfOk};
 ghost use Rattle.std.specs.List.{list_all, slice_split};
 ghost use Rattle.std.specs.Option.{option_map};
-ghost use Rattle.commands.specs.Base.{base_of};
+ghost use Rattle.program_parts.specs.Base.{base_of};
 ghost use Rattle.commands.specs.Line.{is_visible, is_name, named, names_behind};
 ghost use Rattle.commands.specs.Line.{slot_of, word_in_front};
 
-use crate::base::parse_base;
+use program_parts::parse_base;
 use std::alloc::{AllocError, Global};
 use std::str;
 

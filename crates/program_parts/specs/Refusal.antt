@@ -9,6 +9,9 @@ use Rattle.elf_file.specs.declared.refusal.ObjectRefusal.TheVariants.{BadEntrySi
 use Rattle.elf_file.specs.declared.refusal.ObjectRefusal.TheVariants.{BadBinding, RelocationType, RelocationSymbol, RelocationPlace, BadSoname}
 use Rattle.hash_check.specs.declared.file_refusal.FileRefusal.{FileRefusal}
 use Rattle.hash_check.specs.declared.file_refusal.FileRefusal.TheVariants.{Object, DuplicateDefinition, BadHashTable}
+use Rattle.image.specs.declared.refusal.BindRefusal.{BindRefusal}
+use Rattle.image.specs.declared.refusal.BindRefusal.TheVariants as bind
+use Rattle.text_output.specs.Name.{name_text}
 use Rattle.store.specs.declared.refusal.StoreRefusal.{StoreRefusal}
 use Rattle.store.specs.declared.refusal.StoreRefusal.TheVariants.{Device, Reopen, NotFormatted, AlreadyFormatted, Damaged, BadGeometry}
 use Rattle.store.specs.declared.refusal.StoreRefusal.TheVariants.{Full, Fragmented, TooMany, GenerationEnd, OutOfMemory, OldFormat}
@@ -76,3 +79,20 @@ disk_refusal_name OldFormat = codes "S12 OldFormat"
 -- the line of the refusal
 abbrev pub disk_refusal_text : StoreRefusal → List ℕ
 disk_refusal_text refusal = codes "refused " ++ disk_refusal_name refusal ++ codes "\n"
+
+-- the line of want of memory
+abbrev pub memory_text : List ℕ
+memory_text = disk_refusal_text OutOfMemory
+
+-- the line of a refusal that names an object, and what it lacks
+abbrev pub named_text : List ℕ → List ℕ → List ℕ → List ℕ
+named_text head first second = head ++ name_text first ++ codes " " ++ name_text second ++ codes "\n"
+
+-- the line of the answer to a bind that gives no image
+abbrev pub refusal_text : BindRefusal → List ℕ
+refusal_text (bind.Program refusal) = codes "refused B1 " ++ file_refusal_text refusal ++ codes "\n"
+refusal_text bind.BadBase = codes "refused B2 BadBase\n"
+refusal_text (bind.Missing needer name) = named_text (codes "refused B3 Missing ") needer name
+refusal_text bind.NoRoom = codes "refused B4 NoRoom\n"
+refusal_text (bind.Undefined object symbol) = named_text (codes "refused B5 Undefined ") object symbol
+refusal_text bind.OutOfMemory = memory_text

@@ -1,5 +1,10 @@
 -- What exit statuses say (own).
 use Rattle.std.specs.Prelude.{ℕ}
+use Rattle.image.specs.declared.refusal.BindRefusal.TheVariants as bind
+use Rattle.requests.specs.declared.refusal.Refusal.{Refusal}
+use Rattle.requests.specs.declared.refusal.Refusal.TheVariants as refusal
+use Rattle.requests.specs.declared.reply.Reply.{Reply}
+use Rattle.requests.specs.declared.reply.Reply.TheVariants as reply
 use Rattle.store.specs.declared.refusal.StoreRefusal.{StoreRefusal}
 use Rattle.store.specs.declared.refusal.StoreRefusal.TheVariants as store
 use Rattle.program_parts.specs.declared.status.Status.{Status}
@@ -19,3 +24,16 @@ disk_status store.Device = Failed
 disk_status store.Reopen = Failed
 disk_status store.OutOfMemory = NoMemory
 disk_status other = Refused
+
+-- what a refusal of a command ends with: S1 and S2 are failures, and S11 is want of memory
+abbrev pub refusal_status : Refusal → Status
+refusal_status refusal.Device = Failed
+refusal_status refusal.Reopen = Failed
+refusal_status refusal.OutOfMemory = NoMemory
+refusal_status (refusal.Bind bind.OutOfMemory) = NoMemory
+refusal_status other = Refused
+
+-- what a reply ends with
+abbrev pub reply_status : Reply → Status
+reply_status (reply.Refused refusal) = refusal_status refusal
+reply_status other = Done

@@ -1,15 +1,20 @@
 // The texts of refusals.
 
 ghost use Rattle.std.specs.Prelude.{◌≡◌, ◌++◌, codes, true, OnOk, OnErr};
+ghost use Rattle.std.specs.Io.KnownBytes.{Appends};
 ghost use Rattle.text_output.specs.Sends.{Sends};
 ghost use Rattle.program_parts.specs.Refusal.{file_refusal_text, object_refusal_detail};
-ghost use Rattle.program_parts.specs.Refusal.{object_refusal_name, disk_refusal_name, disk_refusal_text};
+ghost use Rattle.program_parts.specs.Refusal.{object_refusal_name};
+ghost use Rattle.program_parts.specs.Refusal.{disk_refusal_name, disk_refusal_text};
 
 use elf_dynamic::ObjectRefusal;
 use hash_check::FileRefusal;
 use std::io::Write;
 use store::StoreRefusal;
-use text_output::{OutputBuffer, WriteFault};
+use text_output::{LINE, OutputBuffer, WriteFault};
+
+/// A line on its way to a writer.
+pub type Line = OutputBuffer<LINE>;
 
 /// The number and the name of the refusal of a file.
 fn object_refusal_name(refusal: ObjectRefusal) -> &'static [u8]
@@ -100,6 +105,17 @@ pub fn put_file_refusal<const SIZE: usize, W: Write>(
     }
 }
 
+/// Writes the number and the name of the refusal of a file, and what follows them, with one write
+/// and without a line's end.
+pub fn write_file_refusal<W: Write>(out: &mut W, refusal: FileRefusal) -> Result<(), WriteFault>
+    ensures { OnOk result
+        (Appends (W.contents out.old) (W.contents out.new) (file_refusal_text refusal)) }
+{
+    let mut line = Line::new();
+    put_file_refusal(&mut line, out, refusal)?;
+    line.send(out)
+}
+
 /// The number of a refusal and its name.
 fn disk_refusal_name(refusal: StoreRefusal) -> &'static [u8]
     ensures { result.now ≡ disk_refusal_name refusal }
@@ -133,4 +149,14 @@ pub fn put_disk_refusal<const SIZE: usize, W: Write>(
     line.put(out, b"refused ")?;
     line.put(out, disk_refusal_name(refusal))?;
     line.put(out, b"\n")
+}
+
+/// Writes the line of the refusal of a disk, with one write.
+pub fn write_disk_refusal<W: Write>(out: &mut W, refusal: StoreRefusal) -> Result<(), WriteFault>
+    ensures { OnOk result
+        (Appends (W.contents out.old) (W.contents out.new) (disk_refusal_text refusal)) }
+{
+    let mut line = Line::new();
+    put_disk_refusal(&mut line, out, refusal)?;
+    line.send(out)
 }

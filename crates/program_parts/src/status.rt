@@ -2,7 +2,10 @@
 
 ghost use Rattle.std.specs.Prelude.{◌≡◌};
 ghost use Rattle.program_parts.specs.Status.{status_number, disk_status};
+ghost use Rattle.program_parts.specs.Status.{refusal_status, reply_status};
 
+use image::BindRefusal;
+use requests::{Refusal, Reply};
 use store::StoreRefusal;
 
 /// The exit status of a program.
@@ -36,6 +39,26 @@ impl Status {
             StoreRefusal::Device | StoreRefusal::Reopen => Status::Failed,
             StoreRefusal::OutOfMemory => Status::NoMemory,
             _ => Status::Refused,
+        }
+    }
+    /// What a refusal of a command ends with.
+    fn of_refusal(refusal: &Refusal) -> Status
+        ensures { result ≡ refusal_status refusal.now }
+    {
+        match refusal {
+            Refusal::Device | Refusal::Reopen => Status::Failed,
+            Refusal::OutOfMemory | Refusal::Bind(BindRefusal::OutOfMemory) => Status::NoMemory,
+            _ => Status::Refused,
+        }
+    }
+
+    /// What a reply ends with.
+    pub fn of_reply(reply: &Reply) -> Status
+        ensures { result ≡ reply_status reply.now }
+    {
+        match reply {
+            Reply::Refused(refusal) => Status::of_refusal(refusal),
+            _ => Status::Done,
         }
     }
 }

@@ -2,8 +2,8 @@
 use Rattle.std.specs.Prelude.{ℕ, List, Option, Some, None, ◌≡◌, ◌⊎◌, true, false, is_some}
 use Rattle.std.specs.Io.KnownBytes.{Appends}
 use Rattle.requests.specs.declared.reply.Reply.{Reply}
-use Rattle.commands.specs.declared.file.FileFault.{FileFault}
-use Rattle.commands.specs.declared.file.FileFault.TheVariants.{CannotRead, OutOfMemory}
+use Rattle.program_parts.specs.declared.file.FileFault.{FileFault}
+use Rattle.program_parts.specs.declared.file.FileFault.TheVariants.{CannotRead, OutOfMemory}
 use Rattle.commands.specs.declared.show.Shown.TheVariants as shown
 use Rattle.program_parts.specs.declared.status.Status.{Status}
 use Rattle.program_parts.specs.declared.status.Status.TheVariants.{Done, Refused, BadWords, Failed, NoMemory}
@@ -15,13 +15,14 @@ use Rattle.commands.specs.declared.disk.NoRegistry.{NoRegistry}
 use Rattle.commands.specs.declared.disk.NoRegistry.TheVariants as no
 use Rattle.commands.specs.Disk.{IsOpenRefusal, IsFormatRefusal, IsUpgradeRefusal}
 use Rattle.commands.specs.Outcome.{are_bad, IsDone, IsRefused, LacksMemory, Replies, Makes, Upgrades, TurnsAway, RunsToTheEnd, EndsEarly, Runs, RunsInPart}
-use Rattle.commands.specs.Printed.{IsTold, PrintsImage, PrintsRefusal}
-use Rattle.commands.specs.Refusal.{memory_text}
-use Rattle.commands.specs.Reply.{reply_text}
+use Rattle.program_parts.specs.Told.{IsTold}
+use Rattle.commands.specs.Printed.{PrintsImage, PrintsRefusal}
+use Rattle.program_parts.specs.Refusal.{memory_text}
+use Rattle.program_parts.specs.Reply.{reply_text}
 use Rattle.commands.specs.RunImage.{Shows}
 use Rattle.program_parts.specs.Said.{AppendsFront}
 use Rattle.commands.specs.Script.{Streams}
-use Rattle.commands.specs.Status.{reply_status}
+use Rattle.program_parts.specs.Status.{reply_status}
 use Rattle.commands.specs.Words.{CommandLine}
 
 -- what words end with, by what they ask, and by what the streams gave and hold

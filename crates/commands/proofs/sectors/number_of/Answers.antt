@@ -1,7 +1,7 @@
 use Rattle.std.proofs.Common.{◌≡◌, Some, None, cond, rules, ap, sym, ◌∙◌, true}
 use Rattle.std.specs.Str.Parse.{digits_value}
 use Rattle.commands.specs.Sectors.{is_decimal}
-use Rattle.commands.proofs.Digits.{parsed_decimal}
+use Rattle.commands.proofs.Decimals.{parsed_decimal}
 use Rattle.commands.proofs.sectors.number_of.Goals as goal
 
 pub returns-then-is_decimal : goal.returns-then-is_decimal

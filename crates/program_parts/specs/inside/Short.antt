@@ -2,7 +2,7 @@
 use Rattle.std.specs.Prelude.{ℕ, List, []}
 use Rattle.requests.specs.declared.reply.Reply.{Reply}
 use Rattle.requests.specs.declared.reply.Reply.TheVariants.{Bound}
-use Rattle.commands.specs.Reply.{reply_text}
+use Rattle.program_parts.specs.Reply.{reply_text}
 
 abbrev pub short_text : Reply → List ℕ
 short_text (Bound image) = []

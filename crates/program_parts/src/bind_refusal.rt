@@ -1,34 +1,16 @@
-// The text of a refusal.
+// The text of an answer to a bind that gives no image.
 
-ghost use Rattle.std.specs.Prelude.{◌≡◌, ◌++◌, codes, true, OnOk, OnErr, IfErr};
+ghost use Rattle.std.specs.Prelude.{◌≡◌, ◌++◌, codes, true, OnOk, OnErr};
 ghost use Rattle.std.specs.Io.KnownBytes.{Appends};
-ghost use Rattle.commands.specs.Refusal.{refusal_text, memory_text, named_text};
-ghost use Rattle.program_parts.specs.Refusal.{file_refusal_text};
 ghost use Rattle.text_output.specs.Sends.{Sends};
+ghost use Rattle.program_parts.specs.Refusal.{file_refusal_text, named_text, refusal_text};
 
-use crate::fault::ScriptFault;
+use crate::refusal::{Line, put_disk_refusal, put_file_refusal};
 use hash_check::FileRefusal;
 use image::BindRefusal;
-use program_parts::{put_disk_refusal, put_file_refusal};
 use std::io::Write;
 use store::StoreRefusal;
-use text_output::{LINE, OutputBuffer, WriteFault};
-
-/// A line on its way to a writer.
-pub(crate) type Line = OutputBuffer<LINE>;
-
-/// Writes the number and the name of the refusal of a file, and what follows them, with one write
-/// and without a line's end.
-pub fn write_file_refusal<W: Write>(out: &mut W, refusal: FileRefusal) -> Result<(), ScriptFault>
-    ensures ok { OnOk result
-        (Appends (W.contents out.old) (W.contents out.new) (file_refusal_text refusal)) }
-    ensures err { IfErr result (λ fault. fault ≡ ScriptFault.Write) }
-{
-    let mut line = Line::new();
-    put_file_refusal(&mut line, out, refusal)?;
-    line.send(out)?;
-    Ok(())
-}
+use text_output::WriteFault;
 
 /// The line of the refusal of a file, behind a front.
 pub(crate) fn put_file_line<W: Write>(
@@ -99,21 +81,11 @@ pub(crate) fn put_refusal<W: Write>(
 
 /// Writes the line of an answer to a bind that gives no image: with one write, but for names that
 /// are longer than a line's buffer.
-pub fn write_refusal<W: Write>(out: &mut W, refusal: &BindRefusal) -> Result<(), ScriptFault>
-    ensures ok { OnOk result
+pub fn write_refusal<W: Write>(out: &mut W, refusal: &BindRefusal) -> Result<(), WriteFault>
+    ensures { OnOk result
         (Appends (W.contents out.old) (W.contents out.new) (refusal_text refusal.now)) }
-    ensures err { IfErr result (λ fault. fault ≡ ScriptFault.Write) }
 {
     let mut line = Line::new();
     put_refusal(&mut line, out, refusal)?;
-    line.send(out)?;
-    Ok(())
-}
-
-/// Writes the line of want of memory.
-pub(crate) fn write_memory<W: Write>(out: &mut W) -> Result<(), ScriptFault>
-    ensures ok { OnOk result (Appends (W.contents out.old) (W.contents out.new) memory_text) }
-    ensures err { IfErr result (λ fault. fault ≡ ScriptFault.Write) }
-{
-    write_refusal(out, &BindRefusal::OutOfMemory)
+    line.send(out)
 }

@@ -12,9 +12,7 @@ use Rattle.requests.specs.declared.reply.Reply.{Reply}
 use Rattle.requests.specs.declared.reply.Reply.TheVariants.{Done, Listing, Bound, Refused}
 use Rattle.image.specs.Text.{image_text}
 use Rattle.store.specs.declared.refusal.StoreRefusal.TheVariants as disk
-use Rattle.program_parts.specs.Refusal.{disk_refusal_text}
-use Rattle.commands.specs.Refusal.{refusal_text}
-use Rattle.program_parts.specs.Refusal.{file_refusal_text}
+use Rattle.program_parts.specs.Refusal.{disk_refusal_text, file_refusal_text, refusal_text}
 
 -- the line of a refusal, by its number, its name and what follows them
 abbrev pub refused_line : List ℕ → List ℕ

@@ -1,19 +1,18 @@
 // The text of a reply.
 
-ghost use Rattle.std.specs.Prelude.{◌≡◌, ◌++◌, codes, true, OnOk, OnErr, IfErr};
+ghost use Rattle.std.specs.Prelude.{◌≡◌, ◌++◌, codes, true, OnOk, OnErr};
 ghost use Rattle.std.specs.List.{flat_map};
 ghost use Rattle.std.specs.Io.KnownBytes.{Appends};
 ghost use Rattle.text_output.specs.Sends.{Sends};
 ghost use Rattle.text_output.specs.Name.{name_text};
 ghost use Rattle.std.specs.Fmt.{decimal};
-ghost use Rattle.commands.specs.Reply.{command_refusal_text, library_text, preload_text};
-ghost use Rattle.commands.specs.Reply.{listing_text, refused_line, reply_text};
-ghost use Rattle.commands.specs.inside.Short.{short_text};
+ghost use Rattle.program_parts.specs.Reply.{command_refusal_text, library_text, preload_text};
+ghost use Rattle.program_parts.specs.Reply.{listing_text, refused_line, reply_text};
+ghost use Rattle.program_parts.specs.inside.Short.{short_text};
 
-use crate::fault::ScriptFault;
-use crate::refusal::{Line, put_file_line, put_refusal};
+use crate::bind_refusal::{put_file_line, put_refusal};
+use crate::refusal::{Line, put_disk_refusal};
 use names::Name;
-use program_parts::put_disk_refusal;
 use requests::{Listing, Refusal, Reply};
 use std::io::Write;
 use store::StoreRefusal;
@@ -149,33 +148,24 @@ fn put_short_reply<W: Write>(line: &mut Line, out: &mut W, reply: &Reply) -> Res
 
 /// Puts the text of a reply behind what waits; an image goes to the writer at once, behind what
 /// waited. It takes no memory.
-pub(crate) fn put_reply<W: Write>(
-    line: &mut Line,
-    out: &mut W,
-    reply: &Reply,
-) -> Result<(), ScriptFault>
-    ensures ok { OnOk result (Sends (W.contents out.old) line.old (W.contents out.new) line.new
+pub fn put_reply<W: Write>(line: &mut Line, out: &mut W, reply: &Reply) -> Result<(), WriteFault>
+    ensures { OnOk result (Sends (W.contents out.old) line.old (W.contents out.new) line.new
         (reply_text reply.now)) }
-    ensures err { IfErr result (λ fault. fault ≡ ScriptFault.Write) }
 {
     if let Reply::Bound(image) = reply {
         line.send(out)?;
-        image.write_text(out)?;
-        return Ok(());
+        return image.write_text(out);
     }
-    put_short_reply(line, out, reply)?;
-    Ok(())
+    put_short_reply(line, out, reply)
 }
 
 /// Writes the text of a reply: with one write, but for an image, and for a listing that is longer
 /// than a line's buffer. It takes no memory.
-pub fn write_reply<W: Write>(out: &mut W, reply: &Reply) -> Result<(), ScriptFault>
-    ensures ok { OnOk result
+pub fn write_reply<W: Write>(out: &mut W, reply: &Reply) -> Result<(), WriteFault>
+    ensures { OnOk result
         (Appends (W.contents out.old) (W.contents out.new) (reply_text reply.now)) }
-    ensures err { IfErr result (λ fault. fault ≡ ScriptFault.Write) }
 {
     let mut line = Line::new();
     put_reply(&mut line, out, reply)?;
-    line.send(out)?;
-    Ok(())
+    line.send(out)
 }

@@ -3,7 +3,7 @@
 ghost use Rattle.std.specs.Prelude.{◌≡◌, true, false, drop, MatchOption};
 ghost use Rattle.std.specs.List.{list_all};
 ghost use Rattle.std.specs.Char.{is_ascii_hexdigit};
-ghost use Rattle.commands.specs.Base.{is_base, base_of};
+ghost use Rattle.program_parts.specs.Base.{is_base, base_of};
 
 /// The longest spelling of a 64-bit number in hexadecimal digits.
 const MOST_DIGITS: usize = 16;
@@ -35,7 +35,7 @@ fn digits_of(word: &str) -> Option<&str>
 }
 
 /// Reads a base: `0x` and 1 to 16 hexadecimal digits of either case.
-pub(crate) fn parse_base(word: &str) -> Option<u64>
+pub fn parse_base(word: &str) -> Option<u64>
     ensures { result ≡ base_of word.now }
 {
     match digits_of(word) {

@@ -2,8 +2,8 @@
 
 ghost use Rattle.std.specs.Prelude.{◌≡◌, ◌<◌, ◌≤◌, IfOk, IfSome, MatchOption, length, take};
 ghost use Rattle.std.specs.Io.KnownBytes.{Consumes, IsAtEnd, Keeps};
-ghost use Rattle.commands.specs.File.{read_limit};
-ghost use Rattle.commands.specs.declared.file.FileFault.TheVariants.{OutOfMemory};
+ghost use Rattle.program_parts.specs.File.{read_limit};
+ghost use Rattle.program_parts.specs.declared.file.FileFault.TheVariants.{OutOfMemory};
 
 use std::alloc::{AllocError, Global};
 use std::fs::File;
@@ -12,7 +12,7 @@ use std::rt::Files;
 
 /// The length in bytes from which on a file isn't read, 1 GiB: a device that never ends is a file
 /// that can't be read.
-pub(crate) const READ_LIMIT: usize = 0x4000_0000;
+const READ_LIMIT: usize = 0x4000_0000;
 
 /// How many bytes are read at once.
 const PAGE: usize = 0x10000;
@@ -27,7 +27,7 @@ pub enum FileFault {
 }
 
 /// Reads a whole file, once.
-pub(crate) fn read_file<R: Files>(rt: &R, alloc: Global, path: &str) -> Result<Vec<u8>, FileFault>
+pub fn read_file<R: Files>(rt: &R, alloc: Global, path: &str) -> Result<Vec<u8>, FileFault>
     ensures { IfOk result (λ bytes. length bytes.items < read_limit) }
 {
     match File::open(rt, path) {

@@ -2,8 +2,8 @@ use Rattle.std.proofs.Common.{◌++◌, codes}
 use Rattle.std.specs.Io.KnownBytes.{append_known}
 use Rattle.std.proofs.KnownBytes.{Appends-trans}
 use Rattle.text_output.specs.Name.{name_text}
-use Rattle.commands.proofs.Then.{then}
-use Rattle.commands.proofs.refusal.put_named.Goals as goal
+use Rattle.program_parts.proofs.Then.{then}
+use Rattle.program_parts.proofs.bind_refusal.put_named.Goals as goal
 
 pub returns-clause-ok : goal.returns-clause-ok
 returns-clause-ok g c =

@@ -1,8 +1,8 @@
 use Rattle.std.proofs.Common.{take}
 use Rattle.std.specs.List.{flat_map}
 use Rattle.text_output.specs.Sends.{Sends}
-use Rattle.commands.specs.Reply.{preload_text}
-use Rattle.commands.proofs.reply.put_preloads.Given as goal
+use Rattle.program_parts.specs.Reply.{preload_text}
+use Rattle.program_parts.proofs.reply.put_preloads.Given as goal
 
 abbrev pub invariant-loop-preload : goal.invariant-loop-preload
 invariant-loop-preload g l =
