@@ -1,5 +1,5 @@
 //! The program `rlibreg-tool`: tells what the disk of a registry has, gives a library's bytes and
-//! the script that makes the registry anew, and reads no more of the disk than that takes.
+//! the script that makes the registry anew, and mends a registry of which libraries are damaged.
 #![tactic(auto)]
 
 use program_parts::{StandardStreams, read_arguments};

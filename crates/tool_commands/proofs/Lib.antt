@@ -1,3 +1,4 @@
+pub mod Answering
 pub mod Cuts
 pub mod Findings
 pub mod Forms

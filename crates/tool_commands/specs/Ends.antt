@@ -17,16 +17,13 @@ use Rattle.contents.specs.Finding.{IsFinding}
 use Rattle.contents.specs.declared.finding.Finding.{Finding}
 use Rattle.contents.specs.declared.finding.Finding.TheVariants.{Sound}
 use Rattle.program_parts.specs.Status.{disk_status}
+use Rattle.program_parts.specs.Told.{IsTold}
 use Rattle.program_parts.specs.declared.status.Status.{Status}
 use Rattle.program_parts.specs.declared.status.Status.TheVariants.{Done, Refused, Failed, NoMemory}
 use Rattle.tool_commands.specs.Check.{AreFindings, check_text, check_status}
 use Rattle.tool_commands.specs.Dump.{cut_status, cut_text, dump_text}
 use Rattle.tool_commands.specs.Form.{Question, info, check, file, dump}
 use Rattle.tool_commands.specs.Info.{info_text}
-
--- Exactly this text was appended, and the status is the one that goes with it; or the writer failed.
-abbrev pub IsTold : Status → List ℕ → Option (List ℕ) → Option (List ℕ) → Status → Type 0
-IsTold ends text before after status = ((status ≡ ends) × Appends before after text) ⊎ (status ≡ Failed)
 
 -- An install of a file of a new name meets no refusal exactly up to this length: it is 0, or the
 -- length of a file.

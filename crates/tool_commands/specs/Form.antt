@@ -1,38 +1,57 @@
 -- Which form the words of a command line are (own).
 use Rattle.std.specs.Prelude.{ℕ, List, [], ◌∷◌, Option, Some, None, if◌then◌else◌, bytes_eq, codes}
+use Rattle.std.specs.Option.{option_map}
+use Rattle.program_parts.specs.Base.{base_of}
+use Rattle.tool_commands.specs.declared.form.Action.{Action}
+use Rattle.tool_commands.specs.declared.form.Action.TheVariants as action
 use Rattle.tool_commands.specs.declared.form.Asked.{Asked}
 use Rattle.tool_commands.specs.declared.form.Form.{Form}
 use Rattle.tool_commands.specs.declared.form.Form.TheVariants as form
 
--- what is asked of a disk; of a file by its name
+-- what is to be told of a disk; of a file by its name
 pub data Question : Type 0 where
   info : Question
   check : Question
   file : List ℕ → Question
   dump : Question
 
--- a command line: the path of the disk, and what is asked of it
+-- what is to be done: to tell, to replace by a path's file, to remove a name, to bind a path's file
+pub data Deed : Type 0 where
+  tell : Question → Deed
+  replace : List ℕ → Deed
+  remove : List ℕ → Deed
+  executable : List ℕ → ℕ → Deed
+
+-- a command line: the path of the disk, and what is to be done with it
 pub record CommandLine : Type 0 where
   pub disk : List ℕ
-  pub question : Question
+  pub deed : Deed
 
 -- DISK alone
 abbrev pub of_one : Question → List (List ℕ) → Option CommandLine
-of_one asked (disk ∷ []) = Some (record { disk = disk; question = asked })
+of_one asked (disk ∷ []) = Some (record { disk = disk; deed = tell asked })
 of_one asked words = None
 
--- DISK NAME
-abbrev pub of_two : List (List ℕ) → Option CommandLine
-of_two (disk ∷ name ∷ []) = Some (record { disk = disk; question = file name })
-of_two words = None
+-- DISK and one word more
+abbrev pub of_two : (List ℕ → Deed) → List (List ℕ) → Option CommandLine
+of_two deed (disk ∷ word ∷ []) = Some (record { disk = disk; deed = deed word })
+of_two deed words = None
+
+-- DISK PROGRAM BASE
+abbrev pub executable_behind : List (List ℕ) → Option CommandLine
+executable_behind (disk ∷ program ∷ base ∷ []) = option_map (λ at. record { disk = disk; deed = executable program at }) (base_of base)
+executable_behind words = None
 
 -- the command line that words are: the first is the form's name
 abbrev pub command_line : List (List ℕ) → Option CommandLine
 command_line (name ∷ words) =
     if bytes_eq name (codes "info") then of_one info words
     else if bytes_eq name (codes "check") then of_one check words
-    else if bytes_eq name (codes "file") then of_two words
+    else if bytes_eq name (codes "file") then of_two (λ name. tell (file name)) words
     else if bytes_eq name (codes "dump") then of_one dump words
+    else if bytes_eq name (codes "replace") then of_two replace words
+    else if bytes_eq name (codes "remove") then of_two remove words
+    else if bytes_eq name (codes "executable") then executable_behind words
     else None
 command_line [] = None
 
@@ -43,6 +62,13 @@ question_of form.Check = check
 question_of (form.File name) = file name.now
 question_of form.Dump = dump
 
+-- what the code does
+abbrev pub deed_of : Action → Deed
+deed_of (action.Tell form) = tell (question_of form)
+deed_of (action.Replace path) = replace path.now
+deed_of (action.Remove name) = remove name.now
+deed_of (action.Executable program base) = executable program.now base
+
 -- the command line that the code reads
 abbrev pub line_of : Asked → CommandLine
-line_of asked = record { disk = asked.disk.now; question = question_of asked.form }
+line_of asked = record { disk = asked.disk.now; deed = deed_of asked.action }

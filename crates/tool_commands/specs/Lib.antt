@@ -1,7 +1,10 @@
 pub mod Check
 pub mod Dump
 pub mod Ends
+pub mod Executable
 pub mod Form
 pub mod Info
+pub mod Request
 pub mod Said
+pub mod Telling
 pub mod inside

@@ -21,4 +21,4 @@ cannot_write_line = codes "rlibreg-tool: cannot write\n"
 
 -- the words are none of the forms
 abbrev pub usage_line : List ℕ
-usage_line = codes "usage: rlibreg-tool info|check|dump DISK, or rlibreg-tool file DISK NAME\n"
+usage_line = codes "usage: rlibreg-tool info|check|dump DISK, file|remove DISK NAME, replace DISK FILE or executable DISK PROGRAM BASE\n"

@@ -8,7 +8,8 @@ ghost use Rattle.store.specs.IsRead.{IsRead};
 ghost use Rattle.store.specs.Opened.{IsAt};
 ghost use Rattle.text_output.specs.Sends.{Sends};
 ghost use Rattle.tool_commands.specs.Check.{check_status, check_text, findings_text, is_sound};
-ghost use Rattle.tool_commands.specs.Ends.{CheckEnds, IsTold};
+ghost use Rattle.tool_commands.specs.Ends.{CheckEnds};
+ghost use Rattle.program_parts.specs.Told.{IsTold};
 
 use crate::finding::{Line, put_finding};
 use crate::said::{cannot_write, say_refusal};

@@ -6,68 +6,13 @@ ghost use Rattle.tool_commands.specs.Form.{command_line};
 ghost use Rattle.tool_commands.specs.Said.{usage_line};
 
 use crate::form::{Asked, read_words};
-use crate::run::{cut_script, run_form, turn_away};
+use crate::on_file::run_asked;
 use crate::said::{bad_words, cannot_read};
-use file_disk::{FileDisk, OpenFault};
 use program_parts::{Behind, Status, behind_streams};
 use std::alloc::Global;
 use std::fs::File;
 use std::io::Write;
 use std::rt::{Clock, Files};
-use store::StoreRefusal;
-
-/// Says why the file of a disk isn't opened.
-fn not_opened<O: Write, E: Write>(
-    alloc: Global,
-    asked: &Asked<'_>,
-    fault: OpenFault,
-    output: &mut O,
-    errors: &mut E,
-) -> Status {
-    match fault {
-        OpenFault::CannotOpen => {
-            let _ = cut_script(&asked.form, output);
-            cannot_read(errors, asked.disk)
-        }
-        OpenFault::BadLength => {
-            turn_away(
-                alloc,
-                &asked.form,
-                StoreRefusal::BadGeometry,
-                output,
-                errors,
-            )
-        }
-        OpenFault::OutOfMemory => {
-            turn_away(
-                alloc,
-                &asked.form,
-                StoreRefusal::OutOfMemory,
-                output,
-                errors,
-            )
-        }
-    }
-}
-
-/// Opens the disk for reading alone, and does what is asked. Its lock is held until the output is
-/// written.
-fn run_asked<R: Files<File = File> + Clock, O: Write, E: Write>(
-    rt: &R,
-    alloc: Global,
-    asked: &Asked<'_>,
-    output: &mut O,
-    errors: &mut E,
-) -> Status {
-    match FileDisk::open_read_only(rt, alloc, asked.disk) {
-        Ok(disk) => {
-            let (status, disk) = run_form(alloc, disk, &asked.form, output, errors);
-            drop(disk);
-            status
-        }
-        Err(fault) => not_opened(alloc, asked, fault, output, errors),
-    }
-}
 
 /// Does what is asked, unless what is told would be written into the disk.
 fn run_apart<R: Files<File = File> + Clock, O: Write, E: Write>(

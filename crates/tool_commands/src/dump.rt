@@ -13,8 +13,8 @@ ghost use Rattle.tool_commands.specs.Check.{finding_line};
 ghost use Rattle.tool_commands.specs.Dump.{behind_space, cut_status, install_line, preload_text};
 ghost use Rattle.tool_commands.specs.Ends.{DumpEnds};
 ghost use Rattle.tool_commands.specs.Said.{said_line};
-ghost use Rattle.tool_commands.specs.inside.Lack.{IsGone, dump_status, end_text, lack_line, lack_status};
-ghost use Rattle.tool_commands.specs.inside.Lack.{libraries_text};
+ghost use Rattle.tool_commands.specs.inside.Lack.{IsGone, dump_status, end_text, lack_line};
+ghost use Rattle.tool_commands.specs.inside.Lack.{lack_status, libraries_text};
 
 use crate::finding::{Line, put_finding};
 use crate::hexadecimal::put_hex;

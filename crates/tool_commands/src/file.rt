@@ -5,8 +5,10 @@ ghost use Rattle.states.specs.State.{State};
 ghost use Rattle.store.specs.IsRead.{IsRead};
 ghost use Rattle.store.specs.Opened.{IsAt};
 ghost use Rattle.contents.specs.declared.unread.Unread.TheVariants.{NotInstalled};
-ghost use Rattle.program_parts.specs.declared.status.Status.TheVariants.{Done, Refused, Failed, NoMemory};
-ghost use Rattle.tool_commands.specs.Ends.{FileEnds, IsTold};
+ghost use Rattle.program_parts.specs.declared.status.Status.TheVariants.{Done, Refused};
+ghost use Rattle.program_parts.specs.declared.status.Status.TheVariants.{Failed, NoMemory};
+ghost use Rattle.tool_commands.specs.Ends.{FileEnds};
+ghost use Rattle.program_parts.specs.Told.{IsTold};
 
 use crate::said::{cannot_write, say_not_installed, say_refusal};
 use contents::{Contents, Unread};

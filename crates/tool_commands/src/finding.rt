@@ -17,7 +17,7 @@ use text_output::{LINE, OutputBuffer, WriteFault};
 pub(crate) type Line = OutputBuffer<LINE>;
 
 /// A name between texts.
-fn put_around<W: Write>(
+pub(crate) fn put_around<W: Write>(
     line: &mut Line,
     out: &mut W,
     front: &[u8],

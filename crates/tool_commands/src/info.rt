@@ -7,7 +7,8 @@ ghost use Rattle.states.specs.State.{State};
 ghost use Rattle.store.specs.Opened.{IsAt};
 ghost use Rattle.text_output.specs.Sends.{Sends};
 ghost use Rattle.program_parts.specs.declared.status.Status.TheVariants.{Done};
-ghost use Rattle.tool_commands.specs.Ends.{InfoEnds, IsTold};
+ghost use Rattle.tool_commands.specs.Ends.{InfoEnds};
+ghost use Rattle.program_parts.specs.Told.{IsTold};
 ghost use Rattle.tool_commands.specs.Info.{disk_lines, count_lines, free_lines, info_text};
 
 use crate::said::cannot_write;

@@ -2,12 +2,14 @@
 //!
 //! `run_info`, `run_check`, `run_file` and `run_dump` tell what a disk has: how much of it is free,
 //! whether its libraries are libraries, the bytes of one, and the script that makes them all anew.
-//! `run_form` opens a disk, whatever it is, and does one of these. `run_words` reads the words of a
-//! command line and opens the file that is the disk, and `run_arguments` does the same with the
-//! words of the process.
+//! `run_form` opens a disk, whatever it is, and does one of these; `run_request` applies a command
+//! to its registry, whatever its libraries are, and tells the reply as `Telling` says. `run_words`
+//! reads the words of a command line and opens the file that is the disk, and `run_arguments` does
+//! the same with the words of the process.
 #![tactic(auto)]
 
 mod arguments;
+mod bound;
 mod check;
 mod command;
 mod dump;
@@ -16,16 +18,21 @@ mod finding;
 mod form;
 mod hexadecimal;
 mod info;
+mod on_file;
+mod request;
 mod run;
 mod said;
 mod sound;
+mod telling;
 
 pub use arguments::run_arguments;
 pub use check::run_check;
 pub use command::run_words;
 pub use dump::run_dump;
 pub use file::run_file;
-pub use form::{Asked, Form, read_words};
+pub use form::{Action, Asked, Form, read_words};
 pub use info::run_info;
+pub use request::run_request;
 pub use run::run_form;
 pub use said::cannot_hold;
+pub use telling::Telling;

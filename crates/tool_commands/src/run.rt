@@ -5,8 +5,8 @@ ghost use Rattle.std.specs.Io.KnownBytes.{Appends};
 ghost use Rattle.states.specs.State.{State};
 ghost use Rattle.store.specs.IsRead.{IsRead};
 ghost use Rattle.store.specs.Opened.{IsAt};
-ghost use Rattle.program_parts.specs.Status.{disk_status};
-ghost use Rattle.tool_commands.specs.Ends.{DiskEnds, FormEnds, IsTold, cut_of};
+ghost use Rattle.tool_commands.specs.Ends.{DiskEnds, FormEnds, cut_of};
+ghost use Rattle.program_parts.specs.Told.{IsTold};
 ghost use Rattle.tool_commands.specs.Form.{question_of};
 
 use crate::check::run_check;
@@ -20,11 +20,10 @@ use program_parts::Status;
 use sector_disk::Disk;
 use std::alloc::Global;
 use std::io::Write;
-use store::StoreRefusal;
 use text_output::{OutputBuffer, PIECE, WriteFault};
 
 /// Cuts a script of which there is nothing: it is none that could be taken for a whole one.
-pub(crate) fn cut_script<O: Write>(form: &Form<'_>, output: &mut O) -> Result<(), WriteFault>
+fn cut_script<O: Write>(form: &Form<'_>, output: &mut O) -> Result<(), WriteFault>
     ensures { OnOk result (Appends (O.contents output.old) (O.contents output.new)
         (cut_of (question_of form.now))) }
 {
@@ -38,20 +37,13 @@ pub(crate) fn cut_script<O: Write>(form: &Form<'_>, output: &mut O) -> Result<()
     }
 }
 
-/// Says why a disk isn't opened.
-pub(crate) fn turn_away<O: Write, E: Write>(
-    alloc: Global,
-    form: &Form<'_>,
-    refusal: StoreRefusal,
-    output: &mut O,
-    errors: &mut E,
-) -> Status
-    ensures { IsTold (disk_status refusal) (cut_of (question_of form.now))
+/// What ends with this status without a disk that is opened: a script is cut.
+pub(crate) fn end_unopened<O: Write>(form: &Form<'_>, status: Status, output: &mut O) -> Status
+    ensures { IsTold status (cut_of (question_of form.now))
         (O.contents output.old) (O.contents output.new) result }
 {
-    let said = say_refusal(alloc, refusal, errors);
     match cut_script(form, output) {
-        Ok(()) => said,
+        Ok(()) => status,
         Err(_) => Status::Failed,
     }
 }
@@ -99,8 +91,8 @@ pub fn run_form<D: Disk, O: Write, E: Write>(
             (status, contents.into_disk())
         }
         Err((refusal, disk)) => {
-            let status = turn_away(alloc, form, refusal, output, errors);
-            (status, disk)
+            let said = say_refusal(alloc, refusal, errors);
+            (end_unopened(form, said, output), disk)
         }
     }
 }

@@ -63,7 +63,8 @@ pub(crate) fn bad_words<E: Write>(errors: &mut E) -> Status
 {
     say(
         errors,
-        b"usage: rlibreg-tool info|check|dump DISK, or rlibreg-tool file DISK NAME\n",
+        b"usage: rlibreg-tool info|check|dump DISK, file|remove DISK NAME, replace DISK FILE \
+          or executable DISK PROGRAM BASE\n",
     );
     Status::BadWords
 }
@@ -76,7 +77,7 @@ pub fn cannot_hold<E: Write>(errors: &mut E) -> u8
     Status::Failed.number()
 }
 
-/// Says that a disk's file can't be read.
+/// Says that a file can't be read.
 pub(crate) fn cannot_read<E: Write>(errors: &mut E, path: &str) -> Status
     ensures { result ≡ Failed }
 {

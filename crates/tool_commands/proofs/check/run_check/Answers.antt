@@ -3,7 +3,7 @@ use Rattle.roots.specs.declared.version.Version.TheVariants.{Two}
 use Rattle.store.specs.Opened.{IsAt}
 use Rattle.store.proofs.Queries.{count_is}
 use Rattle.tool_commands.specs.Check.{check_status, check_text}
-use Rattle.tool_commands.specs.Ends.{IsTold}
+use Rattle.program_parts.specs.Told.{IsTold}
 use Rattle.tool_commands.proofs.check.run_check.Goals as goal
 
 pub returns-in-Ok-clause-ends : goal.returns-in-Ok-clause-ends

@@ -3,7 +3,7 @@ use Rattle.std.specs.Global.{Vec}
 use Rattle.contents.specs.declared.unread.Unread.{Unread}
 use Rattle.contents.specs.declared.unread.Unread.TheVariants.{NotInstalled}
 use Rattle.program_parts.specs.declared.status.Status.TheVariants.{Done}
-use Rattle.tool_commands.specs.Ends.{IsTold}
+use Rattle.program_parts.specs.Told.{IsTold}
 use Rattle.tool_commands.proofs.file.run_file.Goals as goal
 
 pub returns-in-Ok-clause-ends : goal.returns-in-Ok-clause-ends

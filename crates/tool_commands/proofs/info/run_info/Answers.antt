@@ -3,7 +3,7 @@ use Rattle.extents.specs.Layout.{free_count}
 use Rattle.extents.specs.Runs.{free_runs}
 use Rattle.store.specs.Opened.{layout_in_use}
 use Rattle.program_parts.specs.declared.status.Status.TheVariants.{Done}
-use Rattle.tool_commands.specs.Ends.{IsTold}
+use Rattle.program_parts.specs.Told.{IsTold}
 use Rattle.tool_commands.specs.Info.{info_text}
 use Rattle.tool_commands.proofs.info.run_info.Goals as goal
 

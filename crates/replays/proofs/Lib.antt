@@ -1,0 +1,11 @@
+mod Answers
+mod Copies
+mod Disks
+mod Meanings
+mod Names
+mod Programs
+mod Readings
+mod Refusals
+mod Rooms
+mod Scripts
+mod States

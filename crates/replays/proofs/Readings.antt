@@ -1,0 +1,54 @@
+-- A text is cut into lines in one way.
+use Rattle.std.proofs.Common.{◌≡◌, ℕ, List, [], ◌∷◌, ◌++◌, refl, sym, ap, subst, ◌∙◌}
+use Rattle.std.specs.Prelude.{◌≢◌, All}
+use Rattle.std.specs.List.{flat_map}
+use Rattle.std.proofs.lemmas.List.Elements.{All-head, All-tail}
+use Rattle.commands.specs.Script.{IsLine, ended}
+
+head_or : {X : Type 0} → X → List X → X
+head_or d [] = d
+head_or d (x ∷ xs) = x
+
+tail_of : {X : Type 0} → List X → List X
+tail_of [] = []
+tail_of (x ∷ xs) = xs
+
+-- equal lists have equal heads and tails
+pub same_head : {X : Type 0} (x y : X) (xs ys : List X) → x ∷ xs ≡ y ∷ ys → x ≡ y
+unfolding head_or
+same_head x y xs ys h = ap (head_or x) h
+
+pub same_tail : {X : Type 0} (x y : X) (xs ys : List X) → x ∷ xs ≡ y ∷ ys → xs ≡ ys
+unfolding tail_of
+same_tail x y xs ys h = ap tail_of h
+
+-- the first newline ends the first line
+first_line : (a b c d : List ℕ) → IsLine a → IsLine b → a ++ 10 ∷ c ≡ b ++ 10 ∷ d → (a ≡ b) × (c ≡ d)
+first_line [] [] c d la lb h = (refl, same_tail 10 10 c d h)
+first_line [] (y ∷ b) c d la lb h = absurd (All-head (λ b. b ≢ 10) y b lb (sym (same_head 10 y c (b ++ 10 ∷ d) h)))
+first_line (x ∷ a) [] c d la lb h = absurd (All-head (λ b. b ≢ 10) x a la (same_head x 10 (a ++ 10 ∷ c) d h))
+first_line (x ∷ a) (y ∷ b) c d la lb h =
+    let rest = first_line a b c d (All-tail (λ b. b ≢ 10) x a la) (All-tail (λ b. b ≢ 10) y b lb) (same_tail x y (a ++ 10 ∷ c) (b ++ 10 ∷ d) h) in
+    (ap (λ z. z ∷ a) (same_head x y (a ++ 10 ∷ c) (b ++ 10 ∷ d) h) ∙ ap (λ l. y ∷ l) rest.0, rest.1)
+
+-- no line has a newline in it
+no_newline_in : (a c : List ℕ) → IsLine (a ++ 10 ∷ c) → ⊥
+no_newline_in [] c h = All-head (λ b. b ≢ 10) 10 c h refl
+no_newline_in (x ∷ a) c h = no_newline_in a c (All-tail (λ b. b ≢ 10) x (a ++ 10 ∷ c) h)
+
+-- a line, its newline and what comes behind
+ended_more : (line rest cut : List ℕ) → (ended line ++ rest) ++ cut ≡ line ++ 10 ∷ (rest ++ cut)
+ended_more [] rest cut = refl
+ended_more (x ∷ line) rest cut = ap (λ l. x ∷ l) (ended_more line rest cut)
+
+-- a text is cut in one way into lines and what comes behind the last newline
+pub one_reading : (lines : List (List ℕ)) (tail : List ℕ) → All IsLine lines → IsLine tail → (others : List (List ℕ)) (cut : List ℕ) → All IsLine others → IsLine cut
+    → flat_map ended lines ++ tail ≡ flat_map ended others ++ cut → (others ≡ lines) × (cut ≡ tail)
+one_reading [] tail l t [] cut w c h = (refl, sym h)
+one_reading [] tail l t (w ∷ ws) cut all c h = absurd (no_newline_in w (flat_map ended ws ++ cut) (subst IsLine (h ∙ ended_more w (flat_map ended ws) cut) t))
+one_reading (x ∷ lines) tail l t [] cut w c h = absurd (no_newline_in x (flat_map ended lines ++ tail) (subst IsLine (sym h ∙ ended_more x (flat_map ended lines) tail) c))
+one_reading (x ∷ lines) tail l t (w ∷ ws) cut all c h =
+    let both = first_line x w (flat_map ended lines ++ tail) (flat_map ended ws ++ cut) (All-head IsLine x lines l) (All-head IsLine w ws all)
+    (sym (ended_more x (flat_map ended lines) tail) ∙ h ∙ ended_more w (flat_map ended ws) cut) in
+    let rest = one_reading lines tail (All-tail IsLine x lines l) t ws cut (All-tail IsLine w ws all) c both.1 in
+    (ap (λ z. z ∷ ws) (sym both.0) ∙ ap (λ l. x ∷ l) rest.0, rest.1)

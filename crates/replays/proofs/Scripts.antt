@@ -1,0 +1,171 @@
+-- The text of a dump as a script.
+use Rattle.std.proofs.Common.{◌≡◌, ◌<◌, ℕ, Bool, true, false, List, [], ◌∷◌, ◌++◌, length, map, codes, append-nil, get_or, Option, Some, None, refl, sym, ap, subst, ◌∙◌, arith, take}
+use Rattle.std.specs.Prelude.{◌≢◌, ◌&&◌, ◌||◌, ◌==◌, not, nat_le, nat_lt, All, bytes_eq}
+use Rattle.std.specs.List.{flat_map, list_all}
+use Rattle.std.specs.Option.{option_map_or}
+use Rattle.std.proofs.lemmas.Bool.Decides.{nat_tests}
+use Rattle.std.proofs.lemmas.Slice.Eq.{bytes_eq-Decides}
+use Rattle.std.proofs.lemmas.List.{append_assoc, map-append}
+use Rattle.std.proofs.lemmas.List.Elements.{All-append, All-cons, All-head, All-nil, All-tail}
+use Rattle.std.proofs.lemmas.Grind.{flat_map-append}
+use Rattle.hex.specs.Hex.{encode_lower}
+use Rattle.elf_file.specs.Constant.{FILE_HEADER_SIZE}
+use Rattle.elf_file.specs.Header.{is_too_short}
+use Rattle.elf_file.specs.Refusal.{file_refusal, file_refusals, header_refusal, header_tests}
+use Rattle.elf_file.specs.declared.refusal.ObjectRefusal.TheVariants.{TooShort}
+use Rattle.elf_file.proofs.FirstOf.{none_at, when_none}
+use Rattle.elf_dynamic.specs.Refusal.{first_refusal, refusals}
+use Rattle.elf_dynamic.specs.Strings.{soname}
+use Rattle.hash_check.specs.Soname.{has_bad_soname, is_library_name, is_name_byte}
+use Rattle.states.specs.State.{Library, State, has_name, names_of}
+use Rattle.requests.specs.Library.{IsLibrary, library_refusal}
+use Rattle.requests.specs.Request.{Request}
+use Rattle.requests.specs.State.{IsState}
+use Rattle.requests.proofs.Sonames.{badly_named, taken_memory}
+use Rattle.binders.specs.Events.{Happening, apply}
+use Rattle.commands.specs.Line.{is_name, is_visible, meaning}
+use Rattle.commands.specs.Script.{IsLine, ended}
+use Rattle.tool_commands.specs.Dump.{behind_space, cut_text, dump_text, install_text, preload_text}
+use Rattle.replays.specs.Script.{IsScript}
+use Rattle.replays.specs.Replay.{IsStateOfBytes, preload_requests, requests_for}
+use Rattle.replays.proofs.Meanings.{and_left, and_right, are_bytes, install_asked, install_line, no_newline, preload_line, preloads_asked}
+use Rattle.replays.proofs.Readings.{one_reading}
+use Rattle.replays.proofs.States.{install_of}
+
+-- ---- what holds of a library's file and name
+
+header_fine : (file : List ℕ) → first_refusal file ≡ None → header_refusal file ≡ None
+unfolding first_refusal file_refusal
+header_fine file h = none_at (file_refusals file) 0 (none_at (refusals file) 0 h)
+
+long_enough : (file : List ℕ) → header_refusal file ≡ None → is_too_short file ≡ false
+unfolding header_refusal
+long_enough file h = when_none TooShort (is_too_short file) (none_at (header_tests file) 0 h)
+
+has_bytes : (n : ℕ) → nat_lt n FILE_HEADER_SIZE ≡ false → 0 < n
+has_bytes n h = grind (arith, nat_tests)
+
+-- no library's file is empty
+some_bytes : (file : List ℕ) → library_refusal file ≡ None → 0 < length file
+some_bytes file h = has_bytes (length file) (long_enough file (header_fine file (taken_memory file h).0))
+
+good_name : (l : Library) → soname l.bytes ≡ Some l.name → (has_bad_soname l.bytes ≡ true → ⊥) → is_library_name l.name ≡ true
+unfolding has_bad_soname
+good_name l named fine = by (is_library_name l.name) (λ bad. fine (ap (λ o. not (option_map_or is_library_name o false)) named ∙ ap not bad))
+  where
+    by : (b : Bool) → (b ≡ false → ⊥) → b ≡ true
+    by true h = refl
+    by false h = absurd (h refl)
+
+visible : (b : ℕ) → is_name_byte b ≡ true → is_visible b ≡ true
+visible b h = grind (arith, nat_tests)
+
+both : (a b : Bool) → a ≡ true → b ≡ true → (a && b) ≡ true
+both true b h k = k
+both false b h k = cc h
+
+all_visible : (name : List ℕ) → list_all is_name_byte name ≡ true → list_all is_visible name ≡ true
+all_visible [] h = refl
+all_visible (b ∷ name) h =
+    both (is_visible b) (list_all is_visible name) (visible b (and_left (is_name_byte b) (list_all is_name_byte name) h))
+    (all_visible name (and_right (is_name_byte b) (list_all is_name_byte name) h))
+
+some_length : (n : ℕ) → nat_le 1 n ≡ true → not (n == 0) ≡ true
+some_length n h = grind (arith, nat_tests)
+
+-- the name of a library is one of a script
+name_of_script : (name : List ℕ) → is_library_name name ≡ true → is_name name ≡ true
+unfolding is_library_name
+name_of_script name h =
+    let short = and_left (nat_le 1 (length name) && nat_le (length name) 240) (list_all is_name_byte name) h in
+    let each = and_right (nat_le 1 (length name) && nat_le (length name) 240) (list_all is_name_byte name) h in
+    both (not (length name == 0)) (list_all is_visible name) (some_length (length name) (and_left (nat_le 1 (length name)) (nat_le (length name) 240) short)) (all_visible name each)
+
+library_named : (l : Library) → IsLibrary l → is_name l.name ≡ true
+library_named l is = name_of_script l.name (good_name l is.named (badly_named l.bytes is.accepted))
+
+-- what is one of the names of libraries is a name of a script
+found_named : (libraries : List Library) (name : List ℕ) → All IsLibrary libraries → has_name (names_of libraries) name ≡ true → is_name name ≡ true
+found_named [] name h found = cc found
+found_named (l ∷ libraries) name h found =
+    by (bytes_eq name l.name) (has_name (names_of libraries) name) (bytes_eq-Decides name l.name).0 (found_named libraries name (All-tail IsLibrary l libraries h)) found
+  where
+    by : (b c : Bool) → (b ≡ true → name ≡ l.name) → (c ≡ true → is_name name ≡ true) → (b || c) ≡ true → is_name name ≡ true
+    by true c same rest found = subst (λ n. is_name n ≡ true) (sym (same refl)) (library_named l (All-head IsLibrary l libraries h))
+    by false c same rest found = rest found
+
+preloads_named : (s : State) → IsState s → All (λ n. is_name n ≡ true) s.preloads
+preloads_named s h k d lt = found_named s.libraries (get_or s.preloads k d) h.libraries (h.installed k d lt)
+
+-- ---- the lines
+
+abbrev line_of : Library → List ℕ
+line_of l = codes "install " ++ encode_lower l.bytes
+
+abbrev preload_lines : List (List ℕ) → List (List ℕ)
+preload_lines [] = []
+preload_lines (name ∷ names) = (codes "preload" ++ flat_map behind_space (name ∷ names)) ∷ []
+
+abbrev pub asking : Request → Option Happening
+asking request = Some (apply request)
+
+each_install : (libraries : List Library) → All IsLine (map line_of libraries)
+each_install [] = All-nil IsLine
+each_install (l ∷ libraries) = All-cons IsLine (line_of l) (map line_of libraries) (install_line l.bytes) (each_install libraries)
+
+whole_installs : (libraries : List Library) → flat_map install_text libraries ≡ flat_map ended (map line_of libraries)
+whole_installs [] = refl
+whole_installs (l ∷ libraries) = ap (λ rest. install_text l ++ rest) (whole_installs libraries)
+
+installs_asked : (libraries : List Library) → All IsLibrary libraries → All (λ l. All (λ byte. byte < 256) l.bytes) libraries
+    → map meaning (map line_of libraries) ≡ map asking (map install_of libraries)
+installs_asked [] h bytes = refl
+installs_asked (l ∷ libraries) h bytes =
+    let is = All-head IsLibrary l libraries h in
+    let are = All-head (λ (l : Library). All (λ byte. byte < 256) l.bytes) l libraries bytes in
+    ap (λ o. o ∷ map meaning (map line_of libraries)) (install_asked l.bytes (are_bytes l.bytes are) (some_bytes l.bytes is.accepted))
+    ∙ ap (λ rest. asking (install_of l) ∷ rest)
+    (installs_asked libraries (All-tail IsLibrary l libraries h) (All-tail (λ (l : Library). All (λ byte. byte < 256) l.bytes) l libraries bytes))
+
+each_preloads : (names : List (List ℕ)) → All (λ n. is_name n ≡ true) names → All IsLine (preload_lines names)
+each_preloads [] h = All-nil IsLine
+each_preloads (name ∷ names) h = All-cons IsLine (codes "preload" ++ flat_map behind_space (name ∷ names)) [] (preload_line (name ∷ names) h) (All-nil IsLine)
+
+whole_preloads : (names : List (List ℕ)) → preload_text names ≡ flat_map ended (preload_lines names)
+whole_preloads [] = refl
+whole_preloads (name ∷ names) =
+    sym (append_assoc (codes "preload") (flat_map behind_space (name ∷ names)) (10 ∷ [])) ∙ sym (append-nil (ended (codes "preload" ++ flat_map behind_space (name ∷ names))))
+
+preload_asked : (names : List (List ℕ)) → All (λ n. is_name n ≡ true) names → map meaning (preload_lines names) ≡ map asking (preload_requests names)
+preload_asked [] h = refl
+preload_asked (name ∷ names) h = ap (λ o. o ∷ []) (preloads_asked name names h)
+
+-- the text of a dump is the script of its requests
+pub is_script : (s : State) → IsStateOfBytes s → IsScript (dump_text s) (requests_for s)
+is_script s h = record {
+  lines = map line_of s.libraries ++ preload_lines s.preloads;
+  each = each;
+  whole = whole;
+  asked = map-append meaning (map line_of s.libraries) (preload_lines s.preloads)
+      ∙ ap (λ front. front ++ map meaning (preload_lines s.preloads)) (installs_asked s.libraries h.state.libraries h.bytes)
+      ∙ ap (λ rest. map asking (map install_of s.libraries) ++ rest) (preload_asked s.preloads (preloads_named s h.state))
+      ∙ sym (map-append asking (map install_of s.libraries) (preload_requests s.preloads));
+  only = λ others cut lines rest is. one_reading (map line_of s.libraries ++ preload_lines s.preloads) [] each (All-nil (λ b. b ≢ 10)) others cut lines rest
+      (append-nil (flat_map ended (map line_of s.libraries ++ preload_lines s.preloads)) ∙ sym whole ∙ is);
+}
+  where
+    each : All IsLine (map line_of s.libraries ++ preload_lines s.preloads)
+    each = All-append IsLine (map line_of s.libraries) (preload_lines s.preloads) (each_install s.libraries) (each_preloads s.preloads (preloads_named s h.state))
+
+    whole : dump_text s ≡ flat_map ended (map line_of s.libraries ++ preload_lines s.preloads)
+    whole =
+        ap (λ front. front ++ preload_text s.preloads) (whole_installs s.libraries)
+        ∙ ap (λ rest. flat_map ended (map line_of s.libraries) ++ rest) (whole_preloads s.preloads)
+        ∙ sym (flat_map-append ended (map line_of s.libraries) (preload_lines s.preloads))
+
+-- a script that was cut ends behind its last newline with `cut`
+pub cut_ends : (s : State) (k : ℕ) (others : List (List ℕ)) (cut : List ℕ) → All IsLine others → IsLine cut → cut_text s k ≡ flat_map ended others ++ cut → cut ≡ codes "cut"
+cut_ends s k others cut lines rest is =
+    let installs = take k s.libraries in
+    (one_reading (map line_of installs) (codes "cut") (each_install installs) (no_newline (codes "cut") refl) others cut lines rest
+    (ap (λ front. front ++ codes "cut") (sym (whole_installs installs)) ∙ is)).1

@@ -1,0 +1,17 @@
+-- What a text asks as a script (own).
+use Rattle.std.specs.Prelude.{◌≡◌, ℕ, List, [], ◌++◌, map, All, Some}
+use Rattle.std.specs.List.{flat_map}
+use Rattle.requests.specs.Request.{Request}
+use Rattle.binders.specs.Events.{apply}
+use Rattle.commands.specs.Line.{meaning}
+use Rattle.commands.specs.Script.{IsLine, ended}
+
+-- A text is whole lines that ask these requests, one each and nothing else.
+pub record IsScript (text : List ℕ) (requests : List Request) : Type 0 where
+  pub lines : List (List ℕ)
+  pub each : All IsLine lines
+  pub whole : text ≡ flat_map ended lines
+  pub asked : map meaning lines ≡ map (λ request. Some (apply request)) requests
+  -- however it is cut into lines and what comes after the last one, these are the lines
+  pub only : (others : List (List ℕ)) (cut : List ℕ) → All IsLine others → IsLine cut
+      → text ≡ flat_map ended others ++ cut → (others ≡ lines) × (cut ≡ [])

@@ -1,0 +1,86 @@
+// The law that a dump replays.
+
+ghost use Rattle.std.specs.Prelude.{◌≡◌, ◌≤◌, ◌<◌, ◌+◌, ◌⊎◌, ℕ, IsTrue, IsFalse, Some};
+ghost use Rattle.std.specs.Prelude.{List, [], ◌∷◌, ◌++◌, length, map, fold, All};
+ghost use Rattle.std.specs.Int.{div_ceil};
+ghost use Rattle.sector_disk.specs.Disk.{sector_bytes};
+ghost use Rattle.states.specs.State.{Library, State, empty_state};
+ghost use Rattle.store.specs.Opened.{Opened};
+ghost use Rattle.store.specs.Opened as store;
+ghost use Rattle.requests.specs.Library.{IsLibrary};
+ghost use Rattle.requests.specs.Phase.{Phase};
+ghost use Rattle.requests.specs.Request.{Request, install};
+ghost use Rattle.requests.specs.Runs.{Run};
+ghost use Rattle.requests.specs.Step.{Step, accepted, refusal_at};
+ghost use Rattle.requests.specs.declared.refusal.Refusal.TheVariants.{Full};
+ghost use Rattle.requests.specs.declared.reply.Reply.{Reply};
+ghost use Rattle.requests.specs.declared.reply.Reply.TheVariants.{Done};
+ghost use Rattle.registry.specs.Opened.{IsAt};
+ghost use Rattle.registry.specs.Ran.{RunsOver};
+ghost use Rattle.registry.specs.Stands.{Stands};
+ghost use Rattle.commands.specs.OnDisk.{DiskScriptEnds};
+ghost use Rattle.commands.specs.Script.{Streams};
+ghost use Rattle.program_parts.specs.declared.status.Status.TheVariants as status;
+ghost use Rattle.tool_commands.specs.Dump.{cut_text, dump_text};
+ghost use Rattle.replays.specs.Script.{IsScript};
+ghost use Rattle.replays.specs.Replay.{IsStateOfBytes, copy_of, requests_for, sectors_for};
+ghost use Rattle.replays.specs.Replay.{IsBehind, LacksRoomAtMost, HasRoomFor, IsFault};
+
+use sector_disk::Disk;
+
+/// Does nothing: its clauses are the law that a dump replays, for the disks of a type.
+pub fn dump_replays<D: Disk>()
+    // The text is whole lines, which install the libraries in their order and then set the
+    // preloads.
+    ensures lines { (s : State) → IsStateOfBytes s → IsScript (dump_text s) (requests_for s) }
+
+    // Each of them, after those before it, may lack room, and nothing else.
+    ensures room { (s : State) → IsStateOfBytes s → (front rest : List Request)
+        (request : Request) (p : Phase) → requests_for s ≡ front ++ request ∷ rest
+        → IsBehind front p → LacksRoomAtMost s p request }
+
+    // On a disk with fewer sectors the last library is refused.
+    ensures least { (s : State) → IsStateOfBytes s → (libraries : List Library)
+        (last : Library) (p : Phase) → s.libraries ≡ libraries ++ last ∷ []
+        → IsBehind (map (λ l. install l.bytes) libraries) p → p.sectors < sectors_for s + p.lone
+        → refusal_at p (install last.bytes) ≡ Some Full }
+
+    // Where there is room, each is answered Done, unless the disk fails or memory is refused.
+    ensures answers { (s : State) → IsStateOfBytes s → (front rest : List Request)
+        (request : Request) (p p' : Phase) (answer : Reply)
+        → requests_for s ≡ front ++ request ∷ rest → IsBehind front p → HasRoomFor s p request
+        → Step p request answer p' → (answer ≡ Done) ⊎ IsFault answer }
+
+    // They lead to the same libraries, bytes, order and preloads.
+    ensures end { (s : State) → IsStateOfBytes s
+        → fold accepted empty_state (requests_for s) ≡ copy_of s }
+
+    // On a disk that is large enough, whose runs stay long enough, they run with Done each.
+    ensures runs { (s : State) → IsStateOfBytes s → (p : Phase) → p.state ≡ empty_state
+        → IsFalse p.failed → sectors_for s + p.lone ≤ p.sectors
+        → All (λ l. div_ceil (length l.bytes) sector_bytes ≤ p.longest) s.libraries
+        → Run Step p (requests_for s) (map (λ request. Done) (requests_for s))
+        (record p { state = copy_of s }) }
+
+    // A registry that was empty and answered each with Done is at the copy.
+    ensures registry { (s : State) → IsStateOfBytes s → (old new : Opened D)
+        (answers : List Reply) → IsAt D.facts old empty_state
+        → RunsOver D.facts old new empty_state (requests_for s) answers
+        → All (λ answer. answer ≡ Done) answers → IsAt D.facts new (copy_of s) }
+
+    // A disk that held an empty registry, and over which `script` read the text and ended with
+    // status 0, holds the copy.
+    ensures program { (s : State) → IsStateOfBytes s → (disk left : D) (io : Streams)
+        → IsTrue (D.facts disk).honest → Stands (D.facts disk).now empty_state
+        → io.unread ≡ Some (dump_text s)
+        → DiskScriptEnds D.facts disk io status.Done left
+        → Stands (D.facts left).now (copy_of s) }
+
+    // A script that was cut doesn't end with status 0.
+    ensures cut { (s : State) (k : ℕ) (disk left : D) (io : Streams)
+        → io.unread ≡ Some (cut_text s k) → DiskScriptEnds D.facts disk io status.Done left → ⊥ }
+
+    // Such a state is each that a store on a disk is at, where a whole script was dumped.
+    ensures states { (opened : Opened D) (s : State) → store.IsAt D.facts opened s
+        → All IsLibrary s.libraries → IsStateOfBytes s }
+{}

@@ -1,0 +1,67 @@
+-- What a command does to a registry on a disk of which no file is read when it is opened, and what it tells (own).
+use Rattle.std.specs.Prelude.{◌≡◌, ◌≢◌, ◌⊎◌, ◌+◌, ℕ, List, Option, Ok, Err, IsTrue, length}
+use Rattle.sector_disk.specs.Disk.{DiskFacts, Mixture, LeavesOnly, AreCallsExactly}
+use Rattle.states.specs.State.{State}
+use Rattle.store.specs.Opened.{Opened}
+use Rattle.store.specs.Opened as store
+use Rattle.store.specs.Opens.{Opens}
+use Rattle.store.specs.Stands as sectors
+use Rattle.store.specs.Stands.{catalogues_of}
+use Rattle.store.specs.declared.refusal.StoreRefusal.{StoreRefusal}
+use Rattle.requests.specs.Request.{Request, bind, list}
+use Rattle.requests.specs.declared.refusal.Refusal.{Refusal}
+use Rattle.requests.specs.declared.refusal.Refusal.TheVariants.{Device}
+use Rattle.requests.specs.declared.reply.Reply.{Reply}
+use Rattle.requests.specs.declared.reply.Reply.TheVariants as reply
+use Rattle.registry.specs.Answered.{Answered}
+use Rattle.registry.specs.Applied.{Applies, MayLeaveBy}
+use Rattle.registry.specs.Calls.{IfAccepted, calls_of}
+use Rattle.registry.specs.Opened.{IsAt}
+use Rattle.registry.specs.Phase.{phase_of}
+use Rattle.registry.specs.Untested.{AppliedUntested, AppliesUntested}
+use Rattle.program_parts.specs.Status.{disk_status}
+use Rattle.program_parts.specs.declared.status.Status.{Status}
+use Rattle.tool_commands.specs.Telling.{Tells}
+use Rattle.tool_commands.specs.declared.telling.Telling.{Telling}
+
+-- What such a registry answers to a command, and does.
+pub record DiskStep {D : Type 0} (facts : D → DiskFacts) (old : Opened D) (request : Request) (answer : Reply) (new : Opened D) : Type 0 where
+  -- from any byte strings a change and a listing are answered as the step table says
+  pub untested : (s : State) → store.IsAt facts old s → AppliesUntested facts old new s request answer
+  -- from libraries every command is
+  pub applied : (s : State) → IsAt facts old s → Applies facts old new s request answer
+  -- an accepted command makes exactly its calls of the disk
+  pub all_calls : (s : State) → store.IsAt facts old s → IfAccepted answer (AreCallsExactly (calls_of s request) (facts old.disk) (facts new.disk))
+  -- what such an answer says on any disk, also on one that lies
+  pub on_any_disk : Answered facts old new request answer
+
+-- a bind and a listing ask for no change
+abbrev pub IsChange : Request → Type 0
+IsChange (bind program base) = ⊥
+IsChange list = ⊥
+IsChange request = Unit {0}
+
+-- The registry on a disk was opened, whatever named byte strings it holds, a command was applied to
+-- it, and the disk is left so.
+pub record IsAnswered {D : Type 0} (facts : D → DiskFacts) (disk : D) (request : Request) (answer : Reply) (left : D) : Type 0 where
+  pub old : Opened D
+  pub opened : Opens sectors.Stands facts (store.IsAt facts) disk (Ok old)
+  -- no file was read
+  pub opening_calls : AreCallsExactly (3 + length (catalogues_of old.root) + length old.entries) (facts disk) (facts old.disk)
+  pub new : Opened D
+  pub step : DiskStep facts old request answer new
+  -- a stop at any moment leaves what it could leave before, the byte strings that an honest disk
+  -- held, those after the command, or the change in flight
+  pub any_moment : IsTrue (facts disk).honest → (s : State) → sectors.Stands (facts disk).now s → (s' : State) × AppliedUntested facts old new s s' request answer
+      × LeavesOnly (facts disk) (facts left) (λ m. Mixture (facts disk) m ⊎ MayLeaveBy sectors.Stands (phase_of facts old s) request answer s' m)
+  -- a change that is refused, but for a failed call, wrote nothing
+  pub unwritten : IsTrue (facts disk).honest → IsChange request → (refusal : Refusal) → answer ≡ reply.Refused refusal → refusal ≢ Device
+      → LeavesOnly (facts disk) (facts left) (Mixture (facts disk)) × ((facts left).now ≡ (facts disk).now)
+  pub back : left ≡ new.disk
+
+-- a command was answered and exactly its reply was told; or the disk was refused, and nothing was
+-- appended to the output
+abbrev pub RequestEnds : {D : Type 0} → (D → DiskFacts) → D → Request → Telling → Option (List ℕ) → Option (List ℕ) → Status → D → Type 0
+RequestEnds facts disk request telling before after status left =
+    ((answer : Reply) × IsAnswered facts disk request answer left × Tells telling answer before after status)
+    ⊎ ((refusal : StoreRefusal) × Opens sectors.Stands facts (store.IsAt facts) disk (Err (refusal, left)) × (status ≡ disk_status refusal) × (after ≡ before))

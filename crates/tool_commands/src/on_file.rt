@@ -1,0 +1,153 @@
+// What is done with the disk that a file is.
+
+use crate::form::{Action, Asked, Form};
+use crate::request::run_request;
+use crate::run::{end_unopened, run_form};
+use crate::said::{cannot_read, say_refusal};
+use crate::telling::Telling;
+use file_disk::{DiskFile, FileDisk, OpenFault};
+use program_parts::{FileFault, Status, read_file};
+use requests::Command;
+use std::alloc::Global;
+use std::fs::File;
+use std::io::Write;
+use std::rt::{Clock, Files};
+use store::StoreRefusal;
+
+/// Says why the file of a disk isn't opened.
+fn not_opened<E: Write>(alloc: Global, path: &str, fault: OpenFault, errors: &mut E) -> Status {
+    match fault {
+        OpenFault::CannotOpen => cannot_read(errors, path),
+        OpenFault::BadLength => say_refusal(alloc, StoreRefusal::BadGeometry, errors),
+        OpenFault::OutOfMemory => say_refusal(alloc, StoreRefusal::OutOfMemory, errors),
+    }
+}
+
+/// Opens the disk for reading alone, and tells what it has. Its lock is held until the output is
+/// written.
+fn tell<R: Files<File = File> + Clock, O: Write, E: Write>(
+    rt: &R,
+    alloc: Global,
+    path: &str,
+    form: &Form<'_>,
+    output: &mut O,
+    errors: &mut E,
+) -> Status {
+    match FileDisk::open_read_only(rt, alloc, path) {
+        Ok(disk) => {
+            let (status, disk) = run_form(alloc, disk, form, output, errors);
+            drop(disk);
+            status
+        }
+        Err(fault) => {
+            let said = not_opened(alloc, path, fault, errors);
+            end_unopened(form, said, output)
+        }
+    }
+}
+
+/// Applies a command to the registry on the disk that was opened at a path, and tells the reply.
+/// The lock is held until the output is written.
+fn ask<O: Write, E: Write>(
+    alloc: Global,
+    opened: Result<FileDisk<DiskFile>, OpenFault>,
+    path: &str,
+    command: &Command<'_>,
+    telling: Telling,
+    output: &mut O,
+    errors: &mut E,
+) -> Status {
+    match opened {
+        Ok(disk) => {
+            let (status, disk) = run_request(alloc, disk, command, telling, output, errors);
+            drop(disk);
+            status
+        }
+        Err(fault) => not_opened(alloc, path, fault, errors),
+    }
+}
+
+/// Opens the disk with a lock that nobody else may hold, and changes its registry.
+fn change<R: Files<File = File> + Clock, O: Write, E: Write>(
+    rt: &R,
+    alloc: Global,
+    path: &str,
+    command: &Command<'_>,
+    output: &mut O,
+    errors: &mut E,
+) -> Status {
+    let opened = FileDisk::open(rt, alloc, path);
+    ask(alloc, opened, path, command, Telling::Text, output, errors)
+}
+
+/// Says why a file wasn't read.
+fn not_read<E: Write>(alloc: Global, path: &str, fault: FileFault, errors: &mut E) -> Status {
+    match fault {
+        FileFault::CannotRead => cannot_read(errors, path),
+        FileFault::OutOfMemory => say_refusal(alloc, StoreRefusal::OutOfMemory, errors),
+    }
+}
+
+/// Puts a file in the place of the library of its name. The file is read before the disk is opened.
+fn replace<R: Files<File = File> + Clock, O: Write, E: Write>(
+    rt: &R,
+    alloc: Global,
+    path: &str,
+    file: &str,
+    output: &mut O,
+    errors: &mut E,
+) -> Status {
+    match read_file(rt, alloc, file) {
+        Ok(bytes) => {
+            let command = Command::Replace(&bytes);
+            change(rt, alloc, path, &command, output, errors)
+        }
+        Err(fault) => not_read(alloc, file, fault, errors),
+    }
+}
+
+/// Gives the executable file of a program. It is read before the disk is opened, for reading alone.
+fn executable<R: Files<File = File> + Clock, O: Write, E: Write>(
+    rt: &R,
+    alloc: Global,
+    path: &str,
+    program: &str,
+    base: u64,
+    output: &mut O,
+    errors: &mut E,
+) -> Status {
+    match read_file(rt, alloc, program) {
+        Ok(bytes) => {
+            let command = Command::Bind {
+                program: &bytes,
+                base,
+            };
+            let opened = FileDisk::open_read_only(rt, alloc, path);
+            let telling = Telling::Executable;
+            ask(alloc, opened, path, &command, telling, output, errors)
+        }
+        Err(fault) => not_read(alloc, program, fault, errors),
+    }
+}
+
+/// Does what is asked.
+pub(crate) fn run_asked<R: Files<File = File> + Clock, O: Write, E: Write>(
+    rt: &R,
+    alloc: Global,
+    asked: &Asked<'_>,
+    output: &mut O,
+    errors: &mut E,
+) -> Status {
+    let disk = asked.disk;
+    match asked.action {
+        Action::Tell(form) => tell(rt, alloc, disk, &form, output, errors),
+        Action::Replace(file) => replace(rt, alloc, disk, file, output, errors),
+        Action::Remove(name) => {
+            let command = Command::Remove(name.as_bytes());
+            change(rt, alloc, disk, &command, output, errors)
+        }
+        Action::Executable { program, base } => {
+            executable(rt, alloc, disk, program, base, output, errors)
+        }
+    }
+}

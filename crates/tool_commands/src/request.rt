@@ -1,0 +1,58 @@
+// A command to the registry on a disk, whatever the disk is, and whatever its libraries are.
+
+ghost use Rattle.requests.specs.Request.{request_of};
+ghost use Rattle.requests.specs.declared.reply.Reply.{Reply};
+ghost use Rattle.tool_commands.specs.Request.{DiskStep, RequestEnds};
+ghost use Rattle.tool_commands.specs.Telling.{Tells};
+
+use crate::said::say_refusal;
+use crate::telling::{Telling, tell};
+use program_parts::Status;
+use registry::Registry;
+use requests::Command;
+use sector_disk::Disk;
+use std::alloc::Global;
+use std::io::Write;
+
+/// Applies a command to a registry, and tells the reply.
+fn answer<D: Disk, O: Write, E: Write>(
+    registry: &mut Registry<D>,
+    alloc: Global,
+    command: &Command<'_>,
+    telling: Telling,
+    output: &mut O,
+    errors: &mut E,
+) -> Status
+    ensures { (reply : Reply)
+        × DiskStep D.facts registry.old (request_of command.now) reply registry.new
+        × Tells telling reply (O.contents output.old) (O.contents output.new) result }
+{
+    let reply = registry.apply(command);
+    tell(alloc, telling, &reply, output, errors)
+}
+
+/// Opens the registry on a disk without a test of its libraries, applies a command, and tells the
+/// reply; or says why the disk is refused. So a library that is damaged, or can't be read, keeps no
+/// other from being changed, and itself from being replaced or removed. Gives the status, and hands
+/// the disk back. Where the output fails the status is `Failed`, and the command was applied all
+/// the same.
+pub fn run_request<D: Disk, O: Write, E: Write>(
+    alloc: Global,
+    disk: D,
+    command: &Command<'_>,
+    telling: Telling,
+    output: &mut O,
+    errors: &mut E,
+) -> (Status, D)
+    ensures { RequestEnds D.facts disk (request_of command.now) telling
+        (O.contents output.old) (O.contents output.new) result.0 result.1 }
+{
+    match Registry::open_untested(alloc, disk) {
+        Ok(registry) => {
+            let mut registry = registry;
+            let status = answer(&mut registry, alloc, command, telling, output, errors);
+            (status, registry.into_disk())
+        }
+        Err((refusal, disk)) => (say_refusal(alloc, refusal, errors), disk),
+    }
+}

@@ -1,0 +1,80 @@
+// How a reply is told.
+
+ghost use Rattle.std.specs.Prelude.{◌≡◌, ◌++◌, OnOk};
+ghost use Rattle.program_parts.specs.Reply.{reply_text};
+ghost use Rattle.program_parts.specs.Said.{AppendsFront};
+ghost use Rattle.program_parts.specs.Status.{reply_status};
+ghost use Rattle.program_parts.specs.Told.{IsTold};
+ghost use Rattle.tool_commands.specs.Said.{said_line};
+ghost use Rattle.tool_commands.specs.Telling.{Tells};
+
+use crate::bound::tell_executable;
+use crate::said::cannot_write;
+use program_parts::{Line, Status, put_reply, say, write_reply};
+use requests::Reply;
+use std::alloc::Global;
+use std::io::Write;
+use text_output::WriteFault;
+
+/// How a reply is told.
+#[derive(Clone, Copy, Debug, PartialEq, Eq)]
+pub enum Telling {
+    /// By its text, on the output.
+    Text,
+    /// An image as an executable file, on the output; anything else on standard error.
+    Executable,
+}
+
+/// Writes a reply, or says that the output failed.
+fn tell_text<O: Write, E: Write>(reply: &Reply, output: &mut O, errors: &mut E) -> Status
+    ensures { IsTold (reply_status reply.now) (reply_text reply.now)
+        (O.contents output.old) (O.contents output.new) result }
+{
+    match write_reply(output, reply) {
+        Ok(()) => Status::of_reply(reply),
+        Err(_) => cannot_write(errors),
+    }
+}
+
+/// Spells the line of a reply.
+fn spell_reply(line: &mut Vec<u8>, reply: &Reply) -> Result<(), WriteFault>
+    ensures { OnOk result
+        (line.new.items ≡ line.old.items ++ said_line (reply_text reply.now)) }
+{
+    let mut text = Line::new();
+    text.put(line, b"rlibreg-tool: ")?;
+    put_reply(&mut text, line, reply)?;
+    text.send(line)
+}
+
+/// Says what came in the place of an image, where there is memory for the line.
+fn say_reply<E: Write>(alloc: Global, reply: &Reply, errors: &mut E) -> Status
+    ensures status { result ≡ reply_status reply.now }
+    ensures said { AppendsFront (E.contents errors.old) (E.contents errors.new)
+        (said_line (reply_text reply.now)) }
+{
+    let mut line = Vec::new(alloc);
+    if spell_reply(&mut line, reply).is_ok() {
+        say(errors, &line);
+    }
+    Status::of_reply(reply)
+}
+
+/// Tells a reply. Where the output fails the status is `Failed`.
+pub(crate) fn tell<O: Write, E: Write>(
+    alloc: Global,
+    telling: Telling,
+    reply: &Reply,
+    output: &mut O,
+    errors: &mut E,
+) -> Status
+    ensures { Tells telling reply.now (O.contents output.old) (O.contents output.new) result }
+{
+    match (telling, reply) {
+        (Telling::Text, reply) => tell_text(reply, output, errors),
+        (Telling::Executable, Reply::Bound(image)) => {
+            tell_executable(alloc, image, output, errors)
+        }
+        (Telling::Executable, reply) => say_reply(alloc, reply, errors),
+    }
+}
