@@ -8,11 +8,12 @@
  *
  * There are two layers.
  *
- * 1. Calls over bytes (rlibreg_bind, rlibreg_list, rlibreg_file, rlibreg_info, rlibreg_plan_*).
- *    Each is proved to return, to do nothing undefined, and to give what is defined (docs/C.md).
- *    They do no input or output: who calls has the bytes of the disk in memory, and gets an image,
- *    a listing, a library's bytes, what is told of the whole, or a plan, which is the list of the
- *    writes and syncs that make a change.
+ * 1. Calls over bytes (rlibreg_bind, rlibreg_list, rlibreg_file, rlibreg_info, rlibreg_check,
+ *    rlibreg_plan_*). Each is proved to return, to do nothing undefined, and to give what is
+ *    defined (docs/C.md). They do no input or output: who calls has the bytes of the disk in
+ *    memory, and gets an image, a listing, a library's bytes, what is told of the whole, what is
+ *    found of each library, or a plan, which is the list of the writes and syncs that make a
+ *    change.
  * 2. Calls over a file (struct rlibreg and the calls behind it), in C over the first layer, which
  *    open, lock and map the file, and carry plans out. They are tested.
  *
@@ -38,7 +39,8 @@
  *   has mapped aren't forgotten, so nobody maps the disk who hasn't its lock.
  * - The two roots stand in one block of 4,096 bytes. A medium that ruins a block of that size which
  *   it was writing can lose both.
- * - There is no checksum: a byte that changed on the medium within a library's code isn't seen.
+ * - There is no checksum: a byte that changed on the medium within a library's code isn't seen, by
+ *   rlibreg_check neither.
  * - A sector that the medium can't read ends the process by SIGBUS, in each call over a file: the
  *   file is mapped. So does a file that is made shorter while it is open. Who has to live on reads
  *   the bytes into memory under the lock, which fails with an errno, and makes the calls over
@@ -50,10 +52,11 @@
  *   refused with EBUSY where it is mounted or in use in another way; who looks shares it. The lock
  *   is that of its node: everybody names the same node. The system's udev holds it for a moment
  *   after each change, so a change without RLIBREG_WAIT tries for two seconds there.
- * - Each call opens the registry anew, which reads and tests each installed library once, but not
- *   for rlibreg_file and rlibreg_info: some 2 ms for 8 MiB in 64 libraries, 4 ms in 500. So many
- *   changes, one by one, cost the square of their number; the program's `script` opens a disk once
- *   (docs/COMMANDS.md).
+ * - Each call opens the registry anew: it reads the roots, the catalogues and a sector for each
+ *   library, and of the libraries' files only those that a bind needs. So a library that is damaged
+ *   or can't be read is met by the bind that needs it (S5, S1) and by rlibreg_check, and keeps
+ *   nothing else from being done; the program `rlibreg` tests all of them at each command.
+ *   rlibreg_plan_upgrade reads and tests each library once, as it does.
  * - A bound image is memory, and not a process: nothing of the library runs what is in it. Who maps
  *   it calls the initializers of the libraries (DT_INIT, DT_INIT_ARRAY) before its entry, as
  *   rlibreg-run does; they are in the dynamic sections of the objects.
@@ -88,7 +91,7 @@ extern "C" {
  * 10,000 * major + 100 * minor + patch. Where major or minor is another a caller is compiled again:
  * the shared library's name has the two, as librlibreg.so.0.2. rlibreg_version gives the version of
  * the library that is called. */
-#define RLIBREG_VERSION 200
+#define RLIBREG_VERSION 201
 uint32_t rlibreg_version(void);
 
 /* ---- Statuses
@@ -194,6 +197,20 @@ typedef struct rlibreg_information {
     uint64_t largest;      /* how many bytes a library of a new name may have now, or 0 */
 } rlibreg_information;
 
+/* What is found of a library's file: one of these, or n where En is the first test that refuses it
+ * (rlibreg_file_refusal_name). */
+enum {
+    RLIBREG_SOUND = 0,       /* it is a library of its name */
+    RLIBREG_OTHER_NAME = 100 /* it is a library of another name */
+};
+
+/* A library that was looked at. */
+typedef struct rlibreg_finding {
+    uint64_t name;        /* where its name begins in the buffer of names */
+    uint32_t name_length; /* how many bytes the name has, without the byte 0 behind it */
+    uint32_t finding;     /* RLIBREG_SOUND, 1 to 33, or RLIBREG_OTHER_NAME */
+} rlibreg_finding;
+
 RLIBREG_SAME(sizeof(rlibreg_answer) == 56);
 RLIBREG_SAME(offsetof(rlibreg_answer, file_refusal) == 4);
 RLIBREG_SAME(offsetof(rlibreg_answer, count) == 8);
@@ -210,6 +227,8 @@ RLIBREG_SAME(sizeof(rlibreg_information) == 64);
 RLIBREG_SAME(offsetof(rlibreg_information, generation) == 16);
 RLIBREG_SAME(offsetof(rlibreg_information, free_sectors) == 40);
 RLIBREG_SAME(offsetof(rlibreg_information, largest) == 56);
+RLIBREG_SAME(sizeof(rlibreg_finding) == 16);
+RLIBREG_SAME(offsetof(rlibreg_finding, finding) == 12);
 RLIBREG_SAME(sizeof(size_t) == 8 && sizeof(void *) == 8);
 
 /* ---- Layer 1: bytes
@@ -229,9 +248,9 @@ RLIBREG_SAME(sizeof(size_t) == 8 && sizeof(void *) == 8);
  * TEXT gets the line or the reply that the program `rlibreg` prints of the same: "ok\n", a listing,
  * or a refusal with its number and its names, as "refused B3 Missing libtwo.so libone.so\n". It
  * isn't ended by a byte 0. The answer's `text` has the length of the whole; where `text_room` is
- * less, the buffer has the beginning. It is empty of an image, of a library's bytes and of what is
- * told of the whole, which are in places of their own, and with the statuses 1 to 9, of which the
- * program knows nothing. A text that was cut changes no status.
+ * less, the buffer has the beginning. It is empty of an image, of a library's bytes, of what is
+ * told of the whole and of what is found, which are in places of their own, and with the statuses 1
+ * to 9, of which the program knows nothing. A text that was cut changes no status.
  *
  * MEMORY that is refused is answered S11, or S1 where it was that of a step of the plan or of the
  * sync with which each call begins: no other call of the disk can fail. Nothing was done then.
@@ -283,6 +302,20 @@ uint32_t rlibreg_file(const uint8_t *disk, size_t disk_length, const char *name,
  * Refusals: S3, S5, S6, S11, S12. */
 uint32_t rlibreg_info(const uint8_t *disk, size_t disk_length, rlibreg_information *information,
                       char *text, size_t text_room, rlibreg_answer *answer);
+
+/* Looks at each library's file. With the status 0 FINDINGS has what is found of the answer's
+ * `count` libraries, in the order of their installation, and NAMES their names in a row, each with
+ * a byte 0 behind it, `bytes` bytes in all. The status is 0 whatever is found: a library that is
+ * damaged keeps no other from being looked at. RLIBREG_SOUND is what an installation would accept
+ * under this name, whether these bytes were installed or not.
+ *
+ * Each file is read once, one is in memory at a time, and none is read where a buffer is too small.
+ * 2,048 findings and 493,568 bytes are always enough.
+ *
+ * Refusals: S3, S5, S6, S11, S12. */
+uint32_t rlibreg_check(const uint8_t *disk, size_t disk_length, rlibreg_finding *findings,
+                       size_t findings_room, char *names, size_t names_room, char *text,
+                       size_t text_room, rlibreg_answer *answer);
 
 /* PLANS. With the status 0 PLAN has the answer's `count` steps, `bytes` bytes in all. A step is
  *
@@ -359,8 +392,8 @@ typedef struct rlibreg rlibreg;
 rlibreg *rlibreg_create(void);
 
 /* Gives the file back with its lock, and frees the struct. Null is let be. What the struct gave as
- * rlibreg_text is gone; images and listings stay. In a child of fork the lock stays its parent's.
- */
+ * rlibreg_text is gone; images, listings and findings stay. In a child of fork the lock stays its
+ * parent's. */
 void rlibreg_close(rlibreg *registry);
 
 /* What the last call of this struct was answered: the line or the reply of the program, ended by a
@@ -436,6 +469,17 @@ uint32_t rlibreg_file_of(rlibreg *registry, const char *name, void **bytes, size
 
 /* What is told of the whole, as rlibreg_info tells it. */
 uint32_t rlibreg_info_of(rlibreg *registry, rlibreg_information *information);
+
+/* What is found of each library, as rlibreg_check tells it. It belongs to who asked, is written in
+ * every case, and is freed by rlibreg_findings_free, which may be called twice. */
+typedef struct rlibreg_findings {
+    size_t count; /* how many libraries */
+    rlibreg_finding *findings;
+    char *names; /* the name of a library is names + finding.name, with a byte 0 behind it */
+} rlibreg_findings;
+
+uint32_t rlibreg_findings_of(rlibreg *registry, rlibreg_findings *findings);
+void rlibreg_findings_free(rlibreg_findings *findings);
 
 /* An image, as rlibreg_bind gives it. It belongs to who asked, is written in every case, and is
  * freed by rlibreg_image_free, which may be called twice. */

@@ -396,6 +396,40 @@ uint32_t rlibreg_info_of(rlibreg *it, rlibreg_information *out) {
     return status;
 }
 
+/* What is found, with so much room for libraries and names. */
+static uint32_t check(rlibreg *it, rlibreg_findings *out, size_t libraries, size_t names) {
+    out->findings = malloc(libraries * sizeof *out->findings);
+    out->names = malloc(names);
+    if (!out->findings || !out->names) return say_memory(it);
+    return rlibreg_check(it->file.bytes, it->file.length, out->findings, libraries, out->names,
+                         names, it->text, it->text_room, &it->answer);
+}
+
+uint32_t rlibreg_findings_of(rlibreg *it, rlibreg_findings *out) {
+    size_t libraries = 64, names = 4096;
+    *out = (rlibreg_findings){ 0 };
+    uint32_t status = refuse(it);
+    if (status) return status;
+    for (;;) {
+        status = over_bytes(it, check(it, out, libraries, names));
+        int again = text_was_cut(it) || status == RLIBREG_NO_ROOM;
+        if (!status && !again) break;
+        rlibreg_findings_free(out);
+        if (!again) return status;
+        if (status != RLIBREG_NO_ROOM) continue;
+        libraries = it->answer.count;
+        names = it->answer.bytes;
+    }
+    out->count = it->answer.count;
+    return RLIBREG_DONE;
+}
+
+void rlibreg_findings_free(rlibreg_findings *it) {
+    free(it->findings);
+    free(it->names);
+    *it = (rlibreg_findings){ 0 };
+}
+
 /* What is bound, and where. */
 struct bound {
     const void *program;

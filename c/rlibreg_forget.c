@@ -9,8 +9,8 @@ int __wrap_fsync(int fd);
 enum { FRONT = 2 << 20, NUMBERS = 64 };
 
 /* The first sync of a file that succeeds has the system forget what it keeps of the file's front,
- * where the roots are; of a descriptor of a high number, each sync. The program opens its disk once,
- * before any folder that it syncs, so a number stands for one file. */
+ * where the roots are; of a descriptor of a high number, each sync. The program opens its disk
+ * once, before any folder that it syncs, so a number stands for one file. */
 int __wrap_fsync(int fd) {
     static char was_synced[NUMBERS];
     if (__real_fsync(fd)) return -1;

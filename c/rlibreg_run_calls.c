@@ -78,16 +78,38 @@ static void add_array(struct calls *calls, const struct source *it, int64_t tag,
     }
 }
 
+static void add_initializers(const struct program *it, size_t number) {
+    struct source source = source_of(it, number);
+    add_function(&initializers, &source, DT_INIT, "DT_INIT");
+    add_array(&initializers, &source, DT_INIT_ARRAY, DT_INIT_ARRAYSZ, "DT_INIT_ARRAY");
+}
+
+static void add_finalizers(const struct program *it, size_t number) {
+    struct source source = source_of(it, number);
+    add_function(&finalizers, &source, DT_FINI, "DT_FINI");
+    add_array(&finalizers, &source, DT_FINI_ARRAY, DT_FINI_ARRAYSZ, "DT_FINI_ARRAY");
+}
+
+/* The library that is initialized before everything else, by DF_1_INITFIRST: as with glibc, of
+ * several the last in load order, and finalized in its place. 0, which is the program, where there
+ * is none. */
+static size_t first_of_all(const struct program *it) {
+    for (size_t i = it->image.object_count; i-- > 1;) {
+        uint64_t flags;
+        struct dynamic dynamic = dynamic_of(&it->image, it->image.objects + i);
+        if (has_tag(&dynamic, DT_FLAGS_1, &flags) && flags & DF_1_INITFIRST) return i;
+    }
+    return 0;
+}
+
 void find_calls(const struct program *it) {
-    size_t *order = order_of_libraries(it);
-    struct source source = source_of(it, 0);
-    add_array(&initializers, &source, DT_PREINIT_ARRAY, DT_PREINIT_ARRAYSZ, "DT_PREINIT_ARRAY");
+    size_t *order = order_of_libraries(it), first = first_of_all(it);
+    struct source program = source_of(it, 0);
+    if (first) add_initializers(it, first);
+    add_array(&initializers, &program, DT_PREINIT_ARRAY, DT_PREINIT_ARRAYSZ, "DT_PREINIT_ARRAY");
     for (size_t i = 0; i + 1 < it->image.object_count; i++) {
-        source = source_of(it, order[i]);
-        add_function(&initializers, &source, DT_INIT, "DT_INIT");
-        add_array(&initializers, &source, DT_INIT_ARRAY, DT_INIT_ARRAYSZ, "DT_INIT_ARRAY");
-        add_function(&finalizers, &source, DT_FINI, "DT_FINI");
-        add_array(&finalizers, &source, DT_FINI_ARRAY, DT_FINI_ARRAYSZ, "DT_FINI_ARRAY");
+        if (order[i] != first) add_initializers(it, order[i]);
+        add_finalizers(it, order[i]);
     }
     free(order);
 }

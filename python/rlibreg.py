@@ -18,7 +18,7 @@ import os
 import threading
 from typing import Iterable, NamedTuple, Union
 
-__all__ = ['Closed', 'Error', 'Held', 'Image', 'Info', 'Library', 'Listing', 'Object',
+__all__ = ['Closed', 'Error', 'Finding', 'Held', 'Image', 'Info', 'Library', 'Listing', 'Object',
            'Permissions', 'Refusal', 'Registry', 'Segment', 'Status', 'SystemFault', 'format',
            'upgrade', 'version']
 
@@ -96,6 +96,14 @@ class Info(NamedTuple):
     free_sectors: int  # how many nothing uses: catalogues need some of them
     free_runs: int  # in how many runs these are
     largest: int  # how many bytes a library of a new name may have now, or 0
+
+
+class Finding(NamedTuple):
+    """What is found of an installed library, as rlibreg-tool says it."""
+
+    number: int  # 0 where it is sound, n of the first test En that refuses its file, else 100
+    name: str  # 'Sound', of a test as 'E2 BadMagic', or 'OtherName'
+    text: str  # 'ok', as 'damaged E2 BadMagic', or 'damaged OtherName'
 
 
 class Segment(NamedTuple):
@@ -195,6 +203,11 @@ class _Entry(ctypes.Structure):
                 ('file_length', ctypes.c_uint32)]
 
 
+class _Finding(ctypes.Structure):
+    _fields_ = [('name', ctypes.c_uint64), ('name_length', ctypes.c_uint32),
+                ('finding', ctypes.c_uint32)]
+
+
 class _Information(ctypes.Structure):
     _fields_ = [(name, ctypes.c_uint64) for name in Info._fields]
 
@@ -202,6 +215,11 @@ class _Information(ctypes.Structure):
 class _Listing(ctypes.Structure):
     _fields_ = [('generation', ctypes.c_uint64), ('libraries', ctypes.c_size_t),
                 ('preloads', ctypes.c_size_t), ('entries', ctypes.POINTER(_Entry)),
+                ('names', ctypes.c_void_p)]
+
+
+class _Findings(ctypes.Structure):
+    _fields_ = [('count', ctypes.c_size_t), ('findings', ctypes.POINTER(_Finding)),
                 ('names', ctypes.c_void_p)]
 
 
@@ -214,6 +232,7 @@ class _Image(ctypes.Structure):
 _POINTER, _TEXT, _SIZE = ctypes.c_void_p, ctypes.c_char_p, ctypes.c_size_t
 _NUMBER, _FLAGS = ctypes.c_uint32, ctypes.c_uint
 _CHANGES, _WAIT = 1, 2
+_SOUND, _OTHER_NAME = 0, 100
 
 _CALLS = {  # what each gives, and what it takes
     'version': (_NUMBER,),
@@ -234,6 +253,8 @@ _CALLS = {  # what each gives, and what it takes
     'listing_free': (None, ctypes.POINTER(_Listing)),
     'file_of': (_NUMBER, _POINTER, _TEXT, ctypes.POINTER(_POINTER), ctypes.POINTER(_SIZE)),
     'info_of': (_NUMBER, _POINTER, ctypes.POINTER(_Information)),
+    'findings_of': (_NUMBER, _POINTER, ctypes.POINTER(_Findings)),
+    'findings_free': (None, ctypes.POINTER(_Findings)),
     'image_of': (_NUMBER, _POINTER, _TEXT, _SIZE, ctypes.c_uint64, ctypes.POINTER(_Image)),
     'image_free': (None, ctypes.POINTER(_Image)),
 }
@@ -246,7 +267,9 @@ def _load() -> ctypes.CDLL:
     except OSError as error:
         raise ImportError(f'rlibreg calls {name}, which is not found: {error}') from None
     for call, (result, *arguments) in _CALLS.items():
-        function = getattr(library, f'rlibreg_{call}')
+        function = getattr(library, f'rlibreg_{call}', None)
+        if function is None:
+            raise ImportError(f'rlibreg calls a later {name}, which has rlibreg_{call}')
         function.restype, function.argtypes = result, arguments
     return library
 
@@ -357,6 +380,21 @@ def _listing(given: _Listing) -> Listing:
     return Listing(given.generation, libraries, names[given.libraries:])
 
 
+def _finding(number: int) -> Finding:
+    if number == _SOUND:
+        return Finding(number, 'Sound', 'ok')
+    if number == _OTHER_NAME:
+        return Finding(number, 'OtherName', 'damaged OtherName')
+    name = _library.rlibreg_file_refusal_name(number).decode()
+    return Finding(number, name, f'damaged {name}')
+
+
+def _findings(given: _Findings) -> list[tuple[str, Finding]]:
+    """Names and findings of Python's own memory."""
+    return [(ctypes.string_at(given.names + it.name, it.name_length).decode(),
+             _finding(it.finding)) for it in given.findings[:given.count]]
+
+
 def _image(given: _Image) -> Image:
     """An image of Python's own memory."""
     places = given.segments[:given.count]
@@ -452,6 +490,16 @@ class Registry:
         given = _Information()
         self._handle.call('info_of', ctypes.byref(given))
         return Info(*(getattr(given, name) for name in Info._fields))
+
+    def check(self) -> list[tuple[str, Finding]]:
+        """Looks at each library, in the order of installation: its name, and what is found of its
+        file. One that is damaged keeps no other from being looked at."""
+        given = _Findings()
+        try:
+            self._handle.call('findings_of', ctypes.byref(given))
+            return _findings(given)
+        finally:
+            _library.rlibreg_findings_free(ctypes.byref(given))
 
     def bind(self, program: Content, base: int) -> Image:
         """Binds a program at an address, with the preloads and the libraries that it needs."""

@@ -468,8 +468,11 @@ static void try_changed(const struct given *it) {
 }
 
 static void try_removed(const struct given *it) {
-    struct call none = { 'p', NULL, 0 }, upgrade = { 'u', NULL, 0 },
-                remove = { 'd', it->name, strlen(it->name) };
+    struct call none = { 'p', NULL, 0 }, upgrade = { 'u', NULL, 0 }, no_name = { 'd', NULL, 0 },
+                remove = { 'd', it->name, strlen(it->name) }, with_0 = remove;
+    with_0.length++;
+    try_refusal(no_name, RLIBREG_NOT_INSTALLED, "refused C3 NotInstalled\n");
+    try_refusal(with_0, RLIBREG_NOT_INSTALLED, "refused C3 NotInstalled\n");
     try_plan(none);
     try_plan(upgrade);
     try_plan(remove);

@@ -108,7 +108,8 @@ static void try_damaged(void) {
     rlibreg_close(it);
     WANT(put_byte(2 * SECTOR, 0) == library[0]);
     it = opened();
-    WANT(rlibreg_listing_of(it, &listing) == RLIBREG_DAMAGED);
+    WANT(!rlibreg_listing_of(it, &listing) && listing.libraries == 2);
+    rlibreg_listing_free(&listing);
     want_library(it, 'b', 2000);
     *soname = 'a';
     memcpy(damaged, library, least);

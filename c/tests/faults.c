@@ -154,6 +154,7 @@ static void want_reopen(rlibreg *it, const struct change *change) {
     rlibreg_listing listing;
     rlibreg_image image;
     rlibreg_information information;
+    rlibreg_findings findings;
     void *bytes;
     size_t length;
     if (change->opens) return; /* the struct has no file then */
@@ -164,6 +165,7 @@ static void want_reopen(rlibreg *it, const struct change *change) {
     WANT(rlibreg_last(it)->status == RLIBREG_REOPEN && !image.bytes);
     WANT(rlibreg_file_of(it, name, &bytes, &length) == RLIBREG_REOPEN && !bytes && !length);
     WANT(rlibreg_info_of(it, &information) == RLIBREG_REOPEN);
+    WANT(rlibreg_findings_of(it, &findings) == RLIBREG_REOPEN && !findings.findings);
 }
 
 /* Makes a change, from the opening of the disk to its closing. */
@@ -258,7 +260,7 @@ static void try_ends(const struct change *change, long calls) {
 
 /* ---- Memory */
 
-enum { LOOKS = 4 };
+enum { LOOKS = 5 };
 
 /* Looks at the disk, by the call of this number. */
 static uint32_t look_by(rlibreg *it, int number) {
@@ -266,6 +268,7 @@ static uint32_t look_by(rlibreg *it, int number) {
     rlibreg_listing listing;
     rlibreg_image image;
     rlibreg_information information;
+    rlibreg_findings findings;
     void *bytes;
     size_t length;
     switch (number) {
@@ -280,6 +283,10 @@ static uint32_t look_by(rlibreg *it, int number) {
     case 2:
         status = rlibreg_file_of(it, name, &bytes, &length);
         free(bytes);
+        return status;
+    case 3:
+        status = rlibreg_findings_of(it, &findings);
+        rlibreg_findings_free(&findings);
         return status;
     }
     return rlibreg_info_of(it, &information);
@@ -335,6 +342,7 @@ static void try_misuse(void) {
     rlibreg_listing listing;
     rlibreg_image image;
     rlibreg_information information;
+    rlibreg_findings findings;
     void *bytes;
     size_t length;
     leave_empty();
@@ -345,6 +353,7 @@ static void try_misuse(void) {
     WANT(rlibreg_image_of(it, program.bytes, program.length, 0, &image) == RLIBREG_BAD_GEOMETRY);
     WANT(rlibreg_file_of(it, name, &bytes, &length) == RLIBREG_BAD_GEOMETRY && !bytes);
     WANT(rlibreg_info_of(it, &information) == RLIBREG_BAD_GEOMETRY);
+    WANT(rlibreg_findings_of(it, &findings) == RLIBREG_BAD_GEOMETRY && !findings.findings);
     WANT(make_install(it) == RLIBREG_READ_ONLY);
     WANT(rlibreg_format(it, DISK, 7, 0) == RLIBREG_BAD_ARGUMENT);
     WANT(rlibreg_format(it, DISK, 4194305, 0) == RLIBREG_BAD_ARGUMENT);

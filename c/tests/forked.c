@@ -54,6 +54,7 @@ static void call_all(rlibreg *it) {
     rlibreg_listing listing;
     rlibreg_image image;
     rlibreg_information information;
+    rlibreg_findings findings;
     void *bytes;
     size_t length;
     const uint32_t bad = RLIBREG_BAD_ARGUMENT;
@@ -61,6 +62,7 @@ static void call_all(rlibreg *it) {
     WANT(rlibreg_image_of(it, program, program_length, 0, &image) == bad && !image.bytes);
     WANT(rlibreg_file_of(it, name, &bytes, &length) == bad && !bytes && !length);
     WANT(rlibreg_info_of(it, &information) == bad);
+    WANT(rlibreg_findings_of(it, &findings) == bad && !findings.findings && !findings.names);
     WANT(rlibreg_install(it, library, library_length) == bad);
     WANT(rlibreg_replace(it, library, library_length) == bad);
     WANT(rlibreg_remove(it, name) == bad && rlibreg_preload(it, &name, 1) == bad);

@@ -8,11 +8,13 @@ rm -f disk many
 ./tool format disk 512 > /dev/null
 
 # library NAME NEEDED..: a library of stage.c, which needs those; for a circle they are made before.
+# It is linked as `asks` says too.
 library() {
     local name=$1 flags=-Wl,-init,first,-fini,last,--no-as-needed
     shift
     [ -f $name.o ] || $compile -DNAME="\"$name\"" -c -o $name.o "$programs/stage.c"
-    $compile -shared -Wl,-soname,lib$name.so $flags -o lib$name.so $name.o $(printf ' lib%s.so' $*)
+    $compile -shared -Wl,-soname,lib$name.so $flags ${asks:-} -o lib$name.so $name.o \
+        $(printf ' lib%s.so' $*)
 }
 for name in a b c; do
     $compile -DNAME="\"$name\"" -c -o $name.o "$programs/stage.c"
@@ -38,6 +40,19 @@ want 'an end that calls nothing' "before 3 ./stages$began" \
 want 'preloads' "before 3 ./stages$(printf ' %s' {c,b,a}-{first,early,late}) entered" \
     "$(./rlibreg-run disk ./stages two words)"
 ./tool preload disk > /dev/null
+
+# The last of those that ask to come first, in load order, comes before what it needs, and before
+# what the program has to be called before all. It is finalized in its place.
+for name in f g; do asks=-Wl,-z,initfirst library $name a; done
+library h f
+for name in f g h; do ./tool install disk lib$name.so > /dev/null; done
+$compile -pie -Wl,-e,_start,--no-as-needed,--allow-shlib-undefined -o firsts "$programs/stages.c" \
+    libh.so libg.so libc.so
+want 'libraries that ask to come first' \
+    "$(printf ' %s' f-{first,early,late})before 2 ./firsts$(calls first early late)$(
+        printf ' %s' {g,h}-{first,early,late}) entered$(
+            printf ' %s' {h,g,f,b,c,a}-{soon,then,last})" \
+    "$(./rlibreg-run disk ./firsts word)"
 gcc $checked -o damaged "$here/damaged.c" "$here"/../rlibreg_run_{objects,order,calls}.c \
     "$built/librlibreg.a"
 ./damaged disk stages

@@ -34,7 +34,7 @@ for name in tool calls cuts; do
     gcc $checked -o "$room/$name" "$here/$name.c" $beside
 done
 gcc $checked $wraps -o "$room/faults" "$here/faults.c" $watched $beside
-for name in opening making forked contents; do
+for name in opening making forked contents findings; do
     gcc $checked -o "$room/$name" "$here/$name.c" $watched $beside
 done
 # With the sanitizer of addresses a program can't be mapped at each address, so the loader has one.
@@ -62,6 +62,7 @@ alone opening "$data/strong.so" b
 alone making "$data/strong.so" b
 alone forked "$data/strong.so" "$data/program-1.so" b
 alone contents "$data/strong.so" b
+alone findings "$data/strong.so" b "$data/old-one.disk"
 for part in cuts same held devices loader starting initializers documents; do
     (. "$here/$part.sh")
 done

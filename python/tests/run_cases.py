@@ -79,6 +79,14 @@ def ask(registry, command, words):
     return getattr(registry, command)(words[0])
 
 
+def test_all(registry):
+    """As the program, which tests each library when it opens a disk, and the module doesn't."""
+    if any(finding.number for _, finding in registry.check()):
+        error = rlibreg.Refusal()
+        error.number, error.text = Status.DAMAGED, 'refused S5 Damaged'
+        raise error
+
+
 def run_command(disk, command, words):
     if command == 'format':
         return rlibreg.format(disk, int(words[0]))
@@ -87,6 +95,7 @@ def run_command(disk, command, words):
     if command in ('install', 'replace', 'bind') and words[0] != str(disk):
         words = [Path(words[0]).read_bytes(), *words[1:]]  # as the program: before the disk
     with rlibreg.Registry(disk, changes=command not in ('list', 'bind')) as registry:
+        test_all(registry)
         return ask(registry, command, words)
 
 
@@ -160,11 +169,12 @@ def on_disk(case, disk):
 def told_script(path, script):
     try:
         with rlibreg.Registry(path, changes=True) as registry:
+            test_all(registry)
             replies, statuses = run_lines(registry, script)
     except OSError:
         return '', 3
-    if re.match(rb'refused S(3|5|6|12) ', replies):
-        replies = replies.splitlines(True)[0]  # the program says of the disk itself, and ends
+    except rlibreg.Refusal as refusal:
+        return refusal.text, exit_status(refusal)
     return replies, max(statuses)
 
 
@@ -260,12 +270,36 @@ def byte_on(case, disk):
     return case.answer, 'none' if byte is None else byte.hex()
 
 
+def library_on(case, disk):
+    """`library FILE => ANSWER`: what is found of it, in the place of a library `b`."""
+    data = file(' '.join(case.words))
+    if not (64 <= len(data) <= 1 << 24 and case.holds):
+        raise NotMapped  # nothing of that length is installed; other names are found to be the same
+    before = file('strong.so').ljust(len(data), b'+')[:len(data)]
+    disk.unlink(missing_ok=True)
+    rlibreg.format(disk, 40000)
+    with rlibreg.Registry(disk, changes=True) as registry:
+        try:
+            registry.install(before)
+        except rlibreg.Refusal:
+            raise NotMapped from None  # it is shorter than that library
+    with open(disk, 'r+b') as sectors:
+        sectors.seek(2 * 512)  # the first library's data
+        sectors.write(data)
+    with rlibreg.Registry(disk) as registry:
+        (name, finding), = registry.check()
+    kind, *words = case.answer.split(' ')
+    if kind == 'library':
+        return 'Sound' if words == [name] else 'OtherName', finding.name
+    return ' '.join(words[:2]), finding.name
+
+
 def not_mapped(case, disk):
     raise NotMapped
 
 
 CALLS = {'on': on_disk, 'script': script_on, 'bind': bind_on, 'image': bind_on, 'word': word_on,
-         'byte': byte_on}
+         'byte': byte_on, 'library': library_on}
 
 
 def main():

@@ -53,6 +53,7 @@ class Header(unittest.TestCase):
         found = {name: int(number) for name, number in found.items()}
         self.assertEqual({name: found.pop(name) for name in flags},
                          {**rlibreg.Permissions.__members__, 'CHANGES': 1, 'WAIT': 2})
+        self.assertEqual((found.pop('SOUND'), found.pop('OTHER_NAME')), (0, 100))
         self.assertEqual(found, dict(Status.__members__))
 
     def test_structures(self):
@@ -153,7 +154,7 @@ class Errors(OnDisk):
         registry = Registry(self.disk, changes=True)
         registry.close()
         registry.close()
-        for call in (registry.list, registry.info, registry.__enter__,
+        for call in (registry.list, registry.info, registry.check, registry.__enter__,
                      lambda: registry.install(LIBRARY), lambda: registry.bind(PROGRAM, 0),
                      lambda: registry.file('b')):
             self.assertIsInstance(self.refused(Status.BAD_ARGUMENT, call), rlibreg.Closed)
@@ -278,10 +279,22 @@ class Contents(OnDisk):
             disk.seek(2 * 512)  # the first library's data
             disk.write(b'\0')
         with Registry(self.disk) as registry:
-            self.refused(Status.DAMAGED, registry.list)
+            self.assertEqual([it.name for it in registry.list().libraries], [first, second])
             self.assertEqual(registry.file(second), file('first.so'))
             self.assertEqual(registry.file(first), b'\0' + LIBRARY.read_bytes()[1:])
             self.assertEqual(registry.info(), info)
+            self.assertEqual(registry.check(), [(first, (2, 'E2 BadMagic', 'damaged E2 BadMagic')),
+                                                (second, (0, 'Sound', 'ok'))])
+
+    def test_nothing_is_found_where_there_is_no_registry(self):
+        with Registry(self.disk) as registry:
+            self.assertEqual(registry.check(), [])
+        for data, number in ((bytes(SECTORS * 512), Status.NOT_FORMATTED),
+                             (bytes(513), Status.BAD_GEOMETRY),
+                             (file('old-one.disk'), Status.OLD_FORMAT)):
+            self.disk.write_bytes(data)
+            with Registry(self.disk) as registry:
+                self.refused(number, registry.check)
 
     def test_the_greatest_file_goes_in(self):
         with Registry(self.disk, changes=True) as registry:
@@ -319,6 +332,8 @@ class Memory(OnDisk):
         with Registry(self.disk) as registry:
             self.assertEqual(len(registry.list().libraries), 2048)
             self.assertEqual((registry.info().libraries, registry.info().largest), (2048, 0))
+            self.assertEqual([name for name, finding in registry.check() if not finding.number],
+                             [it.name for it in registry.list().libraries])
 
     def test_an_image_stays(self):
         with Registry(self.disk, changes=True) as registry:
@@ -335,6 +350,7 @@ class Memory(OnDisk):
             self.is_kept(100, lambda: self.refused(Status.BAD_BASE, registry.bind, PROGRAM, 1))
             self.is_kept(2000, registry.list)
             self.is_kept(2000, registry.info)
+            self.is_kept(2000, registry.check)
             self.is_kept(2000, lambda: registry.file('b'))
             self.is_kept(2000, lambda: self.refused(Status.NOT_INSTALLED, registry.file, 'c'))
             self.is_kept(2000, lambda: self.refused(Status.HELD, Registry, self.disk))

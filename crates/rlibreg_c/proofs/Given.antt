@@ -22,6 +22,7 @@ use Rattle.requests.specs.declared.refusal.Refusal.TheVariants as refusal
 use Rattle.requests.specs.declared.reply.Reply.{Reply}
 use Rattle.requests.specs.declared.reply.Reply.TheVariants as reply
 use Rattle.rlibreg_c.specs.declared.answer.Answer.{Answer}
+use Rattle.registry.proofs.Untested.{other_step}
 use Rattle.byte_registry.specs.Asked.{IsAsked}
 use Rattle.rlibreg_c.specs.declared.entry.EntryPlace.{EntryPlace}
 use Rattle.rlibreg_c.specs.declared.object.ObjectPlace.{ObjectPlace}
@@ -69,6 +70,12 @@ planned_left steps plan text old answer status (inr lacks, unlisted, unbound) no
 
 -- A change whose status is 0 has its plan, where its request is one of a change.
 module _ (bytes : List ℕ) (request : Request) (not_listing : (s : State) (l : Listed) → registry.IsReply s request (reply.Listing l) → ⊥) (not_bound : (s : State) (image : MemoryImage) → registry.IsReply s request (reply.Bound image) → ⊥) (plan text : List ℕ) (answer : Answer) (status : ℕ) (zero : status ≡ 0) where
+  listing_undamaged : {l : Listed} → reply.Listing l ≡ reply.Refused refusal.Damaged → ⊥
+  listing_undamaged is = cc
+
+  bound_undamaged : {image : MemoryImage} → reply.Bound image ≡ reply.Refused refusal.Damaged → ⊥
+  bound_undamaged is = cc
+
   given : (s : State) (r : Reply) (steps : List Step) → IsAsked bytes s request r steps → IsChangeTold r steps plan text answer status → IsPlanOf bytes request plan answer
   given s reply.Done steps asked told = record {
     state = s;
@@ -76,10 +83,11 @@ module _ (bytes : List ℕ) (request : Request) (not_listing : (s : State) (l : 
     holds = asked.holds;
     only = asked.only;
     leads = asked.leads refl;
+    registry = asked.registry refl;
     plan = planned_done steps plan text answer status zero told;
   }
-  given s (reply.Listing l) steps asked told = absurd (not_listing s l asked.by_table.step.2)
-  given s (reply.Bound image) steps asked told = absurd (not_bound s image asked.by_table.step.2)
+  given s (reply.Listing l) steps asked told = absurd (not_listing s l (other_step _ request (reply.Listing l) _ listing_undamaged asked.by_table.step).2)
+  given s (reply.Bound image) steps asked told = absurd (not_bound s image (other_step _ request (reply.Bound image) _ bound_undamaged asked.by_table.step).2)
   given s (reply.Refused why) steps asked told = absurd (refused_not_done why text answer status zero told.0)
 
   pub plan_given : IsChangeAnswered bytes request plan text answer status → IsPlanOf bytes request plan answer
@@ -159,15 +167,16 @@ module _ (disk program : List ℕ) (base : ℕ) (objects : List ObjectPlace) (se
   laid_out image (inr lacks, counts, unlisted, silent) = absurd (omega (arith, zero, lacks.0))
 
   bound : (s : State) (r : Reply) (steps : List Step) → IsAsked disk s (request.bind program base) r steps → IsBindTold r objects segments bytes text answer status → IsImageOf disk program base objects segments bytes answer
-  bound s reply.Done steps asked told = absurd (not_done (bound_image s program base) asked.by_table.step.2)
-  bound s (reply.Listing l) steps asked told = absurd (not_listed l (bound_image s program base) asked.by_table.step.2)
+  bound s reply.Done steps asked told = absurd (not_done (bound_image s program base) asked.by_table.step.0.2)
+  bound s (reply.Listing l) steps asked told = absurd (not_listed l (bound_image s program base) asked.by_table.step.0.2)
   bound s (reply.Bound image) steps asked told =
-      let is = asked.by_table.step.2 in
+      let is = asked.by_table.step.0.2 in
       record {
         state = s;
         holds = asked.holds;
         only = asked.only;
-        accepted = none_mapped refusal.Bind (binding_refusal s program base) asked.by_table.step.1;
+        libraries = asked.by_table.step.1 tt;
+        accepted = none_mapped refusal.Bind (binding_refusal s program base) asked.by_table.step.0.1;
         counts = subst (λ i. CountsImage i answer) is.0 (laid_out image told).0;
         given = subst (λ i. IsLaidOut i objects segments bytes answer.bytes) is.0 (laid_out image told).1;
         each = subst (λ i. (a : ℕ) → image_byte i a ≡ byte_of (bound_objects s program base) a) is.0 is.1;

@@ -1,5 +1,6 @@
 mod Contents
 mod Entries
+mod Findings
 mod Given
 mod Names
 mod Objects

@@ -2,17 +2,19 @@
 use Rattle.std.specs.Prelude.{◌≡◌, ◌≢◌, ◌⊎◌, ◌<◌, ◌^◌, ◌-◌, ℕ, List, length, take, min}
 use Rattle.byte_disk.specs.declared.step.Step.{Step}
 use Rattle.states.specs.State.{State}
+use Rattle.store.specs.Stands as sectors
 use Rattle.store.specs.declared.refusal.StoreRefusal.{StoreRefusal}
 use Rattle.requests.specs.Request.{Request, list, set_preloads}
 use Rattle.requests.specs.Table.{Listed}
 use Rattle.requests.specs.Step.{accepted}
 use Rattle.requests.specs.declared.reply.Reply.{Reply}
 use Rattle.requests.specs.declared.reply.Reply.TheVariants as reply
-use Rattle.program_parts.specs.Refusal.{disk_refusal_text}
-use Rattle.commands.specs.Refusal.{memory_text}
-use Rattle.commands.specs.Reply.{reply_text}
+use Rattle.program_parts.specs.Refusal.{disk_refusal_text, memory_text}
+use Rattle.program_parts.specs.Reply.{reply_text}
 use Rattle.byte_disk.specs.Bytes.{sectors_in}
 use Rattle.rlibreg_c.specs.declared.answer.Answer.{Answer}
+use Rattle.byte_contents.specs.Bytes.{HoldStore}
+use Rattle.registry.specs.Stands.{Stands}
 use Rattle.byte_registry.specs.Asked.{IsAsked, IsUnopened, IsFormatted, IsUnformatted, IsUpgraded, IsUnupgraded}
 use Rattle.rlibreg_c.specs.declared.place.SegmentPlace.{SegmentPlace}
 use Rattle.rlibreg_c.specs.declared.object.ObjectPlace.{ObjectPlace}
@@ -85,14 +87,15 @@ IsPlanned steps plan text answer status =
 abbrev pub IsLeft : List ℕ → List ℕ → ℕ → Type 0
 IsLeft old new status = status ≢ done → status ≢ no_room → status ≢ out_of_memory → new ≡ old
 
--- The plan of a change of the registry that the bytes hold: it leads from their state, and they
--- hold no other, to the one that acceptance gives.
+-- The plan of a change of what the bytes hold: it leads from their state, and they hold no other, to
+-- the one that acceptance gives; and from one of a registry to such a one.
 pub record IsPlanOf (bytes : List ℕ) (request : Request) (buffer : List ℕ) (answer : Answer) : Type 0 where
   pub state : State
   pub steps : List Step
-  pub holds : Holds bytes state
-  pub only : (other : State) → Holds bytes other → other ≡ state
-  pub leads : LeadsTo (sectors_in bytes) state (accepted state request) steps
+  pub holds : HoldStore bytes state
+  pub only : (other : State) → HoldStore bytes other → other ≡ state
+  pub leads : LeadsTo sectors.Stands (sectors_in bytes) state (accepted state request) steps
+  pub registry : Holds bytes state → LeadsTo Stands (sectors_in bytes) state (accepted state request) steps
   pub plan : HasPlan steps buffer answer.bytes answer.count
 
 -- what a reply to a change is told by

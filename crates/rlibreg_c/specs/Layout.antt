@@ -11,7 +11,8 @@ use Rattle.rlibreg_c.specs.declared.object.ObjectPlace.{ObjectPlace}
 use Rattle.rlibreg_c.specs.Numbers.{done, no_room}
 use Rattle.rlibreg_c.specs.Objects.{object_names, object_places}
 use Rattle.rlibreg_c.specs.Unsaid.{IsSilent, IsUnlisted}
-use Rattle.byte_registry.specs.Plans.{Holds}
+use Rattle.byte_contents.specs.Bytes.{HoldStore}
+use Rattle.registry.specs.Untested.{ReadsLibraries}
 
 -- the bytes of all segments, in a row
 abbrev pub segment_bytes : List ImageSegment → List ℕ
@@ -54,12 +55,13 @@ IsImageGiven image objects segments bytes answer status =
     ⊎ ((status ≡ no_room) × LacksSpace image objects segments bytes answer.bytes))
     × CountsImage image answer × IsUnlisted answer × IsSilent answer
 
--- The buffers have the image that is defined for a program at a base over the registry that the
--- bytes hold, with the defined byte at each address.
+-- The buffers have the image that is defined for a program at a base over the state that the bytes
+-- hold, with the defined byte at each address. Each file that it needs is a library.
 pub record IsImageOf (disk program : List ℕ) (base : ℕ) (objects : List ObjectPlace) (segments : List SegmentPlace) (bytes : List ℕ) (answer : Answer) : Type 0 where
   pub state : State
-  pub holds : Holds disk state
-  pub only : (other : State) → Holds disk other → other ≡ state
+  pub holds : HoldStore disk state
+  pub only : (other : State) → HoldStore disk other → other ≡ state
+  pub libraries : ReadsLibraries state program
   pub accepted : binding_refusal state program base ≡ None
   pub counts : CountsImage (bound_image state program base) answer
   pub given : IsLaidOut (bound_image state program base) objects segments bytes answer.bytes

@@ -1,4 +1,5 @@
 pub mod Answers
+pub mod Check
 pub mod Contents
 pub mod Layout
 pub mod Listing

@@ -7,7 +7,7 @@ use Rattle.rlibreg_c.specs.declared.answer.Answer.{Answer}
 use Rattle.rlibreg_c.specs.declared.entry.EntryPlace.{EntryPlace}
 use Rattle.rlibreg_c.specs.Numbers.{done, no_room}
 use Rattle.rlibreg_c.specs.Unsaid.{IsSilent, IsUnbound}
-use Rattle.byte_registry.specs.Plans.{Holds}
+use Rattle.byte_contents.specs.Bytes.{HoldStore}
 
 -- a name and the length of a file, of a library or, with 0, of a preload
 abbrev pub Entry : Type 0
@@ -59,8 +59,8 @@ IsListingGiven l entries names answer status = IsSilent answer × IsUnbound answ
 -- The buffers have what is listed of the state that the bytes hold, the answer its generation.
 pub record IsListingOf (disk : List ℕ) (entries : List EntryPlace) (names : List ℕ) (answer : Answer) : Type 0 where
   pub state : State
-  pub holds : Holds disk state
-  pub only : (other : State) → Holds disk other → other ≡ state
+  pub holds : HoldStore disk state
+  pub only : (other : State) → HoldStore disk other → other ≡ state
   pub counts : Counts (listed state) answer.count answer.preloads
   pub given : AreListed (entries_of (listed state)) entries names answer.bytes
   pub generation : answer.generation ≡ state.generation

@@ -8,8 +8,10 @@
 mod answer;
 mod bind;
 mod change;
+mod check;
 mod entry;
 mod file;
+mod finding;
 mod format;
 mod information;
 mod layout;
@@ -26,6 +28,7 @@ mod upgrade;
 
 pub use answer::Answer;
 pub use entry::EntryPlace;
+pub use finding::FindingPlace;
 pub use information::Information;
 pub use object::ObjectPlace;
 pub use place::SegmentPlace;

@@ -1,6 +1,6 @@
 // A listing.
 ghost use Rattle.std.specs.Prelude.{◌≡◌};
-ghost use Rattle.byte_registry.specs.Plans.{Holds};
+ghost use Rattle.byte_contents.specs.Bytes.{HoldStore};
 ghost use Rattle.requests.specs.declared.reply.Reply.TheVariants as variant;
 ghost use Rattle.rlibreg_c.specs.Answers.{IsListAnswered, IsListGiven, IsListTold};
 ghost use Rattle.rlibreg_c.specs.Listing.{IsListingOf};
@@ -48,7 +48,7 @@ fn tell_list(
     names: &mut [u8],
     text: &mut [u8],
 ) -> Answer
-    ensures { (s : State) → Holds disk.now s
+    ensures { (s : State) → HoldStore disk.now s
         → IsListTold s reply.now entries.new names.new text.new result result.status }
 {
     match reply {

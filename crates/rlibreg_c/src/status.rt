@@ -121,7 +121,7 @@ fn object_number(refusal: ObjectRefusal) -> u32
 }
 
 /// The number of the refusal of a file: n of En.
-fn file_number(refusal: FileRefusal) -> u32
+pub(crate) fn file_number(refusal: FileRefusal) -> u32
     ensures { result ≡ file_number refusal }
 {
     match refusal {

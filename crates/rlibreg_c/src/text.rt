@@ -6,7 +6,7 @@ ghost use Rattle.rlibreg_c.specs.Unsaid.{IsUncounted};
 
 use crate::answer::Answer;
 use crate::status::{DONE, OUT_OF_MEMORY, file_refusal_number, refusal_status, store_status};
-use commands::{write_disk_refusal, write_reply};
+use program_parts::{write_disk_refusal, write_reply};
 use requests::Reply;
 use std::alloc::Global;
 use store::StoreRefusal;

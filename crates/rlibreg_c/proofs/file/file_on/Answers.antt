@@ -1,4 +1,4 @@
-use Rattle.std.proofs.Common.{◌≡◌, inl, inr, ap, subst}
+use Rattle.std.proofs.Common.{inl, inr, subst}
 use Rattle.requests.specs.declared.refusal.Refusal.{Refusal}
 use Rattle.requests.specs.declared.reply.Reply.TheVariants.{Refused}
 use Rattle.rlibreg_c.specs.Answers.{IsToldAlone}

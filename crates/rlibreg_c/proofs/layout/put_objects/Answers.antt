@@ -1,7 +1,7 @@
-use Rattle.std.proofs.Common.{◌≡◌, ◌∙◌, ◌+◌, ◌++◌, ◌∷◌, ◌<◌, List, [], get_or, inl, inr, subst, ap, length, take, arith}
+use Rattle.std.proofs.Common.{◌≡◌, ◌∙◌, ◌+◌, ◌++◌, ◌∷◌, ◌<◌, List, [], get_or, inr, subst, ap, length, take, arith}
 use Rattle.std.proofs.lemmas.List.{take_all, take_more_set}
 use Rattle.image.specs.declared.object.ImageObject.{ImageObject}
-use Rattle.rlibreg_c.specs.Objects.{object_names, object_place, object_places}
+use Rattle.rlibreg_c.specs.Objects.{object_names, object_places}
 use Rattle.rlibreg_c.proofs.Objects.{end_more, names_more, places_more, room_lacks, segments_le, segments_more}
 use Rattle.rlibreg_c.proofs.Rows.{none_holds}
 use Rattle.rlibreg_c.proofs.layout.put_objects.Goals as goal

@@ -1,0 +1,5 @@
+use Rattle.std.proofs.Common.{inl}
+use Rattle.rlibreg_c.proofs.check.check_on.Goals as goal
+
+pub returns-in-Ok : goal.returns-in-Ok
+returns-in-Ok c = let ok = c.in-Ok.ensures.ok in inl (ok.0, ok.1, c.look-answer.ensures.told ok.0 ok.2)

@@ -1,0 +1,7 @@
+use Rattle.rlibreg_c.proofs.Findings.{check_given}
+use Rattle.rlibreg_c.proofs.check.rlibreg_check.Goals as goal
+
+pub returns-clause-check : goal.returns-clause-check
+returns-clause-check c zero =
+    let on = c.check_on in
+    check_given c.args.disk.now on.new.findings on.new.names on.new.text on.result on.result.status zero on.ensures

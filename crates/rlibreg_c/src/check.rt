@@ -1,0 +1,149 @@
+// What is found of each library.
+ghost use Rattle.std.specs.Prelude.{◌≡◌, ◌-◌, ◌<◌, ◌≤◌, ◌^◌, ◌⊎◌, ℕ, IfSome, IfNone, length};
+ghost use Rattle.std.specs.Prelude.{count_by, min, slice_index_or};
+ghost use Rattle.states.specs.State.{State};
+ghost use Rattle.store.specs.Opened.{IsAt};
+ghost use Rattle.store.specs.Stands.{no_library};
+ghost use Rattle.requests.specs.declared.refusal.Refusal.TheVariants.{Device};
+ghost use Rattle.requests.specs.declared.reply.Reply.TheVariants as reply;
+ghost use Rattle.contents.specs.Finding.{IsFinding, is_unreadable};
+ghost use Rattle.contents.specs.declared.finding.Finding.{Finding};
+ghost use Rattle.rlibreg_c.specs.Answers.{IsToldAlone};
+ghost use Rattle.rlibreg_c.specs.Check.{AreFound, IsCheckAnswered, IsCheckGiven, IsCheckOf};
+ghost use Rattle.rlibreg_c.specs.Check.{library_names};
+
+use crate::answer::Answer;
+use crate::finding::{FindingPlace, finding_number, place_of};
+use crate::put::put;
+use crate::status::{DONE, NO_ROOM};
+use crate::text::{tell, tell_memory, turn_away};
+use byte_contents::contents_of;
+use contents::{Contents, Finding};
+use requests::{Refusal, Reply};
+use sector_disk::Disk;
+use std::alloc::Global;
+use store::Store;
+
+/// How many bytes the names of the libraries take, each with a byte 0 behind it.
+fn names_bytes<D: Disk>(store: &Store<D>) -> u64
+    ensures { (s : State) → IsAt D.facts store.now s
+        → result ≡ min (length (library_names s.libraries)) (2 ^ 64 - 1) }
+{
+    let mut bytes = 0u64;
+    for position in 0..store.count() {
+        let name = store.name(position).len() as u64;
+        bytes = bytes.saturating_add(name.saturating_add(1));
+    }
+    bytes
+}
+
+/// Puts what was found of the libraries into the two buffers, of which the first has room. Says how
+/// many bytes their names take; nothing where one couldn't be read, or its name has no room.
+fn put_findings<D: Disk>(
+    store: &Store<D>,
+    found: &[Finding],
+    findings: &mut [FindingPlace],
+    names: &mut [u8],
+) -> Option<usize>
+    requires all { length found.now ≡ length store.now.entries }
+    requires room { length store.now.entries ≤ length findings.old }
+    ensures found { (s : State) → IsAt D.facts store.now s
+        → ((i : ℕ) → i < length s.libraries → (d : Finding)
+        → IsFinding (slice_index_or s.libraries i no_library) (slice_index_or found.now i d))
+        → IfSome result (AreFound s.libraries findings.new names.new) }
+    ensures unread { (s : State) → IsAt D.facts store.now s
+        → length (library_names s.libraries) ≤ length names.old
+        → IfNone result (0 < count_by is_unreadable found.now) }
+{
+    let mut at = 0usize;
+    for position in 0..store.count() {
+        let name = store.name(position);
+        let finding = finding_number(found[position])?;
+        findings[position] = place_of(name, finding, at);
+        let behind = put(names, at, name)?;
+        at = put(names, behind, b"\0")?;
+    }
+    Some(at)
+}
+
+/// Looks at each library, and puts what is found into the two buffers, where they have room: where
+/// they haven't, no file is read.
+fn look<D: Disk>(
+    alloc: Global,
+    contents: &mut Contents<D>,
+    findings: &mut [FindingPlace],
+    names: &mut [u8],
+    text: &mut [u8],
+) -> Answer
+    ensures told { (s : State) → IsAt D.facts contents.old s
+        → IsCheckGiven s.libraries findings.new names.new result result.status
+        ⊎ IsToldAlone (reply.Refused Device) text.new result result.status }
+
+    // S1 is answered only where a read failed.
+    ensures device { (s : State) → IsAt D.facts contents.old s → result.status ≡ 301
+        → (D.facts contents.old.disk).failures < (D.facts contents.new.disk).failures }
+{
+    let needed = Answer {
+        count: contents.store().count() as u64,
+        bytes: names_bytes(contents.store()),
+        ..Answer::of(NO_ROOM)
+    };
+    if (findings.len() as u64) < needed.count || (names.len() as u64) < needed.bytes {
+        return needed;
+    }
+    match contents.check(alloc) {
+        Ok(found) => match put_findings(contents.store(), &found, findings, names) {
+            Some(end) => Answer {
+                status: DONE,
+                bytes: end as u64,
+                ..needed
+            },
+            None => tell(alloc, &Reply::Refused(Refusal::Device), text),
+        },
+        Err(_) => tell_memory(text),
+    }
+}
+
+/// Tells what is found of each library, or why that isn't told.
+fn check_on(
+    alloc: Global,
+    disk: &[u8],
+    findings: &mut [FindingPlace],
+    names: &mut [u8],
+    text: &mut [u8],
+) -> Answer
+    ensures { IsCheckAnswered disk.now findings.new names.new text.new result result.status }
+{
+    match contents_of(alloc, disk) {
+        Ok(contents) => {
+            let mut contents = contents;
+            let answer = look(alloc, &mut contents, findings, names, text);
+            let _ = contents.into_disk();
+            answer
+        }
+        Err(refusal) => turn_away(alloc, refusal, text),
+    }
+}
+
+/// What is found of each library of the registry that the sectors of `disk` hold, in the order of
+/// their installation: in `findings` by its number, in `names` their names in a row, each with a
+/// byte 0 behind it. Each library's file is read once. A library that isn't sound keeps no other
+/// from being looked at. Where one of the two buffers is too small the answer has what both need,
+/// and no file was read.
+#[unsafe(no_mangle)]
+pub extern "C" fn rlibreg_check(
+    alloc: Global,
+    disk: &[u8],
+    findings: &mut [FindingPlace],
+    names: &mut [u8],
+    text: &mut [u8],
+    answer: &mut Answer,
+) -> u32
+    // The buffers have what is found of each library of the state that the bytes hold.
+    ensures check { result ≡ 0 → IsCheckOf disk.now findings.new names.new answer.new }
+    ensures answered { IsCheckAnswered disk.now findings.new names.new text.new answer.new result }
+    ensures status { answer.new.status ≡ result }
+{
+    *answer = check_on(alloc, disk, findings, names, text);
+    answer.status
+}
