@@ -3,20 +3,24 @@
 
     python3 bench/c_library.py FOLDER [NUMBER LENGTH]..
 
-FOLDER has librlibreg.so (c/build.sh). For each NUMBER and LENGTH a disk is made with so many libraries of about LENGTH
-bytes, through the calls over a file, and then looked at: the least of five times each. The program that is bound needs
-all libraries. What one installation takes is timed over the full disk, as a plan and carried out with its syncs.
+FOLDER has librlibreg.so and rlibreg (c/build.sh). For each NUMBER and LENGTH a disk is made with so
+many libraries of about LENGTH bytes, and then looked at: the least of five times each. The program
+that is bound needs all libraries; it is left out where these have over 64 MiB. What one further
+installation takes is timed as a plan, and once as it is carried out with its syncs; beside 2,048
+libraries there is no further one.
 """
 
 import ctypes
+import mmap
+import subprocess
 import sys
 import tempfile
 import time
-from pathlib import Path
 
+from disks import install
 from libraries import Made
 
-RUNS, ROOM = 5, 1 << 26
+RUNS, ROOM, MOST, RLIBREG_CHANGES = 5, 1 << 26, 2048, 1
 
 
 class Answer(ctypes.Structure):
@@ -43,40 +47,79 @@ def bytes_and_length(data):
     return ctypes.c_char_p(data), ctypes.c_size_t(len(data))
 
 
-def measure(it, folder, number, length):
-    names = [b'lib%04d' % i for i in range(number + 1)]
-    made = [Made(name, exports=[name], data=length - 512).file for name in names]
-    program = Made(needed=names[:number], undefined=[names[0]], relocations=[(1, 0, 1, 0)], behind=64).file
-    sectors = number * (len(made[0]) // 512 + 2) + number // 16 + 2 * len(made[0]) // 512 + 100
-    path, registry = f'{folder}/disk{number}'.encode(), ctypes.c_void_p(it.rlibreg_create())
-    assert it.rlibreg_format(registry, path, ctypes.c_uint32(sectors), 0) == 0, it.rlibreg_text(registry)
+def name(i):
+    return b'lib%04d' % i
+
+
+def make(i, length):
+    return Made(name(i), exports=[name(i)], data=length - 512).file
+
+
+def fill(path, number, length):
+    """A disk with so many libraries, and room for one more where there may be one."""
+    size = len(make(0, length))
+    sectors = number * (size // 512 + 2) + number // 16 + 2 * size // 512 + 100
+    program = f'{sys.argv[1]}/rlibreg'
+    words = [program, 'format', path, str(sectors)]
+    subprocess.run(words, check=True, stdout=subprocess.DEVNULL)
+    install(program, path, (make(i, length) for i in range(number)))
+    print(f'{number} libraries of {size} bytes, {sectors} sectors', flush=True)
+
+
+def install_one(it, path, file):
+    """Tells how long an installation takes with its syncs, once the disk is open."""
+    registry = ctypes.c_void_p(it.rlibreg_create())
+    assert it.rlibreg_open(registry, path.encode(), RLIBREG_CHANGES) == 0
     start = time.perf_counter()
-    for file in made[:number]:
-        assert it.rlibreg_install(registry, *bytes_and_length(file)) == 0, it.rlibreg_text(registry)
-    print(f'{number} libraries of {len(made[0])} bytes, {sectors} sectors')
-    print(f'  installed, each with its syncs: {time.perf_counter() - start:.2f} s')
-    disk = Path(path.decode()).read_bytes()
-    room, entries, text = (ctypes.create_string_buffer(size) for size in (ROOM, 1 << 17, 1 << 20))
-    answer = Answer()
-
-    def ask(name, *words):
-        tail = (text, ctypes.c_size_t(1 << 20), ctypes.byref(answer))
-        status = getattr(it, f'rlibreg_{name}')(*bytes_and_length(disk), *words, *tail)
-        assert status == 0, (name, status, text.raw[:answer.text])
-
-    big, names_room = (room, ctypes.c_size_t(ROOM)), ctypes.c_size_t(ROOM)
-    print(f'  rlibreg_list: {least(lambda: ask("list", entries, ctypes.c_size_t(4096), room, names_room)):.1f} ms')
-    asked = (*bytes_and_length(names[0]), *big)
-    print(f'  rlibreg_file: {least(lambda: ask("file", *asked)):.1f} ms, {answer.bytes} bytes')
-    information = ctypes.create_string_buffer(64)
-    print(f'  rlibreg_info: {least(lambda: ask("info", information)):.1f} ms')
-    objects = ctypes.create_string_buffer(72 * 4096)
-    bind = (*bytes_and_length(program), ctypes.c_uint64(1 << 32), objects, ctypes.c_size_t(4096), entries)
-    bind += (ctypes.c_size_t(4096), *big)
-    print(f'  rlibreg_bind: {least(lambda: ask("bind", *bind)):.1f} ms, an image of {answer.bytes} bytes')
-    install = (*bytes_and_length(made[number]), *big)
-    print(f'  rlibreg_plan_install: {least(lambda: ask("plan_install", *install)):.1f} ms, {answer.count} steps')
+    assert it.rlibreg_install(registry, *bytes_and_length(file)) == 0, it.rlibreg_text(registry)
+    print(f'  rlibreg_install: {1000 * (time.perf_counter() - start):.1f} ms')
     it.rlibreg_close(registry)
+
+
+class Calls:
+    """The calls over the bytes of a disk, which are mapped."""
+
+    def __init__(self, it, path):
+        self.it, self.answer = it, Answer()
+        with open(path, 'rb') as file:
+            self.map = mmap.mmap(file.fileno(), 0, access=mmap.ACCESS_COPY)
+        self.disk = (ctypes.c_char * len(self.map)).from_buffer(self.map)
+        text = ctypes.create_string_buffer(1 << 20)
+        self.tail = text, ctypes.c_size_t(1 << 20), ctypes.byref(self.answer)
+
+    def ask(self, name, *words):
+        call = getattr(self.it, f'rlibreg_{name}')
+        status = call(self.disk, ctypes.c_size_t(len(self.disk)), *words, *self.tail)
+        assert status == 0, (name, status, self.tail[0].raw[:self.answer.text])
+
+    def tell(self, call, *words, what=None):
+        """The least time of a call, and what it answered."""
+        taken = least(lambda: self.ask(call, *words))
+        told = f', {what(self.answer)}' if what else ''
+        print(f'  rlibreg_{call}: {taken:.1f} ms{told}', flush=True)
+
+
+def measure(it, path, number, length):
+    fill(path, number, length)
+    calls = Calls(it, path)
+    room, entries = (ctypes.create_string_buffer(size) for size in (ROOM, 1 << 17))
+    big, count = (room, ctypes.c_size_t(ROOM)), ctypes.c_size_t(4096)
+    calls.tell('list', entries, count, *big)
+    file = (*bytes_and_length(name(0)), *big)
+    calls.tell('file', *file, what=lambda it: f'{it.bytes} bytes')
+    calls.tell('info', ctypes.create_string_buffer(64))
+    calls.tell('check', entries, count, *big)
+    if number * (length + 4096) < ROOM:
+        program = Made(needed=[name(i) for i in range(number)], undefined=[name(0)],
+                       relocations=[(1, 0, 1, 0)], behind=64).file
+        places = (ctypes.create_string_buffer(72 * 4096), count, entries, count)
+        bind = (*bytes_and_length(program), ctypes.c_uint64(1 << 32), *places, *big)
+        calls.tell('bind', *bind, what=lambda it: f'an image of {it.bytes} bytes')
+    if number < MOST:
+        file = make(number, length)
+        given = (*bytes_and_length(file), *big)
+        calls.tell('plan_install', *given, what=lambda it: f'{it.count} steps')
+        install_one(it, path, file)
 
 
 def main():
@@ -84,7 +127,8 @@ def main():
         it = library()
         sizes = [int(word) for word in sys.argv[2:]] or [64, 128 * 1024, 500, 16 * 1024]
         for number, length in zip(sizes[::2], sizes[1::2]):
-            measure(it, folder, number, length)
+            measure(it, f'{folder}/disk{number}', number, length)
 
 
-main()
+if __name__ == '__main__':
+    main()

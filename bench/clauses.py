@@ -65,7 +65,7 @@ def calls_in(path, names):
         if item:
             name = item.group(item.lastindex)
             if (owner[1] if owner else name) in names:
-                ends = (k for k in range(number, len(lines)) if re.match(r' *\{$|.*[;{]$', lines[k]) and not CLAUSE.match(lines[k]))
+                ends = (k for k in range(number, len(lines)) if re.match(r' *\{\}?$|.*[;{]$', lines[k]) and not CLAUSE.match(lines[k]))
                 header = lines[number:next(ends)]
                 found.append((f'{owner[1]}::{name}' if owner else name, described(comment), groups_of(header)))
         comment = [*comment, line] if line.strip().startswith('///') else comment if line.strip().startswith('#[') else []

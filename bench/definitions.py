@@ -22,9 +22,10 @@ CLAUSES = [
     ('sector_disk/disk', 'read write sync', 'calls honest'),
     ('sector_disk/disk', 'sync', 'holds_now whole_sectors'),
     ('registry/format', 'format', 'any_moment'),
-    ('registry/open', 'open', 'any_moment stands ok refused'),
+    ('registry/open', 'open', 'result'),
     ('registry/upgrade', 'upgrade', 'any_moment left_alone unwritten now now_refused ok stands stands_old answer refused'),
-    ('registry/apply', 'apply', 'applied'),
+    ('registry/open', 'open_untested', 'opened registry'),
+    ('registry/apply', 'apply', 'applied untested'),
     ('registry/apply', 'run', 'ok'),
     ('binders/run', 'run_events', 'ok'),
     ('commands/disk_script', 'run_script_on_disk', 'ok err'),
@@ -61,7 +62,7 @@ READING = [
     ('7. Disks and mixtures', 'What each call does to an honest disk, and what a stop may leave of it (own).', [
         'sector_disk/Disk: DiskFacts Mixture IsRead IsWrite IsSync LeavesOnly']),
     ('8. Crash safety', 'What a stop leaves at each moment of one command, of many, of a script and of rounds (own).', [
-        'registry/Opened: IsAt', 'registry/Applied: MayLeaveWithin Applied',
+        'registry/Opened: IsAt', 'registry/Applied: MayLeaveBy AppliedBy', 'registry/Untested: UntestedStep',
         'registry/Acknowledged: Exchange acknowledged AreAccepted',
         'registry/Ran: Idles HasBegun HoldsAcknowledged LeavesAccepted FindsAccepted Ran',
         'commands/DiskScript: LinesRan', 'registry/Rounds: AlwaysStands RoundLeads']),
@@ -79,7 +80,7 @@ PLAIN = {
     'byte_registry/Plans: LeadsFrom': 'each mixture after each prefix of the steps is as before or as after, and each after all of them as after',
     'rlibreg_c/Answers: IsPreloadAnswered': 'a choice of the preloads, answered as a change; or the bytes are no names in a row; or memory was refused',
     'rlibreg_c/Layout: IsImageOf': 'the buffers have the image that is defined over the registry that the bytes hold, with the defined byte at each address',
-    'commands/Reply: command_refusal_text': 'the line of a refusal; after C1 comes that of the file; that of a bind or of a disk is as without a command',
+    'program_parts/Reply: command_refusal_text': 'the line of a refusal; after C1 comes that of the file; that of a bind or of a disk is as without a command',
     'registry/Acknowledged: Exchange': 'what was asked and answered: a command with its reply, or none, as of a step of a binder',
     'registry/Flight: goings_by': 'the length of a load order; 0 where a test refuses the program by itself',
     'registry/Flight: goings': 'how many steps are answered Going before the last one: one for the program, one for each library of the load order',
@@ -143,8 +144,10 @@ PLAIN = {
     'sector_disk/Disk: IsWrite': 'a write: where it succeeds reads give the new content; a stop may leave that or what it could leave before',
     'sector_disk/Disk: LeavesOnly': 'at every moment from one state of a disk to a later one, a stop leaves only sectors of this kind',
     'registry/Opened: IsAt': 'a registry at a state: an honest disk, no failed write or sync, and whatever a stop leaves holds the state',
-    'registry/Applied: MayLeaveWithin': 'the state before the command, the one after, or that of a change that a failed call cut off',
-    'registry/Applied: Applied': 'one command: a step of the step table, during which a stop leaves only what `MayLeaveWithin` says',
+    'registry/Applied: MayLeaveBy': 'the state before the command, the one after, or that of a change that a failed call cut off',
+    'registry/Applied: AppliedBy': 'one command: a step of the step table, during which a stop leaves only what `MayLeaveBy` says',
+    'registry/Untested: UntestedStep': 'the step table where files may be no libraries: a bind that needs such a one is answered S5, and nothing else changes',
+    'rlibreg_c/Answers: IsPlanOf': 'the plan leads from the one state that the bytes hold to that of acceptance, and from one of a registry to such a one',
     'registry/Ran: HasBegun': 'the first k commands have all begun by this moment',
     'registry/Ran: HoldsAcknowledged': 'every command acknowledged by this moment is among the first k',
     'registry/Ran: LeavesAccepted': 'what a stop leaves at a moment holds the state after the accepted ones of such first k commands',
@@ -174,13 +177,14 @@ PLAIN = {
 CRATES = [
     ('names', 'Names of their own'), ('elf_file', 'Files'), ('elf_dynamic', 'Symbols and relocations of files'),
     ('hash_check', 'Admission and the search of names'), ('scope', 'Load order and lookup'),
-    ('text_output', 'Text on its way to a writer'), ('image', 'Images'), ('requests', 'Requests and the step table'),
+    ('text_output', 'Text on its way to a writer'), ('image', 'Images'), ('executable', 'Executable files'), ('requests', 'Requests and the step table'),
     ('sector_disk', 'The disk model'), ('file_disk', 'A disk over a file'), ('extents', 'Free and claimed sectors'),
     ('states', 'States'), ('roots', 'Root, catalogue and entry sectors'), ('passes', 'Passes over a disk'), ('store', 'Named byte strings'),
     ('snapshots', 'Snapshots'), ('contents', 'What a disk has'), ('registry', 'The registry on a disk'),
     ('binders', 'Binders in slots'), ('byte_disk', 'A disk over given bytes'),
     ('byte_contents', 'What a disk of given bytes has'), ('byte_registry', 'A registry on given bytes'), ('rlibreg_c', 'The calls for C'), ('commands', 'The program'),
-    ('program_parts', 'What programs share'), ('tool_commands', 'The second program')]
+    ('program_parts', 'What programs share'), ('tool_commands', 'The second program'),
+    ('replays', 'The law that a dump replays')]
 HEAD = """# Definitions
 
 For who reads a clause: all definitions but the main ones, which [PROOFS](PROOFS.md) has in the order of a reading. `bench/documents.py` makes this page from the comments in `specs/`.

@@ -25,6 +25,15 @@ def library(i, size, needed=()):
     return Made(name(i), needed=needed, exports=[symbol(i)], data=size - 1024)
 
 
+def install(program, disk, files):
+    """Installs libraries by one script, which is written while they are made."""
+    words = [program, 'script', disk]
+    with subprocess.Popen(words, stdin=subprocess.PIPE, stdout=subprocess.DEVNULL) as process:
+        for file in files:
+            process.stdin.write(b'install ' + file.hex().encode() + b'\n')
+    assert process.returncode == 0, process.returncode
+
+
 class Bench:
     def __init__(self, program, folder):
         self.program, self.folder = str(program.resolve()), folder

@@ -20,10 +20,10 @@ PROOFS, DEFINITIONS, CLAUSES = (ROOT / 'docs' / f'{name}.md' for name in ('PROOF
 LIMITS = {
     'README.md': 1300, 'docs/ARCHITECTURE.md': 2500, 'docs/C.md': 3200, 'docs/CASES.md': 2000, 'docs/COMMANDS.md': 5000,
     'docs/DECISIONS.md': 4500, 'docs/FORMATS.md': 3800, 'docs/GUIDE.md': 1500, 'docs/LINKING.md': 1200,
-    'docs/PERFORMANCE.md': 2000, 'docs/PROOFS.md': 4000, 'docs/PYTHON.md': 1200, 'docs/TOOL.md': 600}
+    'docs/PERFORMANCE.md': 2000, 'docs/PROOFS.md': 4000, 'docs/PYTHON.md': 1200, 'docs/TOOL.md': 1200}
 OF_A_CRATE = 200
 # names of the standards, of the system and of the toolchain, which the tree doesn't spell
-ELSEWHERE = {'sqlite_std_file', 'elf_x86_64', 'thread_local', 'lW', '__cxa_atexit'}
+ELSEWHERE = {'sqlite_std_file', 'elf_x86_64', 'thread_local', 'lW', '__cxa_atexit', 'luaL_openlibs'}
 WORD = re.compile(r'\S*\w\S*')
 QUOTED = re.compile(r'`([^`\n]+)`')
 NAME = re.compile(r'[A-Za-z_][\w]*(?:::[A-Za-z_]\w*)*')

@@ -3,10 +3,11 @@
 
     python3 bench/initializers.py FOLDER [GRAPHS [START]]
 
-FOLDER has rlibreg and rlibreg-run (c/build.sh). Each graph is one of libraries that need each other at random, in circles
-too, with or without DT_INIT, DT_FINI, arrays and preloads; a program needs some of them. Each function writes its name, so
-what is compared is all that is called, in its order. gcc makes the functions, and ld links them. For the system's loader
-the program needs its C library too, behind all others: without one that loader doesn't finalize.
+FOLDER has rlibreg and rlibreg-run (c/build.sh). Each graph is one of libraries that need each other at random, in
+circles too, with or without DT_INIT, DT_FINI, arrays, DF_1_INITFIRST and preloads; a program needs some of them. Each
+function writes its name, so what is compared is all that is called, in its order. gcc makes the functions, and ld links
+them. For the system's loader the program needs its C library too, behind all others: without one that loader doesn't
+finalize.
 """
 
 import os
@@ -41,7 +42,8 @@ class Graph:
         self.needs[0] = self.needs[0] or [choose.choice(libraries)]
         for needs in self.needs:
             choose.shuffle(needs)
-        self.flags = [[flag for flag in ('-init=first', '-fini=last') if choose.random() < 0.3] for _ in self.needs]
+        flags = ('-init=first', '-fini=last', '-zinitfirst')
+        self.flags = [[flag for flag in flags if choose.random() < 0.3] for _ in self.needs]
         self.preloads = choose.sample(libraries, choose.choice((0, 0, 0, 1, min(3, self.count))))
 
     def is_cyclic(self):

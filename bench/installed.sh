@@ -24,32 +24,33 @@ cat > "$root/walk.sh" << 'END'
 set -eEuo pipefail
 trap 'echo "failed: $BASH_COMMAND" >&2' ERR
 
-# The commands of a page, and its first program in C.
+# commands PAGE: its commands; program PAGE NUMBER: one of its programs in C.
 commands() {
     sed -n 's/^    \$ //p' "/rlibreg/docs/$1.md"
 }
 program() {
-    awk '/^```c$/ {block++; next} /^```$/ {inside = 0} block == 1 && /^\/\*/ {inside = 1} inside' \
-        "/rlibreg/docs/$1.md"
+    awk -v number="$2" '/^```c$/ {block++; next} /^```$/ {inside = 0}
+        block == number && /^\/\*/ {inside = 1} inside' "/rlibreg/docs/$1.md"
 }
 everything() {
     find / -xdev -path /proc -prune -o -print | sort
 }
 
-# The source of Lua, which is Debian's.
+# The sources of Lua and LPeg, which are Debian's.
 get_lua() {
-    mkdir lua
+    mkdir lua lua/lpeg
     (
         cd lua
         sed -n 's/^deb /deb-src /p' /etc/apt/sources.list > /etc/apt/sources.list.d/source.list
-        apt-get update && apt-get source --download-only lua5.4 &&
-            tar --strip-components=1 -xf lua5.4_*.orig.tar.gz
+        apt-get update && apt-get source --download-only lua5.4 lua-lpeg &&
+            tar --strip-components=1 -xf lua5.4_*.orig.tar.gz &&
+            tar --strip-components=1 -C lpeg -xf lua-lpeg_*.orig.tar.gz
     ) > lua.log 2>&1 || rm -r lua
 }
 
 by_pkg_config() {
     echo "pkg-config: $(pkg-config --modversion rlibreg), $(pkg-config --cflags --libs rlibreg)"
-    program C > updater.c
+    program C 1 > updater.c
     gcc -Wall -Wextra -o updater updater.c $(pkg-config --cflags --libs rlibreg)
     eval "$(commands PYTHON)"
     ./updater disk libone.so
@@ -84,7 +85,7 @@ extern char notes[];
 __attribute__((destructor)) static void own(void) { puts("-main"); }
 int main(void) { return printf("%smain\n", notes) < 0; }
 C
-    program LINKING > end.c
+    program LINKING 2 > end.c
     eval "$(commands LINKING | head -n 3)"
     library="$library -fno-gnu-unique -fno-exceptions -fno-rtti -fno-use-cxa-atexit"
     export REALGCC=g++
@@ -105,15 +106,30 @@ tool() {
     rlibreg-tool info old
     rlibreg-tool check old
     rlibreg-tool file old libtwo.so | cmp - libtwo.so
+    # The page's DISK, FILE and PROGRAM
+    echo 'int one(void) { return 0; }' > b.c
+    cat > alone.c << 'C'
+extern int one(void);
+void _start(void) {
+    __asm__ volatile("syscall" : : "a"(60), "D"(one()));
+    __builtin_unreachable();
+}
+C
+    object='gcc -O1 -fPIC -nostdlib -fno-stack-protector -Wl,--hash-style=sysv'
+    $object -shared -Wl,-soname,libb.so -o libb.so b.c
+    $object -pie -o program alone.c libb.so
+    ./updater disk libb.so
     eval "$(commands TOOL)"
     rlibreg list old | tee listed
     rlibreg list new | cmp - listed
     echo 'docs/TOOL.md: as written'
+    rm disk
 }
 
 lua() {
     [ -d ../lua ] || { echo "left out: Lua, whose source can't be had"; return 0; }
-    ln -s ../lua/src src
+    ln -s ../lua/src ../lua/lpeg .
+    program LINKING 1 > modules.c
     cat > script.lua << 'LUA'
 local words = {}
 for i = 1, 9 do words[i] = string.format("%d:%.3f", i, math.sin(i)) end
@@ -126,9 +142,10 @@ os.exit(true, true)
 LUA
     eval "$(commands LINKING)" > found
     musl-gcc -O2 -static -o lua.static src/lua.c $core
-    { printf 'ok\nok\n'; ./lua.static script.lua; } > wanted
+    { printf 'ok\nok\n'; ./lua.static script.lua; printf 'ok\n2\n'; } > wanted
     sed 1,2d found | head -n 1
     cmp wanted found
+    (cd lpeg && LUA_PATH='./?.lua' rlibreg-run "$OLDPWD/disk" "$OLDPWD/lua" test.lua | tail -n 1)
     echo 'docs/LINKING.md: as written, and Lua prints what it prints where it is linked statically'
 }
 

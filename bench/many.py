@@ -11,7 +11,7 @@ import shutil
 import sys
 from pathlib import Path
 
-from disks import MIB, Bench, library
+from disks import MIB, Bench, install, library
 from libraries import Made, name, symbol
 from old_disks import old_disk
 
@@ -24,11 +24,10 @@ OLD_SECTORS = 210000
 def fill(bench, folder, count, kept):
     """Registries of so many libraries in a chain; `kept` says after how many a copy is kept, and under which name."""
     bench.done('format', 'disk', SECTORS)
-    lines = []
     done = 0
     for last in sorted(kept):
-        lines = [b'install ' + library(i, SIZE, [name(i - 1)] if i else []).file.hex().encode() for i in range(done, last)]
-        bench.done('script', 'disk', given=b''.join(line + b'\n' for line in lines))
+        files = (library(i, SIZE, [name(i - 1)] if i else []).file for i in range(done, last))
+        install(bench.program, folder / 'disk', files)
         shutil.copyfile(folder / 'disk', folder / kept[last])
         done = last
     assert done == count

@@ -1,0 +1,117 @@
+"""Real programs of Debian's sources, each as a program with libraries for a registry, and as a
+static one. The flags, and how Lua gets a module in C, are those of docs/LINKING.md."""
+
+import os
+import re
+import shutil
+import subprocess
+from pathlib import Path
+
+import debian_sources
+from debian_sources import NotHad
+
+PAGE = Path(__file__).resolve().parent.parent / 'docs' / 'LINKING.md'
+MUSL = Path('/usr/lib/x86_64-linux-musl')
+LUA = ['-DLUA_USE_POSIX', '-DluaL_openlibs=open_modules']
+
+
+def flags(name):
+    """What the page puts into a variable."""
+    return re.search(rf"^    \$ {name}='(.*)'$", PAGE.read_text(), re.M)[1].split()
+
+
+def program_of_the_page(start):
+    """The program in C of the page that begins so."""
+    found = re.findall(r'^```c\n(.*?)^```$', PAGE.read_text(), re.M | re.S)
+    return next(it for it in found if it.startswith(start))
+
+
+def run(*words, cwd=None):
+    ended = subprocess.run([*map(str, words)], cwd=cwd, capture_output=True, text=True)
+    if ended.returncode:
+        raise NotHad(f'{" ".join(map(str, words))[:120]}: {ended.stderr.strip()[-300:]}')
+
+
+def need(tool, package):
+    if not shutil.which(tool):
+        raise NotHad(f"there is no {tool}, which is in Debian's {package}")
+
+
+class Build:
+    """A folder in which packages are built: `linked` and `static` have the programs, `libraries`
+    the libraries in the order in which they are linked and installed."""
+
+    def __init__(self, folder):
+        need('musl-gcc', 'musl-tools')
+        self.folder, self.objects = folder, folder / 'objects'
+        self.linked, self.static = folder / 'linked', folder / 'static'
+        for path in (self.objects, self.linked, self.static):
+            path.mkdir(parents=True)
+        self.libraries, self.parts, self.versions = [], [], []
+
+    def source(self, archives, package):
+        place = self.folder / package
+        source, version = debian_sources.unpacked(archives, package, place)
+        self.versions.append(f'{package} {version}')
+        return source
+
+    def compiled(self, files, *words):
+        """The objects of C files."""
+        made = []
+        for file in files:
+            made.append(self.objects / f'{len(list(self.objects.iterdir()))}-{file.stem}.o')
+            run('musl-gcc', *flags('library'), *words, '-c', '-o', made[-1], file)
+        return made
+
+    def library(self, soname, objects):
+        """A library that may need those before it."""
+        path = self.linked / soname
+        named = f'-Wl,-soname,{soname}'
+        run('musl-gcc', *flags('library'), named, '-o', path, *objects, *self.libraries)
+        self.libraries.append(path)
+        self.parts += objects
+
+    def program(self, name, objects):
+        """A program that needs all libraries so far, and the same of these objects alone."""
+        parts = [MUSL / 'Scrt1.o', *objects, *self.libraries[::-1], MUSL / 'libc.a', '-lgcc']
+        run('musl-gcc', *flags('program'), '-o', self.linked / name, *parts)
+        run('musl-gcc', '-static', '-o', self.static / name, *objects, *self.parts)
+
+
+def zlib(folder, archives):
+    """zlib, with minigzip, which packs and unpacks files, and its own test."""
+    build = Build(folder)
+    source = build.source(archives, 'zlib')
+    words = ['-DHAVE_UNISTD_H', f'-I{source}']
+    build.library('libz.so', build.compiled(sorted(source.glob('*.c')), *words))
+    for name in ('minigzip', 'example'):
+        build.program(name, build.compiled([source / 'test' / f'{name}.c'], *words))
+    return build
+
+
+def lua(folder, archives):
+    """Lua with its core as a library, and LPeg, a module in C, as another."""
+    build = Build(folder)
+    source = build.source(archives, 'lua5.4') / 'src'
+    lpeg = build.source(archives, 'lua-lpeg')
+    core = [it for it in sorted(source.glob('*.c')) if it.name not in ('lua.c', 'luac.c')]
+    build.library('liblua.so', build.compiled(core, LUA[0]))
+    build.library('liblpeg.so', build.compiled(sorted(lpeg.glob('*.c')), f'-I{source}'))
+    modules = folder / 'modules.c'
+    modules.write_text(program_of_the_page('/* Opens '))
+    build.program('lua', build.compiled([source / 'lua.c', modules], f'-I{source}', *LUA))
+    shutil.copy(lpeg / 'test.lua', folder / 'lpeg.lua')
+    shutil.copy(lpeg / 're.lua', folder)
+    return build
+
+
+def sqlite(folder, archives):
+    """SQLite's shell over its library."""
+    build = Build(folder)
+    need('tclsh', 'tcl')
+    source = build.source(archives, 'sqlite3')
+    run('./configure', '--disable-tcl', '--disable-readline', cwd=source)
+    run('make', f'-j{min(2, os.cpu_count())}', 'sqlite3.c', 'shell.c', cwd=source)
+    build.library('libsqlite3.so', build.compiled([source / 'sqlite3.c']))
+    build.program('sqlite3', build.compiled([source / 'shell.c']))
+    return build
