@@ -1,9 +1,5 @@
 // What a layout gives out and takes back.
 
-mod claimed;
-mod plain;
-mod steps;
-
 use extents::{Extent, Layout, MOST_EXTENTS, MOST_SECTORS, TakeRefusal};
 use std::alloc::AllocError;
 

@@ -6,8 +6,6 @@ mod alike;
 #[cfg(test)]
 mod files;
 #[cfg(test)]
-mod given;
-#[cfg(test)]
 mod layouts;
 #[cfg(test)]
 mod random;
