@@ -253,7 +253,8 @@ RLIBREG_SAME(sizeof(size_t) == 8 && sizeof(void *) == 8);
  * to 9, of which the program knows nothing. A text that was cut changes no status.
  *
  * MEMORY that is refused is answered S11, or S1 where it was that of a step of the plan or of the
- * sync with which each call begins: no other call of the disk can fail. Nothing was done then.
+ * sync with which plans, binds and listings begin: no other call of the disk can fail, and none at
+ * all of rlibreg_file, rlibreg_info and rlibreg_check, which never answer S1. Nothing was done then.
  *
  * Where another buffer is too small the status is RLIBREG_NO_ROOM, what the call's buffers hold is
  * open, and the answer has what is needed: ask again with that much. */

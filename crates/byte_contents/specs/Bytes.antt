@@ -1,11 +1,11 @@
 -- What bytes hold, whatever their files are (own).
-use Rattle.std.specs.Prelude.{◌≡◌, ◌⊎◌, ℕ, List, length}
+use Rattle.std.specs.Prelude.{◌≡◌, ◌≢◌, ◌⊎◌, ℕ, List, length}
 use Rattle.byte_disk.specs.Bytes.{IsDiskLength, sectors_in}
 use Rattle.states.specs.State.{State}
 use Rattle.store.specs.Opening.{RefusesOpen}
 use Rattle.store.specs.Stands.{Stands}
 use Rattle.store.specs.declared.refusal.StoreRefusal.{StoreRefusal}
-use Rattle.store.specs.declared.refusal.StoreRefusal.TheVariants.{BadGeometry}
+use Rattle.store.specs.declared.refusal.StoreRefusal.TheVariants.{BadGeometry, Device, OutOfMemory}
 
 -- The bytes are those of a disk: whole sectors, and these hold the state.
 pub record HoldStore (bytes : List ℕ) (s : State) : Type 0 where
@@ -17,3 +17,10 @@ abbrev pub IsUnopened : List ℕ → StoreRefusal → Type 0
 IsUnopened bytes refusal =
     ((refusal ≡ BadGeometry) × (IsDiskLength (length bytes) → ⊥))
     ⊎ (IsDiskLength (length bytes) × RefusesOpen Stands (sectors_in bytes) refusal)
+
+-- Why bytes have no contents: never since a call of their disk failed, and where they hold a state
+-- for want of memory alone.
+pub record HaveNoContents (bytes : List ℕ) (refusal : StoreRefusal) : Type 0 where
+  pub why : IsUnopened bytes refusal
+  pub no_failure : refusal ≢ Device
+  pub held : (s : State) → HoldStore bytes s → refusal ≡ OutOfMemory

@@ -16,19 +16,25 @@ use Rattle.byte_disk.specs.inside.PlanLaws.{length-carried_out, carried_out_whol
 pub place_in : (steps : List Step) (place : ℕ) (now : Sector) → length now ≡ sector_bytes → content_of (get_or steps place Sync) ≡ now → place < length steps
 place_in steps place now whole is = ⊎_elim
     (λ lt. lt)
-    (λ past. let empty : length (content_of (get_or steps place Sync)) ≡ 0 = ap (λ step. length (content_of step)) (get_or_past steps place Sync past) in absurd (omega (arith, empty, ap length is, whole)))
+    (λ past. let empty : length (content_of (get_or steps place Sync)) ≡ 0 =
+    ap (λ step. length (content_of step)) (get_or_past steps place Sync past) in absurd (omega (arith, empty, ap length is, whole)))
     (cases_lt place (length steps))
 
 -- what reads give of a sector is whole
-pub now_whole : (start : List Sector) (steps : List Step) (k : ℕ) → k < length start → All IsWhole start → All (IsWriteOn (length start)) (writes_in steps) → length (sector (carried_out start steps) k) ≡ sector_bytes
-now_whole start steps k lt whole writes = (All-get_or IsWhole (carried_out start steps) k [] (omega (arith, lt, length-carried_out start steps)) (carried_out_whole (length start) start steps whole writes)).size
+pub now_whole : (start : List Sector) (steps : List Step) (k : ℕ) → k < length start → All IsWhole start
+    → All (IsWriteOn (length start)) (writes_in steps) → length (sector (carried_out start steps) k) ≡ sector_bytes
+now_whole start steps k lt whole writes =
+    (All-get_or IsWhole (carried_out start steps) k [] (omega (arith, lt, length-carried_out start steps))
+    (carried_out_whole (length start) start steps whole writes)).size
 
 -- the step that is read
 pub step_read : (planned : List PlannedStep) (place : ℕ) (p : PlannedStep) → place < length planned → p ≡ get_or planned place p → get_or (plan_in planned) place Sync ≡ p.step
 step_read planned place p lt is = get_or-map (λ (x : PlannedStep). x.step) planned place p Sync lt ∙ ap (λ (x : PlannedStep). x.step) (sym is)
 
 -- what is found of sector k where its latest content was written at a place
-module _ (start : List Sector) (planned : List PlannedStep) (k : ℕ) (place : ℕ) (lt : k < length start) (whole : All IsWhole start) (writes : All (IsWriteOn (length start)) (writes_in (plan_in planned))) (got : Option ℕ) (is_latest : content_by start (plan_in planned) k got ≡ sector (carried_out start (plan_in planned)) k) (found : Some place ≡ got) where
+module _ (start : List Sector) (planned : List PlannedStep) (k : ℕ) (place : ℕ) (lt : k < length start) (whole : All IsWhole start)
+    (writes : All (IsWriteOn (length start)) (writes_in (plan_in planned))) (got : Option ℕ)
+    (is_latest : content_by start (plan_in planned) k got ≡ sector (carried_out start (plan_in planned)) k) (found : Some place ≡ got) where
   content_is : content_of (get_or (plan_in planned) place Sync) ≡ sector (carried_out start (plan_in planned)) k
   content_is = subst (λ o. content_by start (plan_in planned) k o ≡ sector (carried_out start (plan_in planned)) k) (sym found) is_latest
 

@@ -34,7 +34,9 @@ failures_for-push (x ∷ planned) p = omega (arith, failures_for-push planned p)
 pub steps_at-le : (planned : List PlannedStep) (u : ℕ) → steps_at planned u ≤ length planned
 steps_at-le [] u = omega arith
 steps_at-le (x ∷ planned) u = ⊎_elim
-    (λ lt. let is : steps_at (x ∷ planned) u ≡ steps_at planned (u - (calls_made x.idle + 1)) + 1 = ap (λ b. if b then steps_at planned (u - (calls_made x.idle + 1)) + 1 else 0) (lt-ltb (calls_made x.idle) u lt) in omega (arith, is, steps_at-le planned (u - (calls_made x.idle + 1))))
+    (λ lt. let is : steps_at (x ∷ planned) u ≡ steps_at planned (u - (calls_made x.idle + 1)) + 1 =
+    ap (λ b. if b then steps_at planned (u - (calls_made x.idle + 1)) + 1 else 0) (lt-ltb (calls_made x.idle) u lt) in
+    omega (arith, is, steps_at-le planned (u - (calls_made x.idle + 1))))
     (λ ge. let is : steps_at (x ∷ planned) u ≡ 0 = ap (λ b. if b then steps_at planned (u - (calls_made x.idle + 1)) + 1 else 0) (le-ltb (calls_made x.idle) u ge) in omega (arith, is))
     (cases_lt (calls_made x.idle) u)
 
@@ -177,7 +179,9 @@ module _ (start : List Sector) (planned : List PlannedStep) (idle idle' : CallCo
             (λ was. inl ((present start planned idle k c).1 was.0))
             (λ now. let is_now : c ≡ sector (set (carried_out start (plan_in planned)) at content) k = now ∙ ap (λ l. sector l k) written in ⊎_elim
             (λ same_place. inr (same_place, is_now ∙ ap (λ j. sector (set (carried_out start (plan_in planned)) at content) j) same_place ∙ here))
-            (λ other. inl ((present start planned idle k c).1 (subst (MayBeLeft start (plan_in planned) k) (sym (is_now ∙ get_or-set_other (carried_out start (plan_in planned)) at k content [] other)) (now_left start (plan_in planned) k))))
+            (λ other. inl ((present start planned idle k c).1
+            (subst (MayBeLeft start (plan_in planned) k)
+            (sym (is_now ∙ get_or-set_other (carried_out start (plan_in planned)) at k content [] other)) (now_left start (plan_in planned) k))))
             (cases_eq k at))
             (left_more start (plan_in planned) p.step k c (to_more k c left))
 
@@ -185,7 +189,8 @@ module _ (start : List Sector) (planned : List PlannedStep) (idle idle' : CallCo
         back k c either = from_more k c (⊎_elim
             (λ was. more_left start (plan_in planned) p.step k c writes ((present start planned idle k c).0 was))
             (λ this.
-            let is_now : sector (carried_out (carried_out start (plan_in planned)) (p.step ∷ [])) k ≡ c = ap (λ l. sector l k) written ∙ ap (λ j. sector (set (carried_out start (plan_in planned)) at content) j) this.0 ∙ here ∙ sym this.1 in
+            let is_now : sector (carried_out (carried_out start (plan_in planned)) (p.step ∷ [])) k ≡ c = ap (λ l. sector l k) written
+            ∙ ap (λ j. sector (set (carried_out start (plan_in planned)) at content) j) this.0 ∙ here ∙ sym this.1 in
             subst (MayBeLeft start (plan_in planned ++ p.step ∷ []) k) is_now (more_now start (plan_in planned) p.step k))
             either)
 
@@ -234,7 +239,8 @@ module _ (start : List Sector) (planned : List PlannedStep) (idle idle' : CallCo
   }
 
 -- a call that succeeds makes a step
-module _ (start : List Sector) (planned : List PlannedStep) (idle : CallCount) (planned' : List PlannedStep) (idle' : CallCount) (p : PlannedStep) (since : p.idle ≡ idle) (items : planned' ≡ planned ++ p ∷ []) where
+module _ (start : List Sector) (planned : List PlannedStep) (idle : CallCount) (planned' : List PlannedStep) (idle' : CallCount) (p : PlannedStep)
+    (since : p.idle ≡ idle) (items : planned' ≡ planned ++ p ∷ []) where
   pub made_call : calls_made idle' ≡ 0 → calls_failed idle' ≡ 0 → IsCall (facts_of start planned idle) (facts_of start planned' idle') (let done : Result Unit DiskFault = Ok tt in done)
   made_call none none_failed = record {
     honest = refl;
@@ -255,7 +261,8 @@ module _ (start : List Sector) (planned : List PlannedStep) (idle : CallCount) (
     stop_ok = alone start planned idle idle' p (ap calls_made since) is;
   })
 
-  pub made_write : (at : ℕ) (content : Sector) → p.step ≡ Write at content → at < length start → IsWrite (facts_of start planned idle) (facts_of start planned' idle') at content (let done : Result Unit DiskFault = Ok tt in done)
+  pub made_write : (at : ℕ) (content : Sector) → p.step ≡ Write at content → at < length start
+      → IsWrite (facts_of start planned idle) (facts_of start planned' idle') at content (let done : Result Unit DiskFault = Ok tt in done)
   made_write at content is lt = subst (λ l. IsWrite (facts_of start planned idle) (facts_of start l idle') at content (let done : Result Unit DiskFault = Ok tt in done)) (sym items) (record {
     past = keeps_more start planned idle idle' p (ap calls_made since);
     ok = write_now start planned idle idle' p (ap calls_made since) at content is;

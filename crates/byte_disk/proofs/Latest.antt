@@ -24,12 +24,14 @@ writes_in-sync (Write a c ∷ steps) = ap (λ ws. (a, c) ∷ ws) (writes_in-sync
 writes_in-sync (Sync ∷ steps) = writes_in-sync steps
 
 -- a step more at the end, found only at its own place
-found_before : (start : List Sector) (steps : List Step) (step : Step) (k : ℕ) (got : Option ℕ) → length (content_by start steps k got) ≡ sector_bytes → content_by start (steps ++ step ∷ []) k got ≡ content_by start steps k got
+found_before : (start : List Sector) (steps : List Step) (step : Step) (k : ℕ) (got : Option ℕ)
+    → length (content_by start steps k got) ≡ sector_bytes → content_by start (steps ++ step ∷ []) k got ≡ content_by start steps k got
 found_before start steps step k None whole = refl
 found_before start steps step k (Some place) whole =
     ap content_of (get_or_append_left steps (step ∷ []) Sync place (place_in steps place (content_of (get_or steps place Sync)) whole refl))
 
-module _ (start : List Sector) (steps : List Step) (whole : All IsWhole start) (writes : All (IsWriteOn (length start)) (writes_in steps)) (latest : ℕ → Option ℕ) (is_latest : (k : ℕ) → k < length start → content_by start steps k (latest k) ≡ sector (carried_out start steps) k) where
+module _ (start : List Sector) (steps : List Step) (whole : All IsWhole start) (writes : All (IsWriteOn (length start)) (writes_in steps))
+    (latest : ℕ → Option ℕ) (is_latest : (k : ℕ) → k < length start → content_by start steps k (latest k) ≡ sector (carried_out start steps) k) where
   still : (step : Step) (k : ℕ) → k < length start → content_by start (steps ++ step ∷ []) k (latest k) ≡ sector (carried_out start steps) k
   still step k lt =
       found_before start steps step k (latest k) (ap length (is_latest k lt) ∙ now_whole start steps k lt whole writes) ∙ is_latest k lt
@@ -42,7 +44,8 @@ module _ (start : List Sector) (steps : List Step) (whole : All IsWhole start) (
 
   module _ (at : ℕ) (content : Sector) (in_disk : at < length start) where
     pub writes_write : IsWhole content → All (IsWriteOn (length start)) (writes_in (steps ++ Write at content ∷ []))
-    writes_write is_whole = subst (All (IsWriteOn (length start))) (sym (writes_in-append steps at content)) (All-push (IsWriteOn (length start)) (writes_in steps) (at, content) writes (record { inside = in_disk; whole = is_whole }))
+    writes_write is_whole = subst (All (IsWriteOn (length start))) (sym (writes_in-append steps at content))
+        (All-push (IsWriteOn (length start)) (writes_in steps) (at, content) writes (record { inside = in_disk; whole = is_whole }))
 
     abbrev after : ℕ → Sector
     after k = sector (carried_out start (steps ++ Write at content ∷ [])) k
@@ -50,7 +53,8 @@ module _ (start : List Sector) (steps : List Step) (whole : All IsWhole start) (
     after_is : (k : ℕ) → after k ≡ sector (set (carried_out start steps) at content) k
     after_is k = ap (λ l. sector l k) (carried_out-append start steps (Write at content ∷ []))
 
-    pub latest_write : (latest' : ℕ → Option ℕ) → latest' at ≡ Some (length steps) → ((k : ℕ) → nat_eq at k ≡ false → latest' k ≡ latest k) → (k : ℕ) → k < length start → content_by start (steps ++ Write at content ∷ []) k (latest' k) ≡ after k
+    pub latest_write : (latest' : ℕ → Option ℕ) → latest' at ≡ Some (length steps) → ((k : ℕ) → nat_eq at k ≡ false → latest' k ≡ latest k) → (k : ℕ)
+        → k < length start → content_by start (steps ++ Write at content ∷ []) k (latest' k) ≡ after k
     latest_write latest' here others k lt = ⊎_elim
         (λ same.
         subst (λ j. content_by start (steps ++ Write at content ∷ []) j (latest' j) ≡ after j) same

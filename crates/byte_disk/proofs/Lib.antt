@@ -2,4 +2,5 @@ mod Found
 mod Kept
 mod Latest
 pub mod Plans
+pub mod ReadOnly
 mod Whole

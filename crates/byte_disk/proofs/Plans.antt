@@ -44,7 +44,13 @@ module _ (disk : ByteDisk) where
         let in_planned : n ≤ length disk.planned.items = omega (arith, le, length-map disk.planned.items (λ (p : PlannedStep). p.step)) in
         let u = calls_for (take n disk.planned.items) in
         (u, omega (arith, calls_taken disk.planned.items n), left_at u n (steps_reached disk.planned.items n in_planned));
-    moments = λ u le. (steps_at disk.planned.items u, omega (arith, steps_at-le disk.planned.items u, length-map disk.planned.items (λ (p : PlannedStep). p.step)), left_at u (steps_at disk.planned.items u) refl);
+    moments = λ u le. (
+      steps_at disk.planned.items u,
+      omega
+          (arith, steps_at-le disk.planned.items u, length-map disk.planned.items (λ (p : PlannedStep). p.step)),
+      left_at u
+          (steps_at disk.planned.items u) refl,
+    );
     inside = All-weaker (IsWriteOn (length (given_to disk))) (λ (write : SectorWrite). write.0 < length (given_to disk)) (λ write is. is.inside) (writes_in (plan_of disk)) disk.writes;
   }
 
@@ -69,13 +75,18 @@ same_given old new keeps = ext_get_or [] (given_to new) (given_to old) keeps.sec
     left_given old k (sector (given_to new) k) ((keeps.past 0 k (sector (given_to new) k) (omega arith)).0 (given_left new k)))
 
 -- What holds of all that a stop may leave since a disk was made, holds of each mixture after each prefix of its plan.
-pub plan_leaves : (old new : ByteDisk) (P : List Sector → Type 0) → (byte_facts old).time ≡ 0 → LeavesOnly (byte_facts old) (byte_facts new) P → (n : ℕ) → n ≤ length (plan_of new) → (m : List Sector) → IsMixtureAfter (given_to old) (take n (plan_of new)) m → P m
+pub plan_leaves : (old new : ByteDisk) (P : List Sector → Type 0) → (byte_facts old).time ≡ 0 → LeavesOnly (byte_facts old) (byte_facts new) P
+    → (n : ℕ) → n ≤ length (plan_of new) → (m : List Sector) → IsMixtureAfter (given_to old) (take n (plan_of new)) m → P m
 plan_leaves old new P fresh leaves n le m mixture =
     let reached = (is_plan new).prefixes n le in
     leaves.each m (reached.0, omega (arith, fresh), reached.1, (reached.2 m).1 (subst (λ start. IsMixtureAfter start (take n (plan_of new)) m) (sym (same_given old new leaves.past)) mixture))
 
 -- What holds of all that a stop now may leave, holds of each mixture after the whole plan.
-pub plan_ends : (old new : ByteDisk) (P : List Sector → Type 0) → KeepsPast (byte_facts old) (byte_facts new) → ((m : List Sector) → MixtureAt (byte_facts new) (byte_facts new).time m → P m) → (m : List Sector) → IsMixtureAfter (given_to old) (plan_of new) m → P m
+pub plan_ends : (old new : ByteDisk) (P : List Sector → Type 0) → KeepsPast (byte_facts old) (byte_facts new)
+    → ((m : List Sector) → MixtureAt (byte_facts new) (byte_facts new).time m → P m) → (m : List Sector)
+    → IsMixtureAfter (given_to old) (plan_of new) m → P m
 plan_ends old new P keeps found m mixture = found m ((left_at new (byte_facts new).time (length new.planned.items) (steps_at_end new.planned.items (calls_made new.idle)) m).1
     (subst (λ start. IsMixtureAfter start (take (length new.planned.items) (plan_of new)) m) (sym (same_given old new keeps))
-    (subst (λ steps. IsMixtureAfter (given_to old) steps m) (sym (take_all (length new.planned.items) (plan_of new) (omega (arith, length-map new.planned.items (λ (p : PlannedStep). p.step))))) mixture)))
+    (subst (λ steps. IsMixtureAfter (given_to old) steps m)
+    (sym (take_all (length new.planned.items) (plan_of new)
+    (omega (arith, length-map new.planned.items (λ (p : PlannedStep). p.step))))) mixture)))

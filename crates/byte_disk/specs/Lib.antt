@@ -1,4 +1,5 @@
 pub mod ByteDisk
 pub mod Bytes
 pub mod Plan
+pub mod ReadOnlyDisk
 pub mod inside

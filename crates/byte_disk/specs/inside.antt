@@ -2,3 +2,4 @@
 pub mod Latest
 pub mod PlanLaws
 pub mod Laws
+pub mod ReadOnly

@@ -8,6 +8,7 @@ ghost use Rattle.sector_disk.specs.Disk.{IsWhole, sector};
 ghost use Rattle.byte_disk.specs.Plan.{carried_out, writes_in, IsWriteOn};
 ghost use Rattle.byte_disk.specs.inside.Latest.{content_by, plan_in};
 
+use crate::given::sectors_of;
 use crate::planned::PlannedStep;
 use crate::step::Step;
 use indexmap::IndexMap;
@@ -49,10 +50,9 @@ impl<'a> ByteDisk<'a> {
         ensures given { IfSome result (λ disk. given_to disk ≡ sectors_in bytes.now) }
         ensures unplanned { IfSome result (λ disk. plan_of disk ≡ []) }
     {
-        let (start, rest) = bytes.as_chunks::<SECTOR_BYTES>();
-        if rest.len() > 0 || start.len() > u32::MAX as usize {
+        let Some(start) = sectors_of(bytes) else {
             return None;
-        }
+        };
         Some(ByteDisk {
             start,
             planned: Vec::new(alloc),

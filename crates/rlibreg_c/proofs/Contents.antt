@@ -28,21 +28,18 @@ pub file_given : (disk name bytes text : List ℕ) (answer : Answer) (status : �
 file_given disk name bytes text answer status zero (inl asked) = file_told disk name bytes text asked.0 answer status zero asked.1 asked.2
 file_given disk name bytes text answer status zero (inr refused) = absurd (turned_not_done refused.0 text answer status zero refused.2)
 
--- an answer that gives no bytes says C3 exactly where no library has the name
-pub unread_is : (s : State) (name : List ℕ) (why : Unread) → (why ≡ unread.NotInstalled) ↔ All (λ library. library.name ≢ name) s.libraries → IsUnread s name why
-unread_is s name unread.NotInstalled is = is.0 refl
-unread_is s name unread.Unreadable is = λ none. unreadable (is.1 none)
-  where
-    unreadable : unread.Unreadable ≡ unread.NotInstalled → ⊥
-    unreadable e = cc
-unread_is s name unread.OutOfMemory is = λ none. wants (is.1 none)
+-- an answer that gives no bytes says C3 exactly where no library has the name, and never S1
+pub unread_is : (s : State) (name : List ℕ) (why : Unread) → (why ≡ unread.NotInstalled) ↔ All (λ library. library.name ≢ name) s.libraries → why ≢ unread.Unreadable → IsUnread s name why
+unread_is s name unread.NotInstalled is read = is.0 refl
+unread_is s name unread.Unreadable is read = absurd (read refl)
+unread_is s name unread.OutOfMemory is read = λ none. wants (is.1 none)
   where
     wants : unread.OutOfMemory ≡ unread.NotInstalled → ⊥
     wants e = cc
 
 -- the same of a result that is such an answer
-pub unread_of : {X : Type 0} (s : State) (name : List ℕ) (why : Unread) → (◌≡◌ {A = Result X Unread} (Err why) (Err unread.NotInstalled)) ↔ All (λ library. library.name ≢ name) s.libraries → IsUnread s name why
-unread_of {X = X} s name why is = unread_is s name why ((λ e. is.0 (ap (λ (u : Unread). let r : Result X Unread = Err u in r) e)), (λ none. same (is.1 none)))
+pub unread_of : {X : Type 0} (s : State) (name : List ℕ) (why : Unread) → (◌≡◌ {A = Result X Unread} (Err why) (Err unread.NotInstalled)) ↔ All (λ library. library.name ≢ name) s.libraries → why ≢ unread.Unreadable → IsUnread s name why
+unread_of {X = X} s name why is read = unread_is s name why ((λ e. is.0 (ap (λ (u : Unread). let r : Result X Unread = Err u in r) e)), (λ none. same (is.1 none))) read
   where
     same : (◌≡◌ {A = Result X Unread} (Err why) (Err unread.NotInstalled)) → why ≡ unread.NotInstalled
     same e = cc

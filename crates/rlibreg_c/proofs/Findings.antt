@@ -4,14 +4,11 @@ use Rattle.std.proofs.Common.{refl, sym, ◌∙◌, ap, subst, arith, below_more
 use Rattle.std.proofs.lemmas.List.{length-append}
 use Rattle.states.specs.State.{Library, State}
 use Rattle.store.specs.Stands.{no_library}
-use Rattle.requests.specs.declared.refusal.Refusal.TheVariants as refusal
-use Rattle.requests.specs.declared.reply.Reply.TheVariants as reply
 use Rattle.byte_contents.specs.Bytes.{HoldStore}
-use Rattle.rlibreg_c.specs.Answers.{IsToldAlone}
-use Rattle.rlibreg_c.specs.Check.{IsFoundAt, AreFound, IsCheckAnswered, IsCheckGiven, IsCheckOf, library_names, name_start}
+use Rattle.rlibreg_c.specs.Check.{IsFoundAt, AreFound, IsCheckAnswered, IsCheckOf, IsCheckTold, library_names, name_start}
 use Rattle.rlibreg_c.specs.declared.answer.Answer.{Answer}
 use Rattle.rlibreg_c.specs.declared.finding.FindingPlace.{FindingPlace}
-use Rattle.rlibreg_c.proofs.Given.{refused_not_done, turned_not_done}
+use Rattle.rlibreg_c.proofs.Given.{turned_not_done}
 use Rattle.rlibreg_c.proofs.Rows.{rows_le, rows_more, size_more, rows_all}
 
 -- the name of a library in the row
@@ -74,11 +71,11 @@ tell_all libraries count findings names at le told = record {
 -- A check whose status is 0 has what is found.
 module _ (disk : List ℕ) (findings : List FindingPlace) (names text : List ℕ) (answer : Answer) (status : ℕ) (zero : status ≡ 0) where
   told : (s : State) → HoldStore disk s
-      → IsCheckGiven s.libraries findings names answer status ⊎ IsToldAlone (reply.Refused refusal.Device) text answer status
+      → IsCheckTold s.libraries findings names text answer status
       → IsCheckOf disk findings names answer
   told s holds (inl (inl given, count, unlisted, unbound, silent)) = record { state = s; holds = holds; count = count; found = given.1 }
   told s holds (inl (inr lacks, count, unlisted, unbound, silent)) = absurd (omega (arith, zero, lacks.0))
-  told s holds (inr away) = absurd (refused_not_done refusal.Device text answer status zero away.0)
+  told s holds (inr (wants, uncounted)) = absurd (omega (arith, zero, wants.status))
 
   pub check_given : IsCheckAnswered disk findings names text answer status → IsCheckOf disk findings names answer
   check_given (inl asked) = told asked.0 asked.1 asked.2

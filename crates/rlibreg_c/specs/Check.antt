@@ -4,15 +4,13 @@ use Rattle.std.specs.List.{flat_map}
 use Rattle.states.specs.State.{Library, State}
 use Rattle.store.specs.Stands.{no_library}
 use Rattle.store.specs.declared.refusal.StoreRefusal.{StoreRefusal}
-use Rattle.requests.specs.declared.refusal.Refusal.TheVariants.{Device}
-use Rattle.requests.specs.declared.reply.Reply.TheVariants.{Refused as Turned}
 use Rattle.contents.specs.Finding.{IsFinding}
 use Rattle.contents.specs.declared.finding.Finding.{Finding}
 use Rattle.contents.specs.declared.finding.Finding.TheVariants.{Sound, Refused, OtherName, Unreadable}
-use Rattle.byte_contents.specs.Bytes.{HoldStore, IsUnopened}
-use Rattle.rlibreg_c.specs.Answers.{IsToldAlone, IsTurnedAway}
+use Rattle.byte_contents.specs.Bytes.{HaveNoContents, HoldStore}
+use Rattle.rlibreg_c.specs.Answers.{IsTurnedAway, WantsMemory}
 use Rattle.rlibreg_c.specs.Numbers.{done, no_room, file_number}
-use Rattle.rlibreg_c.specs.Unsaid.{IsSilent, IsUnbound, IsUnlisted}
+use Rattle.rlibreg_c.specs.Unsaid.{IsSilent, IsUnbound, IsUncounted, IsUnlisted}
 use Rattle.rlibreg_c.specs.declared.answer.Answer.{Answer}
 use Rattle.rlibreg_c.specs.declared.finding.FindingPlace.{FindingPlace}
 
@@ -69,13 +67,19 @@ IsCheckGiven libraries findings names answer status =
     ⊎ ((status ≡ no_room) × LackPlaces libraries findings names answer.bytes))
     × (answer.count ≡ length libraries) × IsUnlisted answer × IsUnbound answer × IsSilent answer
 
--- what is found of each library of the state that the bytes hold is given; or a read failed; or
--- there is no registry, and it is told why
+-- what is found is given, or memory was refused
+abbrev pub IsCheckTold : List Library → List FindingPlace → (names text : List ℕ) → Answer → ℕ → Type 0
+IsCheckTold libraries findings names text answer status =
+    IsCheckGiven libraries findings names answer status
+    ⊎ (WantsMemory text answer.text answer.file_refusal status × IsUncounted answer)
+
+-- what is found of each library that the bytes hold is given, or memory was refused; or there is no
+-- registry, and it is told why
 abbrev pub IsCheckAnswered : (disk : List ℕ) → List FindingPlace → (names text : List ℕ) → Answer → ℕ → Type 0
 IsCheckAnswered disk findings names text answer status =
     ((s : State) × HoldStore disk s
-    × (IsCheckGiven s.libraries findings names answer status ⊎ IsToldAlone (Turned Device) text answer status))
-    ⊎ ((why : StoreRefusal) × IsUnopened disk why × IsTurnedAway why text answer status)
+    × IsCheckTold s.libraries findings names text answer status)
+    ⊎ ((why : StoreRefusal) × HaveNoContents disk why × IsTurnedAway why text answer status)
 
 -- The buffers have what is found of each library of the state that the bytes hold, in their order.
 pub record IsCheckOf (disk : List ℕ) (findings : List FindingPlace) (names : List ℕ) (answer : Answer) : Type 0 where

@@ -1,8 +1,8 @@
 -- What a disk has, as C gets it: a library's bytes, and what is told of the whole (own).
 use Rattle.std.specs.Prelude.{◌≡◌, ◌≢◌, ◌⊎◌, ◌↔◌, ◌<◌, ◌≤◌, ℕ, List, [], All, None, length, take}
 use Rattle.byte_disk.specs.Bytes.{sectors_in}
-use Rattle.byte_disk.specs.ByteDisk.{byte_facts}
-use Rattle.byte_disk.specs.declared.disk.ByteDisk.{ByteDisk}
+use Rattle.byte_disk.specs.ReadOnlyDisk.{read_only_facts}
+use Rattle.byte_disk.specs.declared.read_only.ReadOnlyDisk.{ReadOnlyDisk}
 use Rattle.extents.specs.Layout.{free_count}
 use Rattle.extents.specs.Runs.{free_runs}
 use Rattle.states.specs.State.{State}
@@ -18,7 +18,7 @@ use Rattle.contents.specs.Info.{IsInfo}
 use Rattle.contents.specs.declared.info.Info.{Info}
 use Rattle.contents.specs.declared.unread.Unread.{Unread}
 use Rattle.contents.specs.declared.unread.Unread.TheVariants as unread
-use Rattle.byte_contents.specs.Bytes.{HoldStore, IsUnopened}
+use Rattle.byte_contents.specs.Bytes.{HaveNoContents, HoldStore}
 use Rattle.rlibreg_c.specs.Answers.{IsToldAlone, IsTurnedAway}
 use Rattle.rlibreg_c.specs.Numbers.{done, no_room}
 use Rattle.rlibreg_c.specs.Unsaid.{IsSilent, IsUnbound, IsUncounted, IsUnlisted}
@@ -37,10 +37,11 @@ IsFileGiven file bytes answer status =
     (((status ≡ done) × (take answer.bytes bytes ≡ file)) ⊎ ((status ≡ no_room) × (length bytes < length file)))
     × (answer.bytes ≡ length file) × (answer.count ≡ 0) × IsUnlisted answer × IsUnbound answer × IsSilent answer
 
--- C3 is answered exactly where no library has the name
+-- C3 is answered exactly where no library has the name, and S1 never, since no read of bytes fails
 abbrev pub IsUnread : State → List ℕ → Unread → Type 0
 IsUnread s name unread.NotInstalled = All (λ library. library.name ≢ name) s.libraries
-IsUnread s name other = All (λ library. library.name ≢ name) s.libraries → ⊥
+IsUnread s name unread.Unreadable = ⊥
+IsUnread s name unread.OutOfMemory = All (λ library. library.name ≢ name) s.libraries → ⊥
 
 -- a library's file is given, or it is told why not
 abbrev pub IsFileTold : State → (name bytes text : List ℕ) → Answer → ℕ → Type 0
@@ -53,7 +54,7 @@ IsFileTold s name bytes text answer status =
 abbrev pub IsFileAnswered : (disk name bytes text : List ℕ) → Answer → ℕ → Type 0
 IsFileAnswered disk name bytes text answer status =
     ((s : State) × HoldStore disk s × IsFileTold s name bytes text answer status)
-    ⊎ ((why : StoreRefusal) × IsUnopened disk why × IsTurnedAway why text answer status)
+    ⊎ ((why : StoreRefusal) × HaveNoContents disk why × IsTurnedAway why text answer status)
 
 -- The buffer has the file of the library of this name, which the state that the bytes hold has.
 pub record IsFileOf (disk name bytes : List ℕ) (answer : Answer) : Type 0 where
@@ -82,9 +83,9 @@ information_of info =
 pub record IsInfoOf (disk : List ℕ) (information : Information) : Type 0 where
   pub state : State
   pub holds : HoldStore disk state
-  pub store : Opened ByteDisk
-  pub at : IsAt byte_facts store state
-  pub now : (byte_facts store.disk).now ≡ sectors_in disk
+  pub store : Opened ReadOnlyDisk
+  pub at : IsAt read_only_facts store state
+  pub now : (read_only_facts store.disk).now ≡ sectors_in disk
   pub unheld : store.held ≡ []
   pub told : Info
   pub is : information ≡ information_of told
@@ -99,4 +100,4 @@ pub record IsInfoOf (disk : List ℕ) (information : Information) : Type 0 where
 abbrev pub IsInfoAnswered : List ℕ → Information → List ℕ → Answer → ℕ → Type 0
 IsInfoAnswered disk information text answer status =
     ((status ≡ done) × IsInfoOf disk information × IsUncounted answer × IsSilent answer)
-    ⊎ ((why : StoreRefusal) × IsUnopened disk why × IsTurnedAway why text answer status)
+    ⊎ ((why : StoreRefusal) × HaveNoContents disk why × IsTurnedAway why text answer status)

@@ -1,25 +1,23 @@
 // What is found of each library.
-ghost use Rattle.std.specs.Prelude.{◌≡◌, ◌-◌, ◌<◌, ◌≤◌, ◌^◌, ◌⊎◌, ℕ, IfSome, IfNone, length};
+ghost use Rattle.std.specs.Prelude.{◌≡◌, ◌-◌, ◌<◌, ◌≤◌, ◌^◌, ℕ, IfSome, IfNone, length};
 ghost use Rattle.std.specs.Prelude.{count_by, min, slice_index_or};
+ghost use Rattle.byte_disk.specs.ReadOnlyDisk.{read_only_facts};
 ghost use Rattle.states.specs.State.{State};
 ghost use Rattle.store.specs.Opened.{IsAt};
 ghost use Rattle.store.specs.Stands.{no_library};
-ghost use Rattle.requests.specs.declared.refusal.Refusal.TheVariants.{Device};
-ghost use Rattle.requests.specs.declared.reply.Reply.TheVariants as reply;
 ghost use Rattle.contents.specs.Finding.{IsFinding, is_unreadable};
 ghost use Rattle.contents.specs.declared.finding.Finding.{Finding};
-ghost use Rattle.rlibreg_c.specs.Answers.{IsToldAlone};
-ghost use Rattle.rlibreg_c.specs.Check.{AreFound, IsCheckAnswered, IsCheckGiven, IsCheckOf};
+ghost use Rattle.rlibreg_c.specs.Check.{AreFound, IsCheckAnswered, IsCheckOf, IsCheckTold};
 ghost use Rattle.rlibreg_c.specs.Check.{library_names};
 
 use crate::answer::Answer;
 use crate::finding::{FindingPlace, finding_number, place_of};
 use crate::put::put;
 use crate::status::{DONE, NO_ROOM};
-use crate::text::{tell, tell_memory, turn_away};
+use crate::text::{tell_memory, turn_away};
 use byte_contents::contents_of;
+use byte_disk::ReadOnlyDisk;
 use contents::{Contents, Finding};
-use requests::{Refusal, Reply};
 use sector_disk::Disk;
 use std::alloc::Global;
 use store::Store;
@@ -68,20 +66,16 @@ fn put_findings<D: Disk>(
 
 /// Looks at each library, and puts what is found into the two buffers, where they have room: where
 /// they haven't, no file is read.
-fn look<D: Disk>(
+fn look(
     alloc: Global,
-    contents: &mut Contents<D>,
+    contents: &mut Contents<ReadOnlyDisk<'_>>,
     findings: &mut [FindingPlace],
     names: &mut [u8],
     text: &mut [u8],
 ) -> Answer
-    ensures told { (s : State) → IsAt D.facts contents.old s
-        → IsCheckGiven s.libraries findings.new names.new result result.status
-        ⊎ IsToldAlone (reply.Refused Device) text.new result result.status }
-
-    // S1 is answered only where a read failed.
-    ensures device { (s : State) → IsAt D.facts contents.old s → result.status ≡ 301
-        → (D.facts contents.old.disk).failures < (D.facts contents.new.disk).failures }
+    requires { (s : State) × IsAt read_only_facts contents.old s }
+    ensures { (s : State) → IsAt read_only_facts contents.old s
+        → IsCheckTold s.libraries findings.new names.new text.new result result.status }
 {
     let needed = Answer {
         count: contents.store().count() as u64,
@@ -98,7 +92,7 @@ fn look<D: Disk>(
                 bytes: end as u64,
                 ..needed
             },
-            None => tell(alloc, &Reply::Refused(Refusal::Device), text),
+            None => unreachable!(),
         },
         Err(_) => tell_memory(text),
     }

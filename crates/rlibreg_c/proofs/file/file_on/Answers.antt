@@ -1,4 +1,5 @@
-use Rattle.std.proofs.Common.{inl, inr, subst}
+use Rattle.std.proofs.Common.{inl, inr, refl, subst, arith}
+use Rattle.byte_disk.proofs.ReadOnly.{no_failure}
 use Rattle.requests.specs.declared.refusal.Refusal.{Refusal}
 use Rattle.requests.specs.declared.reply.Reply.TheVariants.{Refused}
 use Rattle.rlibreg_c.specs.Answers.{IsToldAlone}
@@ -15,4 +16,5 @@ pub returns-in-Err-read : goal.returns-in-Err-read
 returns-in-Err-read c =
     let ok = c.in-Ok.ensures.ok in
     let why = c.in-Err-read.unread in
-    inl (ok.0, ok.1, inr (why, unread_of ok.0 c.args.name.now why (c.in-Err-read.ensures.not_installed ok.0 ok.2), subst (λ (r : Refusal). IsToldAlone (Refused r) c.tell.new.text c.tell.result c.tell.result.status) c.refusal_of.ensures c.tell.ensures))
+    let none_failed = no_failure c.in-Ok.contents.disk c.file-read.new.self.disk (record { either = inl (c.file-read.ensures.read.unchanged refl).log }) in
+    inl (ok.0, ok.1, inr (why, unread_of ok.0 c.args.name.now why (c.in-Err-read.ensures.not_installed ok.0 ok.2) (λ unreadable. omega (arith, c.in-Err-read.ensures.device unreadable, none_failed)), subst (λ (r : Refusal). IsToldAlone (Refused r) c.tell.new.text c.tell.result c.tell.result.status) c.refusal_of.ensures c.tell.ensures))

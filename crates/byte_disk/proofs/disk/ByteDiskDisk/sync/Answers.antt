@@ -26,14 +26,16 @@ invariant_of-self c =
       few = self.few;
       whole = self.whole;
       writes = subst (λ s. All (IsWriteOn (length start)) (writes_in s)) (sym plan) (writes_sync start steps self.whole self.writes (get nat_eq self.latest) self.is_latest);
-      is_latest = λ k lt. subst (λ s. content_by start s k (get nat_eq self.latest k) ≡ sector (carried_out start s) k) (sym plan) (latest_sync start steps self.whole self.writes (get nat_eq self.latest) self.is_latest k lt);
+      is_latest = λ k lt. subst (λ s. content_by start s k (get nat_eq self.latest k) ≡ sector (carried_out start s) k) (sym plan)
+          (latest_sync start steps self.whole self.writes (get nat_eq self.latest) self.is_latest k lt);
     }
 
 pub returns-in-Ok-clause-calls : goal.returns-in-Ok-clause-calls
 returns-in-Ok-clause-calls c =
     let self = c.args.self.now in
     let p : PlannedStep = record { step = Sync; idle = self.idle } in
-    made_call self.start.now self.planned.items self.idle c.make_step.new.planned.items c.make_step.new.idle p refl (c.make_step.ensures.made ∙ ap (λ l. l ++ p ∷ []) c.in-Ok.ensures.items) c.make_step.ensures.no_calls c.make_step.ensures.no_failures
+    made_call self.start.now self.planned.items self.idle c.make_step.new.planned.items c.make_step.new.idle p refl
+    (c.make_step.ensures.made ∙ ap (λ l. l ++ p ∷ []) c.in-Ok.ensures.items) c.make_step.ensures.no_calls c.make_step.ensures.no_failures
 
 pub returns-in-Ok-clause-honest : goal.returns-in-Ok-clause-honest
 returns-in-Ok-clause-honest c honest =

@@ -25,27 +25,34 @@ invariant_of-self c =
     let at = c.args.at in
     let content = c.args.from.now in
     let p : PlannedStep = record { step = Write at content; idle = self.idle } in
-    let plan : plan_in c.make_step.new.planned.items ≡ steps ++ Write at content ∷ [] = ap plan_in (c.make_step.ensures.made ∙ ap (λ l. l ++ p ∷ []) c.in-Ok.ensures.same) ∙ plan_push self.planned.items p in
+    let plan : plan_in c.make_step.new.planned.items ≡ steps ++ Write at content ∷ [] =
+    ap plan_in (c.make_step.ensures.made ∙ ap (λ l. l ++ p ∷ []) c.in-Ok.ensures.same) ∙ plan_push self.planned.items p in
     let latest' = get nat_eq c.make_room.new.latest in
     let here : latest' at ≡ Some (length steps) = c.in-Ok.ensures.ok.1 ∙ ap (λ n. Some n) (sym (length-map self.planned.items (λ (x : PlannedStep). x.step))) in
     record {
       few = self.few;
       whole = self.whole;
-      writes = subst (λ s. All (IsWriteOn (length start)) (writes_in s)) (sym plan) (writes_write start steps self.whole self.writes (get nat_eq self.latest) self.is_latest at content c.requires (is_whole content c.told-from c.fits-from));
-      is_latest = λ k lt. subst (λ s. content_by start s k (latest' k) ≡ sector (carried_out start s) k) (sym plan) (latest_write start steps self.whole self.writes (get nat_eq self.latest) self.is_latest at content c.requires latest' here c.in-Ok.ensures.ok.2 k lt);
+      writes = subst (λ s. All (IsWriteOn (length start)) (writes_in s)) (sym plan)
+          (writes_write start steps self.whole self.writes (get nat_eq self.latest) self.is_latest at content c.requires
+          (is_whole content c.told-from c.fits-from));
+      is_latest = λ k lt. subst (λ s. content_by start s k (latest' k) ≡ sector (carried_out start s) k) (sym plan)
+          (latest_write start steps self.whole self.writes
+          (get nat_eq self.latest) self.is_latest at content c.requires latest' here c.in-Ok.ensures.ok.2 k lt);
     }
 
 pub returns-in-Ok-clause-calls : goal.returns-in-Ok-clause-calls
 returns-in-Ok-clause-calls c =
     let self = c.args.self.now in
     let p : PlannedStep = record { step = Write c.args.at c.args.from.now; idle = self.idle } in
-    made_call self.start.now self.planned.items self.idle c.make_step.new.planned.items c.make_step.new.idle p refl (c.make_step.ensures.made ∙ ap (λ l. l ++ p ∷ []) c.in-Ok.ensures.same) c.make_step.ensures.no_calls c.make_step.ensures.no_failures
+    made_call self.start.now self.planned.items self.idle c.make_step.new.planned.items c.make_step.new.idle p refl
+    (c.make_step.ensures.made ∙ ap (λ l. l ++ p ∷ []) c.in-Ok.ensures.same) c.make_step.ensures.no_calls c.make_step.ensures.no_failures
 
 pub returns-in-Ok-clause-honest : goal.returns-in-Ok-clause-honest
 returns-in-Ok-clause-honest c honest =
     let self = c.args.self.now in
     let p : PlannedStep = record { step = Write c.args.at c.args.from.now; idle = self.idle } in
-    made_write self.start.now self.planned.items self.idle c.make_step.new.planned.items c.make_step.new.idle p refl (c.make_step.ensures.made ∙ ap (λ l. l ++ p ∷ []) c.in-Ok.ensures.same) c.args.at c.args.from.now refl c.requires
+    made_write self.start.now self.planned.items self.idle c.make_step.new.planned.items c.make_step.new.idle p refl
+    (c.make_step.ensures.made ∙ ap (λ l. l ++ p ∷ []) c.in-Ok.ensures.same) c.args.at c.args.from.now refl c.requires
 
 pub returns-in-Err-clause-err : goal.returns-in-Err-clause-err
 returns-in-Err-clause-err c =
