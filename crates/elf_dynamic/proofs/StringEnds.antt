@@ -48,7 +48,8 @@ zero_found xs None none =
     ∙ prefix_len_is (λ b. not (eqb b 0)) xs (length xs) 0 (omega arith) (λ k lt. let least : 0 ≤ k = omega arith in no-zero (eqb (get_or xs k 0) 0) (none k least lt)) (λ lt. absurd (omega arith)))
 zero_found xs (Some at) first =
     sym (length-prefix_len (λ b. not (eqb b 0)) xs
-    ∙ prefix_len_is (λ b. not (eqb b 0)) xs at 0 (omega (arith, first.0.high)) (λ k lt. let least : 0 ≤ k = omega arith in no-zero (eqb (get_or xs k 0) 0) (first.0.before k least lt)) (λ lt. ap not first.1))
+    ∙ prefix_len_is (λ b. not (eqb b 0)) xs at 0 (omega (arith, first.0.high))
+    (λ k lt. let least : 0 ≤ k = omega arith in no-zero (eqb (get_or xs k 0) 0) (first.0.before k least lt)) (λ lt. ap not first.1))
 
 -- for a string of a table
 pub ruleset ends = (take_front, front_short, drop_min)

@@ -2,7 +2,8 @@
 use Rattle.std.proofs.lemmas.Bool.{cases_lt}
 use Rattle.std.proofs.lemmas.Option.{get_or_from_slice_get, slice_get_within}
 use Rattle.elf_file.proofs.Order.{loads_rising}
-use Rattle.std.proofs.Common.{get_or, inl, inr, ◌≡◌, ℕ, ◌<◌, ◌≤◌, ◌+◌, ◌-◌, Bool, true, false, cond, List, [], ◌∷◌, ◌++◌, length, arith, refl, ◌∙◌, sym, ap, Some, filter, map, suc, zero, zero-add, add-zero, length-append}
+use Rattle.std.proofs.Common.{get_or, inl, inr, ◌≡◌, ℕ, ◌<◌, ◌≤◌, ◌+◌, ◌-◌, Bool, true, false, cond, List, [], ◌∷◌, ◌++◌, length, arith, refl, ◌∙◌}
+use Rattle.std.proofs.Common.{sym, ap, Some, filter, map, suc, zero, zero-add, add-zero, length-append}
 use Rattle.std.specs.List.{range_with_len}
 use Rattle.std.specs.Prelude.{slice_get}
 use Rattle.std.proofs.lemmas.List.Elements.{filter-append}
@@ -100,7 +101,8 @@ loads_apart file i j order lt within is1 is2 =
     let d : ProgramHeader = program_header file i in
     let at1 = load_at file i (omega (arith, lt, within)) is1 in
     let at2 = load_at file j within is2 in
-    let h = loads_rising file order (loads_before file i) (loads_before file j) d (loads_before_less file i j lt is1) (slice_get_within (loads file) (loads_before file j) (program_header file j) at2) in
+    let h = loads_rising file order (loads_before file i) (loads_before file j) d (loads_before_less file i j lt is1)
+    (slice_get_within (loads file) (loads_before file j) (program_header file j) at2) in
     let a : get_or (loads file) (loads_before file i) d ≡ program_header file i = get_or_from_slice_get (loads file) (loads_before file i) (program_header file i) d at1 in
     let b : get_or (loads file) (loads_before file j) d ≡ program_header file j = get_or_from_slice_get (loads file) (loads_before file j) (program_header file j) d at2 in
     omega (arith, h, ap (λ x. x.address + x.memory_size) a, ap (λ x. x.address) b)
@@ -121,7 +123,8 @@ unfolding loads_from
 from-one file k b lt is =
     let e : header_count file - k ≡ suc (header_count file - (k + 1)) = omega arith in
     ap (λ n. filter is_load (map (program_header file) (range_with_len k n))) e
-    ∙ ap (λ c. cond c (program_header file k ∷ filter is_load (map (program_header file) (range_with_len (k + 1) (header_count file - (k + 1))))) (filter is_load (map (program_header file) (range_with_len (k + 1) (header_count file - (k + 1)))))) is
+    ∙ ap (λ c. cond c (program_header file k ∷ filter is_load (map (program_header file) (range_with_len (k + 1) (header_count file - (k + 1)))))
+    (filter is_load (map (program_header file) (range_with_len (k + 1) (header_count file - (k + 1)))))) is
 
 -- a PT_LOAD is the first of those from it on
 pub loads_from_load : (file : List ℕ) (k : ℕ) → k < header_count file → is_load (program_header file k) ≡ true

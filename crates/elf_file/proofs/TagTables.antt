@@ -1,5 +1,6 @@
 -- One pass over the entries gives the table of the tags.
-use Rattle.std.proofs.Common.{length, ◌≡◌, ◌≢◌, ℕ, ◌<◌, ◌≤◌, ◌+◌, ◌-◌, ◌/◌, Bool, true, false, cond, List, [], ◌∷◌, ◌++◌, arith, refl, ◌∙◌, sym, ap, map, get_or, zero-add, add-zero, suc, Option, Some, None}
+use Rattle.std.proofs.Common.{length, ◌≡◌, ◌≢◌, ℕ, ◌<◌, ◌≤◌, ◌+◌, ◌-◌, ◌/◌, Bool, true, false, cond, List, [], ◌∷◌, ◌++◌, arith, refl, ◌∙◌, sym, ap}
+use Rattle.std.proofs.Common.{map, get_or, zero-add, add-zero, suc, Option, Some, None}
 use Rattle.std.specs.Prelude.{not, ◌||◌, take_while, count_by}
 use Rattle.std.specs.Option.{option_map, option_or}
 use Rattle.std.specs.List.{list_any, range_with_len, find}

@@ -13,7 +13,8 @@ use Rattle.passes.proofs.Runs.{in_range, from_range}
 pub places-append : (some more : List Extent) → places (some ++ more) ≡ places some ++ places more
 places-append some more = flat_map-append (λ (e : Extent). range_with_len e.start e.count) some more
 
-pub places_more : (extents : List Extent) (i : ℕ) (d : Extent) → i < length extents → places (take (i + 1) extents) ≡ places (take i extents) ++ range_with_len (get_or extents i d).start (get_or extents i d).count
+pub places_more : (extents : List Extent) (i : ℕ) (d : Extent) → i < length extents
+    → places (take (i + 1) extents) ≡ places (take i extents) ++ range_with_len (get_or extents i d).start (get_or extents i d).count
 places_more extents i d lt =
     ap places (take_more extents i d lt)
     ∙ places-append (take i extents) (get_or extents i d ∷ [])

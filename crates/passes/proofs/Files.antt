@@ -15,7 +15,8 @@ use Rattle.passes.proofs.Runs.{bytes_at_same}
 use Rattle.passes.proofs.Extents.{places_more, count_more, run_in_places, earlier_apart}
 
 -- writes into some more sectors leave mixtures that differ in all of them alone
-pub more_leaves : {first old new : DiskFacts} (some more : ℕ → Type 0) → ((k : ℕ) → some k → more k) → LeavesOnly first old (IsMixtureBut more first) → LeavesOnly old new (IsMixtureBut some old) → LeavesOnly first new (IsMixtureBut more first)
+pub more_leaves : {first old new : DiskFacts} (some more : ℕ → Type 0) → ((k : ℕ) → some k → more k) → LeavesOnly first old (IsMixtureBut more first)
+    → LeavesOnly old new (IsMixtureBut some old) → LeavesOnly first new (IsMixtureBut more first)
 more_leaves {first = first} {old = old} some more among so_far leaves =
     goes_on (IsMixtureBut more first) so_far
     (weaken (IsMixtureBut some old) (IsMixtureBut more first) (mixture_but some more among (left_now (IsMixtureBut more first) so_far)) leaves)
@@ -30,7 +31,8 @@ pub record Progress (first current : DiskFacts) (extents : List Extent) (done : 
 
 module _ {first old : DiskFacts} {extents : List Extent} {done : ℕ} {bytes rest : List ℕ} (so_far : Progress first old extents done bytes rest) (d : Extent) (lt : done < length extents) where
   -- one extent more is written
-  pub more_extent_leaves : {new : DiskFacts} → IsTrue first.honest → LeavesOnly old new (IsMixtureBut (Has (get_or extents done d)) old) → LeavesOnly first new (IsMixtureBut (Contains (places extents)) first)
+  pub more_extent_leaves : {new : DiskFacts} → IsTrue first.honest → LeavesOnly old new (IsMixtureBut (Has (get_or extents done d)) old)
+      → LeavesOnly first new (IsMixtureBut (Contains (places extents)) first)
   more_extent_leaves honest leaves = more_leaves (Has (get_or extents done d)) (Contains (places extents)) (run_in_places extents done d lt) (so_far.leaves honest) leaves
 
   pub more_extent_others : {now : List Sector} → IsTrue first.honest → SameBut (Has (get_or extents done d)) old.now now → SameBut (Contains (places extents)) first.now now
@@ -43,7 +45,9 @@ module _ {first old : DiskFacts} {extents : List Extent} {done : ℕ} {bytes res
       let sum : 512 * n + 512 * e.count ≡ 512 * sector_count (take (done + 1) extents) = omega (arith, count_more extents done d lt) in
       ap (drop (512 * e.count)) so_far.rest_is ∙ drop-drop (512 * e.count) (512 * n) bytes ∙ ap (λ k. drop k bytes) sum
 
-  pub more_extent_holds : {now : List Sector} → AllPairs IsApart extents → IsTrue first.honest → SameBut (Has (get_or extents done d)) old.now now → bytes_at now (range_with_len (get_or extents done d).start (get_or extents done d).count) ≡ padded (512 * (get_or extents done d).count) rest → bytes_at now (places (take (done + 1) extents)) ≡ padded (512 * sector_count (take (done + 1) extents)) bytes
+  pub more_extent_holds : {now : List Sector} → AllPairs IsApart extents → IsTrue first.honest → SameBut (Has (get_or extents done d)) old.now now
+      → bytes_at now (range_with_len (get_or extents done d).start (get_or extents done d).count) ≡ padded (512 * (get_or extents done d).count) rest
+      → bytes_at now (places (take (done + 1) extents)) ≡ padded (512 * sector_count (take (done + 1) extents)) bytes
   more_extent_holds {now = now} apart honest same written =
       let e = get_or extents done d in
       let n = sector_count (take done extents) in

@@ -37,8 +37,10 @@ drop-nil (suc a) = refl
 -- so many bytes, and then so many of those behind them
 pub padded-add : (a b : ℕ) (bytes : List ℕ) → padded (a + b) bytes ≡ padded a bytes ++ padded b (drop a bytes)
 padded-add zero b bytes = ap (λ n. padded n bytes) (let e : 0 + b ≡ b = omega arith in e) ∙ sym (ap (λ l. l ++ padded b bytes) (padded-zero bytes))
-padded-add (suc a) b [] = ap (λ n. padded n []) (suc_plus a b) ∙ padded-nil (a + b) ∙ ap (λ l. 0 ∷ l) (padded-add a b [] ∙ ap (λ l. padded a [] ++ padded b l) (drop-nil a)) ∙ sym (ap (λ l. l ++ padded b []) (padded-nil a))
-padded-add (suc a) b (x ∷ bytes) = ap (λ n. padded n (x ∷ bytes)) (suc_plus a b) ∙ padded-cons (a + b) x bytes ∙ ap (λ l. x ∷ l) (padded-add a b bytes) ∙ sym (ap (λ l. l ++ padded b (drop a bytes)) (padded-cons a x bytes))
+padded-add (suc a) b [] = ap (λ n. padded n []) (suc_plus a b) ∙ padded-nil (a + b)
+    ∙ ap (λ l. 0 ∷ l) (padded-add a b [] ∙ ap (λ l. padded a [] ++ padded b l) (drop-nil a)) ∙ sym (ap (λ l. l ++ padded b []) (padded-nil a))
+padded-add (suc a) b (x ∷ bytes) = ap (λ n. padded n (x ∷ bytes)) (suc_plus a b) ∙ padded-cons (a + b) x bytes
+    ∙ ap (λ l. x ∷ l) (padded-add a b bytes) ∙ sym (ap (λ l. l ++ padded b (drop a bytes)) (padded-cons a x bytes))
 
 -- what is cut off at n or behind it isn't needed
 pub padded-take : (n m : ℕ) (bytes : List ℕ) → n ≤ m → padded n (take m bytes) ≡ padded n bytes
@@ -65,7 +67,8 @@ pub padded-short : (n : ℕ) (bytes : List ℕ) → length bytes ≤ n → padde
 padded-short zero [] le = refl
 padded-short (suc n) [] le = take-replicate (suc n) (suc n) 0 (omega arith) ∙ ap (λ k. replicate k 0) (let e : suc n ≡ suc n - 0 = omega arith in e)
 padded-short zero (b ∷ bytes) le = absurd (omega (arith, le))
-padded-short (suc n) (b ∷ bytes) le = padded-cons n b bytes ∙ ap (λ l. b ∷ l) (padded-short n bytes (omega (arith, le))) ∙ ap (λ k. b ∷ bytes ++ replicate k 0) (let e : n - length bytes ≡ suc n - suc (length bytes) = omega arith in e)
+padded-short (suc n) (b ∷ bytes) le = padded-cons n b bytes ∙ ap (λ l. b ∷ l) (padded-short n bytes (omega (arith, le)))
+    ∙ ap (λ k. b ∷ bytes ++ replicate k 0) (let e : n - length bytes ≡ suc n - suc (length bytes) = omega arith in e)
 
 -- there are as many as are wanted
 pub length-padded : (n : ℕ) (bytes : List ℕ) → length (padded n bytes) ≡ n

@@ -19,7 +19,8 @@ no_reads disk = record {
 }
 
 -- one read more
-pub more_reads : {first old new : DiskFacts} {at : ℕ} {content : Sector} {T E : Type 0} {result : Result T E} → AreReads first old → IsCall old new result → IsRead old new at content result → AreReads first new
+pub more_reads : {first old new : DiskFacts} {at : ℕ} {content : Sector} {T E : Type 0} {result : Result T E} → AreReads first old
+    → IsCall old new result → IsRead old new at content result → AreReads first new
 more_reads {first = first} before call read = record {
   past = keeps_past before.past read.past;
   same = record {

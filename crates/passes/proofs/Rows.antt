@@ -6,7 +6,8 @@ use Rattle.sector_disk.proofs.Moments.{same_log, longer_log, log_at_most}
 use Rattle.passes.specs.Calls.{AreCallsInRow}
 
 -- a failure is counted once, or none
-counted : (old new : DiskFacts) {T E : Type 0} (result : Result T E) → OnOk result (new.failures ≡ old.failures) → OnErr result (new.failures ≡ old.failures + 1) → (old.failures ≤ new.failures) × (new.failures ≤ old.failures + 1)
+counted : (old new : DiskFacts) {T E : Type 0} (result : Result T E) → OnOk result (new.failures ≡ old.failures)
+    → OnErr result (new.failures ≡ old.failures + 1) → (old.failures ≤ new.failures) × (new.failures ≤ old.failures + 1)
 counted old new (Ok x) ok err = (omega (arith, ok), omega (arith, ok))
 counted old new (Err e) ok err = (omega (arith, err), omega (arith, err))
 
@@ -27,10 +28,23 @@ one_in_row {old = old} {new = new} {result = result} call = record {
 
 -- no call
 pub none_in_row : (disk : DiskFacts) {T E : Type 0} {x : T} → AreCallsInRow {T = T} {E = E} 0 disk disk (Ok x)
-none_in_row disk = record { honest = refl; sectors = refl; plans = refl; log = same_log refl; later = omega arith; most = omega arith; few_failures = omega arith; all = omega arith; ok = refl; err = tt }
+none_in_row disk = record {
+  honest = refl;
+  sectors = refl;
+  plans = refl;
+  log = same_log refl;
+  later = omega arith;
+  most = omega arith;
+  few_failures =
+      omega arith;
+  all = omega arith;
+  ok = refl;
+  err = tt;
+}
 
 -- calls that all were answered, and then others
-pub then_in_row : {first old new : DiskFacts} {S F T E : Type 0} {k m : ℕ} {x : S} {result : Result T E} → AreCallsInRow {T = S} {E = F} k first old (Ok x) → AreCallsInRow m old new result → AreCallsInRow (k + m) first new result
+pub then_in_row : {first old new : DiskFacts} {S F T E : Type 0} {k m : ℕ} {x : S} {result : Result T E}
+    → AreCallsInRow {T = S} {E = F} k first old (Ok x) → AreCallsInRow m old new result → AreCallsInRow (k + m) first new result
 then_in_row {result = result} before after = record {
   honest = after.honest ∙ before.honest;
   sectors = after.sectors ∙ before.sectors;
@@ -48,7 +62,8 @@ then_in_row {result = result} before after = record {
 abbrev pub CallsSoFar : ℕ → DiskFacts → DiskFacts → Type 0
 CallsSoFar n first current = AreCallsInRow {T = Unit {0}} {E = Unit {0}} n first current (Ok tt)
 
-pub so_far_in_row : {first old new : DiskFacts} {S F T E : Type 0} {n k m : ℕ} {x : S} {y : T} → n ≡ k + m → AreCallsInRow {T = S} {E = F} k first old (Ok x) → AreCallsInRow {T = T} {E = E} m old new (Ok y) → CallsSoFar n first new
+pub so_far_in_row : {first old new : DiskFacts} {S F T E : Type 0} {n k m : ℕ} {x : S} {y : T} → n ≡ k + m
+    → AreCallsInRow {T = S} {E = F} k first old (Ok x) → AreCallsInRow {T = T} {E = E} m old new (Ok y) → CallsSoFar n first new
 so_far_in_row is before after = record {
   honest = after.honest ∙ before.honest;
   sectors = after.sectors ∙ before.sectors;
@@ -63,7 +78,8 @@ so_far_in_row is before after = record {
 }
 
 -- a failure in their middle ends them
-pub stop_in_row : {first new : DiskFacts} {S F T E : Type 0} {k n : ℕ} {x : F} (result : Result T E) → AreCallsInRow {T = S} {E = F} k first new (Err x) → k ≤ n → IsErr result → AreCallsInRow n first new result
+pub stop_in_row : {first new : DiskFacts} {S F T E : Type 0} {k n : ℕ} {x : F} (result : Result T E)
+    → AreCallsInRow {T = S} {E = F} k first new (Err x) → k ≤ n → IsErr result → AreCallsInRow n first new result
 stop_in_row (Ok y) calls le is_err = absurd cc
 stop_in_row (Err y) calls le is_err = record {
   honest = calls.honest;
@@ -81,7 +97,16 @@ stop_in_row (Err y) calls le is_err = record {
 -- calls in a row are at most so many, and exactly so many where none fails
 pub in_row_at_most : {old new : DiskFacts} {T E : Type 0} {n most : ℕ} {result : Result T E} → AreCallsInRow n old new result → n ≤ most → AreCallsAtMost most old new
 in_row_at_most {old = old} {new = new} {result = result} calls le = record {
-  some = record { honest = calls.honest; sectors = calls.sectors; plans = calls.plans; log = calls.log; later = calls.later; failures = (counted old new result calls.ok calls.err).0; few_failures = calls.few_failures };
+  some = record {
+    honest = calls.honest;
+    sectors = calls.sectors;
+    plans = calls.plans;
+    log = calls.log;
+    later = calls.later;
+    failures =
+        (counted old new result calls.ok calls.err).0;
+    few_failures = calls.few_failures;
+  };
   time = omega (arith, calls.most, le);
 }
 

@@ -57,14 +57,17 @@ drop-min n l = ⊎_elim
     (λ le. ap (λ k. drop k l) (let e : min (length l) n ≡ length l = omega (arith, le) in e) ∙ drop_all (length l) l (omega arith) ∙ sym (drop_all n l (omega (arith, le))))
     (cases_lt n (length l))
 
-module _ {first old new : DiskFacts} {extent : Extent} {done : ℕ} {bytes rest content : List ℕ} {T E : Type 0} {result : Result T E} (so_far : Progress first old extent done bytes rest) (lt : done < extent.count) (call : IsCall old new result) where
+module _ {first old new : DiskFacts} {extent : Extent} {done : ℕ} {bytes rest content : List ℕ} {T E : Type 0} {result : Result T E}
+    (so_far : Progress first old extent done bytes rest) (lt : done < extent.count) (call : IsCall old new result) where
   -- one write more leaves nothing else
   pub run_leaves : IsTrue first.honest → HoldsNow old → IsWrite old new (extent.start + done) content result → LeavesOnly first new (IsMixtureBut (Has extent) first)
   run_leaves honest holds write = write_leaves call (Has extent) (omega arith, omega (arith, lt)) holds write (so_far.leaves honest)
 
   module _ (content_is : content ≡ padded 512 rest) (in_first : extent.start + extent.count ≤ first.sectors) where
     -- and the sectors before it stay as they were
-    more_holds : HoldsNow old → new.now ≡ set old.now (extent.start + done) content → bytes_at old.now (range_with_len extent.start done) ≡ padded (512 * done) bytes → bytes_at new.now (range_with_len extent.start (done + 1)) ≡ padded (512 * (done + 1)) bytes
+    more_holds : HoldsNow old → new.now ≡ set old.now (extent.start + done) content
+        → bytes_at old.now (range_with_len extent.start done) ≡ padded (512 * done) bytes
+        → bytes_at new.now (range_with_len extent.start (done + 1)) ≡ padded (512 * (done + 1)) bytes
     more_holds holds is before =
         ap (bytes_at new.now) (range_more extent.start done)
         ∙ flat_map-append (sector new.now) (range_with_len extent.start done) ((extent.start + done) ∷ [])
@@ -77,14 +80,17 @@ module _ {first old new : DiskFacts} {extent : Extent} {done : ℕ} {bytes rest 
 
         earlier : bytes_at new.now (range_with_len extent.start done) ≡ padded (512 * done) bytes
         earlier = bytes_at_same old.now new.now (range_with_len extent.start done)
-            (λ k found. let other : k ≢ extent.start + done = (let low = in_range extent.start done k found in λ same. omega (arith, low, same)) in ap (λ l. sector l k) is ∙ get_or-set_other old.now (extent.start + done) k content [] other)
+            (λ k found. let other : k ≢ extent.start + done = (let low = in_range extent.start done k found in λ same. omega (arith, low, same)) in
+            ap (λ l. sector l k) is ∙ get_or-set_other old.now (extent.start + done) k content [] other)
             ∙ before
 
         this : sector new.now (extent.start + done) ++ [] ≡ padded 512 (drop (512 * done) bytes)
         this = append-nil _ ∙ ap (λ l. sector l (extent.start + done)) is ∙ get_or-set_same old.now (extent.start + done) content [] in_old ∙ content_is ∙ ap (padded 512) so_far.rest_is
 
     -- one sector more is written
-    pub more : (IsTrue first.honest → HoldsNow old) → (IsTrue first.honest → IsWrite old new (extent.start + done) content result) → CallsSoFar (done + 1) first new → (IsTrue first.honest → new.now ≡ set old.now (extent.start + done) content) → Progress first new extent (done + 1) bytes (drop 512 rest)
+    pub more : (IsTrue first.honest → HoldsNow old) → (IsTrue first.honest → IsWrite old new (extent.start + done) content result)
+        → CallsSoFar (done + 1) first new → (IsTrue first.honest → new.now ≡ set old.now (extent.start + done) content)
+        → Progress first new extent (done + 1) bytes (drop 512 rest)
     more holds write calls ok = record {
       calls = calls;
       rest_is = ap (drop 512) so_far.rest_is ∙ drop-drop 512 (512 * done) bytes ∙ ap (λ n. drop n bytes) (let e : 512 * done + 512 ≡ 512 * (done + 1) = omega arith in e);

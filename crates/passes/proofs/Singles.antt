@@ -39,10 +39,14 @@ pub record Progress (first current : DiskFacts) (singles : List SingleSector) (d
   pub holds : IsTrue first.honest → (i : ℕ) → i < done → sector current.now (get_or singles i no_single).at ≡ (get_or singles i no_single).content
 
 -- once all are written, each holds its content
-pub all_hold : {first current : DiskFacts} {singles : List SingleSector} {done : ℕ} → Progress first current singles done → length singles ≤ done → IsTrue first.honest → HoldsSingles current.now singles
-all_hold {current = current} {singles = singles} so_far le honest = All-from_get_or (λ (s : SingleSector). sector current.now s.at ≡ s.content) singles no_single (λ i lt. so_far.holds honest i (omega (arith, lt, le)))
+pub all_hold : {first current : DiskFacts} {singles : List SingleSector} {done : ℕ} → Progress first current singles done → length singles ≤ done
+    → IsTrue first.honest → HoldsSingles current.now singles
+all_hold {current = current} {singles = singles} so_far le honest =
+    All-from_get_or (λ (s : SingleSector). sector current.now s.at ≡ s.content) singles no_single
+    (λ i lt. so_far.holds honest i (omega (arith, lt, le)))
 
-module _ {first old new : DiskFacts} {singles : List SingleSector} {done : ℕ} {T E : Type 0} {result : Result T E} (so_far : Progress first old singles done) (lt : done < length singles) (call : IsCall old new result) where
+module _ {first old new : DiskFacts} {singles : List SingleSector} {done : ℕ} {T E : Type 0} {result : Result T E}
+    (so_far : Progress first old singles done) (lt : done < length singles) (call : IsCall old new result) where
   -- the one that is written
   abbrev this : SingleSector
   this = get_or singles done no_single

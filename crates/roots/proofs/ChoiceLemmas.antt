@@ -50,7 +50,8 @@ current-spelt_odd s0 s1 root (inr (even, odd, spells0, spells1, successive, keep
     (cases_lt even.generation odd.generation)
 
 -- The root of the next generation, written to the other sector, is current where it may follow by its version.
-pub current-next_odd : (sector0 sector1 written : List ℕ) (root next : Root) → IsCurrent sector0 sector1 root → slot_of root.generation ≡ 0 → next.generation ≡ root.generation + 1 → KeepsVersion root next → SpellsRoot written next → IsCurrent sector0 written next
+pub current-next_odd : (sector0 sector1 written : List ℕ) (root next : Root) → IsCurrent sector0 sector1 root → slot_of root.generation ≡ 0
+    → next.generation ≡ root.generation + 1 → KeepsVersion root next → SpellsRoot written next → IsCurrent sector0 written next
 current-next_odd s0 s1 written root next current slot follows keeps spells =
     inr (
       root,
@@ -67,7 +68,8 @@ current-next_odd s0 s1 written root next current slot follows keeps spells =
       sym (later_second root next (omega (arith, follows))),
     )
 
-pub current-next_even : (sector0 sector1 written : List ℕ) (root next : Root) → IsCurrent sector0 sector1 root → slot_of root.generation ≡ 1 → next.generation ≡ root.generation + 1 → KeepsVersion root next → SpellsRoot written next → IsCurrent written sector1 next
+pub current-next_even : (sector0 sector1 written : List ℕ) (root next : Root) → IsCurrent sector0 sector1 root → slot_of root.generation ≡ 1
+    → next.generation ≡ root.generation + 1 → KeepsVersion root next → SpellsRoot written next → IsCurrent written sector1 next
 current-next_even s0 s1 written root next current slot follows keeps spells =
     inr (
       next,

@@ -8,7 +8,8 @@ use Rattle.extents.specs.Extent.{AreDistinct}
 use Rattle.roots.specs.Fields.{zeros, UsesFirst, ListsSectors}
 
 -- values that fit, with the unused one in the places behind them
-pub uses_first : {A : Type 0} (places : ℕ) (values : List A) (unused : A) (Fits : A → Type 0) → length values ≤ places → All Fits values → UsesFirst places (length values) Fits unused (values ++ replicate (places - length values) unused)
+pub uses_first : {A : Type 0} (places : ℕ) (values : List A) (unused : A) (Fits : A → Type 0) → length values ≤ places → All Fits values
+    → UsesFirst places (length values) Fits unused (values ++ replicate (places - length values) unused)
 uses_first {A} places values unused Fits room fits =
     let rest : List A = replicate (places - length values) unused in
     record {

@@ -12,13 +12,15 @@ use Rattle.roots.specs.Limits.{most_root_entries, most_catalogues}
 use Rattle.states.specs.Cost.{catalogues_for}
 use Rattle.roots.specs.Fields.{zeros}
 use Rattle.roots.proofs.Placed.{uses_first, lists_sectors}
-use Rattle.roots.specs.Root.{root_with, root_over_entries, root_over_catalogues, version_of, version_of_list, used_places, listed_sectors, listed_preloads, ListFits, PreloadsFit, ListsFit, CataloguesFit, RootHasSpelling}
+use Rattle.roots.specs.Root.{root_with, root_over_entries, root_over_catalogues, version_of, version_of_list, used_places, listed_sectors}
+use Rattle.roots.specs.Root.{listed_preloads, ListFits, PreloadsFit, ListsFit, CataloguesFit, RootHasSpelling}
 
 -- They list what they were made of,
 pub listed_sectors-root_over_entries : (generation sectors : ℕ) (entries preloads : List ℕ) → listed_sectors (root_over_entries generation sectors entries preloads) ≡ entries
 listed_sectors-root_over_entries generation sectors entries preloads = take_at entries (zeros (most_root_entries - length entries)) (length entries) refl
 
-pub listed_sectors-root_over_catalogues : (generation sectors libraries : ℕ) (catalogues preloads : List ℕ) → listed_sectors (root_over_catalogues generation sectors libraries catalogues preloads) ≡ catalogues
+pub listed_sectors-root_over_catalogues : (generation sectors libraries : ℕ) (catalogues preloads : List ℕ)
+    → listed_sectors (root_over_catalogues generation sectors libraries catalogues preloads) ≡ catalogues
 listed_sectors-root_over_catalogues generation sectors libraries catalogues preloads = take_at catalogues (zeros (most_catalogues - length catalogues)) (length catalogues) refl
 
 pub listed_preloads-root_with : (generation sectors libraries : ℕ) (list : EntryList) (preloads : List ℕ) → listed_preloads (root_with generation sectors libraries list preloads) ≡ preloads
@@ -27,7 +29,8 @@ listed_preloads-root_with generation sectors libraries list preloads = take_at p
 pub listed_preloads-root_over_entries : (generation sectors : ℕ) (entries preloads : List ℕ) → listed_preloads (root_over_entries generation sectors entries preloads) ≡ preloads
 listed_preloads-root_over_entries generation sectors entries preloads = take_at preloads (zeros (most_preloads - length preloads)) (length preloads) refl
 
-pub listed_preloads-root_over_catalogues : (generation sectors libraries : ℕ) (catalogues preloads : List ℕ) → listed_preloads (root_over_catalogues generation sectors libraries catalogues preloads) ≡ preloads
+pub listed_preloads-root_over_catalogues : (generation sectors libraries : ℕ) (catalogues preloads : List ℕ)
+    → listed_preloads (root_over_catalogues generation sectors libraries catalogues preloads) ≡ preloads
 listed_preloads-root_over_catalogues generation sectors libraries catalogues preloads = take_at preloads (zeros (most_preloads - length preloads)) (length preloads) refl
 
 preloads_fit : (generation sectors libraries : ℕ) (list : EntryList) (preloads : List ℕ) → length preloads ≤ most_preloads → All (λ position. position < libraries) preloads → AreDistinct preloads
@@ -38,7 +41,8 @@ preloads_fit generation sectors libraries list preloads few inside distinct = re
 }
 
 -- and have a spelling where that fits.
-pub root_over_entries-has_spelling : (generation sectors : ℕ) (entries preloads : List ℕ) → ListsFit generation sectors entries preloads → RootHasSpelling (root_over_entries generation sectors entries preloads)
+pub root_over_entries-has_spelling : (generation sectors : ℕ) (entries preloads : List ℕ) → ListsFit generation sectors entries preloads
+    → RootHasSpelling (root_over_entries generation sectors entries preloads)
 root_over_entries-has_spelling generation sectors entries preloads fit = record {
   generation = fit.generation_fits;
   sectors = fit.sectors_fit;
@@ -46,7 +50,9 @@ root_over_entries-has_spelling generation sectors entries preloads fit = record 
   list = lists_sectors most_root_entries sectors entries fit.few_entries fit.entries_inside fit.entries_distinct;
 }
 
-pub root_over_catalogues-has_spelling : (generation sectors libraries : ℕ) (catalogues preloads : List ℕ) → CataloguesFit generation sectors libraries catalogues preloads → RootHasSpelling (root_over_catalogues generation sectors libraries catalogues preloads)
+pub root_over_catalogues-has_spelling : (generation sectors libraries : ℕ) (catalogues preloads : List ℕ)
+    → CataloguesFit generation sectors libraries catalogues preloads
+    → RootHasSpelling (root_over_catalogues generation sectors libraries catalogues preloads)
 root_over_catalogues-has_spelling generation sectors libraries catalogues preloads fit = record {
   generation = fit.generation_fits;
   sectors = fit.sectors_fit;
@@ -70,7 +76,8 @@ pub few_1 : (root : Root) → RootHasSpelling root → version_of root ≡ One �
 few_1 root fits is = (places_1 root.library_count root.sectors root.list fits.list is).1
 
 -- and one of version 2 as many catalogues as list them.
-places_2 : (libraries disk : ℕ) (list : EntryList) → ListFits libraries disk list → version_of_list list ≡ Two → (length (used_places libraries list) ≡ catalogues_for libraries) × (libraries ≤ most_libraries)
+places_2 : (libraries disk : ℕ) (list : EntryList) → ListFits libraries disk list → version_of_list list ≡ Two
+    → (length (used_places libraries list) ≡ catalogues_for libraries) × (libraries ≤ most_libraries)
 places_2 libraries disk (InRoot sectors) fits is = absurd cc
 places_2 libraries disk (InCatalogues count sectors) fits is =
     (length-take-le count sectors (omega (arith, fits.listed.listed.size, fits.listed.listed.room)) ∙ fits.enough, fits.few)

@@ -131,7 +131,8 @@ fields_again root a b c d e f g h same fits list =
     let bytes = root_bytes root in
     let generation : number_at w64 8 bytes ≡ root.generation = ap (number_at w64 8) same ∙ from_le_bytes-to_le_bytes_8 root.generation fits.generation in
     let sectors : number_at w32 16 bytes ≡ root.sectors = ap (number_at w32 16) same ∙ from_le_bytes-to_le_bytes_4 root.sectors (omega (arith, fits.sectors)) in
-    let library_count : number_at w16 20 bytes ≡ root.library_count = ap (number_at w16 20) same ∙ from_le_bytes-to_le_bytes_2 root.library_count (omega (arith, count_fits root.library_count root.sectors root.list fits.list)) in
+    let library_count : number_at w16 20 bytes ≡ root.library_count = ap (number_at w16 20) same
+    ∙ from_le_bytes-to_le_bytes_2 root.library_count (omega (arith, count_fits root.library_count root.sectors root.list fits.list)) in
     let preload_count : number_at w16 22 bytes ≡ root.preload_count = ap (number_at w16 22) same ∙ from_le_bytes-to_le_bytes_2 root.preload_count (omega (arith, fits.preloads.listed.room)) in
     same_root root _ _ _ _ _ _ generation sectors library_count preload_count (preloads_again root fits) list
 
@@ -140,7 +141,9 @@ by_magic : (root : Root) (list : EntryList) → root.list ≡ list → RootHasSp
 by_magic root (InRoot places) is fits =
     fields_again root 82 76 73 66 82 69 71 49 (spelt root (InRoot places) is ∙ ap (λ l. spelt_by (InRoot places) root l) (sym is)) fits (list_again root (InRoot places) is fits)
 by_magic root (InCatalogues count places) is fits =
-    fields_again root 82 76 73 66 82 69 71 50 (spelt root (InCatalogues count places) is ∙ ap (λ l. spelt_by (InCatalogues count places) root l) (sym is)) fits (list_again root (InCatalogues count places) is fits)
+    fields_again root 82 76 73 66 82 69 71 50
+    (spelt root (InCatalogues count places) is ∙ ap (λ l. spelt_by (InCatalogues count places) root l) (sym is)) fits
+    (list_again root (InCatalogues count places) is fits)
 
 root_of-root_bytes : (root : Root) → RootHasSpelling root → root_of (root_bytes root) ≡ root
 root_of-root_bytes root fits = by_magic root root.list refl fits

@@ -9,5 +9,6 @@ pub contents-append : (start : List Sector) (writes : List Written) (w : Written
 contents-append start [] w = refl
 contents-append start (x ∷ writes) w = contents-append (set start x.at x.content) writes w
 
-pub contents_more : (start : List Sector) (writes : List Written) (i : ℕ) (d : Written) → i < length writes → contents start (take (i + 1) writes) ≡ set (contents start (take i writes)) (get_or writes i d).at (get_or writes i d).content
+pub contents_more : (start : List Sector) (writes : List Written) (i : ℕ) (d : Written) → i < length writes
+    → contents start (take (i + 1) writes) ≡ set (contents start (take i writes)) (get_or writes i d).at (get_or writes i d).content
 contents_more start writes i d lt = ap (contents start) (take_more writes i d lt) ∙ contents-append start (take i writes) (get_or writes i d)

@@ -17,7 +17,8 @@ present plan inner past k c = (
   λ left. subst (λ u. inner.may_leave u k c) (sym (inner_now inner.time past)) left,
 )
 
-module _ (plan : Plan) (inner inner' : DiskFacts) (past past' : List Step) (step : Step) (is_past : past' ≡ past ++ step ∷ []) (is_reached : step.reached ≡ true) (time : inner'.time ≡ inner.time + 1) where
+module _ (plan : Plan) (inner inner' : DiskFacts) (past past' : List Step) (step : Step) (is_past : past' ≡ past ++ step ∷ [])
+    (is_reached : step.reached ≡ true) (time : inner'.time ≡ inner.time + 1) where
   one_more : (u : ℕ) → u ≤ length past → reached (drop u past') ≡ reached (drop u past) + 1
   one_more u le =
       let is = λ (x : Step). x.reached in
@@ -52,14 +53,17 @@ module _ (plan : Plan) (inner inner' : DiskFacts) (past past' : List Step) (step
     );
   }
 
-  pub read_through : {T E : Type 0} → (at : ℕ) (content : Sector) (result : Result T E) → IsRead inner inner' at content result → IsRead (fused plan inner past) (fused plan inner' past') at content result
+  pub read_through : {T E : Type 0} → (at : ℕ) (content : Sector) (result : Result T E) → IsRead inner inner' at content result
+      → IsRead (fused plan inner past) (fused plan inner' past') at content result
   read_through at content result r = record { past = keeps_past r.past; same = unchanged_through r.same; ok = r.ok }
 
   -- it was made there, and fails here
-  pub late_read : {S F T E : Type 0} → (at : ℕ) (content : Sector) (result : Result S F) (fault : E) → IsRead inner inner' at content result → IsRead {T = T} (fused plan inner past) (fused plan inner' past') at content (Err fault)
+  pub late_read : {S F T E : Type 0} → (at : ℕ) (content : Sector) (result : Result S F) (fault : E) → IsRead inner inner' at content result
+      → IsRead {T = T} (fused plan inner past) (fused plan inner' past') at content (Err fault)
   late_read at content result fault r = record { past = keeps_past r.past; same = unchanged_through r.same; ok = tt }
 
-  pub write_through : {T E : Type 0} → (at : ℕ) (content : Sector) (result : Result T E) → IsWrite inner inner' at content result → IsWrite (fused plan inner past) (fused plan inner' past') at content result
+  pub write_through : {T E : Type 0} → (at : ℕ) (content : Sector) (result : Result T E) → IsWrite inner inner' at content result
+      → IsWrite (fused plan inner past) (fused plan inner' past') at content result
   write_through at content result w = record {
     past = keeps_past w.past;
     ok = w.ok;

@@ -1,7 +1,8 @@
 -- A call of a disk in memory: what it keeps of the past, and what it adds to the choices.
 use Rattle.std.proofs.Common.{◌≡◌, inl, inr, ⊎_elim, ◌⊎◌, ℕ, ◌+◌, ◌%◌, ◌<◌, ◌≤◌, List, [], ◌∷◌, ◌++◌, length, get_or, set, take, drop, map, eqb, All, false, refl, sym, ◌∙◌, ap, subst, arith}
 use Rattle.std.proofs.lemmas.Bool.{cases_lt, cases_eq}
-use Rattle.std.proofs.lemmas.List.{length-append, get_or_append_left, get_or_default, get_or_past, get_or_push, get_or-set_same, get_or-set_other, take_all, drop_all, take-append-le, drop-append-le, map-append}
+use Rattle.std.proofs.lemmas.List.{length-append, get_or_append_left, get_or_default, get_or_past, get_or_push, get_or-set_same, get_or-set_other}
+use Rattle.std.proofs.lemmas.List.{take_all, drop_all, take-append-le, drop-append-le, map-append}
 use Rattle.std.proofs.lemmas.List.Elements.{All-get_or, Contains-append_left, Contains-append_cases, Contains-push, filter-append}
 use Rattle.std.specs.List.{Contains, filter}
 use Rattle.sector_disk.specs.declared.moment.Moment.{Moment}
@@ -18,7 +19,10 @@ pub record SameMoment (a b : Moment) : Type 0 where
   pub writes : a.writes ≡ b.writes
   pub synced : a.synced ≡ b.synced
 
-module _ (start : List Sector) (writes : List Written) (synced : ℕ) (past : List Moment) (no_later : All (λ (moment : Moment). moment.writes ≤ length writes) past) (writes' : List Written) (synced' : ℕ) (moment : Moment) (is_moment : SameMoment moment (record { writes = length writes; synced = synced; failed = false })) (front : (n : ℕ) → n ≤ length writes → take n writes' ≡ take n writes) where
+module _ (start : List Sector) (writes : List Written) (synced : ℕ) (past : List Moment)
+    (no_later : All (λ (moment : Moment). moment.writes ≤ length writes) past) (writes' : List Written) (synced' : ℕ) (moment : Moment)
+    (is_moment : SameMoment moment (record { writes = length writes; synced = synced; failed = false }))
+    (front : (n : ℕ) → n ≤ length writes → take n writes' ≡ take n writes) where
   abbrev was : ℕ → Moment
   was u = moment_at writes synced past u
 
@@ -63,7 +67,11 @@ module _ (start : List Sector) (writes : List Written) (synced : ℕ) (past : Li
   }
 
 -- the same, of what a call ensures
-pub keeps_past_to : (start : List Sector) (writes : List Written) (synced : ℕ) (past : List Moment) → All (λ (moment : Moment). moment.writes ≤ length writes) past → (writes' : List Written) (synced' : ℕ) (past' : List Moment) (moment : Moment) → SameMoment moment (record { writes = length writes; synced = synced; failed = false }) → ((n : ℕ) → n ≤ length writes → take n writes' ≡ take n writes) → past' ≡ past ++ moment ∷ [] → KeepsPast (facts_of start writes synced past) (facts_of start writes' synced' past')
+pub keeps_past_to : (start : List Sector) (writes : List Written) (synced : ℕ) (past : List Moment)
+    → All (λ (moment : Moment). moment.writes ≤ length writes) past → (writes' : List Written) (synced' : ℕ) (past' : List Moment) (moment : Moment)
+    → SameMoment moment (record { writes = length writes; synced = synced; failed = false })
+    → ((n : ℕ) → n ≤ length writes → take n writes' ≡ take n writes) → past' ≡ past ++ moment ∷ []
+    → KeepsPast (facts_of start writes synced past) (facts_of start writes' synced' past')
 keeps_past_to start writes synced past no_later writes' synced' past' moment is_moment front is_past =
     subst (λ p. KeepsPast (facts_of start writes synced past) (facts_of start writes' synced' p)) (sym is_past) (keeps_past start writes synced past no_later writes' synced' moment is_moment front)
 
@@ -74,7 +82,8 @@ written_to-append k writes w =
     let content = λ (x : Written). x.content in
     ap (map content) (filter-append to_k writes (w ∷ [])) ∙ map-append content (filter to_k writes) (filter to_k (w ∷ []))
 
-pub choices-append : (start : List Sector) (writes : List Written) (synced k : ℕ) (w : Written) → synced ≤ length writes → choices start (writes ++ w ∷ []) synced k ≡ choices start writes synced k ++ written_to k (w ∷ [])
+pub choices-append : (start : List Sector) (writes : List Written) (synced k : ℕ) (w : Written) → synced ≤ length writes
+    → choices start (writes ++ w ∷ []) synced k ≡ choices start writes synced k ++ written_to k (w ∷ [])
 choices-append start writes synced k w le =
     ap (λ ws. sector (contents start ws) k ∷ written_to k (drop synced (writes ++ w ∷ []))) (take-append-le synced writes (w ∷ []) le)
     ∙ ap (λ cs. sector (contents start (take synced writes)) k ∷ cs) (ap (written_to k) (drop-append-le synced writes (w ∷ []) le) ∙ written_to-append k (drop synced writes) w)
@@ -173,12 +182,23 @@ length-written_to k (w ∷ writes) = ⊎_elim
     (cases_eq w.at k)
 
 -- one write more is counted at its sector
-pub counted_more : (counts : List ℕ) (writes : List Written) (synced : ℕ) (w : Written) (sectors : ℕ) → synced ≤ length writes → length counts ≡ sectors → w.at < sectors → ((k : ℕ) → k < sectors → get_or counts k 0 ≡ length (written_to k (drop synced writes))) → (k : ℕ) → k < sectors → get_or (set counts w.at (get_or counts w.at 0 + 1)) k 0 ≡ length (written_to k (drop synced (writes ++ w ∷ [])))
+pub counted_more : (counts : List ℕ) (writes : List Written) (synced : ℕ) (w : Written) (sectors : ℕ) → synced ≤ length writes
+    → length counts ≡ sectors → w.at < sectors → ((k : ℕ) → k < sectors → get_or counts k 0 ≡ length (written_to k (drop synced writes))) → (k : ℕ)
+    → k < sectors → get_or (set counts w.at (get_or counts w.at 0 + 1)) k 0 ≡ length (written_to k (drop synced (writes ++ w ∷ [])))
 counted_more counts writes synced w sectors le size in_range counted k lt =
     let more : length (written_to k (drop synced (writes ++ w ∷ []))) ≡ length (written_to k (drop synced writes)) + length (written_to k (w ∷ [])) =
     ap length (ap (written_to k) (drop-append-le synced writes (w ∷ []) le) ∙ written_to-append k (drop synced writes) w) ∙ length-append (written_to k (drop synced writes)) (written_to k (w ∷ [])) in
     ⊎_elim
-    (λ same. omega (arith, more, counted k lt, ap (λ j. get_or counts j 0) same, ap (λ j. get_or (set counts w.at (get_or counts w.at 0 + 1)) j 0) same, get_or-set_same counts w.at (get_or counts w.at 0 + 1) 0 (omega arith), ap length (written_to_same k w [] same)))
+    (λ same. omega (
+      arith,
+      more,
+      counted k lt,
+      ap (λ j. get_or counts j 0) same,
+      ap
+          (λ j. get_or (set counts w.at (get_or counts w.at 0 + 1)) j 0) same,
+      get_or-set_same counts w.at (get_or counts w.at 0 + 1) 0 (omega arith),
+      ap length (written_to_same k w [] same),
+    ))
     (λ other. omega (arith, more, counted k lt, get_or-set_other counts w.at k (get_or counts w.at 0 + 1) 0 (λ e. other (sym e)), ap length (written_to_other k w [] other)))
     (cases_eq w.at k)
 

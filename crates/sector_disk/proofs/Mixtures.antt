@@ -4,7 +4,9 @@ use Rattle.std.proofs.lemmas.Bool.{cases_eq}
 use Rattle.std.proofs.lemmas.List.{length-set, get_or-set_same, get_or-set_other, set-get_or, set-set, ext_get_or}
 use Rattle.std.proofs.lemmas.List.Elements.{All-from_get_or}
 use Rattle.std.proofs.lemmas.Result.{on_ok_weaker}
-use Rattle.sector_disk.specs.Disk.{Sector, sector, IsWhole, DiskFacts, MixtureAt, Mixture, HoldsNow, HasWholeSectors, IsUnchanged, IsRead, IsWrite, IsSync, LeavesNowAlone, IsSynced, SameBut, IsMixtureBut, IsMixtureOrSet, IsOldOrSet, IsSameDisk, IsCopy, StartsWith}
+use Rattle.sector_disk.specs.Disk.{Sector, sector, IsWhole, DiskFacts, MixtureAt, Mixture, HoldsNow, HasWholeSectors, IsUnchanged, IsRead, IsWrite}
+use Rattle.sector_disk.specs.Disk.{IsSync, LeavesNowAlone, IsSynced, SameBut, IsMixtureBut, IsMixtureOrSet, IsOldOrSet, IsSameDisk, IsCopy}
+use Rattle.sector_disk.specs.Disk.{StartsWith}
 
 -- the same in all sectors is the same but for some
 pub same_itself : (places : ℕ → Type 0) (l : List Sector) → SameBut places l l
@@ -23,10 +25,12 @@ pub mixture_itself : {disk : DiskFacts} (places : ℕ → Type 0) (m : List Sect
 mixture_itself places m mixture = (m, mixture, same_itself places m)
 
 -- a mixture but for some sectors, of a disk whose mixtures are those of an older one but for more sectors
-pub mixture_but : {first old : DiskFacts} (places more : ℕ → Type 0) → ((k : ℕ) → places k → more k) → ((m : List Sector) → Mixture old m → IsMixtureBut more first m) → (m : List Sector) → IsMixtureBut places old m → IsMixtureBut more first m
+pub mixture_but : {first old : DiskFacts} (places more : ℕ → Type 0) → ((k : ℕ) → places k → more k)
+    → ((m : List Sector) → Mixture old m → IsMixtureBut more first m) → (m : List Sector) → IsMixtureBut places old m → IsMixtureBut more first m
 mixture_but places more among so_far m but = let was = so_far but.0 but.1 in (was.0, was.1, same_more among was.2 but.2)
 
-module _ {old new : DiskFacts} {at : ℕ} {content : Sector} {T E : Type 0} {result : Result T E} (holds : HoldsNow old) (write : IsWrite old new at content result) (m : List Sector) (mixture : Mixture new m) where
+module _ {old new : DiskFacts} {at : ℕ} {content : Sector} {T E : Type 0} {result : Result T E} (holds : HoldsNow old)
+    (write : IsWrite old new at content result) (m : List Sector) (mixture : Mixture new m) where
   -- the mixture with the sector's old content put back
   abbrev before : List Sector
   before = set m at (sector old.now at)
@@ -141,7 +145,9 @@ alone {disk = disk} holds is_synced = record {
     with_it k c left = record {
       size = length-set disk.now k c ∙ holds.size;
       each = λ j lt. ⊎_elim
-          (λ same. subst (λ x. disk.may_leave disk.time x (sector (set disk.now k c) x)) (sym same) (subst (λ x. disk.may_leave disk.time k x) (sym (get_or-set_same disk.now k c [] (subst (λ n. k < n) (sym holds.size) (subst (λ x. x < disk.sectors) same lt)))) left))
+          (λ same. subst (λ x. disk.may_leave disk.time x (sector (set disk.now k c) x)) (sym same)
+          (subst (λ x. disk.may_leave disk.time k x)
+          (sym (get_or-set_same disk.now k c [] (subst (λ n. k < n) (sym holds.size) (subst (λ x. x < disk.sectors) same lt)))) left))
           (λ other. subst (λ x. disk.may_leave disk.time j x) (sym (get_or-set_other disk.now k j c [] other)) (holds.each j lt))
           (cases_eq j k);
     }

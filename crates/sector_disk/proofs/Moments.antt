@@ -22,7 +22,8 @@ keeps_past {mid = mid} first second = record {
 }
 
 -- from old to new there is one call
-pub one_call : {old new : DiskFacts} {T E : Type 0} {result : Result T E} (P : List Sector → Type 0) → IsCall old new result → KeepsPast old new → ((m : List Sector) → Mixture old m → P m) → ((m : List Sector) → Mixture new m → P m) → LeavesOnly old new P
+pub one_call : {old new : DiskFacts} {T E : Type 0} {result : Result T E} (P : List Sector → Type 0) → IsCall old new result → KeepsPast old new
+    → ((m : List Sector) → Mixture old m → P m) → ((m : List Sector) → Mixture new m → P m) → LeavesOnly old new P
 one_call {old = old} {new = new} P call keeps before after = record {
   past = keeps;
   each = λ m left. ⊎_elim
@@ -88,7 +89,8 @@ a_call {old = old} {new = new} {result = result} call = record {
   few_failures = omega (arith, call.time, counted result call.ok call.err);
 }
   where
-    counted : {T E : Type 0} → (result : Result T E) → OnOk result (new.failures ≡ old.failures) → OnErr result (new.failures ≡ old.failures + 1) → (old.failures ≤ new.failures) × (new.failures ≤ old.failures + 1)
+    counted : {T E : Type 0} → (result : Result T E) → OnOk result (new.failures ≡ old.failures) → OnErr result (new.failures ≡ old.failures + 1)
+        → (old.failures ≤ new.failures) × (new.failures ≤ old.failures + 1)
     counted (Ok x) ok err = (omega (arith, ok), omega (arith, ok))
     counted (Err e) ok err = (omega (arith, err), omega (arith, err))
 

@@ -17,8 +17,11 @@ pub zeros_whole : IsWhole (replicate sector_bytes 0)
 zeros_whole = record { size = refl; bytes = All-replicate (λ byte. byte < 256) sector_bytes 0 (omega arith) }
 
 -- what is picked of whole contents
-pub picked_whole : (IsNamed : ℕ → ℕ → Type 0) (start : List Sector) (writes : List Written) (synced : ℕ) (mixture : List Sector) → length mixture ≡ length start → All IsWhole start → All (λ (write : Written). IsWhole write.content) writes → ((at : ℕ) → at < length start → IsPicked (IsNamed at) (choices start writes synced at) (sector mixture at)) → All IsWhole mixture
+pub picked_whole : (IsNamed : ℕ → ℕ → Type 0) (start : List Sector) (writes : List Written) (synced : ℕ) (mixture : List Sector)
+    → length mixture ≡ length start → All IsWhole start → All (λ (write : Written). IsWhole write.content) writes
+    → ((at : ℕ) → at < length start → IsPicked (IsNamed at) (choices start writes synced at) (sector mixture at)) → All IsWhole mixture
 picked_whole IsNamed start writes synced mixture size whole whole_writes picked =
     All-from_get_or IsWhole mixture [] (λ at lt.
     let in_start : at < length start = omega (arith, lt, size) in
-    All-contains IsWhole (choices start writes synced at) (sector mixture at) (choices_whole start writes synced at in_start whole whole_writes) (among_picked (IsNamed at) (choices start writes synced at) (sector mixture at) (omega arith) (picked at in_start)))
+    All-contains IsWhole (choices start writes synced at) (sector mixture at) (choices_whole start writes synced at in_start whole whole_writes)
+    (among_picked (IsNamed at) (choices start writes synced at) (sector mixture at) (omega arith) (picked at in_start)))

@@ -6,7 +6,8 @@ use Rattle.sector_disk.proofs.Mixtures.{same_more, same_set, mixture_but, after_
 
 module _ {first old new : DiskFacts} {T E : Type 0} {result : Result T E} (call : IsCall old new result) where
   -- one write more, into one of these sectors, leaves mixtures that differ in them alone
-  pub write_leaves : {at : ℕ} {content : Sector} (places : ℕ → Type 0) → places at → HoldsNow old → IsWrite old new at content result → LeavesOnly first old (IsMixtureBut places first) → LeavesOnly first new (IsMixtureBut places first)
+  pub write_leaves : {at : ℕ} {content : Sector} (places : ℕ → Type 0) → places at → HoldsNow old → IsWrite old new at content result
+      → LeavesOnly first old (IsMixtureBut places first) → LeavesOnly first new (IsMixtureBut places first)
   write_leaves {at = at} places here holds write so_far =
       let before = left_now (IsMixtureBut places first) so_far in
       goes_on (IsMixtureBut places first) so_far (one_call (IsMixtureBut places first) call write.past before
@@ -25,7 +26,9 @@ module _ {first old new : DiskFacts} {T E : Type 0} {result : Result T E} (call 
       goes_on P so_far (one_call P call read.past before (λ m mixture. before m (after_read read m mixture)))
 
 -- One write more, into any sector: what a stop leaves has P where each mixture from before has it, and has it with the new content too. No sync need come before it.
-pub any_write_leaves : {first old new : DiskFacts} {T E : Type 0} {result : Result T E} {at : ℕ} {content : Sector} (P : List Sector → Type 0) → IsCall old new result → at < old.sectors → HoldsNow old → IsWrite old new at content result → LeavesOnly first old P → ((m : List Sector) → Mixture old m → P (set m at content)) → LeavesOnly first new P
+pub any_write_leaves : {first old new : DiskFacts} {T E : Type 0} {result : Result T E} {at : ℕ} {content : Sector} (P : List Sector → Type 0)
+    → IsCall old new result → at < old.sectors → HoldsNow old → IsWrite old new at content result → LeavesOnly first old P
+    → ((m : List Sector) → Mixture old m → P (set m at content)) → LeavesOnly first new P
 any_write_leaves P call in_old holds write so_far newer =
     let before = left_now P so_far in
     goes_on P so_far (one_call P call write.past before
@@ -35,12 +38,14 @@ any_write_leaves P call in_old holds write so_far newer =
     (any_write holds write m mixture in_old)))
 
 -- one write leaves mixtures from before it, or such with this content in its sector
-pub one_write_leaves : {old new : DiskFacts} {T E : Type 0} {result : Result T E} {at : ℕ} {content : Sector} → IsCall old new result → at < old.sectors → HoldsNow old → IsWrite old new at content result → LeavesOnly old new (IsMixtureOrSet old at content)
+pub one_write_leaves : {old new : DiskFacts} {T E : Type 0} {result : Result T E} {at : ℕ} {content : Sector} → IsCall old new result
+    → at < old.sectors → HoldsNow old → IsWrite old new at content result → LeavesOnly old new (IsMixtureOrSet old at content)
 one_write_leaves {old = old} {at = at} {content = content} call in_old holds write =
     one_call (IsMixtureOrSet old at content) call write.past (λ m mixture. inl mixture) (λ m mixture. any_write holds write m mixture in_old)
 
 -- one write into a synced disk leaves it old, or with the new content
-pub commit_leaves : {old new : DiskFacts} {T E : Type 0} {result : Result T E} {at : ℕ} {content : Sector} → IsCall old new result → at < old.sectors → HoldsNow old → IsSynced old → IsWrite old new at content result → LeavesOnly old new (IsOldOrSet old.now at content)
+pub commit_leaves : {old new : DiskFacts} {T E : Type 0} {result : Result T E} {at : ℕ} {content : Sector} → IsCall old new result → at < old.sectors
+    → HoldsNow old → IsSynced old → IsWrite old new at content result → LeavesOnly old new (IsOldOrSet old.now at content)
 commit_leaves {old = old} {at = at} {content = content} call in_old holds is_synced write =
     one_call (IsOldOrSet old.now at content) call write.past (λ m mixture. inl (is_synced.each m mixture)) (λ m mixture. one_write holds write m mixture in_old is_synced)
 

@@ -23,7 +23,8 @@ loop-done-preserved g c =
     let rest = c.loop-done.rest.now in
     let after = c.split_at.ensures.back ∙ ap (λ n. drop n rest) c.min.ensures ∙ drop-min 512 rest in
     let content = ap (padded 512) (c.split_at.ensures.front ∙ ap (λ n. take n rest) c.min.ensures ∙ take-min 512 rest) ∙ padded-take 512 512 rest (omega arith) in
-    let calls : CallsSoFar (c.loop-done.done + 1) (g.D.Disk.facts c.args.disk.now) (g.D.Disk.facts c.write_sector.new.disk) = so_far_in_row (omega arith) so_far.calls (one_in_row c.in_ok-write_sector.ensures.calls) in
+    let calls : CallsSoFar (c.loop-done.done + 1) (g.D.Disk.facts c.args.disk.now) (g.D.Disk.facts c.write_sector.new.disk) =
+    so_far_in_row (omega arith) so_far.calls (one_in_row c.in_ok-write_sector.ensures.calls) in
     subst (λ l. Progress (g.D.Disk.facts c.args.disk.now) (g.D.Disk.facts c.write_sector.new.disk) c.args.extent (c.loop-done.done + 1) c.args.bytes.now l) (sym after)
     (more so_far c.loop-done-test.true c.write_sector.ensures.calls content c.requires.room
     (λ honest. g.met.D.Disk.holds_now _ (honest_at honest))

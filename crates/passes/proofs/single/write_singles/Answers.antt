@@ -26,5 +26,6 @@ loop-single-preserved g c =
       calls = so_far_in_row (omega arith) so_far.calls (one_in_row call);
       leaves = λ honest. single_leaves so_far c.loop-single-test.true call honest (g.met.D.Disk.holds_now _ (honest_at honest)) (c.in_ok-write.ensures.honest (honest_at honest));
       others = λ honest. single_others so_far c.loop-single-test.true call honest ((c.in_ok-write.ensures.honest (honest_at honest)).ok);
-      holds = λ honest. single_holds so_far c.loop-single-test.true call c.requires.once (omega (arith, inside, so_far.calls.sectors)) honest (g.met.D.Disk.holds_now _ (honest_at honest)) ((c.in_ok-write.ensures.honest (honest_at honest)).ok);
+      holds = λ honest. single_holds so_far c.loop-single-test.true call c.requires.once (omega (arith, inside, so_far.calls.sectors)) honest
+          (g.met.D.Disk.holds_now _ (honest_at honest)) ((c.in_ok-write.ensures.honest (honest_at honest)).ok);
     }

@@ -9,7 +9,8 @@ loop-i-preserved c =
     record {
       size = search rules;
       end = search rules;
-      digits = encode_step lower_digits c.args.bytes.now c.loop-i.text c.loop-i.i _ _ (omega (arith, c.told-bytes)) (omega (arith, c.loop-i.invariant.size)) c.digits.ensures.first c.digits.ensures.second c.loop-i.invariant.digits;
+      digits = encode_step lower_digits c.args.bytes.now c.loop-i.text c.loop-i.i _ _ (omega (arith, c.told-bytes))
+          (omega (arith, c.loop-i.invariant.size)) c.digits.ensures.first c.digits.ensures.second c.loop-i.invariant.digits;
     }
 
 pub returns : goal.returns

@@ -9,7 +9,8 @@ unfolding first_unsupported_type relocations
 returns-in-Some c =
     let a = rela_table c.args.self.now in
     let b = jmprel_table c.args.self.now in
-    sym (unsupported_both a b ∙ ap (λ o. option_or o (unsupported_in (relocations_in b))) (sym (sym c.in-Some.is ∙ c.first_unsupported_in.ensures ∙ ap (λ t. unsupported_in (relocations_in t)) c.rela.ensures)))
+    sym (unsupported_both a b ∙ ap (λ o. option_or o (unsupported_in (relocations_in b)))
+    (sym (sym c.in-Some.is ∙ c.first_unsupported_in.ensures ∙ ap (λ t. unsupported_in (relocations_in t)) c.rela.ensures)))
 
 pub returns-in-None : goal.returns-in-None
 unfolding first_unsupported_type relocations
@@ -18,4 +19,5 @@ returns-in-None c =
     let b = jmprel_table c.args.self.now in
     c.first_unsupported_in-in-None.ensures
     ∙ ap (λ t. unsupported_in (relocations_in t)) c.jmprel.ensures
-    ∙ sym (unsupported_both a b ∙ ap (λ o. option_or o (unsupported_in (relocations_in b))) (sym (sym c.in-None.is ∙ c.first_unsupported_in.ensures ∙ ap (λ t. unsupported_in (relocations_in t)) c.rela.ensures)))
+    ∙ sym (unsupported_both a b ∙ ap (λ o. option_or o (unsupported_in (relocations_in b)))
+    (sym (sym c.in-None.is ∙ c.first_unsupported_in.ensures ∙ ap (λ t. unsupported_in (relocations_in t)) c.rela.ensures)))

@@ -16,7 +16,9 @@ returns-in-Pass-clause-honest g c honest =
     subst (λ reply. IsSync (fused self.plan (facts self.inner) past) (fused new.plan (facts new.inner) new.past.items) reply) (sym c.end_call.ensures.reply)
     (subst (λ plan. IsSync (fused self.plan (facts self.inner) past) (fused plan (facts new.inner) new.past.items) c.sync-reply.result) (sym c.end_call.ensures.plan)
     (subst (λ inner. IsSync (fused self.plan (facts self.inner) past) (fused self.plan (facts inner) new.past.items) c.sync-reply.result) (sym c.end_call.ensures.inner)
-    (sync_through self.plan (facts self.inner) (facts c.sync-reply.new.self) past new.past.items _ c.end_call.ensures.past refl c.sync-reply.ensures.calls.time c.sync-reply.result (c.sync-reply.ensures.honest honest))))
+    (sync_through self.plan (facts self.inner)
+    (facts c.sync-reply.new.self) past new.past.items _ c.end_call.ensures.past refl c.sync-reply.ensures.calls.time c.sync-reply.result
+    (c.sync-reply.ensures.honest honest))))
 
 pub returns-in-Late-clause-honest : goal.returns-in-Late-clause-honest
 returns-in-Late-clause-honest g c honest =

@@ -21,8 +21,10 @@ returns-clause-picked g c =
     let self = c.args.self in
     let mixture = c.mix.new.sectors in
     let start : List Sector = (with_items self.start mixture).items in
-    let now : contents start c.clear.new.self.items ≡ mixture = ap (contents start) c.clear.ensures.items ∙ with_items_is self.start mixture (omega (arith, c.mix.auto.sectors, c.deref_mut.ensures.len)) in
-    let Picks = λ (old : List Sector) (writes : List Written) (new : List Sector). (at : ℕ) → at < length old → IsPicked (goal.F-post g c.args.pick at (length (choices old writes self.synced at))) (choices old writes self.synced at) (sector new at) in
+    let now : contents start c.clear.new.self.items ≡ mixture = ap (contents start) c.clear.ensures.items
+    ∙ with_items_is self.start mixture (omega (arith, c.mix.auto.sectors, c.deref_mut.ensures.len)) in
+    let Picks = λ (old : List Sector) (writes : List Written) (new : List Sector). (at : ℕ) → at < length old
+    → IsPicked (goal.F-post g c.args.pick at (length (choices old writes self.synced at))) (choices old writes self.synced at) (sector new at) in
     subst (Picks self.start.items self.writes.items) (sym now)
     (subst (λ ws. Picks self.start.items ws mixture) c.deref.ensures.value (subst (λ l. Picks l c.deref.result.now mixture) c.deref_mut.ensures.value c.mix.ensures.picked))
 
@@ -45,8 +47,12 @@ invariant_of-result-clause-whole_start g c =
     let self = c.args.self in
     let mixture = c.mix.new.sectors in
     let size : length mixture ≡ length self.start.items = omega (arith, c.mix.auto.sectors, ap length c.deref_mut.ensures.value) in
-    let Picks = λ (old : List Sector) (writes : List Written). (at : ℕ) → at < length old → IsPicked (goal.F-post g c.args.pick at (length (choices old writes self.synced at))) (choices old writes self.synced at) (sector mixture at) in
-    let picked : Picks self.start.items self.writes.items = subst (Picks self.start.items) c.deref.ensures.value (subst (λ l. Picks l c.deref.result.now) c.deref_mut.ensures.value c.mix.ensures.picked) in
+    let Picks = λ (old : List Sector) (writes : List Written). (at : ℕ) → at < length old
+    → IsPicked (goal.F-post g c.args.pick at (length (choices old writes self.synced at))) (choices old writes self.synced at)
+    (sector mixture at) in
+    let picked : Picks self.start.items self.writes.items =
+    subst (Picks self.start.items) c.deref.ensures.value
+    (subst (λ l. Picks l c.deref.result.now) c.deref_mut.ensures.value c.mix.ensures.picked) in
     subst (All IsWhole) (sym (with_items_is self.start mixture (omega (arith, c.mix.auto.sectors, c.deref_mut.ensures.len))))
     (picked_whole (λ at. goal.F-post g c.args.pick at (length (choices self.start.items self.writes.items self.synced at))) self.start.items self.writes.items self.synced mixture size self.whole_start self.whole_writes picked)
 
@@ -68,7 +74,13 @@ pub invariant_of-result-clause-counted : goal.invariant_of-result-clause-counted
 invariant_of-result-clause-counted g c k lt =
     let self = c.args.self in
     let counts = c.mix.new.counts in
-    let in_range : k < length c.deref_mut.result.now = omega (arith, lt, ap length (with_items_is self.start c.mix.new.sectors (omega (arith, c.mix.auto.sectors, c.deref_mut.ensures.len))), c.mix.auto.sectors) in
+    let in_range : k < length c.deref_mut.result.now =
+    omega (
+      arith,
+      lt,
+      ap length (with_items_is self.start c.mix.new.sectors (omega (arith, c.mix.auto.sectors, c.deref_mut.ensures.len))),
+      c.mix.auto.sectors,
+    ) in
     ap (λ l. get_or l k 0) (with_items_is self.unsynced counts (omega (arith, c.mix.auto.counts, c.deref_mut-2.ensures.len)))
     ∙ c.mix.ensures.zero k in_range
     ∙ sym (ap (λ ws. length (written_to k (drop 0 ws))) c.clear.ensures.items)

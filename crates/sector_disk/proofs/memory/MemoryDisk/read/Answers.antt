@@ -15,7 +15,9 @@ returns-clause-honest c honest =
     let self = c.args.self.now in
     let in_latest : c.args.at < length self.latest.items = omega (arith, ap length self.is_latest, length-contents self.start.items self.writes.items) in
     record {
-      past = keeps_past_to self.start.items self.writes.items self.synced self.past.items self.no_later _ _ _ _ (record { writes = ap (λ m. m.writes) c.moment-moment.ensures; synced = ap (λ m. m.synced) c.moment-moment.ensures }) (λ n le. refl) c.and-self.ensures;
+      past = keeps_past_to self.start.items self.writes.items self.synced self.past.items self.no_later _ _ _ _
+          (record { writes = ap (λ m. m.writes) c.moment-moment.ensures; synced = ap (λ m. m.synced) c.moment-moment.ensures })
+          (λ n le. refl) c.and-self.ensures;
       same = unchanged self.start.items self.writes.items self.synced self.past.items c.and-self.result.items;
       ok = get_or_read self.latest.items c.args.at c.index.result.now in_latest c.index.ensures [] ∙ ap (λ l. sector l c.args.at) self.is_latest;
     }

@@ -54,7 +54,8 @@ invariant_of-self-clause-counted c k lt =
     let self = c.args.self.now in
     let write : Written = record { at = c.args.at; content = c.args.from.now } in
     let in_counts : c.args.at < length self.unsynced.items = omega (arith, self.one_count_each) in
-    let was : c.index_mut-in-Ok.result.now ≡ get_or self.unsynced.items c.args.at 0 = get_or_read self.unsynced.items c.args.at c.index_mut-in-Ok.result.now in_counts c.index_mut-in-Ok.ensures.value 0 in
+    let was : c.index_mut-in-Ok.result.now ≡ get_or self.unsynced.items c.args.at 0 =
+    get_or_read self.unsynced.items c.args.at c.index_mut-in-Ok.result.now in_counts c.index_mut-in-Ok.ensures.value 0 in
     ap (λ n. get_or (set self.unsynced.items c.args.at (n + 1)) k 0) was
     ∙ counted_more self.unsynced.items self.writes.items self.synced write (length self.start.items) self.synced_writes self.one_count_each c.requires self.counted k lt
     ∙ ap (λ ws. length (written_to k (drop self.synced ws))) (sym c.in-Ok.ensures.items)
@@ -63,7 +64,9 @@ pub invariant_of-self-clause-whole_writes : goal.invariant_of-self-clause-whole_
 invariant_of-self-clause-whole_writes c =
     let self = c.args.self.now in
     let IsWholeWrite = λ (write : Written). IsWhole write.content in
-    subst (All IsWholeWrite) (sym c.in-Ok.ensures.items) (All-push IsWholeWrite self.writes.items (record { at = c.args.at; content = c.args.from.now }) self.whole_writes (is_whole c.args.from.now c.told-from c.fits-from))
+    subst (All IsWholeWrite) (sym c.in-Ok.ensures.items)
+    (All-push IsWholeWrite self.writes.items (record { at = c.args.at; content = c.args.from.now }) self.whole_writes
+    (is_whole c.args.from.now c.told-from c.fits-from))
 
 pub invariant_of-self-clause-no_later : goal.invariant_of-self-clause-no_later
 invariant_of-self-clause-no_later c =
@@ -72,34 +75,46 @@ invariant_of-self-clause-no_later c =
     let longer : length c.push.new.self.items ≡ length self.writes.items + 1 = ap length c.in-Ok.ensures.items ∙ length_push self.writes.items (record { at = c.args.at; content = c.args.from.now }) in
     let this : c.moment-moment.result.writes ≡ length self.writes.items = ap (λ m. m.writes) c.moment-moment.ensures in
     subst (All NoLater) (sym c.and-self.ensures)
-    (All-push NoLater self.past.items c.moment-moment.result (All-weaker (λ (moment : Moment). moment.writes ≤ length self.writes.items) NoLater (λ x le. omega (arith, le, longer)) self.past.items self.no_later) (omega (arith, this, longer)))
+    (All-push NoLater self.past.items c.moment-moment.result
+    (All-weaker (λ (moment : Moment). moment.writes ≤ length self.writes.items) NoLater
+    (λ x le. omega (arith, le, longer)) self.past.items self.no_later) (omega (arith, this, longer)))
 
 pub returns-in-Ok-clause-honest : goal.returns-in-Ok-clause-honest
 returns-in-Ok-clause-honest c honest =
     let self = c.args.self.now in
     let write : Written = record { at = c.args.at; content = c.args.from.now } in
     let is : c.push.new.self.items ≡ self.writes.items ++ write ∷ [] = c.in-Ok.ensures.items in
-    let bigger : GrowsBy (facts_of self.start.items self.writes.items self.synced self.past.items) (facts_of self.start.items c.push.new.self.items self.synced c.and-self.result.items) c.args.at c.args.from.now =
-    subst (λ ws. GrowsBy (facts_of self.start.items self.writes.items self.synced self.past.items) (facts_of self.start.items ws self.synced c.and-self.result.items) c.args.at c.args.from.now) (sym is) (grows self.start.items self.writes.items self.synced self.past.items c.and-self.result.items write self.synced_writes) in
+    let bigger : GrowsBy (facts_of self.start.items self.writes.items self.synced self.past.items)
+    (facts_of self.start.items c.push.new.self.items self.synced c.and-self.result.items) c.args.at c.args.from.now =
+    subst (λ ws. GrowsBy (facts_of self.start.items self.writes.items self.synced self.past.items)
+    (facts_of self.start.items ws self.synced c.and-self.result.items) c.args.at c.args.from.now) (sym is)
+    (grows self.start.items self.writes.items self.synced self.past.items c.and-self.result.items write self.synced_writes) in
     record {
-      past = keeps_past_to self.start.items self.writes.items self.synced self.past.items self.no_later _ _ _ _ (record { writes = ap (λ m. m.writes) c.moment-moment.ensures; synced = ap (λ m. m.synced) c.moment-moment.ensures }) (λ n le. ap (λ (ws : List Written). take n ws) is ∙ take-append-le n self.writes.items (write ∷ []) le) c.and-self.ensures;
+      past = keeps_past_to self.start.items self.writes.items self.synced self.past.items self.no_later _ _ _ _
+          (record { writes = ap (λ m. m.writes) c.moment-moment.ensures; synced = ap (λ m. m.synced) c.moment-moment.ensures })
+          (λ n le. ap (λ (ws : List Written). take n ws) is ∙ take-append-le n self.writes.items (write ∷ []) le) c.and-self.ensures;
       ok = ap (contents self.start.items) is ∙ contents-append self.start.items self.writes.items write;
       err = tt;
       stop = record { each = λ k x. (bigger.each k x).0 };
       stop_ok = bigger;
     }
 
-err_same : (c : goal.After-self-in-Err-1) → IsUnchanged (memory_facts c.args.self.now) (facts_of c.args.self.now.start.items c.push.new.self.items c.args.self.now.synced c.and-self-in-Err.result.items)
+err_same : (c : goal.After-self-in-Err-1)
+    → IsUnchanged (memory_facts c.args.self.now)
+    (facts_of c.args.self.now.start.items c.push.new.self.items c.args.self.now.synced c.and-self-in-Err.result.items)
 err_same c =
     let self = c.args.self.now in
-    subst (λ ws. IsUnchanged (memory_facts self) (facts_of self.start.items ws self.synced c.and-self-in-Err.result.items)) (sym c.in-Err.ensures.items) (unchanged self.start.items self.writes.items self.synced self.past.items c.and-self-in-Err.result.items)
+    subst (λ ws. IsUnchanged (memory_facts self) (facts_of self.start.items ws self.synced c.and-self-in-Err.result.items))
+    (sym c.in-Err.ensures.items) (unchanged self.start.items self.writes.items self.synced self.past.items c.and-self-in-Err.result.items)
 
 pub returns-in-Err-clause-honest : goal.returns-in-Err-clause-honest
 returns-in-Err-clause-honest c honest =
     let self = c.args.self.now in
     let same = err_same c in
     record {
-      past = keeps_past_to self.start.items self.writes.items self.synced self.past.items self.no_later _ _ _ _ (record { writes = ap (λ m. m.writes) c.moment-moment.ensures; synced = ap (λ m. m.synced) c.moment-moment.ensures }) (λ n le. ap (λ (ws : List Written). take n ws) c.in-Err.ensures.items) c.and-self-in-Err.ensures;
+      past = keeps_past_to self.start.items self.writes.items self.synced self.past.items self.no_later _ _ _ _
+          (record { writes = ap (λ m. m.writes) c.moment-moment.ensures; synced = ap (λ m. m.synced) c.moment-moment.ensures })
+          (λ n le. ap (λ (ws : List Written). take n ws) c.in-Err.ensures.items) c.and-self-in-Err.ensures;
       ok = tt;
       err = inl same.now;
       stop = record { each = λ k x left. inl ((same.stop k x).0 left) };
