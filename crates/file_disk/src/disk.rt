@@ -76,8 +76,22 @@ impl<F: Write + Seek + OpenFile> FileDisk<F> {
         Err(DiskFault::Failed)
     }
 
+    // Fails where the file has another length than it had.
+    fn look(&mut self) -> Result<(), DiskFault>
+        ensures calls { self.new.calls ≡ self.old.calls }
+        ensures sectors { self.new.sectors ≡ self.old.sectors }
+        ensures same { IsSame self.old self.new }
+        ensures ok { OnOk result (has_failed self.new ≡ has_failed self.old) }
+        ensures err { OnErr result (has_failed self.new ≡ true) }
+    {
+        if has_sectors(&self.file, self.sectors) {
+            return Ok(());
+        }
+        self.fail()
+    }
+
     // Gives all that waits to the file, if that still has its length: a write past the end of one
-    // that was cut would hide it. It waits on.
+    // that was cut would hide it. It waits on. The length is looked at also where nothing waits.
     fn give(&mut self) -> Result<(), DiskFault>
         ensures calls { self.new.calls ≡ self.old.calls }
         ensures sectors { self.new.sectors ≡ self.old.sectors }
@@ -90,13 +104,11 @@ impl<F: Write + Seek + OpenFile> FileDisk<F> {
         ensures err { OnErr result (has_failed self.new ≡ true) }
     {
         if self.gathered.is_empty() {
-            return Ok(());
+            return self.look();
         }
-        if has_sectors(&self.file, self.sectors) {
-            let bytes = self.gathered.bytes();
-            if write_at(&mut self.file, self.gathered.start(), bytes).is_ok() {
-                return Ok(());
-            }
+        let start = self.gathered.start();
+        if write_at(&mut self.file, self.sectors, start, self.gathered.bytes()).is_ok() {
+            return Ok(());
         }
         self.fail()
     }
@@ -177,7 +189,7 @@ impl<F: Write + Seek + OpenFile> FileDisk<F> {
             return Err(DiskFault::Failed);
         }
         self.give()?;
-        if has_sectors(&self.file, self.sectors) && self.file.sync_all().is_ok() {
+        if self.file.sync_all().is_ok() {
             self.gathered.clear();
             return Ok(());
         }

@@ -25,17 +25,30 @@ fn seek_to<F: Seek>(file: &mut F, at: u32) -> Result<(), DiskFault>
     }
 }
 
+// Goes to the first byte of a sector, counted from the end of the file, and fails where that has
+// another length than so many sectors: the byte would be another one.
+fn seek_from_end<F: Seek>(file: &mut F, at: u32, sectors: u32) -> Result<(), DiskFault>
+    ensures { OnOk result (IsAt F.stream_position file.old file.new (512 * at)) }
+{
+    let offset = (i64::from(at) - i64::from(sectors)) * SECTOR_BYTES as i64;
+    match file.seek(SeekFrom::End(offset)) {
+        Ok(place) if place == u64::from(at) * SECTOR_BYTES as u64 => Ok(()),
+        _ => Err(DiskFault::Failed),
+    }
+}
+
 /// Writes all bytes from the first one of a sector on, also where the file takes few at a time or
-/// a signal interrupts.
+/// a signal interrupts. A file of another length than so many sectors isn't written.
 pub(crate) fn write_at<F: Write + Seek>(
     file: &mut F,
+    sectors: u32,
     at: u32,
     bytes: &[u8],
 ) -> Result<(), DiskFault>
     ensures { OnOk result (IsWrittenAt F.stream_position F.contents file.old file.new
         (512 * at) bytes.now) }
 {
-    seek_to(file, at)?;
+    seek_from_end(file, at, sectors)?;
     match file.write_all(bytes) {
         Ok(()) => Ok(()),
         Err(_) => Err(DiskFault::Failed),

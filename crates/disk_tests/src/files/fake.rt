@@ -106,13 +106,16 @@ impl Write for Fake {
 impl Seek for Fake {
     fn seek(&mut self, to: SeekFrom) -> io::Result<u64> {
         self.call()?;
-        match to {
-            SeekFrom::Start(at) => {
-                self.at = at as usize;
-                Ok(at)
-            }
-            _ => Err(io::Error::from(ErrorKind::Unsupported)),
-        }
+        let at = match to {
+            SeekFrom::Start(at) => Some(at),
+            SeekFrom::End(offset) => (self.bytes.len() as u64).checked_add_signed(offset),
+            SeekFrom::Current(offset) => (self.at as u64).checked_add_signed(offset),
+        };
+        let Some(at) = at else {
+            return Err(io::Error::from(ErrorKind::InvalidInput));
+        };
+        self.at = at as usize;
+        Ok(at)
     }
 }
 

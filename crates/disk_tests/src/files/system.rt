@@ -114,6 +114,49 @@ fn a_file_that_was_cut_is_not_written(rt: HostRuntime) {
     assert!(rt; begun && kept && ended && lost);
 }
 
+// What is written before a file is cut, and what is written then; where nothing is, it is synced.
+const CUT: [(&[u32], Option<u32>); 3] = [(&[], None), (&[1, 4], None), (&[1, 4], Some(6))];
+
+// Makes a disk, writes these sectors, and leaves one sector of its file: whether the next call
+// succeeds, and whether the file has that sector alone.
+fn next_call(
+    rt: &HostRuntime,
+    path: &str,
+    before: &[u32],
+    then: Option<u32>,
+) -> Result<(bool, bool), OpenFault> {
+    let mut disk = make(rt, path, 8)?;
+    let mut begun = true;
+    for at in before {
+        begun = write(&mut disk, *at, 5) && begun;
+    }
+    begun = set_length(rt, path, 512) && begun;
+    let done = match then {
+        Some(at) => write(&mut disk, at, 6),
+        None => disk.sync().is_ok(),
+    };
+    Ok((done, begun && is_file(rt, path, 512, 0)))
+}
+
+// The first of them that doesn't fail, or that writes into the file.
+fn cut_unseen(rt: &HostRuntime, folder: &str, path: &str) -> Option<usize> {
+    for (case, (before, then)) in CUT.iter().enumerate() {
+        let begun = make_folder(rt, folder);
+        if !begun || next_call(rt, path, before, *then) != Ok((false, true)) {
+            return Some(case);
+        }
+    }
+    None
+}
+
+#[test]
+fn the_next_write_or_sync_sees_that_a_file_was_cut(rt: HostRuntime) {
+    let folder = "file_disk_test_seen";
+    let unseen = cut_unseen(&rt, folder, "file_disk_test_seen/disk");
+    let ended = fs::remove_dir_all(&rt, folder).is_ok();
+    assert!(rt; (unseen, ended) == (None, true));
+}
+
 // What can't be opened, and what can't be made.
 const OPENED: [&str; 5] = [
     "/dev/full",
