@@ -6,10 +6,10 @@ use sector_disk::{DiskFault, SECTOR_BYTES};
 use std::alloc::{AllocError, Global};
 use std::io::{Read, Seek};
 
-/// How many sectors are read at once at most: 1 MiB.
-const MOST: usize = 2048;
+/// How many sectors are read at once at most: 128 KiB.
+const MOST: usize = 256;
 
-/// How many are read at once where the sector isn't the next one: 4 KiB.
+/// How many are read at once at least: 4 KiB.
 const FIRST: usize = 8;
 
 /// Sectors in a row, with what the file gave for them.
@@ -24,7 +24,7 @@ pub(crate) struct Ahead {
     // The memory for them is reserved. As much of it is touched as a read has asked for.
     bytes: Vec<u8>,
     ghost some: { 0 < room },
-    ghost most: { room ≤ 2048 },
+    ghost most: { room ≤ 256 },
     ghost size: { vec_len bytes ≤ room * 512 },
     ghost reserved: { room * 512 ≤ vec_capacity bytes },
     ghost filled: { count * 512 ≤ vec_len bytes },
@@ -80,7 +80,8 @@ impl Ahead {
         }
     }
 
-    // How many sectors to ask for: twice as many as before where the sector is the next one.
+    // How many sectors to ask for: twice as many as before where the sector is the next one, and
+    // half as many where it isn't.
     fn ask(&mut self, at: u32)
         ensures some { 0 < self.new.asked }
         ensures most { self.new.asked ≤ self.new.room }
@@ -90,7 +91,11 @@ impl Ahead {
         ensures count { self.new.count ≡ 0 }
     {
         let is_next = self.count > 0 && at as usize == self.start as usize + self.count;
-        let asked = if is_next { 2 * self.asked } else { 0 };
+        let asked = if is_next {
+            2 * self.asked
+        } else {
+            self.asked / 2
+        };
         self.asked = asked.max(FIRST).min(self.room);
         self.count = 0;
     }

@@ -11,11 +11,11 @@ use std::io::{Read, Seek, Write};
 
 /// A disk over a file. Of its honesty nothing is claimed.
 ///
-/// What is written waits in memory until a sector that isn't its neighbour is written, until 1 MiB
-/// waits, or until the next sync; reads give it from the time of its write on. What waits when the
-/// disk is dropped is lost, as by a power cut. Once a write or a sync has failed, all later ones
-/// fail: the system may have dropped what it couldn't write, and say nothing of it at the next
-/// sync.
+/// What is written waits in memory until a sector that isn't its neighbour is written, until
+/// 128 KiB wait, or until the next sync; reads give it from the time of its write on. What waits
+/// when the disk is dropped is lost, as by a power cut. Once a write or a sync has failed, all
+/// later ones fail: the system may have dropped what it couldn't write, and say nothing of it at
+/// the next sync.
 #[derive(Drop)]
 pub struct FileDisk<F> {
     file: F,
@@ -33,7 +33,7 @@ impl<F: Drop> FileDisk<F> {
     ghost use Rattle.file_disk.specs.FileDisk.{file_facts, file_of, IsNew};
 
     /// A disk of so many sectors over an open file, which has them. Takes all the memory that the
-    /// disk ever has: twice what the file has, but at most 2 MiB.
+    /// disk ever has: twice what the file has, but at most 256 KiB.
     pub(crate) fn new(alloc: Global, file: F, sectors: u32) -> Result<FileDisk<F>, AllocError>
         ensures sectors { IfOk result (λ disk. (file_facts disk).sectors ≡ sectors) }
         ensures new { IfOk result (λ disk. IsNew disk) }

@@ -4,8 +4,8 @@ ghost use Rattle.std.specs.Prelude.{◌≡◌, ◌≤◌, ◌<◌, vec_len, vec_
 use sector_disk::SECTOR_BYTES;
 use std::alloc::{AllocError, Global};
 
-/// How many sectors wait at most: 1 MiB.
-const MOST: usize = 2048;
+/// How many sectors wait at most: 128 KiB.
+const MOST: usize = 256;
 
 /// Sectors in a row, each with the content that was written to it last.
 #[derive(Drop)]
