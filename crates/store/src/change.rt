@@ -18,7 +18,7 @@ ghost use Rattle.store.specs.inside.Catalogues.{CanBeCatalogued};
 ghost use Rattle.store.specs.inside.Next.{IsFollowed, IsRelisting};
 ghost use Rattle.store.specs.inside.Room.{HavePlaces, IsRootOr};
 
-use crate::catalogues::catalogue_singles;
+use crate::catalogues::Singles;
 use extents::Extent;
 use passes::{SingleSector, commit, stage};
 use roots::{Root, encode_root, slot_of};
@@ -87,6 +87,7 @@ pub(crate) fn write_change<D: Disk>(
 /// of either version.
 pub(crate) fn write_list<D: Disk>(
     disk: &mut D,
+    singles: &mut Singles,
     catalogues: &[u32],
     sectors: &[u32],
     root: &Root,
@@ -118,7 +119,7 @@ pub(crate) fn write_list<D: Disk>(
         → (m : List Sector) → Mixture (D.facts disk.new) m
         → IsMixtureBut (IsRootOr catalogues.now) (D.facts disk.old) m }
 {
-    let singles = catalogue_singles(catalogues, sectors);
+    singles.set_catalogues(catalogues, sectors);
     write_change(disk, &[], &[], singles.as_slice(), root)
 }
 

@@ -1,7 +1,7 @@
 // Committing what was found on a disk of version 1 as one of version 2.
 use crate::change::write_list;
 use crate::kept::Kept;
-use crate::next::{next_root, sectors_of_entries};
+use crate::next::next_root;
 use crate::old_store::OldStore;
 use crate::refusal::StoreRefusal;
 use crate::room::{release_sectors, take_catalogues};
@@ -52,11 +52,16 @@ impl<D: Disk> Kept<D> {
             return Err(StoreRefusal::Full);
         }
         let taken = take_catalogues(&mut self.layout, count);
-        let sectors = sectors_of_entries(&self.entries);
         let listed = taken.as_slice();
         let root = next_root(&self.root, libraries, listed);
         self.failed = true;
-        if let Err(fault) = write_list(&mut self.disk, listed, &sectors[..libraries], &root) {
+        if let Err(fault) = write_list(
+            &mut self.disk,
+            &mut self.singles,
+            listed,
+            &self.sectors,
+            &root,
+        ) {
             release_sectors(&mut self.layout, listed);
             return Err(StoreRefusal::from(fault));
         }

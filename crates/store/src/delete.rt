@@ -2,7 +2,7 @@
 use crate::change::write_list;
 use crate::kept::Kept;
 use crate::listed::catalogues;
-use crate::next::{root_without, sectors_without};
+use crate::next::root_without;
 use crate::refusal::StoreRefusal;
 use crate::room::{give_up, release_sectors, take_catalogues};
 use crate::store::Store;
@@ -64,11 +64,17 @@ impl<D: Disk> Kept<D> {
         };
         let libraries = self.entries.len() - 1;
         let taken = take_catalogues(&mut self.layout, catalogues_for(libraries));
-        let sectors = sectors_without(&self.entries, position);
+        self.sectors.remove(position);
         let listed = taken.as_slice();
         let root = root_without(&self.root, libraries, listed, position);
         self.failed = true;
-        if let Err(fault) = write_list(&mut self.disk, listed, &sectors[..libraries], &root) {
+        if let Err(fault) = write_list(
+            &mut self.disk,
+            &mut self.singles,
+            listed,
+            &self.sectors,
+            &root,
+        ) {
             release_sectors(&mut self.layout, listed);
             return Err(StoreRefusal::from(fault));
         }

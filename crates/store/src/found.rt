@@ -1,10 +1,11 @@
 // What a disk holds, as a store keeps it.
 ghost use Rattle.std.specs.Prelude.{◌≡◌, ◌⊎◌, [], IfOk, IfErr, length, false};
 ghost use Rattle.roots.specs.Root.{RootHasSpelling};
-ghost use Rattle.store.specs.Stands.{HasRoom, HaveOwnNames, UsesApart};
+ghost use Rattle.store.specs.Stands.{HasRoom, HaveOwnNames, UsesApart, entry_sectors};
 ghost use Rattle.store.specs.inside.Kept.{HaveSpellings, IsKept};
 ghost use Rattle.store.specs.inside.NameIndex.{IsIndex};
 
+use crate::catalogues::Singles;
 use crate::held_versions::HeldVersions;
 use crate::kept::Kept;
 use crate::name_index::NameIndex;
@@ -14,15 +15,29 @@ use crate::used::claim_used;
 use extents::Layout;
 use roots::Root;
 use sector_disk::Disk;
-use std::alloc::Global;
+use std::alloc::{AllocError, Global};
 
 /// What a disk holds, as a store keeps it.
 #[derive(Drop)]
 pub(crate) struct Found {
     pub root: Root,
     pub entries: Vec<PlacedEntry>,
+    pub sectors: Vec<u32>,
+    pub singles: Singles,
     pub index: NameIndex,
     pub layout: Layout,
+    ghost listed: { sectors.items ≡ entry_sectors entries.items },
+}
+
+/// The sectors of entries, in their order.
+fn sectors_of_entries(alloc: Global, entries: &[PlacedEntry]) -> Result<Vec<u32>, AllocError>
+    ensures { IfOk result (λ sectors. sectors.items ≡ entry_sectors entries.now) }
+{
+    let mut sectors = Vec::with_capacity(alloc, entries.len())?;
+    for placed in entries {
+        sectors.push(placed.at)?;
+    }
+    Ok(sectors)
 }
 
 impl Found {
@@ -49,9 +64,13 @@ impl Found {
             return Err(StoreRefusal::Damaged);
         };
         let layout = claim_used(alloc, &root, &entries)?;
+        let sectors = sectors_of_entries(alloc, &entries)?;
+        let singles = Singles::new(alloc)?;
         Ok(Found {
             root,
             entries,
+            sectors,
+            singles,
             index,
             layout,
         })
@@ -71,6 +90,8 @@ impl Found {
         let Found {
             root,
             entries,
+            sectors,
+            singles,
             index,
             layout,
         } = self;
@@ -78,6 +99,8 @@ impl Found {
             disk,
             root,
             entries,
+            sectors,
+            singles,
             index,
             held: HeldVersions::new(alloc),
             layout,

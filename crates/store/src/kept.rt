@@ -1,3 +1,4 @@
+use crate::catalogues::Singles;
 use crate::held_versions::HeldVersions;
 use crate::name_index::NameIndex;
 use crate::placed_entry::PlacedEntry;
@@ -12,6 +13,10 @@ pub(crate) struct Kept<D: Disk> {
     pub disk: D,
     pub root: Root,
     pub entries: Vec<PlacedEntry>,
+    // The sectors of the entries, in their order, until a change fails.
+    pub sectors: Vec<u32>,
+    // Room for what a change writes one by one.
+    pub singles: Singles,
     pub index: NameIndex,
     pub held: HeldVersions,
     pub layout: Layout,
@@ -23,7 +28,8 @@ impl<D: Disk> Model for Kept<D> {
     ghost use Rattle.store.specs.Opened.{Opened};
     ghost use Rattle.store.specs.inside.Kept.{IsKept};
     ghost use Rattle.store.specs.inside.NameIndex.{IsIndex};
-    ghost use Rattle.std.specs.Prelude.{◌≡◌};
+    ghost use Rattle.store.specs.Stands.{entry_sectors};
+    ghost use Rattle.std.specs.Prelude.{◌≡◌, IsFalse};
 
     ghost Value = { Opened D };
 
@@ -37,7 +43,8 @@ impl<D: Disk> Model for Kept<D> {
 
     ghost invariant = { λ kept. IsKept kept.root kept.entries.items kept.held kept.layout
         × IsIndex kept.entries.items kept.index
-        × ((D.facts kept.disk).sectors ≡ kept.root.sectors) };
+        × ((D.facts kept.disk).sectors ≡ kept.root.sectors)
+        × (IsFalse kept.failed → kept.sectors.items ≡ entry_sectors kept.entries.items) };
 }
 
 impl<D: Disk> Kept<D> {
@@ -51,6 +58,8 @@ impl<D: Disk> Kept<D> {
             disk,
             root: _,
             entries: _,
+            sectors: _,
+            singles: _,
             index: _,
             held: _,
             layout: _,

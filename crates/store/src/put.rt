@@ -20,7 +20,7 @@ ghost use Rattle.store.specs.inside.Catalogues.{CanBeCatalogued};
 ghost use Rattle.store.specs.inside.Next.{IsPut};
 ghost use Rattle.store.specs.inside.Room.{HasPlace, IsRootOr};
 
-use crate::catalogues::put_singles;
+use crate::catalogues::Singles;
 use crate::change::write_change;
 use crate::placed_entry::PlacedEntry;
 use crate::room::Room;
@@ -58,6 +58,7 @@ pub(crate) fn new_entry(name: &[u8], bytes: &[u8], room: &Room) -> PlacedEntry
 /// syncs.
 pub(crate) fn write_put<D: Disk>(
     disk: &mut D,
+    singles: &mut Singles,
     put: &PlacedEntry,
     bytes: &[u8],
     catalogues: &[u32],
@@ -98,7 +99,7 @@ pub(crate) fn write_put<D: Disk>(
         → (m : List Sector) → Mixture (D.facts disk.new) m
         → IsMixtureBut (IsRootOr (sectors_of put.now ++ catalogues.now)) (D.facts disk.old) m }
 {
-    let singles = put_singles(put, catalogues, sectors);
+    singles.set_put(put, catalogues, sectors);
     write_change(
         disk,
         put.entry.file_extents(),

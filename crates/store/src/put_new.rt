@@ -1,7 +1,7 @@
 // Putting a byte string behind the others.
 use crate::kept::Kept;
 use crate::listed::catalogues;
-use crate::next::{next_root, sectors_with};
+use crate::next::{next_root, push_sector};
 use crate::put::{new_entry, sector_need, write_put};
 use crate::refusal::StoreRefusal;
 use crate::room::{give_back_room, release_sectors, take_room};
@@ -68,21 +68,23 @@ impl<D: Disk> Kept<D> {
         }
         self.index.reserve()?;
         self.entries.reserve(1)?;
+        self.sectors.reserve(1)?;
         let libraries = self.entries.len() + 1;
         let count = catalogues_for(libraries);
         let spare = count - catalogues(&self.root).len();
         let room = take_room(&mut self.layout, sector_need(bytes), count, spare)?;
         let put = new_entry(name, bytes, &room);
-        let sectors = sectors_with(&self.entries, &put);
+        push_sector(&mut self.sectors, put.at);
         let listed = room.catalogues.as_slice();
         let root = next_root(&self.root, libraries, listed);
         self.failed = true;
         if let Err(fault) = write_put(
             &mut self.disk,
+            &mut self.singles,
             &put,
             bytes,
             listed,
-            &sectors[..libraries],
+            &self.sectors,
             &root,
         ) {
             give_back_room(&mut self.layout, &put, listed);

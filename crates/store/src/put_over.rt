@@ -1,7 +1,7 @@
 // Putting other bytes in the place of a byte string's.
 use crate::kept::Kept;
 use crate::listed::catalogues;
-use crate::next::{next_root, sectors_at};
+use crate::next::next_root;
 use crate::put::{new_entry, sector_need, write_put};
 use crate::refusal::StoreRefusal;
 use crate::room::{give_back_room, give_up, take_room};
@@ -71,16 +71,17 @@ impl<D: Disk> Kept<D> {
         let count = catalogues_for(libraries);
         let room = take_room(&mut self.layout, sector_need(bytes), count, 0)?;
         let put = new_entry(name, bytes, &room);
-        let sectors = sectors_at(&self.entries, position, &put);
+        self.sectors[position] = put.at;
         let listed = room.catalogues.as_slice();
         let root = next_root(&self.root, libraries, listed);
         self.failed = true;
         if let Err(fault) = write_put(
             &mut self.disk,
+            &mut self.singles,
             &put,
             bytes,
             listed,
-            &sectors[..libraries],
+            &self.sectors,
             &root,
         ) {
             give_back_room(&mut self.layout, &put, listed);

@@ -1,4 +1,4 @@
-use Rattle.std.proofs.Common.{◌≡◌, ◌≢◌, ◌⊎◌, ◌-◌, ◌<◌, ◌++◌, All, get_or, length, map, take, IsTrue, refl, sym, subst, ap, ◌∙◌, arith}
+use Rattle.std.proofs.Common.{◌≡◌, ◌≢◌, ◌⊎◌, ◌-◌, ◌<◌, List, ℕ, ◌++◌, All, get_or, length, map, IsTrue, refl, sym, subst, ap, ◌∙◌, arith}
 use Rattle.std.specs.List.{remove}
 use Rattle.std.proofs.lemmas.List.{get_or_read}
 use Rattle.sector_disk.specs.Disk.{LeavesOnly}
@@ -29,6 +29,7 @@ use Rattle.store.proofs.GivenUp.{given_claimed, given_few, given_keeps, given_ro
 use Rattle.store.proofs.Holders.{keeps_table}
 use Rattle.store.proofs.Placing.{singles_in_use}
 use Rattle.store.proofs.Removals.{IsRemoval, catalogues_fit, removal_next, removal_moved, removal_relisting, removal_room}
+use Rattle.store.proofs.Removed.{map_remove}
 use Rattle.store.proofs.UsedAlone.{no_entry}
 use Rattle.store.proofs.kept.Kept.delete.Given as given
 use Rattle.store.proofs.kept.Kept.delete.Goals.{After-root_without-root, After-write_list, After-catalogues, After-give_up}
@@ -46,7 +47,7 @@ take_catalogues-taken-requires-clause-enough g c =
     omega (arith, c.catalogues_for.ensures, c.len-libraries.ensures, catalogues_fit c.self.inside.root c.self.inside.entries.items c.self.inside.held c.self.inside.layout c.self.invariant.0 two)
 
 count_is : (g : given.Over) (c : After-root_without-root g) → c.len-libraries.result ≡ length c.self.inside.entries.items
-count_is g c = c.len-libraries.ensures ∙ sym c.deref-2.ensures.len ∙ ap length c.deref-2.ensures.value
+count_is g c = c.len-libraries.ensures ∙ sym c.deref.ensures.len ∙ ap length c.deref.ensures.value
 
 -- the entry of the name goes
 removing : (g : given.Over) (c : After-root_without-root g) → IsRemoval c.self.inside.root c.self.inside.entries.items c.self.inside.held c.self.inside.layout c.take_catalogues-taken.new.layout c.args.name.now c.in-Some.position c.as_slice-listed.result.now c.root_without-root.result
@@ -66,15 +67,16 @@ removing g c =
     }
 
 -- the sectors of the others are listed
-listed_are : (g : given.Over) (c : After-root_without-root g) → take (c.len-libraries.result - 1) c.sectors_without-sectors.result ≡ entry_sectors (remove c.self.inside.entries.items c.in-Some.position)
+listed_are : (g : given.Over) (c : After-root_without-root g) → c.remove.new.self.items ≡ entry_sectors (remove c.self.inside.entries.items c.in-Some.position)
 listed_are g c =
-    ap (λ n. take (n - 1) c.sectors_without-sectors.result) (count_is g c ∙ ap length (sym c.deref-2.ensures.value))
-    ∙ c.sectors_without-sectors.ensures
-    ∙ ap (λ l. entry_sectors (remove l c.in-Some.position)) c.deref-2.ensures.value
+    c.remove.ensures.items
+    ∙ ap (λ l. remove l c.in-Some.position) (c.self.invariant.3 c.if-self.false)
+    ∙ sym (map_remove (λ (p : PlacedEntry). p.at) c.self.inside.entries.items c.in-Some.position)
 
-relisting : (g : given.Over) (c : After-root_without-root g) (s : State) → IsRelisting Two c.self.inside.root c.self.inside.entries.items s c.as_slice-listed.result.now (take (c.len-libraries.result - 1) c.sectors_without-sectors.result) c.root_without-root.result (remove c.self.inside.entries.items c.in-Some.position) (without c.args.name.now s)
-relisting g c s =
-    subst (λ sectors. IsRelisting Two c.self.inside.root c.self.inside.entries.items s c.as_slice-listed.result.now sectors c.root_without-root.result (remove c.self.inside.entries.items c.in-Some.position) (without c.args.name.now s)) (sym (listed_are g c))
+relisting : (g : given.Over) (c : After-root_without-root g) (s : State) (sectors : List ℕ) → sectors ≡ c.remove.new.self.items
+    → IsRelisting Two c.self.inside.root c.self.inside.entries.items s c.as_slice-listed.result.now sectors c.root_without-root.result (remove c.self.inside.entries.items c.in-Some.position) (without c.args.name.now s)
+relisting g c s sectors are =
+    subst (λ sectors. IsRelisting Two c.self.inside.root c.self.inside.entries.items s c.as_slice-listed.result.now sectors c.root_without-root.result (remove c.self.inside.entries.items c.in-Some.position) (without c.args.name.now s)) (sym (are ∙ listed_are g c))
     (removal_relisting (removing g c) s)
 
 pub write_list-requires-clause-root : goal.write_list-requires-clause-root
@@ -95,12 +97,12 @@ write_list-requires-clause-listed g c =
     let before = (goal.at.write_list-requires-clause-listed g c).After-root_without-root in
     let removal = removing g before in
     let next = removal_next removal in
-    subst (CanBeCatalogued (length c.as_slice-listed.result.now)) (sym (listed_are g before))
+    subst (CanBeCatalogued (length c.as_slice-listed.result.now)) (sym (c.deref-2.ensures.value ∙ listed_are g before))
     (can_be_catalogued c.self.inside.root.sectors (length c.as_slice-listed.result.now) c.root_without-root.result (remove c.self.inside.entries.items c.in-Some.position) (omega (arith, removal.kept.root_fits.sectors)) next.enough next.few next.apart)
 
 -- a stop leaves the state from before or the one after
 leaves : (g : given.Over) (c : After-write_list g) (s : State)
-    → IsRelisting Two c.self.inside.root c.self.inside.entries.items s c.as_slice-listed.result.now (take (c.len-libraries.result - 1) c.sectors_without-sectors.result) c.root_without-root.result (remove c.self.inside.entries.items c.in-Some.position) (without c.args.name.now s)
+    → IsRelisting Two c.self.inside.root c.self.inside.entries.items s c.as_slice-listed.result.now c.deref-2.result.now c.root_without-root.result (remove c.self.inside.entries.items c.in-Some.position) (without c.args.name.now s)
     → IsAt g.D.Disk.facts c.args.self.now s → LeavesOnly (g.D.Disk.facts c.args.self.now.disk) (g.D.Disk.facts c.write_list.new.disk) (λ m. Stands m s ⊎ Stands m (without c.args.name.now s))
 leaves g c s is at_entry =
     let at = subst (λ store. IsAt g.D.Disk.facts store s) (sym c.self.view_is) at_entry in
@@ -110,12 +112,12 @@ leaves g c s is at_entry =
 pub returns-in-Err-clause-any_moment : goal.returns-in-Err-clause-any_moment
 returns-in-Err-clause-any_moment g c s at =
     let here = goal.at.returns-in-Err-clause-any_moment g c in
-    leaves g here.After-write_list s (relisting g here.After-root_without-root s) at
+    leaves g here.After-write_list s (relisting g here.After-root_without-root s c.deref-2.result.now c.deref-2.ensures.value) at
 
 pub returns-clause-any_moment : goal.returns-clause-any_moment
 returns-clause-any_moment g c s at =
     let here = goal.at.returns-clause-any_moment g c in
-    leaves g here.After-write_list s (relisting g here.After-root_without-root s) at
+    leaves g here.After-write_list s (relisting g here.After-root_without-root s c.deref-2.result.now c.deref-2.ensures.value) at
 
 -- what is given back is what stood there
 gone_are : (g : given.Over) (c : After-catalogues g) → sectors_of c.index.result.now ++ c.catalogues.result.now ≡ sectors_of (get_or c.self.inside.entries.items c.in-Some.position no_entry) ++ catalogues_of c.self.inside.root
@@ -150,13 +152,14 @@ invariant_of-self-2 g c =
     let next = c.root_without-root.result in
     let new = c.give_up.new.layout in
     let up = given_up g at.After-give_up in (
-      subst (λ l. IsKept next l c.give_up.new.held new) (sym c.remove-2.ensures.items) (following_kept (removal_next removal) removal.kept.root_fits c.give_up.new.held new
+      subst (λ l. IsKept next l c.give_up.new.held new) (sym c.remove-3.ensures.items) (following_kept (removal_next removal) removal.kept.root_fits c.give_up.new.held new
           (given_size removal.kept gone removal.fits up removal.claimed)
           (removal_room removal (c.self.inside.root.sectors - length (lone_sectors c.give_up.new.held)) (omega (arith, given_few removal.kept gone removal.fits up)))
           (given_rows removal.kept gone removal.fits up left (still_removed c.self.inside.entries.items gone removal.fits))
           (given_claimed removal.kept gone removal.fits up removal.claimed next left (removal_moved removal))),
-      subst (λ l. IsOrderOf (entry_names l) c.remove.new.self.positions) (ap (λ l. remove l c.in-Some.position) c.deref-3.ensures.value ∙ sym c.remove-2.ensures.items) c.remove.ensures,
+      subst (λ l. IsOrderOf (entry_names l) c.remove-2.new.self.positions) (ap (λ l. remove l c.in-Some.position) c.deref-3.ensures.value ∙ sym c.remove-3.ensures.items) c.remove-2.ensures,
       c.write_list.ensures.calls.sectors ∙ c.self.invariant.2 ∙ sym (ap (λ r. r.sectors) c.root_without-root.ensures),
+      λ _. listed_are g at.After-root_without-root ∙ ap entry_sectors (sym c.remove-3.ensures.items),
     )
 
 pub returns-in-Err-clause-held : goal.returns-in-Err-clause-held
@@ -175,11 +178,11 @@ returns-clause-held g c =
 pub returns-clause-ok : goal.returns-clause-ok
 returns-clause-ok g c s at_entry =
     let at = subst (λ store. IsAt g.D.Disk.facts store s) (sym c.self.view_is) at_entry in
-    let is = relisting g (goal.at.returns-clause-ok g c).After-root_without-root s in
+    let is = relisting g (goal.at.returns-clause-ok g c).After-root_without-root s c.deref-2.result.now c.deref-2.ensures.value in
     record {
       honest = subst IsTrue (sym c.write_list.ensures.calls.honest) at.honest;
       usable = refl;
-      stands = λ m mixture. subst (λ l. StandsBy Two m c.root_without-root.result l (without c.args.name.now s)) (sym c.remove-2.ensures.items)
+      stands = λ m mixture. subst (λ l. StandsBy Two m c.root_without-root.result l (without c.args.name.now s)) (sym c.remove-3.ensures.items)
           (c.in_default-write_list.ensures.done at.honest Two c.self.inside.root c.self.inside.entries.items s (remove c.self.inside.entries.items c.in-Some.position) (without c.args.name.now s) at.stands is m mixture);
     }
 
@@ -195,5 +198,5 @@ returns-clause-placed g c =
       taken = subst (λ store. AreTaken (layout_in_use store) (catalogues_of next)) c.self.view_is
           (subst (AreTaken (layout_of c.self.inside.root.sectors (in_use c.self.inside.root c.self.inside.entries.items c.self.inside.held))) (sym listed)
           (singles_in_use c.self.inside.root c.self.inside.entries.items c.self.inside.held c.self.inside.layout removal.kept c.take_catalogues-taken.result c.take_catalogues-taken.ensures.taken));
-      entries = c.remove-2.ensures.items ∙ ap (λ store. remove store.entries gone) c.self.view_is;
+      entries = c.remove-3.ensures.items ∙ ap (λ store. remove store.entries gone) c.self.view_is;
     }

@@ -47,6 +47,7 @@ invariant_of-self-2 g c =
       kept_held c.self.invariant.0 (holding_rows g.D.Disk.facts (before g c) c.self.invariant.0 c.args.position lt c.if-self.false all) (holding_lone g.D.Disk.facts (before g c) c.self.invariant.0 c.args.position lt c.if-self.false all),
       c.self.invariant.1,
       c.self.invariant.2,
+      c.self.invariant.3,
     )
 
 pub returns : goal.returns

@@ -2,8 +2,8 @@ use Rattle.std.proofs.Common.{rules, ◌≡◌, ⊎_elim, true, false, refl, sym
 use Rattle.store.specs.Holding.{LetsGo}
 use Rattle.store.specs.Opened.{Opened}
 use Rattle.store.specs.inside.Kept.{IsKept}
-use Rattle.store.proofs.Handles.{gone_done, gone_freed, gone_held, gone_listed, kept_held, less_done, none_done, with_held}
-use Rattle.store.proofs.Holdings.{held_less, lone_less}
+use Rattle.store.proofs.Handles.{gone_done, gone_freed, gone_held, gone_listed, held_fits, kept_held, less_done, none_done, with_held}
+use Rattle.store.proofs.Holdings.{by_place, held_less, lone_less}
 use Rattle.store.proofs.kept.Kept.let_go.Given as given
 use Rattle.store.proofs.kept.Kept.let_go.Goals.{After-let_go}
 use Rattle.store.proofs.kept.Kept.let_go.Goals as goal
@@ -18,6 +18,9 @@ said g c after done =
     subst (λ store. LetsGo g.D.Disk.facts store after c.args.held) c.self.view_is
     (subst (λ at. LetsGo g.D.Disk.facts (before g c) after at) c.held.view_is done)
 
+pub give_back-requires-clause-fits : goal.give_back-requires-clause-fits
+give_back-requires-clause-fits g c = held_fits c.self.invariant.0 (by_place c.in-Some.ensures.some.at)
+
 pub give_back-requires-clause-held : goal.give_back-requires-clause-held
 give_back-requires-clause-held g c =
     let unlisted : c.in-Some.version.listed ≡ false = search rules in
@@ -26,12 +29,12 @@ give_back-requires-clause-held g c =
 pub invariant_of-self : goal.invariant_of-self
 invariant_of-self g c =
     let unlisted : c.in-Some.version.listed ≡ false = search rules in
-    (gone_freed c.self.invariant.0 c.in-Some.ensures.some unlisted c.give_back.new.layout c.give_back.ensures, c.self.invariant.1, c.self.invariant.2)
+    (gone_freed c.self.invariant.0 c.in-Some.ensures.some unlisted c.give_back.new.layout c.give_back.ensures, c.self.invariant.1, c.self.invariant.2, c.self.invariant.3)
 
 pub invariant_of-self-else-not-version : goal.invariant_of-self-else-not-version
 invariant_of-self-else-not-version g c =
     let listed : c.in-Some.version.listed ≡ true = search rules in
-    (gone_listed c.self.invariant.0 c.in-Some.ensures.some listed, c.self.invariant.1, c.self.invariant.2)
+    (gone_listed c.self.invariant.0 c.in-Some.ensures.some listed, c.self.invariant.1, c.self.invariant.2, c.self.invariant.3)
 
 pub invariant_of-self-in_default : goal.invariant_of-self-in_default
 invariant_of-self-in_default g c = (
@@ -41,6 +44,7 @@ invariant_of-self-in_default g c = (
       (c.in_default.ensures.none refl),
   c.self.invariant.1,
   c.self.invariant.2,
+  c.self.invariant.3,
 )
 
 pub returns-then-not-version : goal.returns-then-not-version

@@ -1,6 +1,8 @@
-use Rattle.std.proofs.Common.{◌≡◌, ◌≢◌, ◌⊎◌, ◌+◌, ◌-◌, ◌*◌, ◌<◌, ◌≤◌, ◌∷◌, ◌++◌, [], All, length, take, IsTrue, refl, sym, subst, ap, ◌∙◌, arith}
+use Rattle.std.proofs.Common.{◌≡◌, ◌≢◌, ◌⊎◌, ◌+◌, ◌-◌, ◌*◌, ◌<◌, ◌≤◌, List, ℕ, ◌∷◌, ◌++◌, [], All, length, IsTrue, refl, sym, subst, ap, ◌∙◌, arith}
 use Rattle.std.specs.Int.{div_ceil}
+use Rattle.std.proofs.lemmas.Bool.{false≢true}
 use Rattle.std.proofs.lemmas.Grind.{div_ceil_times}
+use Rattle.std.proofs.lemmas.List.{map_push}
 use Rattle.sector_disk.specs.Disk.{LeavesOnly}
 use Rattle.extents.specs.Extent.{sector_count}
 use Rattle.states.specs.Limits.{most_libraries, last_generation}
@@ -55,10 +57,6 @@ rest g c =
     let two = subst (λ store. version_of store.root ≡ Two) (sym c.self.view_is) c.requires.version in
     ap (λ n. c.catalogues_for-count.result - n) (ap length c.catalogues.ensures ∙ catalogues_enough c.self.inside.root c.self.inside.entries.items c.self.inside.held c.self.inside.layout c.self.invariant.0 two)
 
--- the entries are as they were while there is room for one more
-entries_are : (g : given.Over) (c : After-next_root-root g) → c.deref.result.now ≡ c.self.inside.entries.items
-entries_are g c = c.deref.ensures.value ∙ c.reserve-2.ensures.items
-
 count_is : (g : given.Over) (c : After-next_root-root g) → c.len-libraries.result ≡ length c.self.inside.entries.items
 count_is g c = omega (arith, c.len-libraries.ensures, ap length c.reserve-2.ensures.items)
 
@@ -83,20 +81,22 @@ newly g c =
     }
 
 -- its sectors are listed with the others'
-listed_are : (g : given.Over) (c : After-next_root-root g) → take (c.len-libraries.result + 1) c.sectors_with-sectors.result ≡ entry_sectors (c.self.inside.entries.items ++ c.new_entry-put.result ∷ [])
+listed_are : (g : given.Over) (c : After-next_root-root g) → c.push_sector.new.sectors.items ≡ entry_sectors (c.self.inside.entries.items ++ c.new_entry-put.result ∷ [])
 listed_are g c =
-    ap (λ n. take (n + 1) c.sectors_with-sectors.result) (count_is g c ∙ ap length (sym (entries_are g c)))
-    ∙ c.sectors_with-sectors.ensures
-    ∙ ap (λ l. entry_sectors (l ++ c.new_entry-put.result ∷ [])) (entries_are g c)
+    let put = c.new_entry-put.result in
+    c.push_sector.ensures
+    ∙ ap (λ l. l ++ put.at ∷ []) (c.reserve-3.ensures.items ∙ c.self.invariant.3 c.if-self.false)
+    ∙ sym (map_push (λ (p : PlacedEntry). p.at) c.self.inside.entries.items put)
 
 -- it has room for the bytes
 enough : (g : given.Over) (c : After-next_root-root g) → length c.args.bytes.now ≤ 512 * sector_count (extents_of c.new_entry-put.result.entry)
 enough g c = omega (arith, ap sector_count c.new_entry-put.ensures.extents, c.in_ok-room.ensures.sum, c.sector_need.ensures, (div_ceil_times (length c.args.bytes.now) 512 (omega arith)).0)
 
-putting : (g : given.Over) (c : After-next_root-root g) (s : State) → IsPut Two c.self.inside.root c.self.inside.entries.items s c.args.bytes.now c.new_entry-put.result c.as_slice-listed.result.now (take (c.len-libraries.result + 1) c.sectors_with-sectors.result) c.next_root-root.result (c.self.inside.entries.items ++ c.new_entry-put.result ∷ []) (with_new c.args.name.now c.args.bytes.now s)
-putting g c s =
+putting : (g : given.Over) (c : After-next_root-root g) (s : State) (sectors : List ℕ) → sectors ≡ c.push_sector.new.sectors.items
+    → IsPut Two c.self.inside.root c.self.inside.entries.items s c.args.bytes.now c.new_entry-put.result c.as_slice-listed.result.now sectors c.next_root-root.result (c.self.inside.entries.items ++ c.new_entry-put.result ∷ []) (with_new c.args.name.now c.args.bytes.now s)
+putting g c s sectors are =
     let others = c.self.inside.entries.items ++ c.new_entry-put.result ∷ [] in
-    subst (λ sectors. IsPut Two c.self.inside.root c.self.inside.entries.items s c.args.bytes.now c.new_entry-put.result c.as_slice-listed.result.now sectors c.next_root-root.result others (with_new c.args.name.now c.args.bytes.now s)) (sym (listed_are g c))
+    subst (λ sectors. IsPut Two c.self.inside.root c.self.inside.entries.items s c.args.bytes.now c.new_entry-put.result c.as_slice-listed.result.now sectors c.next_root-root.result others (with_new c.args.name.now c.args.bytes.now s)) (sym (are ∙ listed_are g c))
     (new_put (newly g c) c.args.name.now c.args.bytes.now s c.new_entry-put.ensures.name c.new_entry-put.ensures.length (enough g c))
 
 pub returns-in_err-reserve-clause-any_moment : goal.returns-in_err-reserve-clause-any_moment
@@ -104,6 +104,9 @@ returns-in_err-reserve-clause-any_moment g c s at = untouched g.D.Disk.facts c.a
 
 pub returns-in_err-reserve-2-clause-any_moment : goal.returns-in_err-reserve-2-clause-any_moment
 returns-in_err-reserve-2-clause-any_moment g c s at = untouched g.D.Disk.facts c.args.self.now _ s (with_new c.args.name.now c.args.bytes.now s) c.self.view_is at
+
+pub returns-in_err-reserve-3-clause-any_moment : goal.returns-in_err-reserve-3-clause-any_moment
+returns-in_err-reserve-3-clause-any_moment g c s at = untouched g.D.Disk.facts c.args.self.now _ s (with_new c.args.name.now c.args.bytes.now s) c.self.view_is at
 
 pub returns-in_err-room-clause-any_moment : goal.returns-in_err-room-clause-any_moment
 returns-in_err-room-clause-any_moment g c s at = untouched g.D.Disk.facts c.args.self.now _ s (with_new c.args.name.now c.args.bytes.now s) c.self.view_is at
@@ -129,7 +132,7 @@ write_put-requires-clause-listed g c =
     let before = (goal.at.write_put-requires-clause-listed g c).After-next_root-root in
     let is_new = newly g before in
     let next = new_next is_new in
-    subst (CanBeCatalogued (length c.as_slice-listed.result.now)) (sym (listed_are g before))
+    subst (CanBeCatalogued (length c.as_slice-listed.result.now)) (sym (c.deref.ensures.value ∙ listed_are g before))
     (can_be_catalogued c.self.inside.root.sectors (length c.as_slice-listed.result.now) c.next_root-root.result (c.self.inside.entries.items ++ c.new_entry-put.result ∷ []) (omega (arith, is_new.kept.root_fits.sectors)) next.enough next.few next.apart)
 
 pub give_back_room-requires-clause-held : goal.give_back_room-requires-clause-held
@@ -144,12 +147,13 @@ invariant_of-self-in-Err g c =
       subst (λ l. IsKept c.self.inside.root l c.self.inside.held c.give_back_room.new.layout) (sym items) (back_kept is_new.kept is_new.claimed c.give_back_room.new.layout c.give_back_room.ensures),
       subst (λ l. IsOrderOf (entry_names l) c.reserve.new.self.positions) (sym items) (subst (IsOrderOf (entry_names c.self.inside.entries.items)) (sym c.reserve.ensures.positions) c.self.invariant.1),
       c.write_put.ensures.calls.sectors ∙ c.self.invariant.2,
+      λ is. absurd (false≢true (sym is)),
     )
 
 pub returns-in-Err-clause-any_moment : goal.returns-in-Err-clause-any_moment
 returns-in-Err-clause-any_moment g c s at_entry =
     let at = subst (λ store. IsAt g.D.Disk.facts store s) (sym c.self.view_is) at_entry in
-    let put = putting g (goal.at.returns-in-Err-clause-any_moment g c).After-next_root-root s in
+    let put = putting g (goal.at.returns-in-Err-clause-any_moment g c).After-next_root-root s c.deref.result.now c.deref.ensures.value in
     subst (λ store. LeavesOnly (g.D.Disk.facts store.disk) (g.D.Disk.facts c.write_put.new.disk) (λ m. Stands m s ⊎ Stands m (with_new c.args.name.now c.args.bytes.now s))) c.self.view_is
     (c.write_put.ensures.any_moment at.honest Two c.self.inside.root c.self.inside.entries.items s (c.self.inside.entries.items ++ c.new_entry-put.result ∷ []) (with_new c.args.name.now c.args.bytes.now s) at.stands put)
 
@@ -182,6 +186,7 @@ invariant_of-self-2 g c =
           (moved_claimed is_new.kept is_new.claimed c.next_root-root.result others moved new released)),
       subst (λ l. IsOrderOf (entry_names l) c.insert.new.self.positions) (ap (λ l. l ++ put ∷ []) c.deref-2.ensures.value ∙ sym c.in-Ok.ensures.items) (c.insert.ensures put c.new_entry-put.ensures.name),
       c.write_put.ensures.calls.sectors ∙ c.self.invariant.2 ∙ sym (ap (λ r. r.sectors) c.next_root-root.ensures),
+      λ _. listed_are g before ∙ ap entry_sectors (sym items),
     )
 
 pub returns-in_err-reserve-clause-held : goal.returns-in_err-reserve-clause-held
@@ -189,6 +194,9 @@ returns-in_err-reserve-clause-held g c = keeps_same g.D.Disk.facts c.self.view_i
 
 pub returns-in_err-reserve-2-clause-held : goal.returns-in_err-reserve-2-clause-held
 returns-in_err-reserve-2-clause-held g c = keeps_same g.D.Disk.facts c.self.view_is
+
+pub returns-in_err-reserve-3-clause-held : goal.returns-in_err-reserve-3-clause-held
+returns-in_err-reserve-3-clause-held g c = keeps_same g.D.Disk.facts c.self.view_is
 
 pub returns-in_err-room-clause-held : goal.returns-in_err-room-clause-held
 returns-in_err-room-clause-held g c = keeps_same g.D.Disk.facts c.self.view_is
@@ -208,14 +216,14 @@ returns-clause-held g c =
 pub returns-clause-any_moment : goal.returns-clause-any_moment
 returns-clause-any_moment g c s at_entry =
     let at = subst (λ store. IsAt g.D.Disk.facts store s) (sym c.self.view_is) at_entry in
-    let put = putting g (goal.at.returns-clause-any_moment g c).After-next_root-root s in
+    let put = putting g (goal.at.returns-clause-any_moment g c).After-next_root-root s c.deref.result.now c.deref.ensures.value in
     subst (λ store. LeavesOnly (g.D.Disk.facts store.disk) (g.D.Disk.facts c.write_put.new.disk) (λ m. Stands m s ⊎ Stands m (with_new c.args.name.now c.args.bytes.now s))) c.self.view_is
     (c.write_put.ensures.any_moment at.honest Two c.self.inside.root c.self.inside.entries.items s (c.self.inside.entries.items ++ c.new_entry-put.result ∷ []) (with_new c.args.name.now c.args.bytes.now s) at.stands put)
 
 pub returns-clause-ok : goal.returns-clause-ok
 returns-clause-ok g c s at_entry =
     let at = subst (λ store. IsAt g.D.Disk.facts store s) (sym c.self.view_is) at_entry in
-    let put = putting g (goal.at.returns-clause-ok g c).After-next_root-root s in
+    let put = putting g (goal.at.returns-clause-ok g c).After-next_root-root s c.deref.result.now c.deref.ensures.value in
     let items = c.in-Ok.ensures.items ∙ ap (λ l. l ++ c.new_entry-put.result ∷ []) c.reserve-2.ensures.items in
     record {
       honest = subst IsTrue (sym c.write_put.ensures.calls.honest) at.honest;

@@ -1,7 +1,8 @@
-use Rattle.std.proofs.Common.{◌≡◌, ◌≢◌, ◌⊎◌, ◌-◌, ◌*◌, ◌<◌, ◌≤◌, ◌++◌, All, get_or, set, length, take, IsTrue, None, refl, sym, subst, ap, ◌∙◌, arith}
+use Rattle.std.proofs.Common.{◌≡◌, ◌≢◌, ◌⊎◌, ◌-◌, ◌*◌, ◌<◌, ◌≤◌, List, ℕ, ◌++◌, All, get_or, set, length, IsTrue, None, refl, sym, subst, ap, ◌∙◌, arith}
 use Rattle.std.specs.Int.{div_ceil}
+use Rattle.std.proofs.lemmas.Bool.{false≢true}
 use Rattle.std.proofs.lemmas.Grind.{div_ceil_times}
-use Rattle.std.proofs.lemmas.List.{get_or_default}
+use Rattle.std.proofs.lemmas.List.{get_or_default, map-set}
 use Rattle.sector_disk.specs.Disk.{LeavesOnly}
 use Rattle.extents.specs.Extent.{sector_count}
 use Rattle.states.specs.Cost.{catalogues_for}
@@ -66,20 +67,21 @@ replacing g c =
     }
 
 -- its sector is listed with the others'
-listed_are : (g : given.Over) (c : After-next_root-root g) → take c.len-libraries.result c.sectors_at-sectors.result ≡ entry_sectors (set c.self.inside.entries.items c.in-Some.position c.new_entry-put.result)
+listed_are : (g : given.Over) (c : After-next_root-root g) → set c.self.inside.sectors.items c.in-Some.position c.new_entry-put.result.at ≡ entry_sectors (set c.self.inside.entries.items c.in-Some.position c.new_entry-put.result)
 listed_are g c =
-    ap (λ n. take n c.sectors_at-sectors.result) (count_is g c ∙ ap length (sym c.deref-2.ensures.value))
-    ∙ c.sectors_at-sectors.ensures
-    ∙ ap (λ l. entry_sectors (set l c.in-Some.position c.new_entry-put.result)) c.deref-2.ensures.value
+    let put = c.new_entry-put.result in
+    ap (λ l. set l c.in-Some.position put.at) (c.self.invariant.3 c.if-self.false)
+    ∙ sym (map-set (λ (p : PlacedEntry). p.at) c.self.inside.entries.items c.in-Some.position put)
 
 -- it has room for the bytes
 enough : (g : given.Over) (c : After-next_root-root g) → length c.args.bytes.now ≤ 512 * sector_count (extents_of c.new_entry-put.result.entry)
 enough g c = omega (arith, ap sector_count c.new_entry-put.ensures.extents, c.in_ok-room.ensures.sum, c.sector_need.ensures, (div_ceil_times (length c.args.bytes.now) 512 (omega arith)).0)
 
-putting : (g : given.Over) (c : After-next_root-root g) (s : State) → IsPut Two c.self.inside.root c.self.inside.entries.items s c.args.bytes.now c.new_entry-put.result c.as_slice-listed.result.now (take c.len-libraries.result c.sectors_at-sectors.result) c.next_root-root.result (set c.self.inside.entries.items c.in-Some.position c.new_entry-put.result) (with_bytes c.args.name.now c.args.bytes.now s)
-putting g c s =
+putting : (g : given.Over) (c : After-next_root-root g) (s : State) (sectors : List ℕ) → sectors ≡ set c.self.inside.sectors.items c.in-Some.position c.new_entry-put.result.at
+    → IsPut Two c.self.inside.root c.self.inside.entries.items s c.args.bytes.now c.new_entry-put.result c.as_slice-listed.result.now sectors c.next_root-root.result (set c.self.inside.entries.items c.in-Some.position c.new_entry-put.result) (with_bytes c.args.name.now c.args.bytes.now s)
+putting g c s sectors are =
     let others = set c.self.inside.entries.items c.in-Some.position c.new_entry-put.result in
-    subst (λ sectors. IsPut Two c.self.inside.root c.self.inside.entries.items s c.args.bytes.now c.new_entry-put.result c.as_slice-listed.result.now sectors c.next_root-root.result others (with_bytes c.args.name.now c.args.bytes.now s)) (sym (listed_are g c))
+    subst (λ sectors. IsPut Two c.self.inside.root c.self.inside.entries.items s c.args.bytes.now c.new_entry-put.result c.as_slice-listed.result.now sectors c.next_root-root.result others (with_bytes c.args.name.now c.args.bytes.now s)) (sym (are ∙ listed_are g c))
     (replacement_put (replacing g c) c.args.bytes.now s c.new_entry-put.ensures.length (enough g c))
 
 -- what is given back once it is done stood there
@@ -122,7 +124,7 @@ write_put-requires-clause-listed g c =
     let before = (goal.at.write_put-requires-clause-listed g c).After-next_root-root in
     let is = replacing g before in
     let next = replacement_next is in
-    subst (CanBeCatalogued (length c.as_slice-listed.result.now)) (sym (listed_are g before))
+    subst (CanBeCatalogued (length c.as_slice-listed.result.now)) (sym (c.deref-2.ensures.value ∙ listed_are g before))
     (can_be_catalogued c.self.inside.root.sectors (length c.as_slice-listed.result.now) c.next_root-root.result (set c.self.inside.entries.items c.in-Some.position c.new_entry-put.result) (omega (arith, is.kept.root_fits.sectors)) next.enough next.few next.apart)
 
 pub give_back_room-requires-clause-held : goal.give_back_room-requires-clause-held
@@ -136,13 +138,14 @@ invariant_of-self-in-Err g c =
       back_kept is.kept is.claimed c.give_back_room.new.layout c.give_back_room.ensures,
       c.self.invariant.1,
       c.write_put.ensures.calls.sectors ∙ c.self.invariant.2,
+      λ is. absurd (false≢true (sym is)),
     )
 
 pub returns-in-Err-clause-any_moment : goal.returns-in-Err-clause-any_moment
 returns-in-Err-clause-any_moment g c s at_entry =
     let entries = c.self.inside.entries.items in
     let at = subst (λ store. IsAt g.D.Disk.facts store s) (sym c.self.view_is) at_entry in
-    let put = putting g (goal.at.returns-in-Err-clause-any_moment g c).After-next_root-root s in
+    let put = putting g (goal.at.returns-in-Err-clause-any_moment g c).After-next_root-root s c.deref-2.result.now c.deref-2.ensures.value in
     let next = with_bytes c.args.name.now c.args.bytes.now s in
     subst (λ store. LeavesOnly (g.D.Disk.facts store.disk) (g.D.Disk.facts c.write_put.new.disk) (λ m. Stands m s ⊎ Stands m next)) c.self.view_is
     (c.write_put.ensures.any_moment at.honest Two c.self.inside.root entries s (set entries c.in-Some.position c.new_entry-put.result) next at.stands put)
@@ -180,6 +183,7 @@ invariant_of-self-2 g c =
           (given_claimed is.kept position is.inside up is.claimed root others (replacement_moved is)),
       replaced entries c.self.inside.index position put no_entry c.self.invariant.1 is.inside (is.named no_entry ∙ sym is.its_name),
       c.write_put.ensures.calls.sectors ∙ c.self.invariant.2 ∙ sym (ap (λ r. r.sectors) c.next_root-root.ensures),
+      λ _. listed_are g before.After-next_root-root,
     )
 
 pub returns-in_err-room-clause-held : goal.returns-in_err-room-clause-held
@@ -202,7 +206,7 @@ pub returns-clause-any_moment : goal.returns-clause-any_moment
 returns-clause-any_moment g c s at_entry =
     let entries = c.self.inside.entries.items in
     let at = subst (λ store. IsAt g.D.Disk.facts store s) (sym c.self.view_is) at_entry in
-    let put = putting g (goal.at.returns-clause-any_moment g c).After-next_root-root s in
+    let put = putting g (goal.at.returns-clause-any_moment g c).After-next_root-root s c.deref-2.result.now c.deref-2.ensures.value in
     let next = with_bytes c.args.name.now c.args.bytes.now s in
     subst (λ store. LeavesOnly (g.D.Disk.facts store.disk) (g.D.Disk.facts c.write_put.new.disk) (λ m. Stands m s ⊎ Stands m next)) c.self.view_is
     (c.write_put.ensures.any_moment at.honest Two c.self.inside.root entries s (set entries c.in-Some.position c.new_entry-put.result) next at.stands put)
@@ -211,7 +215,7 @@ pub returns-clause-ok : goal.returns-clause-ok
 returns-clause-ok g c s at_entry =
     let entries = c.self.inside.entries.items in
     let at = subst (λ store. IsAt g.D.Disk.facts store s) (sym c.self.view_is) at_entry in
-    let put = putting g (goal.at.returns-clause-ok g c).After-next_root-root s in
+    let put = putting g (goal.at.returns-clause-ok g c).After-next_root-root s c.deref-2.result.now c.deref-2.ensures.value in
     record {
       honest = subst IsTrue (sym c.write_put.ensures.calls.honest) at.honest;
       usable = refl;

@@ -1,4 +1,4 @@
-use Rattle.std.proofs.Common.{◌≡◌, ◌≢◌, ◌⊎◌, ⊎_elim, ◌↔◌, ◌+◌, ◌-◌, ◌*◌, ◌<◌, ◌≤◌, IsTrue, [], None, Ok, Err, length, take, refl, sym, ap, subst, ◌∙◌, arith}
+use Rattle.std.proofs.Common.{◌≡◌, ◌≢◌, ◌⊎◌, ⊎_elim, ◌↔◌, ◌+◌, ◌-◌, ◌*◌, ◌<◌, ◌≤◌, IsTrue, IsFalse, List, ℕ, [], None, Ok, Err, length, refl, sym, ap, subst, ◌∙◌, arith}
 use Rattle.std.proofs.lemmas.Bool.{cases_lt}
 use Rattle.sector_disk.specs.Disk.{LeavesOnly}
 use Rattle.states.specs.Cost.{catalogues_for, taken_by}
@@ -47,14 +47,13 @@ relisted g c =
     }
 
 -- and these list the entries' sectors
-sectors_are : (g : given.Over) (c : After-next_root-root g) → take c.len-libraries.result c.sectors_of_entries-sectors.result ≡ entry_sectors c.self.inside.entries.items
-sectors_are g c =
-    let same : c.len-libraries.result ≡ length c.deref.result.now = omega (arith, c.len-libraries.ensures, ap length c.deref.ensures.value) in
-    ap (λ n. take n c.sectors_of_entries-sectors.result) same ∙ c.sectors_of_entries-sectors.ensures ∙ ap entry_sectors c.deref.ensures.value
+sectors_are : (g : given.Over) (c : After-next_root-root g) → c.self.inside.sectors.items ≡ entry_sectors c.self.inside.entries.items
+sectors_are g c = c.self.invariant.3 (subst (λ store. IsFalse store.failed) (sym c.self.view_is) c.requires.usable)
 
-following : (g : given.Over) (c : After-next_root-root g) (s : State) → IsRelisting One c.self.inside.root c.self.inside.entries.items s c.as_slice-listed.result.now (take c.len-libraries.result c.sectors_of_entries-sectors.result) c.next_root-root.result c.self.inside.entries.items (upgraded s)
-following g c s =
-    subst (λ l. IsRelisting One c.self.inside.root c.self.inside.entries.items s c.as_slice-listed.result.now l c.next_root-root.result c.self.inside.entries.items (upgraded s)) (sym (sectors_are g c)) (relisting (relisted g c) s)
+following : (g : given.Over) (c : After-next_root-root g) (s : State) (sectors : List ℕ) → sectors ≡ c.self.inside.sectors.items
+    → IsRelisting One c.self.inside.root c.self.inside.entries.items s c.as_slice-listed.result.now sectors c.next_root-root.result c.self.inside.entries.items (upgraded s)
+following g c s sectors are =
+    subst (λ l. IsRelisting One c.self.inside.root c.self.inside.entries.items s c.as_slice-listed.result.now l c.next_root-root.result c.self.inside.entries.items (upgraded s)) (sym (are ∙ sectors_are g c)) (relisting (relisted g c) s)
 
 pub write_list-requires-clause-root : goal.write_list-requires-clause-root
 write_list-requires-clause-root g c =
@@ -70,7 +69,7 @@ write_list-requires-clause-listed g c =
     let before = (goal.at.write_list-requires-clause-listed g c).After-next_root-root in
     let is = relisted g before in
     let next = relist_next is in
-    subst (CanBeCatalogued (length c.as_slice-listed.result.now)) (sym (sectors_are g before))
+    subst (CanBeCatalogued (length c.as_slice-listed.result.now)) (sym (c.deref.ensures.value ∙ sectors_are g before))
     (can_be_catalogued c.self.inside.root.sectors (length c.as_slice-listed.result.now) c.next_root-root.result c.self.inside.entries.items (omega (arith, is.kept.root_fits.sectors)) is.enough next.few next.apart)
 
 pub returns-in-Err-clause-any_moment : goal.returns-in-Err-clause-any_moment
@@ -78,14 +77,14 @@ returns-in-Err-clause-any_moment g c s at_entry =
     let at = subst (λ store. IsOldAt g.D.Disk.facts store s) (sym c.self.view_is) at_entry in
     let before = (goal.at.returns-in-Err-clause-any_moment g c).After-next_root-root in
     subst (λ store. LeavesOnly (g.D.Disk.facts store.disk) (g.D.Disk.facts c.write_list.new.disk) (λ m. StandsOld m s ⊎ Stands m (upgraded s))) c.self.view_is
-    (c.write_list.ensures.any_moment at.honest One c.self.inside.root c.self.inside.entries.items s c.self.inside.entries.items (upgraded s) at.stands (following g before s))
+    (c.write_list.ensures.any_moment at.honest One c.self.inside.root c.self.inside.entries.items s c.self.inside.entries.items (upgraded s) at.stands (following g before s c.deref.result.now c.deref.ensures.value))
 
 pub returns-clause-any_moment : goal.returns-clause-any_moment
 returns-clause-any_moment g c s at_entry =
     let at = subst (λ store. IsOldAt g.D.Disk.facts store s) (sym c.self.view_is) at_entry in
     let before = (goal.at.returns-clause-any_moment g c).After-next_root-root in
     subst (λ store. LeavesOnly (g.D.Disk.facts store.disk) (g.D.Disk.facts c.write_list.new.disk) (λ m. StandsOld m s ⊎ Stands m (upgraded s))) c.self.view_is
-    (c.write_list.ensures.any_moment at.honest One c.self.inside.root c.self.inside.entries.items s c.self.inside.entries.items (upgraded s) at.stands (following g before s))
+    (c.write_list.ensures.any_moment at.honest One c.self.inside.root c.self.inside.entries.items s c.self.inside.entries.items (upgraded s) at.stands (following g before s c.deref.result.now c.deref.ensures.value))
 
 pub invariant_of-self-2 : goal.invariant_of-self-2
 invariant_of-self-2 g c =
@@ -99,6 +98,7 @@ invariant_of-self-2 g c =
           (moved_claimed is.kept is.claimed c.next_root-root.result c.self.inside.entries.items (relist_moved is) mid nothing),
       c.self.invariant.1,
       c.write_list.ensures.calls.sectors ∙ c.self.invariant.2 ∙ sym (ap (λ r. r.sectors) c.next_root-root.ensures),
+      λ _. sectors_are g (goal.at.invariant_of-self-2 g c).After-next_root-root,
     )
 
 pub returns-clause-ok : goal.returns-clause-ok
@@ -108,7 +108,7 @@ returns-clause-ok g c s at_entry =
     record {
       honest = subst IsTrue (sym c.write_list.ensures.calls.honest) at.honest;
       usable = refl;
-      stands = c.in_default.ensures.done at.honest One c.self.inside.root c.self.inside.entries.items s c.self.inside.entries.items (upgraded s) at.stands (following g before s);
+      stands = c.in_default.ensures.done at.honest One c.self.inside.root c.self.inside.entries.items s c.self.inside.entries.items (upgraded s) at.stands (following g before s c.deref.result.now c.deref.ensures.value);
     }
 
 -- a commit is refused by its generation or for want of room, and not otherwise

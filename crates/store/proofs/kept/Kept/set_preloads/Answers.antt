@@ -64,6 +64,7 @@ invariant_of-self-2 g c =
           (same_claimed c.args.positions.now kept (is_two g before) before.with_preloads-root.ensures),
       c.self.invariant.1,
       c.write_root.ensures.calls.sectors ∙ c.self.invariant.2 ∙ sym (ap (λ r. r.sectors) c.with_preloads-root.ensures),
+      λ _. c.self.invariant.3 c.if-self.false,
     )
 
 pub returns-clause-ok : goal.returns-clause-ok

@@ -1,6 +1,7 @@
 use Rattle.std.proofs.Common.{rules, ⊎_elim, [], length, sym, subst, ap, ◌∙◌}
 use Rattle.store.specs.Opening.{RefusesFormat}
 use Rattle.states.specs.Geometry.{IsGeometry}
+use Rattle.store.specs.Stands.{entry_sectors}
 use Rattle.store.specs.inside.First.{first_root}
 use Rattle.store.specs.inside.Kept.{IsKept}
 use Rattle.store.specs.inside.NameIndex.{IsIndex}
@@ -12,12 +13,13 @@ invariant_of-result g c =
     let sectors = c.sectors-sectors.result in
     let geometry : IsGeometry sectors = search rules in
     let root = c.in-Ok-write_first_root.ensures.root in (
-      subst (λ r. IsKept r c.new-in-Ok-write_first_root.result.items c.new-in-Ok-write_first_root-2.result c.in-Ok.layout) (sym root)
-          (subst (λ l. IsKept (first_root sectors) l c.new-in-Ok-write_first_root-2.result c.in-Ok.layout) (sym c.new-in-Ok-write_first_root.ensures.items)
-          (subst (λ held. IsKept (first_root sectors) [] held c.in-Ok.layout) (sym c.new-in-Ok-write_first_root-2.ensures)
+      subst (λ r. IsKept r c.new-in-Ok-write_first_root.result.items c.new-in-Ok-write_first_root-3.result c.in-Ok.layout) (sym root)
+          (subst (λ l. IsKept (first_root sectors) l c.new-in-Ok-write_first_root-3.result c.in-Ok.layout) (sym c.new-in-Ok-write_first_root.ensures.items)
+          (subst (λ held. IsKept (first_root sectors) [] held c.in-Ok.layout) (sym c.new-in-Ok-write_first_root-3.ensures)
           (subst (λ flags. IsKept (first_root sectors) [] [] flags) (sym c.in-Ok.ensures.ok) (first_kept sectors geometry)))),
       subst (λ l. IsIndex l c.empty.result) (sym c.new-in-Ok-write_first_root.ensures.items) c.empty.ensures,
       c.write_first_root.ensures.calls.some.sectors ∙ sym c.sectors-sectors.ensures ∙ ap (λ r. r.sectors) (sym root),
+      λ _. c.new-in-Ok-write_first_root-2.ensures.items ∙ ap entry_sectors (sym c.new-in-Ok-write_first_root.ensures.items),
     )
 
 pub returns-in-Err-clause-refused : goal.returns-in-Err-clause-refused

@@ -4,7 +4,7 @@ use Rattle.passes.specs.Singles.{single_places, HoldsSingles}
 use Rattle.passes.proofs.Singles.{first_held}
 use Rattle.store.specs.inside.Catalogues.{catalogue_singles}
 use Rattle.store.proofs.CatalogueSingles.{places-catalogue_singles, length-singles, held_catalogues, held_rest}
-use Rattle.store.proofs.catalogues.put_singles.Goals as goal
+use Rattle.store.proofs.catalogues.Singles.set_put.Goals as goal
 
 pub returns : goal.returns
 returns c =
@@ -12,7 +12,7 @@ returns c =
     let sectors = c.args.sectors.now in
     let entry : SingleSector = record { at = c.args.put.now.at; content = c.encode_entry.result } in
     let others = catalogue_singles catalogues sectors in
-    let is = c.push_catalogues.ensures ∙ ap (λ l. l ++ others) (c.push.ensures ∙ ap (λ l. l ++ entry ∷ []) c.new-singles.ensures) in
+    let is = c.push_catalogues.ensures ∙ ap (λ l. l ++ others) (c.push.ensures ∙ ap (λ l. l ++ entry ∷ []) c.clear.ensures.items) in
     let places = ap single_places is ∙ ap (λ l. entry.at ∷ l) (places-catalogue_singles catalogues sectors) in
     record {
       places = places;
