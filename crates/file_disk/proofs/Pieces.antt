@@ -1,5 +1,6 @@
 -- What is read of a file, piece by piece, and sectors among it.
-use Rattle.std.proofs.Common.{◌≡◌, ℕ, ◌+◌, ◌-◌, ◌*◌, ◌≤◌, ◌<◌, ◌&&◌, Bool, true, false, List, ◌++◌, length, take, drop, arith, refl, sym, ap, ◌∙◌, IfSome, Some, None, if◌then◌else◌, nat_le, nat_lt, Option, subst}
+use Rattle.std.proofs.Common.{◌≡◌, ℕ, ◌+◌, ◌-◌, ◌*◌, ◌≤◌, ◌<◌, ◌&&◌, Bool, true, false, List, ◌++◌, length, take, drop, arith, refl, sym, ap, ◌∙◌}
+use Rattle.std.proofs.Common.{IfSome, Some, None, if◌then◌else◌, nat_le, nat_lt, Option, subst}
 use Rattle.std.specs.List.{slice_range}
 use Rattle.std.specs.Io.KnownBytes.{Consumes, Keeps}
 use Rattle.std.proofs.KnownBytes.{Consumes-trans, Consumes-kept}
@@ -19,7 +20,8 @@ take_more i k n xs ys inside few =
     ∙ take-append-add (take i xs) ys n
 
 -- a read that gave n bytes goes on where the bytes before it end
-pub goes_on : (a b c : Option (List ℕ)) (i k n m : ℕ) (xs ys : List ℕ) → m ≡ i + n → i ≤ length xs → n ≤ length ys → Consumes a b (take i xs) → Consumes b c (take n ys) → Consumes a c (take m (put_mid i k xs ys))
+pub goes_on : (a b c : Option (List ℕ)) (i k n m : ℕ) (xs ys : List ℕ) → m ≡ i + n → i ≤ length xs → n ≤ length ys → Consumes a b (take i xs)
+    → Consumes b c (take n ys) → Consumes a c (take m (put_mid i k xs ys))
 goes_on a b c i k n m xs ys sum inside few before more =
     let all : take m (put_mid i k xs ys) ≡ take i xs ++ take n ys = ap (λ j. take j (put_mid i k xs ys)) sum ∙ take_more i k n xs ys inside few in
     subst (Consumes a c) (sym all) (Consumes-trans a b c (take i xs) (take n ys) before more)

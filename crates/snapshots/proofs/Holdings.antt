@@ -136,7 +136,8 @@ module _ {D : Type 0} (facts : D → DiskFacts) {old : Opened D} where
       }
 
 -- A refusal to hold in a store that hasn't failed is want of memory, and changes nothing.
-pub memory_refused : {D : Type 0} (facts : D → DiskFacts) {between new : Opened D} {position : ℕ} {e : StoreRefusal} → IsFalse between.failed → Holds facts between new position (Err e) → e ≡ OutOfMemory
+pub memory_refused : {D : Type 0} (facts : D → DiskFacts) {between new : Opened D} {position : ℕ} {e : StoreRefusal} → IsFalse between.failed
+    → Holds facts between new position (Err e) → e ≡ OutOfMemory
 memory_refused facts usable refused = ⊎_elim
     (λ reopen. absurd (false≢true (sym usable ∙ refused.reopen.0 (ap (λ e. Err e) reopen))))
     (λ memory. memory)

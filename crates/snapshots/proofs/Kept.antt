@@ -18,7 +18,8 @@ module _ {D : Type 0} (facts : D → DiskFacts) {taken now new : Opened D} {snap
   -- It stays one where its versions are held as they were, as byte strings too while the disk was honest and is.
   moved : (IsTrue (facts now.disk).honest → IsTrue (facts new.disk).honest)
       → ((i : ℕ) (placed : PlacedEntry) → i < length snapshot.handles → IsHeldBy now.held (get_or snapshot.handles i 0) placed → IsHeldBy new.held (get_or snapshot.handles i 0) placed)
-      → (IsTrue (facts now.disk).honest → (i : ℕ) (library : Library) → i < length snapshot.handles → HeldIs facts now (get_or snapshot.handles i 0) library → HeldIs facts new (get_or snapshot.handles i 0) library)
+      → (IsTrue (facts now.disk).honest → (i : ℕ) (library : Library) → i < length snapshot.handles
+      → HeldIs facts now (get_or snapshot.handles i 0) library → HeldIs facts new (get_or snapshot.handles i 0) library)
       → IsSnapshotOf facts taken new snapshot
   moved honest versions bytes = record {
     entries = record {
@@ -51,7 +52,8 @@ module _ {D : Type 0} (facts : D → DiskFacts) {taken now new : Opened D} {snap
       (λ was i library lt. takes.others (get_or snapshot.handles i 0) library)
 
   -- and so does letting others go, where somebody still holds each of its versions.
-  pub snapshot_left : {handles : List ℕ} → LetsAllGo facts now new handles → ((i : ℕ) → i < length snapshot.handles → 0 < holders_of new.held (get_or snapshot.handles i 0)) → IsSnapshotOf facts taken new snapshot
+  pub snapshot_left : {handles : List ℕ} → LetsAllGo facts now new handles
+      → ((i : ℕ) → i < length snapshot.handles → 0 < holders_of new.held (get_or snapshot.handles i 0)) → IsSnapshotOf facts taken new snapshot
   snapshot_left gone still = moved (same_honest facts gone.kept.0)
       (λ i placed lt by. (gone.versions (get_or snapshot.handles i 0) placed).1 (by, still i lt))
       (λ was i library lt. gone.others (get_or snapshot.handles i 0) library (still i lt))

@@ -20,7 +20,8 @@ use Rattle.store.proofs.Claiming.{all-part, distinct-parts}
 use Rattle.store.proofs.Counts.{one, occurs, occurs-append, contains_occurs, occurs_contains, distinct_occurs, occurs_distinct}
 
 -- all that is kept can be used
-pub all_usable : {root : Root} {entries : List PlacedEntry} {held : List Holding} {layout : List Bool} → (kept : IsKept root entries held layout) → All (IsUsable root.sectors) (in_use root entries held)
+pub all_usable : {root : Root} {entries : List PlacedEntry} {held : List Holding} {layout : List Bool} → (kept : IsKept root entries held layout)
+    → All (IsUsable root.sectors) (in_use root entries held)
 all_usable {root = root} {entries = entries} {held = held} kept = All-append (IsUsable root.sectors) (used root entries) (lone_sectors held) kept.apart.inside kept.claimed.inside
 
 -- lists in which each number stands as often have the same elements
@@ -70,7 +71,8 @@ released_nothing mid = record { size = refl; each = λ kept just once. subst (Cl
 pub record IsMoved (before more after gone : List ℕ) : Type 0 where
   pub parts : (k : ℕ) → occurs k after + occurs k gone ≡ occurs k (before ++ more)
 
-module _ {root : Root} {entries : List PlacedEntry} {held : List Holding} {layout mid : List Bool} {more : List ℕ} (kept : IsKept root entries held layout) (claimed : IsClaimedBeside layout mid more) where
+module _ {root : Root} {entries : List PlacedEntry} {held : List Holding} {layout mid : List Bool} {more : List ℕ}
+    (kept : IsKept root entries held layout) (claimed : IsClaimedBeside layout mid more) where
   abbrev before : List ℕ
   before = in_use root entries held
 
@@ -144,7 +146,14 @@ module _ {root : Root} {entries : List PlacedEntry} {held : List Holding} {layou
     pub moved_apart : UsesApart root.sectors next others
     moved_apart = record {
       inside = all-part (IsUsable root.sectors) (used next others) all
-          (λ s found. occurs_contains s all (omega (arith, counts s, occurs-append s after gone, occurs-append s (used next others) (lone_sectors held), contains_occurs s (used next others) found))) inside;
+          (λ s found. occurs_contains s all (omega (
+            arith,
+            counts s,
+            occurs-append s after gone,
+            occurs-append s (used next others) (lone_sectors held),
+            contains_occurs s
+                (used next others) found,
+          ))) inside;
       once = occurs_distinct (used next others) (λ k. omega (arith, counts k, occurs-append k after gone, occurs-append k (used next others) (lone_sectors held), distinct_occurs k all once));
     }
 
@@ -198,5 +207,7 @@ module _ {root : Root} {entries : List PlacedEntry} {held : List Holding} {layou
         claims_as mid all (left ++ (freed ++ catalogues)) left_counts claims,
         distinct_as all (left ++ (freed ++ catalogues)) left_counts once,
         subst (λ n. All (IsUsable n) (freed ++ catalogues)) (sym size)
-            (all-part (IsUsable root.sectors) (freed ++ catalogues) all (λ s found. occurs_contains s all (omega (arith, left_counts s, occurs-append s left (freed ++ catalogues), contains_occurs s (freed ++ catalogues) found))) inside),
+            (all-part (IsUsable root.sectors) (freed ++ catalogues) all
+            (λ s found. occurs_contains s all (omega
+            (arith, left_counts s, occurs-append s left (freed ++ catalogues), contains_occurs s (freed ++ catalogues) found))) inside),
       )

@@ -1,5 +1,6 @@
 -- How far the reading of catalogues has come.
-use Rattle.std.proofs.Common.{◌≡◌, ◌≢◌, ⊎_elim, ◌↔◌, ℕ, ◌+◌, ◌-◌, ◌*◌, ◌<◌, ◌≤◌, min, List, [], ◌++◌, length, get_or, drop, Option, Some, None, Result, Ok, IsTrue, refl, sym, ap, subst, ◌∙◌, arith, length-append}
+use Rattle.std.proofs.Common.{◌≡◌, ◌≢◌, ⊎_elim, ◌↔◌, ℕ, ◌+◌, ◌-◌, ◌*◌, ◌<◌, ◌≤◌, min, List, [], ◌++◌, length, get_or, drop, Option, Some, None}
+use Rattle.std.proofs.Common.{Result, Ok, IsTrue, refl, sym, ap, subst, ◌∙◌, arith, length-append}
 use Rattle.std.proofs.lemmas.List.{same_lists, length-drop, length-take, length-take-le, length-replicate, get_or-replicate, take-append-drop}
 use Rattle.std.proofs.lemmas.Bool.{cases_lt}
 use Rattle.sector_disk.specs.Disk.{Sector, sector, DiskFacts, IsCall, IsRead, AreCallsAtMost}
@@ -63,7 +64,12 @@ no_catalogues first catalogues libraries = record {
   spelt = λ honest i lt. absurd (omega (arith, lt));
 }
 
-module _ {first old new : DiskFacts} {catalogues : List ℕ} {libraries done : ℕ} {listed : List ℕ} (so_far : CataloguesSoFar first old catalogues libraries done listed) (enough : length catalogues ≡ catalogues_for libraries) (lt : done < length catalogues) {content : Sector} {E : Type 0} {found : Option Catalogue} (call : IsCall {T = Option Catalogue} {E = E} old new (Ok found)) (read : IsTrue old.honest → IsRead {T = Option Catalogue} {E = E} old new (get_or catalogues done 0) content (Ok found)) (is : (catalogue : Catalogue) → (found ≡ Some catalogue) ↔ SpellsCatalogue content catalogue) where
+module _ {first old new : DiskFacts} {catalogues : List ℕ} {libraries done : ℕ} {listed : List ℕ}
+    (so_far : CataloguesSoFar first old catalogues libraries done listed) (enough : length catalogues ≡ catalogues_for libraries)
+    (lt : done < length catalogues) {content : Sector} {E : Type 0} {found : Option Catalogue}
+    (call : IsCall {T = Option Catalogue} {E = E} old new (Ok found))
+    (read : IsTrue old.honest → IsRead {T = Option Catalogue} {E = E} old new (get_or catalogues done 0) content (Ok found))
+    (is : (catalogue : Catalogue) → (found ≡ Some catalogue) ↔ SpellsCatalogue content catalogue) where
   at_old : IsTrue first.honest → IsTrue old.honest
   at_old honest = subst IsTrue (sym so_far.calls.honest) honest
 
@@ -75,7 +81,8 @@ module _ {first old new : DiskFacts} {catalogues : List ℕ} {libraries done : �
   full = omega (arith, so_far.count, enough, lt)
 
   -- one catalogue more is read, and it has the count that it must have
-  pub next_catalogue : (catalogue : Catalogue) → found ≡ Some catalogue → length (catalogued_sectors catalogue) ≡ min (libraries - length listed) 64 → CataloguesSoFar first new catalogues libraries (done + 1) (listed ++ catalogued_sectors catalogue)
+  pub next_catalogue : (catalogue : Catalogue) → found ≡ Some catalogue → length (catalogued_sectors catalogue) ≡ min (libraries - length listed) 64
+      → CataloguesSoFar first new catalogues libraries (done + 1) (listed ++ catalogued_sectors catalogue)
   next_catalogue catalogue was size = record {
     calls = so_far_in_row refl so_far.calls (one_in_row call);
     reads = λ honest. more_reads (so_far.reads honest) call (read (at_old honest));
@@ -95,7 +102,8 @@ module _ {first old new : DiskFacts} {catalogues : List ℕ} {libraries done : �
 
       here_is : catalogue_of_sectors (catalogue_part done more) ≡ catalogue
       here_is =
-          ap catalogue_of_sectors (part-behind done listed (catalogued_sectors catalogue) full (omega (arith, (length-catalogued catalogue spells.has_spelling).0, (length-catalogued catalogue spells.has_spelling).1)))
+          ap catalogue_of_sectors (part-behind done listed (catalogued_sectors catalogue) full
+          (omega (arith, (length-catalogued catalogue spells.has_spelling).0, (length-catalogued catalogue spells.has_spelling).1)))
           ∙ catalogue_again catalogue spells.has_spelling
 
       last : IsTrue first.honest → (i : ℕ) → done ≡ i → SpellsCatalogue (sector first.now (get_or catalogues i 0)) (catalogue_of_sectors (catalogue_part i more))
@@ -122,7 +130,8 @@ module _ {first old new : DiskFacts} {catalogues : List ℕ} {libraries done : �
         )
 
 -- All were read.
-module _ {first current : DiskFacts} {catalogues : List ℕ} {libraries done : ℕ} {listed : List ℕ} (so_far : CataloguesSoFar first current catalogues libraries done listed) (all : length catalogues ≤ done) where
+module _ {first current : DiskFacts} {catalogues : List ℕ} {libraries done : ℕ} {listed : List ℕ}
+    (so_far : CataloguesSoFar first current catalogues libraries done listed) (all : length catalogues ≤ done) where
   pub all_count : length catalogues ≡ catalogues_for libraries → length listed ≡ libraries
   all_count enough = omega (arith, so_far.count, enough, all)
 

@@ -78,5 +78,6 @@ spelt m (at ∷ catalogues) sectors can held (suc i) lt =
     subst (λ part. SpellsCatalogue (sector m (get_or catalogues i 0)) (catalogue_of_sectors part)) (part-next i sectors)
     (spelt m catalogues (drop 64 sectors) (rest_fits (length (at ∷ catalogues)) (length catalogues) sectors (omega arith) can) (held_rest m _ _ held) i (omega (arith, lt)))
 
-pub held_catalogues : (m : List Sector) (catalogues sectors : List ℕ) → CanBeCatalogued (length catalogues) sectors → HoldsSingles m (catalogue_singles catalogues sectors) → AreCatalogued m catalogues sectors
+pub held_catalogues : (m : List Sector) (catalogues sectors : List ℕ) → CanBeCatalogued (length catalogues) sectors
+    → HoldsSingles m (catalogue_singles catalogues sectors) → AreCatalogued m catalogues sectors
 held_catalogues m catalogues sectors can held = record { each = spelt m catalogues sectors can held }

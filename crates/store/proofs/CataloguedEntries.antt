@@ -30,7 +30,9 @@ own_once k (e ∷ entries) = omega (
 )
 
 -- Entries whose sectors are used apart can be catalogued by as many catalogues as they need.
-pub can_be_catalogued : (sectors catalogues : ℕ) (root : Root) (entries : List PlacedEntry) → sectors ≤ most_sectors → catalogues ≡ catalogues_for (length entries) → length entries ≤ most_libraries → UsesApart sectors root entries → CanBeCatalogued catalogues (entry_sectors entries)
+pub can_be_catalogued : (sectors catalogues : ℕ) (root : Root) (entries : List PlacedEntry) → sectors ≤ most_sectors
+    → catalogues ≡ catalogues_for (length entries) → length entries ≤ most_libraries → UsesApart sectors root entries
+    → CanBeCatalogued catalogues (entry_sectors entries)
 can_be_catalogued sectors catalogues root entries fit enough few apart =
     let size = length-map entries (λ (p : PlacedEntry). p.at) in
     let here : (k : ℕ) → occurs k (entry_sectors entries) ≤ 1 = λ k. omega (

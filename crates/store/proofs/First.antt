@@ -33,7 +33,8 @@ first_fits sectors geometry = root_over_catalogues-has_spelling 0 sectors 0 [] [
   preloads_distinct = λ i j d lt fits. absurd (omega (arith, fits));
 })
 
-pub first_stands : (m : List Sector) (sectors : ℕ) → IsGeometry sectors → length m ≡ sectors → LacksMagic (sector m 1) → StandsBy Two (set m 0 (root_bytes (first_root sectors))) (first_root sectors) [] empty_state
+pub first_stands : (m : List Sector) (sectors : ℕ) → IsGeometry sectors → length m ≡ sectors → LacksMagic (sector m 1)
+    → StandsBy Two (set m 0 (root_bytes (first_root sectors))) (first_root sectors) [] empty_state
 first_stands m sectors geometry size lacks = record {
   of_version = refl;
   intact = record {
@@ -66,7 +67,9 @@ first_kept sectors geometry = record {
 }
 
 -- the first root goes into a synced disk: each mixture is an old one, or stands for the empty state
-module _ {old mid : DiskFacts} (sectors : ℕ) (geometry : IsGeometry sectors) (before : LeavesOnly old mid (Mixture old)) (holds : HoldsNow mid) (synced : IsSynced mid) (size : length mid.now ≡ sectors) (lacks : LacksMagic (sector mid.now 1)) (content : Sector) (is : content ≡ root_bytes (first_root sectors)) where
+module _ {old mid : DiskFacts} (sectors : ℕ) (geometry : IsGeometry sectors) (before : LeavesOnly old mid (Mixture old)) (holds : HoldsNow mid)
+    (synced : IsSynced mid) (size : length mid.now ≡ sectors) (lacks : LacksMagic (sector mid.now 1)) (content : Sector)
+    (is : content ≡ root_bytes (first_root sectors)) where
   abbrev IsEmpty : List Sector → Type 0
   IsEmpty m = StandsBy Two m (first_root sectors) [] empty_state
 
@@ -96,7 +99,9 @@ slot_magic slot content is either = ⊎_elim
     either
 
 -- what stands by the first root stands
-pub either_stands : {old new : DiskFacts} (sectors : ℕ) → LeavesOnly old new (λ m. Mixture old m ⊎ StandsBy Two m (first_root sectors) [] empty_state) → LeavesOnly old new (λ m. Mixture old m ⊎ Stands m empty_state)
+pub either_stands : {old new : DiskFacts} (sectors : ℕ)
+    → LeavesOnly old new (λ m. Mixture old m ⊎ StandsBy Two m (first_root sectors) [] empty_state)
+    → LeavesOnly old new (λ m. Mixture old m ⊎ Stands m empty_state)
 either_stands {old = old} sectors leaves = weaken (λ m. Mixture old m ⊎ StandsBy Two m (first_root sectors) [] empty_state) (λ m. Mixture old m ⊎ Stands m empty_state)
     (λ m either. ⊎_elim (λ mixture. inl mixture) (λ by. inr (first_root sectors, [], by)) either)
     leaves

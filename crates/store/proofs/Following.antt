@@ -64,7 +64,9 @@ module _ {root : Root} {others : List PlacedEntry} {catalogues preloads : List �
   }))
 
   -- with a layout that claims just what is in use then all is kept,
-  pub following_kept : (held : List Holding) (new : List Bool) → length new ≡ root.sectors → HasRoom (root.sectors - length (lone_sectors held)) next.list others → AreHoldings others held → AreClaimed root.sectors new (used next others) (lone_sectors held) → IsKept next others held new
+  pub following_kept : (held : List Holding) (new : List Bool) → length new ≡ root.sectors
+      → HasRoom (root.sectors - length (lone_sectors held)) next.list others → AreHoldings others held
+      → AreClaimed root.sectors new (used next others) (lone_sectors held) → IsKept next others held new
   following_kept held new size room rows claimed = record {
     root_fits = following_fits;
     size = size ∙ sym sectors_are;

@@ -48,7 +48,9 @@ room_iff need all longest count spare more listed left some counted same = (
 catalogues_more : (libraries count spare : ℕ) → count ≡ catalogues_for (libraries + 1) → spare ≡ count - catalogues_for libraries → count + spare ≡ catalogue_cost libraries + catalogues_for libraries
 catalogues_more libraries count spare more rest = omega (arith, more, rest)
 
-module _ {D : Type 0} {store view : Opened D} {layout : List Bool} {s : State} (is : view ≡ store) (counted : IsCounted view.root view.entries view.held layout s) (usable : view.root.generation ≢ last_generation) (few : length view.entries < most_libraries) where
+module _ {D : Type 0} {store view : Opened D} {layout : List Bool} {s : State} (is : view ≡ store)
+    (counted : IsCounted view.root view.entries view.held layout s) (usable : view.root.generation ≢ last_generation)
+    (few : length view.entries < most_libraries) where
   module _ (count spare : ℕ) (more : count ≡ catalogues_for (length view.entries + 1)) (rest : spare ≡ count - catalogues_for (length view.entries)) where
     pub largest_iff : (bytes : List ℕ) → IsFileSize (length bytes)
         → (length bytes ≤ min (512 * min (free_count layout - (1 + count + spare)) (sector_count (longest_runs layout))) 16777216)
@@ -57,7 +59,8 @@ module _ {D : Type 0} {store view : Opened D} {layout : List Bool} {s : State} (
         let extra = catalogue_cost (length s.libraries) in
         let taken = λ (o : Opened D). refusal_of_new (room_of o) (longest_free o) s bytes ≡ None in
         let accepted = accepted_iff (room_of view) (longest_free view) extra s bytes (λ last. usable (sym counted.generation ∙ last)) in
-        let first : refusal_of_new (room_of view) (longest_free view) s bytes ≡ refusal_of_bytes (room_of view) (longest_free view) extra s bytes = new_as_put (room_of view) (longest_free view) s bytes (omega (arith, few, counted.count)) in
+        let first : refusal_of_new (room_of view) (longest_free view) s bytes ≡ refusal_of_bytes (room_of view) (longest_free view) extra s bytes =
+        new_as_put (room_of view) (longest_free view) s bytes (omega (arith, few, counted.count)) in
         let need = div_ceil (length bytes) 512 in
         let all = free_count layout in
         let longest = sector_count (longest_runs layout) in

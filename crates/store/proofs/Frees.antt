@@ -1,5 +1,6 @@
 -- How many sectors a state leaves free, and what follows for the refusals of a put and of an upgrade.
-use Rattle.std.proofs.Common.{◌≡◌, ◌≢◌, inl, ⊎_elim, ℕ, suc, ◌+◌, ◌-◌, ◌*◌, ◌<◌, ◌≤◌, Bool, true, false, nat_lt, nat_eq, List, [], ◌∷◌, length, map, sum_by, All, IsTrue, Option, Some, None, Result, Ok, Err, OnErr, ◌↔◌, refl, sym, ap, subst, ◌∙◌, arith}
+use Rattle.std.proofs.Common.{◌≡◌, ◌≢◌, inl, ⊎_elim, ℕ, suc, ◌+◌, ◌-◌, ◌*◌, ◌<◌, ◌≤◌, Bool, true, false, nat_lt, nat_eq, List, [], ◌∷◌, length, map}
+use Rattle.std.proofs.Common.{sum_by, All, IsTrue, Option, Some, None, Result, Ok, Err, OnErr, ◌↔◌, refl, sym, ap, subst, ◌∙◌, arith}
 use Rattle.std.specs.Prelude.{Contains, IsErrAnd, if◌then◌else◌}
 use Rattle.std.specs.Int.{div_ceil}
 use Rattle.std.specs.List.{flat_map}
@@ -46,7 +47,9 @@ costs_are : (m : List Sector) (entries : List PlacedEntry) → All IsWhole m →
     → sum_by (λ library. cost (length library.bytes)) (map (library_of m) entries) ≡ entries_cost entries
 costs_are m [] whole fit inside = refl
 costs_are m (e ∷ entries) whole fit inside =
-    let here = ap cost (length-library m e whole (fit 0 e (omega arith)) (λ k found. inside k (Contains-append_left (sectors_of e) (flat_map sectors_of entries) k (Contains-append_right (e.at ∷ []) (places (extents_of e.entry)) k found)))) in
+    let here = ap cost (length-library m e whole (fit 0 e (omega arith))
+    (λ k found. inside k (Contains-append_left (sectors_of e) (flat_map sectors_of entries) k
+    (Contains-append_right (e.at ∷ []) (places (extents_of e.entry)) k found)))) in
     omega (
       arith,
       sum_by-cons (λ (library : Library). cost (length library.bytes)) (library_of m e) (map (library_of m) entries),
@@ -59,7 +62,9 @@ costs_are m (e ∷ entries) whole fit inside =
 taken_is : (version : Version) (m : List Sector) (root : Root) (entries : List PlacedEntry) (s : State) → HaveSpellings entries → All IsWhole m → StandsBy version m root entries s
     → taken_by s ≡ entries_cost entries + 2 * catalogues_for (length entries)
 taken_is version m root entries s fit whole by =
-    let inside : (k : ℕ) → Contains (flat_map sectors_of entries) k → k < length m = λ k found. (All-contains (λ n. (root_sectors ≤ n) × (n < length m)) (used root entries) k by.intact.apart.inside (Contains-append_right (catalogues_of root) (flat_map sectors_of entries) k found)).1 in
+    let inside : (k : ℕ) → Contains (flat_map sectors_of entries) k → k < length m =
+    λ k found. (All-contains (λ n. (root_sectors ≤ n) × (n < length m)) (used root entries) k by.intact.apart.inside
+    (Contains-append_right (catalogues_of root) (flat_map sectors_of entries) k found)).1 in
     let costs = costs_are m entries whole fit inside in
     ap taken_by by.is ∙ omega (arith, costs, length-libraries m entries)
 
@@ -200,7 +205,8 @@ pub record IsCounted (root : Root) (entries : List PlacedEntry) (held : List Hol
   pub room : free (root.sectors - length (lone_sectors held)) s + catalogues_for (length entries) ≡ free_count layout
   pub longest : sector_count (longest_runs (layout_of root.sectors (in_use root entries held))) ≡ sector_count (longest_runs layout)
 
-module _ {D : Type 0} (facts : D → DiskFacts) (holds : (disk : D) → IsTrue (facts disk).honest → HoldsNow (facts disk)) (whole : (disk : D) → IsTrue (facts disk).honest → HasWholeSectors (facts disk)) where
+module _ {D : Type 0} (facts : D → DiskFacts) (holds : (disk : D) → IsTrue (facts disk).honest → HoldsNow (facts disk))
+    (whole : (disk : D) → IsTrue (facts disk).honest → HasWholeSectors (facts disk)) where
   module _ {version : Version} {store : Opened D} {s : State} (at : IsAtBy version facts store s) where
     by : StandsBy version (facts store.disk).now store.root store.entries s
     by = at.stands (facts store.disk).now (holds store.disk at.honest)
@@ -237,11 +243,13 @@ pub record Takes {T : Type 0} (layout : List Bool) (sectors all : ℕ) (result :
   pub fragmented : (result ≡ Err take.Fragmented) ↔ ((all ≤ free_count layout) × (sector_count (longest_runs layout) < sectors))
 
 -- The first refusal of bytes that replace others, or are put behind them, by what `take_room` says.
-module _ {D : Type 0} {store view : Opened D} {layout : List Bool} {s : State} (is : view ≡ store) (counted : IsCounted view.root view.entries view.held layout s) (bytes : List ℕ) (usable : view.root.generation ≢ last_generation) where
+module _ {D : Type 0} {store view : Opened D} {layout : List Bool} {s : State} (is : view ≡ store)
+    (counted : IsCounted view.root view.entries view.held layout s) (bytes : List ℕ) (usable : view.root.generation ≢ last_generation) where
   usable_state : s.generation ≢ last_generation
   usable_state last = usable (sym counted.generation ∙ last)
 
-  module _ {T : Type 0} {sectors all : ℕ} {result : Result T TakeRefusal} (more : ℕ) (need : sectors ≡ div_ceil (length bytes) 512) (enough : all ≡ cost (length bytes) + more + catalogues_for (length view.entries)) (takes : Takes layout sectors all result) where
+  module _ {T : Type 0} {sectors all : ℕ} {result : Result T TakeRefusal} (more : ℕ) (need : sectors ≡ div_ceil (length bytes) 512)
+      (enough : all ≡ cost (length bytes) + more + catalogues_for (length view.entries)) (takes : Takes layout sectors all result) where
     full_is : (result ≡ Err take.Full) ↔ (free (room_of view) s < cost (length bytes) + more)
     full_is = (
       λ of. omega (arith, takes.full.0 of, counted.room, enough),
@@ -259,7 +267,8 @@ module _ {D : Type 0} {store view : Opened D} {layout : List Bool} {s : State} (
       over_enough : sectors + 1 + count + spare ≡ cost (length bytes) + 0 + catalogues_for (length view.entries)
       over_enough = omega (arith, need, same, none)
 
-      pub over_refused : {T : Type 0} (e : TakeRefusal) → Takes {T = T} layout sectors (sectors + 1 + count + spare) (Err e) → refusal_of_put (room_of store) (longest_free store) s bytes ≡ Some (refusal_of_take e)
+      pub over_refused : {T : Type 0} (e : TakeRefusal) → Takes {T = T} layout sectors (sectors + 1 + count + spare) (Err e)
+          → refusal_of_put (room_of store) (longest_free store) s bytes ≡ Some (refusal_of_take e)
       over_refused e takes = subst (λ o. refusal_of_put (room_of o) (longest_free o) s bytes ≡ Some (refusal_of_take e)) is
           (bytes_refused (room_of view) (longest_free view) 0 s bytes usable_state e (full_is 0 need over_enough takes) (fragmented_is 0 need over_enough takes))
 
@@ -274,21 +283,28 @@ module _ {D : Type 0} {store view : Opened D} {layout : List Bool} {s : State} (
       first_is : refusal_of_new (room_of view) (longest_free view) s bytes ≡ refusal_of_bytes (room_of view) (longest_free view) (catalogue_cost (length s.libraries)) s bytes
       first_is = new_as_put (room_of view) (longest_free view) s bytes (omega (arith, few, counted.count))
 
-      pub new_refused : {T : Type 0} (e : TakeRefusal) → Takes {T = T} layout sectors (sectors + 1 + count + spare) (Err e) → refusal_of_new (room_of store) (longest_free store) s bytes ≡ Some (refusal_of_take e)
+      pub new_refused : {T : Type 0} (e : TakeRefusal) → Takes {T = T} layout sectors (sectors + 1 + count + spare) (Err e)
+          → refusal_of_new (room_of store) (longest_free store) s bytes ≡ Some (refusal_of_take e)
       new_refused e takes = subst (λ o. refusal_of_new (room_of o) (longest_free o) s bytes ≡ Some (refusal_of_take e)) is
-          (first_is ∙ bytes_refused (room_of view) (longest_free view) (catalogue_cost (length s.libraries)) s bytes usable_state e (full_is (catalogue_cost (length s.libraries)) need new_enough takes) (fragmented_is (catalogue_cost (length s.libraries)) need new_enough takes))
+          (first_is ∙ bytes_refused (room_of view) (longest_free view) (catalogue_cost (length s.libraries)) s bytes usable_state e
+          (full_is (catalogue_cost (length s.libraries)) need new_enough takes)
+          (fragmented_is (catalogue_cost (length s.libraries)) need new_enough takes))
 
       pub new_taken : {T : Type 0} {x : T} → Takes layout sectors (sectors + 1 + count + spare) (Ok x) → refusal_of_new (room_of store) (longest_free store) s bytes ≡ None
       new_taken {x = x} takes = subst (λ o. refusal_of_new (room_of o) (longest_free o) s bytes ≡ None) is
-          (first_is ∙ bytes_taken (room_of view) (longest_free view) (catalogue_cost (length s.libraries)) s bytes usable_state x (full_is (catalogue_cost (length s.libraries)) need new_enough takes) (fragmented_is (catalogue_cost (length s.libraries)) need new_enough takes))
+          (first_is ∙ bytes_taken (room_of view) (longest_free view) (catalogue_cost (length s.libraries)) s bytes usable_state x
+          (full_is (catalogue_cost (length s.libraries)) need new_enough takes)
+          (fragmented_is (catalogue_cost (length s.libraries)) need new_enough takes))
 
 -- The answers that follow: what was refused,
-pub exactly_refused : {first : Option StoreRefusal} (e : TakeRefusal) (result : Result (Unit {0}) StoreRefusal) → first ≡ Some (refusal_of_take e) → IsErrAnd result (λ y. y ≡ refusal_of_take e) → IsExactAnswer first result
+pub exactly_refused : {first : Option StoreRefusal} (e : TakeRefusal) (result : Result (Unit {0}) StoreRefusal) → first ≡ Some (refusal_of_take e)
+    → IsErrAnd result (λ y. y ≡ refusal_of_take e) → IsExactAnswer first result
 exactly_refused e result is err =
     let p = err_from_is_err_and result err in
     rw (p.1, p.2) (subst (λ refusal. IsExactAnswer refusal (Err (refusal_of_take e))) (sym is) (answers_take_exactly e))
 
-pub answers_refused : {first : Option StoreRefusal} (e : TakeRefusal) (result : Result (Unit {0}) StoreRefusal) → first ≡ Some (refusal_of_take e) → IsErrAnd result (λ y. y ≡ refusal_of_take e) → IsAnswer first result
+pub answers_refused : {first : Option StoreRefusal} (e : TakeRefusal) (result : Result (Unit {0}) StoreRefusal) → first ≡ Some (refusal_of_take e)
+    → IsErrAnd result (λ y. y ≡ refusal_of_take e) → IsAnswer first result
 answers_refused e result is err =
     let p = err_from_is_err_and result err in
     rw (p.1, p.2) (subst (λ refusal. IsAnswer refusal (Err (refusal_of_take e))) (sym is) (answers_take e))

@@ -37,26 +37,36 @@ twice e entries once j d lt same =
     omega (arith, first, there, occurs-append e.at (sectors_of e) (flat_map sectors_of entries), distinct_occurs e.at (sectors_of e ++ flat_map sectors_of entries) once)
 
 -- entries whose sectors lie apart are told by the sector of each
-pub same_place : (entries : List PlacedEntry) → AreDistinct (flat_map sectors_of entries) → (i j : ℕ) (d : PlacedEntry) → i < length entries → j < length entries → (get_or entries i d).at ≡ (get_or entries j d).at → i ≡ j
+pub same_place : (entries : List PlacedEntry) → AreDistinct (flat_map sectors_of entries) → (i j : ℕ) (d : PlacedEntry) → i < length entries
+    → j < length entries → (get_or entries i d).at ≡ (get_or entries j d).at → i ≡ j
 same_place [] once i j d lt lt' same = absurd (omega (arith, lt))
 same_place (e ∷ entries) once zero zero d lt lt' same = refl
 same_place (e ∷ entries) once zero (suc j) d lt lt' same = absurd (twice e entries once j d (omega (arith, lt')) same)
 same_place (e ∷ entries) once (suc i) zero d lt lt' same = absurd (twice e entries once i d (omega (arith, lt)) (sym same))
 same_place (e ∷ entries) once (suc i) (suc j) d lt lt' same =
-    let rest : AreDistinct (flat_map sectors_of entries) = occurs_distinct (flat_map sectors_of entries) (λ k. omega (arith, distinct_occurs k (sectors_of e ++ flat_map sectors_of entries) once, occurs-append k (sectors_of e) (flat_map sectors_of entries))) in
+    let rest : AreDistinct (flat_map sectors_of entries) =
+    occurs_distinct (flat_map sectors_of entries)
+    (λ k. omega (
+      arith,
+      distinct_occurs k (sectors_of e ++ flat_map sectors_of entries) once,
+      occurs-append k (sectors_of e)
+          (flat_map sectors_of entries),
+    )) in
     ap suc (same_place entries rest i j d (omega (arith, lt)) (omega (arith, lt')) same)
 
 module _ {root : Root} {entries : List PlacedEntry} {held : List Holding} {layout : List Bool} (kept : IsKept root entries held layout) where
   -- the entries' sectors lie apart
   entries_once : AreDistinct (flat_map sectors_of entries)
-  entries_once = occurs_distinct (flat_map sectors_of entries) (λ k. omega (arith, distinct_occurs k (used root entries) kept.apart.once, occurs-append k (catalogues_of root) (flat_map sectors_of entries)))
+  entries_once = occurs_distinct (flat_map sectors_of entries)
+      (λ k. omega (arith, distinct_occurs k (used root entries) kept.apart.once, occurs-append k (catalogues_of root) (flat_map sectors_of entries)))
 
   -- A held version whose sector the state uses is one that it lists,
   pub row_listed : {at place : ℕ} {holding : Holding} → IsAtPlace held at place holding → Contains (used root entries) at → holding.listed ≡ true
   row_listed {at = at} {place = place} {holding = holding} row found = ⊎_elim
       (λ is. is)
       (λ isnt.
-      let its : occurs at (own_sectors (get_or held place no_holding)) ≡ occurs at (sectors_of holding.placed) = ap (λ h. occurs at (own_sectors h)) (row.is no_holding) ∙ ap (λ b. occurs at (if b then [] else sectors_of holding.placed)) isnt in
+      let its : occurs at (own_sectors (get_or held place no_holding)) ≡ occurs at (sectors_of holding.placed) =
+      ap (λ h. occurs at (own_sectors h)) (row.is no_holding) ∙ ap (λ b. occurs at (if b then [] else sectors_of holding.placed)) isnt in
       let lone : Contains (lone_sectors held) at = occurs_contains at (lone_sectors held) (omega (
         arith,
         its,
@@ -118,7 +128,9 @@ module _ {root : Root} {entries : List PlacedEntry} {held : List Holding} {layou
         pub given_size : length new ≡ root.sectors
         given_size = ⊎_elim (λ both. moved_size kept claimed new both.1) (λ all. moved_size kept claimed new all.2) given
 
-        pub given_claimed : (next : Root) (others : List PlacedEntry) → IsMoved (used root entries) more (used next others) (sectors_of old ++ catalogues) → AreClaimed root.sectors new (used next others) (lone_sectors left)
+        pub given_claimed : (next : Root) (others : List PlacedEntry)
+            → IsMoved (used root entries) more (used next others) (sectors_of old ++ catalogues)
+            → AreClaimed root.sectors new (used next others) (lone_sectors left)
         given_claimed next others moved = ⊎_elim
             (λ both. left_claimed kept claimed next others moved (lone_sectors left) [] (sectors_of old) catalogues refl (lone_parts both.0) new both.1)
             (λ all. subst (λ l. AreClaimed root.sectors new (used next others) (lone_sectors l)) (sym all.1) (moved_claimed kept claimed next others moved new all.2))

@@ -1,5 +1,6 @@
 -- A version is held, read and let go: what a store keeps of it, and what its holders may rely on.
-use Rattle.std.proofs.Common.{◌≡◌, ◌⊎◌, inl, inr, ⊎_elim, ◌↔◌, ℕ, ◌+◌, ◌-◌, ◌<◌, ◌≤◌, ◌==◌, Bool, true, false, if◌then◌else◌, List, [], ◌∷◌, ◌++◌, length, get_or, All, IsTrue, IsFalse, Result, Ok, Err, IfErr, IfOk, OnOk, refl, sym, ap, subst, ◌∙◌, arith}
+use Rattle.std.proofs.Common.{◌≡◌, ◌⊎◌, inl, inr, ⊎_elim, ◌↔◌, ℕ, ◌+◌, ◌-◌, ◌<◌, ◌≤◌, ◌==◌, Bool, true, false, if◌then◌else◌, List, [], ◌∷◌, ◌++◌}
+use Rattle.std.proofs.Common.{length, get_or, All, IsTrue, IsFalse, Result, Ok, Err, IfErr, IfOk, OnOk, refl, sym, ap, subst, ◌∙◌, arith}
 use Rattle.std.specs.Global.{Vec}
 use Rattle.std.specs.Int.{div_ceil}
 use Rattle.std.proofs.lemmas.Bool.{cases_Bool, eqb-true, false≢true}
@@ -34,7 +35,9 @@ use Rattle.store.proofs.Counts.{occurs, occurs-append, contains_occurs, occurs_c
 use Rattle.store.proofs.GivenUp.{flags, row_is}
 use Rattle.store.proofs.HeldRows.{no_holding}
 use Rattle.store.proofs.Holders.{held_in_use, keeps_reads}
-use Rattle.store.proofs.Holdings.{by_first, by_gone, by_gone_back, by_less, by_less_back, by_more, by_once, by_one, by_place, by_some, gone_length, gone_listed_length, gone_listed_occurs, gone_occurs, held_gone, held_less, held_more, held_once, holders_gone, holders_less, holders_more, holders_once, holders_unheld, lone_less, lone_more, lone_once}
+use Rattle.store.proofs.Holdings.{by_first, by_gone, by_gone_back, by_less, by_less_back, by_more, by_once, by_one, by_place, by_some, gone_length}
+use Rattle.store.proofs.Holdings.{gone_listed_length, gone_listed_occurs, gone_occurs, held_gone, held_less, held_more, held_once, holders_gone}
+use Rattle.store.proofs.Holdings.{holders_less, holders_more, holders_once, holders_unheld, lone_less, lone_more, lone_once}
 use Rattle.store.proofs.UsedAlone.{no_entry}
 
 -- a refusal of another kind
@@ -55,7 +58,8 @@ module _ {root : Root} {entries : List PlacedEntry} {held : List Holding} {layou
       let extent = get_or (extents_of placed.entry) j e in
       let filled : 1 ≤ extent.count = ((held_fits by).extents.listed.used j e in_extents).filled in
       let last : Has extent (extent.start + extent.count - 1) = (omega (arith, filled), omega (arith, filled)) in
-      let found = Contains-append_right (placed.at ∷ []) (places (extents_of placed.entry)) (extent.start + extent.count - 1) (run_in_places (extents_of placed.entry) j e in_extents (extent.start + extent.count - 1) last) in
+      let found = Contains-append_right (placed.at ∷ []) (places (extents_of placed.entry)) (extent.start + extent.count - 1)
+      (run_in_places (extents_of placed.entry) j e in_extents (extent.start + extent.count - 1) last) in
       let usable = All-contains (IsUsable root.sectors) (in_use root entries held) (extent.start + extent.count - 1) (all_usable kept) (held_in_use kept by (extent.start + extent.count - 1) found) in
       omega (arith, usable.1, filled)
 
@@ -111,7 +115,14 @@ module _ {root : Root} {entries : List PlacedEntry} {held : List Holding} {layou
       rows = rows;
       claimed = record {
         inside = all-part (IsUsable root.sectors) (lone_sectors new) all
-            (λ s found. occurs_contains s all (omega (arith, counts s, occurs-append s after freed, occurs-append s (used root entries) (lone_sectors new), contains_occurs s (lone_sectors new) found))) (all_usable kept);
+            (λ s found. occurs_contains s all (omega (
+              arith,
+              counts s,
+              occurs-append s after freed,
+              occurs-append s (used root entries) (lone_sectors new),
+              contains_occurs s
+                  (lone_sectors new) found,
+            ))) (all_usable kept);
         once = occurs_distinct after (λ k. omega (arith, counts k, occurs-append k after freed, distinct_occurs k all kept.claimed.once));
         claims = released.each after (claims_as layout all (after ++ freed) counts kept.claimed.claims) (distinct_as all (after ++ freed) counts kept.claimed.once);
       };
@@ -136,7 +147,9 @@ module _ {D : Type 0} (facts : D → DiskFacts) (store : Opened D) {layout : Lis
   }
 
   -- The version at a position is held.
-  module _ (position : ℕ) (lt : position < length store.entries) (usable : IsFalse store.failed) {new : List Holding} (either : IsHeldOnce store.held new (get_or store.entries position no_entry) ⊎ IsHeldMore store.held new (get_or store.entries position no_entry).at) where
+  module _ (position : ℕ) (lt : position < length store.entries) (usable : IsFalse store.failed) {new : List Holding}
+      (either : IsHeldOnce store.held new (get_or store.entries position no_entry)
+      ⊎ IsHeldMore store.held new (get_or store.entries position no_entry).at) where
     abbrev placed : PlacedEntry
     placed = get_or store.entries position no_entry
 
@@ -180,7 +193,9 @@ module _ {D : Type 0} (facts : D → DiskFacts) (store : Opened D) {layout : Lis
     }
 
   -- What a read that makes no call leaves.
-  pub read_refused : (held : ℕ) (e : StoreRefusal) → ((e ≡ Reopen) ↔ IsTrue store.failed) → ((e ≡ Damaged) ↔ (IsFalse store.failed × (holders_of store.held held ≡ 0))) → (e ≡ Reopen) ⊎ (e ≡ Damaged) ⊎ (e ≡ OutOfMemory) → ReadsHeld facts store store held (Err e)
+  pub read_refused : (held : ℕ) (e : StoreRefusal) → ((e ≡ Reopen) ↔ IsTrue store.failed)
+      → ((e ≡ Damaged) ↔ (IsFalse store.failed × (holders_of store.held held ≡ 0))) → (e ≡ Reopen) ⊎ (e ≡ Damaged) ⊎ (e ≡ OutOfMemory)
+      → ReadsHeld facts store store held (Err e)
   read_refused held e reopen unknown which = record {
     any_moment = λ honest. (no_reads (facts store.disk)).leaves;
     ok = λ honest library is. tt;
@@ -201,7 +216,10 @@ module _ {D : Type 0} (facts : D → DiskFacts) (store : Opened D) {layout : Lis
   }
 
   -- What a read of the version that is held leaves.
-  module _ (after : D) (held : ℕ) {placed : PlacedEntry} (by : IsHeldBy store.held held placed) (usable : IsFalse store.failed) (holds : IsTrue (facts store.disk).honest → HoldsNow (facts store.disk)) (calls : AreCallsAtMost (div_ceil placed.entry.file_length sector_bytes) (facts store.disk) (facts after)) (reads : IsTrue (facts store.disk).honest → AreReads (facts store.disk) (facts after)) where
+  module _ (after : D) (held : ℕ) {placed : PlacedEntry} (by : IsHeldBy store.held held placed) (usable : IsFalse store.failed)
+      (holds : IsTrue (facts store.disk).honest → HoldsNow (facts store.disk))
+      (calls : AreCallsAtMost (div_ceil placed.entry.file_length sector_bytes) (facts store.disk) (facts after))
+      (reads : IsTrue (facts store.disk).honest → AreReads (facts store.disk) (facts after)) where
     abbrev now : Opened D
     now = record { disk = after; root = store.root; entries = store.entries; held = store.held; failed = store.failed }
 
@@ -226,7 +244,8 @@ module _ {D : Type 0} (facts : D → DiskFacts) (store : Opened D) {layout : Lis
         → ReadsHeld facts store now held result
     read_done (Ok bytes) all_calls read size refused = record {
       any_moment = λ honest. (reads honest).leaves;
-      ok = λ honest library is. read honest ∙ ap (λ (p : PlacedEntry). (library_of (facts store.disk).now p).bytes) (by_one kept.rows.own by is.by) ∙ ap (λ (l : Library). l.bytes) (is.stands (facts store.disk).now (holds honest));
+      ok = λ honest library is. read honest ∙ ap (λ (p : PlacedEntry). (library_of (facts store.disk).now p).bytes) (by_one kept.rows.own by is.by)
+          ∙ ap (λ (l : Library). l.bytes) (is.stands (facts store.disk).now (holds honest));
       unchanged = λ honest. (reads honest).same;
       others = keeps_reads store.held (λ honest. still_mixture (reads honest));
       same = still_at;
@@ -254,7 +273,9 @@ module _ {D : Type 0} (facts : D → DiskFacts) (store : Opened D) {layout : Lis
       known = λ other its. other_than Damaged (λ same. cc same) (λ same. cc same);
       refusals = ⊎_elim (λ both. inl both.0) (λ both. inr (inr (inr both.0))) refused;
       device = λ is. ⊎_elim (λ both. both.1) (λ both. absurd (cc (is, both.0))) refused;
-      untouched = λ other. ⊎_elim (λ both. absurd (other both.0)) (λ both. ap (λ disk. record { disk = disk; root = store.root; entries = store.entries; held = store.held; failed = store.failed }) both.1) refused;
+      untouched = λ other. ⊎_elim (λ both. absurd (other both.0))
+          (λ both. ap (λ disk. record { disk = disk; root = store.root; entries = store.entries; held = store.held; failed = store.failed }) both.1)
+          refused;
       size = λ other its. tt;
       all_calls = λ other its. tt;
       calls = its_calls;
@@ -305,9 +326,11 @@ module _ {D : Type 0} (facts : D → DiskFacts) (store : Opened D) {layout : Lis
     }
 
 -- What is kept once the last holder of a version lets it go, whether the state lists it or not.
-module _ {root : Root} {entries : List PlacedEntry} {held new : List Holding} {layout : List Bool} {at : ℕ} {holding : Holding} (kept : IsKept root entries held layout) (gone : IsLetGo held new at holding) where
+module _ {root : Root} {entries : List PlacedEntry} {held new : List Holding} {layout : List Bool} {at : ℕ} {holding : Holding}
+    (kept : IsKept root entries held layout) (gone : IsLetGo held new at holding) where
   pub gone_listed : holding.listed ≡ true → IsKept root entries new layout
-  gone_listed listed = fewer_kept kept new [] (λ k. omega (arith, gone_listed_occurs gone listed k)) layout (held_gone kept.rows gone) (omega (arith, gone_listed_length gone listed)) (released_nothing layout)
+  gone_listed listed = fewer_kept kept new [] (λ k. omega (arith, gone_listed_occurs gone listed k)) layout (held_gone kept.rows gone)
+      (omega (arith, gone_listed_length gone listed)) (released_nothing layout)
 
   module _ (unlisted : holding.listed ≡ false) where
     pub gone_held : AreHeld layout (sectors_of holding.placed)

@@ -1,5 +1,6 @@
 -- The rows of the table of held versions, as the map keeps them under the sectors of their entries.
-use Rattle.std.proofs.Common.{◌≡◌, ◌≢◌, ⊎_elim, ℕ, zero, suc, ◌<◌, nat_eq, nat_lt, cond, is_some, false, None, Some, List, [], ◌∷◌, ◌++◌, length, get_or, set, map, position, slice_get, if◌then◌else◌, refl, sym, ap, subst, ◌∙◌, arith}
+use Rattle.std.proofs.Common.{◌≡◌, ◌≢◌, ⊎_elim, ℕ, zero, suc, ◌<◌, nat_eq, nat_lt, cond, is_some, false, None, Some, List, [], ◌∷◌, ◌++◌, length}
+use Rattle.std.proofs.Common.{get_or, set, map, position, slice_get, if◌then◌else◌, refl, sym, ap, subst, ◌∙◌, arith}
 use Rattle.std.specs.Prelude.{All, swap_remove}
 use Rattle.std.specs.List.{position_or_len}
 use Rattle.std.specs.Option.{option_map}
@@ -72,7 +73,8 @@ module _ {S : Type 0} (rows : IndexMap ℕ Holding S) (old : List Holding) (is :
   rows_written place row = values-set rows.entries place row ∙ ap (λ l. set l place row) is
 
   -- and the sectors that they stand under
-  pub keys_written : (sector place : ℕ) (was row : Holding) → keys rows ≡ row_sectors (values rows) → IsAtPlace old sector place was → row.placed.at ≡ sector → keys (with_value_at rows place row) ≡ row_sectors (values (with_value_at rows place row))
+  pub keys_written : (sector place : ℕ) (was row : Holding) → keys rows ≡ row_sectors (values rows) → IsAtPlace old sector place was
+      → row.placed.at ≡ sector → keys (with_value_at rows place row) ≡ row_sectors (values (with_value_at rows place row))
   keys_written sector place was row own at its =
       let same : row.placed.at ≡ (get_or old place row).placed.at = its ∙ sym at.its ∙ ap (λ (h : Holding). h.placed.at) (sym (at.is row)) in
       keys-with_value_at rows place row ∙ own ∙ ap row_sectors is ∙ sym (map-set_same (λ (h : Holding). h.placed.at) old place row row same) ∙ ap row_sectors (sym (rows_written place row))
@@ -87,7 +89,8 @@ module _ {S : Type 0} (rows : IndexMap ℕ Holding S) (old : List Holding) (is :
   pair_read place sector row read = ap (λ l. slice_get l place) (sym is) ∙ slice_get-map (λ (e : ℕ × Holding). e.1) rows.entries place ∙ ap (option_map (λ (e : ℕ × Holding). e.1)) read
 
 -- the rows once one goes and the last takes its place, and their sectors
-module _ {S : Type 0} (rows : IndexMap ℕ Holding S) (old : List Holding) (is : values rows ≡ old) (place sector : ℕ) (row : Holding) (some : place < length old) (left : List (ℕ × Holding)) (left_is : left ≡ swap_remove rows.entries place (sector, row)) where
+module _ {S : Type 0} (rows : IndexMap ℕ Holding S) (old : List Holding) (is : values rows ≡ old) (place sector : ℕ) (row : Holding)
+    (some : place < length old) (left : List (ℕ × Holding)) (left_is : left ≡ swap_remove rows.entries place (sector, row)) where
   entries_some : 0 < length rows.entries
   entries_some = omega (arith, some, ap length is, length-map rows.entries (λ (e : ℕ × Holding). e.1))
 
@@ -110,7 +113,9 @@ inserted-last (e ∷ es) sector row absent =
     ap (λ b. if b then (e.0, row) ∷ es else e ∷ insert_entry nat_eq es sector row) other
     ∙ ap (λ l. e ∷ l) (inserted-last es sector row (λ k d lt. absent (suc k) d (omega (arith, lt))))
 
-module _ {S : Type 0} (rows : IndexMap ℕ Holding S) (old : List Holding) (is : values rows ≡ old) (own : keys rows ≡ row_sectors (values rows)) (sector : ℕ) (row : Holding) (absent : IsUnheld old sector) (new : List (ℕ × Holding)) (new_is : new ≡ insert_entry nat_eq rows.entries sector row) where
+module _ {S : Type 0} (rows : IndexMap ℕ Holding S) (old : List Holding) (is : values rows ≡ old) (own : keys rows ≡ row_sectors (values rows))
+    (sector : ℕ) (row : Holding) (absent : IsUnheld old sector) (new : List (ℕ × Holding))
+    (new_is : new ≡ insert_entry nat_eq rows.entries sector row) where
   added-last : new ≡ rows.entries ++ (sector, row) ∷ []
   added-last = new_is ∙ inserted-last rows.entries sector row (subst (All (λ k. k ≢ sector)) (sym (own ∙ ap row_sectors is)) (All-map (λ k. k ≢ sector) (λ (h : Holding). h.placed.at) old absent))
 

@@ -30,7 +30,9 @@ pub listed_used : (root : Root) (entries : List PlacedEntry) (placed : PlacedEnt
 listed_used root entries placed found k its = among_used root entries found.0 placed found.1 k (subst (λ p. Contains (sectors_of p) k) (sym found.2) its)
 
 -- a change of root sectors and of sectors that aren't in use leaves out all that is in use
-pub apart_from : {root : Root} {entries : List PlacedEntry} {held : List Holding} {layout : List Bool} → (kept : IsKept root entries held layout) → (changed : List ℕ) → ((k : ℕ) → Contains changed k → Contains (in_use root entries held) k → ⊥) → (k : ℕ) → Contains (in_use root entries held) k → IsRootOr changed k → ⊥
+pub apart_from : {root : Root} {entries : List PlacedEntry} {held : List Holding} {layout : List Bool} → (kept : IsKept root entries held layout)
+    → (changed : List ℕ) → ((k : ℕ) → Contains changed k → Contains (in_use root entries held) k → ⊥) → (k : ℕ)
+    → Contains (in_use root entries held) k → IsRootOr changed k → ⊥
 apart_from {root = root} {entries = entries} {held = held} kept changed apart k found either = ⊎_elim
     (λ low. omega (arith, low, (All-contains (IsUsable root.sectors) (in_use root entries held) k (all_usable kept) found).0))
     (λ here. apart k here found)
@@ -55,9 +57,11 @@ module _ {root : Root} {entries : List PlacedEntry} {held : List Holding} {layou
       ))))
       (cases_Bool (get_or held by.place no_holding).listed)
 
-  module _ {before after : DiskFacts} (changed : List ℕ) (apart : (k : ℕ) → Contains changed k → Contains (in_use root entries held) k → ⊥) (others : IsTrue before.honest → (m : List Sector) → Mixture after m → IsMixtureBut (IsRootOr changed) before m) where
+  module _ {before after : DiskFacts} (changed : List ℕ) (apart : (k : ℕ) → Contains changed k → Contains (in_use root entries held) k → ⊥)
+      (others : IsTrue before.honest → (m : List Sector) → Mixture after m → IsMixtureBut (IsRootOr changed) before m) where
     -- So its bytes are what they were on a disk of which other sectors were changed.
-    held_bytes : IsTrue before.honest → {at : ℕ} {placed : PlacedEntry} → IsHeldBy held at placed → (library : Library) → ((m : List Sector) → Mixture before m → library_of m placed ≡ library) → (m : List Sector) → Mixture after m → library_of m placed ≡ library
+    held_bytes : IsTrue before.honest → {at : ℕ} {placed : PlacedEntry} → IsHeldBy held at placed → (library : Library)
+        → ((m : List Sector) → Mixture before m → library_of m placed ≡ library) → (m : List Sector) → Mixture after m → library_of m placed ≡ library
     held_bytes honest {placed = placed} by library stands m mixture =
         let but = others honest m mixture in
         let sectors = places (extents_of placed.entry) in

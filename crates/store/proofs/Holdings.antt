@@ -1,5 +1,6 @@
 -- The rows of held versions: what each change of them keeps.
-use Rattle.std.proofs.Common.{◌≡◌, ◌≢◌, ⊎_elim, ℕ, zero, suc, ◌+◌, ◌-◌, ◌<◌, ◌≤◌, ◌==◌, nat_eq, Bool, true, false, if◌then◌else◌, sum_by, List, [], ◌∷◌, ◌++◌, length, get_or, set, refl, sym, ap, subst, ◌∙◌, arith}
+use Rattle.std.proofs.Common.{◌≡◌, ◌≢◌, ⊎_elim, ℕ, zero, suc, ◌+◌, ◌-◌, ◌<◌, ◌≤◌, ◌==◌, nat_eq, Bool, true, false, if◌then◌else◌, sum_by, List, []}
+use Rattle.std.proofs.Common.{◌∷◌, ◌++◌, length, get_or, set, refl, sym, ap, subst, ◌∙◌, arith}
 use Rattle.std.specs.Prelude.{Contains}
 use Rattle.std.specs.List.{flat_map}
 use Rattle.std.proofs.Math.ListN.{get_or-map}
@@ -32,7 +33,8 @@ same_place held i j d own first second same = ⊎_elim
     (cases_lt i j)
 
 -- rows say the same of something once one stands in a place that does
-pub field_set : {A : Type 0} (f : Holding → A) (held : List Holding) (place : ℕ) (row : Holding) → ((d : Holding) → f row ≡ f (get_or held place d)) → (k : ℕ) (d : Holding) → f (get_or (set held place row) k d) ≡ f (get_or held k d)
+pub field_set : {A : Type 0} (f : Holding → A) (held : List Holding) (place : ℕ) (row : Holding) → ((d : Holding) → f row ≡ f (get_or held place d))
+    → (k : ℕ) (d : Holding) → f (get_or (set held place row) k d) ≡ f (get_or held k d)
 field_set f held place row same k d =
     sym (get_or-map f (set held place row) k d) ∙ ap (λ l. get_or l k (f d)) (map-set_same f held place row d (same d)) ∙ get_or-map f held k d
 
@@ -90,7 +92,8 @@ module _ {entries : List PlacedEntry} {old : List Holding} (are : AreHoldings en
           each = λ k d lt.
               let fits : k < length old = omega (arith, lt, length-set old left.place row) in
               ⊎_elim
-              (λ is. subst (IsHolding others) (sym (get_or-set_at old left.place k row d (eqb-true k left.place is) left.at.inside)) (record { fits = was.fits; some = was.some; listed = λ lists. absurd (false≢true lists) }))
+              (λ is. subst (IsHolding others) (sym (get_or-set_at old left.place k row d (eqb-true k left.place is) left.at.inside))
+              (record { fits = was.fits; some = was.some; listed = λ lists. absurd (false≢true lists) }))
               (λ isnt.
               let other : k ≢ left.place = eqb-false k left.place isnt in
               subst (IsHolding others) (sym (get_or-set_other old left.place k row d other))
@@ -113,7 +116,8 @@ sum_once f {old = old} {placed = placed} once =
     omega (arith, ap (sum_by f) once.is, sum_by-append f old (row ∷ []), sum_by-cons f row [])
 
 -- another row in a place,
-sum_set : (f : Holding → ℕ) {old : List Holding} {sector place : ℕ} {holding : Holding} → IsAtPlace old sector place holding → (row : Holding) → sum_by f (set old place row) + f holding ≡ sum_by f old + f row
+sum_set : (f : Holding → ℕ) {old : List Holding} {sector place : ℕ} {holding : Holding} → IsAtPlace old sector place holding → (row : Holding)
+    → sum_by f (set old place row) + f holding ≡ sum_by f old + f row
 sum_set f {old = old} {place = place} at row = omega (arith, ap f (at.is no_holding), sum_by-set f old place row no_holding at.inside)
 
 -- and one row less.
@@ -137,7 +141,8 @@ pub lone_once : {old new : List Holding} {placed : PlacedEntry} → IsHeldOnce o
 lone_once {old = old} {placed = placed} once = ap lone_sectors once.is ∙ flat_map-append own_sectors old (first_holding placed ∷ []) ∙ append-nil (lone_sectors old)
 
 -- and how many hold it changes none.
-lone_counted : {old : List Holding} {sector place : ℕ} {holding : Holding} (holders : ℕ) → IsAtPlace old sector place holding → lone_sectors (set old place (with_holders holders holding)) ≡ lone_sectors old
+lone_counted : {old : List Holding} {sector place : ℕ} {holding : Holding} (holders : ℕ) → IsAtPlace old sector place holding
+    → lone_sectors (set old place (with_holders holders holding)) ≡ lone_sectors old
 lone_counted {old = old} {place = place} {holding = holding} holders at = flat_map-set_same own_sectors old place (with_holders holders holding) no_holding (ap own_sectors (sym (at.is no_holding)))
 
 pub lone_more : {old new : List Holding} {sector : ℕ} → IsHeldMore old new sector → lone_sectors new ≡ lone_sectors old
@@ -153,7 +158,8 @@ module _ (f : List ℕ → ℕ) (none : f [] ≡ 0) (adds : (held : List Holding
       let g = λ (holding : Holding). f (own_sectors holding) in
       omega (arith, none, adds old, adds new, ap (sum_by g) left.is, sum_set g left.at (unlisted left.holding), ap f (own_none left.holding listed))
 
-  gone_takes : {old new : List Holding} {sector : ℕ} {holding : Holding} → IsLetGo old new sector holding → holding.listed ≡ false → f (lone_sectors new) + f (sectors_of holding.placed) ≡ f (lone_sectors old)
+  gone_takes : {old new : List Holding} {sector : ℕ} {holding : Holding} → IsLetGo old new sector holding → holding.listed ≡ false
+      → f (lone_sectors new) + f (sectors_of holding.placed) ≡ f (lone_sectors old)
   gone_takes {old = old} {new = new} {holding = holding} gone listed =
       omega (arith, adds old, adds new, sum_gone (λ (row : Holding). f (own_sectors row)) gone, ap f (own_all holding listed))
 
@@ -162,21 +168,26 @@ module _ (f : List ℕ → ℕ) (none : f [] ≡ 0) (adds : (held : List Holding
       omega (arith, none, adds old, adds new, sum_gone (λ (row : Holding). f (own_sectors row)) gone, ap f (own_none holding listed))
 
 -- once the state lists a version no longer, its holders keep its sectors,
-pub left_occurs : {old new : List Holding} {sector : ℕ} (left : IsLeft old new sector) → left.holding.listed ≡ true → (k : ℕ) → occurs k (lone_sectors new) ≡ occurs k (lone_sectors old) + occurs k (sectors_of left.holding.placed)
+pub left_occurs : {old new : List Holding} {sector : ℕ} (left : IsLeft old new sector) → left.holding.listed ≡ true → (k : ℕ)
+    → occurs k (lone_sectors new) ≡ occurs k (lone_sectors old) + occurs k (sectors_of left.holding.placed)
 left_occurs left listed k = left_adds (occurs k) refl (occurs-flat_map k own_sectors) left listed
 
-pub left_length : {old new : List Holding} {sector : ℕ} (left : IsLeft old new sector) → left.holding.listed ≡ true → length (lone_sectors new) ≡ length (lone_sectors old) + length (sectors_of left.holding.placed)
+pub left_length : {old new : List Holding} {sector : ℕ} (left : IsLeft old new sector) → left.holding.listed ≡ true
+    → length (lone_sectors new) ≡ length (lone_sectors old) + length (sectors_of left.holding.placed)
 left_length left listed = left_adds length refl (length-flat_map own_sectors) left listed
 
 -- until the last of them lets it go.
-pub gone_occurs : {old new : List Holding} {sector : ℕ} {holding : Holding} → IsLetGo old new sector holding → holding.listed ≡ false → (k : ℕ) → occurs k (lone_sectors new) + occurs k (sectors_of holding.placed) ≡ occurs k (lone_sectors old)
+pub gone_occurs : {old new : List Holding} {sector : ℕ} {holding : Holding} → IsLetGo old new sector holding → holding.listed ≡ false → (k : ℕ)
+    → occurs k (lone_sectors new) + occurs k (sectors_of holding.placed) ≡ occurs k (lone_sectors old)
 gone_occurs gone listed k = gone_takes (occurs k) refl (occurs-flat_map k own_sectors) gone listed
 
-pub gone_length : {old new : List Holding} {sector : ℕ} {holding : Holding} → IsLetGo old new sector holding → holding.listed ≡ false → length (lone_sectors new) + length (sectors_of holding.placed) ≡ length (lone_sectors old)
+pub gone_length : {old new : List Holding} {sector : ℕ} {holding : Holding} → IsLetGo old new sector holding → holding.listed ≡ false
+    → length (lone_sectors new) + length (sectors_of holding.placed) ≡ length (lone_sectors old)
 gone_length gone listed = gone_takes length refl (length-flat_map own_sectors) gone listed
 
 -- One that the state lists goes with no sector.
-pub gone_listed_occurs : {old new : List Holding} {sector : ℕ} {holding : Holding} → IsLetGo old new sector holding → holding.listed ≡ true → (k : ℕ) → occurs k (lone_sectors new) ≡ occurs k (lone_sectors old)
+pub gone_listed_occurs : {old new : List Holding} {sector : ℕ} {holding : Holding} → IsLetGo old new sector holding → holding.listed ≡ true → (k : ℕ)
+    → occurs k (lone_sectors new) ≡ occurs k (lone_sectors old)
 gone_listed_occurs gone listed k = gone_leaves (occurs k) refl (occurs-flat_map k own_sectors) gone listed
 
 pub gone_listed_length : {old new : List Holding} {sector : ℕ} {holding : Holding} → IsLetGo old new sector holding → holding.listed ≡ true → length (lone_sectors new) ≡ length (lone_sectors old)
@@ -224,7 +235,8 @@ holders_less less sector =
     )
 
 -- also where it is the last,
-pub holders_gone : {entries : List PlacedEntry} {old new : List Holding} {at : ℕ} {holding : Holding} → AreHoldings entries old → IsLetGo old new at holding → (sector : ℕ) → holders_of old sector ≡ holders_of new sector + (if at == sector then 1 else 0)
+pub holders_gone : {entries : List PlacedEntry} {old new : List Holding} {at : ℕ} {holding : Holding} → AreHoldings entries old
+    → IsLetGo old new at holding → (sector : ℕ) → holders_of old sector ≡ holders_of new sector + (if at == sector then 1 else 0)
 holders_gone {holding = holding} are gone sector =
     let one : holding.holders ≡ 1 = omega (arith, gone.last, (row_of are gone.at).some) in
     omega (
@@ -281,7 +293,8 @@ by_once {old = old} {sector = sector} {p = p} {placed = placed} once by =
     })
 
 -- or the row of one is written,
-by_set : {old : List Holding} {sector at place : ℕ} {p : PlacedEntry} {holding : Holding} → IsAtPlace old at place holding → (row : Holding) → row.placed ≡ holding.placed → IsHeldBy old sector p → IsHeldBy (set old place row) sector p
+by_set : {old : List Holding} {sector at place : ℕ} {p : PlacedEntry} {holding : Holding} → IsAtPlace old at place holding → (row : Holding)
+    → row.placed ≡ holding.placed → IsHeldBy old sector p → IsHeldBy (set old place row) sector p
 by_set {old = old} {place = place} at row same by =
     let entry = λ (h : Holding). h.placed in record {
       place = by.place;
@@ -347,12 +360,14 @@ gone_unheld {old = old} {at = at} {holding = holding} own gone =
     (λ other same. other (only k (omega (arith, before)) same)))
 
 -- so a version that somebody holds still has its row.
-pub by_gone : {old new : List Holding} {sector at : ℕ} {p : PlacedEntry} {holding : Holding} → HaveOwnRows old → IsLetGo old new at holding → 0 < holders_of new sector → IsHeldBy old sector p → IsHeldBy new sector p
+pub by_gone : {old new : List Holding} {sector at : ℕ} {p : PlacedEntry} {holding : Holding} → HaveOwnRows old → IsLetGo old new at holding
+    → 0 < holders_of new sector → IsHeldBy old sector p → IsHeldBy new sector p
 by_gone {new = new} {sector = sector} {at = at} own gone some by =
     by_gone_other gone (λ same. absurd (omega (arith, some, ap (holders_of new) same, holders_unheld new at (gone_unheld own gone)))) by
 
 -- What stands in a row afterwards stood in one before.
-by_set_back : {old : List Holding} {sector at place : ℕ} {p : PlacedEntry} {holding : Holding} → IsAtPlace old at place holding → (row : Holding) → row.placed ≡ holding.placed → IsHeldBy (set old place row) sector p → IsHeldBy old sector p
+by_set_back : {old : List Holding} {sector at place : ℕ} {p : PlacedEntry} {holding : Holding} → IsAtPlace old at place holding → (row : Holding)
+    → row.placed ≡ holding.placed → IsHeldBy (set old place row) sector p → IsHeldBy old sector p
 by_set_back {old = old} {place = place} at row same by =
     let entry = λ (h : Holding). h.placed in record {
       place = by.place;
@@ -373,7 +388,8 @@ by_gone_back {old = old} {sector = sector} {p = p} {holding = holding} gone by_n
     let last = length old - 1 in
     let count = length-swap_remove old gone.place holding gone.at.inside in
     let before : by.place + 1 < length old = omega (arith, by.inside, count) in
-    let stood = λ (d : Holding). swap_remove_cases old gone.place holding gone.at.inside (λ (h : Holding). (by.place ≡ gone.place → h ≡ get_or old last d) × (by.place ≢ gone.place → h ≡ get_or old by.place d)) by.place d before
+    let stood = λ (d : Holding). swap_remove_cases old gone.place holding gone.at.inside
+    (λ (h : Holding). (by.place ≡ gone.place → h ≡ get_or old last d) × (by.place ≢ gone.place → h ≡ get_or old by.place d)) by.place d before
     (λ here. (λ _. refl, λ other. absurd (other here)))
     (λ other. (λ here. absurd (other here), λ _. refl)) in
     ⊎_elim

@@ -34,7 +34,8 @@ length-bytes_at m (k ∷ ks) whole inside = omega (
 )
 
 -- a byte string is as long as its entry says
-pub length-library : (m : List Sector) (placed : PlacedEntry) → All IsWhole m → EntryHasSpelling placed.entry → ((k : ℕ) → Contains (places (extents_of placed.entry)) k → k < length m) → length (library_of m placed).bytes ≡ placed.entry.file_length
+pub length-library : (m : List Sector) (placed : PlacedEntry) → All IsWhole m → EntryHasSpelling placed.entry
+    → ((k : ℕ) → Contains (places (extents_of placed.entry)) k → k < length m) → length (library_of m placed).bytes ≡ placed.entry.file_length
 length-library m placed whole fits inside =
     let entry = placed.entry in
     let have = length-bytes_at m (places (extents_of entry)) whole inside in

@@ -23,7 +23,8 @@ pub catalogues_are : (root : Root) → version_of root ≡ Two → listed_sector
 catalogues_are root is = catalogues_2 root.library_count root.list is
 
 -- and what it gives is in them.
-pub listed_2 : (m : List Sector) (libraries : ℕ) (list : EntryList) (xs : List ℕ) → version_of_list list ≡ Two → AreListed m libraries list xs ↔ ((length xs ≡ libraries) × AreCatalogued m (catalogues_in list) xs)
+pub listed_2 : (m : List Sector) (libraries : ℕ) (list : EntryList) (xs : List ℕ) → version_of_list list ≡ Two
+    → AreListed m libraries list xs ↔ ((length xs ≡ libraries) × AreCatalogued m (catalogues_in list) xs)
 listed_2 m libraries (InRoot sectors) xs is = absurd cc
 listed_2 m libraries (InCatalogues count sectors) xs is = (λ e. e, λ e. e)
 
@@ -40,7 +41,8 @@ same_part content a b in_a in_b =
     ∙ catalogued_sectors-catalogue_of_sectors b
 
 -- as many catalogues as list so many sectors list one list of so many,
-one_cataloguing : (m : List Sector) (catalogues a b : List ℕ) → length a ≡ length b → length catalogues ≡ catalogues_for (length a) → AreCatalogued m catalogues a → AreCatalogued m catalogues b → a ≡ b
+one_cataloguing : (m : List Sector) (catalogues a b : List ℕ) → length a ≡ length b → length catalogues ≡ catalogues_for (length a)
+    → AreCatalogued m catalogues a → AreCatalogued m catalogues b → a ≡ b
 one_cataloguing m catalogues a b size enough in_a in_b = same_parts a b size (λ i lt.
     let lt' : i < length catalogues = omega (arith, lt, enough) in
     same_part (sector m (get_or catalogues i 0)) (catalogue_part i a) (catalogue_part i b) (in_a.each i lt') (in_b.each i lt'))

@@ -34,7 +34,8 @@ module _ {X : Type 0} (R : X → X → Type 0) (xs : List X) (i : ℕ) (y : X) w
   all_pairs_insert le pairs before behind j k d less lt =
       let n : length (insert xs i y) ≡ length xs + 1 = length-insert xs i y le in
       ⊎_elim
-      (λ low. pair j k d (get_or xs j d) (get_or xs k d) (get_or-insert_below xs i y d j (omega (arith, less, low)) le) (get_or-insert_below xs i y d k low le) (pairs j k d less (omega (arith, low, le))))
+      (λ low. pair j k d (get_or xs j d) (get_or xs k d) (get_or-insert_below xs i y d j (omega (arith, less, low)) le)
+      (get_or-insert_below xs i y d k low le) (pairs j k d less (omega (arith, low, le))))
       (λ from. ⊎_elim
       (λ high. ⊎_elim
       (λ low. pair j k d (get_or xs j d) (get_or xs (k - 1) d) (get_or-insert_below xs i y d j low le) (above k d le high) (pairs j (k - 1) d (omega (arith, low, high)) (omega (arith, n, lt, high))))
@@ -42,12 +43,14 @@ module _ {X : Type 0} (R : X → X → Type 0) (xs : List X) (i : ℕ) (y : X) w
       (λ higher. pair j k d (get_or xs (j - 1) d) (get_or xs (k - 1) d) (above j d le higher) (above k d le high) (pairs (j - 1) (k - 1) d (omega (arith, less, higher)) (omega (arith, n, lt, high))))
       (λ upto.
       let is : i ≡ j = omega (arith, upper, upto) in
-      pair j k d y (get_or xs (k - 1) d) (ap (λ m. get_or (insert xs i y) m d) (sym is) ∙ get_or-insert_at xs i y d le) (above k d le high) (behind (k - 1) d (omega (arith, high)) (omega (arith, n, lt, high))))
+      pair j k d y (get_or xs (k - 1) d) (ap (λ m. get_or (insert xs i y) m d) (sym is) ∙ get_or-insert_at xs i y d le) (above k d le high)
+      (behind (k - 1) d (omega (arith, high)) (omega (arith, n, lt, high))))
       (cases_lt i j))
       (cases_lt j i))
       (λ upto.
       let is : i ≡ k = omega (arith, from, upto) in
-      pair j k d (get_or xs j d) y (get_or-insert_below xs i y d j (omega (arith, less, is)) le) (ap (λ m. get_or (insert xs i y) m d) (sym is) ∙ get_or-insert_at xs i y d le) (before j d (omega (arith, less, is))))
+      pair j k d (get_or xs j d) y (get_or-insert_below xs i y d j (omega (arith, less, is)) le)
+      (ap (λ m. get_or (insert xs i y) m d) (sym is) ∙ get_or-insert_at xs i y d le) (before j d (omega (arith, less, is))))
       (cases_lt i k))
       (cases_lt k i)
 

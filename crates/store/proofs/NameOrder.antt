@@ -70,9 +70,12 @@ rises_from_own names positions sorted own = record {
       (nat_list_cmp_total.antisymm (name_at names (get_or positions k 0)) (name_at names (get_or positions (k + 1) 0)))
       (sorted.sorted k 0 (omega arith) lt)
       (λ equal.
-      let same : name_at names (get_or positions k 0) ≡ name_at names (get_or positions (k + 1) 0) = exact_bytes (name_at names (get_or positions k 0)) (name_at names (get_or positions (k + 1) 0)) equal in
+      let same : name_at names (get_or positions k 0) ≡ name_at names (get_or positions (k + 1) 0) =
+      exact_bytes (name_at names (get_or positions k 0)) (name_at names (get_or positions (k + 1) 0)) equal in
       ⊎_elim
       (λ less. own (get_or positions k 0) (get_or positions (k + 1) 0) less (within names positions sorted (k + 1) 0 lt) same)
-      (λ more. own (get_or positions (k + 1) 0) (get_or positions k 0) (omega (arith, more, eqb-false (get_or positions k 0) (get_or positions (k + 1) 0) apart)) (within names positions sorted k 0 (omega (arith, lt))) (sym same))
+      (λ more. own (get_or positions (k + 1) 0) (get_or positions k 0)
+      (omega (arith, more, eqb-false (get_or positions k 0) (get_or positions (k + 1) 0) apart))
+      (within names positions sorted k 0 (omega (arith, lt))) (sym same))
       (cases_lt (get_or positions k 0) (get_or positions (k + 1) 0)));
 }

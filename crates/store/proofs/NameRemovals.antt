@@ -54,7 +54,8 @@ module _ (names : List (List ℕ)) (positions : List ℕ) (place gone : ℕ) (or
   still-contained : (p q : ℕ) → closed_up gone q ≡ p → q < length names → q ≢ gone → Contains (map (closed_up gone) (remove positions place)) p
   still-contained p q is lt other =
       let was : Contains (gone ∷ remove positions place) q =
-      Contains-permutation positions (gone ∷ remove positions place) q (IsPermutation-remove positions place gone at.within (sym at.here ∙ get_or_default positions place 0 gone at.within)) (order.every q lt) in
+      Contains-permutation positions (gone ∷ remove positions place) q
+      (IsPermutation-remove positions place gone at.within (sym at.here ∙ get_or_default positions place 0 gone at.within)) (order.every q lt) in
       ⊎_elim
       (λ first. absurd (other (sym (only-one gone q first))))
       (λ rest. (

@@ -56,7 +56,9 @@ pub free_room : {T : Type 0} {x : T} {free needed : ℕ} → (◌≡◌ {A = Res
 free_room {free = free} {needed = needed} full = ⊎_elim (λ few. absurd (ok_or_err (full.1 few))) (λ enough. enough) (cases_lt free needed)
 
 -- An entry and catalogues in room that was claimed for them have their places.
-pub room_place : {root : Root} {entries : List PlacedEntry} {held : List Holding} {layout new : List Bool} {catalogues : List ℕ} {put : PlacedEntry} {extents : List Extent} {n : ℕ} → IsKept root entries held layout → IsClaimedBeside layout new (sectors_of put ++ catalogues) → EntryHasSpelling put.entry
+pub room_place : {root : Root} {entries : List PlacedEntry} {held : List Holding} {layout new : List Bool} {catalogues : List ℕ} {put : PlacedEntry}
+    {extents : List Extent} {n : ℕ} → IsKept root entries held layout → IsClaimedBeside layout new (sectors_of put ++ catalogues)
+    → EntryHasSpelling put.entry
     → extents_of put.entry ≡ extents → All (IsOnDisk (length layout)) extents → AllPairs IsApart extents → n ≡ root.sectors → HasPlace n put catalogues
 room_place {layout = layout} {catalogues = catalogues} {put = put} {extents = extents} {n = n} kept claimed fits its inside apart size = record {
   spelling = fits;
@@ -67,7 +69,8 @@ room_place {layout = layout} {catalogues = catalogues} {put = put} {extents = ex
 }
 
 -- elements of a list with one more behind it
-last_cases : {A : Type 0} (P : A → Type 0) (xs : List A) (x : A) (i : ℕ) (d : A) → i < length (xs ++ x ∷ []) → (i < length xs → P (get_or xs i d)) → (i ≡ length xs → P x) → P (get_or (xs ++ x ∷ []) i d)
+last_cases : {A : Type 0} (P : A → Type 0) (xs : List A) (x : A) (i : ℕ) (d : A) → i < length (xs ++ x ∷ []) → (i < length xs → P (get_or xs i d))
+    → (i ≡ length xs → P x) → P (get_or (xs ++ x ∷ []) i d)
 last_cases P xs x i d lt before at = ⊎_elim
     (λ lt'. subst P (sym (get_or_append_left xs (x ∷ []) d i lt')) (before lt'))
     (λ le.
@@ -84,14 +87,16 @@ names_more entries entry names new i j d lt fits =
     (λ last. subst (λ a. name_of a.entry ≢ name_of entry.entry) (sym (get_or_append_left entries (entry ∷ []) d i (omega (arith, lt, last)))) (new i d (omega (arith, lt, last))))
 
 -- positions among the first byte strings name the same with one more
-pub names_at_more : (libraries : List Library) (library : Library) (positions : List ℕ) → All (λ position. position < length libraries) positions → names_at (libraries ++ library ∷ []) positions ≡ names_at libraries positions
+pub names_at_more : (libraries : List Library) (library : Library) (positions : List ℕ) → All (λ position. position < length libraries) positions
+    → names_at (libraries ++ library ∷ []) positions ≡ names_at libraries positions
 names_at_more libraries library [] inside = refl
 names_at_more libraries library (p ∷ positions) inside =
     let here : get_or (libraries ++ library ∷ []) p no_library ≡ get_or libraries p no_library = get_or_append_left libraries (library ∷ []) no_library p (inside 0 0 (omega arith)) in
     let there = names_at_more libraries library positions (λ k d lt. inside (suc k) d (omega (arith, lt))) in
     λ i. (here i).name ∷ there i
 
-module _ {root : Root} {entries : List PlacedEntry} {held : List Holding} {layout new : List Bool} {catalogues : List ℕ} {put : PlacedEntry} {next : Root} (is_new : IsNew root entries held layout new catalogues put next) where
+module _ {root : Root} {entries : List PlacedEntry} {held : List Holding} {layout new : List Bool} {catalogues : List ℕ} {put : PlacedEntry}
+    {next : Root} (is_new : IsNew root entries held layout new catalogues put next) where
   kept : IsKept root entries held layout
   kept = is_new.kept
 
@@ -145,13 +150,20 @@ module _ {root : Root} {entries : List PlacedEntry} {held : List Holding} {layou
     apart = moved_apart kept is_new.claimed next others new_moved;
     room = new_room root.sectors (omega arith);
     names = names_more entries put kept.names is_new.named;
-    few_preloads = omega (arith, length-take-le root.preload_count root.preloads (omega (arith, kept.root_fits.preloads.listed.size, kept.root_fits.preloads.listed.room)), kept.root_fits.preloads.listed.room);
+    few_preloads = omega (
+      arith,
+      length-take-le root.preload_count root.preloads
+          (omega (arith, kept.root_fits.preloads.listed.size, kept.root_fits.preloads.listed.room)),
+      kept.root_fits.preloads.listed.room,
+    );
     preloads_inside = λ k d lt. omega (arith, kept.root_fits.preloads.listed.used k d lt, kept.counted, count_is);
     preloads_once = kept.root_fits.preloads.distinct;
   }
 
   -- what the put makes of sectors
-  pub new_put : (name bytes : List ℕ) (s : State) → name_of put.entry ≡ name → put.entry.file_length ≡ length bytes → length bytes ≤ 512 * sector_count (extents_of put.entry) → IsPut Two root entries s bytes put catalogues (entry_sectors others) next others (with_new name bytes s)
+  pub new_put : (name bytes : List ℕ) (s : State) → name_of put.entry ≡ name → put.entry.file_length ≡ length bytes
+      → length bytes ≤ 512 * sector_count (extents_of put.entry)
+      → IsPut Two root entries s bytes put catalogues (entry_sectors others) next others (with_new name bytes s)
   new_put name bytes s its_name its_length enough = record {
     unused = more_unused kept is_new.claimed;
     stands = λ m by written spelt listed. following_stands new_next kept.root_fits Two m entries s (with_new name bytes s) by listed
@@ -163,7 +175,8 @@ module _ {root : Root} {entries : List PlacedEntry} {held : List Holding} {layou
         }));
   }
     where
-      libraries : (m : List Sector) → bytes_at m (places (extents_of put.entry)) ≡ padded (sector_bytes * sector_count (extents_of put.entry)) bytes → map (library_of m) entries ++ record { name = name; bytes = bytes } ∷ [] ≡ map (library_of m) others
+      libraries : (m : List Sector) → bytes_at m (places (extents_of put.entry)) ≡ padded (sector_bytes * sector_count (extents_of put.entry)) bytes
+          → map (library_of m) entries ++ record { name = name; bytes = bytes } ∷ [] ≡ map (library_of m) others
       libraries m written =
           let library : record { name = name; bytes = bytes } ≡ library_of m put = sym (λ i. record { name = its_name i; bytes = written_bytes m put.entry bytes written its_length enough i }) in
           ap (λ b. map (library_of m) entries ++ b ∷ []) library ∙ sym (map_push (library_of m) entries put)

@@ -35,7 +35,8 @@ extents_more start extents entries i d lt so_far =
     ∙ flat_map-append (λ (e : Extent). range_with_len e.start e.count) extents (one_sector placed.at ∷ extents_of placed.entry)
     ∙ ap (λ l. l ++ sectors_of placed) so_far
     ∙ append_assoc start (flat_map sectors_of (take i entries)) (sectors_of placed)
-    ∙ ap (λ l. start ++ l) (sym (ap (flat_map sectors_of) (take_more entries i d lt) ∙ flat_map-append sectors_of (take i entries) (placed ∷ []) ∙ ap (λ l. flat_map sectors_of (take i entries) ++ l) (append-nil (sectors_of placed))))
+    ∙ ap (λ l. start ++ l) (sym (ap (flat_map sectors_of) (take_more entries i d lt) ∙ flat_map-append sectors_of (take i entries) (placed ∷ [])
+    ∙ ap (λ l. flat_map sectors_of (take i entries) ++ l) (append-nil (sectors_of placed))))
 
 -- each number stands in both lists equally often
 abbrev pub OccurAlike : List ℕ → List ℕ → Type 0

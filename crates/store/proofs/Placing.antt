@@ -77,7 +77,8 @@ module _ (root : Root) (entries : List PlacedEntry) (held : List Holding) (layou
   pub singles_in_use : (ks : List ℕ) → AreTaken layout ks → AreTaken in_layout ks
   singles_in_use ks taken = singles_same ks layout in_layout same taken
 
-  pub taken_in_use : (need : ℕ) (extents : List Extent) (at : ℕ) (catalogues : List ℕ) → All (IsInside layout) extents → IsTaken layout need extents at catalogues → IsTaken in_layout need extents at catalogues
+  pub taken_in_use : (need : ℕ) (extents : List Extent) (at : ℕ) (catalogues : List ℕ) → All (IsInside layout) extents
+      → IsTaken layout need extents at catalogues → IsTaken in_layout need extents at catalogues
   taken_in_use need extents at catalogues inside taken =
       let then = same_taken extents inside in
       record {
@@ -88,7 +89,8 @@ module _ (root : Root) (entries : List PlacedEntry) (held : List Holding) (layou
       }
 
   -- The same by other words for what was needed and given.
-  pub taken_so : {need n at here : ℕ} {extents its : List Extent} {catalogues listed : List ℕ} → need ≡ n → its ≡ extents → here ≡ at → listed ≡ catalogues → All IsDataExtent extents → All (IsOnDisk (length layout)) extents
+  pub taken_so : {need n at here : ℕ} {extents its : List Extent} {catalogues listed : List ℕ} → need ≡ n → its ≡ extents → here ≡ at
+      → listed ≡ catalogues → All IsDataExtent extents → All (IsOnDisk (length layout)) extents
       → IsTaken layout need extents at catalogues → IsTaken in_layout n its here listed
   taken_so {need = need} {n = n} {at = at} {here = here} {extents = extents} {its = its} {catalogues = catalogues} {listed = listed} so_many are there these filled on_disk taken =
       let inside : All (IsInside layout) extents = λ k d lt. let extent = filled k d lt in (omega (arith, extent.filled), extent.low, on_disk k d lt) in

@@ -21,7 +21,9 @@ use Rattle.store.specs.inside.Next.{IsFollowed}
 use Rattle.store.specs.inside.Room.{IsRootOr}
 use Rattle.store.proofs.UsedAlone.{same_used, libraries_same, listed_same, own_used}
 
-module _ (m : List Sector) (root next : Root) (others : List PlacedEntry) (fits : RootHasSpelling next) (follows : next.generation ≡ root.generation + 1) (size : next.sectors ≡ length m) (some : root_sectors ≤ length m) (keeps : KeepsVersion root next) where
+module _ (m : List Sector) (root next : Root) (others : List PlacedEntry) (fits : RootHasSpelling next)
+    (follows : next.generation ≡ root.generation + 1) (size : next.sectors ≡ length m) (some : root_sectors ≤ length m)
+    (keeps : KeepsVersion root next) where
   abbrev slot : ℕ
   slot = slot_of next.generation
 
@@ -59,14 +61,17 @@ module _ (m : List Sector) (root next : Root) (others : List PlacedEntry) (fits 
       parity = grind arith
 
   -- Sectors in which all that a root lists stands, stand for it once the root is written.
-  pub next_stands : (s' : State) → version_of next ≡ Two → IsCurrent (sector m 0) (sector m 1) root → IsListed m next others → UsesApart (length m) next others → HasRoom (length m) next.list others → HaveOwnNames others → s' ≡ state_of m next others → StandsBy Two after next others s'
+  pub next_stands : (s' : State) → version_of next ≡ Two → IsCurrent (sector m 0) (sector m 1) root → IsListed m next others
+      → UsesApart (length m) next others → HasRoom (length m) next.list others → HaveOwnNames others → s' ≡ state_of m next others
+      → StandsBy Two after next others s'
   next_stands s' two current listed apart room names is = record {
     of_version = two;
     intact = record {
       current = next_current current;
       size = size ∙ sym (length-set m slot (root_bytes next));
       listed = record {
-        sectors = listed_same m after next.library_count next.list (entry_sectors others) (λ k found. kept k (Contains-append_left (catalogues_of next) (flat_map sectors_of others) k found)) listed.sectors;
+        sectors = listed_same m after next.library_count next.list (entry_sectors others)
+            (λ k found. kept k (Contains-append_left (catalogues_of next) (flat_map sectors_of others) k found)) listed.sectors;
         each = λ i d lt. subst (λ c. SpellsEntry c (get_or others i d).entry) (sym (kept (get_or others i d).at (own_used next others i d lt))) (listed.each i d lt);
       };
       apart = subst (λ n. UsesApart n next others) (sym (length-set m slot (root_bytes next))) apart;
@@ -82,7 +87,10 @@ module _ (m : List Sector) (root next : Root) (others : List PlacedEntry) (fits 
       libraries : map (library_of after) others ≡ map (library_of m) others
       libraries = libraries_same m after others (λ k found. kept k (Contains-append_right (catalogues_of next) (flat_map sectors_of others) k found))
 
-module _ (version : Version) {old mid : DiskFacts} (root : Root) (entries : List PlacedEntry) (s : State) (stands : (m : List Sector) → Mixture old m → StandsBy version m root entries s) (changed : ℕ → Type 0) (behind : (k : ℕ) → changed k → root_sectors ≤ k) (unused : (k : ℕ) → changed k → Contains (used root entries) k → ⊥) (staged : LeavesOnly old mid (IsMixtureBut changed old)) where
+module _ (version : Version) {old mid : DiskFacts} (root : Root) (entries : List PlacedEntry) (s : State)
+    (stands : (m : List Sector) → Mixture old m → StandsBy version m root entries s) (changed : ℕ → Type 0)
+    (behind : (k : ℕ) → changed k → root_sectors ≤ k) (unused : (k : ℕ) → changed k → Contains (used root entries) k → ⊥)
+    (staged : LeavesOnly old mid (IsMixtureBut changed old)) where
   abbrev IsOld : List Sector → Type 0
   IsOld m = StandsBy version m root entries s
 
@@ -113,7 +121,10 @@ module _ (version : Version) {old mid : DiskFacts} (root : Root) (entries : List
     committed_stands is_synced is_set m mixture = subst (λ l. StandsBy Two l next others s') (sym (is_synced.each m mixture ∙ is_set)) written
 
 -- A root is written where each mixture stands for a state: each stands for that one or the next.
-module _ (version : Version) {old : DiskFacts} (root : Root) (entries : List PlacedEntry) (s : State) (next : Root) (others : List PlacedEntry) (s' : State) (stands : (m : List Sector) → Mixture old m → StandsBy version m root entries s) (followed : IsFollowed version root entries s (λ m. Unit) next others s') (at : ℕ) (content : Sector) (slot : at ≡ slot_of next.generation) (spelt : content ≡ root_bytes next) where
+module _ (version : Version) {old : DiskFacts} (root : Root) (entries : List PlacedEntry) (s : State) (next : Root) (others : List PlacedEntry)
+    (s' : State) (stands : (m : List Sector) → Mixture old m → StandsBy version m root entries s)
+    (followed : IsFollowed version root entries s (λ m. Unit) next others s') (at : ℕ) (content : Sector) (slot : at ≡ slot_of next.generation)
+    (spelt : content ≡ root_bytes next) where
   after_stands : (m : List Sector) → Mixture old m → StandsBy Two (set m at content) next others s'
   after_stands m mixture = subst (λ c. StandsBy Two (set m at c) next others s') (sym spelt)
       (subst (λ k. StandsBy Two (set m k (root_bytes next)) next others s') (sym slot) (followed.stands m (stands m mixture) tt))
@@ -148,7 +159,8 @@ module _ {old mid : DiskFacts} (changed : List ℕ) (staged : LeavesOnly old mid
       let but = left_now (IsMixtureBut (Contains changed) old) staged m mixture in
       (but.0, but.1, record { size = but.2.size; others = λ k other. but.2.others k (λ here. other (inr here)) })
 
-  pub committed_others : {new : DiskFacts} (at : ℕ) (content : Sector) → at < 2 → LeavesOnly mid new (IsMixtureOrSet mid at content) → (m : List Sector) → Mixture new m → IsMixtureBut (IsRootOr changed) old m
+  pub committed_others : {new : DiskFacts} (at : ℕ) (content : Sector) → at < 2 → LeavesOnly mid new (IsMixtureOrSet mid at content)
+      → (m : List Sector) → Mixture new m → IsMixtureBut (IsRootOr changed) old m
   committed_others at content low committed m mixture = ⊎_elim
       (λ before. staged_others m before)
       (λ newer. let but = staged_others newer.0 newer.1 in (but.0, but.1, set_others changed at content low but.2 newer.2))

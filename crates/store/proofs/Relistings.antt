@@ -48,7 +48,8 @@ pub record IsRelist (root : Root) (entries : List PlacedEntry) (held : List Hold
   pub later : root.generation + 1 < 2 ^ 64
   pub is_next : next ≡ next_root root (length entries) catalogues (listed_preloads root)
 
-module _ {root : Root} {entries : List PlacedEntry} {held : List Holding} {layout mid : List Bool} {catalogues : List ℕ} {next : Root} (is : IsRelist root entries held layout mid catalogues next) where
+module _ {root : Root} {entries : List PlacedEntry} {held : List Holding} {layout mid : List Bool} {catalogues : List ℕ} {next : Root}
+    (is : IsRelist root entries held layout mid catalogues next) where
   none : catalogues_of root ≡ []
   none = none_in root.list is.one
 

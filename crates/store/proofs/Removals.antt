@@ -39,7 +39,9 @@ use Rattle.store.proofs.Rooms.{cost_is, kept_sectors}
 use Rattle.store.proofs.UsedAlone.{no_entry}
 
 -- the byte strings without the first of a name are those without its position
-without_is : (m : List Sector) (name : List ℕ) (entries : List PlacedEntry) (gone : ℕ) → gone < length entries → ((k : ℕ) (d : PlacedEntry) → k < gone → name_of (get_or entries k d).entry ≢ name) → ((d : PlacedEntry) → name_of (get_or entries gone d).entry ≡ name)
+without_is : (m : List Sector) (name : List ℕ) (entries : List PlacedEntry) (gone : ℕ) → gone < length entries
+    → ((k : ℕ) (d : PlacedEntry) → k < gone → name_of (get_or entries k d).entry ≢ name)
+    → ((d : PlacedEntry) → name_of (get_or entries gone d).entry ≡ name)
     → libraries_without name (map (library_of m) entries) ≡ map (library_of m) (remove entries gone)
 without_is m name [] gone fits before at = absurd (omega (arith, fits))
 without_is m name (e ∷ entries) zero fits before at =
@@ -50,7 +52,8 @@ without_is m name (e ∷ entries) (suc gone) fits before at =
     ∙ ap (λ l. library_of m e ∷ l) (without_is m name entries gone (omega (arith, fits)) (λ k d lt. before (suc k) d (omega (arith, lt))) at)
 
 -- positions that close up name the same
-names_closed : (libraries : List Library) (gone : ℕ) (positions : List ℕ) → gone < length libraries → All (λ position. position ≢ gone) positions → names_at (remove libraries gone) (map (closed_up gone) positions) ≡ names_at libraries positions
+names_closed : (libraries : List Library) (gone : ℕ) (positions : List ℕ) → gone < length libraries → All (λ position. position ≢ gone) positions
+    → names_at (remove libraries gone) (map (closed_up gone) positions) ≡ names_at libraries positions
 names_closed libraries gone [] fits others = refl
 names_closed libraries gone (p ∷ positions) fits others =
     let here = at_closed libraries gone p no_library (others 0 0 (omega arith)) fits in
@@ -58,7 +61,8 @@ names_closed libraries gone (p ∷ positions) fits others =
     λ i. (here i).name ∷ there i
 
 -- A store of version 2 has room for the catalogues of the next change, and for those of fewer byte strings.
-pub catalogues_fit : (root : Root) (entries : List PlacedEntry) (held : List Holding) (layout : List Bool) → IsKept root entries held layout → version_of root ≡ Two → catalogues_for (length entries) ≤ free_count layout
+pub catalogues_fit : (root : Root) (entries : List PlacedEntry) (held : List Holding) (layout : List Bool) → IsKept root entries held layout
+    → version_of root ≡ Two → catalogues_for (length entries) ≤ free_count layout
 catalogues_fit root entries held layout kept two = omega (
   arith,
   kept_sectors root entries held layout kept,
@@ -79,7 +83,8 @@ pub record IsRemoval (root : Root) (entries : List PlacedEntry) (held : List Hol
   pub enough : length catalogues ≡ catalogues_for (length entries - 1)
   pub is_next : next ≡ next_root root (length entries - 1) catalogues (map (closed_up gone) (listed_preloads root))
 
-module _ {root : Root} {entries : List PlacedEntry} {held : List Holding} {layout mid : List Bool} {name : List ℕ} {gone : ℕ} {catalogues : List ℕ} {next : Root} (removal : IsRemoval root entries held layout mid name gone catalogues next) where
+module _ {root : Root} {entries : List PlacedEntry} {held : List Holding} {layout mid : List Bool} {name : List ℕ} {gone : ℕ} {catalogues : List ℕ}
+    {next : Root} (removal : IsRemoval root entries held layout mid name gone catalogues next) where
   kept : IsKept root entries held layout
   kept = removal.kept
 

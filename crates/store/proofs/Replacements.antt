@@ -1,5 +1,6 @@
 -- A store with other bytes in the place of a byte string's.
-use Rattle.std.proofs.Common.{◌≡◌, ◌≢◌, ◌⊎◌, inl, inr, ⊎_elim, nat_eq, ℕ, zero, suc, ◌+◌, ◌*◌, ◌^◌, ◌<◌, ◌≤◌, Bool, if◌then◌else◌, List, [], ◌∷◌, ◌++◌, length, get_or, set, map, refl, sym, ap, subst, ◌∙◌, arith}
+use Rattle.std.proofs.Common.{◌≡◌, ◌≢◌, ◌⊎◌, inl, inr, ⊎_elim, nat_eq, ℕ, zero, suc, ◌+◌, ◌*◌, ◌^◌, ◌<◌, ◌≤◌, Bool, if◌then◌else◌, List, [], ◌∷◌}
+use Rattle.std.proofs.Common.{◌++◌, length, get_or, set, map, refl, sym, ap, subst, ◌∙◌, arith}
 use Rattle.std.specs.Prelude.{bytes_eq}
 use Rattle.std.specs.List.{flat_map}
 use Rattle.std.proofs.lemmas.Bool.{cases_Bool, false_from_ne_true, false≢true, eqb-true, eq-eqb}
@@ -45,26 +46,34 @@ set_cases P xs i k x d fits at elsewhere = ⊎_elim
     same_or_other : (a b : ℕ) → (a ≡ b) ⊎ (a ≢ b)
     same_or_other a b = ⊎_elim (λ is. inl (eqb-true a b is)) (λ isnt. inr (λ same. false≢true (sym isnt ∙ eq-eqb a b same))) (cases_Bool (nat_eq a b))
 
-name_kept : (entries : List PlacedEntry) (place k : ℕ) (entry d : PlacedEntry) → place < length entries → ((e : PlacedEntry) → name_of (get_or entries place e).entry ≡ name_of entry.entry) → name_of (get_or (set entries place entry) k d).entry ≡ name_of (get_or entries k d).entry
+name_kept : (entries : List PlacedEntry) (place k : ℕ) (entry d : PlacedEntry) → place < length entries
+    → ((e : PlacedEntry) → name_of (get_or entries place e).entry ≡ name_of entry.entry)
+    → name_of (get_or (set entries place entry) k d).entry ≡ name_of (get_or entries k d).entry
 name_kept entries place k entry d fits same =
     set_cases (λ e. name_of e.entry ≡ name_of (get_or entries k d).entry) entries place k entry d fits
     (λ here. sym (ap (λ n. name_of (get_or entries n d).entry) here ∙ same d))
     (λ _. refl)
 
-names_with : (entries : List PlacedEntry) (place : ℕ) (entry : PlacedEntry) → place < length entries → ((e : PlacedEntry) → name_of (get_or entries place e).entry ≡ name_of entry.entry) → HaveOwnNames entries → HaveOwnNames (set entries place entry)
+names_with : (entries : List PlacedEntry) (place : ℕ) (entry : PlacedEntry) → place < length entries
+    → ((e : PlacedEntry) → name_of (get_or entries place e).entry ≡ name_of entry.entry) → HaveOwnNames entries
+    → HaveOwnNames (set entries place entry)
 names_with entries place entry fits same names i j d lt inside = λ equal.
     names i j d lt (omega (arith, inside, length-set entries place entry))
     (sym (name_kept entries place i entry d fits same) ∙ equal ∙ name_kept entries place j entry d fits same)
 
 -- positions name the same,
-name_with : (m : List Sector) (entries : List PlacedEntry) (place : ℕ) (entry : PlacedEntry) (p : ℕ) → ((e : PlacedEntry) → name_of (get_or entries place e).entry ≡ name_of entry.entry) → (get_or (map (library_of m) (set entries place entry)) p no_library).name ≡ (get_or (map (library_of m) entries) p no_library).name
+name_with : (m : List Sector) (entries : List PlacedEntry) (place : ℕ) (entry : PlacedEntry) (p : ℕ)
+    → ((e : PlacedEntry) → name_of (get_or entries place e).entry ≡ name_of entry.entry)
+    → (get_or (map (library_of m) (set entries place entry)) p no_library).name ≡ (get_or (map (library_of m) entries) p no_library).name
 name_with m [] place entry p same = refl
 name_with m (e ∷ entries) zero entry zero same = sym (same e)
 name_with m (e ∷ entries) zero entry (suc p) same = refl
 name_with m (e ∷ entries) (suc place) entry zero same = refl
 name_with m (e ∷ entries) (suc place) entry (suc p) same = name_with m entries place entry p same
 
-names_at_with : (m : List Sector) (entries : List PlacedEntry) (place : ℕ) (entry : PlacedEntry) (positions : List ℕ) → ((e : PlacedEntry) → name_of (get_or entries place e).entry ≡ name_of entry.entry) → names_at (map (library_of m) (set entries place entry)) positions ≡ names_at (map (library_of m) entries) positions
+names_at_with : (m : List Sector) (entries : List PlacedEntry) (place : ℕ) (entry : PlacedEntry) (positions : List ℕ)
+    → ((e : PlacedEntry) → name_of (get_or entries place e).entry ≡ name_of entry.entry)
+    → names_at (map (library_of m) (set entries place entry)) positions ≡ names_at (map (library_of m) entries) positions
 names_at_with m entries place entry [] same = refl
 names_at_with m entries place entry (p ∷ positions) same = λ i. name_with m entries place entry p same i ∷ names_at_with m entries place entry positions same i
 
@@ -72,7 +81,9 @@ names_at_with m entries place entry (p ∷ positions) same = λ i. name_with m e
 abbrev replaces : List Sector → (name bytes : List ℕ) → PlacedEntry → List PlacedEntry → Bool → List Library
 replaces m name bytes e entries found = if found then record { name = name; bytes = bytes } ∷ map (library_of m) entries else library_of m e ∷ libraries_with name bytes (map (library_of m) entries)
 
-libraries_with_is : (m : List Sector) (name bytes : List ℕ) (entries : List PlacedEntry) (place : ℕ) (entry : PlacedEntry) → place < length entries → ((k : ℕ) (d : PlacedEntry) → k < place → name_of (get_or entries k d).entry ≢ name) → ((d : PlacedEntry) → name_of (get_or entries place d).entry ≡ name) → record { name = name; bytes = bytes } ≡ library_of m entry
+libraries_with_is : (m : List Sector) (name bytes : List ℕ) (entries : List PlacedEntry) (place : ℕ) (entry : PlacedEntry) → place < length entries
+    → ((k : ℕ) (d : PlacedEntry) → k < place → name_of (get_or entries k d).entry ≢ name)
+    → ((d : PlacedEntry) → name_of (get_or entries place d).entry ≡ name) → record { name = name; bytes = bytes } ≡ library_of m entry
     → libraries_with name bytes (map (library_of m) entries) ≡ map (library_of m) (set entries place entry)
 libraries_with_is m name bytes [] place entry fits before at is = absurd (omega (arith, fits))
 libraries_with_is m name bytes (e ∷ entries) zero entry fits before at is =
@@ -83,7 +94,8 @@ libraries_with_is m name bytes (e ∷ entries) (suc place) entry fits before at 
     ∙ ap (λ l. library_of m e ∷ l) (libraries_with_is m name bytes entries place entry (omega (arith, fits)) (λ k d lt. before (suc k) d (omega (arith, lt))) at is)
 
 -- The entry of a name gives its place to another of the name, in room that was claimed for it and for the catalogues of the list.
-pub record IsReplacement (root : Root) (entries : List PlacedEntry) (held : List Holding) (layout mid : List Bool) (name : List ℕ) (place : ℕ) (catalogues : List ℕ) (put : PlacedEntry) (next : Root) : Type 0 where
+pub record IsReplacement (root : Root) (entries : List PlacedEntry) (held : List Holding) (layout mid : List Bool) (name : List ℕ) (place : ℕ)
+    (catalogues : List ℕ) (put : PlacedEntry) (next : Root) : Type 0 where
   pub kept : IsKept root entries held layout
   pub two : version_of root ≡ Two
   pub claimed : IsClaimedBeside layout mid (sectors_of put ++ catalogues)
@@ -96,7 +108,8 @@ pub record IsReplacement (root : Root) (entries : List PlacedEntry) (held : List
   pub room : cost put.entry.file_length + length catalogues ≤ free_count layout
   pub is_next : next ≡ next_root root (length entries) catalogues (listed_preloads root)
 
-module _ {root : Root} {entries : List PlacedEntry} {held : List Holding} {layout mid : List Bool} {name : List ℕ} {place : ℕ} {catalogues : List ℕ} {put : PlacedEntry} {next : Root} (is : IsReplacement root entries held layout mid name place catalogues put next) where
+module _ {root : Root} {entries : List PlacedEntry} {held : List Holding} {layout mid : List Bool} {name : List ℕ} {place : ℕ} {catalogues : List ℕ}
+    {put : PlacedEntry} {next : Root} (is : IsReplacement root entries held layout mid name place catalogues put next) where
   kept : IsKept root entries held layout
   kept = is.kept
 
@@ -165,7 +178,9 @@ module _ {root : Root} {entries : List PlacedEntry} {held : List Holding} {layou
   }
 
   -- and this is what the put makes of sectors.
-  pub replacement_put : (bytes : List ℕ) (s : State) → put.entry.file_length ≡ length bytes → length bytes ≤ 512 * sector_count (extents_of put.entry) → IsPut Two root entries s bytes put catalogues (entry_sectors others) next others (with_bytes name bytes s)
+  pub replacement_put : (bytes : List ℕ) (s : State) → put.entry.file_length ≡ length bytes
+      → length bytes ≤ 512 * sector_count (extents_of put.entry)
+      → IsPut Two root entries s bytes put catalogues (entry_sectors others) next others (with_bytes name bytes s)
   replacement_put bytes s its_length enough = record {
     unused = more_unused kept is.claimed;
     stands = λ m by written spelt listed. following_stands replacement_next kept.root_fits Two m entries s (with_bytes name bytes s) by listed
@@ -177,6 +192,7 @@ module _ {root : Root} {entries : List PlacedEntry} {held : List Holding} {layou
         }));
   }
     where
-      libraries : (m : List Sector) → bytes_at m (places (extents_of put.entry)) ≡ padded (sector_bytes * sector_count (extents_of put.entry)) bytes → libraries_with name bytes (map (library_of m) entries) ≡ map (library_of m) others
+      libraries : (m : List Sector) → bytes_at m (places (extents_of put.entry)) ≡ padded (sector_bytes * sector_count (extents_of put.entry)) bytes
+          → libraries_with name bytes (map (library_of m) entries) ≡ map (library_of m) others
       libraries m written = libraries_with_is m name bytes entries place put is.inside (λ k d lt same. kept.names k place d lt is.inside (same ∙ sym (is.named d))) is.named
           (sym (λ i. record { name = is.its_name i; bytes = written_bytes m put.entry bytes written its_length enough i }))

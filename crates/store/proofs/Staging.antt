@@ -24,7 +24,8 @@ use Rattle.store.proofs.CataloguedEntries.{all_singles}
 use Rattle.store.proofs.Counts.{one, occurs, occurs-append, contains_occurs, occurs_contains, distinct_occurs, occurs_distinct}
 
 -- Of bytes, their entry and catalogues.
-module _ {sectors : ℕ} {put : PlacedEntry} {catalogues : List ℕ} (singles : List SingleSector) (extents : List Extent) (place : HasPlace sectors put catalogues) (is : single_places singles ≡ put.at ∷ catalogues) (its : extents ≡ extents_of put.entry) where
+module _ {sectors : ℕ} {put : PlacedEntry} {catalogues : List ℕ} (singles : List SingleSector) (extents : List Extent)
+    (place : HasPlace sectors put catalogues) (is : single_places singles ≡ put.at ∷ catalogues) (its : extents ≡ extents_of put.entry) where
   -- all that is staged
   abbrev all : List ℕ
   all = sectors_of put ++ catalogues
@@ -70,7 +71,8 @@ module _ {sectors : ℕ} {put : PlacedEntry} {catalogues : List ℕ} (singles : 
   pub put_behind : (k : ℕ) → Contains (single_places singles ++ places extents) k → root_sectors ≤ k
   put_behind k found = (All-contains (IsUsable sectors) all k place.inside (staged_among k found)).0
 
-  module _ {version : Version} {before next : Root} {entries others : List PlacedEntry} {s s' : State} {content listed : List ℕ} (is_put : IsPut version before entries s content put catalogues listed next others s') where
+  module _ {version : Version} {before next : Root} {entries others : List PlacedEntry} {s s' : State} {content listed : List ℕ}
+      (is_put : IsPut version before entries s content put catalogues listed next others s') where
     pub put_unused : (k : ℕ) → Contains (single_places singles ++ places extents) k → Contains (used before entries) k → ⊥
     put_unused k found there = is_put.unused k (staged_among k found) there
 
@@ -88,7 +90,8 @@ module _ {sectors : ℕ} {catalogues : List ℕ} (singles : List SingleSector) (
   listed_among : (k : ℕ) → Contains (single_places singles ++ []) k → Contains catalogues k
   listed_among k found = subst (λ l. Contains l k) (append-nil (single_places singles) ∙ is) found
 
-  module _ {version : Version} {before next : Root} {entries others : List PlacedEntry} {s s' : State} {listed : List ℕ} (relisting : IsRelisting version before entries s catalogues listed next others s') where
+  module _ {version : Version} {before next : Root} {entries others : List PlacedEntry} {s s' : State} {listed : List ℕ}
+      (relisting : IsRelisting version before entries s catalogues listed next others s') where
     pub list_unused : (k : ℕ) → Contains (single_places singles ++ []) k → Contains (used before entries) k → ⊥
     list_unused k found there = relisting.unused k (listed_among k found) there
 

@@ -83,7 +83,9 @@ relisted_from facts store s at holds m same new is = record {
 }
 
 -- Its calls, and those of the commit behind them.
-module _ {D E : Type 0} (facts : D → DiskFacts) (start : DiskFacts) (old : Opened D) (looked : AreCallsExactly (3 + length (catalogues_of old.root) + length old.entries) start (facts old.disk)) (one : version_of old.root ≡ One) where
+module _ {D E : Type 0} (facts : D → DiskFacts) (start : DiskFacts) (old : Opened D)
+    (looked : AreCallsExactly (3 + length (catalogues_of old.root) + length old.entries) start (facts old.disk))
+    (one : version_of old.root ≡ One) where
   pub relisted_calls : (r : Result (Opened D) E) → IfOk r (IsRelisted old) → IfOk r (λ store. AreCallsExactly (catalogues_for (length old.entries) + 3) (facts old.disk) (facts store.disk))
       → IfOk r (λ store. AreCallsExactly (3 + length store.entries + (catalogues_for (length store.entries) + 3)) start (facts store.disk))
   relisted_calls (Ok store) relisted calls =

@@ -13,13 +13,15 @@ use Rattle.store.specs.inside.Kept.{HaveSpellings}
 use Rattle.store.proofs.UsedAlone.{among_used}
 
 -- each of its bytes' lies behind the roots and on the disk
-pub entry_inside : (sectors : ℕ) (root : Root) (entries : List PlacedEntry) → UsesApart sectors root entries → (i : ℕ) (d : PlacedEntry) → i < length entries → (k : ℕ) → Contains (places (extents_of (get_or entries i d).entry)) k → (root_sectors ≤ k) × (k < sectors)
+pub entry_inside : (sectors : ℕ) (root : Root) (entries : List PlacedEntry) → UsesApart sectors root entries → (i : ℕ) (d : PlacedEntry)
+    → i < length entries → (k : ℕ) → Contains (places (extents_of (get_or entries i d).entry)) k → (root_sectors ≤ k) × (k < sectors)
 entry_inside sectors root entries apart i d lt k found =
     All-contains (λ n. (root_sectors ≤ n) × (n < sectors)) (used root entries) k apart.inside
     (among_used root entries i d lt k (Contains-append_right ((get_or entries i d).at ∷ []) (places (extents_of (get_or entries i d).entry)) k found))
 
 -- so its extents end on the disk
-pub entry_on_disk : (sectors : ℕ) (root : Root) (entries : List PlacedEntry) → UsesApart sectors root entries → HaveSpellings entries → (i : ℕ) (d : PlacedEntry) → i < length entries → All (IsOnDisk sectors) (extents_of (get_or entries i d).entry)
+pub entry_on_disk : (sectors : ℕ) (root : Root) (entries : List PlacedEntry) → UsesApart sectors root entries → HaveSpellings entries
+    → (i : ℕ) (d : PlacedEntry) → i < length entries → All (IsOnDisk sectors) (extents_of (get_or entries i d).entry)
 entry_on_disk sectors root entries apart fit i d lt j e in_extents =
     let entry = (get_or entries i d).entry in
     let extent = get_or (extents_of entry) j e in

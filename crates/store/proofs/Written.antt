@@ -15,7 +15,9 @@ use Rattle.store.specs.Stands.{extents_of}
 use Rattle.store.specs.Taken.{HaveBytes}
 
 -- where the entry is of their length, they are its byte string's
-pub written_bytes : (m : List Sector) (entry : Entry) (bytes : List ℕ) → bytes_at m (places (extents_of entry)) ≡ padded (sector_bytes * sector_count (extents_of entry)) bytes → entry.file_length ≡ length bytes → length bytes ≤ 512 * sector_count (extents_of entry) → take entry.file_length (bytes_at m (places (extents_of entry))) ≡ bytes
+pub written_bytes : (m : List Sector) (entry : Entry) (bytes : List ℕ)
+    → bytes_at m (places (extents_of entry)) ≡ padded (sector_bytes * sector_count (extents_of entry)) bytes → entry.file_length ≡ length bytes
+    → length bytes ≤ 512 * sector_count (extents_of entry) → take entry.file_length (bytes_at m (places (extents_of entry))) ≡ bytes
 written_bytes m entry bytes written its_length enough =
     ap (take entry.file_length) written
     ∙ ap (λ n. take n (padded (sector_bytes * sector_count (extents_of entry)) bytes)) its_length

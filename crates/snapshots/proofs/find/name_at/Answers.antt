@@ -9,5 +9,6 @@ returns-in-Some g c entries are =
     let read : c.in-Some.held.now ≡ get_or c.args.handles.now c.args.position 0 = search rules in
     let inside : c.args.position < length c.args.handles.now = search rules in
     let lt : c.args.position < length entries = omega (arith, inside, are.count) in
-    c.held_name.ensures (get_or entries c.args.position no_entry) (subst (λ h. IsHeldBy c.args.store.now.held h (get_or entries c.args.position no_entry)) (sym read) (are.each c.args.position no_entry lt))
+    c.held_name.ensures (get_or entries c.args.position no_entry)
+    (subst (λ h. IsHeldBy c.args.store.now.held h (get_or entries c.args.position no_entry)) (sym read) (are.each c.args.position no_entry lt))
     ∙ sym (entry_name entries c.args.position no_entry lt)

@@ -8,6 +8,8 @@ use Rattle.snapshots.proofs.find.place_of.Goals as goal
 
 pub returns : goal.returns
 returns g c entries held order =
-    let point = IsPartitionPoint-from_clause (λ position. is_lt (order_to (entry_names entries) c.args.name.now position)) c.args.order.now c.partition_point.result c.partition_point.ensures.partitioned
+    let point = IsPartitionPoint-from_clause
+    (λ position. is_lt (order_to (entry_names entries) c.args.name.now position)) c.args.order.now c.partition_point.result
+    c.partition_point.ensures.partitioned
     (partitioned (entry_names entries) c.args.order.now c.args.name.now order) (λ a r f k. search rules) in
     place_from (entry_names entries) c.args.order.now c.args.name.now c.partition_point.result c.partition_point.ensures.bound point

@@ -23,7 +23,8 @@ loop-position-preserved g c = record {
   some = c.loop-position.invariant.some;
   count = search rules;
   room = omega (arith, c.loop-position.invariant.room, c.push.ensures.capacity);
-  held = subst (HoldsFirst g.D.Disk.facts c.args.store.now c.hold.new.self (c.loop-position.position + 1)) (sym c.in-Ok-push.ensures.items) (more_held g.D.Disk.facts c.loop-position.position c.in-Ok.held c.loop-position.handles.items c.loop-position.invariant.held c.in-Ok.ensures);
+  held = subst (HoldsFirst g.D.Disk.facts c.args.store.now c.hold.new.self (c.loop-position.position + 1)) (sym c.in-Ok-push.ensures.items)
+      (more_held g.D.Disk.facts c.loop-position.position c.in-Ok.held c.loop-position.handles.items c.loop-position.invariant.held c.in-Ok.ensures);
 }
 
 pub returns-in-Err : goal.returns-in-Err

@@ -22,11 +22,13 @@ returns-clause-any_moment g c honest version before entries s others s' stands u
     let changed = Contains (single_places c.args.singles.now ++ places c.args.extents.now) in
     let honest_mid = subst IsTrue (sym c.stage.ensures.calls.honest) honest in
     let staged = c.stage.ensures.any_moment honest in
-    let still = left_now (λ m. StandsBy version m before entries s) (staged_stands version before entries s stands changed c.requires.behind unused staged) mid.now (g.met.D.Disk.holds_now _ honest_mid) in
+    let still = left_now (λ m. StandsBy version m before entries s)
+    (staged_stands version before entries s stands changed c.requires.behind unused staged) mid.now (g.met.D.Disk.holds_now _ honest_mid) in
     let new = followed.stands mid.now still (c.in_ok-stage.ensures.written honest, c.in_ok-stage.ensures.singles honest) in
     let by_content = subst (λ content. StandsBy Two (set mid.now c.slot_of.result content) c.args.root.now others s') (sym c.encode_root.ensures.spelling)
     (subst (λ k. StandsBy Two (set mid.now k (root_bytes c.args.root.now)) c.args.root.now others s') (sym c.slot_of.ensures.value) new) in
-    committed_only version before entries s stands changed c.requires.behind unused staged (c.in_ok-stage.ensures.synced honest) c.args.root.now others s' c.slot_of.result c.encode_root.result by_content
+    committed_only version before entries s stands changed c.requires.behind unused staged
+    (c.in_ok-stage.ensures.synced honest) c.args.root.now others s' c.slot_of.result c.encode_root.result by_content
     (c.commit.ensures.any_moment honest_mid)
 
 pub returns-clause-done : goal.returns-clause-done
@@ -35,12 +37,15 @@ returns-clause-done g c honest version before entries s others s' stands unused 
     let changed = Contains (single_places c.args.singles.now ++ places c.args.extents.now) in
     let honest_mid = subst IsTrue (sym c.stage.ensures.calls.honest) honest in
     let staged = c.stage.ensures.any_moment honest in
-    let still = left_now (λ m. StandsBy version m before entries s) (staged_stands version before entries s stands changed c.requires.behind unused staged) mid.now (g.met.D.Disk.holds_now _ honest_mid) in
+    let still = left_now (λ m. StandsBy version m before entries s)
+    (staged_stands version before entries s stands changed c.requires.behind unused staged) mid.now (g.met.D.Disk.holds_now _ honest_mid) in
     let new = followed.stands mid.now still (c.in_ok-stage.ensures.written honest, c.in_ok-stage.ensures.singles honest) in
     let by_content = subst (λ content. StandsBy Two (set mid.now c.slot_of.result content) c.args.root.now others s') (sym c.encode_root.ensures.spelling)
     (subst (λ k. StandsBy Two (set mid.now k (root_bytes c.args.root.now)) c.args.root.now others s') (sym c.slot_of.ensures.value) new) in
     ok_both c.commit.result
-    (committed_stands version before entries s stands changed c.requires.behind unused staged (c.in_ok-stage.ensures.synced honest) c.args.root.now others s' c.slot_of.result c.encode_root.result by_content {new = g.D.Disk.facts c.commit.new.disk})
+    (committed_stands version before entries s stands changed c.requires.behind unused staged
+    (c.in_ok-stage.ensures.synced honest) c.args.root.now others s' c.slot_of.result c.encode_root.result by_content
+    {new = g.D.Disk.facts c.commit.new.disk})
     (c.commit.ensures.synced honest_mid) (c.commit.ensures.now honest_mid)
 
 pub returns-in_err-stage-clause-others : goal.returns-in_err-stage-clause-others
@@ -50,7 +55,8 @@ pub returns-clause-others : goal.returns-clause-others
 returns-clause-others g c honest =
     let honest_mid = subst IsTrue (sym c.stage.ensures.calls.honest) honest in
     let low : c.slot_of.result < 2 = grind (arith, c.slot_of.ensures.value) in
-    committed_others (single_places c.args.singles.now ++ places c.args.extents.now) (c.stage.ensures.any_moment honest) c.slot_of.result c.encode_root.result low (c.commit.ensures.any_moment honest_mid)
+    committed_others (single_places c.args.singles.now ++ places c.args.extents.now)
+    (c.stage.ensures.any_moment honest) c.slot_of.result c.encode_root.result low (c.commit.ensures.any_moment honest_mid)
 
 pub returns-clause-written : goal.returns-clause-written
 returns-clause-written g c honest =

@@ -38,8 +38,10 @@ returns-in-Two-clause-refused g c honest =
     let now = (g.D.Disk.facts c.args.disk.now).now in
     let root = c.in_ok-root.root in
     let geometry = subst IsGeometry (sym (g.met.D.Disk.holds_now _ honest).size) c.requires in
-    let refused = subst (λ m. IfErr c.find_entries.result (RefusesEntries m root)) (c.read_root.ensures.now honest) (c.find_entries.ensures.refused (subst IsTrue (sym c.read_root.ensures.calls.some.honest) honest)) in
-    IfErr-weaker c.find_entries.result (RefusesEntries now root) (RefusesOpen Stands now) (entries_refused_open now geometry root (c.in_ok-root.ensures.current honest) (sym c.version.ensures ∙ c.in-Two.is)) refused
+    let refused = subst (λ m. IfErr c.find_entries.result (RefusesEntries m root)) (c.read_root.ensures.now honest)
+    (c.find_entries.ensures.refused (subst IsTrue (sym c.read_root.ensures.calls.some.honest) honest)) in
+    IfErr-weaker c.find_entries.result (RefusesEntries now root) (RefusesOpen Stands now)
+    (entries_refused_open now geometry root (c.in_ok-root.ensures.current honest) (sym c.version.ensures ∙ c.in-Two.is)) refused
 
 pub returns-in-One-clause-refused : goal.returns-in-One-clause-refused
 returns-in-One-clause-refused g c honest =

@@ -37,5 +37,6 @@ returns-clause-refused g c honest =
     let now = (g.D.Disk.facts c.args.disk.now).now in
     let root = c.in_ok-root.root in
     let geometry = subst IsGeometry (sym (g.met.D.Disk.holds_now _ honest).size) c.requires in
-    let refused = subst (λ m. IfErr c.find_entries.result (RefusesEntries m root)) (c.read_root.ensures.now honest) (c.find_entries.ensures.refused (subst IsTrue (sym c.read_root.ensures.calls.some.honest) honest)) in
+    let refused = subst (λ m. IfErr c.find_entries.result (RefusesEntries m root)) (c.read_root.ensures.now honest)
+    (c.find_entries.ensures.refused (subst IsTrue (sym c.read_root.ensures.calls.some.honest) honest)) in
     IfErr-weaker c.find_entries.result (RefusesEntries now root) (RefusesLook StandsEither now) (entries_refused now geometry root (c.in_ok-root.ensures.current honest)) refused

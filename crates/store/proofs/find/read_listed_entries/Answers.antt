@@ -35,7 +35,8 @@ returns-clause-listed g c honest =
     let are = subst (AreListed now root.library_count root.list) (sym c.deref.ensures.value) (c.in_ok-listed.ensures.listed honest) in
     let honest_mid = subst IsTrue (sym c.read_listed.ensures.calls.some.honest) honest in
     entries_listed now root c.deref.result.now are c.read_entries.result c.read_entries.ensures.sectors
-    (subst (λ m. IfOk c.read_entries.result (λ entries. All (λ placed. SpellsEntry (sector m placed.at) placed.entry) entries.items)) (c.read_listed.ensures.same honest).same.now (c.read_entries.ensures.spelt honest_mid))
+    (subst (λ m. IfOk c.read_entries.result (λ entries. All (λ placed. SpellsEntry (sector m placed.at) placed.entry) entries.items))
+    (c.read_listed.ensures.same honest).same.now (c.read_entries.ensures.spelt honest_mid))
 
 pub returns-clause-damaged : goal.returns-clause-damaged
 returns-clause-damaged g c honest =
@@ -46,4 +47,7 @@ returns-clause-damaged g c honest =
     let are = subst (AreListed now root.library_count root.list) (sym c.deref.ensures.value) (c.in_ok-listed.ensures.listed honest) in
     let honest_mid = subst IsTrue (sym c.read_listed.ensures.calls.some.honest) honest in
     entries_damaged now root listed are size c.read_entries.result
-    (subst (λ m. IfErr c.read_entries.result (λ e. e ≡ Damaged → (entries : List PlacedEntry) → entry_sectors entries ≡ listed → All (λ placed. SpellsEntry (sector m placed.at) placed.entry) entries → ⊥)) (c.read_listed.ensures.same honest).same.now (c.read_entries.ensures.unspelt honest_mid))
+    (subst (λ m. IfErr c.read_entries.result
+    (λ e. e ≡ Damaged → (entries : List PlacedEntry) → entry_sectors entries ≡ listed
+    → All (λ placed. SpellsEntry (sector m placed.at) placed.entry) entries → ⊥)) (c.read_listed.ensures.same honest).same.now
+    (c.read_entries.ensures.unspelt honest_mid))

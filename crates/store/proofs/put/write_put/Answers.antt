@@ -13,16 +13,22 @@ places_are : (g : given.Over) (c : After-as_slice g) → single_places c.as_slic
 places_are g c = ap single_places c.as_slice.ensures ∙ c.set_put.ensures.places
 
 pub write_change-requires-clause-room : goal.write_change-requires-clause-room
-write_change-requires-clause-room g c = put_inside c.as_slice.result.now c.file_extents.result.now c.requires.place (places_are g (goal.at.write_change-requires-clause-room g c).After-as_slice) c.file_extents.ensures
+write_change-requires-clause-room g c = put_inside c.as_slice.result.now c.file_extents.result.now c.requires.place
+    (places_are g (goal.at.write_change-requires-clause-room g c).After-as_slice) c.file_extents.ensures
 
 pub write_change-requires-clause-once : goal.write_change-requires-clause-once
-write_change-requires-clause-once g c = put_once c.as_slice.result.now c.file_extents.result.now c.requires.place (places_are g (goal.at.write_change-requires-clause-once g c).After-as_slice) c.file_extents.ensures
+write_change-requires-clause-once g c = put_once c.as_slice.result.now c.file_extents.result.now c.requires.place
+    (places_are g (goal.at.write_change-requires-clause-once g c).After-as_slice) c.file_extents.ensures
 
 pub write_change-requires-clause-elsewhere : goal.write_change-requires-clause-elsewhere
-write_change-requires-clause-elsewhere g c = put_elsewhere c.as_slice.result.now c.file_extents.result.now c.requires.place (places_are g (goal.at.write_change-requires-clause-elsewhere g c).After-as_slice) c.file_extents.ensures
+write_change-requires-clause-elsewhere g c =
+    put_elsewhere c.as_slice.result.now c.file_extents.result.now c.requires.place
+    (places_are g (goal.at.write_change-requires-clause-elsewhere g c).After-as_slice) c.file_extents.ensures
 
 pub write_change-requires-clause-behind : goal.write_change-requires-clause-behind
-write_change-requires-clause-behind g c = put_behind c.as_slice.result.now c.file_extents.result.now c.requires.place (places_are g (goal.at.write_change-requires-clause-behind g c).After-as_slice) c.file_extents.ensures
+write_change-requires-clause-behind g c =
+    put_behind c.as_slice.result.now c.file_extents.result.now c.requires.place
+    (places_are g (goal.at.write_change-requires-clause-behind g c).After-as_slice) c.file_extents.ensures
 
 pub returns-clause-any_moment : goal.returns-clause-any_moment
 returns-clause-any_moment g c honest version before entries s others s' stands is_put =
@@ -48,7 +54,9 @@ returns-clause-done g c honest version before entries s others s' stands is_put 
 
 pub returns-clause-written : goal.returns-clause-written
 returns-clause-written g c honest =
-    subst (λ extents. OnOk c.write_change.result ((m : List Sector) → Mixture (g.D.Disk.facts c.write_change.new.disk) m → bytes_at m (places extents) ≡ padded (sector_bytes * sector_count extents) c.args.bytes.now)) c.file_extents.ensures
+    subst (λ extents. OnOk c.write_change.result
+    ((m : List Sector) → Mixture (g.D.Disk.facts c.write_change.new.disk) m
+    → bytes_at m (places extents) ≡ padded (sector_bytes * sector_count extents) c.args.bytes.now)) c.file_extents.ensures
     (c.write_change.ensures.written honest)
 
 pub returns-clause-others : goal.returns-clause-others

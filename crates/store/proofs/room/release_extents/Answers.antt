@@ -25,4 +25,6 @@ loop-extent-preserved c =
     let first = ap places (drop_more extents i none c.loop-extent-test.true) in
     let here = subst (AreHeld mid) first (held_rest c.args.layout.now mid (places extents) (places (drop i extents)) c.requires.held c.loop-extent.invariant) in
     released_step c.args.layout.now mid c.release.new.self (places extents) (places (drop i extents)) (places (drop (i + 1) extents)) c.loop-extent.invariant
-    (subst (λ l. IsReleasedTo mid c.release.new.self l (places (drop (i + 1) extents))) (sym first) (released_first mid (get_or extents i none) (places (drop (i + 1) extents)) (c.requires.filled i none c.loop-extent-test.true) here c.release.new.self c.release.ensures.now))
+    (subst (λ l. IsReleasedTo mid c.release.new.self l (places (drop (i + 1) extents))) (sym first)
+    (released_first mid (get_or extents i none) (places (drop (i + 1) extents))
+    (c.requires.filled i none c.loop-extent-test.true) here c.release.new.self c.release.ensures.now))

@@ -20,4 +20,5 @@ loop-at-preserved c =
     let first = drop_more sectors i 0 c.loop-at-test.true in
     let here = subst (AreHeld mid) first (held_rest c.args.layout.now mid sectors (drop i sectors) c.requires c.loop-at.invariant) in
     released_step c.args.layout.now mid c.release.new.self sectors (drop i sectors) (drop (i + 1) sectors) c.loop-at.invariant
-    (subst (λ l. IsReleasedTo mid c.release.new.self l (drop (i + 1) sectors)) (sym first) (released_first mid (one_sector (get_or sectors i 0)) (drop (i + 1) sectors) (omega arith) here c.release.new.self c.release.ensures.now))
+    (subst (λ l. IsReleasedTo mid c.release.new.self l (drop (i + 1) sectors)) (sym first)
+    (released_first mid (one_sector (get_or sectors i 0)) (drop (i + 1) sectors) (omega arith) here c.release.new.self c.release.ensures.now))

@@ -17,5 +17,6 @@ returns-clause-some g isnt = λ none.
     let start : ℕ = gathered.start in
     let some : 0 < length gathered.contents.items = omega (arith, eqb-false (vec_len gathered.contents) 0 (sym g.is_empty.ensures ∙ isnt), gathered.contents.ok.0) in
     let first : Sector = sector gathered.contents.items (start - start) in
-    let test : (nat_le start start && nat_lt (start - start) (length gathered.contents.items)) ≡ true = both_true (le-leb start start (omega arith)) (lt-ltb (start - start) (length gathered.contents.items) (omega (arith, some))) in
+    let test : (nat_le start start && nat_lt (start - start) (length gathered.contents.items)) ≡ true =
+    both_true (le-leb start start (omega arith)) (lt-ltb (start - start) (length gathered.contents.items) (omega (arith, some))) in
     none-some first (sym none ∙ where_true _ first test)

@@ -16,7 +16,9 @@ returns-in_default-clause-refused c =
 pub returns-in_err-layout-clause-refused : goal.returns-in_err-layout-clause-refused
 returns-in_err-layout-clause-refused c =
     let root = c.args.root in
-    let which = subst (λ (l : List PlacedEntry). c.in_err-layout.field-0.0 ≡ OutOfMemory ⊎ ((c.in_err-layout.field-0.0 ≡ Damaged) × (UsesApart root.sectors root l → HasRoom root.sectors root.list l → ⊥))) c.deref-2.ensures.value c.in_err-layout.ensures.refused in
+    let which = subst (λ (l : List PlacedEntry). c.in_err-layout.field-0.0 ≡ OutOfMemory
+    ⊎ ((c.in_err-layout.field-0.0 ≡ Damaged) × (UsesApart root.sectors root l → HasRoom root.sectors root.list l → ⊥))) c.deref-2.ensures.value
+    c.in_err-layout.ensures.refused in
     let p = err_from_is_err_and c.from_residual-in_err-layout.result c.from_residual-in_err-layout.ensures.1 in
     rw (p.1, p.2) (⊎_elim (λ memory. inl memory) (λ both. inr (both.0, λ own apart room. both.1 apart room)) which)
 

@@ -32,12 +32,15 @@ returns-then-index-gt1-clause-none c = λ _.
     })
 
 pub returns-in_err-holding-clause-none : goal.returns-in_err-holding-clause-none
-returns-in_err-holding-clause-none c = absurd (pair_there c.self.inside.rows c.args.self.now c.self.view_is c.in_ok-place.place c.in_ok-place.ensures.some.1.inside (sym c.in_err-holding.ensures.entry))
+returns-in_err-holding-clause-none c = absurd
+    (pair_there c.self.inside.rows c.args.self.now c.self.view_is c.in_ok-place.place c.in_ok-place.ensures.some.1.inside
+    (sym c.in_err-holding.ensures.entry))
 
 pub invariant_of-self-2 : goal.invariant_of-self-2
 invariant_of-self-2 c =
     let place = c.in_ok-place.place in
-    keys_left c.self.inside.rows c.args.self.now c.self.view_is place c.in_ok-holding.field-0-0 c.in_ok-holding.holding c.in_ok-place.ensures.some.1.inside c.swap_remove_index.new.self.entries c.in_ok-holding.ensures.entries c.self.invariant
+    keys_left c.self.inside.rows c.args.self.now c.self.view_is place c.in_ok-holding.field-0-0 c.in_ok-holding.holding
+    c.in_ok-place.ensures.some.1.inside c.swap_remove_index.new.self.entries c.in_ok-holding.ensures.entries c.self.invariant
 
 pub returns-clause-some : goal.returns-clause-some
 returns-clause-some c =

@@ -8,12 +8,15 @@ by_none : (rows : List Holding) (sector : ℕ) (found : Option ℕ) → found �
 by_none rows sector None is none = none_found rows sector (sym is)
 by_none rows sector (Some place) is none = absurd (true≢false none)
 
-by_some : (rows : List Holding) (sector : ℕ) (found : Option ℕ) → found ≡ position (nat_eq sector) (row_sectors rows) → IfSome found (λ place. (holding : Holding) × IsAtPlace rows sector place holding)
+by_some : (rows : List Holding) (sector : ℕ) (found : Option ℕ) → found ≡ position (nat_eq sector) (row_sectors rows)
+    → IfSome found (λ place. (holding : Holding) × IsAtPlace rows sector place holding)
 by_some rows sector None is = tt
 by_some rows sector (Some place) is = (_, row_found rows sector place (sym is))
 
 pub returns-clause-none : goal.returns-clause-none
-returns-clause-none c = by_none c.args.self.now c.args.sector c.get_index_of.result (c.get_index_of.ensures.index ∙ ap (position (nat_eq c.args.sector)) (c.self.invariant ∙ ap row_sectors c.self.view_is))
+returns-clause-none c = by_none c.args.self.now c.args.sector c.get_index_of.result
+    (c.get_index_of.ensures.index ∙ ap (position (nat_eq c.args.sector)) (c.self.invariant ∙ ap row_sectors c.self.view_is))
 
 pub returns-clause-some : goal.returns-clause-some
-returns-clause-some c = by_some c.args.self.now c.args.sector c.get_index_of.result (c.get_index_of.ensures.index ∙ ap (position (nat_eq c.args.sector)) (c.self.invariant ∙ ap row_sectors c.self.view_is))
+returns-clause-some c = by_some c.args.self.now c.args.sector c.get_index_of.result
+    (c.get_index_of.ensures.index ∙ ap (position (nat_eq c.args.sector)) (c.self.invariant ∙ ap row_sectors c.self.view_is))

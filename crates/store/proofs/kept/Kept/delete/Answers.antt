@@ -50,7 +50,9 @@ count_is : (g : given.Over) (c : After-root_without-root g) → c.len-libraries.
 count_is g c = c.len-libraries.ensures ∙ sym c.deref.ensures.len ∙ ap length c.deref.ensures.value
 
 -- the entry of the name goes
-removing : (g : given.Over) (c : After-root_without-root g) → IsRemoval c.self.inside.root c.self.inside.entries.items c.self.inside.held c.self.inside.layout c.take_catalogues-taken.new.layout c.args.name.now c.in-Some.position c.as_slice-listed.result.now c.root_without-root.result
+removing : (g : given.Over) (c : After-root_without-root g)
+    → IsRemoval c.self.inside.root c.self.inside.entries.items c.self.inside.held c.self.inside.layout c.take_catalogues-taken.new.layout
+    c.args.name.now c.in-Some.position c.as_slice-listed.result.now c.root_without-root.result
 removing g c =
     let gone = c.in-Some.position in
     let listed = c.as_slice-listed.result.now in
@@ -74,9 +76,11 @@ listed_are g c =
     ∙ sym (map_remove (λ (p : PlacedEntry). p.at) c.self.inside.entries.items c.in-Some.position)
 
 relisting : (g : given.Over) (c : After-root_without-root g) (s : State) (sectors : List ℕ) → sectors ≡ c.remove.new.self.items
-    → IsRelisting Two c.self.inside.root c.self.inside.entries.items s c.as_slice-listed.result.now sectors c.root_without-root.result (remove c.self.inside.entries.items c.in-Some.position) (without c.args.name.now s)
+    → IsRelisting Two c.self.inside.root c.self.inside.entries.items s c.as_slice-listed.result.now sectors c.root_without-root.result
+    (remove c.self.inside.entries.items c.in-Some.position) (without c.args.name.now s)
 relisting g c s sectors are =
-    subst (λ sectors. IsRelisting Two c.self.inside.root c.self.inside.entries.items s c.as_slice-listed.result.now sectors c.root_without-root.result (remove c.self.inside.entries.items c.in-Some.position) (without c.args.name.now s)) (sym (are ∙ listed_are g c))
+    subst (λ sectors. IsRelisting Two c.self.inside.root c.self.inside.entries.items s c.as_slice-listed.result.now sectors
+    c.root_without-root.result (remove c.self.inside.entries.items c.in-Some.position) (without c.args.name.now s)) (sym (are ∙ listed_are g c))
     (removal_relisting (removing g c) s)
 
 pub write_list-requires-clause-root : goal.write_list-requires-clause-root
@@ -98,11 +102,13 @@ write_list-requires-clause-listed g c =
     let removal = removing g before in
     let next = removal_next removal in
     subst (CanBeCatalogued (length c.as_slice-listed.result.now)) (sym (c.deref-2.ensures.value ∙ listed_are g before))
-    (can_be_catalogued c.self.inside.root.sectors (length c.as_slice-listed.result.now) c.root_without-root.result (remove c.self.inside.entries.items c.in-Some.position) (omega (arith, removal.kept.root_fits.sectors)) next.enough next.few next.apart)
+    (can_be_catalogued c.self.inside.root.sectors (length c.as_slice-listed.result.now) c.root_without-root.result
+    (remove c.self.inside.entries.items c.in-Some.position) (omega (arith, removal.kept.root_fits.sectors)) next.enough next.few next.apart)
 
 -- a stop leaves the state from before or the one after
 leaves : (g : given.Over) (c : After-write_list g) (s : State)
-    → IsRelisting Two c.self.inside.root c.self.inside.entries.items s c.as_slice-listed.result.now c.deref-2.result.now c.root_without-root.result (remove c.self.inside.entries.items c.in-Some.position) (without c.args.name.now s)
+    → IsRelisting Two c.self.inside.root c.self.inside.entries.items s c.as_slice-listed.result.now c.deref-2.result.now c.root_without-root.result
+    (remove c.self.inside.entries.items c.in-Some.position) (without c.args.name.now s)
     → IsAt g.D.Disk.facts c.args.self.now s → LeavesOnly (g.D.Disk.facts c.args.self.now.disk) (g.D.Disk.facts c.write_list.new.disk) (λ m. Stands m s ⊎ Stands m (without c.args.name.now s))
 leaves g c s is at_entry =
     let at = subst (λ store. IsAt g.D.Disk.facts store s) (sym c.self.view_is) at_entry in
@@ -120,7 +126,8 @@ returns-clause-any_moment g c s at =
     leaves g here.After-write_list s (relisting g here.After-root_without-root s c.deref-2.result.now c.deref-2.ensures.value) at
 
 -- what is given back is what stood there
-gone_are : (g : given.Over) (c : After-catalogues g) → sectors_of c.index.result.now ++ c.catalogues.result.now ≡ sectors_of (get_or c.self.inside.entries.items c.in-Some.position no_entry) ++ catalogues_of c.self.inside.root
+gone_are : (g : given.Over) (c : After-catalogues g) → sectors_of c.index.result.now
+    ++ c.catalogues.result.now ≡ sectors_of (get_or c.self.inside.entries.items c.in-Some.position no_entry) ++ catalogues_of c.self.inside.root
 gone_are g c =
     let items = c.self.inside.entries.items in
     let lt : c.in-Some.position < length items = omega (arith, c.in-Some.ensures.some.0, ap length c.deref.ensures.value) in
@@ -135,7 +142,9 @@ give_up-requires-clause-held g c =
     (moved_held removal.kept removal.claimed c.root_without-root.result (remove c.self.inside.entries.items c.in-Some.position) (removal_moved removal))
 
 -- what is given up is what stood there
-given_up : (g : given.Over) (c : After-give_up g) → IsGivenUp c.self.inside.held c.give_up.new.held c.take_catalogues-taken.new.layout c.give_up.new.layout (get_or c.self.inside.entries.items c.in-Some.position no_entry) (catalogues_of c.self.inside.root)
+given_up : (g : given.Over) (c : After-give_up g)
+    → IsGivenUp c.self.inside.held c.give_up.new.held c.take_catalogues-taken.new.layout c.give_up.new.layout
+    (get_or c.self.inside.entries.items c.in-Some.position no_entry) (catalogues_of c.self.inside.root)
 given_up g c =
     let items = c.self.inside.entries.items in
     let lt : c.in-Some.position < length items = omega (arith, c.in-Some.ensures.some.0, ap length c.deref.ensures.value) in
@@ -183,7 +192,8 @@ returns-clause-ok g c s at_entry =
       honest = subst IsTrue (sym c.write_list.ensures.calls.honest) at.honest;
       usable = refl;
       stands = λ m mixture. subst (λ l. StandsBy Two m c.root_without-root.result l (without c.args.name.now s)) (sym c.remove-3.ensures.items)
-          (c.in_default-write_list.ensures.done at.honest Two c.self.inside.root c.self.inside.entries.items s (remove c.self.inside.entries.items c.in-Some.position) (without c.args.name.now s) at.stands is m mixture);
+          (c.in_default-write_list.ensures.done at.honest Two c.self.inside.root c.self.inside.entries.items s
+          (remove c.self.inside.entries.items c.in-Some.position) (without c.args.name.now s) at.stands is m mixture);
     }
 
 pub returns-clause-placed : goal.returns-clause-placed

@@ -19,11 +19,15 @@ pub returns-clause-none : goal.returns-clause-none
 returns-clause-none g c = (
   λ is. absurd (true≢false is),
   λ none.
-      let here : holders_of c.self.inside.held c.held.inside.at ≡ 0 = subst (λ store. holders_of store.held c.held.inside.at ≡ 0) (sym c.self.view_is) (subst (λ at. holders_of c.args.self.now.held at ≡ 0) (sym c.held.view_is) none) in
+      let here : holders_of c.self.inside.held c.held.inside.at ≡ 0 =
+      subst (λ store. holders_of store.held c.held.inside.at ≡ 0) (sym c.self.view_is)
+      (subst (λ at. holders_of c.args.self.now.held at ≡ 0) (sym c.held.view_is) none) in
       absurd (omega (arith, here, by_some c.self.invariant.0.rows c.in_ok-placed.ensures.some)),
 )
 
 pub returns-clause-some : goal.returns-clause-some
 returns-clause-some g c = λ placed by.
-    let here : IsHeldBy c.self.inside.held c.held.inside.at placed = subst (λ store. IsHeldBy store.held c.held.inside.at placed) (sym c.self.view_is) (subst (λ at. IsHeldBy c.args.self.now.held at placed) (sym c.held.view_is) by) in
+    let here : IsHeldBy c.self.inside.held c.held.inside.at placed =
+    subst (λ store. IsHeldBy store.held c.held.inside.at placed) (sym c.self.view_is)
+    (subst (λ at. IsHeldBy c.args.self.now.held at placed) (sym c.held.view_is) by) in
     c.name_bytes.ensures ∙ ap (λ (p : PlacedEntry). name_of p.entry) (by_one c.self.invariant.0.rows.own c.in_ok-placed.ensures.some here)

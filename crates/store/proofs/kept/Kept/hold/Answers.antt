@@ -20,11 +20,25 @@ before g c = record { disk = c.self.inside.disk; root = c.self.inside.root; entr
 pub returns-then-self : goal.returns-then-self
 returns-then-self g c =
     subst (λ store. Holds g.D.Disk.facts store store c.args.position (Err Reopen)) c.self.view_is
-    (hold_refused g.D.Disk.facts (record { disk = c.self.inside.disk; root = c.self.inside.root; entries = c.self.inside.entries.items; held = c.self.inside.held; failed = c.self.inside.failed }) c.self.invariant.0 c.args.position Reopen (λ _. c.if-self.true, λ _. refl) (inl refl))
+    (hold_refused g.D.Disk.facts (record {
+      disk = c.self.inside.disk;
+      root = c.self.inside.root;
+      entries = c.self.inside.entries.items;
+      held =
+          c.self.inside.held;
+      failed = c.self.inside.failed;
+    }) c.self.invariant.0 c.args.position Reopen (λ _. c.if-self.true, λ _. refl) (inl refl))
 
 pub returns-in_err-hold : goal.returns-in_err-hold
 returns-in_err-hold g c =
-    let store : Opened g.row.D.Denot = record { disk = c.self.inside.disk; root = c.self.inside.root; entries = c.self.inside.entries.items; held = c.self.inside.held; failed = c.self.inside.failed } in
+    let store : Opened g.row.D.Denot = record {
+      disk = c.self.inside.disk;
+      root = c.self.inside.root;
+      entries = c.self.inside.entries.items;
+      held = c.self.inside.held;
+      failed =
+          c.self.inside.failed;
+    } in
     let refused = hold_refused g.D.Disk.facts store c.self.invariant.0 c.args.position OutOfMemory (λ is. absurd (cc is), λ failed. absurd (false≢true (sym c.if-self.false ∙ failed))) (inr refl) in
     let p = err_from_is_err_and c.from_residual.result c.from_residual.ensures.1 in
     let is : p.0 ≡ OutOfMemory = p.2 ∙ c.in_err-hold.ensures.refusals in
@@ -37,14 +51,17 @@ its g c =
     let lt = subst (λ store. c.args.position < length store.entries) (sym c.self.view_is) c.requires in
     c.index-placed.ensures ∙ get_or_default c.self.inside.entries.items c.args.position _ no_entry lt
 
-either : (g : given.Over) (c : In_ok-hold g) → (IsHeldOnce c.self.inside.held c.hold.new.self (get_or c.self.inside.entries.items c.args.position no_entry)) ⊎ (IsHeldMore c.self.inside.held c.hold.new.self (get_or c.self.inside.entries.items c.args.position no_entry).at)
+either : (g : given.Over) (c : In_ok-hold g)
+    → (IsHeldOnce c.self.inside.held c.hold.new.self (get_or c.self.inside.entries.items c.args.position no_entry))
+    ⊎ (IsHeldMore c.self.inside.held c.hold.new.self (get_or c.self.inside.entries.items c.args.position no_entry).at)
 either g c = subst (λ (p : PlacedEntry). IsHeldOnce c.self.inside.held c.hold.new.self p ⊎ IsHeldMore c.self.inside.held c.hold.new.self p.at) (its g c) c.in_ok-hold.ensures.ok
 
 pub invariant_of-self-2 : goal.invariant_of-self-2
 invariant_of-self-2 g c =
     let lt = subst (λ store. c.args.position < length store.entries) (sym c.self.view_is) c.requires in
     let all = either g c in (
-      kept_held c.self.invariant.0 (holding_rows g.D.Disk.facts (before g c) c.self.invariant.0 c.args.position lt c.if-self.false all) (holding_lone g.D.Disk.facts (before g c) c.self.invariant.0 c.args.position lt c.if-self.false all),
+      kept_held c.self.invariant.0 (holding_rows g.D.Disk.facts (before g c) c.self.invariant.0 c.args.position lt c.if-self.false all)
+          (holding_lone g.D.Disk.facts (before g c) c.self.invariant.0 c.args.position lt c.if-self.false all),
       c.self.invariant.1,
       c.self.invariant.2,
       c.self.invariant.3,

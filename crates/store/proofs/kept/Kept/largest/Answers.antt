@@ -19,8 +19,11 @@ returns-clause-state g c s at bytes size =
     let listed = length c.catalogues.result.now in
     let two = subst (λ store. version_of store.root ≡ Two) (sym c.self.view_is) c.requires.version in
     let more : count ≡ catalogues_for (length entries + 1) = omega (arith, c.catalogues_for-count.ensures, c.len-2.ensures) in
-    let rest : count - listed ≡ count - catalogues_for (length entries) = ap (λ n. count - n) (ap length c.catalogues.ensures ∙ catalogues_enough c.self.inside.root entries c.self.inside.held layout c.self.invariant.0 two) in
+    let rest : count - listed ≡ count - catalogues_for (length entries) =
+    ap (λ n. count - n) (ap length c.catalogues.ensures
+    ∙ catalogues_enough c.self.inside.root entries c.self.inside.held layout c.self.invariant.0 two) in
     let counted = facts_of g.D.Disk.facts (λ disk honest. g.met.D.Disk.holds_now _ honest) (λ disk honest. g.met.D.Disk.whole_sectors _ honest) c.self.view_is c.self.invariant.0 at in
-    let most : c.most_bytes.result ≡ min (512 * min (free_count layout - (1 + count + (count - listed))) (sector_count (longest_runs layout))) 16777216 = c.most_bytes.ensures ∙ ap (λ n. min (512 * n) 16777216) c.most_sectors-sectors.ensures in
+    let most : c.most_bytes.result ≡ min (512 * min (free_count layout - (1 + count + (count - listed))) (sector_count (longest_runs layout)))
+    16777216 = c.most_bytes.ensures ∙ ap (λ n. min (512 * n) 16777216) c.most_sectors-sectors.ensures in
     subst (λ n. (length bytes ≤ n) ↔ (refusal_of_new (room_of c.args.self.now) (longest_free c.args.self.now) s bytes ≡ None)) (sym most)
     (largest_iff c.self.view_is counted (λ is. omega (arith, is, c.if-self-2.false)) (omega (arith, c.if-len-ge-MOST_LIBRARIES.false, c.len.ensures)) count (count - listed) more rest bytes size)

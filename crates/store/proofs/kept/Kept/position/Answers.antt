@@ -9,6 +9,9 @@ use Rattle.store.proofs.kept.Kept.position.Goals as goal
 pub returns-clause-state : goal.returns-clause-state
 returns-clause-state g c version s at =
     let here = subst (λ store. IsAtBy version g.D.Disk.facts store s) (sym c.self.view_is) at in
-    let none = subst (λ (l : List PlacedEntry). IsNone c.position_of.result → (k : _) (d : PlacedEntry) → k < length l → name_of (slice_index_or l k d).entry ≡ c.args.name.now → ⊥) c.deref.ensures.value c.position_of.ensures.none in
-    let some = subst (λ (l : List PlacedEntry). IfSome c.position_of.result (λ i. (i < length l) × ((d : PlacedEntry) → name_of (slice_index_or l i d).entry ≡ c.args.name.now))) c.deref.ensures.value c.position_of.ensures.some in
+    let none = subst (λ (l : List PlacedEntry). IsNone c.position_of.result → (k : _) (d : PlacedEntry) → k < length l
+    → name_of (slice_index_or l k d).entry ≡ c.args.name.now → ⊥) c.deref.ensures.value c.position_of.ensures.none in
+    let some = subst (λ (l : List PlacedEntry). IfSome c.position_of.result
+    (λ i. (i < length l) × ((d : PlacedEntry) → name_of (slice_index_or l i d).entry ≡ c.args.name.now))) c.deref.ensures.value
+    c.position_of.ensures.some in
     position_is g.D.Disk.facts version _ s (g.met.D.Disk.holds_now _) here c.args.name.now c.position_of.result c.self.invariant.0.names none some

@@ -39,7 +39,8 @@ use Rattle.store.proofs.kept.Kept.put_new.Goals.{After-take_room, After-next_roo
 use Rattle.store.proofs.kept.Kept.put_new.Goals as goal
 
 -- what is known of the state before
-counted : (g : given.Over) (c : After-take_room g) (s : State) → IsAt g.D.Disk.facts c.args.self.now s → IsCounted c.self.inside.root c.self.inside.entries.items c.self.inside.held c.self.inside.layout s
+counted : (g : given.Over) (c : After-take_room g) (s : State) → IsAt g.D.Disk.facts c.args.self.now s
+    → IsCounted c.self.inside.root c.self.inside.entries.items c.self.inside.held c.self.inside.layout s
 counted g c s at = facts_of g.D.Disk.facts (λ disk honest. g.met.D.Disk.holds_now _ honest) (λ disk honest. g.met.D.Disk.whole_sectors _ honest) c.self.view_is c.self.invariant.0 at
 
 usable : (g : given.Over) (c : After-take_room g) → c.self.inside.root.generation ≢ last_generation
@@ -55,13 +56,17 @@ more g c = omega (arith, c.catalogues_for-count.ensures, c.len-libraries.ensures
 rest : (g : given.Over) (c : After-take_room g) → c.catalogues_for-count.result - length c.catalogues.result.now ≡ c.catalogues_for-count.result - catalogues_for (length c.self.inside.entries.items)
 rest g c =
     let two = subst (λ store. version_of store.root ≡ Two) (sym c.self.view_is) c.requires.version in
-    ap (λ n. c.catalogues_for-count.result - n) (ap length c.catalogues.ensures ∙ catalogues_enough c.self.inside.root c.self.inside.entries.items c.self.inside.held c.self.inside.layout c.self.invariant.0 two)
+    ap (λ n. c.catalogues_for-count.result - n)
+    (ap length c.catalogues.ensures ∙ catalogues_enough c.self.inside.root c.self.inside.entries.items c.self.inside.held c.self.inside.layout
+    c.self.invariant.0 two)
 
 count_is : (g : given.Over) (c : After-next_root-root g) → c.len-libraries.result ≡ length c.self.inside.entries.items
 count_is g c = omega (arith, c.len-libraries.ensures, ap length c.reserve-2.ensures.items)
 
 -- what is put is one more entry
-newly : (g : given.Over) (c : After-next_root-root g) → IsNew c.self.inside.root c.self.inside.entries.items c.self.inside.held c.self.inside.layout c.take_room.new.layout c.as_slice-listed.result.now c.new_entry-put.result c.next_root-root.result
+newly : (g : given.Over) (c : After-next_root-root g)
+    → IsNew c.self.inside.root c.self.inside.entries.items c.self.inside.held c.self.inside.layout c.take_room.new.layout
+    c.as_slice-listed.result.now c.new_entry-put.result c.next_root-root.result
 newly g c =
     let put = c.new_entry-put.result in
     let room = c.in_ok-room.room in
@@ -72,7 +77,8 @@ newly g c =
       claimed = subst (λ l. IsClaimedBeside c.self.inside.layout c.take_room.new.layout (sectors_of put ++ l)) (sym listed)
           (put_claimed c.self.inside.layout c.take_room.new.layout room.extents room.entry room.catalogues put c.new_entry-put.ensures.extents c.new_entry-put.ensures.at c.in_ok-room.ensures.claimed);
       fits = c.new_entry-put.ensures.fits;
-      named = subst (λ name. All (λ (other : PlacedEntry). name_of other.entry ≢ name) c.self.inside.entries.items) (sym c.new_entry-put.ensures.name) (subst (λ store. LacksName store c.args.name.now) (sym c.self.view_is) c.requires.new);
+      named = subst (λ name. All (λ (other : PlacedEntry). name_of other.entry ≢ name) c.self.inside.entries.items)
+          (sym c.new_entry-put.ensures.name) (subst (λ store. LacksName store c.args.name.now) (sym c.self.view_is) c.requires.new);
       few = omega (arith, c.if-len-ge-MOST_LIBRARIES.false, c.len.ensures);
       later = omega (arith, c.if-self-2.false, c.self.invariant.0.root_fits.generation);
       enough = count ∙ c.catalogues_for-count.ensures ∙ ap (λ n. catalogues_for (n + 1)) (count_is g c);
@@ -93,10 +99,12 @@ enough : (g : given.Over) (c : After-next_root-root g) → length c.args.bytes.n
 enough g c = omega (arith, ap sector_count c.new_entry-put.ensures.extents, c.in_ok-room.ensures.sum, c.sector_need.ensures, (div_ceil_times (length c.args.bytes.now) 512 (omega arith)).0)
 
 putting : (g : given.Over) (c : After-next_root-root g) (s : State) (sectors : List ℕ) → sectors ≡ c.push_sector.new.sectors.items
-    → IsPut Two c.self.inside.root c.self.inside.entries.items s c.args.bytes.now c.new_entry-put.result c.as_slice-listed.result.now sectors c.next_root-root.result (c.self.inside.entries.items ++ c.new_entry-put.result ∷ []) (with_new c.args.name.now c.args.bytes.now s)
+    → IsPut Two c.self.inside.root c.self.inside.entries.items s c.args.bytes.now c.new_entry-put.result c.as_slice-listed.result.now sectors
+    c.next_root-root.result (c.self.inside.entries.items ++ c.new_entry-put.result ∷ []) (with_new c.args.name.now c.args.bytes.now s)
 putting g c s sectors are =
     let others = c.self.inside.entries.items ++ c.new_entry-put.result ∷ [] in
-    subst (λ sectors. IsPut Two c.self.inside.root c.self.inside.entries.items s c.args.bytes.now c.new_entry-put.result c.as_slice-listed.result.now sectors c.next_root-root.result others (with_new c.args.name.now c.args.bytes.now s)) (sym (are ∙ listed_are g c))
+    subst (λ sectors. IsPut Two c.self.inside.root c.self.inside.entries.items s c.args.bytes.now c.new_entry-put.result c.as_slice-listed.result.now
+    sectors c.next_root-root.result others (with_new c.args.name.now c.args.bytes.now s)) (sym (are ∙ listed_are g c))
     (new_put (newly g c) c.args.name.now c.args.bytes.now s c.new_entry-put.ensures.name c.new_entry-put.ensures.length (enough g c))
 
 pub returns-in_err-reserve-clause-any_moment : goal.returns-in_err-reserve-clause-any_moment
@@ -114,7 +122,9 @@ returns-in_err-room-clause-any_moment g c s at = untouched g.D.Disk.facts c.args
 pub returns-in_err-room-clause-refused : goal.returns-in_err-room-clause-refused
 returns-in_err-room-clause-refused g c s at =
     let before = (goal.at.returns-in_err-room-clause-refused g c).After-take_room in
-    let first = new_refused c.self.view_is (counted g before s at) c.args.bytes.now (usable g before) c.sector_need.ensures (few g before) (more g before) (rest g before) c.in_err-room.field-0.0 (record { full = c.in_err-room.ensures.full; fragmented = c.in_err-room.ensures.fragmented }) in
+    let first = new_refused c.self.view_is (counted g before s at) c.args.bytes.now (usable g before) c.sector_need.ensures (few g before)
+    (more g before) (rest g before) c.in_err-room.field-0.0
+    (record { full = c.in_err-room.ensures.full; fragmented = c.in_err-room.ensures.fragmented }) in
     answers_refused c.in_err-room.field-0.0 c.from_residual-in_err-room.result first c.from_residual-in_err-room.ensures.1
 
 pub write_put-requires-clause-root : goal.write_put-requires-clause-root
@@ -133,7 +143,8 @@ write_put-requires-clause-listed g c =
     let is_new = newly g before in
     let next = new_next is_new in
     subst (CanBeCatalogued (length c.as_slice-listed.result.now)) (sym (c.deref.ensures.value ∙ listed_are g before))
-    (can_be_catalogued c.self.inside.root.sectors (length c.as_slice-listed.result.now) c.next_root-root.result (c.self.inside.entries.items ++ c.new_entry-put.result ∷ []) (omega (arith, is_new.kept.root_fits.sectors)) next.enough next.few next.apart)
+    (can_be_catalogued c.self.inside.root.sectors (length c.as_slice-listed.result.now) c.next_root-root.result
+    (c.self.inside.entries.items ++ c.new_entry-put.result ∷ []) (omega (arith, is_new.kept.root_fits.sectors)) next.enough next.few next.apart)
 
 pub give_back_room-requires-clause-held : goal.give_back_room-requires-clause-held
 give_back_room-requires-clause-held g c =
@@ -145,7 +156,8 @@ invariant_of-self-in-Err g c =
     let is_new = newly g (goal.at.invariant_of-self-in-Err g c).After-next_root-root in
     let items = c.reserve-2.ensures.items in (
       subst (λ l. IsKept c.self.inside.root l c.self.inside.held c.give_back_room.new.layout) (sym items) (back_kept is_new.kept is_new.claimed c.give_back_room.new.layout c.give_back_room.ensures),
-      subst (λ l. IsOrderOf (entry_names l) c.reserve.new.self.positions) (sym items) (subst (IsOrderOf (entry_names c.self.inside.entries.items)) (sym c.reserve.ensures.positions) c.self.invariant.1),
+      subst (λ l. IsOrderOf (entry_names l) c.reserve.new.self.positions) (sym items)
+          (subst (IsOrderOf (entry_names c.self.inside.entries.items)) (sym c.reserve.ensures.positions) c.self.invariant.1),
       c.write_put.ensures.calls.sectors ∙ c.self.invariant.2,
       λ is. absurd (false≢true (sym is)),
     )
@@ -155,12 +167,15 @@ returns-in-Err-clause-any_moment g c s at_entry =
     let at = subst (λ store. IsAt g.D.Disk.facts store s) (sym c.self.view_is) at_entry in
     let put = putting g (goal.at.returns-in-Err-clause-any_moment g c).After-next_root-root s c.deref.result.now c.deref.ensures.value in
     subst (λ store. LeavesOnly (g.D.Disk.facts store.disk) (g.D.Disk.facts c.write_put.new.disk) (λ m. Stands m s ⊎ Stands m (with_new c.args.name.now c.args.bytes.now s))) c.self.view_is
-    (c.write_put.ensures.any_moment at.honest Two c.self.inside.root c.self.inside.entries.items s (c.self.inside.entries.items ++ c.new_entry-put.result ∷ []) (with_new c.args.name.now c.args.bytes.now s) at.stands put)
+    (c.write_put.ensures.any_moment at.honest Two c.self.inside.root c.self.inside.entries.items s
+    (c.self.inside.entries.items ++ c.new_entry-put.result ∷ []) (with_new c.args.name.now c.args.bytes.now s) at.stands put)
 
 pub returns-in-Err-clause-refused : goal.returns-in-Err-clause-refused
 returns-in-Err-clause-refused g c s at =
     let before = (goal.at.returns-in-Err-clause-refused g c).After-take_room in
-    let first = new_taken c.self.view_is (counted g before s at) c.args.bytes.now (usable g before) c.sector_need.ensures (few g before) (more g before) (rest g before) {x = c.in_ok-room.room} (record { full = c.in_ok-room.ensures.full; fragmented = c.in_ok-room.ensures.fragmented }) in
+    let first = new_taken c.self.view_is (counted g before s at) c.args.bytes.now (usable g before) c.sector_need.ensures (few g before)
+    (more g before) (rest g before) {x = c.in_ok-room.room}
+    (record { full = c.in_ok-room.ensures.full; fragmented = c.in_ok-room.ensures.fragmented }) in
     answers_failed c.from.result first c.from.ensures
 
 pub release_sectors-requires : goal.release_sectors-requires
@@ -184,7 +199,8 @@ invariant_of-self-2 g c =
           (new_room is_new (c.self.inside.root.sectors - length (lone_sectors c.self.inside.held)) (omega arith))
           (rows_more put is_new.kept.rows)
           (moved_claimed is_new.kept is_new.claimed c.next_root-root.result others moved new released)),
-      subst (λ l. IsOrderOf (entry_names l) c.insert.new.self.positions) (ap (λ l. l ++ put ∷ []) c.deref-2.ensures.value ∙ sym c.in-Ok.ensures.items) (c.insert.ensures put c.new_entry-put.ensures.name),
+      subst (λ l. IsOrderOf (entry_names l) c.insert.new.self.positions)
+          (ap (λ l. l ++ put ∷ []) c.deref-2.ensures.value ∙ sym c.in-Ok.ensures.items) (c.insert.ensures put c.new_entry-put.ensures.name),
       c.write_put.ensures.calls.sectors ∙ c.self.invariant.2 ∙ sym (ap (λ r. r.sectors) c.next_root-root.ensures),
       λ _. listed_are g before ∙ ap entry_sectors (sym items),
     )
@@ -218,7 +234,8 @@ returns-clause-any_moment g c s at_entry =
     let at = subst (λ store. IsAt g.D.Disk.facts store s) (sym c.self.view_is) at_entry in
     let put = putting g (goal.at.returns-clause-any_moment g c).After-next_root-root s c.deref.result.now c.deref.ensures.value in
     subst (λ store. LeavesOnly (g.D.Disk.facts store.disk) (g.D.Disk.facts c.write_put.new.disk) (λ m. Stands m s ⊎ Stands m (with_new c.args.name.now c.args.bytes.now s))) c.self.view_is
-    (c.write_put.ensures.any_moment at.honest Two c.self.inside.root c.self.inside.entries.items s (c.self.inside.entries.items ++ c.new_entry-put.result ∷ []) (with_new c.args.name.now c.args.bytes.now s) at.stands put)
+    (c.write_put.ensures.any_moment at.honest Two c.self.inside.root c.self.inside.entries.items s
+    (c.self.inside.entries.items ++ c.new_entry-put.result ∷ []) (with_new c.args.name.now c.args.bytes.now s) at.stands put)
 
 pub returns-clause-ok : goal.returns-clause-ok
 returns-clause-ok g c s at_entry =
@@ -229,13 +246,16 @@ returns-clause-ok g c s at_entry =
       honest = subst IsTrue (sym c.write_put.ensures.calls.honest) at.honest;
       usable = refl;
       stands = λ m mixture. subst (λ l. StandsBy Two m c.next_root-root.result l (with_new c.args.name.now c.args.bytes.now s)) (sym items)
-          (c.in_default.ensures.done at.honest Two c.self.inside.root c.self.inside.entries.items s (c.self.inside.entries.items ++ c.new_entry-put.result ∷ []) (with_new c.args.name.now c.args.bytes.now s) at.stands put m mixture);
+          (c.in_default.ensures.done at.honest Two c.self.inside.root c.self.inside.entries.items s
+          (c.self.inside.entries.items ++ c.new_entry-put.result ∷ []) (with_new c.args.name.now c.args.bytes.now s) at.stands put m mixture);
     }
 
 pub returns-clause-refused : goal.returns-clause-refused
 returns-clause-refused g c s at =
     let before = (goal.at.returns-clause-refused g c).After-take_room in
-    let first = new_taken c.self.view_is (counted g before s at) c.args.bytes.now (usable g before) c.sector_need.ensures (few g before) (more g before) (rest g before) {x = c.in_ok-room.room} (record { full = c.in_ok-room.ensures.full; fragmented = c.in_ok-room.ensures.fragmented }) in
+    let first = new_taken c.self.view_is (counted g before s at) c.args.bytes.now (usable g before) c.sector_need.ensures (few g before)
+    (more g before) (rest g before) {x = c.in_ok-room.room}
+    (record { full = c.in_ok-room.ensures.full; fragmented = c.in_ok-room.ensures.fragmented }) in
     answers_done first
 
 pub returns-clause-placed : goal.returns-clause-placed
@@ -243,7 +263,9 @@ returns-clause-placed g c =
     let is_new = newly g (goal.at.returns-clause-placed g c).After-next_root-root in
     let put = c.new_entry-put.result in
     let room = c.in_ok-room.ensures in
-    let taken = taken_so c.self.inside.root c.self.inside.entries.items c.self.inside.held c.self.inside.layout c.self.invariant.0 c.sector_need.ensures c.new_entry-put.ensures.extents c.new_entry-put.ensures.at (next_catalogues (new_next is_new) is_new.kept.root_fits ∙ c.as_slice-listed.ensures.value) room.data room.inside room.taken in
+    let taken = taken_so c.self.inside.root c.self.inside.entries.items c.self.inside.held c.self.inside.layout c.self.invariant.0
+    c.sector_need.ensures c.new_entry-put.ensures.extents c.new_entry-put.ensures.at
+    (next_catalogues (new_next is_new) is_new.kept.root_fits ∙ c.as_slice-listed.ensures.value) room.data room.inside room.taken in
     record {
       put = put;
       taken = subst (λ store. IsTaken (layout_in_use store) (div_ceil (length c.args.bytes.now) 512) (extents_of put.entry) put.at (catalogues_of c.next_root-root.result)) c.self.view_is taken;

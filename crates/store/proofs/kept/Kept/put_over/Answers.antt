@@ -44,7 +44,9 @@ count_is : (g : given.Over) (c : After-next_root-root g) → c.len-libraries.res
 count_is g c = omega (arith, c.len-libraries.ensures)
 
 -- what is put stands in the place of the entry of its name
-replacing : (g : given.Over) (c : After-next_root-root g) → IsReplacement c.self.inside.root c.self.inside.entries.items c.self.inside.held c.self.inside.layout c.take_room.new.layout c.args.name.now c.in-Some.position c.as_slice-listed.result.now c.new_entry-put.result c.next_root-root.result
+replacing : (g : given.Over) (c : After-next_root-root g)
+    → IsReplacement c.self.inside.root c.self.inside.entries.items c.self.inside.held c.self.inside.layout c.take_room.new.layout c.args.name.now
+    c.in-Some.position c.as_slice-listed.result.now c.new_entry-put.result c.next_root-root.result
 replacing g c =
     let entries = c.self.inside.entries.items in
     let put = c.new_entry-put.result in
@@ -67,7 +69,9 @@ replacing g c =
     }
 
 -- its sector is listed with the others'
-listed_are : (g : given.Over) (c : After-next_root-root g) → set c.self.inside.sectors.items c.in-Some.position c.new_entry-put.result.at ≡ entry_sectors (set c.self.inside.entries.items c.in-Some.position c.new_entry-put.result)
+listed_are : (g : given.Over) (c : After-next_root-root g)
+    → set c.self.inside.sectors.items c.in-Some.position c.new_entry-put.result.at ≡ entry_sectors
+    (set c.self.inside.entries.items c.in-Some.position c.new_entry-put.result)
 listed_are g c =
     let put = c.new_entry-put.result in
     ap (λ l. set l c.in-Some.position put.at) (c.self.invariant.3 c.if-self.false)
@@ -78,14 +82,18 @@ enough : (g : given.Over) (c : After-next_root-root g) → length c.args.bytes.n
 enough g c = omega (arith, ap sector_count c.new_entry-put.ensures.extents, c.in_ok-room.ensures.sum, c.sector_need.ensures, (div_ceil_times (length c.args.bytes.now) 512 (omega arith)).0)
 
 putting : (g : given.Over) (c : After-next_root-root g) (s : State) (sectors : List ℕ) → sectors ≡ set c.self.inside.sectors.items c.in-Some.position c.new_entry-put.result.at
-    → IsPut Two c.self.inside.root c.self.inside.entries.items s c.args.bytes.now c.new_entry-put.result c.as_slice-listed.result.now sectors c.next_root-root.result (set c.self.inside.entries.items c.in-Some.position c.new_entry-put.result) (with_bytes c.args.name.now c.args.bytes.now s)
+    → IsPut Two c.self.inside.root c.self.inside.entries.items s c.args.bytes.now c.new_entry-put.result c.as_slice-listed.result.now sectors
+    c.next_root-root.result (set c.self.inside.entries.items c.in-Some.position c.new_entry-put.result)
+    (with_bytes c.args.name.now c.args.bytes.now s)
 putting g c s sectors are =
     let others = set c.self.inside.entries.items c.in-Some.position c.new_entry-put.result in
-    subst (λ sectors. IsPut Two c.self.inside.root c.self.inside.entries.items s c.args.bytes.now c.new_entry-put.result c.as_slice-listed.result.now sectors c.next_root-root.result others (with_bytes c.args.name.now c.args.bytes.now s)) (sym (are ∙ listed_are g c))
+    subst (λ sectors. IsPut Two c.self.inside.root c.self.inside.entries.items s c.args.bytes.now c.new_entry-put.result c.as_slice-listed.result.now
+    sectors c.next_root-root.result others (with_bytes c.args.name.now c.args.bytes.now s)) (sym (are ∙ listed_are g c))
     (replacement_put (replacing g c) c.args.bytes.now s c.new_entry-put.ensures.length (enough g c))
 
 -- what is given back once it is done stood there
-gone_is : (g : given.Over) (c : After-catalogues g) → sectors_of c.index.result.now ++ c.catalogues.result.now ≡ sectors_of (get_or c.self.inside.entries.items c.in-Some.position no_entry) ++ catalogues_of c.self.inside.root
+gone_is : (g : given.Over) (c : After-catalogues g) → sectors_of c.index.result.now
+    ++ c.catalogues.result.now ≡ sectors_of (get_or c.self.inside.entries.items c.in-Some.position no_entry) ++ catalogues_of c.self.inside.root
 gone_is g c =
     let entries = c.self.inside.entries.items in
     let inside : c.in-Some.position < length entries = omega (arith, c.in-Some.ensures.some.0, ap length c.deref.ensures.value) in
@@ -125,7 +133,9 @@ write_put-requires-clause-listed g c =
     let is = replacing g before in
     let next = replacement_next is in
     subst (CanBeCatalogued (length c.as_slice-listed.result.now)) (sym (c.deref-2.ensures.value ∙ listed_are g before))
-    (can_be_catalogued c.self.inside.root.sectors (length c.as_slice-listed.result.now) c.next_root-root.result (set c.self.inside.entries.items c.in-Some.position c.new_entry-put.result) (omega (arith, is.kept.root_fits.sectors)) next.enough next.few next.apart)
+    (can_be_catalogued c.self.inside.root.sectors (length c.as_slice-listed.result.now) c.next_root-root.result
+    (set c.self.inside.entries.items c.in-Some.position c.new_entry-put.result)
+    (omega (arith, is.kept.root_fits.sectors)) next.enough next.few next.apart)
 
 pub give_back_room-requires-clause-held : goal.give_back_room-requires-clause-held
 give_back_room-requires-clause-held g c =
@@ -158,7 +168,9 @@ give_up-requires-clause-held g c =
     subst (AreHeld c.take_room.new.layout) (sym (gone_is g before.After-catalogues)) (moved_held is.kept is.claimed c.next_root-root.result others (replacement_moved is))
 
 -- what is given up is what stood there
-given_up : (g : given.Over) (c : After-give_up g) → IsGivenUp c.self.inside.held c.give_up.new.held c.take_room.new.layout c.give_up.new.layout (get_or c.self.inside.entries.items c.in-Some.position no_entry) (catalogues_of c.self.inside.root)
+given_up : (g : given.Over) (c : After-give_up g)
+    → IsGivenUp c.self.inside.held c.give_up.new.held c.take_room.new.layout c.give_up.new.layout
+    (get_or c.self.inside.entries.items c.in-Some.position no_entry) (catalogues_of c.self.inside.root)
 given_up g c =
     let entries = c.self.inside.entries.items in
     let inside : c.in-Some.position < length entries = omega (arith, c.in-Some.ensures.some.0, ap length c.deref.ensures.value) in
@@ -219,21 +231,25 @@ returns-clause-ok g c s at_entry =
     record {
       honest = subst IsTrue (sym c.write_put.ensures.calls.honest) at.honest;
       usable = refl;
-      stands = c.in_default-write_put.ensures.done at.honest Two c.self.inside.root entries s (set entries c.in-Some.position c.new_entry-put.result) (with_bytes c.args.name.now c.args.bytes.now s) at.stands put;
+      stands = c.in_default-write_put.ensures.done at.honest Two c.self.inside.root entries s (set entries c.in-Some.position c.new_entry-put.result)
+          (with_bytes c.args.name.now c.args.bytes.now s) at.stands put;
     }
 
 -- where room was taken no refusal comes first
-accepted : (g : given.Over) (c : After-next_root-root g) (s : State) → IsAt g.D.Disk.facts c.args.self.now s → refusal_of_put (room_of c.args.self.now) (longest_free c.args.self.now) s c.args.bytes.now ≡ None
+accepted : (g : given.Over) (c : After-next_root-root g) (s : State) → IsAt g.D.Disk.facts c.args.self.now s
+    → refusal_of_put (room_of c.args.self.now) (longest_free c.args.self.now) s c.args.bytes.now ≡ None
 accepted g c s at_entry =
     let counted = facts_of g.D.Disk.facts g.met.D.Disk.holds_now g.met.D.Disk.whole_sectors c.self.view_is c.self.invariant.0 at_entry in
-    over_taken c.self.view_is counted c.args.bytes.now (λ last. omega (arith, last, c.if-self-2.false)) c.sector_need.ensures (omega (arith, c.catalogues_for-count.ensures, c.len-libraries.ensures)) refl
+    over_taken c.self.view_is counted c.args.bytes.now (λ last. omega (arith, last, c.if-self-2.false)) c.sector_need.ensures
+    (omega (arith, c.catalogues_for-count.ensures, c.len-libraries.ensures)) refl
     (record { full = c.in_ok-room.ensures.full; fragmented = c.in_ok-room.ensures.fragmented })
 
 pub returns-in_err-room-clause-refused : goal.returns-in_err-room-clause-refused
 returns-in_err-room-clause-refused g c s at_entry =
     let counted = facts_of g.D.Disk.facts g.met.D.Disk.holds_now g.met.D.Disk.whole_sectors c.self.view_is c.self.invariant.0 at_entry in
     exactly_refused c.in_err-room.field-0.0 c.from_residual.result
-    (over_refused c.self.view_is counted c.args.bytes.now (λ last. omega (arith, last, c.if-self-2.false)) c.sector_need.ensures (omega (arith, c.catalogues_for-count.ensures, c.len-libraries.ensures)) refl c.in_err-room.field-0.0
+    (over_refused c.self.view_is counted c.args.bytes.now (λ last. omega (arith, last, c.if-self-2.false)) c.sector_need.ensures
+    (omega (arith, c.catalogues_for-count.ensures, c.len-libraries.ensures)) refl c.in_err-room.field-0.0
     (record { full = c.in_err-room.ensures.full; fragmented = c.in_err-room.ensures.fragmented }))
     c.from_residual.ensures.1
 
@@ -251,7 +267,8 @@ returns-clause-placed g c =
     let put = c.new_entry-put.result in
     let room = c.in_ok-room.ensures in
     let listed = next_catalogues (replacement_next is) is.kept.root_fits ∙ c.as_slice-listed.ensures.value in
-    let taken = taken_so c.self.inside.root c.self.inside.entries.items c.self.inside.held c.self.inside.layout is.kept c.sector_need.ensures c.new_entry-put.ensures.extents c.new_entry-put.ensures.at listed room.data room.inside room.taken in
+    let taken = taken_so c.self.inside.root c.self.inside.entries.items c.self.inside.held c.self.inside.layout is.kept c.sector_need.ensures
+    c.new_entry-put.ensures.extents c.new_entry-put.ensures.at listed room.data room.inside room.taken in
     record {
       position = c.in-Some.position;
       at = subst (λ store. IsNamedAt store c.args.name.now c.in-Some.position) c.self.view_is (record { inside = is.inside; named = is.named });

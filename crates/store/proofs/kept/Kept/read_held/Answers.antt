@@ -25,7 +25,9 @@ returns-in_default g c =
     let none = holders_unheld c.self.inside.held c.held.inside.at (c.in_default.ensures.none refl) in
     subst (λ at. ReadsHeld g.D.Disk.facts c.args.self.now c.args.self.now at (Err Damaged)) c.held.view_is
     (subst (λ store. ReadsHeld g.D.Disk.facts store store c.held.inside.at (Err Damaged)) c.self.view_is
-    (read_refused g.D.Disk.facts (before g here) c.self.invariant.0 c.held.inside.at Damaged (λ is. absurd (cc is), λ failed. absurd (false≢true (sym c.if-self.false ∙ failed))) (λ _. (c.if-self.false, none), λ _. refl) (inr (inl refl))))
+    (read_refused g.D.Disk.facts (before g here) c.self.invariant.0 c.held.inside.at Damaged
+    (λ is. absurd (cc is), λ failed. absurd (false≢true (sym c.if-self.false ∙ failed))) (λ _. (c.if-self.false, none), λ _. refl)
+    (inr (inl refl))))
 
 pub read_file-requires-clause-spelling : goal.read_file-requires-clause-spelling
 read_file-requires-clause-spelling g c = held_fits c.self.invariant.0 c.in-Some.ensures.some
@@ -40,5 +42,6 @@ returns g c =
     let read = c.read_file.ensures in
     subst (λ at. ReadsHeld g.D.Disk.facts c.args.self.now (read_now g here c.read_file.new.disk) at c.read_file.result) c.held.view_is
     (subst (λ store. ReadsHeld g.D.Disk.facts store (read_now g here c.read_file.new.disk) c.held.inside.at c.read_file.result) c.self.view_is
-    (read_done g.D.Disk.facts (before g here) c.self.invariant.0 c.read_file.new.disk c.held.inside.at c.in-Some.ensures.some c.if-self.false (λ honest. g.met.D.Disk.holds_now _ honest) read.calls read.same
+    (read_done g.D.Disk.facts (before g here) c.self.invariant.0 c.read_file.new.disk c.held.inside.at c.in-Some.ensures.some c.if-self.false
+    (λ honest. g.met.D.Disk.holds_now _ honest) read.calls read.same
     c.read_file.result read.all_calls read.read read.length read.refused))

@@ -31,7 +31,9 @@ use Rattle.store.proofs.kept.Kept.relist.Goals.{After-free_count, After-next_roo
 use Rattle.store.proofs.kept.Kept.relist.Goals as goal
 
 -- the next root lists the same entries by the catalogues that were taken
-relisted : (g : given.Over) (c : After-next_root-root g) → IsRelist c.self.inside.root c.self.inside.entries.items c.self.inside.held c.self.inside.layout c.take_catalogues-taken.new.layout c.as_slice-listed.result.now c.next_root-root.result
+relisted : (g : given.Over) (c : After-next_root-root g)
+    → IsRelist c.self.inside.root c.self.inside.entries.items c.self.inside.held c.self.inside.layout c.take_catalogues-taken.new.layout
+    c.as_slice-listed.result.now c.next_root-root.result
 relisted g c =
     let kept = c.self.invariant.0 in
     let cats = c.as_slice-listed.ensures.value in
@@ -53,7 +55,8 @@ sectors_are g c = c.self.invariant.3 (subst (λ store. IsFalse store.failed) (sy
 following : (g : given.Over) (c : After-next_root-root g) (s : State) (sectors : List ℕ) → sectors ≡ c.self.inside.sectors.items
     → IsRelisting One c.self.inside.root c.self.inside.entries.items s c.as_slice-listed.result.now sectors c.next_root-root.result c.self.inside.entries.items (upgraded s)
 following g c s sectors are =
-    subst (λ l. IsRelisting One c.self.inside.root c.self.inside.entries.items s c.as_slice-listed.result.now l c.next_root-root.result c.self.inside.entries.items (upgraded s)) (sym (are ∙ sectors_are g c)) (relisting (relisted g c) s)
+    subst (λ l. IsRelisting One c.self.inside.root c.self.inside.entries.items s c.as_slice-listed.result.now l c.next_root-root.result
+    c.self.inside.entries.items (upgraded s)) (sym (are ∙ sectors_are g c)) (relisting (relisted g c) s)
 
 pub write_list-requires-clause-root : goal.write_list-requires-clause-root
 write_list-requires-clause-root g c =
@@ -70,21 +73,24 @@ write_list-requires-clause-listed g c =
     let is = relisted g before in
     let next = relist_next is in
     subst (CanBeCatalogued (length c.as_slice-listed.result.now)) (sym (c.deref.ensures.value ∙ sectors_are g before))
-    (can_be_catalogued c.self.inside.root.sectors (length c.as_slice-listed.result.now) c.next_root-root.result c.self.inside.entries.items (omega (arith, is.kept.root_fits.sectors)) is.enough next.few next.apart)
+    (can_be_catalogued c.self.inside.root.sectors (length c.as_slice-listed.result.now) c.next_root-root.result c.self.inside.entries.items
+    (omega (arith, is.kept.root_fits.sectors)) is.enough next.few next.apart)
 
 pub returns-in-Err-clause-any_moment : goal.returns-in-Err-clause-any_moment
 returns-in-Err-clause-any_moment g c s at_entry =
     let at = subst (λ store. IsOldAt g.D.Disk.facts store s) (sym c.self.view_is) at_entry in
     let before = (goal.at.returns-in-Err-clause-any_moment g c).After-next_root-root in
     subst (λ store. LeavesOnly (g.D.Disk.facts store.disk) (g.D.Disk.facts c.write_list.new.disk) (λ m. StandsOld m s ⊎ Stands m (upgraded s))) c.self.view_is
-    (c.write_list.ensures.any_moment at.honest One c.self.inside.root c.self.inside.entries.items s c.self.inside.entries.items (upgraded s) at.stands (following g before s c.deref.result.now c.deref.ensures.value))
+    (c.write_list.ensures.any_moment at.honest One c.self.inside.root c.self.inside.entries.items s c.self.inside.entries.items
+    (upgraded s) at.stands (following g before s c.deref.result.now c.deref.ensures.value))
 
 pub returns-clause-any_moment : goal.returns-clause-any_moment
 returns-clause-any_moment g c s at_entry =
     let at = subst (λ store. IsOldAt g.D.Disk.facts store s) (sym c.self.view_is) at_entry in
     let before = (goal.at.returns-clause-any_moment g c).After-next_root-root in
     subst (λ store. LeavesOnly (g.D.Disk.facts store.disk) (g.D.Disk.facts c.write_list.new.disk) (λ m. StandsOld m s ⊎ Stands m (upgraded s))) c.self.view_is
-    (c.write_list.ensures.any_moment at.honest One c.self.inside.root c.self.inside.entries.items s c.self.inside.entries.items (upgraded s) at.stands (following g before s c.deref.result.now c.deref.ensures.value))
+    (c.write_list.ensures.any_moment at.honest One c.self.inside.root c.self.inside.entries.items s c.self.inside.entries.items
+    (upgraded s) at.stands (following g before s c.deref.result.now c.deref.ensures.value))
 
 pub invariant_of-self-2 : goal.invariant_of-self-2
 invariant_of-self-2 g c =
@@ -108,7 +114,8 @@ returns-clause-ok g c s at_entry =
     record {
       honest = subst IsTrue (sym c.write_list.ensures.calls.honest) at.honest;
       usable = refl;
-      stands = c.in_default.ensures.done at.honest One c.self.inside.root c.self.inside.entries.items s c.self.inside.entries.items (upgraded s) at.stands (following g before s c.deref.result.now c.deref.ensures.value);
+      stands = c.in_default.ensures.done at.honest One c.self.inside.root c.self.inside.entries.items s c.self.inside.entries.items
+          (upgraded s) at.stands (following g before s c.deref.result.now c.deref.ensures.value);
     }
 
 -- a commit is refused by its generation or for want of room, and not otherwise
@@ -118,7 +125,8 @@ usable_of g c s at_entry is =
     let by = at.stands (g.D.Disk.facts c.self.inside.disk).now (g.met.D.Disk.holds_now _ at.honest) in
     omega (arith, is, ap (λ t. t.generation) by.is, c.if-self.false)
 
-room_of : (g : given.Over) (c : After-free_count g) (s : State) → IsOldAt g.D.Disk.facts c.args.self.now s → (c.free_count.result < 2 * c.catalogues_for-count.result) ↔ (c.self.inside.root.sectors < root_sectors + taken_by s)
+room_of : (g : given.Over) (c : After-free_count g) (s : State) → IsOldAt g.D.Disk.facts c.args.self.now s
+    → (c.free_count.result < 2 * c.catalogues_for-count.result) ↔ (c.self.inside.root.sectors < root_sectors + taken_by s)
 room_of g c s at_entry =
     let at = subst (λ store. IsOldAt g.D.Disk.facts store s) (sym c.self.view_is) at_entry in
     let now = (g.D.Disk.facts c.self.inside.disk).now in
@@ -139,7 +147,8 @@ returns-then-free_count-count-clause-refused g c s at =
     subst (λ store. IsExactAnswer (refusal_of_upgrade store.root.sectors s) (Err Full)) c.self.view_is
     (subst (λ refusal. IsExactAnswer refusal (Err Full)) (sym first) refl)
 
-accepted_of : (g : given.Over) (c : After-free_count g) (s : State) → IsOldAt g.D.Disk.facts c.args.self.now s → 2 * c.catalogues_for-count.result ≤ c.free_count.result → refusal_of_upgrade c.self.inside.root.sectors s ≡ None
+accepted_of : (g : given.Over) (c : After-free_count g) (s : State) → IsOldAt g.D.Disk.facts c.args.self.now s
+    → 2 * c.catalogues_for-count.result ≤ c.free_count.result → refusal_of_upgrade c.self.inside.root.sectors s ≡ None
 accepted_of g c s at enough = upgrade_accepted c.self.inside.root.sectors s (usable_of g c s at)
     (⊎_elim (λ few. omega (arith, (room_of g c s at).1 few, enough)) (λ room. room) (cases_lt c.self.inside.root.sectors (root_sectors + taken_by s)))
 
@@ -162,6 +171,7 @@ returns-clause-placed g c =
     let taken = subst (AreTaken c.self.inside.layout) (sym c.as_slice-listed.ensures.value) c.take_catalogues-taken.ensures.taken in
     record {
       taken = subst (λ store. AreTaken (layout_of store.root.sectors (used store.root store.entries)) (catalogues_of c.next_root-root.result)) c.self.view_is
-          (subst (λ l. AreTaken (layout_of c.self.inside.root.sectors l) (catalogues_of c.next_root-root.result)) (in_use_alone c.self.inside.root c.self.inside.entries.items c.self.inside.held unheld) (relist_taken is taken));
+          (subst (λ l. AreTaken (layout_of c.self.inside.root.sectors l) (catalogues_of c.next_root-root.result))
+          (in_use_alone c.self.inside.root c.self.inside.entries.items c.self.inside.held unheld) (relist_taken is taken));
       entries = ap (λ store. store.entries) c.self.view_is;
     }

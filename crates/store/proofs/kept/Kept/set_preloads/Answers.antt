@@ -25,7 +25,9 @@ choosing g c =
     let inside = subst (λ store. All (λ position. position < length store.entries) c.args.positions.now) (sym c.self.view_is) c.requires.inside in
     preloads_next c.args.positions.now kept (is_two g c) c.with_preloads-root.ensures c.requires.few inside c.requires.distinct (omega (arith, c.if-self-2.false, kept.root_fits.generation))
 
-chosen : (g : given.Over) (c : After-with_preloads-root g) (s : State) → IsFollowed Two c.self.inside.root c.self.inside.entries.items s (λ m. Unit) c.with_preloads-root.result c.self.inside.entries.items (with_preloads (names_at s.libraries c.args.positions.now) s)
+chosen : (g : given.Over) (c : After-with_preloads-root g) (s : State)
+    → IsFollowed Two c.self.inside.root c.self.inside.entries.items s (λ m. Unit) c.with_preloads-root.result c.self.inside.entries.items
+    (with_preloads (names_at s.libraries c.args.positions.now) s)
 chosen g c s = preloads_followed (choosing g c) c.self.invariant.0.root_fits (is_two g c) s
 
 pub with_preloads-root-requires-clause-inside : goal.with_preloads-root-requires-clause-inside

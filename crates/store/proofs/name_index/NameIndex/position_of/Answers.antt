@@ -17,7 +17,8 @@ pub returns-then-eq-clause-some : goal.returns-then-eq-clause-some
 returns-then-eq-clause-some c =
     let items : c.self.inside.positions.items ≡ c.args.self.now.positions = ap (λ (index : Index). index.positions) c.self.view_is in
     let place : c.place_of-place.result < length c.self.inside.positions.items = omega (arith, ap length items) in
-    let read : c.index-position.result.now ≡ get_or c.self.inside.positions.items c.place_of-place.result 0 = get_or_read c.self.inside.positions.items c.place_of-place.result c.index-position.result.now place c.index-position.ensures 0 in
+    let read : c.index-position.result.now ≡ get_or c.self.inside.positions.items c.place_of-place.result 0 =
+    get_or_read c.self.inside.positions.items c.place_of-place.result c.index-position.result.now place c.index-position.ensures 0 in
     let is : c.from.result ≡ get_or c.args.self.now.positions c.place_of-place.result 0 = c.from.ensures ∙ read ∙ ap (λ l. get_or l c.place_of-place.result 0) items in
     let lt : c.from.result < length c.args.entries.now =
     omega (arith, is, entry_count c.args.entries.now, c.requires.index.within c.place_of-place.result 0 (omega (arith, place, ap length items))) in
@@ -30,7 +31,8 @@ returns-else-eq-clause-none c = λ _.
     absent c.args.entries.now c.args.self.now.positions c.args.name.now c.place_of-place.result c.requires.index c.place_of-place.ensures
     (λ lt same.
     let place : c.place_of-place.result < length c.self.inside.positions.items = omega (arith, lt, ap length items) in
-    let read : c.index-position.result.now ≡ get_or c.self.inside.positions.items c.place_of-place.result 0 = get_or_read c.self.inside.positions.items c.place_of-place.result c.index-position.result.now place c.index-position.ensures 0 in
+    let read : c.index-position.result.now ≡ get_or c.self.inside.positions.items c.place_of-place.result 0 =
+    get_or_read c.self.inside.positions.items c.place_of-place.result c.index-position.result.now place c.index-position.ensures 0 in
     let named : c.name_at.result.now ≡ c.args.name.now =
     c.name_at.ensures ∙ ap (name_at (entry_names c.args.entries.now)) (read ∙ ap (λ l. get_or l c.place_of-place.result 0) items) ∙ same in
     false≢true (sym c.if-eq.false ∙ c.eq.ensures ∙ (bytes_eq-Decides c.name_at.result.now c.args.name.now).1 named))

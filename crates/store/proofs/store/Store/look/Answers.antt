@@ -40,7 +40,8 @@ returns-in-Two-clause-stands g c honest s stands =
     let items = c.in-Ok.found.entries.items in
     let intact = c.in-Ok.ensures.intact honest in
     let two = sym c.version.ensures ∙ c.in-Two.is in
-    let at = found_at g.D.Disk.facts c.beside-in-Two.result c.find_store.new.disk now root items Two c.beside-in-Two.ensures.disk c.beside-in-Two.ensures.root c.beside-in-Two.ensures.entries c.beside-in-Two.ensures.usable
+    let at = found_at g.D.Disk.facts c.beside-in-Two.result c.find_store.new.disk now root items Two c.beside-in-Two.ensures.disk
+    c.beside-in-Two.ensures.root c.beside-in-Two.ensures.entries c.beside-in-Two.ensures.usable
     (subst IsTrue (sym c.find_store.ensures.calls.some.honest) honest) (c.find_store.ensures.now honest) (c.in-Ok.ensures.synced honest) intact two in
     found_at_state g.D.Disk.facts c.beside-in-Two.result c.find_store.new.disk now root items Two s stands at intact two
 
@@ -58,7 +59,8 @@ returns-in-Two-clause-ok g c honest =
     let items = c.in-Ok.found.entries.items in
     let intact = c.in-Ok.ensures.intact honest in
     let two = sym c.version.ensures ∙ c.in-Two.is in
-    let at = found_at g.D.Disk.facts c.beside-in-Two.result c.find_store.new.disk now root items Two c.beside-in-Two.ensures.disk c.beside-in-Two.ensures.root c.beside-in-Two.ensures.entries c.beside-in-Two.ensures.usable
+    let at = found_at g.D.Disk.facts c.beside-in-Two.result c.find_store.new.disk now root items Two c.beside-in-Two.ensures.disk
+    c.beside-in-Two.ensures.root c.beside-in-Two.ensures.entries c.beside-in-Two.ensures.usable
     (subst IsTrue (sym c.find_store.ensures.calls.some.honest) honest) (c.find_store.ensures.now honest) (c.in-Ok.ensures.synced honest) intact two in
     (state_of now root items, inl ((root, items, record { of_version = two; intact = intact; is = refl }), at))
 

@@ -13,9 +13,11 @@ returns-in-Ok-clause-opened g c =
     let items = c.in-Ok.found.entries.items in
     let two = c.in-Ok.ensures.kept.2 in
     let calls = c.find_current.ensures.calls.some in
-    let at = λ (honest : IsTrue (facts c.args.disk).honest). found_at facts c.beside.result c.find_current.new.disk now root items Two c.beside.ensures.disk c.beside.ensures.root c.beside.ensures.entries c.beside.ensures.usable
+    let at = λ (honest : IsTrue (facts c.args.disk).honest). found_at facts c.beside.result c.find_current.new.disk now root items Two
+    c.beside.ensures.disk c.beside.ensures.root c.beside.ensures.entries c.beside.ensures.usable
     (subst IsTrue (sym calls.honest) honest) (c.find_current.ensures.now honest) (c.in-Ok.ensures.synced honest) (c.in-Ok.ensures.intact honest) two in
-    let held : IsTrue (facts c.args.disk).honest → Stands now (state_of now root items) = λ honest. (root, items, record { of_version = two; intact = c.in-Ok.ensures.intact honest; is = refl }) in record {
+    let held : IsTrue (facts c.args.disk).honest → Stands now (state_of now root items) =
+    λ honest. (root, items, record { of_version = two; intact = c.in-Ok.ensures.intact honest; is = refl }) in record {
       any_moment = search rules;
       now = search rules;
       log = search rules;
