@@ -9,7 +9,8 @@ use Rattle.std.specs.Simd.{first_chunks}
 use Rattle.hex.specs.Hex.{encode_lower}
 use Rattle.text_output.specs.Hexadecimal.{line_at, first_lines, line_count, hex_lines}
 
-range-split : (a m n : ℕ) → range_with_len a (m + n) ≡ range_with_len a m ++ range_with_len (a + m) n
+-- a range in two
+pub range-split : (a m n : ℕ) → range_with_len a (m + n) ≡ range_with_len a m ++ range_with_len (a + m) n
 range-split a zero n = ap (range_with_len a) (zero-add n) ∙ ap (λ b. range_with_len b n) (sym (add-zero a))
 range-split a (suc m) n =
     let e : suc m + n ≡ suc (m + n) = omega arith in

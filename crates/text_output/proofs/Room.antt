@@ -37,3 +37,8 @@ with-nothing b = ap (λ (l : List ℕ). record { waiting = l; failed = b.failed 
 -- a result isn't both
 pub not-both : {T E : Type 0} (r : Result T E) (t : T) (e : E) → r ≡ Ok t → r ≡ Err e → ⊥
 not-both r t e p q = subst (λ r. OnOk r ⊥) (sym q ∙ p) tt
+
+-- what follows for a success
+pub on-ok : {T E : Type 0} (r : Result T E) {P Q : Type 0} → (P → Q) → OnOk r P → OnOk r Q
+on-ok (Ok t) f p = f p
+on-ok (Err e) f p = tt

@@ -51,7 +51,7 @@ impl<const SIZE: usize> OutputBuffer<SIZE> {
     }
 
     /// How many more bytes have room.
-    fn room(&self) -> usize
+    pub(crate) fn room(&self) -> usize
         ensures room { result + length self.now.waiting ≡ SIZE }
         ensures size { PIECE ≤ SIZE }
     {
@@ -93,6 +93,29 @@ impl<const SIZE: usize> OutputBuffer<SIZE> {
         self.failed = true;
     }
 
+    /// Gives the waiting bytes to the writer, all of them with one call of `write_all`, and lets
+    /// them wait on.
+    pub(crate) fn send_and_keep<W: Write>(&mut self, out: &mut W) -> Result<(), WriteFault>
+        ensures ok { OnOk result (Appends (W.contents out.old) (W.contents out.new)
+            self.old.waiting) }
+        ensures kept { OnOk result
+            (self.new ≡ record { waiting = self.old.waiting; failed = false }) }
+        ensures err { OnErr result
+            (self.new ≡ record { waiting = self.old.waiting; failed = true }) }
+        ensures failed { self.old.failed ≡ true → IsErr result × (out.new ≡ out.old) }
+    {
+        if self.has_failed() {
+            return Err(WriteFault);
+        }
+        match out.write_all(self.as_slice()) {
+            Ok(()) => Ok(()),
+            Err(_) => {
+                self.note_failure();
+                Err(WriteFault)
+            }
+        }
+    }
+
     /// Gives the waiting bytes to the writer, all of them with one call of `write_all`.
     pub fn send<W: Write>(&mut self, out: &mut W) -> Result<(), WriteFault>
         ensures ok { OnOk result (Appends (W.contents out.old) (W.contents out.new)
@@ -104,19 +127,9 @@ impl<const SIZE: usize> OutputBuffer<SIZE> {
         // A writer that failed gets nothing more.
         ensures failed { self.old.failed ≡ true → IsErr result × (out.new ≡ out.old) }
     {
-        if self.has_failed() {
-            return Err(WriteFault);
-        }
-        match out.write_all(self.as_slice()) {
-            Ok(()) => {
-                self.clear();
-                Ok(())
-            }
-            Err(_) => {
-                self.note_failure();
-                Err(WriteFault)
-            }
-        }
+        self.send_and_keep(out)?;
+        self.clear();
+        Ok(())
     }
 
     /// Puts a short text behind what waits, and sends that first where there is no room.

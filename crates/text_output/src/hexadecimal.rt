@@ -8,13 +8,14 @@ ghost use Rattle.text_output.specs.Hexadecimal.{address_text, hex_lines};
 
 use crate::buffer::OutputBuffer;
 use crate::fault::WriteFault;
+use crate::zeros::{BLOCK, zeros_begin};
 use std::io::Write;
 
 /// How many bytes a line has.
-const LINE_BYTES: usize = 16;
+pub(crate) const LINE_BYTES: usize = 16;
 
 /// How many bytes its text has.
-const LINE_TEXT: usize = 2 * LINE_BYTES + 1;
+pub(crate) const LINE_TEXT: usize = 2 * LINE_BYTES + 1;
 
 /// The two digits of a byte. Each is made in one half of a number, both at once, which lets the
 /// compiler make all digits of a line at once.
@@ -30,7 +31,7 @@ fn digits(byte: u8) -> [u8; 2]
 }
 
 /// A line of sixteen bytes.
-fn line(bytes: &[u8; LINE_BYTES]) -> [u8; LINE_TEXT]
+pub(crate) fn line(bytes: &[u8; LINE_BYTES]) -> [u8; LINE_TEXT]
     ensures { result ≡ encode_lower bytes.now ++ codes "\n" }
 {
     let mut text = [b'\n'; LINE_TEXT];
@@ -71,8 +72,8 @@ impl<const SIZE: usize> OutputBuffer<SIZE> {
         self.put_piece(out, b"\n")
     }
 
-    /// Puts bytes in hexadecimal behind what waits, sixteen a line.
-    pub fn put_hex_lines<W: Write>(&mut self, out: &mut W, bytes: &[u8]) -> Result<(), WriteFault>
+    /// Puts bytes in hexadecimal behind what waits, sixteen a line, each line by itself.
+    fn put_lines<W: Write>(&mut self, out: &mut W, bytes: &[u8]) -> Result<(), WriteFault>
         ensures ok { OnOk result (Sends (W.contents out.old) self.old (W.contents out.new) self.new
             (hex_lines bytes.now)) }
         ensures err { OnErr result (self.new.failed ≡ true) }
@@ -85,5 +86,19 @@ impl<const SIZE: usize> OutputBuffer<SIZE> {
             return Ok(());
         }
         self.put_short_line(out, rest)
+    }
+
+    /// Puts bytes in hexadecimal behind what waits, sixteen a line. Lines of zeros at the end,
+    /// but for the last few, are made once.
+    pub fn put_hex_lines<W: Write>(&mut self, out: &mut W, bytes: &[u8]) -> Result<(), WriteFault>
+        ensures ok { OnOk result (Sends (W.contents out.old) self.old (W.contents out.new) self.new
+            (hex_lines bytes.now)) }
+        ensures err { OnErr result (self.new.failed ≡ true) }
+    {
+        let (lines, rest) = bytes.split_at(bytes.len() - bytes.len() % BLOCK);
+        let (front, zeros) = lines.split_at(zeros_begin(lines));
+        self.put_lines(out, front)?;
+        self.put_zero_lines(out, (zeros.len() / LINE_BYTES) as u64)?;
+        self.put_lines(out, rest)
     }
 }

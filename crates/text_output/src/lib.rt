@@ -10,6 +10,7 @@ mod decimal;
 mod fault;
 mod hexadecimal;
 mod name;
+mod zeros;
 
 pub use buffer::{OutputBuffer, PIECE};
 pub use fault::WriteFault;

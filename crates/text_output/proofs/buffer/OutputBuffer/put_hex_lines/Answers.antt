@@ -1,52 +1,32 @@
-use Rattle.std.proofs.Common.{◌≡◌, ◌/◌, ◌%◌, ◌++◌, ◌∷◌, [], ◌<◌, length, Result, Ok, Err, sym, ap, ◌∙◌, subst, arith}
-use Rattle.std.specs.Result.{OnOk}
+use Rattle.std.proofs.Common.{◌≡◌, ℕ, ◌-◌, ◌/◌, ◌%◌, ◌++◌, length, take, ap, ◌∙◌, subst, arith, take-append-drop}
 use Rattle.std.specs.Io.KnownBytes.{Appends, append_known}
 use Rattle.std.proofs.KnownBytes.{Appends-trans}
-use Rattle.std.proofs.lemmas.Bool.{eqb-true}
-use Rattle.hex.specs.Hex.{encode_lower}
-use Rattle.text_output.specs.Hexadecimal.{line_at, first_lines}
-use Rattle.text_output.proofs.Lines.{lines-more, line-of, whole-lines, last-line, not-zero}
+use Rattle.text_output.specs.Hexadecimal.{hex_lines}
+use Rattle.text_output.proofs.Room.{on-ok}
+use Rattle.text_output.proofs.ZeroLines.{zero_lines, lines-in-three}
 use Rattle.text_output.proofs.buffer.OutputBuffer.put_hex_lines.Goals as goal
-
-on-ok : {T E : Type 0} (r : Result T E) {P Q : Type 0} → (P → Q) → OnOk r P → OnOk r Q
-on-ok (Ok t) f p = f p
-on-ok (Err e) f p = tt
-
-pub loop-bytes-preserved : goal.loop-bytes-preserved
-loop-bytes-preserved g c =
-    let bytes = c.args.bytes.now in
-    let i = c.loop-bytes.bytes-index in
-    let start = append_known (g.W.Write.contents c.args.out.now) c.args.self.now.waiting in
-    let before = append_known (g.W.Write.contents c.loop-bytes.out) c.loop-bytes.self.waiting in
-    let after = append_known (g.W.Write.contents c.put_piece.new.out) c.put_piece.new.self.waiting in
-    let within : i < length bytes / 16 = omega (arith, c.loop-bytes-test.true, c.as_chunks.ensures.front_len) in
-    let line : c.line.result ≡ line_at bytes i =
-    c.line.ensures ∙ line-of c.as_chunks.result.0.now (length bytes / 16) i bytes _ c.as_chunks.ensures.front within in
-    let whole = ap (λ t. first_lines bytes i ++ t) line ∙ sym (lines-more (line_at bytes) i) in
-    subst (Appends start after) whole (Appends-trans start before after (first_lines bytes i) _ c.loop-bytes.invariant c.in_ok-put_piece.ensures.ok)
-
-pub returns-then-is_empty-clause-ok : goal.returns-then-is_empty-clause-ok
-returns-then-is_empty-clause-ok g c =
-    let bytes = c.args.bytes.now in
-    let i = c.loop-bytes.bytes-index in
-    let start = append_known (g.W.Write.contents c.args.out.now) c.args.self.now.waiting in
-    let now = append_known (g.W.Write.contents c.loop-bytes.out) c.loop-bytes.self.waiting in
-    let all : i ≡ length bytes / 16 = omega (arith, c.loop-bytes-test.false, c.loop-bytes.auto.bytes-index-end, c.as_chunks.ensures.front_len) in
-    let none : length bytes % 16 ≡ 0 = sym c.as_chunks.ensures.back_len ∙ eqb-true (length c.as_chunks.result.1.now) 0 (sym c.if-is_empty.ensures) in
-    subst (Appends start now) (whole-lines bytes i all none) c.loop-bytes.invariant
 
 pub returns-clause-ok : goal.returns-clause-ok
 returns-clause-ok g c =
     let bytes = c.args.bytes.now in
-    let rest = c.as_chunks.result.1.now in
-    let i = c.loop-bytes.bytes-index in
+    let whole = length bytes - length bytes % 64 in
+    let lines = c.split_at.result.0.now in
+    let rest = c.split_at.result.1.now in
+    let n = c.zeros_begin.result in
+    let front = c.split_at-2.result.0.now in
     let start = append_known (g.W.Write.contents c.args.out.now) c.args.self.now.waiting in
-    let before = append_known (g.W.Write.contents c.loop-bytes.out) c.loop-bytes.self.waiting in
-    let after = append_known (g.W.Write.contents c.put_short_line.new.out) c.put_short_line.new.self.waiting in
-    let all : i ≡ length bytes / 16 = omega (arith, c.loop-bytes-test.false, c.loop-bytes.auto.bytes-index-end, c.as_chunks.ensures.front_len) in
-    let more : 0 < length rest = not-zero (length rest) (sym c.if-is_empty.ensures) in
-    let some : 0 < length bytes % 16 = omega (arith, more, c.as_chunks.ensures.back_len) in
-    let whole = last-line bytes rest i all some c.as_chunks.ensures.back c.as_chunks.ensures.back_len in
-    on-ok c.put_short_line.result
-    (λ h. subst (Appends start after) whole (Appends-trans start before after (first_lines bytes i) (encode_lower rest ++ 10 ∷ []) c.loop-bytes.invariant h))
-    c.put_short_line.ensures.ok
+    let one = append_known (g.W.Write.contents c.put_lines.new.out) c.put_lines.new.self.waiting in
+    let two = append_known (g.W.Write.contents c.put_zero_lines.new.out) c.put_zero_lines.new.self.waiting in
+    let now = append_known (g.W.Write.contents c.put_lines-2.new.out) c.put_lines-2.new.self.waiting in
+    let all : lines ++ rest ≡ bytes =
+    ap (λ l. l ++ rest) c.split_at.ensures.front ∙ ap (λ l. take whole bytes ++ l) c.split_at.ensures.back ∙ take-append-drop whole bytes in
+    let even : length lines % 16 ≡ 0 = omega (arith, c.split_at.ensures.front_len) in
+    let first : n % 16 ≡ 0 = omega (arith, c.zeros_begin.ensures.whole) in
+    let three = lines-in-three bytes lines rest front n all even c.zeros_begin.ensures.within first c.split_at-2.ensures.front c.zeros_begin.ensures.zeros in
+    let count : length c.split_at-2.result.1.now ≡ length lines - n = omega (arith, c.split_at-2.ensures.back_len) in
+    let zeros : Appends one two (zero_lines ((length lines - n) / 16)) =
+    subst (λ (k : ℕ). Appends one two (zero_lines (k / 16))) count c.in_ok-put_zero_lines.ensures.ok in
+    on-ok c.put_lines-2.result
+    (λ h. subst (Appends start now) three (Appends-trans start two now (hex_lines front ++ zero_lines ((length lines - n) / 16)) (hex_lines rest)
+    (Appends-trans start one two (hex_lines front) (zero_lines ((length lines - n) / 16)) c.in_ok-put_lines.ensures.ok zeros) h))
+    c.put_lines-2.ensures.ok

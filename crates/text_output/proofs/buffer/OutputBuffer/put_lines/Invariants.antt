@@ -1,6 +1,6 @@
 use Rattle.text_output.specs.Sends.{Sends}
 use Rattle.text_output.specs.Hexadecimal.{first_lines}
-use Rattle.text_output.proofs.buffer.OutputBuffer.put_hex_lines.Given as goal
+use Rattle.text_output.proofs.buffer.OutputBuffer.put_lines.Given as goal
 
 abbrev pub invariant-loop-bytes : goal.invariant-loop-bytes
 invariant-loop-bytes g l =

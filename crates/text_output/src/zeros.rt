@@ -1,0 +1,86 @@
+// Zeros in hexadecimal.
+
+ghost use Rattle.std.specs.Prelude.{◌≡◌, ◌*◌, ◌-◌, ◌%◌, ◌≤◌, drop, length, replicate, true};
+ghost use Rattle.std.specs.Prelude.{OnOk, OnErr, Ok};
+ghost use Rattle.text_output.specs.Sends.{Sends, HasRoom, with_text};
+ghost use Rattle.text_output.specs.Hexadecimal.{hex_lines};
+
+use crate::buffer::OutputBuffer;
+use crate::fault::WriteFault;
+use crate::hexadecimal::{LINE_BYTES, LINE_TEXT, line};
+use std::io::Write;
+
+/// How many lines of zeros are put one by one.
+const FEW: u64 = 2048;
+
+/// How many bytes are looked at at once.
+pub(crate) const BLOCK: usize = 64;
+
+/// Whether a block has zeros alone. All of it is read, which lets the compiler read it at once.
+fn is_zero(block: &[u8; BLOCK]) -> bool
+    ensures { result ≡ true → block.now ≡ replicate (length block.now) 0 }
+{
+    let mut highest = 0;
+    for i in 0..BLOCK {
+        highest = block[i].max(highest);
+    }
+    highest == 0
+}
+
+/// Where the blocks of zeros begin that whole blocks end with.
+pub(crate) fn zeros_begin(bytes: &[u8]) -> usize
+    requires { length bytes.now % BLOCK ≡ 0 }
+    ensures within { result ≤ length bytes.now }
+    ensures whole { result % BLOCK ≡ 0 }
+    ensures zeros { drop result bytes.now ≡ replicate (length bytes.now - result) 0 }
+{
+    let (blocks, _) = bytes.as_chunks::<BLOCK>();
+    let mut count = blocks.len();
+    while count > 0 && is_zero(&blocks[count - 1]) {
+        count -= 1;
+    }
+    BLOCK * count
+}
+
+impl<const SIZE: usize> OutputBuffer<SIZE> {
+    /// Puts so many lines of zeros behind what waits, one by one.
+    fn put_few_zero_lines<W: Write>(&mut self, out: &mut W, count: u64) -> Result<(), WriteFault>
+        ensures ok { OnOk result (Sends (W.contents out.old) self.old (W.contents out.new) self.new
+            (hex_lines (replicate (16 * count) 0))) }
+        ensures err { OnErr result (self.new.failed ≡ true) }
+        ensures fits { HasRoom SIZE self.old (hex_lines (replicate (16 * count) 0))
+            → (result ≡ Ok tt) × (out.new ≡ out.old)
+            × (self.new ≡ with_text self.old (hex_lines (replicate (16 * count) 0))) }
+    {
+        let zeros = line(&[0; LINE_BYTES]);
+        for _ in 0..count {
+            self.put_piece(out, &zeros)?;
+        }
+        Ok(())
+    }
+
+    /// Puts so many lines of zeros behind what waits. Where they are many, the buffer is filled
+    /// with such lines once, and sent again and again.
+    pub(crate) fn put_zero_lines<W: Write>(
+        &mut self,
+        out: &mut W,
+        count: u64,
+    ) -> Result<(), WriteFault>
+        ensures ok { OnOk result (Sends (W.contents out.old) self.old (W.contents out.new) self.new
+            (hex_lines (replicate (16 * count) 0))) }
+        ensures err { OnErr result (self.new.failed ≡ true) }
+    {
+        if count <= FEW {
+            return self.put_few_zero_lines(out, count);
+        }
+        self.send(out)?;
+        let full = count.min((self.room() / LINE_TEXT) as u64);
+        self.put_few_zero_lines(out, full)?;
+        let mut left = count - full;
+        while left >= full {
+            self.send_and_keep(out)?;
+            left -= full;
+        }
+        self.put_few_zero_lines(out, left)
+    }
+}
