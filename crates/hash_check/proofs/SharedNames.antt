@@ -6,7 +6,6 @@ use Rattle.std.specs.List.Sorted.{IsPermutation, IsStrictlyIncreasing}
 use Rattle.std.specs.Str.{bytes_eq}
 use Rattle.std.specs.Cmp.Derive.{both_true}
 use Rattle.std.proofs.lemmas.Bool.{cases_lt, cases_eq, and_parts}
-use Rattle.std.proofs.lemmas.List.{get_or_default}
 use Rattle.std.proofs.lemmas.List.FromFn.{length-range_with_len, get_or-range_with_len}
 use Rattle.std.proofs.lemmas.List.Folds.{Any-from_list_any, list_any_at}
 use Rattle.std.proofs.lemmas.List.Elements.{filter_passes}
@@ -15,13 +14,11 @@ use Rattle.std.proofs.lemmas.List.Sorted.{All-permutation, IsPermutation-sym}
 use Rattle.std.proofs.lemmas.Slice.Eq.{bytes_eq-Decides}
 use Rattle.elf_dynamic.specs.Symbol.{symbols}
 use Rattle.elf_dynamic.specs.Strings.{name_of}
-use Rattle.elf_dynamic.specs.Strings.{string_table, string_at}
 use Rattle.hash_check.specs.Export.{is_exported, exported_symbols}
 use Rattle.hash_check.specs.Definition.{is_exported_as, HasUniqueNames, HasSharedName, has_duplicate_definition}
-use Rattle.hash_check.specs.inside.Names.{IsSymbol, AllDiffer, HasEqualNeighbours}
+use Rattle.hash_check.specs.inside.Names.{IsSymbol, AllDiffer}
 use Rattle.hash_check.proofs.Exported.{exported_some, exported_within}
-use Rattle.hash_check.proofs.Ordering.{Differ, differ-moved}
-use Rattle.hash_check.proofs.NameLengths.{name-is-string}
+use Rattle.hash_check.proofs.Moved.{all-differ-moved}
 
 -- the parts of the test of one symbol
 pub exported-as : (file name : List ℕ) (i : ℕ) → is_exported_as file name i ≡ true → is_exported file i ≡ true
@@ -193,32 +190,8 @@ test-some file h = elim (has_duplicate_definition file) as (λ b. has_duplicate_
 pub few-differ : (file : List ℕ) → length (exported_symbols file) < 2 → AllDiffer file (exported_symbols file)
 few-differ file few = record { differ = λ i j less lt same. absurd (omega arith) }
 
-to-differ : (file numbers : List ℕ) → AllDiffer file numbers → Differ (name_of file) numbers
-to-differ file numbers h = record {
-  differ = λ i j d less lt same.
-      let early : i < length numbers = omega arith in
-      h.differ i j less lt (ap (name_of file) (sym (get_or_default numbers i d 0 early)) ∙ same ∙ ap (name_of file) (get_or_default numbers j d 0 lt));
-}
-
-from-differ : (file numbers : List ℕ) → Differ (name_of file) numbers → AllDiffer file numbers
-from-differ file numbers h = record { differ = λ i j less lt same. h.differ i j 0 less lt same }
-
--- whether they differ doesn't depend on their places
-pub all-differ-moved : (file xs ys : List ℕ) → IsPermutation xs ys → AllDiffer file xs → AllDiffer file ys
-all-differ-moved file xs ys moved h = from-differ file ys (differ-moved (name_of file) xs ys moved (to-differ file xs h))
-
 pub symbols-moved : (file xs ys : List ℕ) → IsPermutation xs ys → All (IsSymbol file) xs → All (IsSymbol file) ys
 symbols-moved file xs ys moved h = All-permutation (IsSymbol file) xs ys moved h
-
--- names at one place are the same
-pub neighbours-share : (file xs : List ℕ) → All (IsSymbol file) xs → HasEqualNeighbours file xs → AllDiffer file xs → ⊥
-neighbours-share file xs valid h differ =
-    let next : h.place < h.place + 1 = omega arith in
-    let early : h.place < length xs = omega (arith, h.within) in
-    let a : ℕ = get_or xs h.place 0 in
-    let b : ℕ = get_or xs (h.place + 1) 0 in
-    differ.differ h.place (h.place + 1) next h.within
-    (name-is-string file (get_or xs h.place 0) (valid h.place 0 early) ∙ ap (string_at (string_table file)) h.same ∙ sym (name-is-string file (get_or xs (h.place + 1) 0) (valid (h.place + 1) 0 h.within)))
 
 -- the answer of a test of symbols that have changed their places
 pub not-differ : (file moved_symbols : List ℕ) → IsPermutation (exported_symbols file) moved_symbols → (b : Bool)

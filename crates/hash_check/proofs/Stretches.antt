@@ -5,9 +5,8 @@ use Rattle.std.proofs.lemmas.List.{drop-drop, drop-take, length-take, take_min, 
 use Rattle.std.proofs.Math.Seq.{take-append_seam}
 use Rattle.elf_dynamic.specs.Strings.{name_of}
 use Rattle.elf_dynamic.specs.Strings.{string_table, string_at}
-use Rattle.hash_check.specs.inside.Names.{IsSymbol, IsStretch, BeginsIn, offset_of}
-use Rattle.hash_check.specs.inside.Endings.{stretch_bytes, stretch_back}
-use Rattle.hash_check.specs.declared.names.Stretch.{Stretch}
+use Rattle.hash_check.specs.inside.Names.{IsSymbol, IsStretch, BeginsIn, offset_of, stretch_bytes, stretch_back}
+use Rattle.hash_check.specs.declared.strings.Stretch.{Stretch}
 use Rattle.hash_check.proofs.NameLengths.{name-is-string, length-in-stretch}
 
 own-front : (n : ℕ) (xs : List ℕ) → take n xs ≡ take (length (take n xs)) xs

@@ -1,89 +1,39 @@
--- How a table of exported names is filled, and what it tells.
-use Rattle.std.proofs.Common.{◌≡◌, ◌≢◌, ℕ, ◌<◌, ◌≤◌, ◌+◌, ◌-◌, ◌%◌, ◌^◌, List, length, arith, refl, ◌∙◌, sym, ap, inl, inr, set, reverse, subst}
-use Rattle.std.specs.List.{All}
+-- How a table of names is filled, and what the numbers of its cells tell.
+use Rattle.std.proofs.Common.{◌≡◌, ◌≢◌, ℕ, ◌<◌, ◌≤◌, ◌+◌, ◌-◌, List, [], ◌∷◌, ◌++◌, length, arith, ◌∙◌, sym, ap, get_or, subst, inl, inr}
+use Rattle.std.proofs.lemmas.List.{get_or_append_left}
 use Rattle.std.proofs.lemmas.Bool.{cases_lt}
-use Rattle.std.proofs.lemmas.List.{length-set}
-use Rattle.elf_dynamic.specs.Strings.{name_of}
+use Rattle.std.proofs.Math.Seq.{get_or-append_seam}
 use Rattle.hash_check.specs.Key.{key_of}
-use Rattle.hash_check.specs.KeyedName.{named}
-use Rattle.hash_check.specs.inside.Names.{nth_name, AllDiffer}
-use Rattle.hash_check.specs.inside.Endings.{back, symbols_of, HasTwin, IsNamed}
-use Rattle.hash_check.specs.inside.NameTable.{home, nth_text, home_of, IsFree, Reaches, Stands, IsTable}
-use Rattle.hash_check.specs.declared.keyed_name.KeyedName.{KeyedName}
-use Rattle.hash_check.proofs.Cells.{free-none, reaches-on, reaches-new, numbers-on}
-use Rattle.hash_check.proofs.Taking.{nth-symbol, count-symbols}
+use Rattle.hash_check.specs.Numbers.{nth_text, AreNumbers}
+use Rattle.hash_check.specs.inside.NameTable.{home, home_of, Reaches, Stands, IsPut}
+use Rattle.hash_check.proofs.Cells.{one-place}
 
--- names that are the same have one key and one length
-pub same_key : (file : List ℕ) (a b : KeyedName) → IsNamed file a → IsNamed file b → name_of file a.symbol ≡ name_of file b.symbol → a.key ≡ b.key
-unfolding named
-same_key file a b na nb same = ap (λ n. n.key) na.named ∙ ap key_of same ∙ sym (ap (λ n. n.key) nb.named)
+module _ (names : List (List ℕ)) (cells : List ℕ) where
+  -- the numbers of the cells, of one name more
+  pub stand-more : (new numbers : List ℕ) (number told : ℕ) → IsPut names cells new number told → length numbers ≡ number → ((k : ℕ) → k < number → Stands names cells k (get_or numbers k 0))
+      → (k : ℕ) → k < number + 1 → Stands names new k (get_or (numbers ++ told ∷ []) k 0)
+  stand-more new numbers number told put size stand k lt = elim (cases_lt k number) [
+    | inl early ↦ subst (Stands names new k) (sym (get_or_append_left numbers (told ∷ []) 0 k (omega (arith, early, size)))) (put.kept k (get_or numbers k 0) (stand k early))
+    | inr late ↦
+        let at : number ≡ k = omega arith in
+        let last : get_or (numbers ++ told ∷ []) k 0 ≡ told = ap (λ i. get_or (numbers ++ told ∷ []) i 0) (sym at ∙ sym size) ∙ get_or-append_seam numbers told [] 0 in
+        subst (Stands names new k) (sym last) (subst (λ i. Stands names new i told) at put.stands)
+  ]
 
-pub same_length : (file : List ℕ) (a b : KeyedName) → IsNamed file a → IsNamed file b → name_of file a.symbol ≡ name_of file b.symbol → a.length ≡ b.length
-unfolding named
-same_length file a b na nb same = ap (λ n. n.length) na.named ∙ ap (λ t. length t % 2 ^ 32) same ∙ sym (ap (λ n. n.length) nb.named)
+  -- names that are the same stand in one cell
+  stand-together : (j k a b : ℕ) → nth_text names j ≡ nth_text names k → Stands names cells j a → Stands names cells k b → a ≡ b
+  stand-together j k a b same s t =
+      let moved : Reaches (nth_text names) cells (nth_text names k) (home_of names cells k) s.place =
+      subst (λ x. Reaches (nth_text names) cells x (home (length cells) (key_of x)) s.place) same s.is in
+      sym s.cell ∙ ap (λ p. get_or cells p 0) (one-place (nth_text names) cells (nth_text names k) (home_of names cells k) t.place s.place t.is moved) ∙ t.cell
 
-module _ (file : List ℕ) (names : List KeyedName) (cells : List ℕ) where
-  -- the home of a name doesn't hang on what the cells hold
-  home-kept : (at m i : ℕ) → home_of names (set cells at m) i ≡ home_of names cells i
-  home-kept at m i = ap (λ n. home n (nth_name names i).key) (length-set cells at m)
-
-  -- a name that stands in the table isn't that for which a free cell was found
-  apart : (at number i : ℕ) → All (IsNamed file) names → i < number → number < length names → Stands file names cells i
-      → IsFree (nth_text file names) cells (nth_text file names number) (home_of names cells number) at → nth_text file names i ≢ nth_text file names number
-  apart at number i named before lt s free = λ same.
-      let d : KeyedName = record { key = 0; symbol = 0; length = 0 } in
-      let early : i < length names = omega arith in
-      let keys : (nth_name names i).key ≡ (nth_name names number).key = same_key file (nth_name names i) (nth_name names number) (named i d early) (named number d lt) same in
-      let homes : home_of names cells i ≡ home_of names cells number = ap (home (length cells)) keys in
-      free-none (nth_text file names) cells (nth_text file names number) (home_of names cells number) at s.place free
-      (subst (λ h. Reaches (nth_text file names) cells (nth_text file names number) h s.place) homes
-      (subst (λ t. Reaches (nth_text file names) cells t (home_of names cells i) s.place) same s.is))
-
-  -- one name more
-  pub table-more : (at number : ℕ) → All (IsNamed file) names → number < length names → IsTable file names cells number
-      → IsFree (nth_text file names) cells (nth_text file names number) (home_of names cells number) at → IsTable file names (set cells at (number + 1)) (number + 1)
-  table-more at number named lt table free = record {
-    numbers = λ k. numbers-on cells at number k free.within (table.numbers k);
-    stand = λ i le. elim (cases_lt i number) [
-      | inl less ↦
-          let s = table.stand i less in
-          record {
-            place = s.place;
-            is = subst (λ h. Reaches (nth_text file names) (set cells at (number + 1)) (nth_text file names i) h s.place) (sym (home-kept at (number + 1) i))
-                (reaches-on (nth_text file names) cells (nth_text file names i) (home_of names cells i) at s.place (number + 1) free.empty s.is);
-          }
-      | inr more ↦
-          let one : number ≡ i = omega arith in
-          subst (Stands file names (set cells at (number + 1))) one (record {
-            place = at;
-            is = subst (λ h. Reaches (nth_text file names) (set cells at (number + 1)) (nth_text file names number) h at) (sym (home-kept at (number + 1) number))
-                (reaches-new (nth_text file names) cells (nth_text file names number) (home_of names cells number) at number refl free);
-          })
-    ];
-    differ = λ i j less le. elim (cases_lt j number) [
-      | inl before ↦ table.differ i j less before
-      | inr more ↦
-          let one : number ≡ j = omega arith in
-          let early : i < number = omega arith in
-          subst (λ n. nth_text file names i ≢ nth_text file names n) one (apart at number i named early lt (table.stand i early) free)
-    ];
+  -- the numbers of the cells in which all names stand
+  pub numbers-from-table : (numbers : List ℕ) → length numbers ≡ length names → ((k : ℕ) → get_or cells k 0 ≤ length names)
+      → ((k : ℕ) → k < length names → Stands names cells k (get_or numbers k 0)) → AreNumbers names numbers
+  numbers-from-table numbers size few stand = record {
+    size = size;
+    some = λ k lt. let s = stand k lt in let taken : get_or cells s.place 0 ≢ 0 = s.is.taken in let cell : get_or cells s.place 0 ≡ get_or numbers k 0 = s.cell in omega (arith, taken, cell);
+    within = λ k lt. let s = stand k lt in let cell : get_or cells s.place 0 ≡ get_or numbers k 0 = s.cell in omega (arith, cell, few s.place);
+    same = λ k lt. let s = stand k lt in ap (λ c. nth_text names (c - 1)) (sym s.cell) ∙ s.is.same;
+    one = λ j k lj lk same. stand-together j k (get_or numbers j 0) (get_or numbers k 0) same (stand j lj) (stand k lk);
   }
-
-  -- names of which all stand in a table differ
-  pub differ-from-table : IsTable file names cells (length names) → AllDiffer file (symbols_of names)
-  differ-from-table table = record {
-    differ = λ i j less lt same.
-        let within : j < length names = omega (arith, lt, count-symbols names) in
-        let early : i < length names = omega arith in
-        table.differ i j less within (ap (name_of file) (sym (nth-symbol names i early)) ∙ same ∙ ap (name_of file) (nth-symbol names j within));
-  }
-
--- a name of the table that is the same
-pub twin-found : (file : List ℕ) (names : List KeyedName) (cell number : ℕ) → number < length names → cell ≢ 0 → cell ≤ number → nth_text file names number ≡ nth_text file names (cell - 1) → HasTwin file names number
-unfolding back
-twin-found file names cell number lt some few same = record {
-  other = cell - 1;
-  within = omega arith;
-  apart = λ one. some (omega (arith, one, few));
-  same = ap reverse (sym same);
-}

@@ -3,6 +3,7 @@ pub mod Export
 pub mod Key
 pub mod KeyedName
 pub mod Definition
+pub mod Numbers
 pub mod Walk
 pub mod HashTable
 pub mod Admission

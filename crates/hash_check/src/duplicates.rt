@@ -4,29 +4,32 @@ ghost use Rattle.std.specs.Prelude.{◌≡◌, ◌≤◌, ◌↔◌, length, IsT
 ghost use Rattle.std.specs.List.{All};
 ghost use Rattle.hash_check.specs.Export.{exported_symbols};
 ghost use Rattle.hash_check.specs.Definition.{has_duplicate_definition};
-ghost use Rattle.hash_check.specs.inside.Names.{IsSymbol, AllDiffer, HasEqualNeighbours};
+ghost use Rattle.hash_check.specs.inside.Names.{IsSymbol, AllDiffer};
+ghost use Rattle.hash_check.specs.Numbers.{AreOwn};
 
+use crate::endings::numbers_of_endings;
 use crate::export::{exported_count, exported_symbols};
-use crate::name_table::differ_in_table;
-use crate::names::{all_differ, offset_of, short_names};
+use crate::name_table::numbers_in_table;
+use crate::names::{names_of, offset_of, short_names};
+use crate::strings::endings_of;
 use elf_dynamic::Object;
 use std::alloc::{AllocError, Global};
 
-/// Whether two neighbours of a list of symbols have their names at one place.
-fn have_equal_neighbours(object: &Object<'_>, symbols: &[u32]) -> bool
-    ensures { IsTrue result ↔ HasEqualNeighbours object.now symbols.now }
+/// Whether each name has its own number.
+fn are_own(numbers: &[u32]) -> bool
+    ensures { IsTrue result ↔ AreOwn numbers.now }
 {
-    for i in 1..symbols.len() {
-        if offset_of(object, symbols[i - 1]) == offset_of(object, symbols[i]) {
-            return true;
+    for i in 0..numbers.len() {
+        if numbers[i] as usize != i + 1 {
+            return false;
         }
     }
-    false
+    true
 }
 
-/// Whether no two exported symbols share a name, by a table of their names in any order; none where
-/// that isn't found so.
-fn differ_in_any_order(
+/// Whether no two symbols share a name, by a table of their names in any order; none where that
+/// doesn't tell.
+fn differ_in_table(
     alloc: Global,
     object: &Object<'_>,
     symbols: &[u32],
@@ -35,16 +38,34 @@ fn differ_in_any_order(
     ensures { IfOk result (λ found. IfSome found (λ differ.
         IsTrue differ ↔ AllDiffer object.now symbols.now)) }
 {
-    match short_names(alloc, object, symbols)? {
-        Some(names) => differ_in_table(alloc, object, &names),
+    let Some(names) = short_names(alloc, object, symbols)? else {
+        return Ok(None);
+    };
+    match numbers_in_table(alloc, &names)? {
+        Some(numbers) => Ok(Some(are_own(&numbers))),
         None => Ok(None),
     }
 }
 
+/// Whether no two symbols that are sorted by the places of their names share one, by the strings
+/// that these are tails of.
+fn differ_in_strings(
+    alloc: Global,
+    object: &Object<'_>,
+    symbols: &[u32],
+) -> Result<bool, AllocError>
+    requires { All (IsSymbol object.now) symbols.now }
+    ensures { IfOk result (λ differ. IsTrue differ ↔ AllDiffer object.now symbols.now) }
+{
+    let names = names_of(alloc, object, symbols)?;
+    let endings = endings_of(alloc, object, symbols)?;
+    let numbers = numbers_of_endings(alloc, &names, endings)?;
+    Ok(are_own(&numbers))
+}
+
 /// Whether two exported symbols share a name. Where the table doesn't tell, as where many names are
-/// tails of others or a file was made to fill few cells, two of one place in the string table do,
-/// without a look at their bytes, and else the names are sorted. It takes some 36 bytes an exported
-/// symbol while it runs.
+/// tails of others or a file was made to fill few cells, the strings that they are tails of do. It
+/// takes some 50 bytes an exported symbol while it runs.
 pub(crate) fn has_duplicate_definition(
     alloc: Global,
     object: &Object<'_>,
@@ -56,13 +77,10 @@ pub(crate) fn has_duplicate_definition(
         return Ok(false);
     }
     let mut symbols = exported_symbols(alloc, object)?;
-    if let Some(differ) = differ_in_any_order(alloc, object, &symbols)? {
+    if let Some(differ) = differ_in_table(alloc, object, &symbols)? {
         return Ok(!differ);
     }
     symbols.sort_unstable_by_key(|i| offset_of(object, *i));
-    if have_equal_neighbours(object, &symbols) {
-        return Ok(true);
-    }
-    let distinct = all_differ(alloc, object, &symbols)?;
-    Ok(!distinct)
+    let differ = differ_in_strings(alloc, object, &symbols)?;
+    Ok(!differ)
 }

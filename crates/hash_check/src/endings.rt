@@ -1,91 +1,115 @@
-// Names that end at one place of the string table: tails of the longest of them.
+// Names told by numbers, where they are tails of strings and share the bytes of these.
 
-ghost use Rattle.std.specs.Prelude.{◌≡◌, IfOk};
+ghost use Rattle.std.specs.Prelude.{ℕ, ◌≡◌, ◌≢◌, ◌<◌, ◌≤◌, ◌^◌, length, reverse, slice_index, IfOk};
+ghost use Rattle.std.specs.Cmp.Lexicographic.{slice_cmp};
 ghost use Rattle.std.specs.List.{All};
-ghost use Rattle.hash_check.specs.inside.Endings.{stretch_bytes, back_order};
-ghost use Rattle.hash_check.specs.inside.Endings.{IsNamed, AreEndings, AreSorted};
+ghost use Rattle.std.specs.Ordering.{nat_cmp};
+ghost use Rattle.hash_check.specs.Numbers.{AreNumbers};
+ghost use Rattle.hash_check.specs.inside.Endings.{IsIn, IsEnding, AreEndings, AreSorted, AreHeld};
+ghost use Rattle.hash_check.specs.inside.Endings.{AreNone};
 
-use crate::agreement::compare_ends;
-use crate::keyed_name::KeyedName;
-use crate::names::{Stretch, stretch_of};
-use elf_dynamic::Object;
+use crate::agreement::{common_end, compare_ends};
+use crate::name::Name;
 use std::alloc::{AllocError, Global};
-use std::cmp::Ordering;
 
-/// Names that begin in one stretch, from the first number up to the one before the last.
+/// Names of a list that are tails of one string, from the first number up to the one before the
+/// last.
 #[derive(Clone, Copy)]
-pub(crate) struct Ending {
-    pub(crate) stretch: Stretch,
+pub(crate) struct Ending<'a> {
+    pub(crate) string: &'a [u8],
     pub(crate) first: usize,
     pub(crate) past: usize,
 }
 
-/// The bytes of a stretch.
-pub(crate) fn stretch_bytes<'a>(object: &Object<'a>, stretch: Stretch) -> &'a [u8]
-    ensures { result.now ≡ stretch_bytes object.now stretch }
+/// Takes the marks of a range away, as far as there are any.
+fn unmark(marks: &mut [u32], from: usize, past: usize)
+    ensures cleared { (n : ℕ) → from ≤ n → n < past → slice_index marks.new n ≡ 0 }
+    ensures low { (n : ℕ) → n < from → slice_index marks.new n ≡ slice_index marks.old n }
+    ensures high { (n : ℕ) → past ≤ n → slice_index marks.new n ≡ slice_index marks.old n }
 {
-    let table = object.string_table();
-    let rest = &table[(stretch.from as usize).min(table.len())..];
-    &rest[..stretch.length.min(rest.len())]
-}
-
-/// The endings of names. Names that are sorted by their places have as many as they have last
-/// bytes.
-fn endings_of(
-    alloc: Global,
-    object: &Object<'_>,
-    names: &[KeyedName],
-) -> Result<Vec<Ending>, AllocError>
-    requires { All (IsNamed object.now) names.now }
-    ensures { IfOk result (λ v. AreEndings object.now names.now v.items) }
-{
-    let mut endings = Vec::new(alloc);
-    if names.is_empty() {
-        return Ok(endings);
+    for n in from..past.min(marks.len()) {
+        marks[n] = 0;
     }
-    let mut open = Ending {
-        stretch: stretch_of(object, None, names[0].symbol),
-        first: 0,
-        past: 0,
-    };
-    for number in 0..names.len() {
-        let stretch = stretch_of(object, Some(open.stretch), names[number].symbol);
-        let mut first = open.first;
-        if stretch.from != open.stretch.from {
-            endings.push(open)?;
-            first = number;
-        }
-        open = Ending {
-            stretch,
-            first,
-            past: number + 1,
-        };
+}
+
+/// The number of a name: the one that is marked for its length, or else its own.
+fn picked(own: u32, mark: u32) -> u32
+    ensures own { mark ≡ 0 → result ≡ own }
+    ensures marked { mark ≢ 0 → result ≡ mark }
+{
+    if mark == 0 { own } else { mark }
+}
+
+/// Gives the names of an ending their numbers, and marks these for their lengths.
+fn number_ending(names: &[Name<'_>], ending: Ending<'_>, marks: &mut [u32], numbers: &mut [u32])
+    requires few { length names.now < 2 ^ 32 }
+    requires ending { IsEnding names.now ending }
+    requires room { length ending.string.now < length marks.old }
+    requires held { AreHeld names.now (reverse ending.string.now) marks.old numbers.old }
+    ensures held { AreHeld names.now (reverse ending.entry.string.now) marks.new numbers.new }
+    ensures kept { (k : ℕ) → slice_index numbers.old k ≢ 0 → slice_index numbers.new k ≢ 0 }
+    ensures told { (k : ℕ) → IsIn k ending.entry → slice_index numbers.new k ≢ 0 }
+{
+    for number in ending.first..ending.past {
+        let length = names[number].bytes().len();
+        let told = picked((number + 1) as u32, marks[length]);
+        marks[length] = told;
+        numbers[number] = told;
     }
-    endings.push(open)?;
-    Ok(endings)
 }
 
-/// The order of two endings by the bytes of their stretches, from the last ones on.
-fn compare(object: &Object<'_>, a: Ending, b: Ending) -> Ordering
-    ensures { result ≡ back_order object.now a b }
+/// Gives all names their numbers, ending by ending. From one to the next a mark stays where both
+/// have as many last bytes in common: so marks are the numbers of the names that the next ending
+/// has too.
+fn number_all(names: &[Name<'_>], endings: &[Ending<'_>], marks: &mut [u32], numbers: &mut [u32])
+    requires few { length names.now < 2 ^ 32 }
+    requires endings { AreSorted names.now endings.now }
+    requires room { All (λ e. length e.string.now < length marks.old) endings.now }
+    requires marks { AreNone marks.old }
+    requires numbers { AreNone numbers.old }
+    requires size { length numbers.old ≡ length names.now }
+    ensures { AreNumbers names.now numbers.new }
 {
-    compare_ends(
-        stretch_bytes(object, a.stretch),
-        stretch_bytes(object, b.stretch),
-    )
+    let mut last: &[u8] = &[];
+    let mut past = 1;
+    for ending in endings {
+        let common = common_end(last, ending.string);
+        unmark(marks, common + 1, past);
+        number_ending(names, *ending, marks, numbers);
+        last = ending.string;
+        past = last.len() + 1;
+    }
 }
 
-/// The endings of names in their order. Stretches share no byte, so each byte of the string table
-/// is compared some log n times.
-pub(crate) fn sorted_endings(
+/// How many lengths the names of endings may have, 0 among them.
+fn count_of_lengths(endings: &[Ending<'_>]) -> usize
+    ensures { All (λ e. length e.string.now < result) endings.now }
+{
+    let mut count = 1;
+    for ending in endings {
+        count = count.max(ending.string.len() + 1);
+    }
+    count
+}
+
+/// The numbers of names that are tails of strings, in a time that hangs on the strings and the
+/// number of names, however many bytes these share. Strings that share no byte are compared some
+/// log n times each. They take 4 bytes a name, and while they are made as many for each byte of the
+/// longest string; of 2^32 names and more there are too many for them.
+pub(crate) fn numbers_of_endings(
     alloc: Global,
-    object: &Object<'_>,
-    names: &[KeyedName],
-) -> Result<Vec<Ending>, AllocError>
-    requires { All (IsNamed object.now) names.now }
-    ensures { IfOk result (λ v. AreSorted object.now names.now v.items) }
+    names: &[Name<'_>],
+    mut endings: Vec<Ending<'_>>,
+) -> Result<Vec<u32>, AllocError>
+    requires { AreEndings names.now endings.items }
+    ensures { IfOk result (λ v. AreNumbers names.now v.items) }
 {
-    let mut endings = endings_of(alloc, object, names)?;
-    endings.sort_unstable_by(|a, b| compare(object, *a, *b));
-    Ok(endings)
+    if names.len() >= 1 << 32 {
+        return Err(AllocError);
+    }
+    endings.sort_unstable_by(|a, b| compare_ends(a.string, b.string));
+    let mut marks = vec![in alloc; 0; count_of_lengths(&endings)]?;
+    let mut numbers = vec![in alloc; 0; names.len()]?;
+    number_all(names, &endings, &mut marks, &mut numbers);
+    Ok(numbers)
 }

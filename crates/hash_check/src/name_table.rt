@@ -1,28 +1,15 @@
-// Whether names differ, by a table in which each is looked for near the cell that its key gives.
+// Names told by numbers, by a table in which each is looked for near the cell that its key gives.
 
-ghost use Rattle.std.specs.Prelude.{ℕ, ◌≡◌, ◌<◌, ◌≤◌, ◌+◌, ◌↔◌, length, slice_index};
-ghost use Rattle.std.specs.Prelude.{IsTrue, IfOk, IfSome};
-ghost use Rattle.std.specs.List.{All};
-ghost use Rattle.elf_dynamic.specs.Strings.{name_of};
-ghost use Rattle.hash_check.specs.inside.Names.{AllDiffer};
-ghost use Rattle.hash_check.specs.inside.Endings.{IsNamed, symbols_of};
-ghost use Rattle.hash_check.specs.inside.NameTable.{home, IsSeat};
+ghost use Rattle.std.specs.Prelude.{ℕ, ◌≡◌, ◌<◌, ◌≤◌, ◌+◌, length, slice_index, IfOk, IfSome};
+ghost use Rattle.hash_check.specs.Numbers.{AreNumbers};
+ghost use Rattle.hash_check.specs.inside.NameTable.{home, IsPut};
 
-use crate::keyed_name::KeyedName;
-use crate::names::text_of_name;
-use elf_dynamic::Object;
+use crate::name::Name;
 use std::alloc::{AllocError, Global};
 
 /// How many cells a name may stand in, from its home on. Half of all are empty, so that keys which
 /// nobody chose need a few.
 pub const FARTHEST: usize = 128;
-
-/// What is found where a name is looked for: an empty cell, or the same name, or neither.
-enum Seat {
-    Free(usize),
-    Twin,
-    Far,
-}
 
 /// The home of a key in a table of names: the first of the cells in which a name of it may stand.
 #[tactic(auto, unfolding(crate::specs::inside::NameTable::home))]
@@ -35,54 +22,47 @@ pub fn home(cells: &[usize], key: u64) -> usize
     (spread % (cells.len() - FARTHEST) as u64) as usize
 }
 
-/// Whether two names are the same.
-#[tactic(auto, using(crate::proofs::Tabling::same_key, crate::proofs::Tabling::same_length))]
-fn are_same(object: &Object<'_>, a: KeyedName, b: KeyedName) -> bool
-    requires first { IsNamed object.now a }
-    requires second { IsNamed object.now b }
-    ensures { IsTrue result ↔ (name_of object.now a.symbol ≡ name_of object.now b.symbol) }
-{
-    a.key == b.key && a.length == b.length && text_of_name(object, a) == text_of_name(object, b)
-}
-
-/// Looks for the name of a number in a table of those before it.
-fn look_for(object: &Object<'_>, names: &[KeyedName], cells: &[usize], number: usize) -> Seat
-    requires names { All (IsNamed object.now) names.now }
+/// Puts a name into a table of those before it, unless the same one is there. Gives the number of
+/// the one that is there then, or none where it would stand too far from its home.
+fn put(names: &[Name<'_>], cells: &mut [usize], number: usize) -> Option<usize>
     requires number { number < length names.now }
-    requires size { 128 < length cells.now }
-    requires numbers { (k : ℕ) → slice_index cells.now k ≤ number }
-    ensures { IsSeat object.now names.now cells.now number result }
+    requires size { 128 < length cells.old }
+    requires few { (k : ℕ) → slice_index cells.old k ≤ number }
+    ensures { IfSome result (IsPut names.now cells.old cells.new number) }
 {
-    let first = home(cells, names[number].key);
+    let name = &names[number];
+    let first = home(cells, name.key());
     for at in first..first + FARTHEST {
-        if cells[at] == 0 {
-            return Seat::Free(at);
+        let cell = cells[at];
+        if cell == 0 {
+            cells[at] = number + 1;
+            return Some(number + 1);
         }
-        if are_same(object, names[number], names[cells[at] - 1]) {
-            return Seat::Twin;
+        if names[cell - 1].is(name) {
+            return Some(cell);
         }
     }
-    Seat::Far
+    None
 }
 
-/// Whether no two names are the same; none where a name would stand too far from its home, as in a
-/// file that was made for it. It takes 16 bytes a name.
-pub(crate) fn differ_in_table(
+/// The numbers of names; none where one would stand too far from its home, as in files that were
+/// made for it. They take 20 bytes a name while they are made, of which 4 are kept.
+pub(crate) fn numbers_in_table(
     alloc: Global,
-    object: &Object<'_>,
-    names: &[KeyedName],
-) -> Result<Option<bool>, AllocError>
-    requires { All (IsNamed object.now) names.now }
-    ensures { IfOk result (λ found. IfSome found (λ differ.
-        IsTrue differ ↔ AllDiffer object.now (symbols_of names.now))) }
+    names: &[Name<'_>],
+) -> Result<Option<Vec<u32>>, AllocError>
+    ensures { IfOk result (λ found. IfSome found (λ v. AreNumbers names.now v.items)) }
 {
+    if names.len() >= 1 << 32 {
+        return Ok(None);
+    }
     let mut cells = vec![in alloc; 0; 2 * names.len() + 1 + FARTHEST]?;
+    let mut numbers = Vec::with_capacity(alloc, names.len())?;
     for number in 0..names.len() {
-        match look_for(object, names, &cells, number) {
-            Seat::Free(at) => cells[at] = number + 1,
-            Seat::Twin => return Ok(Some(false)),
-            Seat::Far => return Ok(None),
+        match put(names, &mut cells, number) {
+            Some(told) => numbers.push(told as u32)?,
+            None => return Ok(None),
         }
     }
-    Ok(Some(true))
+    Ok(Some(numbers))
 }

@@ -1,81 +1,53 @@
--- Names that end at one place of the string table, read from their ends, as they are compared where names share bytes.
-use Rattle.std.specs.Prelude.{ℕ, Bool, List, ◌≡◌, ◌≢◌, ◌<◌, ◌≤◌, true, length, map, take, drop, reverse, false, slice_index_or}
+-- Names that are tails of strings, read from their ends, as they are told by numbers where they share bytes. Nobody has to
+-- believe this.
+use Rattle.std.specs.Prelude.{ℕ, List, ◌≡◌, ◌≢◌, ◌<◌, ◌≤◌, ◌-◌, false, length, take, reverse, slice_index}
 use Rattle.std.specs.Cmp.Lexicographic.{slice_cmp}
 use Rattle.std.specs.Ordering.{nat_cmp, is_lt}
 use Rattle.std.specs.List.{All, Any}
 use Rattle.std.specs.List.Sorted.{IsSortedBy}
-use Rattle.std.specs.declared.cmp.Ordering.{Ordering}
-use Rattle.elf_dynamic.specs.Strings.{name_of}
-use Rattle.elf_dynamic.specs.Strings.{string_table}
-use Rattle.hash_check.specs.KeyedName.{named}
-use Rattle.hash_check.specs.inside.Names.{IsSymbol, IsStretch, BeginsIn, nth_name}
-use Rattle.hash_check.specs.declared.keyed_name.KeyedName.{KeyedName}
-use Rattle.hash_check.specs.declared.names.Stretch.{Stretch}
+use Rattle.hash_check.specs.Numbers.{nth_text}
 use Rattle.hash_check.specs.declared.endings.Ending.{Ending}
 
--- a symbol with the key and the length of its name
-pub record IsNamed (file : List ℕ) (name : KeyedName) : Type 0 where
-  pub symbol : IsSymbol file name.symbol
-  pub named : name ≡ named file name.symbol
+-- the bytes of the name of a number, the last one first
+unfoldable pub back : List (List ℕ) → ℕ → List ℕ
+back names k = reverse (nth_text names k)
 
--- the bytes of a name, the last one first
-unfoldable pub back : List ℕ → List KeyedName → ℕ → List ℕ
-back file names k = reverse (name_of file (nth_name names k).symbol)
+-- the bytes of a string, the last one first
+abbrev pub string_back : Ending → List ℕ
+string_back e = reverse e.string.now
 
--- the bytes of a stretch
-unfoldable pub stretch_bytes : List ℕ → Stretch → List ℕ
-stretch_bytes file s = take s.length (drop s.from (string_table file))
-
--- the bytes of a stretch, the last one first
-unfoldable pub stretch_back : List ℕ → Stretch → List ℕ
-stretch_back file s = reverse (stretch_bytes file s)
-
--- stretches by their bytes from the last one on
-abbrev pub back_order : List ℕ → Ending → Ending → Ordering
-back_order file a b = slice_cmp nat_cmp (stretch_back file a.stretch) (stretch_back file b.stretch)
-
--- a name that begins within an ending
+-- a name of an ending
 abbrev pub IsIn : ℕ → Ending → Type 0
 IsIn k e = (e.first ≤ k) × (k < e.past)
 
--- names that begin in one stretch
-pub record IsEnding (file : List ℕ) (names : List KeyedName) (e : Ending) : Type 0 where
-  pub stretch : IsStretch file e.stretch
+-- names that are tails of one string
+pub record IsEnding (names : List (List ℕ)) (e : Ending) : Type 0 where
   pub within : e.past ≤ length names
-  pub begin : (k : ℕ) → IsIn k e → BeginsIn file (nth_name names k).symbol e.stretch
+  pub tails : (k : ℕ) → IsIn k e → take (length (back names k)) (string_back e) ≡ back names k
 
 -- the endings of names, each name in one of them
-pub record AreEndings (file : List ℕ) (names : List KeyedName) (endings : List Ending) : Type 0 where
-  pub each : All (IsEnding file names) endings
+pub record AreEndings (names : List (List ℕ)) (endings : List Ending) : Type 0 where
+  pub each : All (IsEnding names) endings
   pub all : (k : ℕ) → k < length names → Any (IsIn k) endings
 
--- the same, sorted
-pub record AreSorted (file : List ℕ) (names : List KeyedName) (endings : List Ending) : Type 0 where
-  pub are : AreEndings file names endings
-  pub sorted : IsSortedBy (λ a b. is_lt (back_order file a b)) endings
+-- the same, sorted by the strings from their last bytes on
+pub record AreSorted (names : List (List ℕ)) (endings : List Ending) : Type 0 where
+  pub are : AreEndings names endings
+  pub sorted : IsSortedBy (λ a b. is_lt (slice_cmp nat_cmp (string_back a) (string_back b))) endings
 
--- no two names in some endings are the same
-abbrev pub DifferIn : List ℕ → List KeyedName → List Ending → Type 0
-DifferIn file names endings = (j k : ℕ) → Any (IsIn j) endings → Any (IsIn k) endings → back file names j ≡ back file names k → j ≡ k
+-- no number
+abbrev pub AreNone : List ℕ → Type 0
+AreNone numbers = (k : ℕ) → slice_index numbers k ≡ 0
 
--- whether a length is marked
-abbrev pub IsMarked : List Bool → ℕ → Type 0
-IsMarked marks n = slice_index_or marks n false ≡ true
-
--- the names of an ending were marked by their lengths, none of which was
-pub record AreMarked (file : List ℕ) (names : List KeyedName) (e : Ending) (old new : List Bool) : Type 0 where
-  pub fresh : (k : ℕ) → IsIn k e → IsMarked old (length (back file names k)) → ⊥
-  pub apart : (j k : ℕ) → IsIn j e → IsIn k e → length (back file names j) ≡ length (back file names k) → j ≡ k
-  pub marked : (k : ℕ) → IsIn k e → IsMarked new (length (back file names k))
-  pub kept : (n : ℕ) → IsMarked old n → IsMarked new n
-
--- another name has the bytes of this one
-pub record HasTwin (file : List ℕ) (names : List KeyedName) (k : ℕ) : Type 0 where
-  pub other : ℕ
-  pub within : other < length names
-  pub apart : other ≢ k
-  pub same : back file names other ≡ back file names k
-
--- the symbols of names
-abbrev pub symbols_of : List KeyedName → List ℕ
-symbols_of names = map (λ n. n.symbol) names
+-- The names so far have their numbers, and 0 is that of the others. They don't come behind the last string, and those that
+-- are tails of it are marked by their lengths.
+pub record AreHeld (names : List (List ℕ)) (last marks numbers : List ℕ) : Type 0 where
+  pub size : length numbers ≡ length names
+  pub short : (n : ℕ) → slice_index marks n ≢ 0 → n ≤ length last
+  pub there : (n : ℕ) → slice_index marks n ≤ length names
+  pub marked : (n : ℕ) → slice_index marks n ≢ 0 → back names (slice_index marks n - 1) ≡ take n last
+  pub below : (k : ℕ) → slice_index numbers k ≢ 0 → is_lt (slice_cmp nat_cmp last (back names k)) ≡ false
+  pub held : (k : ℕ) → slice_index numbers k ≢ 0 → take (length (back names k)) last ≡ back names k → slice_index marks (length (back names k)) ≡ slice_index numbers k
+  pub within : (k : ℕ) → slice_index numbers k ≤ length names
+  pub same : (k : ℕ) → slice_index numbers k ≢ 0 → back names (slice_index numbers k - 1) ≡ back names k
+  pub one : (j k : ℕ) → slice_index numbers j ≢ 0 → slice_index numbers k ≢ 0 → back names j ≡ back names k → slice_index numbers j ≡ slice_index numbers k

@@ -1,12 +1,8 @@
 -- A table in which a name is looked for by its key. A name is told by its number: a cell has the number of a name, counted
 -- from 1, or 0 where it is empty. Nobody has to believe this.
 use Rattle.std.specs.Prelude.{ℕ, List, ◌≡◌, ◌≢◌, ◌<◌, ◌≤◌, ◌+◌, ◌-◌, ◌*◌, ◌/◌, ◌%◌, ◌^◌, length, slice_index}
-use Rattle.elf_dynamic.specs.Strings.{name_of}
-use Rattle.hash_check.specs.inside.Names.{nth_name}
-use Rattle.hash_check.specs.inside.Endings.{HasTwin}
-use Rattle.hash_check.specs.declared.keyed_name.KeyedName.{KeyedName}
-use Rattle.hash_check.specs.declared.name_table.Seat.{Seat}
-use Rattle.hash_check.specs.declared.name_table.Seat.TheVariants.{Free, Twin, Far}
+use Rattle.hash_check.specs.Key.{key_of}
+use Rattle.hash_check.specs.Numbers.{nth_text}
 
 -- the first cell in which a name of a key may stand, of a table of some size
 unfoldable pub home : ℕ → ℕ → ℕ
@@ -37,27 +33,18 @@ pub record Reaches (text : ℕ → List ℕ) (cells name : List ℕ) (from at : 
   pub same : text (slice_index cells at - 1) ≡ name
   pub others : HoldOthers text cells name from at
 
--- the name of a number, of the exported names of a file
-abbrev pub nth_text : List ℕ → List KeyedName → ℕ → List ℕ
-nth_text file names i = name_of file (nth_name names i).symbol
+-- the home of the name of a number
+abbrev pub home_of : List (List ℕ) → List ℕ → ℕ → ℕ
+home_of names cells k = home (length cells) (key_of (nth_text names k))
 
--- its home
-abbrev pub home_of : List KeyedName → List ℕ → ℕ → ℕ
-home_of names cells i = home (length cells) (nth_name names i).key
-
--- what was found where the name of a number was looked for
-abbrev pub IsSeat : List ℕ → List KeyedName → List ℕ → ℕ → Seat → Type 0
-IsSeat file names cells number (Free at) = IsFree (nth_text file names) cells (nth_text file names number) (home_of names cells number) at
-IsSeat file names cells number Twin = HasTwin file names number
-IsSeat file names cells number Far = Unit
-
--- a name of the table is found where it is looked for
-pub record Stands (file : List ℕ) (names : List KeyedName) (cells : List ℕ) (i : ℕ) : Type 0 where
+-- the name of a number is found where it is looked for, at a cell that has some number
+pub record Stands (names : List (List ℕ)) (cells : List ℕ) (k told : ℕ) : Type 0 where
   pub place : ℕ
-  pub is : Reaches (nth_text file names) cells (nth_text file names i) (home_of names cells i) place
+  pub is : Reaches (nth_text names) cells (nth_text names k) (home_of names cells k) place
+  pub cell : slice_index cells place ≡ told
 
--- a table of the first names, which differ
-pub record IsTable (file : List ℕ) (names : List KeyedName) (cells : List ℕ) (count : ℕ) : Type 0 where
-  pub numbers : (k : ℕ) → slice_index cells k ≤ count
-  pub stand : (i : ℕ) → i < count → Stands file names cells i
-  pub differ : (i j : ℕ) → i < j → j < count → nth_text file names i ≢ nth_text file names j
+-- a name was put into a table, and what stood in it does so still
+pub record IsPut (names : List (List ℕ)) (old new : List ℕ) (number told : ℕ) : Type 0 where
+  pub few : (k : ℕ) → slice_index new k ≤ number + 1
+  pub stands : Stands names new number told
+  pub kept : (k told : ℕ) → Stands names old k told → Stands names new k told

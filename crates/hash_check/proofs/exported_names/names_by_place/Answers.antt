@@ -18,7 +18,7 @@ returns c =
     let file : List ℕ = c.args.object.now in
     let symbols : List ℕ = c.args.symbols.items in
     let sorted : List ℕ = c.sort_unstable_by_key.new.self.items in
-    IfOk-weaker c.names_of.result (λ v. v.items ≡ map (named file) c.deref.result.now) (λ v. IsPermutation (map (named file) symbols) v.items)
+    IfOk-weaker c.keyed_names.result (λ v. v.items ≡ map (named file) c.deref-2.result.now) (λ v. IsPermutation (map (named file) symbols) v.items)
     (λ v is. subst (λ (l : List KeyedName). IsPermutation (map (named file) symbols) l) (sym is)
-    (rw c.deref.ensures.value (IsPermutation-map (named file) symbols sorted c.sort_unstable_by_key.ensures.permutation)))
-    c.names_of.ensures
+    (rw c.deref-2.ensures.value (IsPermutation-map (named file) symbols sorted c.sort_unstable_by_key.ensures.permutation)))
+    c.keyed_names.ensures

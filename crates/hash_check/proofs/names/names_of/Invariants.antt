@@ -1,11 +1,11 @@
 use Rattle.std.proofs.Common.{◌≡◌, map, take}
 use Rattle.std.specs.Option.{ForSome}
 use Rattle.hash_check.specs.inside.Names.{IsStretch}
-use Rattle.hash_check.specs.KeyedName.{named}
+use Rattle.elf_dynamic.specs.Strings.{name_of}
 use Rattle.hash_check.proofs.names.names_of.Given as goal
 
 abbrev pub invariant-loop-number : goal.invariant-loop-number
 invariant-loop-number l = record {
-  names : l.names.items ≡ map (named l.object) (take l.number-index l.symbols);
+  names : l.names.items ≡ map (name_of l.object) (take l.number-index l.symbols);
   last : ForSome l.last (IsStretch l.object);
 }

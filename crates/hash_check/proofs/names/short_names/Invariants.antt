@@ -1,6 +1,6 @@
 use Rattle.std.proofs.Common.{◌≡◌, map, take}
-use Rattle.hash_check.specs.KeyedName.{named}
+use Rattle.elf_dynamic.specs.Strings.{name_of}
 use Rattle.hash_check.proofs.names.short_names.Given as goal
 
-abbrev pub invariant-loop-number : goal.invariant-loop-number
-invariant-loop-number l = l.names.items ≡ map (named l.object) (take l.number-index l.symbols)
+abbrev pub invariant-loop-symbol : goal.invariant-loop-symbol
+invariant-loop-symbol l = l.names.items ≡ map (name_of l.object) (take l.symbol-index l.symbols)
