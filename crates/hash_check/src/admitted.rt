@@ -48,7 +48,7 @@ impl<'a> Model for Admitted<'a> {
 }
 
 impl<'a> Admitted<'a> {
-    /// Admits an object, or gives the refusal of the first test that applies. It takes some 50
+    /// Admits an object, or gives the refusal of the first test that applies. It takes some 40
     /// bytes a symbol, which it gives back. Every step is linear in the file up to a logarithm,
     /// but one: an exported name is hashed unless the walks from all buckets meet its symbol, so
     /// names that share bytes of the string table cost the sum of their lengths.

@@ -65,7 +65,7 @@ fn differ_in_strings(
 
 /// Whether two exported symbols share a name. Where the table doesn't tell, as where many names are
 /// tails of others or a file was made to fill few cells, the strings that they are tails of do. It
-/// takes some 50 bytes an exported symbol while it runs.
+/// takes some 40 bytes an exported symbol while it runs.
 pub(crate) fn has_duplicate_definition(
     alloc: Global,
     object: &Object<'_>,

@@ -1,6 +1,6 @@
 // Names told by numbers, by a table in which each is looked for near the cell that its key gives.
 
-ghost use Rattle.std.specs.Prelude.{ℕ, ◌≡◌, ◌<◌, ◌≤◌, ◌+◌, length, slice_index, IfOk, IfSome};
+ghost use Rattle.std.specs.Prelude.{ℕ, ◌≡◌, ◌<◌, ◌≤◌, ◌+◌, ◌^◌, length, slice_index, IfOk, IfSome};
 ghost use Rattle.hash_check.specs.Numbers.{AreNumbers};
 ghost use Rattle.hash_check.specs.inside.NameTable.{home, IsPut};
 
@@ -11,34 +11,45 @@ use std::alloc::{AllocError, Global};
 /// nobody chose need a few.
 pub const FARTHEST: usize = 128;
 
-/// The home of a key in a table of names: the first of the cells in which a name of it may stand.
+/// The home of a key in a table of so many cells.
 #[tactic(auto, unfolding(crate::specs::inside::NameTable::home))]
+fn home_among(count: usize, key: u64) -> usize
+    requires { 128 < count }
+    ensures value { result ≡ home count key }
+    ensures within { result + 128 < count }
+{
+    let spread = key.wrapping_mul(0x9e37_79b9_7f4a_7c15) >> 32;
+    (spread % (count - FARTHEST) as u64) as usize
+}
+
+/// The home of a key in a table of names: the first of the cells in which a name of it may stand.
 pub fn home(cells: &[usize], key: u64) -> usize
     requires { 128 < length cells.now }
     ensures value { result ≡ home (length cells.now) key }
     ensures within { result + 128 < length cells.now }
 {
-    let spread = key.wrapping_mul(0x9e37_79b9_7f4a_7c15) >> 32;
-    (spread % (cells.len() - FARTHEST) as u64) as usize
+    home_among(cells.len(), key)
 }
 
 /// Puts a name into a table of those before it, unless the same one is there. Gives the number of
 /// the one that is there then, or none where it would stand too far from its home.
-fn put(names: &[Name<'_>], cells: &mut [usize], number: usize) -> Option<usize>
+fn put(names: &[Name<'_>], cells: &mut [u32], number: usize) -> Option<u32>
     requires number { number < length names.now }
+    requires many { length names.now < 2 ^ 32 }
     requires size { 128 < length cells.old }
     requires few { (k : ℕ) → slice_index cells.old k ≤ number }
     ensures { IfSome result (IsPut names.now cells.old cells.new number) }
 {
     let name = &names[number];
-    let first = home(cells, name.key());
+    let first = home_among(cells.len(), name.key());
     for at in first..first + FARTHEST {
         let cell = cells[at];
         if cell == 0 {
-            cells[at] = number + 1;
-            return Some(number + 1);
+            let own = (number + 1) as u32;
+            cells[at] = own;
+            return Some(own);
         }
-        if names[cell - 1].is(name) {
+        if names[cell as usize - 1].is(name) {
             return Some(cell);
         }
     }
@@ -46,7 +57,7 @@ fn put(names: &[Name<'_>], cells: &mut [usize], number: usize) -> Option<usize>
 }
 
 /// The numbers of names; none where one would stand too far from its home, as in files that were
-/// made for it. They take 20 bytes a name while they are made, of which 4 are kept.
+/// made for it. They take 12 bytes a name while they are made, of which 4 are kept.
 pub(crate) fn numbers_in_table(
     alloc: Global,
     names: &[Name<'_>],
@@ -60,7 +71,7 @@ pub(crate) fn numbers_in_table(
     let mut numbers = Vec::with_capacity(alloc, names.len())?;
     for number in 0..names.len() {
         match put(names, &mut cells, number) {
-            Some(told) => numbers.push(told as u32)?,
+            Some(told) => numbers.push(told)?,
             None => return Ok(None),
         }
     }

@@ -14,7 +14,7 @@ use crate::entry::{Entry, compare, compare_to};
 use crate::loaded::LoadedObject;
 use crate::name_table::{cells_of, find_in_cells};
 use crate::target::Target;
-use hash_check::{Admitted, key_of};
+use hash_check::{Admitted, Room, key_of};
 use std::alloc::{AllocError, Global};
 
 /// Adds the exported names of the object at a place.
@@ -49,20 +49,17 @@ fn all_entries(alloc: Global, objects: &[LoadedObject<'_>]) -> Result<Vec<Entry>
     Ok(entries)
 }
 
-/// Whether names have more bytes than twice the string tables and 64 KiB, so that many of them are
-/// tails of others.
+/// Whether names have so many bytes that many of them are tails of others.
 fn share_bytes(objects: &[LoadedObject<'_>], names: &[Entry]) -> bool {
-    let mut left: usize = 65_536;
+    let mut size: usize = 0;
     for object in objects {
-        let size = object.object().object().string_table().len();
-        left = left.saturating_add(size.saturating_mul(2));
+        size = size.saturating_add(object.object().object().string_table().len());
     }
+    let mut room = Room::new(size);
     for name in names {
-        let length = name.name.length as usize;
-        if length > left {
+        if !room.take(name.name.length as usize) {
             return true;
         }
-        left -= length;
     }
     false
 }
