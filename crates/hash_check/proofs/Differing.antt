@@ -1,10 +1,10 @@
 -- Names that differ are those of which each has its own number.
-use Rattle.std.proofs.Common.{◌≡◌, ℕ, ◌<◌, ◌≤◌, ◌-◌, List, [], length, map, arith, ◌∙◌, sym, get_or, inl, inr, subst, Bool}
+use Rattle.std.proofs.Common.{◌≡◌, ◌<◌, ◌≤◌, ◌+◌, ◌-◌, ◌∙◌, ℕ, zero, suc, Bool, List, [], length, map, arith, sym, ap, subst, get_or, inl, inr}
 use Rattle.std.specs.Prelude.{◌↔◌, IsTrue}
 use Rattle.std.proofs.lemmas.Bool.{cases_lt}
 use Rattle.std.proofs.lemmas.List.{get_or-map, length-map}
 use Rattle.elf_dynamic.specs.Strings.{name_of}
-use Rattle.hash_check.specs.Numbers.{nth_text, AreNumbers, AreOwn}
+use Rattle.hash_check.specs.Numbers.{nth_text, AreNumbers, AreOwn, Fall}
 use Rattle.hash_check.specs.inside.Names.{AllDiffer}
 
 module _ (file symbols numbers : List ℕ) (h : AreNumbers (map (name_of file) symbols) numbers) where
@@ -45,3 +45,28 @@ pub own-tells : (file symbols : List ℕ) (names : List (List ℕ)) (numbers : L
 own-tells file symbols names numbers b is h own =
     let g : AreNumbers (map (name_of file) symbols) numbers = subst (λ (l : List (List ℕ)). AreNumbers l numbers) is h in
     (λ t. differ-from-own file symbols numbers g (own.0 t), λ d. own.1 (own-from-differ file symbols numbers g d))
+
+shorter : (names : List (List ℕ)) (j n : ℕ) → Fall names → j + n + 1 < length names → length (nth_text names (j + n + 1)) < length (nth_text names j)
+shorter names j zero h lt =
+    let some : 1 ≤ j + 0 + 1 = omega arith in
+    let at : j + 0 + 1 - 1 ≡ j = omega arith in
+    subst (λ i. length (nth_text names (j + 0 + 1)) < length (nth_text names i)) at (h.fall (j + 0 + 1) some lt)
+shorter names j (suc n) h lt =
+    let some : 1 ≤ j + suc n + 1 = omega arith in
+    let at : j + suc n + 1 - 1 ≡ j + n + 1 = omega arith in
+    let one : length (nth_text names (j + suc n + 1)) < length (nth_text names (j + n + 1)) =
+    subst (λ i. length (nth_text names (j + suc n + 1)) < length (nth_text names i)) at (h.fall (j + suc n + 1) some lt) in
+    let rest : length (nth_text names (j + n + 1)) < length (nth_text names j) = shorter names j n h (omega (arith, lt)) in
+    omega (arith, one, rest)
+
+-- names that are each shorter than the one before differ
+pub differ-from-fall : (file symbols : List ℕ) (names : List (List ℕ)) → names ≡ map (name_of file) symbols → Fall names → AllDiffer file symbols
+differ-from-fall file symbols names is h = record {
+  differ = λ i j less lt same.
+      let count : length names ≡ length symbols = ap length is ∙ length-map symbols (name_of file) in
+      let text : (k : ℕ) → k < length symbols → nth_text names k ≡ name_of file (get_or symbols k 0) = λ k there. ap (λ (l : List (List ℕ)). get_or l k []) is ∙ get_or-map (name_of file) symbols k 0 [] there in
+      let early : i < length symbols = omega arith in
+      let at : i + (j - i - 1) + 1 ≡ j = omega arith in
+      let short : length (nth_text names j) < length (nth_text names i) = subst (λ k. length (nth_text names k) < length (nth_text names i)) at (shorter names i (j - i - 1) h (omega (arith, at, lt, count))) in
+      omega (arith, short, ap length (text i early ∙ same ∙ sym (text j lt)));
+}

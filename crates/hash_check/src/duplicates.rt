@@ -5,10 +5,11 @@ ghost use Rattle.std.specs.List.{All};
 ghost use Rattle.hash_check.specs.Export.{exported_symbols};
 ghost use Rattle.hash_check.specs.Definition.{has_duplicate_definition};
 ghost use Rattle.hash_check.specs.inside.Names.{IsSymbol, AllDiffer};
-ghost use Rattle.hash_check.specs.Numbers.{AreOwn};
+ghost use Rattle.hash_check.specs.Numbers.{AreOwn, Fall};
 
 use crate::endings::numbers_of_endings;
 use crate::export::{exported_count, exported_symbols};
+use crate::name::Name;
 use crate::name_table::numbers_in_table;
 use crate::names::{names_of, offset_of, short_names};
 use crate::strings::endings_of;
@@ -47,6 +48,19 @@ fn differ_in_table(
     }
 }
 
+/// Whether each name is shorter than the one before it, as tails of one string are by their places.
+fn lengths_fall(names: &[Name<'_>]) -> bool
+    ensures { IsTrue result → Fall names.now }
+{
+    for i in 1..names.len() {
+        let (before, name) = (&names[i - 1], &names[i]);
+        if name.bytes().len() >= before.bytes().len() {
+            return false;
+        }
+    }
+    true
+}
+
 /// Whether no two symbols that are sorted by the places of their names share one, by the strings
 /// that these are tails of.
 fn differ_in_strings(
@@ -58,6 +72,9 @@ fn differ_in_strings(
     ensures { IfOk result (λ differ. IsTrue differ ↔ AllDiffer object.now symbols.now) }
 {
     let names = names_of(alloc, object, symbols)?;
+    if lengths_fall(&names) {
+        return Ok(true);
+    }
     let endings = endings_of(alloc, object, symbols)?;
     let numbers = numbers_of_endings(alloc, &names, endings)?;
     Ok(are_own(&numbers))
