@@ -164,23 +164,25 @@ const UNWRITTEN: Ended = Err(ScriptFault::Write);
 #[test]
 fn a_writer_fails_at_each_write(rt: HostRuntime) {
     let done = Summary {
-        lines: 5,
+        lines: 7,
         refused: 2,
     };
     for (room, events, wanted) in [
-        // Before the change: three answers are one write.
-        (0, 2, UNWRITTEN),
-        (3, 2, UNWRITTEN),
-        (24, 2, UNWRITTEN),
-        // Its own answer.
+        // The first change was made, and its answer is behind the three before it.
+        (0, 3, UNWRITTEN),
+        (24, 3, UNWRITTEN),
         (25, 3, UNWRITTEN),
         (27, 3, UNWRITTEN),
+        // So of the second one.
+        (28, 5, UNWRITTEN),
+        (33, 5, UNWRITTEN),
         // The last answer.
-        (28, 3, UNWRITTEN),
-        (46, 3, UNWRITTEN),
-        (47, 3, Ok(done)),
+        (34, 5, UNWRITTEN),
+        (52, 5, UNWRITTEN),
+        (53, 5, Ok(done)),
     ] {
-        let found = run_full(rt.alloc(), "list\nno line\nlist\npreload\nlis", room);
+        let script = "list\nno line\nlist\npreload\nlist\npreload\nlis";
+        let found = run_full(rt.alloc(), script, room);
         assert!(rt; found == (wanted, events));
     }
 }

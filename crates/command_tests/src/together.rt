@@ -4,7 +4,7 @@ ghost use Rattle.std.specs.Prelude.{⊤};
 
 use binders::{Event, EventReply};
 use commands::{ScriptFault, Summary, TakesEvents, run_script};
-use requests::{Command, Reply};
+use requests::{Command, Refusal, Reply};
 use std::alloc::Global;
 use std::cell::Cell;
 use std::io;
@@ -60,10 +60,13 @@ impl Write for Answers<'_> {
     }
 }
 
-/// Done to every event; it notes a change that was made while an answer was missing.
+/// Refuses to remove `a`, fails to remove `b`, and else answers done; it notes an event that
+/// happens while the answer to a change that was made, or that failed, is missing.
 #[derive(Drop)]
 struct Watching<'a> {
     asked: usize,
+    /// How many answers have to be there.
+    due: usize,
     is_early: bool,
     answered: &'a Cell<usize>,
 }
@@ -72,27 +75,34 @@ impl TakesEvents for Watching<'_> {
     ghost step = { λ _ _ _ _. ⊤ };
 
     fn happen(&mut self, event: &Event<'_>) -> EventReply {
-        let is_quiet = matches!(event, Event::Apply(Command::List | Command::Bind { .. }));
-        if !is_quiet && self.answered.get() != self.asked {
-            self.is_early = true;
-        }
+        self.is_early |= self.answered.get() < self.due;
         self.asked = self.asked.saturating_add(1);
-        EventReply::Replied(Reply::Done)
+        let reply = match event {
+            Event::Apply(Command::List) => return EventReply::Replied(Reply::Done),
+            Event::Apply(Command::Remove(b"a")) => {
+                return EventReply::Replied(Reply::Refused(Refusal::NotInstalled));
+            }
+            Event::Apply(Command::Remove(_)) => Reply::Refused(Refusal::Device),
+            _ => Reply::Done,
+        };
+        self.due = self.asked;
+        EventReply::Replied(reply)
     }
 }
 
 /// What is read, each text with the number of lines that end before it: one line, and three that
-/// are answered with one write; two changes among listings, so what waits, `ok`, what waits, `ok`;
-/// the rest of a line, two lines more, and one without a newline.
+/// are answered with one write; a change that is refused among listings and one that is made, with
+/// one write, and so a change that fails with what waits before it; the rest of a line, two lines
+/// more, and one without a newline.
 static TEXTS: [(&str, usize); 4] = [
     ("list\n", 0),
     ("list\nlist\nlist\n", 1),
-    ("list\nremove a\nlist\npreload\nli", 4),
-    ("st\nlist\nno line\nlist", 8),
+    ("list\nremove a\nlist\npreload\nremove a\nremove b\nli", 4),
+    ("st\nlist\nno line\nlist", 10),
 ];
 
-/// What a script over these texts ends with, how many calls of its writer it takes, and whether a
-/// change was made while an answer was missing.
+/// What a script over these texts ends with, how many calls of its writer it takes, and whether an
+/// answer came too late.
 fn watched(alloc: Global, answered: &Cell<usize>) -> (Result<Summary, ScriptFault>, usize, bool) {
     let mut reader = Asking {
         texts: &TEXTS,
@@ -102,6 +112,7 @@ fn watched(alloc: Global, answered: &Cell<usize>) -> (Result<Summary, ScriptFaul
     let mut writer = Answers { calls: 0, answered };
     let mut registry = Watching {
         asked: 0,
+        due: 0,
         is_early: false,
         answered,
     };
@@ -110,13 +121,13 @@ fn watched(alloc: Global, answered: &Cell<usize>) -> (Result<Summary, ScriptFaul
 }
 
 #[test]
-fn no_answer_is_missing_when_more_is_read_or_changed(rt: HostRuntime) {
+fn no_answer_is_missing_when_more_is_read_or_a_change_was_made(rt: HostRuntime) {
     let answered = Cell::new(0usize);
     let found = watched(rt.alloc(), &answered);
     let wanted = Summary {
-        lines: 12,
-        refused: 2,
+        lines: 14,
+        refused: 5,
     };
     // The line without a newline is answered by itself, since the reader was asked for its end.
-    assert!(rt; (found, answered.get()) == ((Ok(wanted), 8, false), 12));
+    assert!(rt; (found, answered.get()) == ((Ok(wanted), 6, false), 14));
 }

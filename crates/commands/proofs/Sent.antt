@@ -1,15 +1,16 @@
 -- What a writer held while answers waited.
-use Rattle.std.proofs.Common.{◌≡◌, ◌≢◌, ℕ, List, [], ◌∷◌, ◌++◌, length, append-nil, append_assoc, Option, Some, None, refl, sym, ap, subst, ◌∙◌, arith, inl, inr, ⊎_elim}
+use Rattle.std.proofs.Common.{◌≡◌, ◌≢◌, ℕ, zero, suc, ◌-◌, List, [], ◌∷◌, ◌++◌, length, take, length-append, append-nil, append_assoc, Option, Some, None, refl, sym, ap, subst, ◌∙◌, arith, ⊎_elim}
 use Rattle.std.specs.Prelude.{◌⊎◌, IfSome, IfOk, IfErr, Result, Ok, Err}
-use Rattle.std.specs.List.{flat_map}
+use Rattle.std.specs.List.{flat_map, AllZip}
 use Rattle.std.specs.Io.KnownBytes.{Appends, Consumes, append_known}
-use Rattle.std.proofs.KnownBytes.{Appends-nil, Appends-trans, Consumes-nil}
-use Rattle.std.proofs.lemmas.List.Elements.{All-push, All-nil}
+use Rattle.std.proofs.KnownBytes.{Appends-nil, Consumes-nil}
+use Rattle.std.proofs.Math.Seq.{take-append_seam}
+use Rattle.std.proofs.lemmas.List.Elements.{All-nil}
+use Rattle.std.proofs.lemmas.Slice.Zip.{AllZip-long, all_zipped_more}
 use Rattle.requests.specs.Runs.{Steps, Run}
 use Rattle.binders.specs.Events.{Happening}
 use Rattle.binders.specs.declared.event.EventReply.{EventReply}
-use Rattle.commands.specs.Answer.{LineStep, output}
-use Rattle.commands.specs.Line.{AsksNoChange}
+use Rattle.commands.specs.Answer.{LineStep, MayWait, output}
 use Rattle.commands.specs.Script.{IsLine, ended, Streams, Ends, Breaks, IsHeldBack, StopsWriting}
 use Rattle.commands.specs.inside.Progress.{Place, Answered, Misses, Told, Unread}
 use Rattle.commands.specs.declared.answer.Answer.{Answer}
@@ -40,29 +41,18 @@ all_sent (Some x) None now waiting text h sent = absurd h
 all_sent (Some x) (Some y) None waiting text h sent = absurd sent
 all_sent (Some x) (Some y) (Some z) waiting text h sent = sent ∙ h
 
--- and so it stands as it did
-pub as_it_was : (held now : Option (List ℕ)) (waiting : List ℕ) → Appends held now waiting → Appends (append_known held waiting) now []
-as_it_was None now waiting sent = tt
-as_it_was (Some x) None waiting sent = absurd sent
-as_it_was (Some x) (Some y) waiting sent = sent ∙ sym (append-nil (x ++ waiting))
-
--- a text that was sent behind nothing
-pub sent_alone : (held mid now : Option (List ℕ)) (before waiting text : List ℕ) → before ≡ [] → Appends (append_known held before) (append_known mid waiting) text → Appends mid now waiting → Appends held now text
-sent_alone held mid now before waiting text none put sent =
-    all_sent held mid now waiting text (subst (λ k. Appends k (append_known mid waiting) text) (ap (append_known held) none ∙ nothing_waits held) put) sent
-
--- a text that was sent once what waited was sent
-pub sent_behind : (held mid now : Option (List ℕ)) (waiting after text : List ℕ) → Appends held mid waiting → Appends mid now text → after ≡ [] → Appends (append_known held waiting) (append_known now after) text
-sent_behind held mid now waiting after text first sent none =
-    subst (λ k. Appends (append_known held waiting) k text) (sym (ap (append_known now) none ∙ nothing_waits now))
-    (Appends-trans (append_known held waiting) mid now [] text (as_it_was held mid waiting first) sent)
+-- what was put behind what waits, and then sent with it
+pub sent_behind : (held mid now : Option (List ℕ)) (before waiting after text : List ℕ) → Appends (append_known held before) (append_known mid waiting) text → Appends mid now waiting → after ≡ []
+    → Appends (append_known held before) (append_known now after) text
+sent_behind held mid now before waiting after text put sent none =
+    subst (λ k. Appends (append_known held before) k text) (sym (ap (append_known now) none ∙ nothing_waits now)) (all_sent (append_known held before) mid now waiting text put sent)
 
 -- nothing was answered yet
 pub told_none : (before : Option (List ℕ)) → Told before before [] []
-told_none before = record { told = []; untold = []; sent = []; missing = []; lines = refl; answered = refl; same = refl; written = Appends-nil before; quiet = All-nil AsksNoChange }
+told_none before = record { told = []; untold = []; sent = []; missing = []; lines = refl; answered = refl; same = refl; written = Appends-nil before; quiet = tt }
 
--- one more line, which asks for no change
-pub told_quiet : (before held : Option (List ℕ)) (whole : List (List ℕ)) (answers : List Answer) (line : List ℕ) (answer : Answer) → Told before held whole answers → AsksNoChange line
+-- one more line, whose answer may wait
+told_quiet : (before held : Option (List ℕ)) (whole : List (List ℕ)) (answers : List Answer) (line : List ℕ) (answer : Answer) → Told before held whole answers → MayWait line answer
     → Told before held (whole ++ line ∷ []) (answers ++ answer ∷ [])
 told_quiet before held whole answers line answer t quiet = record {
   told = t.told;
@@ -73,51 +63,70 @@ told_quiet before held whole answers line answer t quiet = record {
   answered = ap (λ l. l ++ answer ∷ []) t.answered ∙ append_assoc t.sent t.missing (answer ∷ []);
   same = t.same;
   written = t.written;
-  quiet = All-push AsksNoChange t.untold line t.quiet quiet;
+  quiet = all_zipped_more MayWait t.untold t.missing line answer t.quiet quiet;
 }
 
-module _ {S : Type 0} (step : S → Happening → EventReply → S → Type 0) (before held : Option (List ℕ)) (s t : S) (whole : List (List ℕ)) (answers : List Answer) (run : Run (LineStep step) s whole answers t) (written : Appends before held (output answers)) where
-  -- all was sent
-  pub told_all : Told before held whole answers
-  told_all = record {
-    told = whole;
-    untold = [];
-    sent = answers;
-    missing = [];
-    lines = sym (append-nil whole);
-    answered = sym (append-nil answers);
-    same = steps_length (LineStep step) s whole answers run.0 run.1;
-    written = written;
-    quiet = All-nil AsksNoChange;
-  }
-
-  -- all but the last answer
-  pub held_last : (line : List ℕ) (answer : Answer) → IsHeldBack before held (whole ++ line ∷ []) (answers ++ answer ∷ [])
-  held_last line answer = record {
-    told = whole;
-    untold = line ∷ [];
-    sent = answers;
-    missing = answer ∷ [];
-    lines = refl;
-    answered = refl;
-    same = steps_length (LineStep step) s whole answers run.0 run.1;
-    written = written;
-    little = inl (omega arith);
-  }
-
--- what waits is of lines that ask for no change
-pub held_told : (before held : Option (List ℕ)) (whole : List (List ℕ)) (answers : List Answer) → Told before held whole answers → IsHeldBack before held whole answers
-held_told before held whole answers t = record {
-  told = t.told;
-  untold = t.untold;
-  sent = t.sent;
-  missing = t.missing;
-  lines = t.lines;
-  answered = t.answered;
-  same = t.same;
-  written = t.written;
-  little = inr t.quiet;
+-- all was sent
+told_all : {S : Type 0} (step : S → Happening → EventReply → S → Type 0) (before held : Option (List ℕ)) (s t : S) (whole : List (List ℕ)) (answers : List Answer) → Run (LineStep step) s whole answers t
+    → Appends before held (output answers) → Told before held whole answers
+told_all step before held s t whole answers run written = record {
+  told = whole;
+  untold = [];
+  sent = answers;
+  missing = [];
+  lines = sym (append-nil whole);
+  answered = sym (append-nil answers);
+  same = steps_length (LineStep step) s whole answers run.0 run.1;
+  written = written;
+  quiet = tt;
 }
+
+-- the fronts of two lists
+front_zipped : {A B : Type 0} (R : A → B → Type 0) (n : ℕ) (xs : List A) (ys : List B) → AllZip R xs ys → AllZip R (take n xs) (take n ys)
+front_zipped R zero xs ys h = tt
+front_zipped R (suc n) [] [] h = tt
+front_zipped R (suc n) (x ∷ xs) (y ∷ ys) h = (h.0, front_zipped R n xs ys h.1)
+front_zipped R (suc n) [] (y ∷ ys) h = absurd h
+front_zipped R (suc n) (x ∷ xs) [] h = absurd h
+
+-- the fronts in front of one element more
+seam_zipped : {A B : Type 0} (R : A → B → Type 0) (xs : List A) (ys : List B) (x : A) (y : B) → AllZip R xs ys
+    → AllZip R (take (length (ys ++ y ∷ []) - 1) (xs ++ x ∷ [])) (take (length (ys ++ y ∷ []) - 1) (ys ++ y ∷ []))
+seam_zipped R xs ys x y h =
+    let less : length (ys ++ y ∷ []) - 1 ≡ length ys = omega (arith, length-append ys (y ∷ [])) in
+    let long = AllZip-long R xs ys h in
+    subst (λ n. AllZip R (take n (xs ++ x ∷ [])) (take n (ys ++ y ∷ []))) (sym less)
+    (subst (λ l. AllZip R l (take (length ys) (ys ++ y ∷ []))) (sym (ap (λ n. take n (xs ++ x ∷ [])) long ∙ take-append_seam xs (x ∷ [])))
+    (subst (AllZip R xs) (sym (take-append_seam ys (y ∷ []))) h))
+
+module _ (before held : Option (List ℕ)) (whole : List (List ℕ)) (answers : List Answer) (t : Told before held whole answers) where
+  -- what is missing may wait
+  pub held_told : IsHeldBack before held whole answers
+  held_told = record {
+    told = t.told;
+    untold = t.untold;
+    sent = t.sent;
+    missing = t.missing;
+    lines = t.lines;
+    answered = t.answered;
+    same = t.same;
+    written = t.written;
+    little = front_zipped MayWait (length t.missing - 1) t.untold t.missing t.quiet;
+  }
+
+  -- and of one line more the answer is missing
+  held_more : (line : List ℕ) (answer : Answer) → IsHeldBack before held (whole ++ line ∷ []) (answers ++ answer ∷ [])
+  held_more line answer = record {
+    told = t.told;
+    untold = t.untold ++ line ∷ [];
+    sent = t.sent;
+    missing = t.missing ++ answer ∷ [];
+    lines = ap (λ l. l ++ line ∷ []) t.lines ∙ append_assoc t.told t.untold (line ∷ []);
+    answered = ap (λ l. l ++ answer ∷ []) t.answered ∙ append_assoc t.sent t.missing (answer ∷ []);
+    same = t.same;
+    written = t.written;
+    little = seam_zipped MayWait t.untold t.missing line answer t.quiet;
+  }
 
 module _ {S W : Type 0} (contents : W → Option (List ℕ)) (step : S → Happening → EventReply → S → Type 0) (p q : Place) (s t : S) (m : Summary) (w : W) (whole : List (List ℕ)) (answers : List Answer)
     (so_far : Answered step p q s t m whole answers) (told : Told p.written (contents w) whole answers) where
@@ -132,29 +141,19 @@ module _ {S W : Type 0} (contents : W → Option (List ℕ)) (step : S → Happe
   off_reading r line OutOfMemory h = (w, whole, line, answers, breaks_reading step p q s t m whole answers so_far r OutOfMemory line h.0 h.1 h.2, held_told p.written (contents w) whole answers told)
 
   -- a whole line wasn't answered, or its answer not sent
-  pub off_line : (q' r : Place) (u : S) (line : List ℕ) (fault : ScriptFault) → Consumes q.unread r.unread (ended line) → IsLine line → Appends q.written q'.written [] → Misses step contents t u q'.written r.written line fault → BreaksOff r u fault
+  pub off_line : (q' r : Place) (u : S) (line : List ℕ) (fault : ScriptFault) → Consumes q.unread r.unread (ended line) → IsLine line → Appends q.written q'.written [] → Misses step t u q'.written r.written line fault → BreaksOff r u fault
   off_line q' r u line Read read is_line kept h =
       (w, whole, ended line, answers, breaks_unapplied step p q s t m whole answers so_far r u line Read read is_line h.0 (λ _. subst (λ k. Appends q.written k []) (sym h.1) kept), held_told p.written (contents w) whole answers told)
   off_line q' r u line OutOfMemory read is_line kept h =
       (w, whole, ended line, answers, breaks_unapplied step p q s t m whole answers so_far r u line OutOfMemory read is_line h.0 (λ _. subst (λ k. Appends q.written k []) (sym h.1) kept), held_told p.written (contents w) whole answers told)
   off_line q' r u line Write read is_line kept h =
-      ⊎_elim
-      (λ same. (w, whole, ended line, answers, breaks_unapplied step p q s t m whole answers so_far r u line Write read is_line same (λ no. absurd (no refl)), held_told p.written (contents w) whole answers told))
-      (λ done.
-      let broke = breaks_applied step p q s t m whole answers so_far r u line done.0.0 read is_line done.0.1 in
-      ⊎_elim
-      (λ quiet. (w, whole ++ line ∷ [], [], answers ++ done.0.0 ∷ [], broke, held_told p.written (contents w) (whole ++ line ∷ []) (answers ++ done.0.0 ∷ []) (told_quiet p.written (contents w) whole answers line done.0.0 told quiet)))
-      (λ sent.
-      let all = Appends-trans p.written q'.written (contents sent.0) (output answers) [] (subst (Appends p.written q'.written) (append-nil (output answers)) (Appends-trans p.written q.written q'.written (output answers) [] so_far.written kept)) sent.1 in
-      (sent.0, whole ++ line ∷ [], [], answers ++ done.0.0 ∷ [], broke, held_last step p.written (contents sent.0) s t whole answers so_far.run (subst (Appends p.written (contents sent.0)) (append-nil (output answers)) all) line done.0.0))
-      done.1)
-      h
+      (w, whole ++ line ∷ [], [], answers ++ h.0 ∷ [], breaks_applied step p q s t m whole answers so_far r u line h.0 read is_line h.1, held_more p.written (contents w) whole answers told line h.0)
 
 module _ {S W : Type 0} (contents : W → Option (List ℕ)) (step : S → Happening → EventReply → S → Type 0) (p : Place) (s u : S) where
-  -- after a line either nothing waits, or it asks for no change
+  -- after a line either nothing waits, or its answer may wait
   pub tells_on : (unread : Option (List ℕ)) (n : Summary) (held now : W) (waiting : List ℕ) (whole : List (List ℕ)) (answers : List Answer) (line : List ℕ) (answer : Answer)
       → Told p.written (contents held) whole answers → Answered step p (record { unread = unread; written = append_known (contents now) waiting }) s u n (whole ++ line ∷ []) (answers ++ answer ∷ [])
-      → (waiting ≡ []) ⊎ AsksNoChange line
+      → (waiting ≡ []) ⊎ MayWait line answer
       → (w : W) × (lines : List (List ℕ)) × (given : List Answer) × Answered step p (record { unread = unread; written = append_known (contents now) waiting }) s u n lines given × Told p.written (contents w) lines given
   tells_on unread n held now waiting whole answers line answer told more either =
       ⊎_elim

@@ -1,12 +1,13 @@
 -- The answers to the lines of a script, and their texts (own).
-use Rattle.std.specs.Prelude.{◌≡◌, ℕ, List, codes, Some, None, Bool, true, false}
+use Rattle.std.specs.Prelude.{◌≡◌, ℕ, List, codes, Some, None, Bool, true, false, ◌&&◌, ◌||◌, not}
 use Rattle.std.specs.List.{flat_map}
+use Rattle.requests.specs.declared.refusal.Refusal.TheVariants.{Device, Reopen}
 use Rattle.requests.specs.declared.reply.Reply.TheVariants.{Refused}
 use Rattle.binders.specs.Events.{Happening}
 use Rattle.binders.specs.declared.event.EventReply.{EventReply}
 use Rattle.binders.specs.declared.event.EventReply.TheVariants as event_reply
 use Rattle.commands.specs.EventReply.{event_text}
-use Rattle.commands.specs.Line.{meaning}
+use Rattle.commands.specs.Line.{is_no_change, meaning}
 use Rattle.commands.specs.declared.answer.Answer.{Answer}
 use Rattle.commands.specs.declared.answer.Answer.TheVariants.{Replied, BadLine, CutLine}
 
@@ -27,6 +28,20 @@ abbrev pub is_refused : Answer → Bool
 is_refused (Replied (event_reply.Replied (Refused refusal))) = true
 is_refused (Replied reply) = false
 is_refused answer = true
+
+-- S1 or S2: a call of the disk failed, now or before
+abbrev pub is_failure : Answer → Bool
+is_failure (Replied (event_reply.Replied (Refused Device))) = true
+is_failure (Replied (event_reply.Replied (Refused Reopen))) = true
+is_failure answer = false
+
+-- the answer to a line may wait: it is neither S1 nor S2, and the line was refused or asks for no change
+abbrev pub may_wait : List ℕ → Answer → Bool
+may_wait line answer = not (is_failure answer) && (is_refused answer || is_no_change (meaning line))
+
+-- the answer to a line may wait
+abbrev pub MayWait : List ℕ → Answer → Type 0
+MayWait line answer = may_wait line answer ≡ true
 
 -- what is written for answers
 abbrev pub output : List Answer → List ℕ

@@ -1,5 +1,5 @@
 -- What a line of a script asks (own).
-use Rattle.std.specs.Prelude.{◌≡◌, ℕ, ◌+◌, ◌-◌, ◌==◌, Bool, true, false, ◌&&◌, not, nat_le, if◌then◌else◌}
+use Rattle.std.specs.Prelude.{ℕ, ◌+◌, ◌-◌, ◌==◌, Bool, true, false, ◌&&◌, not, nat_le, if◌then◌else◌}
 use Rattle.std.specs.Prelude.{List, [], ◌∷◌, length, take, take_while, drop, codes, bytes_eq, Option, Some, None}
 use Rattle.std.specs.Char.{is_ascii_digit}
 use Rattle.std.specs.List.{list_all, slice_split}
@@ -86,7 +86,3 @@ is_change happening = true
 abbrev pub is_no_change : Option Happening → Bool
 is_no_change (Some happening) = not (is_change happening)
 is_no_change None = true
-
--- a line that asks for no change
-abbrev pub AsksNoChange : List ℕ → Type 0
-AsksNoChange line = is_no_change (meaning line) ≡ true

@@ -1,14 +1,13 @@
 -- What a script does (own).
-use Rattle.std.specs.Prelude.{◌≡◌, ◌≢◌, ◌≤◌, ◌⊎◌, ℕ, List, [], ◌∷◌, ◌++◌, length, count_by, All, Option, IfSome}
-use Rattle.std.specs.List.{flat_map}
+use Rattle.std.specs.Prelude.{◌≡◌, ◌≢◌, ◌-◌, ℕ, List, [], ◌∷◌, ◌++◌, length, take, count_by, All, Option, IfSome}
+use Rattle.std.specs.List.{flat_map, AllZip}
 use Rattle.std.specs.Io.{StopsAt}
 use Rattle.std.specs.Io.Iter.{u64_saturate}
 use Rattle.std.specs.Io.KnownBytes.{Appends}
 use Rattle.requests.specs.Runs.{Run}
 use Rattle.binders.specs.Events.{Happening}
 use Rattle.binders.specs.declared.event.EventReply.{EventReply}
-use Rattle.commands.specs.Answer.{LineStep, output, is_refused}
-use Rattle.commands.specs.Line.{AsksNoChange}
+use Rattle.commands.specs.Answer.{LineStep, MayWait, output, is_refused}
 use Rattle.commands.specs.declared.answer.Answer.{Answer}
 use Rattle.commands.specs.declared.answer.Answer.TheVariants.{CutLine}
 use Rattle.commands.specs.declared.fault.ScriptFault.{ScriptFault}
@@ -39,8 +38,7 @@ pub record Streams : Type 0 where
   pub before : Option (List ℕ)
   pub after : Option (List ℕ)
 
--- A writer held exactly the answers to the first lines; one answer alone is missing, or the lines
--- whose answers are missing ask for no change.
+-- A writer held exactly the answers to the first lines; each of the others but the last may wait.
 pub record IsHeldBack (before held : Option (List ℕ)) (whole : List (List ℕ)) (answers : List Answer) : Type 0 where
   pub told : List (List ℕ)
   pub untold : List (List ℕ)
@@ -50,7 +48,7 @@ pub record IsHeldBack (before held : Option (List ℕ)) (whole : List (List ℕ)
   pub answered : answers ≡ sent ++ missing
   pub same : length told ≡ length sent
   pub written : Appends before held (output sent)
-  pub little : (length missing ≤ 1) ⊎ All AsksNoChange untold
+  pub little : AllZip MayWait (take (length missing - 1) untold) (take (length missing - 1) missing)
 
 module _ {S : Type 0} (step : S → Happening → EventReply → S → Type 0) where
   -- All was read, and each line answered by a step from what the one before it left.

@@ -3,7 +3,7 @@
 ghost use Rattle.std.specs.Prelude.{◌≡◌, ℕ, List, not, IfErr, OnOk};
 ghost use Rattle.std.specs.Option.{option_map};
 ghost use Rattle.text_output.specs.Sends.{Sends};
-ghost use Rattle.commands.specs.Answer.{LineStep, answer_text, is_refused};
+ghost use Rattle.commands.specs.Answer.{LineStep, answer_text, is_failure, is_refused, may_wait};
 ghost use Rattle.commands.specs.Line.{is_no_change, meaning};
 ghost use Rattle.commands.specs.inside.Asked.{happening_asked};
 
@@ -13,7 +13,7 @@ use crate::fault::ScriptFault;
 use crate::takes_events::TakesEvents;
 use binders::{Event, EventReply};
 use program_parts::Line;
-use requests::{Command, Reply};
+use requests::{Command, Refusal, Reply};
 use std::io::Write;
 
 /// The answer to a line.
@@ -51,7 +51,7 @@ fn happen<G: TakesEvents>(binders: &mut G, asked: &Asked<'_>) -> EventReply
 }
 
 /// Whether what a line asks is a change: of the registry, or of a binder.
-pub(crate) fn asks_change(asked: &Option<Asked<'_>>) -> bool
+fn asks_change(asked: &Option<Asked<'_>>) -> bool
     ensures { not result ≡ is_no_change (option_map happening_asked asked.now) }
 {
     match asked {
@@ -80,6 +80,27 @@ pub(crate) fn is_refused(answer: &Answer) -> bool
         Answer::Replied(_) => false,
         Answer::BadLine | Answer::CutLine => true,
     }
+}
+
+/// Whether an answer is S1 or S2.
+fn is_failure(answer: &Answer) -> bool
+    ensures { result ≡ is_failure answer.now }
+{
+    match answer {
+        Answer::Replied(EventReply::Replied(Reply::Refused(refusal))) => {
+            matches!(refusal, Refusal::Device | Refusal::Reopen)
+        }
+        _ => false,
+    }
+}
+
+/// Whether the answer to what a line asks may wait for others: it changed nothing, which S1 leaves
+/// open, and tells no failure.
+pub(crate) fn may_wait(asked: &Option<Asked<'_>>, answer: &Answer) -> bool
+    ensures { (line : List ℕ) → option_map happening_asked asked.now ≡ meaning line
+        → result ≡ may_wait line answer.now }
+{
+    !is_failure(answer) && (is_refused(answer) || !asks_change(asked))
 }
 
 /// Puts the text of an answer behind what waits.

@@ -4,17 +4,14 @@ ghost use Rattle.std.specs.Prelude.{◌≡◌, ◌≢◌, ◌⊎◌, [], List, �
 ghost use Rattle.std.specs.Io.{StopsAt};
 ghost use Rattle.std.specs.Io.Buffered.{reader_buffer, reader_remaining};
 ghost use Rattle.std.specs.Io.KnownBytes.{Appends, Consumes, append_known};
-ghost use Rattle.std.specs.Option.{option_map};
 ghost use Rattle.text_output.specs.Sends.{Sends};
-ghost use Rattle.commands.specs.Answer.{LineStep, answer_text, is_refused};
-ghost use Rattle.commands.specs.Line.{AsksNoChange, is_no_change, meaning};
+ghost use Rattle.commands.specs.Answer.{LineStep, MayWait, answer_text, is_refused};
 ghost use Rattle.commands.specs.Script.{Breaks, Ends, Finishes, IsHeldBack, Stops, StopsWriting};
-ghost use Rattle.commands.specs.inside.Asked.{happening_asked};
-ghost use Rattle.commands.specs.inside.Progress.{GotLine, HasLine, Misses, Stepped, Told, Unread};
+ghost use Rattle.commands.specs.inside.Progress.{GotLine, HasLine, Misses, Told, Unread};
 ghost use Rattle.commands.specs.declared.answer.Answer.{Answer};
 
-use crate::answer::{Answer, answer_asked, asks_change, is_refused, put_answer};
-use crate::asked::{Asked, parse_line};
+use crate::answer::{Answer, answer_asked, is_refused, may_wait, put_answer};
+use crate::asked::parse_line;
 use crate::fault::ScriptFault;
 use crate::reading::{Got, read_line};
 use crate::summary::Summary;
@@ -26,53 +23,8 @@ use std::io::{BufReader, Read, Write};
 /// How many bytes are read at once.
 const PAGE: usize = 0x10000;
 
-/// Answers a line that asks for no change: the answer waits.
-fn answer_later<W: Write, G: TakesEvents>(
-    asked: &Option<Asked<'_>>,
-    waiting: &mut Line,
-    writer: &mut W,
-    binders: &mut G,
-) -> Result<bool, ScriptFault>
-    ensures ok { IfOk result (λ refused. (line : List ℕ)
-        → option_map happening_asked asked.now ≡ meaning line → (answer : Answer)
-        × LineStep G.step binders.old line answer binders.new
-        × Sends (W.contents writer.old) waiting.old (W.contents writer.new) waiting.new
-        (answer_text answer)
-        × (refused ≡ is_refused answer)) }
-    ensures err { IfErr result (λ fault. (fault ≡ ScriptFault.Write) × ((line : List ℕ)
-        → option_map happening_asked asked.now ≡ meaning line
-        → Stepped G.step binders.old line binders.new)) }
-{
-    let answer = answer_asked(binders, asked);
-    put_answer(waiting, writer, &answer)?;
-    Ok(is_refused(&answer))
-}
-
-/// Answers a line that asks for a change, and sends the answer. Nothing waits by then.
-fn answer_at_once<W: Write, G: TakesEvents>(
-    asked: &Option<Asked<'_>>,
-    waiting: &mut Line,
-    writer: &mut W,
-    binders: &mut G,
-) -> Result<bool, ScriptFault>
-    requires { waiting.old.waiting ≡ [] }
-    ensures ok { IfOk result (λ refused. (waiting.new.waiting ≡ []) × ((line : List ℕ)
-        → option_map happening_asked asked.now ≡ meaning line → (answer : Answer)
-        × LineStep G.step binders.old line answer binders.new
-        × Appends (W.contents writer.old) (W.contents writer.new) (answer_text answer)
-        × (refused ≡ is_refused answer))) }
-    ensures err { IfErr result (λ fault. (fault ≡ ScriptFault.Write) × ((line : List ℕ)
-        → option_map happening_asked asked.now ≡ meaning line
-        → Stepped G.step binders.old line binders.new)) }
-{
-    let answer = answer_asked(binders, asked);
-    put_answer(waiting, writer, &answer)?;
-    waiting.send(writer)?;
-    Ok(is_refused(&answer))
-}
-
-/// Answers a whole line, and says whether it was refused. Whatever waits is sent before a change is
-/// made, and so is the answer to it.
+/// Answers a whole line, and says whether it was refused. An answer waits behind those that wait
+/// already, where it may; otherwise all of them are sent.
 fn answer_whole<W: Write, G: TakesEvents>(
     alloc: Global,
     line: &[u8],
@@ -84,9 +36,9 @@ fn answer_whole<W: Write, G: TakesEvents>(
         × LineStep G.step binders.old line.now answer binders.new
         × Sends (W.contents writer.old) waiting.old (W.contents writer.new) waiting.new
         (answer_text answer)
-        × (refused ≡ is_refused answer)) }
-    ensures sent { IfOk result (λ _. (waiting.new.waiting ≡ []) ⊎ AsksNoChange line.now) }
-    ensures err { IfErr result (Misses G.step W.contents binders.old binders.new
+        × (refused ≡ is_refused answer)
+        × ((waiting.new.waiting ≡ []) ⊎ MayWait line.now answer)) }
+    ensures err { IfErr result (Misses G.step binders.old binders.new
         (append_known (W.contents writer.old) waiting.old.waiting)
         (append_known (W.contents writer.new) waiting.new.waiting) line.now) }
 {
@@ -94,11 +46,14 @@ fn answer_whole<W: Write, G: TakesEvents>(
         Ok(asked) => asked,
         Err(_) => return Err(ScriptFault::OutOfMemory),
     };
-    if !asks_change(&asked) {
-        return answer_later(&asked, waiting, writer, binders);
+    let answer = answer_asked(binders, &asked);
+    put_answer(waiting, writer, &answer)?;
+    let refused = is_refused(&answer);
+    if may_wait(&asked, &answer) {
+        return Ok(refused);
     }
     waiting.send(writer)?;
-    answer_at_once(&asked, waiting, writer, binders)
+    Ok(refused)
 }
 
 /// Reads the next line. The reader is asked where no newline is left of what was read before; then
@@ -204,12 +159,12 @@ fn run_lines<R: Read, W: Write, G: TakesEvents>(
 /// applied. It reads through a buffer of its own, so that after a fault more may have been taken
 /// from the reader than lines were answered.
 ///
-/// The answer to a change is written at once, and the change is made only once all answers before
-/// it were written. Answers to listings, binds and lines that ask nothing are written together, up
-/// to 2 KiB, as long as whole lines are left of what was read; all of them are written before the
-/// reader is asked again, and at the end. So after a fault of the writer the line in work was
-/// applied, and how much of its answer the writer took is open; or the lines whose answers are open
-/// change nothing.
+/// The answer to a change that was made is written at once, behind those that wait, and so is S1,
+/// which leaves open what was done, and S2. Other refusals, and answers to listings, binds and lines
+/// that ask nothing, are written together, up to 2 KiB, as long as whole lines are left of what was
+/// read; all of them are written before the reader is asked again, and at the end. So after a fault
+/// of the writer the lines whose answers are open changed nothing, but for the line in work, which
+/// was applied.
 pub fn run_script<R: Read, W: Write, G: TakesEvents>(
     alloc: Global,
     reader: &mut R,

@@ -1,13 +1,12 @@
 -- How far a script has come.
-use Rattle.std.specs.Prelude.{◌≡◌, ◌==◌, true, ◌⊎◌, ◌++◌, ℕ, ◌<◌, List, [], length, All, Option, IfSome}
-use Rattle.std.specs.List.{flat_map, list_any}
+use Rattle.std.specs.Prelude.{◌≡◌, ◌==◌, true, ◌++◌, ℕ, ◌<◌, List, [], length, All, Option, IfSome}
+use Rattle.std.specs.List.{flat_map, list_any, AllZip}
 use Rattle.std.specs.Io.{StopsAt}
 use Rattle.std.specs.Io.KnownBytes.{Appends, Consumes}
 use Rattle.requests.specs.Runs.{Run}
 use Rattle.binders.specs.Events.{Happening}
 use Rattle.binders.specs.declared.event.EventReply.{EventReply}
-use Rattle.commands.specs.Answer.{LineStep, output}
-use Rattle.commands.specs.Line.{AsksNoChange}
+use Rattle.commands.specs.Answer.{LineStep, MayWait, output}
 use Rattle.commands.specs.Script.{IsLine, ended, Counts}
 use Rattle.commands.specs.declared.answer.Answer.{Answer}
 use Rattle.commands.specs.declared.fault.ScriptFault.{ScriptFault}
@@ -55,13 +54,12 @@ module _ {S : Type 0} (step : S → Happening → EventReply → S → Type 0) w
   Stepped s line s' = (answer : Answer) × LineStep step s line answer s'
 
   -- Of a whole line, with what the writer holds and what waits behind it, before and now:
-  -- for want of memory nothing was done; or the writer failed before the line was applied,
-  -- or where it asks for no change, or where the writer held all that had waited.
-  abbrev pub Misses : {W : Type 0} → (W → Option (List ℕ)) → S → S → Option (List ℕ) → Option (List ℕ) → List ℕ → ScriptFault → Type 0
-  Misses contents s s' waits now line Write = (s' ≡ s) ⊎ (Stepped s line s' × (AsksNoChange line ⊎ ((held : _) × Appends waits (contents held) [])))
-  Misses contents s s' waits now line fault = (s' ≡ s) × (now ≡ waits)
+  -- for want of memory nothing was done; or the line was applied, and then the writer failed.
+  abbrev pub Misses : S → S → Option (List ℕ) → Option (List ℕ) → List ℕ → ScriptFault → Type 0
+  Misses s s' waits now line Write = Stepped s line s'
+  Misses s s' waits now line fault = (s' ≡ s) × (now ≡ waits)
 
--- A writer held exactly the answers to the first lines; the other lines ask for no change.
+-- A writer held exactly the answers to the first lines; each of the others may wait.
 pub record Told (before held : Option (List ℕ)) (whole : List (List ℕ)) (answers : List Answer) : Type 0 where
   pub told : List (List ℕ)
   pub untold : List (List ℕ)
@@ -71,4 +69,4 @@ pub record Told (before held : Option (List ℕ)) (whole : List (List ℕ)) (ans
   pub answered : answers ≡ sent ++ missing
   pub same : length told ≡ length sent
   pub written : Appends before held (output sent)
-  pub quiet : All AsksNoChange untold
+  pub quiet : AllZip MayWait untold missing

@@ -4,8 +4,7 @@ use Rattle.std.proofs.KnownBytes.{Appends-trans}
 use Rattle.std.proofs.lemmas.Result.{err_from_is_err_and}
 use Rattle.std.specs.Io.Buffered.{reader_remaining}
 use Rattle.std.specs.Io.KnownBytes.{Appends, append_known}
-use Rattle.commands.specs.Answer.{LineStep, answer_text}
-use Rattle.commands.specs.Line.{AsksNoChange}
+use Rattle.commands.specs.Answer.{LineStep, MayWait, answer_text}
 use Rattle.commands.specs.inside.Progress.{Answered, GotLine, Misses, Place, Unread}
 use Rattle.commands.specs.declared.answer.Answer.TheVariants.{CutLine}
 use Rattle.commands.specs.declared.fault.ScriptFault.TheVariants.{Read}
@@ -55,8 +54,8 @@ returns-in_err-refused-in-Whole-clause-err g c =
     let s = c.loop.binders in
     let s' = c.answer_whole.new.binders in
     let got = subst (GotLine (rest c.loop.pages) (rest c.next_line.new.pages) line) c.in-Whole.is c.in_ok-next_line.ensures.ok in
-    let missed = subst (Misses g.G.TakesEvents.step g.W.Write.contents s s' mid now line) (sym p.2)
-    (subst (λ l. Misses g.G.TakesEvents.step g.W.Write.contents s s' mid now l c.in_err-refused-in-Whole.field-0.0) c.deref.ensures.value c.in_err-refused-in-Whole.ensures.err) in
+    let missed = subst (Misses g.G.TakesEvents.step s s' mid now line) (sym p.2)
+    (subst (λ l. Misses g.G.TakesEvents.step s s' mid now l c.in_err-refused-in-Whole.field-0.0) c.deref.ensures.value c.in_err-refused-in-Whole.ensures.err) in
     rw p.1
     (off_line g.W.Write.contents g.G.TakesEvents.step _ (place (rest c.loop.pages) held) _ _ _ so.0 so.1 so.2 so.3 so.4 (place (rest c.next_line.new.pages) mid) (place (rest c.next_line.new.pages) now) s' line p.0 got.0 got.1 c.in_ok-next_line.ensures.kept missed)
 
@@ -124,7 +123,7 @@ loop-preserved g c =
     let got = subst (GotLine (rest c.loop.pages) (rest c.next_line.new.pages) line) c.in-Whole.is c.in_ok-next_line.ensures.ok in
     let ok = c.in_ok-refused-in-Whole.ensures.ok in
     let made = subst (λ l. LineStep g.G.TakesEvents.step c.loop.binders l ok.0 c.answer_whole.new.binders) c.deref.ensures.value ok.1 in
-    let either = subst (λ l. (waiting ≡ []) ⊎ AsksNoChange l) c.deref.ensures.value c.in_ok-refused-in-Whole.ensures.sent in
+    let either = subst (λ l. (waiting ≡ []) ⊎ MayWait l ok.0) c.deref.ensures.value ok.4 in
     tells_on g.W.Write.contents g.G.TakesEvents.step _ _ _ (rest c.next_line.new.pages) _ so.0 c.answer_whole.new.writer waiting so.1 so.2 line ok.0 so.4
     (answered_more g.G.TakesEvents.step _ _ _ _ _ so.1 so.2 so.3 (place (rest c.next_line.new.pages) now) _ _ line ok.0 c.in_ok-refused-in-Whole.refused got.0 got.1 made (Appends-trans held mid now [] (answer_text ok.0) c.in_ok-next_line.ensures.kept ok.2) ok.3 c.count.ensures.lines c.count.ensures.refused)
     either
