@@ -20,7 +20,7 @@ use Rattle.program_parts.specs.Refusal.{disk_refusal_text, memory_text}
 use Rattle.commands.specs.DiskStep.{DiskStep}
 use Rattle.commands.specs.OnDisk.{RequestEnds, FormatEnds, UpgradeEnds}
 use Rattle.commands.specs.Opened.{IsOpened, IsMade, IsUpgraded}
-use Rattle.commands.specs.Opening.{EndsMaking, EndsUpgrading}
+use Rattle.registry.specs.Opening.{EndsMaking, EndsUpgrading}
 use Rattle.program_parts.specs.Told.{IsTold}
 use Rattle.program_parts.specs.Reply.{command_refusal_text, reply_text}
 use Rattle.commands.specs.Status.{disk_answer_status}

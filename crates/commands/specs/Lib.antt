@@ -6,7 +6,6 @@ pub mod EventReply
 pub mod Line
 pub mod OnDisk
 pub mod Opened
-pub mod Opening
 pub mod Outcome
 pub mod Printed
 pub mod RunImage

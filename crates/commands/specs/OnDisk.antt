@@ -16,8 +16,7 @@ use Rattle.commands.specs.Disk.{disk_answer_text}
 use Rattle.program_parts.specs.Refusal.{disk_refusal_text}
 use Rattle.commands.specs.DiskScript.{LinesRan}
 use Rattle.commands.specs.DiskStep.{DiskStep}
-use Rattle.commands.specs.Opening.{EndsMaking, EndsUpgrading}
-use Rattle.registry.specs.Opening.{EndsOpening}
+use Rattle.registry.specs.Opening.{EndsOpening, EndsMaking, EndsUpgrading}
 use Rattle.commands.specs.Outcome.{Worsens}
 use Rattle.program_parts.specs.Told.{IsTold}
 use Rattle.program_parts.specs.Reply.{reply_text}

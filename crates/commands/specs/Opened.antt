@@ -3,8 +3,7 @@ use Rattle.std.specs.Prelude.{◌≡◌, ℕ, Ok}
 use Rattle.store.specs.Opened.{Opened}
 use Rattle.file_disk.specs.FileDisk.{file_facts, IsNew}
 use Rattle.file_disk.specs.declared.disk.FileDisk.{FileDisk}
-use Rattle.commands.specs.Opening.{EndsMaking, EndsUpgrading}
-use Rattle.registry.specs.Opening.{EndsOpening}
+use Rattle.registry.specs.Opening.{EndsOpening, EndsMaking, EndsUpgrading}
 
 -- it was opened on a new disk: of a good size, without failure, by exactly the calls of opening,
 -- and nothing is held

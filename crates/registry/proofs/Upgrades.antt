@@ -1,19 +1,22 @@
 -- What an upgrade makes of a registry on a disk of version 1.
-use Rattle.std.proofs.Common.{◌≡◌, ◌⊎◌, inl, inr, ⊎_elim, refl, ◌+◌, List, length, ap, arith, IsFalse, Option, Some, None, Result, Ok, Err, IfOk, All, sym, subst}
-use Rattle.sector_disk.specs.Disk.{Sector, DiskFacts, Mixture, LeavesOnly, Logged, LogGrows, MayAddSync, GrowsBehindSync, AreCallsExactly}
-use Rattle.std.specs.Prelude.{sum_by}
+use Rattle.std.proofs.Common.{◌≡◌, ◌<◌, ◌⊎◌, ℕ, inl, inr, ⊎_elim, refl, ◌+◌, List, length, ap, arith, IsFalse, Option, Some, None, Result, Ok, Err, IfOk, All, sym, subst}
+use Rattle.sector_disk.specs.Disk.{Sector, DiskFacts, Mixture, LeavesOnly, Logged, LogGrows, MayAddSync, GrowsBehindSync, AreCalls, AreCallsExactly}
+use Rattle.std.specs.Prelude.{sum_by, IfErr}
+use Rattle.std.proofs.lemmas.Result.{IfErr-weaker}
 use Rattle.roots.specs.Root.{version_of}
 use Rattle.roots.specs.declared.version.Version.TheVariants.{One}
 use Rattle.store.specs.Stands.{catalogues_of}
 use Rattle.store.proofs.Relistings.{none_in}
 use Rattle.sector_disk.proofs.Moments.{goes_on, weaken, exactly_sum}
+use Rattle.states.specs.Geometry.{IsGeometry}
 use Rattle.states.specs.State.{State}
 use Rattle.store.specs.declared.look.Look.{Look}
 use Rattle.store.specs.declared.look.Look.TheVariants.{Old}
 use Rattle.store.specs.declared.refusal.StoreRefusal.{StoreRefusal}
-use Rattle.store.specs.declared.refusal.StoreRefusal.TheVariants.{Device, OutOfMemory}
+use Rattle.store.specs.declared.refusal.StoreRefusal.TheVariants.{Device, Reopen, NotFormatted, AlreadyFormatted, Damaged, BadGeometry, Full, Fragmented, TooMany, GenerationEnd, OutOfMemory, OldFormat}
 use Rattle.store.specs.Looked.{seen}
 use Rattle.store.specs.Opened as opened
+use Rattle.store.specs.Opening.{IsRefusalOfLook, IsRefusalOfUpgrade}
 use Rattle.store.specs.Opened.{Opened}
 use Rattle.store.specs.Stands as sectors
 use Rattle.store.specs.Step.{IsUpgradeAnswer}
@@ -87,3 +90,38 @@ relisted_calls facts start old looked one (Ok new) relisted calls =
     subst (λ entries. AreCallsExactly (3 + length entries + sum_by file_sectors entries + (catalogues_for (length entries) + 3)) start (facts new.disk)) (sym relisted.entries)
     (exactly_sum looked calls (omega (arith, none)))
 relisted_calls facts start old looked one (Err e) relisted calls = tt
+
+-- How a disk is refused that was looked at: by the look,
+pub refuses_looked : (sectors : ℕ) (e : StoreRefusal) → IsRefusalOfLook sectors e → IsRefusalOfUpgrade sectors e
+refuses_looked sectors Device h = h
+refuses_looked sectors Reopen h = absurd h
+refuses_looked sectors NotFormatted h = h
+refuses_looked sectors AlreadyFormatted h = absurd h
+refuses_looked sectors Damaged h = h
+refuses_looked sectors BadGeometry h = h
+refuses_looked sectors Full h = absurd h
+refuses_looked sectors Fragmented h = absurd h
+refuses_looked sectors TooMany h = absurd h
+refuses_looked sectors GenerationEnd h = absurd h
+refuses_looked sectors OutOfMemory h = h
+refuses_looked sectors OldFormat h = absurd h
+
+-- since a file is none of its name or can't be read,
+pub refuses_admitted : (sectors : ℕ) (e : StoreRefusal) → IsGeometry sectors → (e ≡ Device) ⊎ (e ≡ Damaged) ⊎ (e ≡ OutOfMemory) → IsRefusalOfUpgrade sectors e
+refuses_admitted sectors e geometry which = ⊎_elim (λ a. rw a geometry) (λ rest. ⊎_elim (λ a. rw a geometry) (λ a. rw a geometry) rest) which
+
+-- or since no root can follow.
+pub refuses_relisted : (sectors : ℕ) (e : StoreRefusal) → IsGeometry sectors → (e ≡ Device) ⊎ (e ≡ Damaged) ⊎ (e ≡ OutOfMemory) ⊎ (e ≡ GenerationEnd) ⊎ (e ≡ Full) → IsRefusalOfUpgrade sectors e
+refuses_relisted sectors e geometry which =
+    ⊎_elim (λ a. rw a geometry)
+    (λ rest. ⊎_elim (λ a. rw a geometry) (λ rest. ⊎_elim (λ a. rw a geometry) (λ rest. ⊎_elim (λ a. rw a geometry) (λ a. rw a geometry) rest) rest) rest) which
+
+module _ {D : Type 0} (facts : D → DiskFacts) (disk : D) where
+  -- a failure since the look is one since the beginning
+  pub device_since : (mid : D) → AreCalls (facts disk) (facts mid) → (r : Result (Opened D) (StoreRefusal × D)) → IfErr r (λ e. e.0 ≡ Device → (facts mid).failures < (facts e.1).failures)
+      → IfErr r (λ e. e.0 ≡ Device → (facts disk).failures < (facts e.1).failures)
+  device_since mid calls r rose = IfErr-weaker r _ _ (λ e rose is. omega (arith, rose is, calls.failures)) rose
+
+  -- a disk that was looked at has a good size
+  pub untouched_since : IsGeometry (facts disk).sectors → (r : Result (Opened D) (StoreRefusal × D)) → IfErr r (λ e. IsRefusalOfUpgrade (facts disk).sectors e.0) → IfErr r (λ e. e.0 ≡ BadGeometry → e.1 ≡ disk)
+  untouched_since geometry r refusals = IfErr-weaker r _ _ (λ e refused is. absurd ((subst (IsRefusalOfUpgrade (facts disk).sectors) is refused) geometry)) refusals

@@ -1,13 +1,21 @@
--- What opening the registry on a disk ends with (own).
-use Rattle.std.specs.Prelude.{◌+◌, Result, IfOk, length, sum_by}
-use Rattle.sector_disk.specs.Disk.{DiskFacts, AreCallsExactly}
+-- What opening, making or upgrading the registry on a disk ends with (own).
+use Rattle.std.specs.Prelude.{◌≡◌, ◌≢◌, ◌+◌, ◌<◌, ◌⊎◌, [], Result, IsTrue, IsFalse, IfOk, IfErr, OnOk, MatchResult, length, sum_by}
+use Rattle.sector_disk.specs.Disk.{DiskFacts, Mixture, LeavesOnly, GrowsBehindSync, AreCalls, AreCallsExactly, AreCallsAtMost}
+use Rattle.states.specs.Cost.{catalogues_for}
+use Rattle.states.specs.Geometry.{IsGeometry}
+use Rattle.states.specs.State.{State, empty_state}
 use Rattle.store.specs.IsRead.{file_sectors}
-use Rattle.store.specs.Opened.{Opened}
+use Rattle.store.specs.Opened.{Opened, disk_after}
+use Rattle.store.specs.Opening.{HasRootMagic, RefusesFormat, RefusesLook, IsRefusalOfFormat, IsRefusalOfUpgrade}
 use Rattle.store.specs.Opens.{Opens}
 use Rattle.store.specs.Stands.{catalogues_of}
+use Rattle.store.specs.Step.{refusal_of_upgrade, answer_of, IsUpgradeAnswer}
+use Rattle.store.specs.Upgraded.{upgraded, IsRelistedFrom}
 use Rattle.store.specs.declared.refusal.StoreRefusal.{StoreRefusal}
+use Rattle.store.specs.declared.refusal.StoreRefusal.TheVariants.{Device, AlreadyFormatted, BadGeometry, OutOfMemory}
 use Rattle.registry.specs.Opened.{IsAt}
-use Rattle.registry.specs.Stands.{Stands}
+use Rattle.registry.specs.Stands.{Stands, StandsOld, StandsEither}
+use Rattle.registry.specs.Upgraded.{IsNotOld, IsUpgradeOf}
 
 -- the registry that the disk holds was opened, or the disk was refused and handed back
 pub record EndsOpening {D : Type 0} (facts : D → DiskFacts) (disk : D) (opening : Result (Opened D) (StoreRefusal × D)) : Type 0 where
@@ -16,3 +24,62 @@ pub record EndsOpening {D : Type 0} (facts : D → DiskFacts) (disk : D) (openin
   pub all_calls : IfOk opening (λ registry.
       AreCallsExactly (3 + length (catalogues_of registry.root) + length registry.entries + sum_by file_sectors registry.entries)
       (facts disk) (facts registry.disk))
+
+-- an empty registry was made on the disk, or the disk was refused and handed back
+pub record EndsMaking {D : Type 0} (facts : D → DiskFacts) (disk : D) (making : Result (Opened D) (StoreRefusal × D)) : Type 0 where
+  -- a stop at any moment leaves what it could leave before, or the empty registry
+  pub any_moment : IsTrue (facts disk).honest → LeavesOnly (facts disk) (facts (disk_after making)) (λ m. Mixture (facts disk) m ⊎ Stands m empty_state)
+  pub ok : IsTrue (facts disk).honest → IfOk making (λ registry. IsAt facts registry empty_state)
+  pub unformatted : IsTrue (facts disk).honest → OnOk making (HasRootMagic (facts disk).now → ⊥)
+  pub refused : IsTrue (facts disk).honest → IfErr making (λ e. RefusesFormat (facts disk).now e.0)
+  -- a disk on which a registry was made before stays as it was
+  pub left_alone : IsTrue (facts disk).honest → IfErr making (λ e. e.0 ≡ AlreadyFormatted → LeavesOnly (facts disk) (facts e.1) (Mixture (facts disk)))
+  pub now : IsTrue (facts disk).honest → IfErr making (λ e. e.0 ≢ Device → (facts e.1).now ≡ (facts disk).now)
+  pub log : IsTrue (facts disk).honest → IfOk making (λ registry. GrowsBehindSync 2 (facts disk).log (facts registry.disk).log)
+  -- the rest holds on any disk, also on one that lies
+  pub geometry : IfOk making (λ registry. IsGeometry (facts disk).sectors)
+  pub usable : IfOk making (λ registry. IsFalse registry.failed)
+  pub unheld : IfOk making (λ registry. registry.held ≡ [])
+  pub refusals : IfErr making (λ e. IsRefusalOfFormat (facts disk).sectors e.0)
+  pub device : IfErr making (λ e. e.0 ≡ Device → (facts disk).failures < (facts e.1).failures)
+  pub untouched : IfErr making (λ e. (e.0 ≡ BadGeometry) ⊎ (e.0 ≡ OutOfMemory) → e.1 ≡ disk)
+  pub calls : AreCallsAtMost 5 (facts disk) (facts (disk_after making))
+  pub all_calls : IfOk making (λ registry. AreCallsExactly 5 (facts disk) (facts registry.disk))
+
+-- the registry that the disk holds is one of version 2 now, or the disk was refused and handed back
+pub record EndsUpgrading {D : Type 0} (facts : D → DiskFacts) (disk : D) (upgrading : Result (Opened D) (StoreRefusal × D)) : Type 0 where
+  -- of a disk of version 1 a stop at any moment leaves what it could leave before, or the state by either rules
+  pub any_moment : IsTrue (facts disk).honest → (s : State) → StandsOld (facts disk).now s
+      → LeavesOnly (facts disk) (facts (disk_after upgrading)) (λ m. Mixture (facts disk) m ⊎ StandsOld m s ⊎ Stands m (upgraded s))
+  -- any other stays as it was
+  pub left_alone : IsTrue (facts disk).honest → IsNotOld (facts disk).now → LeavesOnly (facts disk) (facts (disk_after upgrading)) (Mixture (facts disk))
+  pub now : IsTrue (facts disk).honest → IsNotOld (facts disk).now → (facts (disk_after upgrading)).now ≡ (facts disk).now
+  -- so does one that is refused, unless a call failed
+  pub unwritten : IsTrue (facts disk).honest → IfErr upgrading (λ e. e.0 ≢ Device → LeavesOnly (facts disk) (facts e.1) (Mixture (facts disk)))
+  pub now_refused : IsTrue (facts disk).honest → IfErr upgrading (λ e. e.0 ≢ Device → (facts e.1).now ≡ (facts disk).now)
+  -- the registry is at the state that what reads gave held, or, on version 1, at the one after it
+  pub ok : IsTrue (facts disk).honest → IfOk upgrading (λ registry. (s : State) × IsUpgradeOf facts registry (facts disk).now s)
+  pub stands : IsTrue (facts disk).honest → (s : State) → Stands (facts disk).now s
+      → MatchResult upgrading (λ registry. IsAt facts registry s) (λ e. (e.0 ≡ Device) ⊎ (e.0 ≡ OutOfMemory))
+  pub stands_old : IsTrue (facts disk).honest → (s : State) → StandsOld (facts disk).now s → IfOk upgrading (λ registry. IsAt facts registry (upgraded s))
+  pub placed_old : IsTrue (facts disk).honest → (s : State) → StandsOld (facts disk).now s → IfOk upgrading (IsRelistedFrom (facts disk).now s)
+  pub answer : IsTrue (facts disk).honest → (s : State) → StandsOld (facts disk).now s
+      → IsUpgradeAnswer (refusal_of_upgrade (facts disk).sectors s) (answer_of upgrading)
+  pub refused : IsTrue (facts disk).honest → IsNotOld (facts disk).now → IfErr upgrading (λ e. RefusesLook StandsEither (facts disk).now e.0)
+  -- it made exactly the calls of opening; on version 1 those for the catalogues, the root and two syncs too
+  pub calls_current : IsTrue (facts disk).honest → (s : State) → Stands (facts disk).now s → IfOk upgrading (λ registry.
+      AreCallsExactly (3 + length (catalogues_of registry.root) + length registry.entries + sum_by file_sectors registry.entries)
+      (facts disk) (facts registry.disk))
+  pub calls_old : IsTrue (facts disk).honest → (s : State) → StandsOld (facts disk).now s → IfOk upgrading (λ registry.
+      AreCallsExactly (3 + length registry.entries + sum_by file_sectors registry.entries + (catalogues_for (length registry.entries) + 3))
+      (facts disk) (facts registry.disk))
+  pub log_old : IsTrue (facts disk).honest → (s : State) → StandsOld (facts disk).now s → IfOk upgrading (λ registry.
+      GrowsBehindSync (catalogues_for (length registry.entries) + 3) (facts disk).log (facts registry.disk).log)
+  -- the rest holds on any disk, also on one that lies
+  pub geometry : IfOk upgrading (λ registry. IsGeometry (facts disk).sectors)
+  pub usable : IfOk upgrading (λ registry. IsFalse registry.failed)
+  pub unheld : IfOk upgrading (λ registry. registry.held ≡ [])
+  pub refusals : IfErr upgrading (λ e. IsRefusalOfUpgrade (facts disk).sectors e.0)
+  pub device : IfErr upgrading (λ e. e.0 ≡ Device → (facts disk).failures < (facts e.1).failures)
+  pub untouched : IfErr upgrading (λ e. e.0 ≡ BadGeometry → e.1 ≡ disk)
+  pub calls : AreCalls (facts disk) (facts (disk_after upgrading))

@@ -7,22 +7,7 @@ use std::alloc::Global;
 use store::{Look, Store, StoreRefusal};
 
 impl<D: Disk> Registry<D> {
-    ghost use Rattle.std.specs.Prelude.{◌≡◌, ◌≢◌, ◌+◌, ◌<◌, ◌⊎◌, IsTrue, IsFalse, IfOk, IfErr};
-    ghost use Rattle.std.specs.Prelude.{[], MatchResult, length, sum_by};
-    ghost use Rattle.sector_disk.specs.Disk.{Mixture, LeavesOnly, GrowsBehindSync};
-    ghost use Rattle.sector_disk.specs.Disk.{AreCalls, AreCallsExactly};
-    ghost use Rattle.states.specs.Cost.{catalogues_for};
-    ghost use Rattle.states.specs.Geometry.{IsGeometry};
-    ghost use Rattle.states.specs.State.{State};
-    ghost use Rattle.store.specs.Opened.{disk_after};
-    ghost use Rattle.store.specs.Opening.{RefusesLook, IsRefusalOfUpgrade};
-    ghost use Rattle.store.specs.Stands.{catalogues_of};
-    ghost use Rattle.store.specs.Step.{refusal_of_upgrade, answer_of, IsUpgradeAnswer};
-    ghost use Rattle.store.specs.Upgraded.{upgraded, IsRelistedFrom};
-    ghost use Rattle.registry.specs.Opened.{IsAt};
-    ghost use Rattle.store.specs.IsRead.{file_sectors};
-    ghost use Rattle.registry.specs.Stands.{Stands, StandsOld, StandsEither};
-    ghost use Rattle.registry.specs.Upgraded.{IsNotOld, IsUpgradeOf};
+    ghost use Rattle.registry.specs.Opening.{EndsUpgrading};
 
     /// Opens the registry that a disk of either version holds, after a stop too, as one of version
     /// 2. On version 2 it is `open`. On version 1 it reads by the old rules, admits every file, and
@@ -30,69 +15,7 @@ impl<D: Disk> Registry<D> {
     /// leaves the old registry or the new one, whole. It refuses with S6, S3, S5, S10, S7, S11 or
     /// S1, of which S1 alone may come after the first write, and hands the disk back.
     pub fn upgrade(alloc: Global, disk: D) -> Result<Registry<D>, (StoreRefusal, D)>
-        // A stop at any moment leaves what it could leave before, or the state by either rules.
-        ensures any_moment { IsTrue (D.facts disk).honest → (s : State)
-            → StandsOld (D.facts disk).now s
-            → LeavesOnly (D.facts disk) (D.facts (disk_after result))
-            (λ m. Mixture (D.facts disk) m ⊎ StandsOld m s ⊎ Stands m (upgraded s)) }
-        ensures left_alone { IsTrue (D.facts disk).honest → IsNotOld (D.facts disk).now
-            → LeavesOnly (D.facts disk) (D.facts (disk_after result)) (Mixture (D.facts disk)) }
-        ensures unwritten { IsTrue (D.facts disk).honest
-            → IfErr result (λ e. e.0 ≢ StoreRefusal.Device
-            → LeavesOnly (D.facts disk) (D.facts e.1) (Mixture (D.facts disk))) }
-
-        // What reads give stays where nothing is written.
-        ensures now { IsTrue (D.facts disk).honest → IsNotOld (D.facts disk).now
-            → (D.facts (disk_after result)).now ≡ (D.facts disk).now }
-        ensures now_refused { IsTrue (D.facts disk).honest
-            → IfErr result (λ e. e.0 ≢ StoreRefusal.Device
-            → (D.facts e.1).now ≡ (D.facts disk).now) }
-
-        // The registry is at the state that what reads gave held, or, on version 1, at the one
-        // after it: every mixture holds that.
-        ensures ok { IsTrue (D.facts disk).honest → IfOk result (λ registry.
-            (s : State) × IsUpgradeOf D.facts registry (D.facts disk).now s) }
-        ensures stands { IsTrue (D.facts disk).honest → (s : State) → Stands (D.facts disk).now s
-            → MatchResult result (λ registry. IsAt D.facts registry s) (λ e.
-            (e.0 ≡ StoreRefusal.Device) ⊎ (e.0 ≡ StoreRefusal.OutOfMemory)) }
-        ensures stands_old { IsTrue (D.facts disk).honest → (s : State)
-            → StandsOld (D.facts disk).now s
-            → IfOk result (λ registry. IsAt D.facts registry (upgraded s)) }
-        ensures placed_old { IsTrue (D.facts disk).honest → (s : State)
-            → StandsOld (D.facts disk).now s
-            → IfOk result (IsRelistedFrom (D.facts disk).now s) }
-        ensures answer { IsTrue (D.facts disk).honest → (s : State)
-            → StandsOld (D.facts disk).now s
-            → IsUpgradeAnswer (refusal_of_upgrade (D.facts disk).sectors s) (answer_of result) }
-        ensures refused { IsTrue (D.facts disk).honest → IsNotOld (D.facts disk).now
-            → IfErr result (λ e. RefusesLook StandsEither (D.facts disk).now e.0) }
-
-        // It reads what an opening reads, and then writes the catalogues and the root, and syncs
-        // twice.
-        ensures calls_current { IsTrue (D.facts disk).honest → (s : State)
-            → Stands (D.facts disk).now s → IfOk result (λ registry. AreCallsExactly
-            (3 + length (catalogues_of registry.root) + length registry.entries
-            + sum_by file_sectors registry.entries)
-            (D.facts disk) (D.facts registry.disk)) }
-        ensures calls_old { IsTrue (D.facts disk).honest → (s : State)
-            → StandsOld (D.facts disk).now s → IfOk result (λ registry. AreCallsExactly
-            (3 + length registry.entries + sum_by file_sectors registry.entries
-            + (catalogues_for (length registry.entries) + 3))
-            (D.facts disk) (D.facts registry.disk)) }
-        ensures log_old { IsTrue (D.facts disk).honest → (s : State)
-            → StandsOld (D.facts disk).now s → IfOk result (λ registry. GrowsBehindSync
-            (catalogues_for (length registry.entries) + 3)
-            (D.facts disk).log (D.facts registry.disk).log) }
-
-        // On any disk
-        ensures usable { IfOk result (λ registry. IsFalse registry.failed) }
-        ensures unheld { IfOk result (λ registry. registry.held ≡ []) }
-        ensures geometry { IfOk result (λ _. IsGeometry (D.facts disk).sectors) }
-        ensures refusals { IfErr result (λ e. IsRefusalOfUpgrade (D.facts disk).sectors e.0) }
-        ensures device { IfErr result (λ e. e.0 ≡ StoreRefusal.Device
-            → (D.facts disk).failures < (D.facts e.1).failures) }
-        ensures untouched { IfErr result (λ e. e.0 ≡ StoreRefusal.BadGeometry → e.1 ≡ disk) }
-        ensures calls { AreCalls (D.facts disk) (D.facts (disk_after result)) }
+        ensures { EndsUpgrading D.facts disk result }
     {
         match Store::look(alloc, disk)? {
             Look::Current(store) => admit_current(alloc, store),
