@@ -28,7 +28,8 @@ module _ {D : Type 0} (facts : D → DiskFacts) where
     -- no call of the disk was made
     goes_unread : StaysAt facts mid new → new.registry.disk ≡ mid.registry.disk → GoesOn None
     goes_unread stays same = runs_idle facts old.registry mid.registry new.registry s xs registries so_far stays.same
-        (λ honest. subst (λ (d : D). LeavesOnly (facts mid.registry.disk) (facts d) (Mixture (facts mid.registry.disk))) (sym same) (at_rest (facts mid.registry.disk) (Mixture (facts mid.registry.disk)) (λ m mixture. mixture)))
+        (λ honest. subst (λ (d : D). LeavesOnly (facts mid.registry.disk) (facts d) (Mixture (facts mid.registry.disk))) (sym same)
+        (at_rest (facts mid.registry.disk) (Mixture (facts mid.registry.disk)) (λ m mixture. mixture)))
         (λ failed. (still_failed stays failed, same))
 
     goes_advanced : (slot : _) (result : _) → AdvancesIn facts mid new slot result → GoesOn None
@@ -37,7 +38,9 @@ module _ {D : Type 0} (facts : D → DiskFacts) where
 
     -- an event more
     goes_on : (h : Happening) (r : EventReply) → Happens facts mid new h r → GoesOn (exchange_of h r)
-    goes_on (apply request) (Replied answer) happens = runs_turn facts old.registry mid.registry new.registry s xs registries so_far request answer happens.applied happens.all_calls happens.on_any_disk
+    goes_on (apply request) (Replied answer) happens =
+        runs_turn facts old.registry mid.registry new.registry s xs registries so_far request answer happens.applied happens.all_calls
+        happens.on_any_disk
     goes_on (begin program base) (Slot slot) happens = goes_unread happens.stays happens.disk
     goes_on (begin program base) (Replied (Refused refusal)) happens = goes_unread happens.stays happens.disk
     goes_on (advance slot) Going happens = goes_advanced slot _ happens
@@ -63,8 +66,10 @@ module _ {D : Type 0} (facts : D → DiskFacts) where
   runs_events old mid s xs registries so_far (x ∷ hs) (r ∷ rs) (b ∷ passed) h =
       let next = goes_on old mid b s xs registries so_far x r h.0.happens in
       let all = runs_events old b s (xs ++ exchange_of x r ∷ []) (registries ++ b.registry ∷ []) next hs rs passed h.1 in
-      subst (λ (l : List (Opened D)). RunsVia facts old.registry l (last_of b passed).registry s (xs ++ exchange_of x r ∷ exchanges hs rs)) (append_assoc registries (b.registry ∷ []) (map (λ (k : Slotted D). k.registry) passed))
-      (subst (λ (l : List Exchange). RunsVia facts old.registry ((registries ++ b.registry ∷ []) ++ map (λ (k : Slotted D). k.registry) passed) (last_of b passed).registry s l) (append_assoc xs (exchange_of x r ∷ []) (exchanges hs rs)) all)
+      subst (λ (l : List (Opened D)). RunsVia facts old.registry l (last_of b passed).registry s (xs ++ exchange_of x r ∷ exchanges hs rs))
+      (append_assoc registries (b.registry ∷ []) (map (λ (k : Slotted D). k.registry) passed))
+      (subst (λ (l : List Exchange). RunsVia facts old.registry ((registries ++ b.registry ∷ []) ++ map (λ (k : Slotted D). k.registry) passed)
+      (last_of b passed).registry s l) (append_assoc xs (exchange_of x r ∷ []) (exchanges hs rs)) all)
   runs_events old mid s xs registries so_far [] [] (b ∷ passed) h = absurd h
   runs_events old mid s xs registries so_far [] (r ∷ rs) passed h = absurd h
   runs_events old mid s xs registries so_far (x ∷ hs) [] passed h = absurd h

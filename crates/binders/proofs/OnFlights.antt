@@ -43,7 +43,8 @@ module _ {D : Type 0} (facts : D → DiskFacts) where
   }
 
   -- another binder in a slot, or none, with its flight
-  pub are_on_set : (registry : Opened D) (slots : List (Option Binding)) (flights : List (Option Flight)) → AreOn facts (with_slots registry slots) flights → (slot : ℕ) (o : Option Binding) (p : Option Flight) → IsOn facts registry o p
+  pub are_on_set : (registry : Opened D) (slots : List (Option Binding)) (flights : List (Option Flight))
+      → AreOn facts (with_slots registry slots) flights → (slot : ℕ) (o : Option Binding) (p : Option Flight) → IsOn facts registry o p
       → AreOn facts (with_slots registry (set slots slot o)) (set flights slot p)
   are_on_set registry slots flights on slot o p is = record {
     count = length-set flights slot p ∙ on.count ∙ sym (length-set slots slot o);
@@ -72,25 +73,29 @@ module _ {D : Type 0} (facts : D → DiskFacts) where
           (cases_lt i slot)
 
   -- the binder that is on a flight
-  pub binder_on : (registry : Opened D) (slots : List (Option Binding)) (flights : List (Option Flight)) → AreOn facts (with_slots registry slots) flights → (slot : ℕ) (flight : Flight) → get_or flights slot None ≡ Some flight
+  pub binder_on : (registry : Opened D) (slots : List (Option Binding)) (flights : List (Option Flight))
+      → AreOn facts (with_slots registry slots) flights → (slot : ℕ) (flight : Flight) → get_or flights slot None ≡ Some flight
       → (b : Binding) → get_or slots slot None ≡ Some b → Flies facts registry b flight
   binder_on registry slots flights on slot flight is b there =
       let lt : slot < length flights = there_is flights slot flight is in
       subst (λ (p : Option Flight). IsOn facts registry (Some b) p) is (subst (λ (o : Option Binding). IsOn facts registry o (get_or flights slot None)) there (on.each slot lt))
 
   -- where no binder lives there is no flight
-  pub no_flight_on : (registry : Opened D) (slots : List (Option Binding)) (flights : List (Option Flight)) → AreOn facts (with_slots registry slots) flights → (slot : ℕ) → get_or slots slot None ≡ None → get_or flights slot None ≡ None
+  pub no_flight_on : (registry : Opened D) (slots : List (Option Binding)) (flights : List (Option Flight))
+      → AreOn facts (with_slots registry slots) flights → (slot : ℕ) → get_or slots slot None ≡ None → get_or flights slot None ≡ None
   no_flight_on registry slots flights on slot none = by (get_or flights slot None) refl
     where
       by : (p : Option Flight) → get_or flights slot None ≡ p → get_or flights slot None ≡ None
       by None is = is
-      by (Some flight) is = absurd (off (subst (λ (p : Option Flight). IsOn facts registry None p) is (subst (λ (o : Option Binding). IsOn facts registry o (get_or flights slot None)) none (on.each slot (there_is flights slot flight is)))))
+      by (Some flight) is = absurd (off (subst (λ (p : Option Flight). IsOn facts registry None p) is
+          (subst (λ (o : Option Binding). IsOn facts registry o (get_or flights slot None)) none (on.each slot (there_is flights slot flight is)))))
         where
           off : IsOn facts registry None (Some flight) → ⊥
           off on = on
 
   -- where each that is there goes on, all do
-  pub are_on_left : (old new : Opened D) (slots : List (Option Binding)) (flights : List (Option Flight)) → ((b : Binding) (f : Flight) (i : ℕ) → get_or slots i None ≡ Some b → Flies facts old b f → Flies facts new b f)
+  pub are_on_left : (old new : Opened D) (slots : List (Option Binding)) (flights : List (Option Flight))
+      → ((b : Binding) (f : Flight) (i : ℕ) → get_or slots i None ≡ Some b → Flies facts old b f → Flies facts new b f)
       → AreOn facts (with_slots old slots) flights → AreOn facts (with_slots new slots) flights
   are_on_left old new slots flights moves on = record {
     count = on.count;

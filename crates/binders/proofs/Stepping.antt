@@ -36,7 +36,11 @@ module _ {D : Type 0} (facts : D → DiskFacts) (old new : Opened D) (slots : Li
 
     pub begun_in : BeginsIn facts (with_slots old slots) (with_slots new (set slots slot (Some binder))) program base (Ok slot)
     begun_in = record {
-      ok = λ s flights at on. (lowest, are_on_set facts new slots flights (are_on_moved facts old new slots flights begins.others on) slot (Some binder) (Some (begun program base s)) (begins.ok s at));
+      ok = λ s flights at on. (
+        lowest,
+        are_on_set facts new slots flights (are_on_moved facts old new slots flights begins.others on) slot
+            (Some binder) (Some (begun program base s)) (begins.ok s at),
+      );
       stays = record {
         same = begins.same;
         kept = (begins.kept.1, begins.kept.2, begins.kept.3);
@@ -60,7 +64,8 @@ module _ {D : Type 0} (facts : D → DiskFacts) (old new : Opened D) (slots : Li
         not_none is = cc
 
   -- It is refused as the registry refuses it,
-  pub refused_in : (e : Refusal) → IsFalse old.failed → (slot : ℕ) → lowest_free slots ≡ Some slot → Begins facts old new program base (Err e) → BeginsIn facts (with_slots old slots) (with_slots new slots) program base (Err e)
+  pub refused_in : (e : Refusal) → IsFalse old.failed → (slot : ℕ) → lowest_free slots ≡ Some slot → Begins facts old new program base (Err e)
+      → BeginsIn facts (with_slots old slots) (with_slots new slots) program base (Err e)
   refused_in e usable slot lowest begins = record {
     ok = λ s flights at on. are_on_moved facts old new slots flights begins.others on;
     stays = record {
@@ -282,10 +287,12 @@ module _ {D : Type 0} (facts : D → DiskFacts) (old : Opened D) (slots : List (
       left_alone alone sector = omega (arith, alone sector, held_less sector, ends.let_go.holders sector, its_times sector)
 
       -- others still hold what they held
-      still : IsHeld mid slots → (i : ℕ) (other : Binding) → get_or (set slots slot None) i None ≡ Some other → (k : ℕ) → k < length (handles_of other) → 0 < holders_of new.held (get_or (handles_of other) k 0)
+      still : IsHeld mid slots → (i : ℕ) (other : Binding) → get_or (set slots slot None) i None ≡ Some other → (k : ℕ)
+          → k < length (handles_of other) → 0 < holders_of new.held (get_or (handles_of other) k 0)
       still held i other is k lt =
           let handle : ℕ = get_or (handles_of other) k 0 in
-          let all : held_in handle (get_or (set slots slot None) i None) ≤ held_by (set slots slot None) handle = held_within (set slots slot None) i handle (there_is (set slots slot None) i other is) in
+          let all : held_in handle (get_or (set slots slot None) i None) ≤ held_by (set slots slot None) handle =
+          held_within (set slots slot None) i handle (there_is (set slots slot None) i other is) in
           let its : held_in handle (get_or (set slots slot None) i None) ≡ times handle (handles_of other) = ap (held_in handle) is in
           omega (arith, all, its, times_there (handles_of other) k lt, left_held held handle)
 

@@ -38,13 +38,17 @@ use Rattle.byte_registry.proofs.Steps.{few_steps}
 use Rattle.byte_registry.proofs.Syncs.{begun_prefix, begun_whole, same_writes, plan_few}
 
 -- What holds at every moment since a disk was made of bytes, and at the end, holds of its plan.
-pub leads_from : (bytes : List ℕ) (old new : ByteDisk) (Before After : List Sector → Type 0) → IsDiskOf bytes old → LeavesOnly (byte_facts old) (byte_facts new) (λ m. Before m ⊎ After m) → ((m : List Sector) → Mixture (byte_facts new) m → After m) → LeadsFrom (sectors_in bytes) Before After (synced_plan new)
+pub leads_from : (bytes : List ℕ) (old new : ByteDisk) (Before After : List Sector → Type 0) → IsDiskOf bytes old
+    → LeavesOnly (byte_facts old) (byte_facts new) (λ m. Before m ⊎ After m) → ((m : List Sector) → Mixture (byte_facts new) m → After m)
+    → LeadsFrom (sectors_in bytes) Before After (synced_plan new)
 leads_from bytes old new Before After is leaves found =
     let start = sectors_in bytes in
     let steps = plan_of new in
     record {
       begins = (behind_sync steps, refl);
-      prefix = begun_prefix start (λ m. Before m ⊎ After m) steps (λ n le m mixture. plan_leaves old new (λ m. Before m ⊎ After m) is.starts.time leaves n le m (subst (λ given. IsMixtureAfter given (take n steps) m) (sym is.given) mixture));
+      prefix = begun_prefix start (λ m. Before m ⊎ After m) steps
+          (λ n le m mixture. plan_leaves old new (λ m. Before m ⊎ After m) is.starts.time leaves n le m
+          (subst (λ given. IsMixtureAfter given (take n steps) m) (sym is.given) mixture));
       whole = begun_whole start After steps (λ m mixture. plan_ends old new After leaves.past found m (subst (λ given. IsMixtureAfter given steps m) (sym is.given) mixture));
       inside = subst (All (λ (write : SectorWrite). write.0 < length start)) (sym (same_writes steps))
           (subst (λ given. All (λ (write : SectorWrite). write.0 < length given) (writes_in steps)) (same_given old new leaves.past ∙ is.given) (is_plan new).inside);
@@ -98,7 +102,16 @@ module _ (bytes : List ℕ) (old : ByteDisk) (is : IsDiskOf bytes old) (opened :
   same_phase =
       ap (λ n. phase_by n opened.held) same_sectors
       ∙ ap (λ held. phase_by (length start) held) unheld
-      ∙ ap (λ b. let p : Phase = record { sectors = length start; lone = 0; longest = longest_free (opened_on start opened.root opened.entries); failures = (byte_facts opened.disk).failures; failed = b; state = s } in p) found.2.usable
+      ∙ ap (λ b. let p : Phase = record {
+        sectors = length start;
+        lone = 0;
+        longest =
+            longest_free (opened_on start opened.root opened.entries);
+        failures = (byte_facts opened.disk).failures;
+        failed = b;
+        state = s;
+      } in p)
+      found.2.usable
 
   module _ (request : Request) (reply : Reply) (new : Opened ByteDisk) (applies : AppliesUntested byte_facts opened new s request reply) where
     abbrev s' : State
@@ -131,16 +144,20 @@ module _ (bytes : List ℕ) (old : ByteDisk) (is : IsDiskOf bytes old) (opened :
       at_end = ⊎_elim (λ at. at) (λ broken. absurd (both_ways new.failed (step.3.failed ∙ step.0) broken.0)) applied.kept
 
       -- what holds of the states before and after holds of the plan
-      module _ (HoldsIt : List Sector → State → Type 0) (before_holds : (m : List Sector) → sectors.Stands m s → HoldsIt m s) (after_holds : (m : List Sector) → sectors.Stands m (accepted s request) → HoldsIt m (accepted s request)) where
+      module _ (HoldsIt : List Sector → State → Type 0) (before_holds : (m : List Sector) → sectors.Stands m s → HoldsIt m s)
+          (after_holds : (m : List Sector) → sectors.Stands m (accepted s request) → HoldsIt m (accepted s request)) where
         may : (m : List Sector) → MayLeaveBy sectors.Stands (phase_of byte_facts opened s) request Done s' m → HoldsIt m s ⊎ HoldsIt m (accepted s request)
-        may m left = ⊎_elim (λ before. inl (before_holds m before)) (λ later. ⊎_elim (λ after. inr (after_holds m (subst (sectors.Stands m) same_state after))) (λ flight. absurd (not_device flight.0)) later) left
+        may m left = ⊎_elim (λ before. inl (before_holds m before))
+            (λ later. ⊎_elim (λ after. inr (after_holds m (subst (sectors.Stands m) same_state after)))
+            (λ flight. absurd (not_device flight.0)) later) left
           where
             not_device : Done ≡ Refused Device → ⊥
             not_device e = cc
 
         leaves : LeavesOnly (byte_facts old) (byte_facts new.disk) (λ m. HoldsIt m s ⊎ HoldsIt m (accepted s request))
         leaves = goes_on (λ m. HoldsIt m s ⊎ HoldsIt m (accepted s request))
-            (weaken (Mixture (byte_facts old)) (λ m. HoldsIt m s ⊎ HoldsIt m (accepted s request)) (λ m mixture. inl (before_holds m (subst (λ m. sectors.Stands m s) (sym (starts_with bytes old is m mixture)) holds.stands))) quiet)
+            (weaken (Mixture (byte_facts old)) (λ m. HoldsIt m s ⊎ HoldsIt m (accepted s request))
+            (λ m mixture. inl (before_holds m (subst (λ m. sectors.Stands m s) (sym (starts_with bytes old is m mixture)) holds.stands))) quiet)
             (weaken (MayLeaveBy sectors.Stands (phase_of byte_facts opened s) request Done s') (λ m. HoldsIt m s ⊎ HoldsIt m (accepted s request)) may applied.any_moment)
 
         found_after : (m : List Sector) → Mixture (byte_facts new.disk) m → HoldsIt m (accepted s request)
@@ -155,10 +172,12 @@ module _ (bytes : List ℕ) (old : ByteDisk) (is : IsDiskOf bytes old) (opened :
           leads Stands (λ m stands. record { stored = stands; libraries = held.stands.libraries }) (λ m stands. record { stored = stands; libraries = after })
 
       -- the opening kept a sync at most, and the change its calls
-      module _ (opening : MayAddSync (byte_facts old).log (byte_facts opened.disk).log) (calls : IfAccepted reply (AreCallsExactly (calls_of s request) (byte_facts opened.disk) (byte_facts new.disk))) where
+      module _ (opening : MayAddSync (byte_facts old).log (byte_facts opened.disk).log)
+          (calls : IfAccepted reply (AreCallsExactly (calls_of s request) (byte_facts opened.disk) (byte_facts new.disk))) where
         few : length (synced_plan new.disk) ≤ calls_of s request + 1
         few =
-            let change : AreCallsExactly (calls_of s request) (byte_facts opened.disk) (byte_facts new.disk) = subst (λ r. IfAccepted r (AreCallsExactly (calls_of s request) (byte_facts opened.disk) (byte_facts new.disk))) is_done calls in
+            let change : AreCallsExactly (calls_of s request) (byte_facts opened.disk) (byte_facts new.disk) =
+            subst (λ r. IfAccepted r (AreCallsExactly (calls_of s request) (byte_facts opened.disk) (byte_facts new.disk))) is_done calls in
             plan_few new.disk (calls_of s request) (record {
               begun = (byte_facts opened.disk).log;
               sync = subst (λ log. MayAddSync log (byte_facts opened.disk).log) is.starts.log opening;
@@ -170,10 +189,28 @@ module _ (bytes : List ℕ) (old : ByteDisk) (is : IsDiskOf bytes old) (opened :
             (few_libraries byte_facts opened s found.2 (λ honest. byte_holds opened.disk))
             (subst (λ t. length t.libraries ≤ 2048) same_state (few_libraries byte_facts new s' at_end (λ honest. byte_holds new.disk)))
 
-    module _ (opening : MayAddSync (byte_facts old).log (byte_facts opened.disk).log) (calls : IfAccepted reply (AreCallsExactly (calls_of s request) (byte_facts opened.disk) (byte_facts new.disk))) where
+    module _ (opening : MayAddSync (byte_facts old).log (byte_facts opened.disk).log)
+        (calls : IfAccepted reply (AreCallsExactly (calls_of s request) (byte_facts opened.disk) (byte_facts new.disk))) where
       pub asked : (s : State) × IsAsked bytes s request reply (synced_plan new.disk)
-      asked = (s, record { holds = holds; only = only; by_table = is_reply; leads = λ is_done. leads is_done sectors.Stands (λ m stands. stands) (λ m stands. stands); registry = leads_registry; few = λ is_done. few is_done opening calls; at_most = λ is_done. at_most is_done opening calls })
+      asked = (
+        s,
+        record {
+          holds = holds;
+          only = only;
+          by_table = is_reply;
+          leads =
+              λ is_done. leads is_done sectors.Stands (λ m stands. stands) (λ m stands. stands);
+          registry = leads_registry;
+          few =
+              λ is_done. few is_done opening calls;
+          at_most = λ is_done. at_most is_done opening calls;
+        },
+      )
 
     -- S1 is answered where a call failed.
     pub failed : reply ≡ Refused Device → 0 < (byte_facts new.disk).failures
-    failed e = omega (arith, failed_risen (phase_of byte_facts opened s) request (phase_of byte_facts new s') (subst (λ r. UntestedStep (phase_of byte_facts opened s) request r (phase_of byte_facts new s')) e applies.1.step))
+    failed e = omega (
+      arith,
+      failed_risen (phase_of byte_facts opened s) request (phase_of byte_facts new s')
+          (subst (λ r. UntestedStep (phase_of byte_facts opened s) request r (phase_of byte_facts new s')) e applies.1.step),
+    )

@@ -14,7 +14,8 @@ use Rattle.byte_registry.specs.Plans.{most_steps}
 few_catalogues : (libraries : ℕ) → libraries ≤ 2048 → catalogues_for libraries ≤ 32
 few_catalogues libraries few = omega (arith, few)
 
-pub few_steps : (request : Request) (s : State) (steps : ℕ) → IsReply s request Done → steps ≤ calls_of s request + 1 → length s.libraries ≤ 2048 → length (accepted s request).libraries ≤ 2048 → steps ≤ most_steps request
+pub few_steps : (request : Request) (s : State) (steps : ℕ) → IsReply s request Done → steps ≤ calls_of s request + 1 → length s.libraries ≤ 2048
+    → length (accepted s request).libraries ≤ 2048 → steps ≤ most_steps request
 few_steps (install bytes) s steps done few before after =
     let one_more = length-append s.libraries (record { name = name_of bytes; bytes = bytes } ∷ []) in
     omega (arith, few, few_catalogues (length s.libraries + 1) (omega (arith, after, one_more)))

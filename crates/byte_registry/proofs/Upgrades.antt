@@ -38,7 +38,10 @@ found_at : (opened : Opened ByteDisk) (s : State) → IsAt byte_facts opened s �
 found_at opened s at m mixture = record { stored = (opened.root, opened.entries, at.stored.stands m mixture); libraries = at.libraries }
 
 -- An empty registry that was made.
-pub formatted : (bytes : List ℕ) (old : ByteDisk) (opened : Opened ByteDisk) → IsDiskOf bytes old → LeavesOnly (byte_facts old) (byte_facts opened.disk) (λ m. Mixture (byte_facts old) m ⊎ Stands m empty_state) → IsAt byte_facts opened empty_state → (HasRootMagic (byte_facts old).now → ⊥) → GrowsBehindSync 2 (byte_facts old).log (byte_facts opened.disk).log → IsFormatted bytes (synced_plan opened.disk)
+pub formatted : (bytes : List ℕ) (old : ByteDisk) (opened : Opened ByteDisk) → IsDiskOf bytes old
+    → LeavesOnly (byte_facts old) (byte_facts opened.disk) (λ m. Mixture (byte_facts old) m ⊎ Stands m empty_state)
+    → IsAt byte_facts opened empty_state → (HasRootMagic (byte_facts old).now → ⊥)
+    → GrowsBehindSync 2 (byte_facts old).log (byte_facts opened.disk).log → IsFormatted bytes (synced_plan opened.disk)
 formatted bytes old opened is leaves at unformatted log = record {
   size = is.size;
   unformatted = subst (λ m. HasRootMagic m → ⊥) is.starts.now unformatted;
@@ -62,7 +65,8 @@ not_old m s stands t old =
 
 -- A registry of version 1 that was upgraded.
 module _ (bytes : List ℕ) (old : ByteDisk) (is : IsDiskOf bytes old) (opened : Opened ByteDisk) (s : State) where
-  pub upgraded_old : StandsOld (byte_facts old).now s → IsAt byte_facts opened (upgraded s) → LeavesOnly (byte_facts old) (byte_facts opened.disk) (λ m. Mixture (byte_facts old) m ⊎ StandsOld m s ⊎ Stands m (upgraded s))
+  pub upgraded_old : StandsOld (byte_facts old).now s → IsAt byte_facts opened (upgraded s)
+      → LeavesOnly (byte_facts old) (byte_facts opened.disk) (λ m. Mixture (byte_facts old) m ⊎ StandsOld m s ⊎ Stands m (upgraded s))
       → IsRelistedFrom (byte_facts old).now s opened
       → GrowsBehindSync (catalogues_for (length opened.entries) + 3) (byte_facts old).log (byte_facts opened.disk).log
       → LeadsOver bytes s (synced_plan opened.disk)
@@ -76,7 +80,12 @@ module _ (bytes : List ℕ) (old : ByteDisk) (is : IsDiskOf bytes old) (opened :
             (λ m left. ⊎_elim (λ mixture. inl (subst (λ n. StandsOld n s) (sym (starts_with bytes old is m mixture)) held)) (λ later. later) left) leaves)
             (found_at opened (upgraded s) at);
         few = subst (λ n. length (synced_plan opened.disk) ≤ catalogues_for n + 4) as_many
-            (omega (arith, plan_few opened.disk (catalogues_for (length opened.entries) + 3) (subst (λ before. GrowsBehindSync (catalogues_for (length opened.entries) + 3) before (byte_facts opened.disk).log) is.starts.log log)));
+            (omega (
+              arith,
+              plan_few opened.disk (catalogues_for (length opened.entries) + 3)
+                  (subst (λ before. GrowsBehindSync (catalogues_for (length opened.entries) + 3) before (byte_facts opened.disk).log) is.starts.log
+                  log),
+            ));
       }
 
 -- Of one of version 2 a disk to which no call was made has the plan: a sync.
@@ -92,7 +101,8 @@ module _ (bytes : List ℕ) (disk : ByteDisk) (is : IsDiskOf bytes disk) (s : St
   )
 
 -- The disk that is made anew then has that plan: of bytes that are a disk there is one.
-pub upgraded_anew : (bytes : List ℕ) (made : Result ByteDisk StoreRefusal) (s : State) → Stands (sectors_in bytes) s → IfOk made (IsDiskOf bytes) → IfOk made (λ disk. (x : State) × IsUpgraded bytes x (synced_plan disk))
+pub upgraded_anew : (bytes : List ℕ) (made : Result ByteDisk StoreRefusal) (s : State) → Stands (sectors_in bytes) s → IfOk made (IsDiskOf bytes)
+    → IfOk made (λ disk. (x : State) × IsUpgraded bytes x (synced_plan disk))
 upgraded_anew bytes (Ok disk) s stands is = (s, upgraded_current bytes disk is s stands)
 upgraded_anew bytes (Err refusal) s stands is = tt
 
@@ -101,7 +111,9 @@ is_disk bytes (Ok disk) size bad = tt
 is_disk bytes (Err refusal) size bad = absurd (bad.1 size)
 
 -- Which rules sectors hold a state by is told by the version of their current root.
-module _ (m : List Sector) (is_current : Bool) (tells : (version : Version) (root : Root) (entries : List PlacedEntry) (s : State) → StandsBy version m root entries s → IsTrue is_current ↔ (version ≡ Two)) (s : State) where
+module _ (m : List Sector) (is_current : Bool)
+    (tells : (version : Version) (root : Root) (entries : List PlacedEntry) (s : State) → StandsBy version m root entries s
+    → IsTrue is_current ↔ (version ≡ Two)) (s : State) where
   pub current_only : IsTrue is_current → StandsOld m s → ⊥
   current_only true_is old = two_not_one (sym ((tells One old.stored.0 old.stored.1 s old.stored.2).0 true_is))
 
@@ -109,7 +121,10 @@ module _ (m : List Sector) (is_current : Bool) (tells : (version : Version) (roo
   old_only false_is current = both_ways is_current false_is ((tells Two current.stored.0 current.stored.1 s current.stored.2).1 refl)
 
 -- No registry is upgraded.
-pub unupgraded : (bytes : List ℕ) (old : ByteDisk) → IsDiskOf bytes old → (refusal : StoreRefusal) → ((s : State) → StandsOld (byte_facts old).now s → IsUpgradeAnswer (refusal_of_upgrade (byte_facts old).sectors s) (Err refusal)) → ((s : State) → Stands (byte_facts old).now s → (refusal ≡ Device) ⊎ (refusal ≡ OutOfMemory)) → (IsNotOld (byte_facts old).now → RefusesLook StandsEither (byte_facts old).now refusal) → IsUnupgraded bytes refusal
+pub unupgraded : (bytes : List ℕ) (old : ByteDisk) → IsDiskOf bytes old → (refusal : StoreRefusal)
+    → ((s : State) → StandsOld (byte_facts old).now s → IsUpgradeAnswer (refusal_of_upgrade (byte_facts old).sectors s) (Err refusal))
+    → ((s : State) → Stands (byte_facts old).now s → (refusal ≡ Device) ⊎ (refusal ≡ OutOfMemory))
+    → (IsNotOld (byte_facts old).now → RefusesLook StandsEither (byte_facts old).now refusal) → IsUnupgraded bytes refusal
 unupgraded bytes old is refusal answer stands refused = record {
   old = λ s held. subst (λ n. IsUpgradeAnswer (refusal_of_upgrade n s) (Err refusal)) is.starts.sectors (answer s (subst (λ m. StandsOld m s) (sym is.starts.now) held.stands));
   held = λ s held. stands s (subst (λ m. Stands m s) (sym is.starts.now) held.stands);
@@ -117,7 +132,9 @@ unupgraded bytes old is refusal answer stands refused = record {
 }
 
 -- Nothing is opened.
-pub unopened : (bytes : List ℕ) (old : ByteDisk) → IsDiskOf bytes old → (refusal : StoreRefusal) → ((s : State) → sectors.Stands (byte_facts old).now s → (refusal ≡ Device) ⊎ (refusal ≡ OutOfMemory)) → RefusesOpen sectors.Stands (byte_facts old).now refusal → IsUnopened bytes refusal
+pub unopened : (bytes : List ℕ) (old : ByteDisk) → IsDiskOf bytes old → (refusal : StoreRefusal)
+    → ((s : State) → sectors.Stands (byte_facts old).now s → (refusal ≡ Device) ⊎ (refusal ≡ OutOfMemory))
+    → RefusesOpen sectors.Stands (byte_facts old).now refusal → IsUnopened bytes refusal
 unopened bytes old is refusal stands refused = record {
   why = inr (is.size, subst (λ m. RefusesOpen sectors.Stands m refusal) is.starts.now refused);
   held = λ s held. stands s (subst (λ m. sectors.Stands m s) (sym is.starts.now) held.stands);

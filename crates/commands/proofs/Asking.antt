@@ -288,7 +288,8 @@ module _ (F : Type 0) (before after : Option (List ℕ)) where
   unread_replied IsAsked OutOfMemory status h = memory_replied IsAsked status h
 
   -- a registry was not made
-  pub away_formatted : (n : ℕ) (why : NoRegistry) (status : Status) → IsNoRegistry IsFormatRefusal why → IsTurnedAway (λ r. why ≡ no.Refused r) before after status → IsFormatted F n before after status
+  pub away_formatted : (n : ℕ) (why : NoRegistry) (status : Status) → IsNoRegistry IsFormatRefusal why
+      → IsTurnedAway (λ r. why ≡ no.Refused r) before after status → IsFormatted F n before after status
   away_formatted n why Done is h = absurd h
   away_formatted n why Refused is h = (h.0, subst (IsNoRegistry IsFormatRefusal) h.1 is, h.2, h.3)
   away_formatted n why BadWords is h = absurd h

@@ -1,5 +1,6 @@
 -- Lists of lines and answers that grow by one, and bytes that are read of a text.
-use Rattle.std.proofs.Common.{◌≡◌, ◌≢◌, ℕ, ◌+◌, ◌-◌, ◌<◌, Bool, if◌then◌else◌, List, [], ◌∷◌, ◌++◌, length, length-append, length-take, append-nil, Option, None, Some, IfSome, sym, ap, subst, ◌∙◌, arith, take}
+use Rattle.std.proofs.Common.{◌≡◌, ◌≢◌, ℕ, ◌+◌, ◌-◌, ◌<◌, Bool, if◌then◌else◌, List, [], ◌∷◌, ◌++◌, length, length-append, length-take, append-nil}
+use Rattle.std.proofs.Common.{Option, None, Some, IfSome, sym, ap, subst, ◌∙◌, arith, take}
 use Rattle.std.specs.Prelude.{count_by}
 use Rattle.std.specs.List.{flat_map}
 use Rattle.std.specs.Io.{StopsAt}

@@ -1,5 +1,7 @@
 -- HEX by pieces.
-use Rattle.std.proofs.Common.{◌≡◌, ℕ, zero, suc, ◌+◌, ◌*◌, ◌/◌, ◌%◌, ◌<◌, ◌≤◌, ◌==◌, Bool, true, false, if◌then◌else◌, List, [], ◌∷◌, ◌++◌, length, length-take, length-drop, take, drop, slice_index_or, Option, Some, None, unwrap_or, Result, Ok, Err, refl, sym, ap, ◌∙◌, arith, append_assoc, take-append-drop}
+use Rattle.std.proofs.Common.{◌≡◌, ℕ, zero, suc, ◌+◌, ◌*◌, ◌/◌, ◌%◌, ◌<◌, ◌≤◌, ◌==◌, Bool, true, false, if◌then◌else◌, List, [], ◌∷◌, ◌++◌, length}
+use Rattle.std.proofs.Common.{length-take, length-drop, take, drop, slice_index_or, Option, Some, None, unwrap_or, Result, Ok, Err, refl, sym, ap}
+use Rattle.std.proofs.Common.{◌∙◌, arith, append_assoc, take-append-drop}
 use Rattle.std.specs.Prelude.{MatchResult}
 use Rattle.std.specs.Result.{result_ok}
 use Rattle.std.specs.Simd.{first_chunks}
@@ -151,7 +153,8 @@ pub sized-read : {E : Type 0} (d : Result (List ℕ) E) (r : Result Unit E) (out
 sized-read (Ok bytes) r out h is = ap (λ l. Some l) (sym h.1)
 sized-read (Err e) r out h is = cc (sym h ∙ is)
 
-pub sized-refused : {E : Type 0} (d : Result (List ℕ) E) (r : Result Unit E) (out : List ℕ) (e : E) → MatchResult d (λ bytes. (r ≡ Ok tt) × (out ≡ bytes)) (λ e. r ≡ Err e) → r ≡ Err e → result_ok d ≡ None
+pub sized-refused : {E : Type 0} (d : Result (List ℕ) E) (r : Result Unit E) (out : List ℕ) (e : E)
+    → MatchResult d (λ bytes. (r ≡ Ok tt) × (out ≡ bytes)) (λ e. r ≡ Err e) → r ≡ Err e → result_ok d ≡ None
 sized-refused (Ok bytes) r out e h is = cc (sym h.0 ∙ is)
 sized-refused (Err d) r out e h is = refl
 

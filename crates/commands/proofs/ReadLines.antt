@@ -1,5 +1,6 @@
 -- What a read up to a newline took.
-use Rattle.std.proofs.Common.{◌≡◌, ◌≢◌, ℕ, ◌+◌, ◌-◌, ◌<◌, Bool, true, false, cond, List, [], ◌∷◌, ◌++◌, length, take, get_or, Option, None, Some, IfSome, refl, sym, ap, subst, ◌∙◌, arith, take_all, nat_eq, ne_eqb}
+use Rattle.std.proofs.Common.{◌≡◌, ◌≢◌, ℕ, ◌+◌, ◌-◌, ◌<◌, Bool, true, false, cond, List, [], ◌∷◌, ◌++◌, length, take, get_or, Option, None, Some}
+use Rattle.std.proofs.Common.{IfSome, refl, sym, ap, subst, ◌∙◌, arith, take_all, nat_eq, ne_eqb}
 use Rattle.std.proofs.lemmas.List.{take_more}
 use Rattle.std.proofs.lemmas.List.Elements.{All-push, All-head, All-tail}
 use Rattle.std.specs.Io.{StopsAt}

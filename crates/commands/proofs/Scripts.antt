@@ -43,7 +43,8 @@ module _ {S : Type 0} (step : S → Happening → EventReply → S → Type 0) w
       read = subst (Consumes p.unread r.unread) (sym (flat_more ended whole line)) (Consumes-trans p.unread q.unread r.unread (flat_map ended whole) (ended line) so_far.read read);
       lines = All-push IsLine whole line so_far.lines is_line;
       run = run_more (LineStep step) s t u line answer whole answers so_far.run made;
-      written = subst (Appends p.written r.written) (sym (flat_more answer_text answers answer)) (Appends-trans p.written q.written r.written (output answers) (answer_text answer) so_far.written written);
+      written = subst (Appends p.written r.written) (sym (flat_more answer_text answers answer))
+          (Appends-trans p.written q.written r.written (output answers) (answer_text answer) so_far.written written);
       counts = counts_more m n answers answer refused is so_far.counts counted refusals;
     }
 
@@ -72,7 +73,8 @@ module _ {S : Type 0} (step : S → Happening → EventReply → S → Type 0) w
     ends_cut now n [] all is_line some written counted refusals = absurd (omega arith)
 
     -- part of a line was read, and not answered
-    pub breaks_reading : (r : Place) (fault : ScriptFault) (part : List ℕ) → Consumes q.unread r.unread part → StopsAt part 10 → Appends q.written r.written [] → Breaks step (streams p r) s t fault whole part answers
+    pub breaks_reading : (r : Place) (fault : ScriptFault) (part : List ℕ) → Consumes q.unread r.unread part → StopsAt part 10
+        → Appends q.written r.written [] → Breaks step (streams p r) s t fault whole part answers
     breaks_reading r fault part read stops written = record {
       read = front_known p.unread r.unread (flat_map ended whole) part (Consumes-trans p.unread q.unread r.unread (flat_map ended whole) part so_far.read read);
       lines = so_far.lines;
@@ -92,7 +94,8 @@ module _ {S : Type 0} (step : S → Happening → EventReply → S → Type 0) w
     }
 
     -- what was done but for a line that was read and not applied, or of a line that was applied
-    pub breaks_unapplied : (r : Place) (u : S) (line : List ℕ) (fault : ScriptFault) → Consumes q.unread r.unread (ended line) → IsLine line → u ≡ t → (fault ≢ Write → Appends q.written r.written []) → Breaks step (streams p r) s u fault whole (ended line) answers
+    pub breaks_unapplied : (r : Place) (u : S) (line : List ℕ) (fault : ScriptFault) → Consumes q.unread r.unread (ended line) → IsLine line → u ≡ t
+        → (fault ≢ Write → Appends q.written r.written []) → Breaks step (streams p r) s u fault whole (ended line) answers
     breaks_unapplied r u line fault read is_line same written =
         subst (λ v. Breaks step (streams p r) s v fault whole (ended line) answers) (sym same) (record {
           read = front_known p.unread r.unread (flat_map ended whole) (ended line) (Consumes-trans p.unread q.unread r.unread (flat_map ended whole) (ended line) so_far.read read);
@@ -102,7 +105,8 @@ module _ {S : Type 0} (step : S → Happening → EventReply → S → Type 0) w
           written = λ h. subst (Appends p.written r.written) (append-nil (output answers)) (Appends-trans p.written q.written r.written (output answers) [] so_far.written (written h));
         })
 
-    pub breaks_applied : (r : Place) (u : S) (line : List ℕ) (answer : Answer) → Consumes q.unread r.unread (ended line) → IsLine line → LineStep step t line answer u → Breaks step (streams p r) s u Write (whole ++ line ∷ []) [] (answers ++ answer ∷ [])
+    pub breaks_applied : (r : Place) (u : S) (line : List ℕ) (answer : Answer) → Consumes q.unread r.unread (ended line) → IsLine line
+        → LineStep step t line answer u → Breaks step (streams p r) s u Write (whole ++ line ∷ []) [] (answers ++ answer ∷ [])
     breaks_applied r u line answer read is_line made = record {
       read = front_known p.unread r.unread (flat_map ended (whole ++ line ∷ [])) []
           (subst (Consumes p.unread r.unread) (sym (flat_more ended whole line) ∙ sym (append-nil (flat_map ended (whole ++ line ∷ []))))

@@ -17,7 +17,8 @@ use Rattle.commands.specs.declared.summary.Summary.{Summary}
 use Rattle.commands.specs.declared.watched.Watched.{Watched}
 use Rattle.commands.specs.inside.Watched.{WatchedStep}
 
-module _ {S T : Type 0} (f : S → T) (step : S → Happening → EventReply → S → Type 0) (seen : T → Happening → EventReply → T → Type 0) (keeps : (s s' : S) (q : Happening) (r : EventReply) → step s q r s' → seen (f s) q r (f s')) where
+module _ {S T : Type 0} (f : S → T) (step : S → Happening → EventReply → S → Type 0) (seen : T → Happening → EventReply → T → Type 0)
+    (keeps : (s s' : S) (q : Happening) (r : EventReply) → step s q r s' → seen (f s) q r (f s')) where
   line_seen : (s s' : S) (line : List ℕ) (answer : Answer) → LineStep step s line answer s' → LineStep seen (f s) line answer (f s')
   line_seen s s' line (Replied reply) h = (h.0, h.1, keeps s s' h.0 reply h.2)
   line_seen s s' line BadLine h = (h.0, ap f h.1)
@@ -75,10 +76,18 @@ module _ {G : Type 0} (step : G → Happening → EventReply → G → Type 0) (
   seen_of v = (v.binders, v.worst)
 
   -- a script that was run to its end, or ended early, where no reply was watched before
-  pub runs_through : (summary : Summary) (status : Status) → w.worst ≡ Done → Finishes (WatchedStep step) io w w' summary → status ≡ greatest w'.worst (lines_status summary.refused) → IsRun step w.binders w'.binders io status
+  pub runs_through : (summary : Summary) (status : Status) → w.worst ≡ Done → Finishes (WatchedStep step) io w w' summary
+      → status ≡ greatest w'.worst (lines_status summary.refused) → IsRun step w.binders w'.binders io status
   runs_through summary status e h is =
-      inl (w'.worst, summary, subst (λ s. Finishes (Worsens step) io (w.binders, s) (seen_of w') summary) e (finishes_seen seen_of (WatchedStep step) (Worsens step) (λ s s' q r k. k) io w w' summary h), is)
+      inl (
+        w'.worst,
+        summary,
+        subst (λ s. Finishes (Worsens step) io (w.binders, s) (seen_of w') summary) e
+            (finishes_seen seen_of (WatchedStep step) (Worsens step) (λ s s' q r k. k) io w w' summary h),
+        is,
+      )
 
-  pub ends_early : (fault : ScriptFault) (status : Status) → w.worst ≡ Done → Stops (WatchedStep step) io w w' fault → status ≡ greatest w'.worst (fault_status fault) → IsRun step w.binders w'.binders io status
+  pub ends_early : (fault : ScriptFault) (status : Status) → w.worst ≡ Done → Stops (WatchedStep step) io w w' fault
+      → status ≡ greatest w'.worst (fault_status fault) → IsRun step w.binders w'.binders io status
   ends_early fault status e h is =
       inr (w'.worst, fault, subst (λ s. Stops (Worsens step) io (w.binders, s) (seen_of w') fault) e (stops_seen seen_of (WatchedStep step) (Worsens step) (λ s s' q r k. k) io w w' fault h), is)

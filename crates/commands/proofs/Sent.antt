@@ -67,7 +67,8 @@ told_quiet before held whole answers line answer t quiet = record {
 }
 
 -- all was sent
-told_all : {S : Type 0} (step : S → Happening → EventReply → S → Type 0) (before held : Option (List ℕ)) (s t : S) (whole : List (List ℕ)) (answers : List Answer) → Run (LineStep step) s whole answers t
+told_all : {S : Type 0} (step : S → Happening → EventReply → S → Type 0) (before held : Option (List ℕ)) (s t : S) (whole : List (List ℕ))
+    (answers : List Answer) → Run (LineStep step) s whole answers t
     → Appends before held (output answers) → Told before held whole answers
 told_all step before held s t whole answers run written = record {
   told = whole;
@@ -132,20 +133,45 @@ module _ {S W : Type 0} (contents : W → Option (List ℕ)) (step : S → Happe
     (so_far : Answered step p q s t m whole answers) (told : Told p.written (contents w) whole answers) where
   -- how a script broke off, and what its writer held
   abbrev pub BreaksOff : Place → S → ScriptFault → Type 0
-  BreaksOff r u fault = (held : W) × (lines : List (List ℕ)) × (part : List ℕ) × (given : List Answer) × Breaks step (streams p r) s u fault lines part given × IsHeldBack p.written (contents held) lines given
+  BreaksOff r u fault = (held : W) × (lines : List (List ℕ)) × (part : List ℕ) × (given : List Answer)
+      × Breaks step (streams p r) s u fault lines part given × IsHeldBack p.written (contents held) lines given
 
   -- a read failed
   pub off_reading : (r : Place) (line : List ℕ) (fault : ScriptFault) → Unread q.unread r.unread q.written r.written line fault → BreaksOff r t fault
-  off_reading r line Write h = (w, whole, [], answers, breaks_cut step p q s t m whole answers so_far r Write [] refl (subst (λ u. Consumes q.unread u []) (sym h) (Consumes-nil q.unread)) (All-nil (λ b. b ≢ 10)), held_told p.written (contents w) whole answers told)
+  off_reading r line Write h = (
+    w,
+    whole,
+    [],
+    answers,
+    breaks_cut step p q s t m whole answers so_far r Write [] refl
+        (subst (λ u. Consumes q.unread u []) (sym h) (Consumes-nil q.unread)) (All-nil (λ b. b ≢ 10)),
+    held_told p.written
+        (contents w) whole answers told,
+  )
   off_reading r line Read h = (w, whole, line, answers, breaks_reading step p q s t m whole answers so_far r Read line h.0 h.1 h.2, held_told p.written (contents w) whole answers told)
   off_reading r line OutOfMemory h = (w, whole, line, answers, breaks_reading step p q s t m whole answers so_far r OutOfMemory line h.0 h.1 h.2, held_told p.written (contents w) whole answers told)
 
   -- a whole line wasn't answered, or its answer not sent
-  pub off_line : (q' r : Place) (u : S) (line : List ℕ) (fault : ScriptFault) → Consumes q.unread r.unread (ended line) → IsLine line → Appends q.written q'.written [] → Misses step t u q'.written r.written line fault → BreaksOff r u fault
-  off_line q' r u line Read read is_line kept h =
-      (w, whole, ended line, answers, breaks_unapplied step p q s t m whole answers so_far r u line Read read is_line h.0 (λ _. subst (λ k. Appends q.written k []) (sym h.1) kept), held_told p.written (contents w) whole answers told)
-  off_line q' r u line OutOfMemory read is_line kept h =
-      (w, whole, ended line, answers, breaks_unapplied step p q s t m whole answers so_far r u line OutOfMemory read is_line h.0 (λ _. subst (λ k. Appends q.written k []) (sym h.1) kept), held_told p.written (contents w) whole answers told)
+  pub off_line : (q' r : Place) (u : S) (line : List ℕ) (fault : ScriptFault) → Consumes q.unread r.unread (ended line) → IsLine line
+      → Appends q.written q'.written [] → Misses step t u q'.written r.written line fault → BreaksOff r u fault
+  off_line q' r u line Read read is_line kept h = (
+    w,
+    whole,
+    ended line,
+    answers,
+    breaks_unapplied step p q s t m whole answers so_far r u line Read read is_line h.0
+        (λ _. subst (λ k. Appends q.written k []) (sym h.1) kept),
+    held_told p.written (contents w) whole answers told,
+  )
+  off_line q' r u line OutOfMemory read is_line kept h = (
+    w,
+    whole,
+    ended line,
+    answers,
+    breaks_unapplied step p q s t m whole answers so_far r u line OutOfMemory read is_line h.0
+        (λ _. subst (λ k. Appends q.written k []) (sym h.1) kept),
+    held_told p.written (contents w) whole answers told,
+  )
   off_line q' r u line Write read is_line kept h =
       (w, whole ++ line ∷ [], [], answers ++ h.0 ∷ [], breaks_applied step p q s t m whole answers so_far r u line h.0 read is_line h.1, held_more p.written (contents w) whole answers told line h.0)
 
@@ -154,7 +180,9 @@ module _ {S W : Type 0} (contents : W → Option (List ℕ)) (step : S → Happe
   pub tells_on : (unread : Option (List ℕ)) (n : Summary) (held now : W) (waiting : List ℕ) (whole : List (List ℕ)) (answers : List Answer) (line : List ℕ) (answer : Answer)
       → Told p.written (contents held) whole answers → Answered step p (record { unread = unread; written = append_known (contents now) waiting }) s u n (whole ++ line ∷ []) (answers ++ answer ∷ [])
       → (waiting ≡ []) ⊎ MayWait line answer
-      → (w : W) × (lines : List (List ℕ)) × (given : List Answer) × Answered step p (record { unread = unread; written = append_known (contents now) waiting }) s u n lines given × Told p.written (contents w) lines given
+      → (w : W) × (lines : List (List ℕ)) × (given : List Answer)
+      × Answered step p (record { unread = unread; written = append_known (contents now) waiting }) s u n lines given
+      × Told p.written (contents w) lines given
   tells_on unread n held now waiting whole answers line answer told more either =
       ⊎_elim
       (λ none. (
@@ -175,7 +203,8 @@ module _ {S : Type 0} (step : S → Happening → EventReply → S → Type 0) (
 
   module _ (whole : List (List ℕ)) (part : List ℕ) (answers : List Answer) where
     -- a script that was read to its end, once all that waited was sent
-    pub ends_sent : (summary : Summary) (now : Option (List ℕ)) → ((text : List ℕ) → Appends io.before io.after text → Appends io.before now text) → Ends step io s s' summary whole part answers → Ends step (holding now) s s' summary whole part answers
+    pub ends_sent : (summary : Summary) (now : Option (List ℕ)) → ((text : List ℕ) → Appends io.before io.after text → Appends io.before now text)
+        → Ends step io s s' summary whole part answers → Ends step (holding now) s s' summary whole part answers
     ends_sent summary now send e = record {
       read = e.read;
       lines = e.lines;
@@ -186,7 +215,9 @@ module _ {S : Type 0} (step : S → Happening → EventReply → S → Type 0) (
     }
 
     -- one that ended early
-    pub breaks_sent : (fault : ScriptFault) (now : Option (List ℕ)) → ((text : List ℕ) → Appends io.before io.after text → Appends io.before now text) → Breaks step io s s' fault whole part answers → Breaks step (holding now) s s' fault whole part answers
+    pub breaks_sent : (fault : ScriptFault) (now : Option (List ℕ))
+        → ((text : List ℕ) → Appends io.before io.after text → Appends io.before now text) → Breaks step io s s' fault whole part answers
+        → Breaks step (holding now) s s' fault whole part answers
     breaks_sent fault now send e = record {
       read = e.read;
       lines = e.lines;
@@ -224,7 +255,8 @@ module _ {S W : Type 0} (contents : W → Option (List ℕ)) (step : S → Happe
   LinesEnd summary = (held : W) × (whole : List (List ℕ)) × (cut : List ℕ) × (answers : List Answer) × Ends step io s s' summary whole cut answers × Told io.before (contents held) whole answers
 
   abbrev pub LinesBreak : ScriptFault → Type 0
-  LinesBreak fault = (held : W) × (whole : List (List ℕ)) × (part : List ℕ) × (answers : List Answer) × Breaks step io s s' fault whole part answers × IsHeldBack io.before (contents held) whole answers
+  LinesBreak fault = (held : W) × (whole : List (List ℕ)) × (part : List ℕ) × (answers : List Answer) × Breaks step io s s' fault whole part answers
+      × IsHeldBack io.before (contents held) whole answers
 
   -- the writer failed when what waited at the end was sent
   pub unsent : (r : Result Summary ScriptFault) (now : Option (List ℕ)) → IfOk r LinesEnd → IfErr r LinesBreak → (held : W) × StopsWriting step (holding step io s s' now) s s' (contents held)

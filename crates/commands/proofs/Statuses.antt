@@ -91,7 +91,8 @@ in_time : false ≡ true → ⊥
 in_time h = cc
 
 -- what a script over a registry ends with is what one over a disk does
-module _ {S : Type 0} (step : S → Happening → EventReply → S → Type 0) (s s' : S) (F : Type 0) (io : Streams) (through : (t : Status) → RunsToTheEnd step s s' io t → Runs F io t) (in_part : (t : Status) → EndsEarly step s s' io t → RunsInPart F io t) where
+module _ {S : Type 0} (step : S → Happening → EventReply → S → Type 0) (s s' : S) (F : Type 0) (io : Streams)
+    (through : (t : Status) → RunsToTheEnd step s s' io t → Runs F io t) (in_part : (t : Status) → EndsEarly step s s' io t → RunsInPart F io t) where
   ends_over : (status : Status) → status ≢ BadWords → IsRun step s s' io status → ScriptEnds F io status
   ends_over Done words (inl h) = through Done h
   ends_over Done words (inr h) = absurd (in_time (late_end h.0 Done h.1 h.3))
@@ -142,7 +143,8 @@ disk_script_ends F disk left io status new words (inl h) =
 disk_script_ends F disk left io status new words (inr h) =
     away_ends F io status (told_away F io.before io.after IsOpenRefusal h.0 status ((file_facts disk).sectors, h.1.opened.refusals) h.2)
 
-pub away_script : (F : Type 0) (io : Streams) (why : NoRegistry) (status : Status) → IsNoRegistry IsOpenRefusal why → IsTurnedAway (λ r. why ≡ no.Refused r) io.before io.after status → ScriptEnds F io status
+pub away_script : (F : Type 0) (io : Streams) (why : NoRegistry) (status : Status) → IsNoRegistry IsOpenRefusal why
+    → IsTurnedAway (λ r. why ≡ no.Refused r) io.before io.after status → ScriptEnds F io status
 away_script F io why Done is h = absurd h
 away_script F io why Refused is h = inr (h.0, subst (IsNoRegistry IsOpenRefusal) h.1 is, h.2, h.3)
 away_script F io why BadWords is h = absurd h

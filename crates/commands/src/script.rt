@@ -160,11 +160,11 @@ fn run_lines<R: Read, W: Write, G: TakesEvents>(
 /// from the reader than lines were answered.
 ///
 /// The answer to a change that was made is written at once, behind those that wait, and so is S1,
-/// which leaves open what was done, and S2. Other refusals, and answers to listings, binds and lines
-/// that ask nothing, are written together, up to 2 KiB, as long as whole lines are left of what was
-/// read; all of them are written before the reader is asked again, and at the end. So after a fault
-/// of the writer the lines whose answers are open changed nothing, but for the line in work, which
-/// was applied.
+/// which leaves open what was done, and S2. Other refusals, and answers to listings, binds and
+/// lines that ask nothing, are written together, up to 2 KiB, as long as whole lines are left of
+/// what was read; all of them are written before the reader is asked again, and at the end. So
+/// after a fault of the writer the lines whose answers are open changed nothing, but for the line
+/// in work, which was applied.
 pub fn run_script<R: Read, W: Write, G: TakesEvents>(
     alloc: Global,
     reader: &mut R,

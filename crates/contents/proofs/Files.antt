@@ -43,6 +43,7 @@ none_named s name is k d lt named =
     absurd cc
 
 -- what is true of the length that an entry tells is true of the length of the bytes
-pub of_length : {E : Type 0} (P : ℕ → Type 0) (size : ℕ) (result : Result (Vec ℕ) E) → OnOk result (P size) → IfOk result (λ bytes. length bytes.items ≡ size) → IfOk result (λ bytes. P (length bytes.items))
+pub of_length : {E : Type 0} (P : ℕ → Type 0) (size : ℕ) (result : Result (Vec ℕ) E) → OnOk result (P size)
+    → IfOk result (λ bytes. length bytes.items ≡ size) → IfOk result (λ bytes. P (length bytes.items))
 of_length P size (Err e) holds is = tt
 of_length P size (Ok bytes) holds is = subst P (sym is) holds

@@ -33,7 +33,8 @@ counted OtherName count before after failed later so_far = omega (arith, later, 
 counted Unreadable count before after failed later so_far = omega (arith, failed refl, so_far)
 
 -- a finding behind others
-pushed : (P : ℕ → Finding → Type 0) (findings : List Finding) (f : Finding) (position : ℕ) → length findings ≡ position → ((k : ℕ) → k < position → (d : Finding) → P k (get_or findings k d)) → P position f
+pushed : (P : ℕ → Finding → Type 0) (findings : List Finding) (f : Finding) (position : ℕ) → length findings ≡ position
+    → ((k : ℕ) → k < position → (d : Finding) → P k (get_or findings k d)) → P position f
     → (k : ℕ) → k < position + 1 → (d : Finding) → P k (get_or (findings ++ f ∷ []) k d)
 pushed P findings f position count before at k within d = ⊎_elim
     (λ below. subst (P k) (sym (get_or_append_left findings (f ∷ []) d k (omega (arith, below, count)))) (before k below d))
@@ -54,7 +55,8 @@ module _ {D : Type 0} {facts : D → DiskFacts} where
   }
 
   -- one library more
-  pub one_found : {start mid new : Opened D} {position : ℕ} {findings : List Finding} (f : Finding) → position < length start.entries → FoundSoFar facts start mid position findings → IsRead facts mid new
+  pub one_found : {start mid new : Opened D} {position : ℕ} {findings : List Finding} (f : Finding) → position < length start.entries
+      → FoundSoFar facts start mid position findings → IsRead facts mid new
       → ((s : State) → IsAt facts mid s → IsFinding (get_or s.libraries position no_library) f)
       → (f ≡ Unreadable → (facts mid.disk).failures < (facts new.disk).failures)
       → ((d : PlacedEntry) → AreCallsAtMost (file_sectors (get_or mid.entries position d)) (facts mid.disk) (facts new.disk))

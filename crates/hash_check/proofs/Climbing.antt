@@ -63,7 +63,8 @@ step-single c ps from depth at p words lt sound size is h more =
     }
 
 -- where a climb stops
-pub arrived : (c : List ℕ) (ps : List (Option Place)) (from depth at d : ℕ) (p : Place) → Sound c ps → place_at ps at ≡ Some p → Climbs c from depth at → p.depth ≤ depth → Depth c from d → at ≡ walk c from (d - depth)
+pub arrived : (c : List ℕ) (ps : List (Option Place)) (from depth at d : ℕ) (p : Place) → Sound c ps → place_at ps at ≡ Some p
+    → Climbs c from depth at → p.depth ≤ depth → Depth c from d → at ≡ walk c from (d - depth)
 arrived c ps from depth at d p sound is h low top =
     let k = h.on d top in
     let le : k.0 ≤ d = omega (arith, k.2) in
@@ -71,7 +72,8 @@ arrived c ps from depth at d p sound is h low top =
     let same : k.0 ≡ d - depth = omega (arith, here, k.2) in
     k.1 ∙ ap (walk c from) same
 
-pub step-either : (c : List ℕ) (ps : List (Option Place)) (from depth at : ℕ) (p : Place) (next : ℕ) → AreIndices (length c) c → at < length c → Sound c ps → length ps ≡ length c → place_at ps at ≡ Some p
+pub step-either : (c : List ℕ) (ps : List (Option Place)) (from depth at : ℕ) (p : Place) (next : ℕ) → AreIndices (length c) c → at < length c
+    → Sound c ps → length ps ≡ length c → place_at ps at ≡ Some p
     → Climbs c from depth at → depth < p.depth → ((depth ≤ p.landing) × (next ≡ p.jump)) ⊎ (next ≡ slice_index c at) → Step c ps from depth p next
 step-either c ps from depth at p next words lt sound size is h more which = elim which [
   | inl jump ↦ subst (Step c ps from depth p) (sym jump.1) (step-jump c ps from depth at p sound size is h more jump.0)

@@ -64,9 +64,11 @@ pub differ-from-fall : (file symbols : List ℕ) (names : List (List ℕ)) → n
 differ-from-fall file symbols names is h = record {
   differ = λ i j less lt same.
       let count : length names ≡ length symbols = ap length is ∙ length-map symbols (name_of file) in
-      let text : (k : ℕ) → k < length symbols → nth_text names k ≡ name_of file (get_or symbols k 0) = λ k there. ap (λ (l : List (List ℕ)). get_or l k []) is ∙ get_or-map (name_of file) symbols k 0 [] there in
+      let text : (k : ℕ) → k < length symbols → nth_text names k ≡ name_of file (get_or symbols k 0) =
+      λ k there. ap (λ (l : List (List ℕ)). get_or l k []) is ∙ get_or-map (name_of file) symbols k 0 [] there in
       let early : i < length symbols = omega arith in
       let at : i + (j - i - 1) + 1 ≡ j = omega arith in
-      let short : length (nth_text names j) < length (nth_text names i) = subst (λ k. length (nth_text names k) < length (nth_text names i)) at (shorter names i (j - i - 1) h (omega (arith, at, lt, count))) in
+      let short : length (nth_text names j) < length (nth_text names i) =
+      subst (λ k. length (nth_text names k) < length (nth_text names i)) at (shorter names i (j - i - 1) h (omega (arith, at, lt, count))) in
       omega (arith, short, ap length (text i early ∙ same ∙ sym (text j lt)));
 }

@@ -131,7 +131,8 @@ ends-there [] lt = absurd (omega (arith, lt))
 ends-there (x ∷ xs) lt = ends-step (is_text x) x (prefix_len is_text (x ∷ xs)) (prefix_len is_text xs) xs refl refl lt (ends-there xs)
 
 -- a string that ends before the table does has a zero byte behind it
-pub no-end : (table : List ℕ) (off m size : ℕ) → m ≡ min off (length table) → size < length (take (length table - m) (drop m table)) → eqb (get_or (take (length table - m) (drop m table)) size 0) 0 ≡ false
+pub no-end : (table : List ℕ) (off m size : ℕ) → m ≡ min off (length table) → size < length (take (length table - m) (drop m table))
+    → eqb (get_or (take (length table - m) (drop m table)) size 0) 0 ≡ false
     → length (string_at table off) ≡ size → ⊥
 unfolding string_at is_text
 no-end table off m size at lt other is =

@@ -86,11 +86,13 @@ pub lane-put : (file symbols hashes places ends : List ℕ) (k symbol place end 
     → IsLane file (get_or (set symbols k symbol) j 0) (get_or (set hashes k 0) j 0) (get_or (set places k place) j 0) (get_or (set ends k end) j 0)
 lane-put file symbols hashes places ends k symbol place end in-s in-h in-p in-e old new j lt = elim (cases_eq j k) [
   | inl is ↦
-      let at : (xs : List ℕ) (x : ℕ) → k < length xs → get_or (set xs k x) j 0 ≡ x = λ (xs : List ℕ) (x : ℕ) (within : k < length xs). ap (λ n. get_or (set xs k x) n 0) is ∙ get_or-set_same xs k x 0 within in
+      let at : (xs : List ℕ) (x : ℕ) → k < length xs → get_or (set xs k x) j 0 ≡ x =
+      λ (xs : List ℕ) (x : ℕ) (within : k < length xs). ap (λ n. get_or (set xs k x) n 0) is ∙ get_or-set_same xs k x 0 within in
       same-lane file symbol 0 place end (get_or (set symbols k symbol) j 0) (get_or (set hashes k 0) j 0) (get_or (set places k place) j 0) (get_or (set ends k end) j 0)
       (at symbols symbol in-s) (at hashes 0 in-h) (at places place in-p) (at ends end in-e) new
   | inr other ↦
-      same-lane file (get_or symbols j 0) (get_or hashes j 0) (get_or places j 0) (get_or ends j 0) (get_or (set symbols k symbol) j 0) (get_or (set hashes k 0) j 0) (get_or (set places k place) j 0) (get_or (set ends k end) j 0)
+      same-lane file (get_or symbols j 0) (get_or hashes j 0) (get_or places j 0) (get_or ends j 0) (get_or (set symbols k symbol) j 0)
+      (get_or (set hashes k 0) j 0) (get_or (set places k place) j 0) (get_or (set ends k end) j 0)
       (get_or-set_other symbols k j symbol 0 other) (get_or-set_other hashes k j 0 0 other) (get_or-set_other places k j place 0 other) (get_or-set_other ends k j end 0 other) (old j lt)
 ]
 

@@ -45,7 +45,8 @@ held-none names marks numbers size no-marks none = record {
 -- from a string to one that doesn't come before it
 pub held-cut : (names : List (List ℕ)) (last next old new numbers : List ℕ) (common : ℕ) → AreHeld names last old numbers → is_lt (slice_cmp nat_cmp next last) ≡ false
     → common ≤ length next → take common last ≡ take common next → ((n : ℕ) → n ≤ length last → n ≤ length next → take n last ≡ take n next → n ≤ common)
-    → ((n : ℕ) → n < common + 1 → get_or new n 0 ≡ get_or old n 0) → ((n : ℕ) → common + 1 ≤ n → n < length last + 1 → get_or new n 0 ≡ 0) → ((n : ℕ) → length last + 1 ≤ n → get_or new n 0 ≡ get_or old n 0)
+    → ((n : ℕ) → n < common + 1 → get_or new n 0 ≡ get_or old n 0) → ((n : ℕ) → common + 1 ≤ n → n < length last + 1 → get_or new n 0 ≡ 0)
+    → ((n : ℕ) → length last + 1 ≤ n → get_or new n 0 ≡ get_or old n 0)
     → AreHeld names next new numbers
 held-cut names last next old new numbers common h ordered fits agree most low cleared high =
     let early : (n : ℕ) → get_or new n 0 ≢ 0 → (n ≤ common) × (get_or new n 0 ≡ get_or old n 0) =
@@ -83,7 +84,8 @@ held-cut names last next old new numbers common h ordered fits agree most low cl
     }
 
 -- the same of strings that are read from their beginnings
-pub held-next : (names : List (List ℕ)) (last next old new numbers : List ℕ) (common past : ℕ) → past ≡ length last + 1 → AreHeld names (reverse last) old numbers → is_lt (slice_cmp nat_cmp (reverse next) (reverse last)) ≡ false
+pub held-next : (names : List (List ℕ)) (last next old new numbers : List ℕ) (common past : ℕ) → past ≡ length last + 1
+    → AreHeld names (reverse last) old numbers → is_lt (slice_cmp nat_cmp (reverse next) (reverse last)) ≡ false
     → common ≤ length next → take common (reverse last) ≡ take common (reverse next) → ((n : ℕ) → n ≤ length last → n ≤ length next → take n (reverse last) ≡ take n (reverse next) → n ≤ common)
     → ((n : ℕ) → n < common + 1 → get_or new n 0 ≡ get_or old n 0) → ((n : ℕ) → common + 1 ≤ n → n < past → get_or new n 0 ≡ 0) → ((n : ℕ) → past ≤ n → get_or new n 0 ≡ get_or old n 0)
     → AreHeld names (reverse next) new numbers

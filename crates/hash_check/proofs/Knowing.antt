@@ -74,12 +74,14 @@ known-new ps i new lt = record { place = new; is = get_or-set_same ps i (Some ne
 says-set : (c : List ℕ) (ps : List (Option Place)) (i : ℕ) (new : Place) (k : ℕ) (p : Place) → Says c ps k p → Says c (set ps i (Some new)) k p
 says-set c ps i new k p s = record { depth = s.depth; landing = s.landing; ahead = s.ahead; jump = s.jump; along = λ j le. known-set ps i new (walk c k j) (s.along j le) }
 
-along-before : (c : List ℕ) (ps : List (Option Place)) (i : ℕ) (next new : Place) → i < length ps → Says c ps (slice_index c i) next → (j : ℕ) → j ≤ next.depth + 1 → Known (set ps i (Some new)) (walk c i j)
+along-before : (c : List ℕ) (ps : List (Option Place)) (i : ℕ) (next new : Place) → i < length ps → Says c ps (slice_index c i) next → (j : ℕ)
+    → j ≤ next.depth + 1 → Known (set ps i (Some new)) (walk c i j)
 along-before c ps i next new lt s zero le = subst (Known (set ps i (Some new))) (sym (walk-zero c i)) (known-new ps i new lt)
 along-before c ps i next new lt s (suc j) le = let less : j ≤ next.depth = omega arith in
     subst (Known (set ps i (Some new))) (sym (walk-suc c i j)) (known-set ps i new (walk c (slice_index c i) j) (s.along j less))
 
-says-before : (c : List ℕ) (ps : List (Option Place)) (i : ℕ) (next new : Place) → i ≢ 0 → i < length ps → Says c ps (slice_index c i) next → IsBefore c (slice_index c i) next new → Says c (set ps i (Some new)) i new
+says-before : (c : List ℕ) (ps : List (Option Place)) (i : ℕ) (next new : Place) → i ≢ 0 → i < length ps → Says c ps (slice_index c i) next
+    → IsBefore c (slice_index c i) next new → Says c (set ps i (Some new)) i new
 says-before c ps i next new some lt s b = record {
   depth = subst (Depth c i) (sym b.depth) (depth-before c i next.depth some s.depth);
   landing = omega (arith, b.depth, b.landing);

@@ -52,7 +52,8 @@ pub popped-index : (c : List ℕ) (from : ℕ) (path front : List ℕ) (i : ℕ)
 popped-index c from path front i words lt h e =
     subst (λ j. j < length c) (sym (path-last c from front i (subst (IsPath c from) e h))) (walk-index c from (length front) words lt)
 
-pub popped-known : (c : List ℕ) (ps : List (Option Place)) (from : ℕ) (path front : List ℕ) (i : ℕ) → IsPath c from path → Known ps (walk c from (length path)) → path ≡ front ++ i ∷ [] → Known ps (slice_index c i)
+pub popped-known : (c : List ℕ) (ps : List (Option Place)) (from : ℕ) (path front : List ℕ) (i : ℕ) → IsPath c from path
+    → Known ps (walk c from (length path)) → path ≡ front ++ i ∷ [] → Known ps (slice_index c i)
 popped-known c ps from path front i h known e =
     let longer : length path ≡ length front + 1 = ap length e ∙ length_push front i in
     subst (Known ps) (ap (walk c from) longer ∙ walk-next c from (length front) ∙ ap (slice_index c) (sym (path-last c from front i (subst (IsPath c from) e h)))) known
@@ -92,7 +93,8 @@ own-path c from path h = elim (cases_lt 0 (length path)) [
   | inr none ↦ path-none c (slice_index path 0) path (omega arith)
 ]
 
-pub own-end : (c : List ℕ) (ps : List (Option Place)) (from : ℕ) (path : List ℕ) → IsPath c from path → Known ps 0 → Known ps (walk c from (length path)) → Known ps (walk c (slice_index path 0) (length path))
+pub own-end : (c : List ℕ) (ps : List (Option Place)) (from : ℕ) (path : List ℕ) → IsPath c from path → Known ps 0
+    → Known ps (walk c from (length path)) → Known ps (walk c (slice_index path 0) (length path))
 own-end c ps from path h zero end = elim (cases_lt 0 (length path)) [
   | inl some ↦ subst (λ f. Known ps (walk c f (length path))) (path-first c from path h some) end
   | inr none ↦
@@ -100,7 +102,8 @@ own-end c ps from path h zero end = elim (cases_lt 0 (length path)) [
       subst (Known ps) (first-none path no ∙ sym (walk-zero c (slice_index path 0)) ∙ ap (walk c (slice_index path 0)) (sym no)) zero
 ]
 
-pub own-known : (c : List ℕ) (old new : List (Option Place)) (from : ℕ) (path : List ℕ) → IsPath c from path → Keeps old new → Known old (walk c from (length path)) → Known new (slice_index path 0) → Known new from
+pub own-known : (c : List ℕ) (old new : List (Option Place)) (from : ℕ) (path : List ℕ) → IsPath c from path → Keeps old new
+    → Known old (walk c from (length path)) → Known new (slice_index path 0) → Known new from
 own-known c old new from path h keeps end first = elim (cases_lt 0 (length path)) [
   | inl some ↦ subst (Known new) (sym (path-first c from path h some)) first
   | inr none ↦ let no : length path ≡ 0 = omega arith in keeps.known from (subst (Known old) (ap (walk c from) no ∙ walk-zero c from) end)

@@ -21,7 +21,9 @@ prefix p f a (suc n) zero lt before at =
 prefix p f a (suc n) (suc d) lt before at =
     let here : p (f a) ≡ true = let e : a + 0 ≡ a = omega arith in ap (λ j. p (f j)) (sym e) ∙ before 0 (omega arith) in
     let step : (k : ℕ) → a + 1 + k ≡ a + suc k = λ k. omega arith in
-    let rest : prefix_len p (map f (range_with_len (a + 1) n)) ≡ d = prefix p f (a + 1) n d (omega arith) (λ k less. ap (λ j. p (f j)) (step k) ∙ before (suc k) (omega arith)) (ap (λ j. p (f j)) (step d) ∙ at) in
+    let rest : prefix_len p (map f (range_with_len (a + 1) n)) ≡ d =
+    prefix p f (a + 1) n d (omega arith) (λ k less. ap (λ j. p (f j)) (step k) ∙ before (suc k) (omega arith))
+    (ap (λ j. p (f j)) (step d) ∙ at) in
     ap (λ b. cond b (1 + prefix_len p (map f (range_with_len (a + 1) n))) 0) here ∙ omega (arith, rest)
 
 cut : (p : ℕ → Bool) (f : ℕ → ℕ) (a n d : ℕ) → d < n → ((k : ℕ) → k < d → p (f (a + k)) ≡ true) → p (f (a + d)) ≡ false → take_while p (map f (range_with_len a n)) ≡ map f (range_with_len a d)
@@ -37,7 +39,8 @@ hit p f a (suc n) zero lt before at =
 hit p f a (suc n) (suc d) lt before at =
     let here : p (f a) ≡ false = let e : a + 0 ≡ a = omega arith in ap (λ j. p (f j)) (sym e) ∙ before 0 (omega arith) in
     let step : (k : ℕ) → a + 1 + k ≡ a + suc k = λ k. omega arith in
-    let rest : up_to p (map f (range_with_len (a + 1) n)) ≡ d + 1 = hit p f (a + 1) n d (omega arith) (λ k less. ap (λ j. p (f j)) (step k) ∙ before (suc k) (omega arith)) (ap (λ j. p (f j)) (step d) ∙ at) in
+    let rest : up_to p (map f (range_with_len (a + 1) n)) ≡ d + 1 =
+    hit p f (a + 1) n d (omega arith) (λ k less. ap (λ j. p (f j)) (step k) ∙ before (suc k) (omega arith)) (ap (λ j. p (f j)) (step d) ∙ at) in
     ap (λ b. cond b 1 (up_to p (map f (range_with_len (a + 1) n)) + 1)) here ∙ omega (arith, rest)
 
 miss : (p : ℕ → Bool) (f : ℕ → ℕ) (a n : ℕ) → ((k : ℕ) → k < n → p (f (a + k)) ≡ false) → up_to p (map f (range_with_len a n)) ≡ n
@@ -82,7 +85,8 @@ compared-most c from words lt ends =
     let size : length (walked c from) ≡ d.0 = ap length (walked-is c from d.0 words lt d.1) ∙ length-map-range_with_len (walk c from) 0 d.0 in
     omega (arith, size, depth-small c from d.0 words lt d.1)
 
-pub compared-hit : (c : List ℕ) (from n : ℕ) (p : ℕ → Bool) → AreIndices (length c) c → from < length c → Ends c from → Searching c from n p → walk c from n ≢ 0 → p (walk c from n) ≡ true → n + 1 ≡ up_to p (walked c from)
+pub compared-hit : (c : List ℕ) (from n : ℕ) (p : ℕ → Bool) → AreIndices (length c) c → from < length c → Ends c from → Searching c from n p
+    → walk c from n ≢ 0 → p (walk c from n) ≡ true → n + 1 ≡ up_to p (walked c from)
 compared-hit c from n p words lt ends h some is =
     let d = depth-from-ends c from ends in
     let w = walked-is c from d.0 words lt d.1 in

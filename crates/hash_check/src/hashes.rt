@@ -1,6 +1,7 @@
 // The hashes of several names at a time.
 
-ghost use Rattle.std.specs.Prelude.{ℕ, ◌≡◌, ◌<◌, ◌≤◌, ◌+◌, ◌*◌, length, take, drop, slice_index, fold};
+ghost use Rattle.std.specs.Prelude.{ℕ, ◌≡◌, ◌<◌, ◌≤◌, ◌+◌, ◌*◌, length};
+ghost use Rattle.std.specs.Prelude.{take, drop, slice_index, fold};
 ghost use Rattle.hash_check.specs.Hash.{hash_step};
 
 use crate::hash::hash_step;

@@ -1,6 +1,7 @@
 // Names whose hashes are made together.
 
-ghost use Rattle.std.specs.Prelude.{ℕ, List, true, ◌≡◌, ◌≢◌, ◌<◌, ◌≤◌, ◌-◌, ◌+◌, ◌^◌, slice_index, set};
+ghost use Rattle.std.specs.Prelude.{ℕ, List, true, ◌≡◌, ◌≢◌, ◌<◌, ◌≤◌, ◌-◌};
+ghost use Rattle.std.specs.Prelude.{◌+◌, ◌^◌, slice_index, set};
 ghost use Rattle.elf_dynamic.specs.Strings.{name_of};
 ghost use Rattle.hash_check.specs.Hash.{elf_hash};
 ghost use Rattle.hash_check.specs.Export.{is_exported};

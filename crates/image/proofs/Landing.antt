@@ -31,7 +31,8 @@ symbols_fine : (file : List ℕ) → relocation_refusal file ≡ None → has_ba
 unfolding relocation_refusal
 symbols_fine file h = when_none RelocationSymbol (has_bad_relocation_symbol file) (none_at (relocation_tests file) 1 h)
 
-lacks-none : (file : List ℕ) (i : ℕ) (r : Relocation) (b : Bool) → lacks_symbol file r ≡ b → has_bad_relocation_symbol file ≡ false → slice_get (relocations file) i ≡ Some r → lacks_symbol file r ≡ false
+lacks-none : (file : List ℕ) (i : ℕ) (r : Relocation) (b : Bool) → lacks_symbol file r ≡ b → has_bad_relocation_symbol file ≡ false
+    → slice_get (relocations file) i ≡ Some r → lacks_symbol file r ≡ false
 unfolding has_bad_relocation_symbol
 lacks-none file i r false e fine at = e
 lacks-none file i r true e fine at =

@@ -6,7 +6,8 @@ ghost use Rattle.elf_dynamic.specs.Symbol.{symbols};
 ghost use Rattle.scope.specs.Target.{target};
 ghost use Rattle.image.specs.Placement.{named};
 ghost use Rattle.image.specs.Relocating.{base_at, file_at, name_at, own_address, symbol_value};
-ghost use Rattle.image.specs.inside.Layout.{AllAccepted, IsPlaced, Stacked, IsSymbolName, with_bases};
+ghost use Rattle.image.specs.inside.Layout.{AllAccepted, IsPlaced, Stacked};
+ghost use Rattle.image.specs.inside.Layout.{IsSymbolName, with_bases};
 
 use elf_dynamic::Object;
 use hash_check::KeyedName;

@@ -94,7 +94,8 @@ step_state p list (reply.Bound i) p' h kept = h.3.state
 module _ {D : Type 0} (facts : D → DiskFacts) where
   goes_state : (p : Point D) (q : Request) (r : Reply) (p' : Point D) → Goes facts p q r p' → p'.state ≡ cond (is_acknowledged r) (accepted p.state q) p.state
   goes_state p q r p' goes = ⊎_elim
-      (λ applied. step_state (phase_of facts p.registry p.state) q r (phase_of facts p'.registry p'.state) applied.applied.step (⊎_elim (λ at. inl at.stored.usable) (λ failed. inr failed.1) applied.applied.kept))
+      (λ applied. step_state (phase_of facts p.registry p.state) q r (phase_of facts p'.registry p'.state) applied.applied.step
+      (⊎_elim (λ at. inl at.stored.usable) (λ failed. inr failed.1) applied.applied.kept))
       (λ nothing. subst (λ y. p'.state ≡ cond (is_acknowledged y) (accepted p.state q) p.state) (sym (goes.answered.reopen.1 nothing.0)) (ap (λ (x : Point D). x.state) nothing.1))
       goes.applied
 
@@ -156,7 +157,8 @@ module _ {D : Type 0} (facts : D → DiskFacts) where
   leads_length p (x ∷ xs) [] h = absurd h
 
   -- one more
-  pub leads_more : (p u : Point D) (x : Exchange) (xs : List Exchange) (ts : List (Point D)) → LeadsThrough facts p xs ts → Moves facts (last_of p ts) x u → LeadsThrough facts p (xs ++ x ∷ []) (ts ++ u ∷ [])
+  pub leads_more : (p u : Point D) (x : Exchange) (xs : List Exchange) (ts : List (Point D)) → LeadsThrough facts p xs ts
+      → Moves facts (last_of p ts) x u → LeadsThrough facts p (xs ++ x ∷ []) (ts ++ u ∷ [])
   leads_more p u x [] [] h moves = (moves, tt)
   leads_more p u x (y ∷ xs) (t ∷ ts) h moves = (h.0, leads_more t u x xs ts h.1 moves)
   leads_more p u x [] (t ∷ ts) h moves = absurd h

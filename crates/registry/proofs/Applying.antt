@@ -133,7 +133,8 @@ module _ {D : Type 0} (facts : D → DiskFacts) (old : Opened D) (s : State) (at
   -- A change that the store was asked for, behind all tests but its own, whose first refusal is this one.
   module _ (new : Opened D) (first : Option StoreRefusal) (change : IsChange q) (tested : refusal_at (phase_of facts old s) q ≡ option_map refusal_of first)
       (leaves : LeavesOnly (facts old.disk) (facts new.disk) (λ m. sectors.Stands m s ⊎ sectors.Stands m (accepted s q))) where
-    within : (m : List Sector) (answer : Reply) (s' : State) → (sectors.Stands m (accepted s q) → MayLeaveBy sectors.Stands before q answer s' m) → sectors.Stands m s ⊎ sectors.Stands m (accepted s q) → MayLeaveBy sectors.Stands before q answer s' m
+    within : (m : List Sector) (answer : Reply) (s' : State) → (sectors.Stands m (accepted s q) → MayLeaveBy sectors.Stands before q answer s' m)
+        → sectors.Stands m s ⊎ sectors.Stands m (accepted s q) → MayLeaveBy sectors.Stands before q answer s' m
     within m answer s' new_stands h = ⊎_elim inl new_stands h
 
     -- it did
@@ -154,7 +155,8 @@ module _ {D : Type 0} (facts : D → DiskFacts) (old : Opened D) (s : State) (at
     )
 
     -- a call of its failed
-    change_broken : IsAnswer first (Err e.Device) → first ≢ Some e.Device → (facts old.disk).failures < (facts new.disk).failures → IsTrue new.failed → AppliesUntested facts old new s q (Refused Device)
+    change_broken : IsAnswer first (Err e.Device) → first ≢ Some e.Device → (facts old.disk).failures < (facts new.disk).failures → IsTrue new.failed
+        → AppliesUntested facts old new s q (Refused Device)
     change_broken answer tests risen failed =
         let untested : refusal_at before q ≡ None = tested ∙ ap (option_map refusal_of) (none_before first answer tests) in (
           s,
@@ -175,19 +177,24 @@ module _ {D : Type 0} (facts : D → DiskFacts) (old : Opened D) (s : State) (at
         → AppliesUntested facts old new s q (Refused (refusal_of refusal))
     change_refused e.Device answer tests usable may device same memory = change_broken answer tests (device refl).0 (device refl).1
     change_refused e.OutOfMemory answer tests usable may device same memory =
-        subst (λ r. AppliesUntested facts old r s q (Refused OutOfMemory)) (sym (same (λ is. cc))) (untouched (Refused OutOfMemory) (change_step q change before before (Refused OutOfMemory) (at.usable, memory refl, leads_same before)))
+        subst (λ r. AppliesUntested facts old r s q (Refused OutOfMemory)) (sym (same (λ is. cc)))
+        (untouched (Refused OutOfMemory) (change_step q change before before (Refused OutOfMemory) (at.usable, memory refl, leads_same before)))
     change_refused e.Full answer tests usable may device same memory =
         subst (λ r. AppliesUntested facts old r s q (Refused Full)) (sym (same (λ is. cc)))
-        (untouched (Refused Full) (change_step q change before before (Refused Full) (at.usable, tested ∙ ap (option_map refusal_of) (is_first first e.Full answer (λ is. cc) (λ is. cc)), leads_same before)))
+        (untouched (Refused Full) (change_step q change before before (Refused Full)
+        (at.usable, tested ∙ ap (option_map refusal_of) (is_first first e.Full answer (λ is. cc) (λ is. cc)), leads_same before)))
     change_refused e.Fragmented answer tests usable may device same memory =
         subst (λ r. AppliesUntested facts old r s q (Refused Fragmented)) (sym (same (λ is. cc)))
-        (untouched (Refused Fragmented) (change_step q change before before (Refused Fragmented) (at.usable, tested ∙ ap (option_map refusal_of) (is_first first e.Fragmented answer (λ is. cc) (λ is. cc)), leads_same before)))
+        (untouched (Refused Fragmented) (change_step q change before before (Refused Fragmented)
+        (at.usable, tested ∙ ap (option_map refusal_of) (is_first first e.Fragmented answer (λ is. cc) (λ is. cc)), leads_same before)))
     change_refused e.TooMany answer tests usable may device same memory =
         subst (λ r. AppliesUntested facts old r s q (Refused TooMany)) (sym (same (λ is. cc)))
-        (untouched (Refused TooMany) (change_step q change before before (Refused TooMany) (at.usable, tested ∙ ap (option_map refusal_of) (is_first first e.TooMany answer (λ is. cc) (λ is. cc)), leads_same before)))
+        (untouched (Refused TooMany) (change_step q change before before (Refused TooMany)
+        (at.usable, tested ∙ ap (option_map refusal_of) (is_first first e.TooMany answer (λ is. cc) (λ is. cc)), leads_same before)))
     change_refused e.GenerationEnd answer tests usable may device same memory =
         subst (λ r. AppliesUntested facts old r s q (Refused GenerationEnd)) (sym (same (λ is. cc)))
-        (untouched (Refused GenerationEnd) (change_step q change before before (Refused GenerationEnd) (at.usable, tested ∙ ap (option_map refusal_of) (is_first first e.GenerationEnd answer (λ is. cc) (λ is. cc)), leads_same before)))
+        (untouched (Refused GenerationEnd) (change_step q change before before (Refused GenerationEnd)
+        (at.usable, tested ∙ ap (option_map refusal_of) (is_first first e.GenerationEnd answer (λ is. cc) (λ is. cc)), leads_same before)))
     change_refused e.Reopen answer tests usable may device same memory = absurd (usable refl)
     change_refused e.NotFormatted answer tests usable may device same memory = absurd may
     change_refused e.AlreadyFormatted answer tests usable may device same memory = absurd may
@@ -196,7 +203,8 @@ module _ {D : Type 0} (facts : D → DiskFacts) (old : Opened D) (s : State) (at
     change_refused e.OldFormat answer tests usable may device same memory = absurd may
 
 -- a command and its answer by other words
-pub applies_as : {D : Type 0} (facts : D → DiskFacts) (old new : Opened D) (s : State) {q q' : Request} {r r' : Reply} → q' ≡ q → r' ≡ r → AppliesUntested facts old new s q r → AppliesUntested facts old new s q' r'
+pub applies_as : {D : Type 0} (facts : D → DiskFacts) (old new : Opened D) (s : State) {q q' : Request} {r r' : Reply} → q' ≡ q → r' ≡ r
+    → AppliesUntested facts old new s q r → AppliesUntested facts old new s q' r'
 applies_as facts old new s {q = q} {r' = r'} asked told applies = subst (λ x. AppliesUntested facts old new s x r') (sym asked) (subst (λ y. AppliesUntested facts old new s q y) (sym told) applies)
 
 -- a bind is accepted with an image alone

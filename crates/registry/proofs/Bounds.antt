@@ -1,5 +1,6 @@
 -- How many steps a binder makes at most, and how many sectors one of them reads at most.
-use Rattle.std.proofs.Common.{◌≡◌, ℕ, zero, suc, ◌+◌, ◌-◌, ◌<◌, ◌≤◌, List, [], ◌∷◌, length, map, take, drop, get_or, sum_by, nat_eq, Option, Some, None, IsTrue, refl, sym, ap, subst, ◌∙◌, ⊎_elim, arith}
+use Rattle.std.proofs.Common.{◌≡◌, ℕ, zero, suc, ◌+◌, ◌-◌, ◌<◌, ◌≤◌, List, [], ◌∷◌, length, map, take, drop, get_or, sum_by, nat_eq, Option, Some}
+use Rattle.std.proofs.Common.{None, IsTrue, refl, sym, ap, subst, ◌∙◌, ⊎_elim, arith}
 use Rattle.std.specs.Prelude.{All}
 use Rattle.std.specs.List.{IsDistinct}
 use Rattle.std.proofs.lemmas.Bool.{cases_lt}
@@ -46,7 +47,8 @@ first_place : (places more : List ℕ) (k : ℕ) → take (suc k) places ≡ 0 �
 first_place [] more k e = cc
 first_place (p ∷ places) more k e = ap (λ l. get_or l 0 1) e
 
-module _ {D : Type 0} (facts : D → DiskFacts) (taken : Opened D) (holds : IsTrue (facts taken.disk).honest → HoldsNow (facts taken.disk)) (s : State) (at : IsAt facts taken s) (own : HaveOwnNames taken.entries)
+module _ {D : Type 0} (facts : D → DiskFacts) (taken : Opened D) (holds : IsTrue (facts taken.disk).honest → HoldsNow (facts taken.disk)) (s : State)
+    (at : IsAt facts taken s) (own : HaveOwnNames taken.entries)
     (inside : All (λ p. p < length taken.entries) (listed_preloads taken.root)) (once : IsDistinct nat_eq (listed_preloads taken.root)) (program : List ℕ) where
   abbrev libraries : List Named
   libraries = objects s
@@ -99,7 +101,8 @@ module _ {D : Type 0} (facts : D → DiskFacts) (taken : Opened D) (holds : IsTr
         let file : Library = get_or s.libraries (p - 1) no_library in
         let is : object_of file ≡ object p = library-at facts program taken holds s at p file above below refl in
         let there : get_or (load_order program libraries numbers) (suc k) (object 0) ≡ object p =
-        ap (λ (i : ℕ). get_or (load_order program libraries numbers) i (object 0)) (sym next) ∙ ap (λ (l : List Named). get_or l (k + 1) (object 0)) order_is ∙ get_or-map object places (k + 1) 0 (object 0) inner in
+        ap (λ (i : ℕ). get_or (load_order program libraries numbers) i (object 0)) (sym next)
+        ∙ ap (λ (l : List Named). get_or l (k + 1) (object 0)) order_is ∙ get_or-map object places (k + 1) 0 (object 0) inner in
         let its : P file = All-get_or P s.libraries (p - 1) no_library (omega (arith, above, below, count, length-map s.libraries object_of)) each in
         subst Of (is ∙ sym there) its
       where

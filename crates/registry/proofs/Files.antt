@@ -75,11 +75,13 @@ module _ {version : Version} {D : Type 0} {facts : D → DiskFacts} where
   }
 
   -- all of them
-  pub all_admitted : {start now : Opened D} {position : ℕ} → AdmittedSoFar version facts start now position → (s : State) → IsAtBy version facts start s → length s.libraries ≤ position → All IsLibrary s.libraries
+  pub all_admitted : {start now : Opened D} {position : ℕ} → AdmittedSoFar version facts start now position → (s : State)
+      → IsAtBy version facts start s → length s.libraries ≤ position → All IsLibrary s.libraries
   all_admitted so_far s at le k d lt =
       subst IsLibrary (get_or_default s.libraries k no_library d lt) (so_far.each s at k (omega (arith, lt, le)))
 
   -- a reading behind calls that keep what a stop may leave
-  pub leaves_after : {start : DiskFacts} {old new : Opened D} → IsTrue start.honest → (facts old.disk).honest ≡ start.honest → LeavesOnly start (facts old.disk) (Mixture start) → IsReadBy version facts old new → LeavesOnly start (facts new.disk) (Mixture start)
+  pub leaves_after : {start : DiskFacts} {old new : Opened D} → IsTrue start.honest → (facts old.disk).honest ≡ start.honest
+      → LeavesOnly start (facts old.disk) (Mixture start) → IsReadBy version facts old new → LeavesOnly start (facts new.disk) (Mixture start)
   leaves_after {start = start} {old = old} honest same so_far read =
       goes_on (Mixture start) so_far (weaken (Mixture (facts old.disk)) (Mixture start) (left_now (Mixture start) so_far) (read.leaves (subst IsTrue (sym same) honest)))

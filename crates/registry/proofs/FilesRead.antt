@@ -1,5 +1,6 @@
 -- Files that are read one after the other as the queue of a load order is walked.
-use Rattle.std.proofs.Common.{◌≡◌, ℕ, zero, suc, ◌+◌, ◌-◌, ◌<◌, ◌≤◌, List, [], ◌∷◌, ◌++◌, length, map, take, drop, get_or, nat_eq, Option, None, IsTrue, refl, sym, ap, subst, ◌∙◌, arith, false, append-nil}
+use Rattle.std.proofs.Common.{◌≡◌, ℕ, zero, suc, ◌+◌, ◌-◌, ◌<◌, ◌≤◌, List, [], ◌∷◌, ◌++◌, length, map, take, drop, get_or, nat_eq, Option, None}
+use Rattle.std.proofs.Common.{IsTrue, refl, sym, ap, subst, ◌∙◌, arith, false, append-nil}
 use Rattle.std.specs.Prelude.{All}
 use Rattle.std.specs.List.{IsDistinct, filter_map, flat_map, find}
 use Rattle.std.specs.Option.{option_or}
@@ -80,13 +81,16 @@ place-above places i first distinct lt =
     by (suc k) some = omega arith
 
 -- the object that a walk has come to stands at this place of the load order
-pub order-at : (program : List ℕ) (libraries : List Named) (preloads places : List ℕ) (i : ℕ) → IsReached program libraries preloads places i → i < length places → length places ≤ length (available program libraries)
-    → (more : List Named) × (load_order program libraries preloads ≡ map (object_at (available program libraries)) (take i places) ++ object_at (available program libraries) (get_or places i 0) ∷ more)
+pub order-at : (program : List ℕ) (libraries : List Named) (preloads places : List ℕ) (i : ℕ) → IsReached program libraries preloads places i
+    → i < length places → length places ≤ length (available program libraries)
+    → (more : List Named) × (load_order program libraries preloads ≡ map (object_at (available program libraries)) (take i places)
+    ++ object_at (available program libraries) (get_or places i 0) ∷ more)
 unfolding load_order load_places
 order-at program libraries preloads places i reached lt few =
     let object = object_at (available program libraries) in
     let x : ℕ = get_or places i 0 in
-    let begins = at-begins (needs_of program libraries) (length (available program libraries)) (level_0 preloads) places i x (reached-at (needs_of program libraries) (length (available program libraries)) (level_0 preloads) places i reached lt few) in
+    let begins = at-begins (needs_of program libraries) (length (available program libraries)) (level_0 preloads) places i x
+    (reached-at (needs_of program libraries) (length (available program libraries)) (level_0 preloads) places i reached lt few) in
     (map object begins.more, ap (map object) begins.begins ∙ map-append object (take i places) (x ∷ begins.more))
 
 -- what is so of each of a list behind a first one is so of one in it
@@ -224,7 +228,8 @@ module _ {D : Type 0} (facts : D → DiskFacts) (program : List ℕ) (start : Op
       let front : List Named = map object (take (n + 1) places) in
       let some : 0 < length front = omega (arith, length-map (take (n + 1) places) object, length-take (n + 1) places, lt) in
       let its : IsLibrary (record { name = (object p).name; bytes = (object p).file }) =
-      one_of (λ o. IsLibrary (record { name = o.name; bytes = o.file })) front (object p) ordered.0 some (subst (λ os. All (λ o. IsLibrary (record { name = o.name; bytes = o.file })) (drop 1 os)) ordered.1 all) in
+      one_of (λ o. IsLibrary (record { name = o.name; bytes = o.file })) front (object p) ordered.0 some
+      (subst (λ os. All (λ o. IsLibrary (record { name = o.name; bytes = o.file })) (drop 1 os)) ordered.1 all) in
       subst (λ (o : Named). IsLibrary (record { name = o.name; bytes = o.file })) (sym (library-at s at p l above below refl)) its
 
   whole-walked : (places : List ℕ) (n : ℕ) → n < length places → length places ≤ n + 1 → walked places n ≡ drop 1 places
@@ -253,7 +258,8 @@ module _ {D : Type 0} (facts : D → DiskFacts) (program : List ℕ) (start : Op
     where
       by : (fs : List Library) → All IsLibrary fs → All (λ o. IsLibrary (record { name = o.name; bytes = o.file })) (map object_of fs)
       by [] all = All-nil (λ (o : Named). IsLibrary (record { name = o.name; bytes = o.file }))
-      by (f ∷ fs) all = All-cons (λ (o : Named). IsLibrary (record { name = o.name; bytes = o.file })) (object_of f) (map object_of fs) (All-head IsLibrary f fs all) (by fs (All-tail IsLibrary f fs all))
+      by (f ∷ fs) all = All-cons (λ (o : Named). IsLibrary (record { name = o.name; bytes = o.file })) (object_of f) (map object_of fs)
+          (All-head IsLibrary f fs all) (by fs (All-tail IsLibrary f fs all))
 
   -- and the first missing name is noted
   pub missing_read : {needs : Needs} {files : List Library} → IsWalked facts program start needs files → length needs.places.places ≤ length files + 1

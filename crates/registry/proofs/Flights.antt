@@ -1,5 +1,6 @@
 -- Binders on their flights, by what their walks have found.
-use Rattle.std.proofs.Common.{◌≡◌, ℕ, suc, ◌+◌, ◌-◌, ◌<◌, ◌≤◌, List, [], ◌∷◌, ◌++◌, length, map, take, drop, get_or, sum_by, Option, Some, None, Result, Ok, Err, IsTrue, IsFalse, Bor, inl, inr, ⊎_elim, refl, sym, ap, subst, ◌∙◌, arith}
+use Rattle.std.proofs.Common.{◌≡◌, ℕ, suc, ◌+◌, ◌-◌, ◌<◌, ◌≤◌, List, [], ◌∷◌, ◌++◌, length, map, take, drop, get_or, sum_by, Option, Some, None}
+use Rattle.std.proofs.Common.{Result, Ok, Err, IsTrue, IsFalse, Bor, inl, inr, ⊎_elim, refl, sym, ap, subst, ◌∙◌, arith}
 use Rattle.std.specs.Prelude.{◌⊎◌, ◌↔◌, IfErr, IfOk}
 use Rattle.std.specs.Option.{option_map}
 use Rattle.std.proofs.lemmas.Bool.{false≢true}
@@ -104,7 +105,8 @@ module _ {D : Type 0} (facts : D → DiskFacts) {now : Opened D} {binder : Bindi
   flies_beside new takes = flies_with (snapshot_beside facts flies.snapshot takes)
 
   -- and as others are ended
-  pub flies_left : (new : Opened D) (handles : List ℕ) → LetsAllGo facts now new handles → ((i : ℕ) → i < length binder.snapshot.handles → 0 < holders_of new.held (get_or binder.snapshot.handles i 0)) → Flies facts new binder flight
+  pub flies_left : (new : Opened D) (handles : List ℕ) → LetsAllGo facts now new handles
+      → ((i : ℕ) → i < length binder.snapshot.handles → 0 < holders_of new.held (get_or binder.snapshot.handles i 0)) → Flies facts new binder flight
   flies_left new handles gone still = flies_with (snapshot_left facts flies.snapshot gone still)
 
 -- a load order has the program
@@ -180,7 +182,8 @@ module _ {D : Type 0} (facts : D → DiskFacts) (now : Opened D) (before : Bindi
   refused_at_first (binding.Undefined object symbol) is = stopped (binding.Undefined object symbol) is (answered (binding.Undefined object symbol) is)
 
 module _ {D : Type 0} (facts : D → DiskFacts) (old : Opened D) (before : Binding) (flight : Flight) (flies : Flies facts old before flight)
-    (holds : IsTrue (facts flies.taken.disk).honest → HoldsNow (facts flies.taken.disk)) (needs : Needs) (files : List Library) (found : before.found ≡ Some (record { needs = needs; files = files })) where
+    (holds : IsTrue (facts flies.taken.disk).honest → HoldsNow (facts flies.taken.disk)) (needs : Needs) (files : List Library)
+    (found : before.found ≡ Some (record { needs = needs; files = files })) where
   abbrev order : List Named
   order = load_order before.program (objects flight.state) (preload_numbers flight.state)
 
@@ -234,10 +237,13 @@ module _ {D : Type 0} (facts : D → DiskFacts) (old : Opened D) (before : Bindi
     sectors : (file : Library) → file ≡ get_or flight.state.libraries (place - 1) no_library → step_sectors (own_flight before flight.state flight.going) ≡ data_sectors file.bytes
     sectors file is =
         let e : flight.going ≡ suc (length files) = omega (arith, come.2) in
-        let object : object_of file ≡ object_at (available before.program libraries) place = library-at facts before.program flies.taken holds flight.state flies.at.stored place file above within is in
+        let object : object_of file ≡ object_at (available before.program libraries) place =
+        library-at facts before.program flies.taken holds flight.state flies.at.stored place file above within is in
         ap (λ (k : ℕ). sectors_at k order) e
         ∙ ap (sum_by (λ (o : Named). data_sectors o.file)) at_place.1
-        ∙ (let one : sum_by (λ (o : Named). data_sectors o.file) (object_at (available before.program libraries) place ∷ []) ≡ data_sectors (object_at (available before.program libraries) place).file = omega (arith, sum_by-cons (λ (o : Named). data_sectors o.file) (object_at (available before.program libraries) place) []) in one)
+        ∙ (let one : sum_by (λ (o : Named). data_sectors o.file) (object_at (available before.program libraries) place ∷ []) ≡ data_sectors
+        (object_at (available before.program libraries) place).file =
+        omega (arith, sum_by-cons (λ (o : Named). data_sectors o.file) (object_at (available before.program libraries) place) []) in one)
         ∙ ap (λ (o : Named). data_sectors o.file) (sym object)
 
     -- as its entry tells too,
@@ -248,7 +254,8 @@ module _ {D : Type 0} (facts : D → DiskFacts) (old : Opened D) (before : Bindi
         ∙ ap (λ f. step_sectors f) (own_is facts flies)
 
     -- and is answered Going,
-    pub gone_on : (file : Library) → file ≡ get_or flight.state.libraries (place - 1) no_library → (more : Needs) (all : List Library) → all ≡ files ++ file ∷ [] → IsWalked facts before.program flies.taken more all
+    pub gone_on : (file : Library) → file ≡ get_or flight.state.libraries (place - 1) no_library → (more : Needs) (all : List Library) → all ≡ files
+        ++ file ∷ [] → IsWalked facts before.program flies.taken more all
         → AreCallsExactly (data_sectors file.bytes) (facts old.disk) (facts new.disk) → IsStep facts old new flight (with_found before more all) (Ok Going)
     gone_on file is more all one walked calls =
         subst (λ (f : Flight). IsStep facts old new f (with_found before more all) (Ok Going)) (own_is facts flies) (
@@ -327,7 +334,8 @@ module _ {D : Type 0} (facts : D → DiskFacts) (old : Opened D) (before : Bindi
     refused_at_last (binding.Undefined object symbol) (inr wants) = absurd cc
 
 -- A binder is not begun: nothing changes.
-pub not_begun : {D : Type 0} (facts : D → DiskFacts) (store : Opened D) (program : List ℕ) (base : ℕ) → AreFlagged store → (e : Refusal) → ((e ≡ Reopen) ↔ IsTrue store.failed) → (e ≡ Reopen) ⊎ (e ≡ OutOfMemory)
+pub not_begun : {D : Type 0} (facts : D → DiskFacts) (store : Opened D) (program : List ℕ) (base : ℕ) → AreFlagged store → (e : Refusal)
+    → ((e ≡ Reopen) ↔ IsTrue store.failed) → (e ≡ Reopen) ⊎ (e ≡ OutOfMemory)
     → Begins facts store store program base (Err e)
 not_begun facts store program base flags e reopen refusals = record {
   ok = λ s at. tt;
@@ -348,7 +356,8 @@ not_begun facts store program base flags e reopen refusals = record {
 
 module _ {D : Type 0} (facts : D → DiskFacts) (old new : Opened D) (program : List ℕ) (base : ℕ) where
   -- It is begun where a snapshot is taken,
-  pub is_begun : (snapshot : Taken) → HaveOwnNames old.entries → ((s : State) → stored.IsAt facts old s → TellLengths old.entries s) → Takes facts old new (Ok snapshot) → (copy : List ℕ) → copy ≡ program
+  pub is_begun : (snapshot : Taken) → HaveOwnNames old.entries → ((s : State) → stored.IsAt facts old s → TellLengths old.entries s)
+      → Takes facts old new (Ok snapshot) → (copy : List ℕ) → copy ≡ program
       → Begins facts old new program base (Ok (record { program = copy; base = base; snapshot = snapshot; found = None }))
   is_begun snapshot own lengths takes copy same = record {
     ok = λ s at. record {
@@ -419,7 +428,9 @@ module _ {D : Type 0} (facts : D → DiskFacts) (old new : Opened D) (program : 
 
   -- A step was made, which only reads.
   pub has_advanced : (before after : Binding) (result : Result Step Refusal) → IsFalse old.failed → IsRead facts old new → Stays before after
-      → ((flight : Flight) → Flies facts old before flight → IsStep facts old new flight after result) → ((flight : Flight) → Flies facts old before flight → IsBounded flight) → IfErr result (IsStepRefusal facts old new) → IfOk result IsLastStep
+      → ((flight : Flight) → Flies facts old before flight → IsStep facts old new flight after result)
+      → ((flight : Flight) → Flies facts old before flight → IsBounded flight) → IfErr result (IsStepRefusal facts old new)
+      → IfOk result IsLastStep
       → Advances facts old new before after result
   has_advanced before after result usable read stays step bounds refusals answers = record {
     step = step;

@@ -125,7 +125,8 @@ distinct_named entries positions names named once i j d lt fits = λ same.
     at k k_lt = ap (λ ns. get_or ns k []) (sym (named.each no_entry)) ∙ get_or-map (λ position. name_of (get_or entries position no_entry).entry) positions k d [] k_lt
 
 -- a name stands at one position
-pub one_place : (entries : List PlacedEntry) → HaveOwnNames entries → (p q : ℕ) (d : PlacedEntry) → p < length entries → q < length entries → name_of (get_or entries p d).entry ≡ name_of (get_or entries q d).entry → p ≡ q
+pub one_place : (entries : List PlacedEntry) → HaveOwnNames entries → (p q : ℕ) (d : PlacedEntry) → p < length entries → q < length entries
+    → name_of (get_or entries p d).entry ≡ name_of (get_or entries q d).entry → p ≡ q
 one_place entries own p q d p_lt q_lt same = ⊎_elim
     (λ before. absurd (own p q d before q_lt same))
     (λ le. ⊎_elim
@@ -138,7 +139,8 @@ isnt_equal : (a b : ℕ) → (a == b) ≡ false → a ≡ b → ⊥
 isnt_equal a b differs is = let yes : (a == b) ≡ true = grind (arith, nat_tests, is) in false≢true (sym differs ∙ yes)
 
 -- where a position isn't among others, neither is its name
-pub no_preload : (entries : List PlacedEntry) (name : List ℕ) (position : ℕ) (positions : List ℕ) → HaveOwnNames entries → position < length entries → ((d : PlacedEntry) → name_of (get_or entries position d).entry ≡ name)
+pub no_preload : (entries : List PlacedEntry) (name : List ℕ) (position : ℕ) (positions : List ℕ) → HaveOwnNames entries → position < length entries
+    → ((d : PlacedEntry) → name_of (get_or entries position d).entry ≡ name)
     → All (λ p. p < length entries) positions → list_any (λ p. p == position) positions ≡ false → All (λ p. (d : PlacedEntry) → name_of (get_or entries p d).entry ≢ name) positions
 no_preload entries name position positions own lt named inside none k d k_lt = λ e. λ same.
     isnt_equal (get_or positions k d) position (none_pass (λ p. p == position) positions none k d k_lt)

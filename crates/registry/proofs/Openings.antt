@@ -96,7 +96,8 @@ module _ (m : List Sector) (version : Version) (t : State) (stands : sectors.Sta
   has_root = (stands.0, stands.2.intact.current, stands.2.intact.size)
 
   -- what a look refuses after the store was seen
-  pub refuses_seen : (e : StoreRefusal) → (e ≡ refusal.Device) ⊎ (e ≡ refusal.Damaged) ⊎ (e ≡ refusal.OutOfMemory) → IsGeometry (length m) → (e ≡ refusal.Damaged → All IsLibrary t.libraries → ⊥) → RefusesLook StandsEither m e
+  pub refuses_seen : (e : StoreRefusal) → (e ≡ refusal.Device) ⊎ (e ≡ refusal.Damaged) ⊎ (e ≡ refusal.OutOfMemory) → IsGeometry (length m)
+      → (e ≡ refusal.Damaged → All IsLibrary t.libraries → ⊥) → RefusesLook StandsEither m e
   refuses_seen e which geometry damaged = record {
     may = ⊎_elim (λ is. rw is geometry) (λ rest. ⊎_elim (λ is. rw is geometry) (λ is. rw is geometry) rest) which;
     unformatted = λ is. ⊎_elim (λ a. absurd (cc (a, is))) (λ rest. ⊎_elim (λ a. absurd (cc (a, is))) (λ a. absurd (cc (a, is))) rest) which;
@@ -106,7 +107,8 @@ module _ (m : List Sector) (version : Version) (t : State) (stands : sectors.Sta
   }
 
 -- what is refused after the store was opened
-pub refuses_files : (m : List Sector) (t : State) (e : StoreRefusal) → sectors.Stands m t → (e ≡ refusal.Device) ⊎ (e ≡ refusal.Damaged) ⊎ (e ≡ refusal.OutOfMemory) → IsGeometry (length m) → (e ≡ refusal.Damaged → All IsLibrary t.libraries → ⊥) → RefusesOpen Stands m e
+pub refuses_files : (m : List Sector) (t : State) (e : StoreRefusal) → sectors.Stands m t → (e ≡ refusal.Device) ⊎ (e ≡ refusal.Damaged)
+    ⊎ (e ≡ refusal.OutOfMemory) → IsGeometry (length m) → (e ≡ refusal.Damaged → All IsLibrary t.libraries → ⊥) → RefusesOpen Stands m e
 refuses_files m t e stands which geometry damaged =
     let look : RefusesLook StandsEither m e = refuses_seen m Two t stands e which geometry damaged in
     record {
@@ -163,7 +165,8 @@ module _ {D : Type 0} (facts : D → DiskFacts) (disk : D) where
   }
 
   -- or by what admitting its files did.
-  module _ (holds : IsTrue (facts disk).honest → HoldsNow (facts disk)) (store : opened.Opened D) (is : Opens sectors.Stands facts (opened.IsAt facts) disk (Ok store)) (result : Result (opened.Opened D) (StoreRefusal × D))
+  module _ (holds : IsTrue (facts disk).honest → HoldsNow (facts disk)) (store : opened.Opened D)
+      (is : Opens sectors.Stands facts (opened.IsAt facts) disk (Ok store)) (result : Result (opened.Opened D) (StoreRefusal × D))
       (any_moment : IsTrue (facts store.disk).honest → LeavesOnly (facts store.disk) (facts (opened.disk_after result)) (Mixture (facts store.disk)))
       (now : IsTrue (facts store.disk).honest → (facts (opened.disk_after result)).now ≡ (facts store.disk).now)
       (log : IsTrue (facts store.disk).honest → (facts (opened.disk_after result)).log ≡ (facts store.disk).log)

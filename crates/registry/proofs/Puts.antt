@@ -35,7 +35,8 @@ most_same m n is = by (nat_le most_libraries m) (nat_lt n most_libraries) refl r
 no_failed_bytes : (sectors longest more : ℕ) (t : State) (bytes : List ℕ) → step.refusal_of_bytes sectors longest more t bytes ≢ Some store_refusal.Device
 no_failed_bytes sectors longest more t bytes = by (t.generation == last_generation) (nat_lt (free sectors t) (cost (length bytes) + more)) (nat_lt longest (cost (length bytes) - 1))
   where
-    by : (last full short : Bool) → (if last then Some store_refusal.GenerationEnd else if full then Some store_refusal.Full else if short then Some store_refusal.Fragmented else None) ≢ Some store_refusal.Device
+    by : (last full short : Bool) → (if last then Some store_refusal.GenerationEnd else if full then Some store_refusal.Full else if short then Some
+        store_refusal.Fragmented else None) ≢ Some store_refusal.Device
     by true full short = λ is. cc
     by false true short = λ is. cc
     by false false true = λ is. cc
@@ -50,7 +51,8 @@ no_failed_new sectors longest t bytes = by (nat_lt (length t.libraries) most_lib
     more : ℕ
     more = catalogue_cost (length t.libraries)
 
-    by : (fits : Bool) → step.refusal_of_bytes sectors longest more t bytes ≢ Some store_refusal.Device → (if fits then step.refusal_of_bytes sectors longest more t bytes else Some store_refusal.TooMany) ≢ Some store_refusal.Device
+    by : (fits : Bool) → step.refusal_of_bytes sectors longest more t bytes ≢ Some store_refusal.Device
+        → (if fits then step.refusal_of_bytes sectors longest more t bytes else Some store_refusal.TooMany) ≢ Some store_refusal.Device
     by true other = other
     by false other = λ is. cc
 
@@ -62,14 +64,17 @@ module _ (p : Phase) (bytes : List ℕ) (taken : library_refusal bytes ≡ None)
       by (library_refusal bytes) (is_installed (table_of p) (name_of bytes)) (has_most (table_of p)) (nat_lt (length p.state.libraries) most_libraries)
       (is_last (table_of p)) (is_full (catalogue_cost (length (table_of p).names)) (table_of p) bytes) (is_fragmented (table_of p) bytes)
       taken absent (most_same _ _ count)
-      ∙ ap (λ n. option_map refusal_of (if nat_lt (length p.state.libraries) most_libraries then step.refusal_of_bytes (p.sectors - p.lone) p.longest (catalogue_cost n) p.state bytes else Some store_refusal.TooMany)) count
+      ∙ ap (λ n. option_map refusal_of (if nat_lt (length p.state.libraries) most_libraries then step.refusal_of_bytes (p.sectors - p.lone) p.longest
+      (catalogue_cost n) p.state bytes else Some store_refusal.TooMany)) count
     where
       count : length (table_of p).names ≡ length p.state.libraries
       count = length-map p.state.libraries (λ l. l.name)
 
       by : (o : Option FileRefusal) (installed many fits last full short : Bool) → o ≡ None → installed ≡ false → many ≡ not fits
-          → first_of (option_map refusal.Object o ∷ (refusal.AlreadyInstalled when installed) ∷ (refusal.TooMany when many) ∷ (refusal.GenerationEnd when last) ∷ (refusal.Full when full) ∷ (refusal.Fragmented when short) ∷ [])
-          ≡ option_map refusal_of (if fits then (if last then Some store_refusal.GenerationEnd else if full then Some store_refusal.Full else if short then Some store_refusal.Fragmented else None) else Some store_refusal.TooMany)
+          → first_of (option_map refusal.Object o ∷ (refusal.AlreadyInstalled when installed) ∷ (refusal.TooMany when many) ∷
+          (refusal.GenerationEnd when last) ∷ (refusal.Full when full) ∷ (refusal.Fragmented when short) ∷ [])
+          ≡ option_map refusal_of (if fits then (if last then Some store_refusal.GenerationEnd else if full then Some store_refusal.Full else if
+          short then Some store_refusal.Fragmented else None) else Some store_refusal.TooMany)
       by (Some r) installed many fits last full short o i m = cc
       by None true many fits last full short o i m = cc
       by None false true true last full short o i m = cc
@@ -101,7 +106,11 @@ module _ (p : Phase) (bytes : List ℕ) (taken : library_refusal bytes ≡ None)
   pub is_there : is_installed (table_of p) (name_of bytes) ≡ true → refusal_at p (install bytes) ≡ Some refusal.AlreadyInstalled
   is_there there = by (library_refusal bytes) (is_installed (table_of p) (name_of bytes)) taken there
     where
-      by : (o : Option FileRefusal) (installed : Bool) → o ≡ None → installed ≡ true → first_of (option_map refusal.Object o ∷ (refusal.AlreadyInstalled when installed) ∷ (refusal.TooMany when has_most (table_of p)) ∷ (refusal.GenerationEnd when is_last (table_of p)) ∷ (refusal.Full when is_full (catalogue_cost (length (table_of p).names)) (table_of p) bytes) ∷ (refusal.Fragmented when is_fragmented (table_of p) bytes) ∷ []) ≡ Some refusal.AlreadyInstalled
+      by : (o : Option FileRefusal) (installed : Bool) → o ≡ None → installed ≡ true
+          → first_of (option_map refusal.Object o ∷ (refusal.AlreadyInstalled when installed) ∷ (refusal.TooMany when has_most (table_of p)) ∷
+          (refusal.GenerationEnd when is_last (table_of p)) ∷
+          (refusal.Full when is_full (catalogue_cost (length (table_of p).names)) (table_of p) bytes) ∷
+          (refusal.Fragmented when is_fragmented (table_of p) bytes) ∷ []) ≡ Some refusal.AlreadyInstalled
       by (Some r) installed o i = cc
       by None true o i = refl
       by None false o i = cc
@@ -109,7 +118,10 @@ module _ (p : Phase) (bytes : List ℕ) (taken : library_refusal bytes ≡ None)
   pub is_lacking : is_installed (table_of p) (name_of bytes) ≡ false → refusal_at p (replace bytes) ≡ Some refusal.NotInstalled
   is_lacking absent = by (library_refusal bytes) (is_installed (table_of p) (name_of bytes)) taken absent
     where
-      by : (o : Option FileRefusal) (installed : Bool) → o ≡ None → installed ≡ false → first_of (option_map refusal.Object o ∷ (refusal.NotInstalled when not installed) ∷ (refusal.GenerationEnd when is_last (table_of p)) ∷ (refusal.Full when is_full 0 (table_of p) bytes) ∷ (refusal.Fragmented when is_fragmented (table_of p) bytes) ∷ []) ≡ Some refusal.NotInstalled
+      by : (o : Option FileRefusal) (installed : Bool) → o ≡ None → installed ≡ false
+          → first_of (option_map refusal.Object o ∷ (refusal.NotInstalled when not installed) ∷ (refusal.GenerationEnd when is_last (table_of p)) ∷
+          (refusal.Full when is_full 0 (table_of p) bytes) ∷ (refusal.Fragmented when is_fragmented (table_of p) bytes) ∷ []) ≡ Some
+          refusal.NotInstalled
       by (Some r) installed o i = cc
       by None false o i = refl
       by None true o i = cc

@@ -170,4 +170,5 @@ module _ {D : Type 0} (facts : D → DiskFacts) (old : Opened D) (s : State) (at
         replace_refused e answer reopen may device same memory =
             let first = refusal_of_put (room_of old) (longest_free old) s bytes in
             change_refused facts old s at (replace bytes) new first tt over_tested over_leaves
-            e (exact_answer first (Err e) answer) (no_failed_put (room_of old) (longest_free old) s bytes) (λ is. false≢true (sym at.usable ∙ reopen.0 (ap Err is))) (over_is_new e may) device same (λ is. memory)
+            e (exact_answer first (Err e) answer) (no_failed_put (room_of old) (longest_free old) s bytes)
+            (λ is. false≢true (sym at.usable ∙ reopen.0 (ap Err is))) (over_is_new e may) device same (λ is. memory)

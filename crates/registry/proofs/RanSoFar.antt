@@ -35,7 +35,8 @@ module _ {D : Type 0} (facts : D → DiskFacts) (start : Point D) (exchanges : L
 
 -- the same, through these registries
 abbrev pub RunsVia : {D : Type 0} → (D → DiskFacts) → Opened D → List (Opened D) → Opened D → State → List Exchange → Type 0
-RunsVia facts old registries new s exchanges = (s' : State) × (points : List (Point _)) × (map (λ (p : Point _). p.registry) points ≡ registries) × RanSoFar facts (point old s) exchanges points (point new s')
+RunsVia facts old registries new s exchanges = (s' : State) × (points : List (Point _)) × (map (λ (p : Point _). p.registry) points ≡ registries)
+    × RanSoFar facts (point old s) exchanges points (point new s')
 
 -- through some registries
 abbrev pub RunsSoFar : {D : Type 0} → (D → DiskFacts) → Opened D → Opened D → State → List Exchange → Type 0

@@ -39,7 +39,8 @@ broke p (set_preloads names) p' m leaves stands = inl leaves.failed
 
 module _ {D : Type 0} (facts : D → DiskFacts) where
   -- what was in flight broke the registry, or is the state before
-  flight_broke : (old new : Opened D) (s s' : State) (q : Request) (r : Reply) (m : List Sector) → Applied facts old new s s' q r → InFlight (phase_of facts old s) q r m → IsTrue new.failed ⊎ Stands m s
+  flight_broke : (old new : Opened D) (s s' : State) (q : Request) (r : Reply) (m : List Sector) → Applied facts old new s s' q r
+      → InFlight (phase_of facts old s) q r m → IsTrue new.failed ⊎ Stands m s
   flight_broke old new s s' q r m applied flight =
       broke (phase_of facts old s) q (phase_of facts new s') m (subst (λ y. Step (phase_of facts old s) q y (phase_of facts new s')) flight.0 applied.step).1 flight.2
 
@@ -107,7 +108,9 @@ module _ {D : Type 0} (facts : D → DiskFacts) where
       -- all so far have begun
       begun_rest : (moment : ℕ) → (facts mid.disk).time ≤ moment → HasBegun facts start xs' ts' (length xs) moment
       begun_rest moment since i is =
-          let ended : (disk_at facts (after start ts i)).time ≤ (facts mid.disk).time = subst (λ (y : Point D). (disk_at facts (after start ts i)).time ≤ (disk_at facts y).time) (sym so_far.last) (time_after facts i start xs ts so_far.steps) in
+          let ended : (disk_at facts (after start ts i)).time ≤ (facts mid.disk).time =
+          subst (λ (y : Point D). (disk_at facts (after start ts i)).time ≤ (disk_at facts y).time) (sym so_far.last)
+          (time_after facts i start xs ts so_far.steps) in
           let le : (disk_at facts (after start ts i)).time ≤ moment = omega (arith, ended, since) in
           subst (λ (y : Point D). (disk_at facts y).time ≤ moment) (sym (before_is i (omega (arith, is)))) le
 
@@ -204,7 +207,8 @@ module _ {D : Type 0} (facts : D → DiskFacts) where
           steps : LeadsThrough facts start (xs ++ x ∷ []) (ts ++ u ∷ [])
           steps = steps_on x u (record { answered = answered; applied = inl applies })
 
-          within : (moment : ℕ) (m : List Sector) → (facts mid.disk).time ≤ moment → moment < (facts new.disk).time → MayLeaveWithin (phase_of facts mid s) q r s' m → LeavesPrefix facts start (xs ++ x ∷ []) (ts ++ u ∷ []) moment m
+          within : (moment : ℕ) (m : List Sector) → (facts mid.disk).time ≤ moment → moment < (facts new.disk).time
+              → MayLeaveWithin (phase_of facts mid s) q r s' m → LeavesPrefix facts start (xs ++ x ∷ []) (ts ++ u ∷ []) moment m
           within moment m since earlier may = ⊎_elim (leaves_mid x u moment m since (λ p done. earlier))
               (λ others. ⊎_elim (leaves_new x u moment m since)
               (λ flight. ⊎_elim
@@ -234,7 +238,9 @@ module _ {D : Type 0} (facts : D → DiskFacts) where
         last = sym (last_more start u ts);
         states = λ k. states_after facts k start (xs ++ x ∷ []) (ts ++ u ∷ []) steps;
         past = so_far.past;
-        any_moment = λ moment m since until mixture. leaves_before x u moment m (λ p done. absurd (let no : Refused Reopen ≡ Done = ap (λ e. e.1) (same_Some (q, Refused Reopen) (p, Done) done) in cc)) (so_far.any_moment moment m since until mixture);
+        any_moment = λ moment m since until mixture. leaves_before x u moment m
+            (λ p done. absurd (let no : Refused Reopen ≡ Done = ap (λ e. e.1) (same_Some (q, Refused Reopen) (p, Done) done) in cc))
+            (so_far.any_moment moment m since until mixture);
         kept = inr failed;
         found = λ m mixture. ⊎_elim inl (λ flight. inr (flight.0, flight.1, flight.2, cut_before x u flight.1 flight.2 flight.3, flight.4)) (so_far.found m mixture);
       }
@@ -306,8 +312,16 @@ module _ {D : Type 0} (facts : D → DiskFacts) where
     states = λ k. states_after facts k (point old s) [] [] tt;
     past = record { sectors = refl; later = omega arith; past = λ u k c le. (λ x. x, λ x. x) };
     any_moment = λ moment m since until mixture.
-        let same : moment ≡ (facts old.disk).time = omega (arith, since, until) in
-        (0, omega arith, (λ i le is. absurd (let lt : i < 0 = slice_get_within [] i (Some (is.0, Done)) is.1 in omega (arith, lt))), inl ((λ i is. absurd (let no : i + 1 ≡ 0 = is in omega (arith, no))), mixture_stands facts old s at m (subst (λ t. MixtureAt (facts old.disk) t m) same mixture)));
+        let same : moment ≡ (facts old.disk).time = omega (arith, since, until) in (
+          0,
+          omega arith,
+          (λ i le is. absurd (let lt : i < 0 = slice_get_within [] i (Some (is.0, Done)) is.1 in omega (arith, lt))),
+          inl (
+            (λ i is. absurd (let no : i + 1 ≡ 0 = is in omega (arith, no))),
+            mixture_stands facts old s at m
+                (subst (λ t. MixtureAt (facts old.disk) t m) same mixture),
+          ),
+        );
     kept = inl at;
     found = λ m mixture. inl (mixture_stands facts old s at m mixture);
   }
@@ -323,11 +337,19 @@ module _ {D : Type 0} (facts : D → DiskFacts) where
     -- one command more, whatever has failed
     pub runs_turn : (q : Request) (r : Reply)
         → ((t : State) → IsAt facts mid t → Applies facts mid new t q r)
-        → ((t : State) → IsAt facts mid t → IfAccepted r (AreCallsExactly (calls_of t q) (facts mid.disk) (facts new.disk))) → Answered facts mid new q r → RunsVia facts old (registries ++ new ∷ []) new s (xs ++ Some (q, r) ∷ [])
+        → ((t : State) → IsAt facts mid t → IfAccepted r (AreCallsExactly (calls_of t q) (facts mid.disk) (facts new.disk)))
+        → Answered facts mid new q r → RunsVia facts old (registries ++ new ∷ []) new s (xs ++ Some (q, r) ∷ [])
     runs_turn q r applies calls answered =
         let t = so_far.0 in
         let ts = so_far.1 in ⊎_elim
-        (λ at. let applied = applies t at in (applied.0, ts ++ point new applied.0 ∷ [], via applied.0 ts so_far.2, ran_more (point old s) mid t xs ts so_far.3 q new applied.0 r answered (record { at = at; applied = applied.1; calls = calls t at })))
+        (λ at. let applied = applies t at in (
+          applied.0,
+          ts
+              ++ point new applied.0 ∷ [],
+          via applied.0 ts so_far.2,
+          ran_more (point old s) mid t xs ts so_far.3 q new applied.0 r answered
+              (record { at = at; applied = applied.1; calls = calls t at }),
+        ))
         (λ failed.
         let reopen : r ≡ Refused Reopen = answered.reopen.1 failed in
         let same : new ≡ mid = answered.failed failed in

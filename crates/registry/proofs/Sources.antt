@@ -103,7 +103,9 @@ module _ {D : Type 0} (facts : D → DiskFacts) {program : List ℕ} {start : Op
   }
     where
       one-sum : sum_by (λ l. data_sectors l.bytes) files + sum_by (λ l. data_sectors l.bytes) (file ∷ []) ≡ sum_by (λ l. data_sectors l.bytes) files + data_sectors file.bytes
-      one-sum = ap (λ k. sum_by (λ (l : Library). data_sectors l.bytes) files + k) (let e : sum_by (λ (l : Library). data_sectors l.bytes) (file ∷ []) ≡ data_sectors file.bytes = omega (arith, sum_by-cons (λ (l : Library). data_sectors l.bytes) file []) in e)
+      one-sum = ap (λ k. sum_by (λ (l : Library). data_sectors l.bytes) files + k)
+          (let e : sum_by (λ (l : Library). data_sectors l.bytes) (file ∷ []) ≡ data_sectors file.bytes =
+          omega (arith, sum_by-cons (λ (l : Library). data_sectors l.bytes) file []) in e)
 
 -- what is said of a length that is known
 pub sized : {E : Type 0} (P : ℕ → Type 0) (n : ℕ) (result : Result (Vec ℕ) E) → IfOk result (λ bytes. length bytes.items ≡ n) → OnOk result (P n) → IfOk result (λ bytes. P (length bytes.items))

@@ -34,7 +34,8 @@ one_state m s t a b = sectors_lemmas.one_state m Two Two s t a.stored b.stored
 pub mixture_stands : {D : Type 0} (facts : D → DiskFacts) (registry : opened.Opened D) (s : State) → IsAt facts registry s → (m : List Sector) → Mixture (facts registry.disk) m → Stands m s
 mixture_stands facts registry s at m mixture = record { stored = (registry.root, registry.entries, at.stored.stands m mixture); libraries = at.libraries }
 
-module _ {D : Type 0} (facts : D → DiskFacts) (registry : opened.Opened D) (s : State) (at : opened.IsAt facts registry s) (holds : IsTrue (facts registry.disk).honest → HoldsNow (facts registry.disk)) where
+module _ {D : Type 0} (facts : D → DiskFacts) (registry : opened.Opened D) (s : State) (at : opened.IsAt facts registry s)
+    (holds : IsTrue (facts registry.disk).honest → HoldsNow (facts registry.disk)) where
   now_stands : sectors.StandsBy Two (facts registry.disk).now registry.root registry.entries s
   now_stands = at.stands (facts registry.disk).now (holds at.honest)
 

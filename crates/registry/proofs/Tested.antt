@@ -48,7 +48,8 @@ module _ (p : Phase) (names : List (List ℕ)) where
   pub preloads_repeat : nat_lt most_preloads (length names) ≡ false → has_repeat names ≡ true → refusal_at p (set_preloads names) ≡ Some RepeatedPreload
   preloads_repeat few repeat = (λ i. preloads_by (few i) (repeat i) lacks)
 
-  pub preloads_lacking : nat_lt most_preloads (length names) ≡ false → has_repeat names ≡ false → list_any (λ name. not (is_installed (table_of p) name)) names ≡ true → refusal_at p (set_preloads names) ≡ Some NotInstalled
+  pub preloads_lacking : nat_lt most_preloads (length names) ≡ false → has_repeat names ≡ false
+      → list_any (λ name. not (is_installed (table_of p) name)) names ≡ true → refusal_at p (set_preloads names) ≡ Some NotInstalled
   preloads_lacking few once lacking = (λ i. preloads_by (few i) (once i) (lacking i))
 
   pub preloads_tested : nat_lt most_preloads (length names) ≡ false → has_repeat names ≡ false → list_any (λ name. not (is_installed (table_of p) name)) names ≡ false

@@ -41,7 +41,8 @@ each_accepted p (set_preloads names) is all = all
 each_accepted p (bind program base) is all = all
 each_accepted p list is all = all
 
-each_after : (p : Phase) (q : Request) (r : Reply) (p' : Phase) → Step p q r p' → p'.state ≡ cond (is_acknowledged r) (accepted p.state q) p.state → All IsLibrary p.state.libraries → All IsLibrary p'.state.libraries
+each_after : (p : Phase) (q : Request) (r : Reply) (p' : Phase) → Step p q r p' → p'.state ≡ cond (is_acknowledged r) (accepted p.state q) p.state
+    → All IsLibrary p.state.libraries → All IsLibrary p'.state.libraries
 each_after p q Done p' step same all = subst (λ (t : State). All IsLibrary t.libraries) (sym same) (each_accepted p q step.1 all)
 each_after p q (Refused refusal) p' step same all = subst (λ (t : State). All IsLibrary t.libraries) (sym same) all
 each_after p q (Bound image) p' step same all = subst (λ (t : State). All IsLibrary t.libraries) (sym same) all
@@ -67,7 +68,8 @@ other_step p list r p' other step = step
 other_step p (bind program base) (Refused Damaged) p' other step = absurd (other refl)
 other_step p (bind program base) r p' other step = step.0
 
-module _ {D : Type 0} (facts : D → DiskFacts) (old new : Opened D) (s : State) (at : IsAt facts old s) (holds : IsTrue (facts old.disk).honest → HoldsNow (facts old.disk)) (q : Request) (r : Reply) where
+module _ {D : Type 0} (facts : D → DiskFacts) (old new : Opened D) (s : State) (at : IsAt facts old s)
+    (holds : IsTrue (facts old.disk).honest → HoldsNow (facts old.disk)) (q : Request) (r : Reply) where
   reads : (program : List ℕ) → ReadsLibraries s program
   reads program =
       let own = own_names facts old s at.stored holds in

@@ -13,7 +13,8 @@ use Rattle.states.specs.State.{State}
 use Rattle.store.specs.declared.look.Look.{Look}
 use Rattle.store.specs.declared.look.Look.TheVariants.{Old}
 use Rattle.store.specs.declared.refusal.StoreRefusal.{StoreRefusal}
-use Rattle.store.specs.declared.refusal.StoreRefusal.TheVariants.{Device, Reopen, NotFormatted, AlreadyFormatted, Damaged, BadGeometry, Full, Fragmented, TooMany, GenerationEnd, OutOfMemory, OldFormat}
+use Rattle.store.specs.declared.refusal.StoreRefusal.TheVariants.{Device, Reopen, NotFormatted, AlreadyFormatted, Damaged, BadGeometry, Full}
+use Rattle.store.specs.declared.refusal.StoreRefusal.TheVariants.{Fragmented, TooMany, GenerationEnd, OutOfMemory, OldFormat}
 use Rattle.store.specs.Looked.{seen}
 use Rattle.store.specs.Opened as opened
 use Rattle.store.specs.Opening.{IsRefusalOfLook, IsRefusalOfUpgrade}
@@ -53,7 +54,8 @@ module _ {D : Type 0} (facts : D → DiskFacts) (store : opened.Opened D) (s : S
       (λ m. ⊎_elim (λ old. inl (stands_old m s libraries old)) (λ new. inr (record { stored = new; libraries = libraries }))) after)
 
 -- What a look left, and then an upgrade of what it saw
-pub then_upgraded : {D : Type 0} (facts : D → DiskFacts) (look : Look D) (store : opened.Opened D) (old new : DiskFacts) (s : State) → look ≡ Old store → LeavesOnly old (facts (seen look).disk) (Mixture old)
+pub then_upgraded : {D : Type 0} (facts : D → DiskFacts) (look : Look D) (store : opened.Opened D) (old new : DiskFacts) (s : State)
+    → look ≡ Old store → LeavesOnly old (facts (seen look).disk) (Mixture old)
     → LeavesOnly (facts store.disk) new (λ m. StandsOld m s ⊎ Stands m (upgraded s))
     → LeavesOnly old new (λ m. Mixture old m ⊎ StandsOld m s ⊎ Stands m (upgraded s))
 then_upgraded facts look store old new s is before after =
@@ -71,7 +73,8 @@ relisted_log facts old start sync (Ok new) relisted grows =
 relisted_log facts old start sync (Err e) relisted grows = tt
 
 -- the calls of an opening, and then those of reading each file
-pub admitted_calls : {D E : Type 0} (facts : D → DiskFacts) (start : DiskFacts) (old : Opened D) → AreCallsExactly (3 + length (catalogues_of old.root) + length old.entries) start (facts old.disk) → (r : Result (Opened D) E)
+pub admitted_calls : {D E : Type 0} (facts : D → DiskFacts) (start : DiskFacts) (old : Opened D)
+    → AreCallsExactly (3 + length (catalogues_of old.root) + length old.entries) start (facts old.disk) → (r : Result (Opened D) E)
     → IfOk r (λ new. (new.root ≡ old.root) × (new.entries ≡ old.entries) × IsFalse new.failed)
     → IfOk r (λ new. AreCallsExactly (sum_by file_sectors old.entries) (facts old.disk) (facts new.disk))
     → IfOk r (λ new. AreCallsExactly (3 + length (catalogues_of new.root) + length new.entries + sum_by file_sectors new.entries) start (facts new.disk))
@@ -81,7 +84,9 @@ admitted_calls facts start old opening (Ok new) kept calls =
 admitted_calls facts start old opening (Err e) kept calls = tt
 
 -- those of a look at a disk of version 1, and then those of reading each file and of the commit
-pub relisted_calls : {D E : Type 0} (facts : D → DiskFacts) (start : DiskFacts) (old : Opened D) → AreCallsExactly (3 + length (catalogues_of old.root) + length old.entries) start (facts old.disk) → version_of old.root ≡ One → (r : Result (Opened D) E)
+pub relisted_calls : {D E : Type 0} (facts : D → DiskFacts) (start : DiskFacts) (old : Opened D)
+    → AreCallsExactly (3 + length (catalogues_of old.root) + length old.entries) start (facts old.disk) → version_of old.root ≡ One
+    → (r : Result (Opened D) E)
     → IfOk r (IsRelisted old)
     → IfOk r (λ new. AreCallsExactly (sum_by file_sectors old.entries + (catalogues_for (length old.entries) + 3)) (facts old.disk) (facts new.disk))
     → IfOk r (λ new. AreCallsExactly (3 + length new.entries + sum_by file_sectors new.entries + (catalogues_for (length new.entries) + 3)) start (facts new.disk))
@@ -123,5 +128,6 @@ module _ {D : Type 0} (facts : D → DiskFacts) (disk : D) where
   device_since mid calls r rose = IfErr-weaker r _ _ (λ e rose is. omega (arith, rose is, calls.failures)) rose
 
   -- a disk that was looked at has a good size
-  pub untouched_since : IsGeometry (facts disk).sectors → (r : Result (Opened D) (StoreRefusal × D)) → IfErr r (λ e. IsRefusalOfUpgrade (facts disk).sectors e.0) → IfErr r (λ e. e.0 ≡ BadGeometry → e.1 ≡ disk)
+  pub untouched_since : IsGeometry (facts disk).sectors → (r : Result (Opened D) (StoreRefusal × D))
+      → IfErr r (λ e. IsRefusalOfUpgrade (facts disk).sectors e.0) → IfErr r (λ e. e.0 ≡ BadGeometry → e.1 ≡ disk)
   untouched_since geometry r refusals = IfErr-weaker r _ _ (λ e refused is. absurd ((subst (IsRefusalOfUpgrade (facts disk).sectors) is refused) geometry)) refusals

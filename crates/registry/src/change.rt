@@ -7,7 +7,8 @@ use sector_disk::Disk;
 use states::MOST_PRELOADS;
 
 impl<D: Disk> Registry<D> {
-    ghost use Rattle.std.specs.Prelude.{◌≡◌, ◌≢◌, ◌+◌, ◌-◌, ◌==◌, ◌<◌, ◌≤◌, ◌↔◌, true, not, map, length, All};
+    ghost use Rattle.std.specs.Prelude.{◌≡◌, ◌≢◌, ◌+◌, ◌-◌, ◌==◌, ◌<◌, ◌≤◌, ◌↔◌};
+    ghost use Rattle.std.specs.Prelude.{true, not, map, length, All};
     ghost use Rattle.std.specs.Prelude.{IsTrue, IfSome, IsNone, IfOk, IfErr, OnOk};
     ghost use Rattle.std.specs.List.{list_any};
     ghost use Rattle.elf_file.specs.FirstOf.{◌when◌};

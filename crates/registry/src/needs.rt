@@ -1,5 +1,6 @@
 // What is needed of the files that there are.
-ghost use Rattle.std.specs.Prelude.{◌≡◌, ◌≤◌, ◌+◌, ◌∷◌, [], List, map, take, length, Some, OnOk, OnErr};
+ghost use Rattle.std.specs.Prelude.{◌≡◌, ◌≤◌, ◌+◌, ◌∷◌, [], List, map, take};
+ghost use Rattle.std.specs.Prelude.{length, Some, OnOk, OnErr};
 ghost use Rattle.std.specs.Option.{option_or};
 ghost use Rattle.elf_dynamic.specs.Strings.{needed};
 ghost use Rattle.store.specs.Stands.{HaveOwnNames};

@@ -1,6 +1,7 @@
 // The walk of a bind through the files of its load order.
 ghost use Rattle.std.specs.Prelude.{◌≡◌, ◌<◌, ◌≤◌, ◌+◌, ◌-◌, ◌++◌, ◌∷◌, [], ℕ, List, length};
-ghost use Rattle.std.specs.Prelude.{get_or, slice_index_or, true, false, All, IfOk, IfErr, OnOk, OnErr};
+ghost use Rattle.std.specs.Prelude.{get_or, slice_index_or, true, false, All, IfOk};
+ghost use Rattle.std.specs.Prelude.{IfErr, OnOk, OnErr};
 ghost use Rattle.sector_disk.specs.Disk.{AreCallsAtMost, AreCallsExactly};
 ghost use Rattle.scope.specs.Queue.{AreApart};
 ghost use Rattle.store.specs.Opened.{Opened, IsAt};

@@ -186,7 +186,8 @@ module _ {D : Type 0} (facts : D → DiskFacts) where
         lines_copied facts s h old new run.2 run.3 run.4 run.6 at (subst (λ o. IfSome o (λ text. text ≡ flat_map ended run.2 ++ run.3)) unread run.5.read) run.5.lines run.5.rest
         (unsaturated run.1.refused (count_by is_refused (run.4 ++ cut_answer run.3)) counts (none_refused run.0 run.1.refused run.7))
 
-    pub program_copies : ((disk : D) → IsTrue (facts disk).honest → HoldsNow (facts disk)) → (disk left : D) (io : Streams) → IsTrue (facts disk).honest → Stands (facts disk).now empty_state → io.unread ≡ Some (dump_text s)
+    pub program_copies : ((disk : D) → IsTrue (facts disk).honest → HoldsNow (facts disk)) → (disk left : D) (io : Streams)
+        → IsTrue (facts disk).honest → Stands (facts disk).now empty_state → io.unread ≡ Some (dump_text s)
         → DiskScriptEnds facts disk io status.Done left → Stands (facts left).now (copy_of s)
     program_copies holds disk left io honest empty unread (inl scripted) =
         let old = scripted.old in

@@ -19,7 +19,8 @@ module _ {S Q R : Type 0} (Step : S → Q → R → S → Type 0) where
   steps_more s u q r (x ∷ qs) [] ts h step = absurd h
   steps_more s u q r (x ∷ qs) (y ∷ rs) [] h step = absurd h
 
-  steps_append : (s : S) (qs : List Q) (rs : List R) (ts : List S) (qs' : List Q) (rs' : List R) (ts' : List S) → Steps Step s qs rs ts → Steps Step (last_of s ts) qs' rs' ts' → Steps Step s (qs ++ qs') (rs ++ rs') (ts ++ ts')
+  steps_append : (s : S) (qs : List Q) (rs : List R) (ts : List S) (qs' : List Q) (rs' : List R) (ts' : List S) → Steps Step s qs rs ts
+      → Steps Step (last_of s ts) qs' rs' ts' → Steps Step s (qs ++ qs') (rs ++ rs') (ts ++ ts')
   steps_append s [] [] [] qs' rs' ts' h more = more
   steps_append s (x ∷ qs) (y ∷ rs) (t ∷ ts) qs' rs' ts' h more = (h.0, steps_append t qs rs ts qs' rs' ts' h.1 more)
   steps_append s [] [] (t ∷ ts) qs' rs' ts' h more = absurd h

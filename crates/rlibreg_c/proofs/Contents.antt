@@ -12,11 +12,14 @@ use Rattle.rlibreg_c.specs.declared.answer.Answer.{Answer}
 use Rattle.rlibreg_c.specs.declared.information.Information.{Information}
 use Rattle.rlibreg_c.proofs.Given.{refused_not_done, turned_not_done}
 
-pub info_given : (disk : List ℕ) (information : Information) (text : List ℕ) (answer : Answer) (status : ℕ) → status ≡ 0 → IsInfoAnswered disk information text answer status → IsInfoOf disk information
+pub info_given : (disk : List ℕ) (information : Information) (text : List ℕ) (answer : Answer) (status : ℕ) → status ≡ 0
+    → IsInfoAnswered disk information text answer status → IsInfoOf disk information
 info_given disk information text answer status zero (inl told) = told.1
 info_given disk information text answer status zero (inr refused) = absurd (turned_not_done refused.0 text answer status zero refused.2)
 
-file_put : (disk name bytes text : List ℕ) (s : State) (file : List ℕ) (answer : Answer) (status : ℕ) → status ≡ 0 → HoldStore disk s → HasFile s name file → answer.bytes ≡ length file → ((status ≡ done) × (take answer.bytes bytes ≡ file)) ⊎ ((status ≡ no_room) × (length bytes < length file)) → IsFileOf disk name bytes answer
+file_put : (disk name bytes text : List ℕ) (s : State) (file : List ℕ) (answer : Answer) (status : ℕ) → status ≡ 0 → HoldStore disk s
+    → HasFile s name file → answer.bytes ≡ length file → ((status ≡ done) × (take answer.bytes bytes ≡ file))
+    ⊎ ((status ≡ no_room) × (length bytes < length file)) → IsFileOf disk name bytes answer
 file_put disk name bytes text s file answer status zero holds has size (inl put) = record { state = s; holds = holds; file = file; has = has; size = size; given = put.1 }
 file_put disk name bytes text s file answer status zero holds has size (inr small) = absurd (omega (arith, zero, small.0))
 
@@ -38,7 +41,9 @@ unread_is s name unread.OutOfMemory is read = λ none. wants (is.1 none)
     wants e = cc
 
 -- the same of a result that is such an answer
-pub unread_of : {X : Type 0} (s : State) (name : List ℕ) (why : Unread) → (◌≡◌ {A = Result X Unread} (Err why) (Err unread.NotInstalled)) ↔ All (λ library. library.name ≢ name) s.libraries → why ≢ unread.Unreadable → IsUnread s name why
+pub unread_of : {X : Type 0} (s : State) (name : List ℕ) (why : Unread)
+    → (◌≡◌ {A = Result X Unread} (Err why) (Err unread.NotInstalled)) ↔ All (λ library. library.name ≢ name) s.libraries → why ≢ unread.Unreadable
+    → IsUnread s name why
 unread_of {X = X} s name why is read = unread_is s name why ((λ e. is.0 (ap (λ (u : Unread). let r : Result X Unread = Err u in r) e)), (λ none. same (is.1 none))) read
   where
     same : (◌≡◌ {A = Result X Unread} (Err why) (Err unread.NotInstalled)) → why ≡ unread.NotInstalled

@@ -22,7 +22,8 @@ module _ (from : ℕ) (all : List Entry) (e : Entry) (next : List Entry) (more :
   pub names_more : (front old new : List ℕ) (at at' : ℕ) → take at old ≡ front ++ names_in_row all → take at' new ≡ take at old ++ row e → take at' new ≡ front ++ names_in_row next
   names_more front old new at at' was put = put ∙ ap (λ l. l ++ row e) was ∙ sym (row_more front)
 
-  pub places_more : (front old new : List EntryPlace) (n n' at : ℕ) → at ≡ from + length (names_in_row all) → take n old ≡ front ++ places_of from all → take n' new ≡ take n old ++ place_of at e ∷ [] → take n' new ≡ front ++ places_of from next
+  pub places_more : (front old new : List EntryPlace) (n n' at : ℕ) → at ≡ from + length (names_in_row all) → take n old ≡ front
+      ++ places_of from all → take n' new ≡ take n old ++ place_of at e ∷ [] → take n' new ≡ front ++ places_of from next
   places_more front old new n n' at at_is was put =
       put
       ∙ ap (λ l. l ++ place_of at e ∷ []) was
@@ -43,12 +44,16 @@ pub preloads_le : (xs : List (List ℕ)) (i : ℕ) → length (names_in_row (pre
 preloads_le xs i = omega (arith, ap (λ (l : List Entry). length (names_in_row l)) (take-map (λ (n : List ℕ). (n, 0)) i xs), rows_le row (preload_entries xs) i)
 
 -- Where one has no room in buffers that are as long as these, these have none for all.
-pub lacks : (entries names old_entries old_names index count at more size : ℕ) → old_entries ≡ entries → old_names ≡ names → index < count → at + more + 1 ≤ size → (entries ≤ index) ⊎ (names < at + more + 1) → (old_entries < count) ⊎ (old_names < size)
+pub lacks : (entries names old_entries old_names index count at more size : ℕ) → old_entries ≡ entries → old_names ≡ names → index < count
+    → at + more + 1 ≤ size → (entries ≤ index) ⊎ (names < at + more + 1) → (old_entries < count) ⊎ (old_names < size)
 lacks entries names old_entries old_names index count at more size e n lt le (inl few) = inl (omega (arith, e, lt, few))
 lacks entries names old_entries old_names index count at more size e n lt le (inr small) = inr (omega (arith, n, le, small))
 
 -- The preloads are put behind the libraries.
-pub places_both : (l : Listed) (libraries : List Entry) (preloads : List (List ℕ)) (between after : List EntryPlace) (at count : ℕ) → libraries ≡ l.libraries → preloads ≡ l.preloads → at ≡ length (names_in_row libraries) → count ≡ length libraries → take (length libraries) between ≡ places_of 0 libraries → take (count + length preloads) after ≡ take count between ++ places_of at (preload_entries preloads) → take (length (entries_of l)) after ≡ places_of 0 (entries_of l)
+pub places_both : (l : Listed) (libraries : List Entry) (preloads : List (List ℕ)) (between after : List EntryPlace) (at count : ℕ)
+    → libraries ≡ l.libraries → preloads ≡ l.preloads → at ≡ length (names_in_row libraries) → count ≡ length libraries
+    → take (length libraries) between ≡ places_of 0 libraries → take (count + length preloads) after ≡ take count between
+    ++ places_of at (preload_entries preloads) → take (length (entries_of l)) after ≡ places_of 0 (entries_of l)
 places_both l libraries preloads between after at count first second at_is count_is was put =
     ap (λ n. take n after) (omega (arith, length-append l.libraries (preload_entries l.preloads), length-map {B = Entry} l.preloads (λ n. (n, 0)), ap length first, ap length second, count_is))
     ∙ put

@@ -27,7 +27,9 @@ use Rattle.byte_registry.specs.Asked.{IsAsked}
 use Rattle.rlibreg_c.specs.declared.entry.EntryPlace.{EntryPlace}
 use Rattle.rlibreg_c.specs.declared.object.ObjectPlace.{ObjectPlace}
 use Rattle.rlibreg_c.specs.declared.place.SegmentPlace.{SegmentPlace}
-use Rattle.rlibreg_c.specs.Answers.{HasPlan, IsTold, IsToldAlone, IsTurnedAway, IsPlanned, IsLeft, IsPlanOf, IsChangeTold, IsChangeAnswered, IsFormatPlan, IsFormatAnswered, IsUpgradePlan, IsUpgradeAnswered, IsBindTold, IsBindAnswered, IsListTold, IsListGiven, IsListAnswered, IsPreloadAnswered}
+use Rattle.rlibreg_c.specs.Answers.{HasPlan, IsTold, IsToldAlone, IsTurnedAway, IsPlanned, IsLeft, IsPlanOf, IsChangeTold, IsChangeAnswered}
+use Rattle.rlibreg_c.specs.Answers.{IsFormatPlan, IsFormatAnswered, IsUpgradePlan, IsUpgradeAnswered, IsBindTold, IsBindAnswered, IsListTold}
+use Rattle.rlibreg_c.specs.Answers.{IsListGiven, IsListAnswered, IsPreloadAnswered}
 use Rattle.rlibreg_c.specs.Layout.{CountsImage, IsLaidOut, IsImageOf, IsImageGiven}
 use Rattle.rlibreg_c.specs.Listing.{IsListingOf, AreListed, Counts, entries_of}
 use Rattle.rlibreg_c.specs.Names.{AreNames}
@@ -69,7 +71,9 @@ planned_left steps plan text old answer status (inl (has, inr wants), unlisted, 
 planned_left steps plan text old answer status (inr lacks, unlisted, unbound) not_done no_room no_memory = absurd (no_room lacks.0.status)
 
 -- A change whose status is 0 has its plan, where its request is one of a change.
-module _ (bytes : List ℕ) (request : Request) (not_listing : (s : State) (l : Listed) → registry.IsReply s request (reply.Listing l) → ⊥) (not_bound : (s : State) (image : MemoryImage) → registry.IsReply s request (reply.Bound image) → ⊥) (plan text : List ℕ) (answer : Answer) (status : ℕ) (zero : status ≡ 0) where
+module _ (bytes : List ℕ) (request : Request) (not_listing : (s : State) (l : Listed) → registry.IsReply s request (reply.Listing l) → ⊥)
+    (not_bound : (s : State) (image : MemoryImage) → registry.IsReply s request (reply.Bound image) → ⊥) (plan text : List ℕ) (answer : Answer)
+    (status : ℕ) (zero : status ≡ 0) where
   listing_undamaged : {l : Listed} → reply.Listing l ≡ reply.Refused refusal.Damaged → ⊥
   listing_undamaged is = cc
 
@@ -95,13 +99,19 @@ module _ (bytes : List ℕ) (request : Request) (not_listing : (s : State) (l : 
   plan_given (inr unopened) = absurd (turned_not_done unopened.0 text answer status zero unopened.2)
 
 -- what is told of a listing reads no generation
-listing_told : (l : Listed) (entries : List EntryPlace) (names text : List ℕ) (answer : Answer) (generation status : ℕ) → IsListGiven l entries names text answer status → IsListGiven l entries names text (record answer { generation = generation }) status
+listing_told : (l : Listed) (entries : List EntryPlace) (names text : List ℕ) (answer : Answer) (generation status : ℕ)
+    → IsListGiven l entries names text answer status → IsListGiven l entries names text (record answer { generation = generation }) status
 listing_told l entries names text answer generation status ((counts, unbound), inl listed) = ((counts, record { objects = unbound.objects }), inl listed)
-listing_told l entries names text answer generation status ((counts, unbound), inr (full, lack, silent)) = ((counts, record { objects = unbound.objects }), inr (full, lack, record { text = silent.text; file = silent.file }))
+listing_told l entries names text answer generation status ((counts, unbound), inr (full, lack, silent)) =
+    ((counts, record { objects = unbound.objects }), inr (full, lack, record { text = silent.text; file = silent.file }))
 
 -- a reply that is a listing is told with the generation
-pub list_told : (s : State) (r : Reply) (l : Listed) (entries : List EntryPlace) (names text : List ℕ) (answer : Answer) (generation status : ℕ) → r ≡ reply.Listing l → generation ≡ s.generation → IsListGiven l entries names text answer status → IsListTold s r entries names text (record answer { generation = generation }) status
-list_told s r l entries names text answer generation status is same was = subst (λ x. IsListTold s x entries names text (record answer { generation = generation }) status) (sym is) (listing_told l entries names text answer generation status was, same)
+pub list_told : (s : State) (r : Reply) (l : Listed) (entries : List EntryPlace) (names text : List ℕ) (answer : Answer) (generation status : ℕ)
+    → r ≡ reply.Listing l → generation ≡ s.generation → IsListGiven l entries names text answer status
+    → IsListTold s r entries names text (record answer { generation = generation }) status
+list_told s r l entries names text answer generation status is same was =
+    subst (λ x. IsListTold s x entries names text (record answer { generation = generation }) status) (sym is)
+    (listing_told l entries names text answer generation status was, same)
 
 -- a status, and nothing else
 abbrev pub status_alone : ℕ → Answer
@@ -123,7 +133,8 @@ nothing_said answer n is = subst (λ (a : Answer). IsUncounted a × IsSilent a) 
 )
 
 -- a reply that isn't Done is told alone
-pub told_other : (r : Reply) (steps : List Step) (plan text : List ℕ) (answer : Answer) (status : ℕ) → (r ≡ reply.Done → ⊥) → IsToldAlone r text answer status → IsChangeTold r steps plan text answer status
+pub told_other : (r : Reply) (steps : List Step) (plan text : List ℕ) (answer : Answer) (status : ℕ) → (r ≡ reply.Done → ⊥)
+    → IsToldAlone r text answer status → IsChangeTold r steps plan text answer status
 told_other reply.Done steps plan text answer status not said = absurd (not refl)
 told_other (reply.Listing l) steps plan text answer status not said = said
 told_other (reply.Bound image) steps plan text answer status not said = said
@@ -166,7 +177,8 @@ module _ (disk program : List ℕ) (base : ℕ) (objects : List ObjectPlace) (se
   laid_out image (inl given, counts, unlisted, silent) = (counts, given.1)
   laid_out image (inr lacks, counts, unlisted, silent) = absurd (omega (arith, zero, lacks.0))
 
-  bound : (s : State) (r : Reply) (steps : List Step) → IsAsked disk s (request.bind program base) r steps → IsBindTold r objects segments bytes text answer status → IsImageOf disk program base objects segments bytes answer
+  bound : (s : State) (r : Reply) (steps : List Step) → IsAsked disk s (request.bind program base) r steps
+      → IsBindTold r objects segments bytes text answer status → IsImageOf disk program base objects segments bytes answer
   bound s reply.Done steps asked told = absurd (not_done (bound_image s program base) asked.by_table.step.0.2)
   bound s (reply.Listing l) steps asked told = absurd (not_listed l (bound_image s program base) asked.by_table.step.0.2)
   bound s (reply.Bound image) steps asked told =
@@ -222,7 +234,13 @@ module _ (disk : List ℕ) (entries : List EntryPlace) (names text : List ℕ) (
   listing_given (inr refused) = absurd (turned_not_done refused.0 text answer status zero refused.2)
 
 -- A choice of the preloads whose status is 0 has its plan.
-pub preload_given : (disk names plan text : List ℕ) (answer : Answer) (status : ℕ) → status ≡ 0 → IsPreloadAnswered disk names plan text answer status → (l : List (List ℕ)) × AreNames l names × IsPlanOf disk (set_preloads l) plan answer
-preload_given disk names plan text answer status zero (inl asked) = (asked.0, asked.1, plan_given disk (set_preloads asked.0) (λ s l e. no_listing l e) (λ s image e. no_image image e) plan text answer status zero asked.2)
+pub preload_given : (disk names plan text : List ℕ) (answer : Answer) (status : ℕ) → status ≡ 0
+    → IsPreloadAnswered disk names plan text answer status → (l : List (List ℕ)) × AreNames l names × IsPlanOf disk (set_preloads l) plan answer
+preload_given disk names plan text answer status zero (inl asked) = (
+  asked.0,
+  asked.1,
+  plan_given disk (set_preloads asked.0) (λ s l e. no_listing l e)
+      (λ s image e. no_image image e) plan text answer status zero asked.2,
+)
 preload_given disk names plan text answer status zero (inr (inl bad)) = absurd (omega (arith, zero, bad.0))
 preload_given disk names plan text answer status zero (inr (inr wants)) = absurd (omega (arith, zero, wants.0.status))

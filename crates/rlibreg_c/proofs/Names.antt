@@ -38,9 +38,12 @@ onto_whole : (byte : ℕ) (parts : List (List ℕ)) → byte ≢ 0 → All IsWho
 onto_whole byte [] not all = All-cons IsWhole (byte ∷ []) [] (All-cons (λ b. b ≢ 0) byte [] not (All-nil (λ b. b ≢ 0))) all
 onto_whole byte (part ∷ parts) not all = All-cons IsWhole (byte ∷ part) parts (All-cons (λ b. b ≢ 0) byte part not (All-head IsWhole part parts all)) (All-tail IsWhole part parts all)
 
-cut_whole : (byte : ℕ) (bytes : List ℕ) → ((is_end byte ≡ true) × (byte ≡ 0)) ⊎ ((is_end byte ≡ false) × (byte ≢ 0)) → All IsWhole (slice_split is_end bytes) → All IsWhole (slice_split is_end (byte ∷ bytes))
-cut_whole byte bytes (inl end) all = All-same IsWhole (slice_split is_end (byte ∷ bytes)) ([] ∷ slice_split is_end bytes) (slice_split-cons_yes is_end byte bytes end.0) (All-cons IsWhole [] (slice_split is_end bytes) (All-nil (λ b. b ≢ 0)) all)
-cut_whole byte bytes (inr other) all = All-same IsWhole (slice_split is_end (byte ∷ bytes)) (onto_first byte (slice_split is_end bytes)) (slice_split-cons_no is_end byte bytes other.0) (onto_whole byte (slice_split is_end bytes) other.1 all)
+cut_whole : (byte : ℕ) (bytes : List ℕ) → ((is_end byte ≡ true) × (byte ≡ 0)) ⊎ ((is_end byte ≡ false) × (byte ≢ 0))
+    → All IsWhole (slice_split is_end bytes) → All IsWhole (slice_split is_end (byte ∷ bytes))
+cut_whole byte bytes (inl end) all = All-same IsWhole (slice_split is_end (byte ∷ bytes)) ([] ∷ slice_split is_end bytes)
+    (slice_split-cons_yes is_end byte bytes end.0) (All-cons IsWhole [] (slice_split is_end bytes) (All-nil (λ b. b ≢ 0)) all)
+cut_whole byte bytes (inr other) all = All-same IsWhole (slice_split is_end (byte ∷ bytes)) (onto_first byte (slice_split is_end bytes))
+    (slice_split-cons_no is_end byte bytes other.0) (onto_whole byte (slice_split is_end bytes) other.1 all)
 
 -- no part has a byte 0
 split_whole : (bytes : List ℕ) → All IsWhole (slice_split is_end bytes)

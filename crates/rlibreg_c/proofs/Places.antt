@@ -6,7 +6,9 @@ use Rattle.rlibreg_c.specs.Layout as layout
 use Rattle.rlibreg_c.specs.Listing as listing
 
 -- one segment more
-pub segment_more : (from : ℕ) (segments : List ImageSegment) (s : ImageSegment) → layout.places_of from (segments ++ s ∷ []) ≡ layout.places_of from segments ++ layout.places_of (from + length (layout.segment_bytes segments)) (s ∷ [])
+pub segment_more : (from : ℕ) (segments : List ImageSegment) (s : ImageSegment)
+    → layout.places_of from (segments ++ s ∷ []) ≡ layout.places_of from segments
+    ++ layout.places_of (from + length (layout.segment_bytes segments)) (s ∷ [])
 segment_more from [] s = ap (λ n. layout.places_of n (s ∷ [])) (omega arith)
 segment_more from (x ∷ segments) s =
     ap (λ l. layout.place_of from x ∷ l) (segment_more (from + length x.bytes) segments s

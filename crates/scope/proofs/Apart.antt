@@ -1,5 +1,7 @@
 -- Places that differ, and the flags that tell which are there.
-use Rattle.std.proofs.Common.{◌≡◌, ℕ, ◌+◌, ◌<◌, ◌≤◌, eqb, nat_eq, Bool, true, false, ◌||◌, List, [], ◌∷◌, ◌++◌, length, take, get_or, set, Some, replicate, map, sym, ap, subst, ◌∙◌, refl, arith, length-take, length-append, append_assoc, append-nil, fold, if◌then◌else◌}
+use Rattle.std.proofs.Common.{◌≡◌, ℕ, ◌+◌, ◌<◌, ◌≤◌, eqb, nat_eq, Bool, true, false, ◌||◌, List, [], ◌∷◌, ◌++◌, length, take, get_or, set, Some}
+use Rattle.std.proofs.Common.{replicate, map, sym, ap, subst, ◌∙◌, refl, arith, length-take, length-append, append_assoc, append-nil, fold}
+use Rattle.std.proofs.Common.{if◌then◌else◌}
 use Rattle.std.specs.List.{All, AllByRecursion, IsDistinct, list_any}
 use Rattle.std.specs.Cmp.{IsEquivalence}
 use Rattle.std.proofs.Math.Seq.{get_or-append_seam, take-append_seam}

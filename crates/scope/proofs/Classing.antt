@@ -21,7 +21,8 @@ use Rattle.scope.specs.inside.Endings.{nth_entry, nth_number, back, AreClasses, 
 pub class-order-total : IsTotalOrder class_order
 unfolding class_order
 class-order-total = then_total
-    (then_total (then_total (on_total (λ (c : Classed). c.entry.name.key) nat_cmp_total) (on_total (λ (c : Classed). c.entry.name.length) nat_cmp_total)) (on_total (λ (c : Classed). c.class) nat_cmp_total))
+    (then_total (then_total (on_total (λ (c : Classed). c.entry.name.key) nat_cmp_total)
+    (on_total (λ (c : Classed). c.entry.name.length) nat_cmp_total)) (on_total (λ (c : Classed). c.class) nat_cmp_total))
     (on_total (λ (c : Classed). c.entry.object) nat_cmp_total)
 
 -- numbers in the place of bytes, where the lengths are the same
@@ -65,7 +66,8 @@ class-order-is objects names classes a b classes_are h g = in-place (nat_cmp a.e
     (λ equal. bytes-order objects names classes a b classes_are h g (exact_unsigned a.entry.name.length b.entry.name.length equal))
 
 -- names that are sorted by their numbers are sorted
-pub sorted-as-classed : (objects : List Named) (names : List Entry) (classes : List ℕ) (all sorted : List Classed) → AreClasses objects names classes → IsClassed names classes all → IsPermutation all sorted
+pub sorted-as-classed : (objects : List Named) (names : List Entry) (classes : List ℕ) (all sorted : List Classed) → AreClasses objects names classes
+    → IsClassed names classes all → IsPermutation all sorted
     → IsSortedBy (λ a b. is_lt (class_order a b)) sorted → IsSortedBy (λ a b. is_lt (order objects a b)) (map (λ (c : Classed). c.entry) sorted)
 sorted-as-classed objects names classes all sorted classes_are h moved up k d low high =
     let entry : Classed → Entry = λ c. c.entry in

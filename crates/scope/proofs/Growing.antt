@@ -1,5 +1,6 @@
 -- What a list that grows by what it doesn't have yet comes to.
-use Rattle.std.proofs.Common.{◌≡◌, ℕ, ◌≤◌, eqb, Bool, true, false, not, cond, ◌&&◌, ◌||◌, List, [], ◌∷◌, ◌++◌, length, filter, fold, take, sym, ap, ◌∙◌, refl, append_assoc, append-nil, if◌then◌else◌, arith, length-append}
+use Rattle.std.proofs.Common.{◌≡◌, ℕ, ◌≤◌, eqb, Bool, true, false, not, cond, ◌&&◌, ◌||◌, List, [], ◌∷◌, ◌++◌, length, filter, fold, take, sym, ap}
+use Rattle.std.proofs.Common.{◌∙◌, refl, append_assoc, append-nil, if◌then◌else◌, arith, length-append}
 use Rattle.std.proofs.lemmas.Bool.{eqb-true}
 use Rattle.std.proofs.lemmas.List.{take-append-le}
 use Rattle.std.proofs.lemmas.List.Folds.{list_any-append}

@@ -1,7 +1,9 @@
 -- For readers and callers: the levels pinned down from outside. First occurrences are the same objects, each once and
 -- in their order; each object of a level is needed by one of the level just before it; and the levels joined are
 -- closed: what an object of them needs stands in them too.
-use Rattle.std.proofs.Common.{◌≡◌, ◌⊎◌, ◌↔◌, ℕ, zero, suc, ◌+◌, ◌<◌, ◌≤◌, eqb, nat_eq, Bool, true, false, not, cond, ◌&&◌, ◌||◌, List, [], ◌∷◌, ◌++◌, length, get_or, take, filter, refl, sym, ap, subst, ◌∙◌, ⊎_elim, inl, inr, arith, append_assoc, append-nil, length-append}
+use Rattle.std.proofs.Common.{◌≡◌, ◌⊎◌, ◌↔◌, ℕ, zero, suc, ◌+◌, ◌<◌, ◌≤◌, eqb, nat_eq, Bool, true, false, not, cond, ◌&&◌, ◌||◌, List, [], ◌∷◌}
+use Rattle.std.proofs.Common.{◌++◌, length, get_or, take, filter, refl, sym, ap, subst, ◌∙◌, ⊎_elim, inl, inr, arith, append_assoc, append-nil}
+use Rattle.std.proofs.Common.{length-append}
 use native.Mathlib.Numerals.{unary_clauses}
 use Rattle.std.specs.List.{All, Contains, IsDistinct, flat_map, concat}
 use Rattle.std.proofs.lemmas.Bool.{eqb-true, eq-eqb, false≢true, or_cases, and_parts, not-true}
@@ -139,7 +141,8 @@ module _ (needs : ℕ → List ℕ) where
       → (y : ℕ) × Contains (get_or (levels needs n first) k []) y × Contains (needs y) x
   unfolding levels
   level-needed n k first x h =
-      let r = needed-after n k first first x (contains-among (get_or (levels_after needs n first first) k []) x (subst (λ l. Contains l x) (get_or-suc first (levels_after needs n first first) k) h)) in
+      let r = needed-after n k first first x (contains-among (get_or (levels_after needs n first first) k []) x
+      (subst (λ l. Contains l x) (get_or-suc first (levels_after needs n first first) k) h)) in
       (r.0, among-contains _ r.0 r.1, among-contains _ x r.2)
 
   -- where the next level is empty, none behind it has an object

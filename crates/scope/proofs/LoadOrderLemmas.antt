@@ -1,7 +1,8 @@
 -- For readers and callers: the load order pinned down from outside. It begins with the program and the preloads, has no
 -- object twice, and where no name is missing it has a library for each name that an object of it needs; each library
 -- in it but a preload is needed by an object of the level just before its own.
-use Rattle.std.proofs.Common.{◌≡◌, ◌⊎◌, ℕ, zero, suc, ◌+◌, ◌<◌, Bool, true, false, cond, List, [], ◌∷◌, length, map, take, get_or, nat_eq, Option, Some, None, refl, sym, ap, subst, ◌∙◌, ⊎_elim, inl, inr, arith}
+use Rattle.std.proofs.Common.{◌≡◌, ◌⊎◌, ℕ, zero, suc, ◌+◌, ◌<◌, Bool, true, false, cond, List, [], ◌∷◌, length, map, take, get_or, nat_eq, Option}
+use Rattle.std.proofs.Common.{Some, None, refl, sym, ap, subst, ◌∙◌, ⊎_elim, inl, inr, arith}
 use native.Mathlib.Numerals.{unary_clauses}
 use Rattle.std.specs.Prelude.{nat_lt, is_none, unwrap_or}
 use Rattle.std.specs.List.{All, Contains, IsDistinct, filter_map, flat_map, find, cons_option, position_or_len}

@@ -67,7 +67,8 @@ numbered-on objects entries first i fresh n old_marks marks old classes h low so
         ]
       ];
       picked = λ m. elim (cases_eq m n) [
-        | inl e ↦ ap (pick fresh) (ap (λ x. get_or new x 0) e ∙ get_or-set_same marks n p 0 room) ∙ pick-twice fresh (get_or marks n 0) some ∙ h.picked n ∙ ap (λ x. pick fresh (nth_number old_marks x)) (sym e)
+        | inl e ↦ ap (pick fresh) (ap (λ x. get_or new x 0) e ∙ get_or-set_same marks n p 0 room) ∙ pick-twice fresh (get_or marks n 0) some
+            ∙ h.picked n ∙ ap (λ x. pick fresh (nth_number old_marks x)) (sym e)
         | inr ne ↦ ap (pick fresh) (get_or-set_other marks n m p 0 ne) ∙ h.picked m
       ];
       rest = λ m ne. elim (cases_eq m n) [

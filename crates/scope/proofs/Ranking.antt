@@ -48,7 +48,8 @@ pub record AreRanked (objects : List Named) (entries : List Entry) (endings : Li
   pub some : (k : ℕ) → Seen endings i k → nth_number classes k ≢ 0
   pub bounded : (k : ℕ) → Seen endings i k → nth_number classes k ≤ i
 
-pub ranked-none : (objects : List Named) (entries : List Entry) (endings : List Ending) (at : ℕ) (marks classes : List ℕ) → ((n : ℕ) → nth_number marks n ≡ 0) → AreRanked objects entries endings 0 at marks classes
+pub ranked-none : (objects : List Named) (entries : List Entry) (endings : List Ending) (at : ℕ) (marks classes : List ℕ)
+    → ((n : ℕ) → nth_number marks n ≡ 0) → AreRanked objects entries endings 0 at marks classes
 ranked-none objects entries endings at marks classes none = record {
   long = λ k s. absurd (omega (arith, s.before));
   below = λ k s. absurd (omega (arith, s.before));
@@ -165,7 +166,9 @@ reversed-less Greater e = absurd (cc)
 
 -- the names of one ending more
 pub ranked-on : (objects : List Named) (entries : List Entry) (endings : List Ending) (i : ℕ) (cut marks old classes : List ℕ) → AreSorted objects entries endings → i < length endings
-    → AreRanked objects entries endings i i cut old → AreNumbered objects entries (nth endings i).first (nth endings i).past (i + 1) cut marks old classes → AreRanked objects entries endings (i + 1) i marks classes
+    → AreRanked objects entries endings i i cut old
+    → AreNumbered objects entries (nth endings i).first (nth endings i).past (i + 1) cut marks old classes
+    → AreRanked objects entries endings (i + 1) i marks classes
 ranked-on objects entries endings i cut marks old classes sorted lt h m =
     let e : Ending = nth endings i in
     let here : List ℕ = nth_back objects endings i in
@@ -200,14 +203,18 @@ ranked-on objects entries endings i cut marks old classes sorted lt h m =
           let front : take (length (back objects entries k)) (nth_back objects endings i) ≡ back objects entries k = ending.tails k is in
           let ne : take (length (back objects entries j)) (nth_back objects endings i) ≡ back objects entries j → ⊥ =
           λ f. h.some j s (sym (h.marked j s f) ∙ ap (nth_number cut) long ∙ none) in
-          let fits : length (back objects entries j) ≤ length (nth_back objects endings i) = let le : length (back objects entries k) ≤ length (nth_back objects endings i) = front-fits (size k) here (back objects entries k) refl front in omega (arith, long) in
+          let fits : length (back objects entries j) ≤ length (nth_back objects endings i) =
+          let le : length (back objects entries k) ≤ length (nth_back objects endings i) =
+          front-fits (size k) here (back objects entries k) refl front in omega (arith, long) in
           less-is (nth_number classes j) (nth_number classes k) (let was : nth_number classes j ≡ nth_number old j = kept j s in omega (arith, bound, number))
-          ∙ sym (front-less (back objects entries j) here (h.below j s) fits ne) ∙ ap (λ n. slice_cmp nat_cmp (back objects entries j) (take n here)) long ∙ ap (slice_cmp nat_cmp (back objects entries j)) front
+          ∙ sym (front-less (back objects entries j) here (h.below j s) fits ne)
+          ∙ ap (λ n. slice_cmp nat_cmp (back objects entries j) (take n here)) long ∙ ap (slice_cmp nat_cmp (back objects entries j)) front
       | inr some ↦
           let o = h.origin (length (back objects entries k)) some in
           let same : back objects entries o.number ≡ back objects entries k = sym o.front ∙ ending.tails k is in
           let number : nth_number classes k ≡ nth_number old o.number = given k is ∙ pick-some (i + 1) (nth_number cut (length (back objects entries k))) some ∙ sym o.class in
-          ap (λ x. nat_cmp x (nth_number classes k)) (kept j s) ∙ ap (nat_cmp (nth_number old j)) number ∙ h.order j o.number s o.seen (long ∙ sym o.long) ∙ ap (slice_cmp nat_cmp (back objects entries j)) same
+          ap (λ x. nat_cmp x (nth_number classes k)) (kept j s) ∙ ap (nat_cmp (nth_number old j)) number
+          ∙ h.order j o.number s o.seen (long ∙ sym o.long) ∙ ap (slice_cmp nat_cmp (back objects entries j)) same
     ] in
     let flip : (j k : ℕ) → nat_cmp (nth_number classes j) (nth_number classes k) ≡ slice_cmp nat_cmp (back objects entries j) (back objects entries k)
     → nat_cmp (nth_number classes k) (nth_number classes j) ≡ slice_cmp nat_cmp (back objects entries k) (back objects entries j) =
@@ -292,13 +299,19 @@ pub classes-from-ranked : (objects : List Named) (entries : List Entry) (endings
 classes-from-ranked objects entries endings n at marks classes sorted all h =
     let seen : (k : ℕ) → k < length entries → Seen endings n k =
     λ k lt. let a = sorted.are.all k lt in
-    record { place = a.0; before = omega (arith, a.2, all); is = subst (IsIn k) (sym a.3 ∙ get_or_default endings a.0 a.1 (record { object = 0; from = 0; length = 0; first = 0; past = 0 }) a.2) a.4 } in
+    record {
+      place = a.0;
+      before = omega (arith, a.2, all);
+      is =
+          subst (IsIn k) (sym a.3 ∙ get_or_default endings a.0 a.1 (record { object = 0; from = 0; length = 0; first = 0; past = 0 }) a.2) a.4;
+    } in
     record {
       order = λ j k lt room lengths. let s = seen j lt in let t = seen k room in h.order j k s t (h.long j s ∙ lengths ∙ sym (h.long k t));
     }
 
 -- the same where the strings are read from their first bytes on
-pub ranked-cut : (objects : List Named) (entries : List Entry) (endings : List Ending) (i : ℕ) (last next : List ℕ) (common : ℕ) (marks cut classes : List ℕ) → AreSorted objects entries endings → 1 ≤ i → i < length endings
+pub ranked-cut : (objects : List Named) (entries : List Entry) (endings : List Ending) (i : ℕ) (last next : List ℕ) (common : ℕ)
+    (marks cut classes : List ℕ) → AreSorted objects entries endings → 1 ≤ i → i < length endings
     → AreRanked objects entries endings i (i - 1) marks classes → last ≡ ending_bytes objects (nth endings (i - 1)) → next ≡ ending_bytes objects (nth endings i)
     → take common (reverse last) ≡ take common (reverse next)
     → ((n : ℕ) → n ≤ length last → n ≤ length next → take n (reverse last) ≡ take n (reverse next) → n ≤ common)

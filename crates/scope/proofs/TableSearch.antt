@@ -157,7 +157,8 @@ none-before objects entries name end place moved none lt early =
     omega (arith, late, early))))
 
 -- an entry of a name is what its object defines under it
-pub entry-defines : (objects : List Named) (entries : List Entry) (name : List ℕ) (q : ℕ) (d : Entry) → IsPermutation (entries_before objects (length objects)) entries → All (λ (o : Named). IsTaken o.file) objects
+pub entry-defines : (objects : List Named) (entries : List Entry) (name : List ℕ) (q : ℕ) (d : Entry)
+    → IsPermutation (entries_before objects (length objects)) entries → All (λ (o : Named). IsTaken o.file) objects
     → q < length entries → IsNamed objects name (get_or entries q d) → (e : Entry) → get_or entries q d ≡ e
     → (e.object < length objects) × (Some e.name.symbol ≡ definition_of (file_at objects e.object) name)
 entry-defines objects entries name q d moved taken within here e is =

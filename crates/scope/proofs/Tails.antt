@@ -28,7 +28,8 @@ text-at-symbol objects e s lt some within at = text-is objects e lt ∙ name-by-
 one-more : (n : ℕ) → 1 + n ≡ suc n
 one-more n = omega arith
 
-step : (b : Bool) (n d x : ℕ) (xs r : List ℕ) → suc d ≤ length (take (cond b (1 + n) 0) (x ∷ xs)) → (d ≤ length (take n xs) → r ≡ drop d (take n xs)) → r ≡ drop (suc d) (take (cond b (1 + n) 0) (x ∷ xs))
+step : (b : Bool) (n d x : ℕ) (xs r : List ℕ) → suc d ≤ length (take (cond b (1 + n) 0) (x ∷ xs)) → (d ≤ length (take n xs) → r ≡ drop d (take n xs))
+    → r ≡ drop (suc d) (take (cond b (1 + n) 0) (x ∷ xs))
 step true n d x xs r le rest =
     let more : take (1 + n) (x ∷ xs) ≡ x ∷ take n xs = ap (λ k. take k (x ∷ xs)) (one-more n) in
     let less : d ≤ length (take n xs) = omega (arith, le, ap length more) in

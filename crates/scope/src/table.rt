@@ -95,8 +95,8 @@ pub(crate) fn sorted_entries(
     sorted(alloc, objects, entries)
 }
 
-/// The exported names of all objects, as one is looked for among them: by cells, or by halving where
-/// there are no cells, and the entries are sorted.
+/// The exported names of all objects, as one is looked for among them: by cells, or by halving
+/// where there are no cells, and the entries are sorted.
 #[derive(Drop)]
 pub(crate) struct Names {
     entries: Vec<Entry>,

@@ -22,7 +22,8 @@ lacked l (Found finding) status is h = inl (finding, h.0, h.1, is)
 lacked l OutOfMemory status is h = inr is
 
 -- a script that was written, whole or cut
-pub ended : (s : State) (cut : Option Cut) (before after : Option (List ℕ)) (status : Status) → status ≡ dump_status cut → IsGone s cut → Appends before after (libraries_text s cut ++ end_text s cut) → DumpEnds s before after status
+pub ended : (s : State) (cut : Option Cut) (before after : Option (List ℕ)) (status : Status) → status ≡ dump_status cut → IsGone s cut
+    → Appends before after (libraries_text s cut ++ end_text s cut) → DumpEnds s before after status
 ended s None before after status is gone put = inl (is, gone, put)
 ended s (Some cut) before after status is gone put =
     inr (inl (cut.position, (gone.0, lacked (get_or s.libraries cut.position no_library) cut.lack status is gone.1), put))

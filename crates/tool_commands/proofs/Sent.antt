@@ -15,11 +15,13 @@ all_sent (Some x) (Some y) None waiting text h sent = absurd sent
 all_sent (Some x) (Some y) (Some z) waiting text h sent = sent ∙ h
 
 -- a text that was sent behind nothing
-pub sent_alone : (held mid now : Option (List ℕ)) (before waiting text : List ℕ) → before ≡ [] → Appends (append_known held before) (append_known mid waiting) text → Appends mid now waiting → Appends held now text
+pub sent_alone : (held mid now : Option (List ℕ)) (before waiting text : List ℕ) → before ≡ []
+    → Appends (append_known held before) (append_known mid waiting) text → Appends mid now waiting → Appends held now text
 sent_alone held mid now before waiting text none put sent =
     all_sent held mid now waiting text (subst (λ k. Appends k (append_known mid waiting) text) (ap (append_known held) none ∙ nothing_waits held) put) sent
 
 -- the same, where it is known of a result
-pub sent : {T E : Type 0} (r : Result T E) (held mid now : Option (List ℕ)) (before waiting text : List ℕ) → before ≡ [] → Appends (append_known held before) (append_known mid waiting) text → OnOk r (Appends mid now waiting) → OnOk r (Appends held now text)
+pub sent : {T E : Type 0} (r : Result T E) (held mid now : Option (List ℕ)) (before waiting text : List ℕ) → before ≡ []
+    → Appends (append_known held before) (append_known mid waiting) text → OnOk r (Appends mid now waiting) → OnOk r (Appends held now text)
 sent (Ok t) held mid now before waiting text none put done = sent_alone held mid now before waiting text none put done
 sent (Err e) held mid now before waiting text none put done = tt

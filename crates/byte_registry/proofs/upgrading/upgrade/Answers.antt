@@ -28,7 +28,8 @@ returns-in-Ok-upgrade-clause-ok c =
       found.0,
       subst (λ d. IsUpgraded bytes found.0 (synced_plan d)) (sym c.into_disk-made.ensures) (⊎_elim
           (λ current. absurd (old_only (sectors_in bytes) c.is_current.result c.is_current.ensures found.0 c.if-is_current.false (subst (λ m. Stands m found.0) is.starts.now current.0)))
-          (λ former. inl (upgraded_old bytes c.in-Ok.given is c.in-Ok-upgrade.registry found.0 former.0 former.1 (done.any_moment refl found.0 former.0) (done.placed_old refl found.0 former.0) (done.log_old refl found.0 former.0)))
+          (λ former. inl (upgraded_old bytes c.in-Ok.given is c.in-Ok-upgrade.registry found.0 former.0 former.1
+          (done.any_moment refl found.0 former.0) (done.placed_old refl found.0 former.0) (done.log_old refl found.0 former.0)))
           found.1),
     )
 

@@ -57,7 +57,9 @@ returns-in_err-refused-in-Whole-clause-err g c =
     let missed = subst (Misses g.G.TakesEvents.step s s' mid now line) (sym p.2)
     (subst (λ l. Misses g.G.TakesEvents.step s s' mid now l c.in_err-refused-in-Whole.field-0.0) c.deref.ensures.value c.in_err-refused-in-Whole.ensures.err) in
     rw p.1
-    (off_line g.W.Write.contents g.G.TakesEvents.step _ (place (rest c.loop.pages) held) _ _ _ so.0 so.1 so.2 so.3 so.4 (place (rest c.next_line.new.pages) mid) (place (rest c.next_line.new.pages) now) s' line p.0 got.0 got.1 c.in_ok-next_line.ensures.kept missed)
+    (off_line g.W.Write.contents g.G.TakesEvents.step _ (place (rest c.loop.pages) held) _ _ _ so.0 so.1 so.2 so.3 so.4
+    (place (rest c.next_line.new.pages) mid)
+    (place (rest c.next_line.new.pages) now) s' line p.0 got.0 got.1 c.in_ok-next_line.ensures.kept missed)
 
 pub returns-in_err-put_answer-in-Cut-clause-err : goal.returns-in_err-put_answer-in-Cut-clause-err
 returns-in_err-put_answer-in-Cut-clause-err g c =
@@ -107,7 +109,9 @@ returns-in-Cut-clause-ok g c =
       so.1,
       line,
       so.2,
-      ends_cut g.G.TakesEvents.step _ _ _ _ _ so.1 so.2 so.3 now _ line got.0 got.2 got.3 (Appends-trans held mid now [] (answer_text CutLine) c.in_ok-next_line.ensures.kept c.in_ok-put_answer-in-Cut.ensures.ok) c.count-in-Cut.ensures.lines c.count-in-Cut.ensures.refused,
+      ends_cut g.G.TakesEvents.step _ _ _ _ _ so.1 so.2 so.3 now _ line got.0 got.2 got.3
+          (Appends-trans held mid now [] (answer_text CutLine) c.in_ok-next_line.ensures.kept c.in_ok-put_answer-in-Cut.ensures.ok)
+          c.count-in-Cut.ensures.lines c.count-in-Cut.ensures.refused,
       so.4,
     )
 
@@ -125,7 +129,9 @@ loop-preserved g c =
     let made = subst (λ l. LineStep g.G.TakesEvents.step c.loop.binders l ok.0 c.answer_whole.new.binders) c.deref.ensures.value ok.1 in
     let either = subst (λ l. (waiting ≡ []) ⊎ MayWait l ok.0) c.deref.ensures.value ok.4 in
     tells_on g.W.Write.contents g.G.TakesEvents.step _ _ _ (rest c.next_line.new.pages) _ so.0 c.answer_whole.new.writer waiting so.1 so.2 line ok.0 so.4
-    (answered_more g.G.TakesEvents.step _ _ _ _ _ so.1 so.2 so.3 (place (rest c.next_line.new.pages) now) _ _ line ok.0 c.in_ok-refused-in-Whole.refused got.0 got.1 made (Appends-trans held mid now [] (answer_text ok.0) c.in_ok-next_line.ensures.kept ok.2) ok.3 c.count.ensures.lines c.count.ensures.refused)
+    (answered_more g.G.TakesEvents.step _ _ _ _ _ so.1 so.2 so.3
+    (place (rest c.next_line.new.pages) now) _ _ line ok.0 c.in_ok-refused-in-Whole.refused got.0 got.1 made
+    (Appends-trans held mid now [] (answer_text ok.0) c.in_ok-next_line.ensures.kept ok.2) ok.3 c.count.ensures.lines c.count.ensures.refused)
     either
 
 pub returns-clause-err : goal.returns-clause-err

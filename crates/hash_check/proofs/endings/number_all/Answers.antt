@@ -23,7 +23,8 @@ loop-ending-init c = record {
 pub number_ending-requires-clause-held : goal.number_ending-requires-clause-held
 number_ending-requires-clause-held c =
     held-next c.args.names.now c.loop-ending.last.now (get_or c.args.endings.now c.loop-ending.ending-index none).string.now c.loop-ending.marks c.unmark.new.marks c.loop-ending.numbers
-    c.common_end-common.result c.loop-ending.past c.loop-ending.invariant.past c.loop-ending.invariant.held (c.loop-ending.invariant.next none c.loop-ending-test.true) c.common_end-common.ensures.second
+    c.common_end-common.result c.loop-ending.past c.loop-ending.invariant.past c.loop-ending.invariant.held
+    (c.loop-ending.invariant.next none c.loop-ending-test.true) c.common_end-common.ensures.second
     c.common_end-common.ensures.agree c.common_end-common.ensures.most c.unmark.ensures.low c.unmark.ensures.cleared c.unmark.ensures.high
 
 pub loop-ending-preserved : goal.loop-ending-preserved

@@ -14,13 +14,24 @@ pub overflow_sub-place : goal.overflow_sub-place
 overflow_sub-place c = (c.requires.sound.says c.args.next c.known_place-place.result c.known_place-place.ensures).landing
 
 pub overflow_sub-place-2 : goal.overflow_sub-place-2
-overflow_sub-place-2 c = jump_far c.args.chains.now c.args.places.now c.args.next c.known_place-place.result c.known_place-far.result c.requires.sound c.known_place-place.ensures c.known_place-far.ensures
+overflow_sub-place-2 c = jump_far c.args.chains.now c.args.places.now c.args.next c.known_place-place.result c.known_place-far.result
+    c.requires.sound c.known_place-place.ensures c.known_place-far.ensures
 
 pub overflow_add-result : goal.overflow_add-result
-overflow_add-result c = omega (arith, c.requires.limit, depth_bound c.args.chains.now c.args.places.now c.args.next c.known_place-place.result c.requires.words c.requires.within c.requires.sound c.known_place-place.ensures)
+overflow_add-result c = omega (
+  arith,
+  c.requires.limit,
+  depth_bound c.args.chains.now c.args.places.now c.args.next c.known_place-place.result c.requires.words c.requires.within c.requires.sound
+      c.known_place-place.ensures,
+)
 
 pub overflow_add-result-else-place-far : goal.overflow_add-result-else-place-far
-overflow_add-result-else-place-far c = omega (arith, c.requires.limit, depth_bound c.args.chains.now c.args.places.now c.args.next c.known_place-place.result c.requires.words c.requires.within c.requires.sound c.known_place-place.ensures)
+overflow_add-result-else-place-far c = omega (
+  arith,
+  c.requires.limit,
+  depth_bound c.args.chains.now c.args.places.now c.args.next c.known_place-place.result c.requires.words
+      c.requires.within c.requires.sound c.known_place-place.ensures,
+)
 
 pub returns-then-place-far : goal.returns-then-place-far
 returns-then-place-far c p at =

@@ -27,7 +27,9 @@ overflow_add-compared c =
     let lt : from < length (chains file) = bucket-within file c.args.hash c.requires.table in
     let ends : Ends (chains file) from = bucket-ends file c.args.hash c.requires.table in
     let some : walk (chains file) from c.loop-at.compared ≢ 0 = λ z. c.loop-at-test.true (c.loop-at.invariant.at ∙ z) in
-    let less : c.loop-at.compared < length (walked (chains file) from) = compared-some (chains file) from c.loop-at.compared (is_exported_as file c.args.name.now) c.requires.table.words.chain_words lt ends c.loop-at.invariant.search some in
+    let less : c.loop-at.compared < length (walked (chains file) from) =
+    compared-some (chains file) from c.loop-at.compared
+    (is_exported_as file c.args.name.now) c.requires.table.words.chain_words lt ends c.loop-at.invariant.search some in
     omega (arith, less, c.symbol_count-count.ensures.chains, compared-most (chains file) from c.requires.table.words.chain_words lt ends)
 
 pub loop-at-smaller : goal.loop-at-smaller
@@ -37,7 +39,9 @@ loop-at-smaller c =
     let lt : from < length (chains file) = bucket-within file c.args.hash c.requires.table in
     let ends : Ends (chains file) from = bucket-ends file c.args.hash c.requires.table in
     let some : walk (chains file) from c.loop-at.compared ≢ 0 = λ z. c.loop-at-test.true (c.loop-at.invariant.at ∙ z) in
-    let less : c.loop-at.compared < length (walked (chains file) from) = compared-some (chains file) from c.loop-at.compared (is_exported_as file c.args.name.now) c.requires.table.words.chain_words lt ends c.loop-at.invariant.search some in
+    let less : c.loop-at.compared < length (walked (chains file) from) =
+    compared-some (chains file) from c.loop-at.compared
+    (is_exported_as file c.args.name.now) c.requires.table.words.chain_words lt ends c.loop-at.invariant.search some in
     omega (arith, less)
 
 pub loop-at-preserved : goal.loop-at-preserved
@@ -75,4 +79,5 @@ pub returns-clause-compared : goal.returns-clause-compared
 returns-clause-compared c =
     let file : List ℕ = c.args.object.now in
     let from : ℕ = bucket_of (buckets file) c.args.hash in
-    compared-miss (chains file) from c.loop-at.compared (is_exported_as file c.args.name.now) c.requires.table.words.chain_words (bucket-within file c.args.hash c.requires.table) c.loop-at.invariant.search (sym c.loop-at.invariant.at ∙ c.loop-at-test.false)
+    compared-miss (chains file) from c.loop-at.compared (is_exported_as file c.args.name.now) c.requires.table.words.chain_words
+    (bucket-within file c.args.hash c.requires.table) c.loop-at.invariant.search (sym c.loop-at.invariant.at ∙ c.loop-at-test.false)

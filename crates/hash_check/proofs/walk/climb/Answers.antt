@@ -28,10 +28,13 @@ loop-path-preserved c =
     let pushed : c.push.new.self.items ≡ c.loop-path.path.items ++ c.loop-path.at ∷ [] = c.in_ok-push.ensures.items in
     let longer : length c.push.new.self.items ≡ length c.loop-path.path.items + 1 = ap length pushed ∙ length_push c.loop-path.path.items c.loop-path.at in
     record {
-      at = c.next-at.ensures ∙ sym (ap (walk c.args.chains.now c.args.from) longer ∙ walk-next c.args.chains.now c.args.from (length c.loop-path.path.items) ∙ ap (slice_index c.args.chains.now) (sym c.loop-path.invariant.at));
+      at = c.next-at.ensures ∙ sym (ap (walk c.args.chains.now c.args.from) longer
+          ∙ walk-next c.args.chains.now c.args.from (length c.loop-path.path.items)
+          ∙ ap (slice_index c.args.chains.now) (sym c.loop-path.invariant.at));
       within = omega (arith, c.next-at.ensures, c.requires.words c.loop-path.at 0 c.loop-path.invariant.within);
       room = omega (arith, longer, c.if-len-count.false, c.len.ensures, c.count.ensures, c.loop-path.path.ok.0);
-      path = subst (IsPath c.args.chains.now c.args.from) (sym pushed) (path-push c.args.chains.now c.args.from c.loop-path.path.items c.loop-path.at c.loop-path.invariant.path c.loop-path.invariant.at some);
+      path = subst (IsPath c.args.chains.now c.args.from) (sym pushed)
+          (path-push c.args.chains.now c.args.from c.loop-path.path.items c.loop-path.at c.loop-path.invariant.path c.loop-path.invariant.at some);
     }
 
 pub returns-clause-ends : goal.returns-clause-ends

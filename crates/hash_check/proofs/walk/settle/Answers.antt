@@ -11,16 +11,22 @@ use Rattle.hash_check.proofs.walk.settle.Goals as goal
 
 pub next-requires : goal.next-requires
 next-requires c =
-    popped-index c.args.chains.now (slice_index c.args.path.now.items 0) c.loop-i.path.items c.pop.new.self.items c.in-Some.i c.requires.words c.requires.within c.loop-i.invariant.path c.in-Some.ensures.items
+    popped-index c.args.chains.now (slice_index c.args.path.now.items 0) c.loop-i.path.items c.pop.new.self.items c.in-Some.i c.requires.words
+    c.requires.within c.loop-i.invariant.path c.in-Some.ensures.items
 
 pub bounds-places-i : goal.bounds-places-i
 bounds-places-i c =
-    let lt : c.in-Some.i < length c.args.chains.now = popped-index c.args.chains.now (slice_index c.args.path.now.items 0) c.loop-i.path.items c.pop.new.self.items c.in-Some.i c.requires.words c.requires.within c.loop-i.invariant.path c.in-Some.ensures.items in
+    let lt : c.in-Some.i < length c.args.chains.now =
+    popped-index c.args.chains.now (slice_index c.args.path.now.items 0) c.loop-i.path.items c.pop.new.self.items c.in-Some.i c.requires.words
+    c.requires.within c.loop-i.invariant.path c.in-Some.ensures.items in
     omega (arith, c.loop-i.invariant.size, lt)
 
 pub place_before-requires-clause-known : goal.place_before-requires-clause-known
 place_before-requires-clause-known c =
-    subst (Known c.loop-i.places) (sym c.next.ensures) (popped-known c.args.chains.now c.loop-i.places (slice_index c.args.path.now.items 0) c.loop-i.path.items c.pop.new.self.items c.in-Some.i c.loop-i.invariant.path c.loop-i.invariant.known c.in-Some.ensures.items)
+    subst (Known c.loop-i.places) (sym c.next.ensures)
+    (popped-known c.args.chains.now c.loop-i.places
+    (slice_index c.args.path.now.items 0) c.loop-i.path.items c.pop.new.self.items c.in-Some.i c.loop-i.invariant.path c.loop-i.invariant.known
+    c.in-Some.ensures.items)
 
 pub loop-i-preserved : goal.loop-i-preserved
 loop-i-preserved c =
@@ -37,7 +43,9 @@ loop-i-preserved c =
       path = path-front chains from front i path;
       known = subst (Known (set c.loop-i.places i (Some new))) (path-last chains from front i path) (known-new c.loop-i.places i new room);
       sound = sound-set chains c.loop-i.places i new c.loop-i.invariant.sound (path-last-some chains from front i path) room
-          (popped-known chains c.loop-i.places from c.loop-i.path.items front i c.loop-i.invariant.path c.loop-i.invariant.known c.in-Some.ensures.items) (subst (λ j. (p : Place) → place_at c.loop-i.places j ≡ Some p → IsBefore chains j p new) c.next.ensures c.place_before.ensures);
+          (popped-known chains c.loop-i.places from c.loop-i.path.items front i c.loop-i.invariant.path c.loop-i.invariant.known
+          c.in-Some.ensures.items) (subst (λ j. (p : Place) → place_at c.loop-i.places j ≡ Some p → IsBefore chains j p new) c.next.ensures
+          c.place_before.ensures);
       keeps = record { known = λ k h. known-set c.loop-i.places i new k (c.loop-i.invariant.keeps.known k h) };
     }
 

@@ -15,7 +15,8 @@ pub fresh_bytes-requires : goal.fresh_bytes-requires
 fresh_bytes-requires c =
     let file = c.args.object.now in
     let h : ProgramHeader = c.in-Some.header in
-    let road = YieldsList-from_first (λ (x : ProgramHeader). x) (λ (hs : List ProgramHeader). hs) (loads file) (c.into_iter-header-iterator.ensures.into_iter_gives ∙ c.segments-header-items.ensures.segments) in
+    let road = YieldsList-from_first (λ (x : ProgramHeader). x) (λ (hs : List ProgramHeader). hs) (loads file)
+    (c.into_iter-header-iterator.ensures.into_iter_gives ∙ c.segments-header-items.ensures.segments) in
     let turn = YieldsList-turn road c.loop-header.yielded _ c.loop-header.yielded_by _ _ h c.in-Some.is c.next.ensures.steps in
     let at : slice_get (loads file) (length c.loop-header.yielded) ≡ Some h = slice_get_read (loads file) (length (loads file)) (length c.loop-header.yielded) h refl turn.0 turn.1 in
     omega (arith, ap length c.contents_of.ensures.contents, contents-fit file (length c.loop-header.yielded) h c.contents_of.ensures.accepted at)
@@ -24,7 +25,8 @@ pub overflow_add-base : goal.overflow_add-base
 overflow_add-base c =
     let file = c.args.object.now in
     let h : ProgramHeader = c.in-Some.header in
-    let road = YieldsList-from_first (λ (x : ProgramHeader). x) (λ (hs : List ProgramHeader). hs) (loads file) (c.into_iter-header-iterator.ensures.into_iter_gives ∙ c.segments-header-items.ensures.segments) in
+    let road = YieldsList-from_first (λ (x : ProgramHeader). x) (λ (hs : List ProgramHeader). hs) (loads file)
+    (c.into_iter-header-iterator.ensures.into_iter_gives ∙ c.segments-header-items.ensures.segments) in
     let turn = YieldsList-turn road c.loop-header.yielded _ c.loop-header.yielded_by _ _ h c.in-Some.is c.next.ensures.steps in
     let at : slice_get (loads file) (length c.loop-header.yielded) ≡ Some h = slice_get_read (loads file) (length (loads file)) (length c.loop-header.yielded) h refl turn.0 turn.1 in
     omega (arith, reach-bounds file (length c.loop-header.yielded) h at, c.requires)
@@ -53,7 +55,8 @@ returns c =
     let file = c.args.object.now in
     let base = c.args.base in
     let start : List ImageSegment = c.args.segments.now.items in
-    let road = YieldsList-from_first (λ (x : ProgramHeader). x) (λ (hs : List ProgramHeader). hs) (loads file) (c.into_iter-header-iterator.ensures.into_iter_gives ∙ c.segments-header-items.ensures.segments) in
+    let road = YieldsList-from_first (λ (x : ProgramHeader). x) (λ (hs : List ProgramHeader). hs) (loads file)
+    (c.into_iter-header-iterator.ensures.into_iter_gives ∙ c.segments-header-items.ensures.segments) in
     let end = YieldsList-end road c.loop-header.yielded _ c.loop-header.yielded_by _ _ c.in-None.is c.next.ensures.steps in
     c.loop-header.invariant
     ∙ ap (λ (hs : List ProgramHeader). start ++ map fresh (map (loaded_at base file) hs)) (sym (map-id c.loop-header.yielded) ∙ end.0)

@@ -13,7 +13,13 @@ use Rattle.image.proofs.relocate.relocate.Goals as goal
 
 pub loop-own-init : goal.loop-own-init
 unfolding undefined_refusal
-loop-own-init c = record { ahead = subst (λ (o : Option (List Named)). IfSome o (λ a. a ≡ map named c.args.objects.now)) (sym c.new-lookahead.ensures) tt; headings = refl; bytes = λ a. refl; first = refl }
+loop-own-init c = record {
+  ahead = subst (λ (o : Option (List Named)). IfSome o (λ a. a ≡ map named c.args.objects.now))
+      (sym c.new-lookahead.ensures) tt;
+  headings = refl;
+  bytes = λ a. refl;
+  first = refl;
+}
 
 pub loop-own-preserved : goal.loop-own-preserved
 loop-own-preserved c =

@@ -28,6 +28,7 @@ as_long a b c line g g' le front keeps is =
 pub loop-preserved : goal.loop-preserved
 loop-preserved g c =
     elim c.match-write.branch [
-      | in-Ok w ↦ longer _ (g.E.Write.contents c.loop.errors) _ c.args.line.now c.loop.given w.in-Ok.count _ c.loop.invariant.0 c.loop.invariant.1 w.in-Ok.ensures.bound w.in-Ok.ensures.bytes w.given-is
+      | in-Ok w ↦ longer _ (g.E.Write.contents c.loop.errors) _ c.args.line.now c.loop.given w.in-Ok.count _ c.loop.invariant.0 c.loop.invariant.1
+          w.in-Ok.ensures.bound w.in-Ok.ensures.bytes w.given-is
       | in-Err w ↦ as_long _ (g.E.Write.contents c.loop.errors) _ c.args.line.now c.loop.given _ c.loop.invariant.0 c.loop.invariant.1 w.in-Err.ensures.bytes w.given-is
     ]

@@ -11,7 +11,8 @@ returns-in-Ok-clause-ok g c s at = record { stored = c.admit_files.ensures.read.
 
 pub returns-in-Err-clause-any_moment : goal.returns-in-Err-clause-any_moment
 returns-in-Err-clause-any_moment g c honest =
-    subst (λ disk. LeavesOnly (g.D.Disk.facts c.args.store.disk) (g.D.Disk.facts disk) (Mixture (g.D.Disk.facts c.args.store.disk))) (sym c.into_disk.ensures) (c.admit_files.ensures.read.leaves honest)
+    subst (λ disk. LeavesOnly (g.D.Disk.facts c.args.store.disk) (g.D.Disk.facts disk) (Mixture (g.D.Disk.facts c.args.store.disk)))
+    (sym c.into_disk.ensures) (c.admit_files.ensures.read.leaves honest)
 
 pub returns-in-Err-clause-damaged : goal.returns-in-Err-clause-damaged
 returns-in-Err-clause-damaged g c s at = c.in-Err.ensures.damaged s at

@@ -42,7 +42,8 @@ returns-in-Err-commit-clause-answer g c s at libraries =
 pub returns-in-Err-clause-any_moment : goal.returns-in-Err-clause-any_moment
 returns-in-Err-clause-any_moment g c s at libraries =
     read_leaves g.D.Disk.facts c.args.store s at libraries _
-    (subst (λ disk. LeavesOnly (g.D.Disk.facts c.args.store.disk) (g.D.Disk.facts disk) (Mixture (g.D.Disk.facts c.args.store.disk))) (sym c.into_disk.ensures) (c.admit_old_files.ensures.read.leaves at.honest))
+    (subst (λ disk. LeavesOnly (g.D.Disk.facts c.args.store.disk) (g.D.Disk.facts disk) (Mixture (g.D.Disk.facts c.args.store.disk)))
+    (sym c.into_disk.ensures) (c.admit_old_files.ensures.read.leaves at.honest))
 
 pub returns-in-Ok-commit-clause-placed : goal.returns-in-Ok-commit-clause-placed
 returns-in-Ok-commit-clause-placed g c =
@@ -50,7 +51,8 @@ returns-in-Ok-commit-clause-placed g c =
     let relisted = c.in-Ok-commit.ensures.placed in
     record {
       taken = subst (λ r. AreTaken (layout_of r.sectors (used r c.args.store.entries)) (catalogues_of c.in-Ok-commit.store.root)) read.root
-          (subst (λ es. AreTaken (layout_of c.admit_old_files.new.store.root.sectors (used c.admit_old_files.new.store.root es)) (catalogues_of c.in-Ok-commit.store.root)) read.entries relisted.taken);
+          (subst (λ es. AreTaken (layout_of c.admit_old_files.new.store.root.sectors (used c.admit_old_files.new.store.root es))
+          (catalogues_of c.in-Ok-commit.store.root)) read.entries relisted.taken);
       entries = relisted.entries ∙ read.entries;
     }
 

@@ -35,13 +35,15 @@ returns-in_err-step-clause-damaged g c s at =
     let start = c.args.store.now in
     let come = c.loop-source.invariant in
     let p = err_from_is_err_and c.from_residual-in_err-step.result c.from_residual-in_err-step.ensures.1 in
-    let apart : AreApart (length start.entries + 1) c.loop-source.walk.needs.places.places = subst (λ k. AreApart k c.loop-source.walk.needs.places.places) come.walked.among.places.limit c.loop-source-test.ensures.apart in
+    let apart : AreApart (length start.entries + 1) c.loop-source.walk.needs.places.places =
+    subst (λ k. AreApart k c.loop-source.walk.needs.places.places) come.walked.among.places.limit c.loop-source-test.ensures.apart in
     rw p.1 (λ is all. c.in_err-step.ensures.damaged s start (come_offers g.D.Disk.facts come) at (sym p.2 ∙ is)
     (next_is_library g.D.Disk.facts c.args.program.now start (g.met.D.Disk.holds_now start.disk) come.walked apart (c.loop-source-test.ensures.yes refl) s at all))
 
 pub returns-clause-libraries : goal.returns-clause-libraries
 returns-clause-libraries g c s at =
-    libraries_read g.D.Disk.facts c.args.program.now c.args.store.now (g.met.D.Disk.holds_now c.args.store.now.disk) c.loop-source.invariant.walked (c.loop-source-test.ensures.no refl) c.loop-source.invariant.libraries s at
+    libraries_read g.D.Disk.facts c.args.program.now c.args.store.now (g.met.D.Disk.holds_now c.args.store.now.disk) c.loop-source.invariant.walked
+    (c.loop-source-test.ensures.no refl) c.loop-source.invariant.libraries s at
 
 pub returns-clause-ok : goal.returns-clause-ok
 returns-clause-ok g c s at =

@@ -20,7 +20,8 @@ returns-in-Current-clause-all_calls g c entries has =
 
 pub returns-in-Current-clause-calls : goal.returns-in-Current-clause-calls
 returns-in-Current-clause-calls g c = rw c.in-Current.is (λ entries has d.
-    subst (λ (es : List PlacedEntry). AreCallsAtMost (file_sectors (get_or es c.args.position d)) (g.D.Disk.facts c.args.store.now.disk) (g.D.Disk.facts c.read_blob.new.self.disk)) has (c.read_blob.ensures.calls d))
+    subst (λ (es : List PlacedEntry). AreCallsAtMost (file_sectors (get_or es c.args.position d)) (g.D.Disk.facts c.args.store.now.disk)
+    (g.D.Disk.facts c.read_blob.new.self.disk)) has (c.read_blob.ensures.calls d))
 
 pub returns-in-Held-clause-read : goal.returns-in-Held-clause-read
 returns-in-Held-clause-read g c = record {
@@ -45,7 +46,8 @@ returns-in-Held-clause-all_calls g c = rw c.in-Held.is (λ entries has.
     let inside : c.args.position < length c.in-Held.snapshot.now.handles = subst (λ (o : Source). c.args.position < offered o c.args.store.now) c.in-Held.is c.requires in
     let by = has.held.each c.args.position no_entry (omega (arith, has.held.count, inside)) in
     sized (λ n. AreCallsExactly (div_ceil n sector_bytes) (g.D.Disk.facts c.args.store.now.disk) (g.D.Disk.facts c.read.new.store.disk))
-    (get_or entries c.args.position no_entry).entry.file_length c.read.result (c.read.ensures.size (get_or entries c.args.position no_entry) by) (c.read.ensures.all_calls (get_or entries c.args.position no_entry) by))
+    (get_or entries c.args.position no_entry).entry.file_length c.read.result (c.read.ensures.size (get_or entries c.args.position no_entry) by)
+    (c.read.ensures.all_calls (get_or entries c.args.position no_entry) by))
 
 pub returns-in-Held-clause-calls : goal.returns-in-Held-clause-calls
 returns-in-Held-clause-calls g c = rw c.in-Held.is (λ entries has d.

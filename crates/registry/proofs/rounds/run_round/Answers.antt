@@ -47,7 +47,9 @@ returns c s stands =
                   runs = subst (λ (l : List Command). RunsOver fused_memory old new s (map request_of l) w'.in-Ok-run.replies.items) w.deref.ensures.value (w'.in-Ok-run.ensures.ok s at);
                   ends = refl;
                 } in
-                round_ran disk s round first fused told memory result inner into stopped w'.in-Ok-run.replies new.disk ran (more_calls w.in-Ok.ensures.opened.calls (answered_calls fused_memory old new _ _ w'.in-Ok-run.ensures.on_any_disk)) (w.replies-is ∙ (λ i. (w'.replies-is i, w.into_disk.ensures i)))
+                round_ran disk s round first fused told memory result inner into stopped w'.in-Ok-run.replies new.disk ran
+                (more_calls w.in-Ok.ensures.opened.calls (answered_calls fused_memory old new _ _ w'.in-Ok-run.ensures.on_any_disk))
+                (w.replies-is ∙ (λ i. (w'.replies-is i, w.into_disk.ensures i)))
             | in-Err-run w' ↦
                 let same = w'.in-Err-run.ensures.err in
                 let not_run : WasNotRun first new.disk OutOfMemory = record {

@@ -27,7 +27,8 @@ loop-round-preserved c =
       same = c.deref-round-items.ensures.value;
       count = search rules;
       room = search rules;
-      runs = λ s stands. rounds_turn c.args.disk c.loop-round.disk c.run_round-replies.result.1 s rounds i c.round-item.result c.loop-round.told.items c.push.new.self.items c.run_round-replies.result.0
+      runs = λ s stands. rounds_turn c.args.disk c.loop-round.disk c.run_round-replies.result.1 s rounds i c.round-item.result
+          c.loop-round.told.items c.push.new.self.items c.run_round-replies.result.0
           (omega (arith, c.loop-round-test.true, c.deref-round-items.ensures.len)) (c.loop-round.invariant.runs s stands)
           (λ t always.
           let leads = c.run_round-replies.ensures t always in
@@ -39,6 +40,7 @@ pub returns-clause-ok : goal.returns-clause-ok
 returns-clause-ok c s stands =
     let ended = c.loop-round.invariant.runs s stands in (
       ended.0,
-      subst (λ (l : List Round). Run RoundLeads (standing c.args.disk s) l c.loop-round.told.items (standing c.loop-round.disk ended.0)) (take_all c.loop-round.round-index c.args.rounds.items (omega (arith, c.loop-round-test.false, c.deref-round-items.ensures.len))) ended.1,
+      subst (λ (l : List Round). Run RoundLeads (standing c.args.disk s) l c.loop-round.told.items (standing c.loop-round.disk ended.0))
+          (take_all c.loop-round.round-index c.args.rounds.items (omega (arith, c.loop-round-test.false, c.deref-round-items.ensures.len))) ended.1,
       ended.2,
     )

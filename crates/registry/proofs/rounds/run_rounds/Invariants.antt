@@ -9,5 +9,6 @@ invariant-loop-round l = record {
   same : l.round-items ≡ l.fn.rounds.items;
   count : vec_len l.told ≡ l.round-index;
   room : length l.round-items ≤ vec_capacity l.told;
-  runs : (s : State) → AlwaysStands l.fn.disk s → (s' : State) × Run RoundLeads (standing l.fn.disk s) (take l.round-index l.fn.rounds.items) l.told.items (standing l.disk s') × AlwaysStands l.disk s';
+  runs : (s : State) → AlwaysStands l.fn.disk s → (s' : State)
+      × Run RoundLeads (standing l.fn.disk s) (take l.round-index l.fn.rounds.items) l.told.items (standing l.disk s') × AlwaysStands l.disk s';
 }

@@ -26,7 +26,9 @@ returns-in-Ok-clause-answered c =
         numbers = subst (λ n. IsInfo n s info) c.in-Ok.ensures.sectors (c.info.ensures.state s ok.2);
         free = c.info.ensures.free;
         runs = c.info.ensures.runs;
-        largest = subst (λ n. (file : List ℕ) → IsFileSize (length file) → (length file ≤ info.free.largest) ↔ (refusal_of_new n (longest_free c.in-Ok.contents) s file ≡ None)) c.in-Ok.ensures.sectors (c.info.ensures.largest s ok.2);
+        largest = subst (λ n. (file : List ℕ) → IsFileSize (length file)
+            → (length file ≤ info.free.largest) ↔ (refusal_of_new n (longest_free c.in-Ok.contents) s file ≡ None)) c.in-Ok.ensures.sectors
+            (c.info.ensures.largest s ok.2);
         form = c.info.ensures.form;
       },
       said.0,

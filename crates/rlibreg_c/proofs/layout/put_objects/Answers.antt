@@ -27,7 +27,16 @@ loop-i-preserved c =
     let own = ap (λ (x : ImageObject). x.segment_count) is in
     record {
       at = end_more c.args.from objects i o lt is c.loop-i.at was.at c.in_ok-at.at c.in_ok-at.ensures.end;
-      first = omega (arith, was.first, own, segments_more objects i o lt, segments_le objects (i + 1), c.objects-object-items.ensures.counted, c.objects-object-items.ensures.fits, c.saturating_add-first_segment.ensures);
+      first = omega (
+        arith,
+        was.first,
+        own,
+        segments_more objects i o lt,
+        segments_le objects (i + 1),
+        c.objects-object-items.ensures.counted,
+        c.objects-object-items.ensures.fits,
+        c.saturating_add-first_segment.ensures,
+      );
       places = take_more_set c.loop-i.places i c.object_place.result (omega arith)
           ∙ ap (λ l. l ++ c.object_place.result ∷ []) was.places
           ∙ ap (λ p. object_places c.args.from 0 (take i objects) ++ p ∷ []) c.object_place.ensures
@@ -38,4 +47,5 @@ loop-i-preserved c =
 pub returns-clause-bytes : goal.returns-clause-bytes
 returns-clause-bytes c =
     c.loop-i.invariant.names
-    ∙ ap (λ (l : List ImageObject). take c.args.from c.args.bytes.now ++ object_names l) (take_all c.loop-i.i c.args.image.now.objects (omega (arith, ap length c.objects-object-items.ensures.objects)))
+    ∙ ap (λ (l : List ImageObject). take c.args.from c.args.bytes.now ++ object_names l)
+    (take_all c.loop-i.i c.args.image.now.objects (omega (arith, ap length c.objects-object-items.ensures.objects)))

@@ -11,7 +11,8 @@ returns-in_err-at-clause-small c =
     let e : Entry = c.index-libraries-i.result in
     let size = size_more 0 (take i libraries) e (take (i + 1) libraries) (library_more libraries i e (omega arith) c.index-libraries-i.is) in
     none_holds c.from_residual.result
-    (lacks (length c.loop-i.entries) (length c.loop-i.names) (length c.args.entries.now) (length c.args.names.now) i (length libraries) c.loop-i.at (length e.0) (length (names_in_row libraries)) (omega (arith, c.loop-i.auto.entries)) (omega (arith, c.loop-i.auto.names)) (omega arith)
+    (lacks (length c.loop-i.entries) (length c.loop-i.names) (length c.args.entries.now) (length c.args.names.now) i (length libraries) c.loop-i.at
+    (length e.0) (length (names_in_row libraries)) (omega (arith, c.loop-i.auto.entries)) (omega (arith, c.loop-i.auto.names)) (omega arith)
     (omega (arith, c.loop-i.invariant.at, size, rows_le row libraries (i + 1)))
     c.in_err-at.ensures.small)
 

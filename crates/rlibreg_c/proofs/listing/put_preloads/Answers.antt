@@ -11,7 +11,9 @@ returns-in_err-at-clause-small c =
     let name = c.index-preloads-i.result in
     let size = size_more c.args.from (preload_entries (take i preloads)) (name, 0) (preload_entries (take (i + 1) preloads)) (preload_more preloads i name (omega arith) c.index-preloads-i.is) in
     none_holds c.from_residual.result
-    (lacks (length c.loop-i.entries) (length c.loop-i.names) (length c.args.entries.now) (length c.args.names.now) c.saturating_add.result (c.args.libraries + length preloads) c.loop-i.at (length name) (c.args.from + length (names_in_row (preload_entries preloads))) (omega (arith, c.loop-i.auto.entries)) (omega (arith, c.loop-i.auto.names)) (omega (arith, c.saturating_add.ensures))
+    (lacks (length c.loop-i.entries) (length c.loop-i.names) (length c.args.entries.now) (length c.args.names.now) c.saturating_add.result
+    (c.args.libraries + length preloads) c.loop-i.at (length name) (c.args.from + length (names_in_row (preload_entries preloads)))
+    (omega (arith, c.loop-i.auto.entries)) (omega (arith, c.loop-i.auto.names)) (omega (arith, c.saturating_add.ensures))
     (omega (arith, c.loop-i.invariant.at, size, preloads_le preloads (i + 1)))
     c.in_err-at.ensures.small)
 
@@ -30,6 +32,7 @@ loop-i-preserved c =
     ap (λ n. take n c.put_entry.new.entries) (omega (arith, index)) ∙ put.entries ∙ ap (λ n. take n c.loop-i.entries ++ place_of c.loop-i.at (name, 0) ∷ []) index in
     record {
       at = omega (arith, was.at, put.end, size_more c.args.from all (name, 0) next more);
-      entries = places_more c.args.from all (name, 0) next more (take c.args.libraries c.args.entries.now) c.loop-i.entries c.put_entry.new.entries (c.args.libraries + i) (c.args.libraries + (i + 1)) c.loop-i.at was.at was.entries behind;
+      entries = places_more c.args.from all (name, 0) next more (take c.args.libraries c.args.entries.now) c.loop-i.entries c.put_entry.new.entries
+          (c.args.libraries + i) (c.args.libraries + (i + 1)) c.loop-i.at was.at was.entries behind;
       names = names_more c.args.from all (name, 0) next more (take c.args.from c.args.names.now) c.loop-i.names c.put_entry.new.names c.loop-i.at c.in_ok-at.at was.names put.names;
     }

@@ -7,7 +7,8 @@ pub returns-in_err-at-2-clause-small : goal.returns-in_err-at-2-clause-small
 returns-in_err-at-2-clause-small c =
     let loop = c.loop-planned in
     none_holds c.from_residual-in_err-at-2.result
-    (begun_lacks c.args.steps.now loop.planned-index c.planned-item.result (omega arith) c.planned-item.is (length c.args.plan.now) loop.at loop.invariant.at (omega (arith, c.in_err-at-2.ensures.small, loop.auto.plan)))
+    (begun_lacks c.args.steps.now loop.planned-index c.planned-item.result (omega arith) c.planned-item.is
+    (length c.args.plan.now) loop.at loop.invariant.at (omega (arith, c.in_err-at-2.ensures.small, loop.auto.plan)))
 
 pub loop-planned-preserved : goal.loop-planned-preserved
 loop-planned-preserved c =

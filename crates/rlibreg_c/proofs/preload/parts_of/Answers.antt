@@ -5,4 +5,6 @@ use borrow.Author.Tests.{tests}
 use Rattle.rlibreg_c.proofs.preload.parts_of.Goals as goal
 
 pub returns : goal.returns
-returns c = map_from_collect _ c.collect.ensures.ran (YieldsList-from_slice_split _ (λ b. nat_eq b 0) c.args.row.now c.split.ensures.rest c.split.ensures.done c.split.ensures.closure (λ x r q k. search (rules, tests)))
+returns c = map_from_collect _ c.collect.ensures.ran
+    (YieldsList-from_slice_split _ (λ b. nat_eq b 0) c.args.row.now c.split.ensures.rest c.split.ensures.done c.split.ensures.closure
+    (λ x r q k. search (rules, tests)))

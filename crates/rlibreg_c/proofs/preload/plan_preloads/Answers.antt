@@ -10,7 +10,14 @@ pub returns-in-Ok-Some-clause-answered : goal.returns-in-Ok-Some-clause-answered
 returns-in-Ok-Some-clause-answered c =
     let change = c.plan_change in
     let are = rw c.in-Ok-Some.field-0-is at c.in-Ok-Some.ensures in
-    inl (map (λ (name : Bor (List ℕ)). name.now) c.in-Ok-Some.names.items, are, subst (λ (names : List (Bor (List ℕ))). IsChangeAnswered c.args.disk.now (set_preloads (map (λ (name : Bor (List ℕ)). name.now) names)) change.new.plan change.new.text change.result change.result.status) c.deref.ensures.value change.ensures.answered)
+    inl (
+      map (λ (name : Bor (List ℕ)). name.now) c.in-Ok-Some.names.items,
+      are,
+      subst
+          (λ (names : List (Bor (List ℕ))). IsChangeAnswered c.args.disk.now
+          (set_preloads (map (λ (name : Bor (List ℕ)). name.now) names)) change.new.plan change.new.text change.result change.result.status)
+          c.deref.ensures.value change.ensures.answered,
+    )
 
 pub returns-in-Ok-None-clause-answered : goal.returns-in-Ok-None-clause-answered
 returns-in-Ok-None-clause-answered c =

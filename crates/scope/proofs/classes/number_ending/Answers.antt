@@ -25,5 +25,6 @@ loop-number-preserved c =
 pub returns : goal.returns
 returns c = λ t.
     let all : c.loop-number.number ≡ c.args.ending.past = omega (arith, c.loop-number-test.false, c.requires.ending.range, c.loop-number.auto.number-end) in
-    subst (λ p. AreNumbered c.args.objects.now c.args.names.now c.args.ending.first p c.args.fresh c.args.marks.now.items c.loop-number.marks.items c.args.classes.now.items c.loop-number.classes.items) all
+    subst (λ p. AreNumbered c.args.objects.now c.args.names.now c.args.ending.first p c.args.fresh c.args.marks.now.items c.loop-number.marks.items
+    c.args.classes.now.items c.loop-number.classes.items) all
     c.loop-number.invariant.numbered

@@ -11,7 +11,8 @@ returns c =
         first = c.requires.first;
         second = c.requires.second;
         same = rw (c.known_text_at-a.ensures, c.known_text_at-b.ensures) at
-            (common-end-is c.known_text_at-a.result.now c.known_text_at-b.result.now c.common_end.result c.common_end.ensures.first c.common_end.ensures.second c.common_end.ensures.agree c.common_end.ensures.most);
+            (common-end-is c.known_text_at-a.result.now c.known_text_at-b.result.now c.common_end.result c.common_end.ensures.first
+            c.common_end.ensures.second c.common_end.ensures.agree c.common_end.ensures.most);
         order = order;
       };
       order = order;

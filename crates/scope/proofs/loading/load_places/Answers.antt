@@ -33,7 +33,8 @@ returns-in_err-add_needed-clause-refused c =
     let i : ℕ = c.loop-i.i in
     let lt : i < length places = omega (arith, c.count.ensures.count, c.loop-i-test.true) in
     let few : length places ≤ length (available program libraries) = omega (arith, c.count.ensures.few, c.loop-i.invariant.limit) in
-    let object : c.object_at-object.result ≡ object_at (available program libraries) (get_or places i 0) = c.object_at-object.ensures.object ∙ ap (object_at (available program libraries)) c.at.ensures.at in
+    let object : c.object_at-object.result ≡ object_at (available program libraries) (get_or places i 0) = c.object_at-object.ensures.object
+    ∙ ap (object_at (available program libraries)) c.at.ensures.at in
     let same =
     ap (λ ns. find (is_missing ns) (needed_by c.object_at-object.result)) c.in_ok-installed.ensures
     ∙ ap (λ (o : Named). find (is_missing (names_of libraries)) (needed_by o)) object in
@@ -71,7 +72,8 @@ loop-i-preserved c =
 pub returns-clause-ok : goal.returns-clause-ok
 returns-clause-ok c =
     c.into_vec.ensures.places
-    ∙ sym (places-end c.args.program.now c.args.libraries.now c.args.preloads.now c.loop-i.places.places c.loop-i.i c.loop-i.invariant.reached (omega (arith, c.count.ensures.count, c.loop-i-test.false)))
+    ∙ sym (places-end c.args.program.now c.args.libraries.now c.args.preloads.now c.loop-i.places.places c.loop-i.i c.loop-i.invariant.reached
+    (omega (arith, c.count.ensures.count, c.loop-i-test.false)))
 
 pub returns-clause-found : goal.returns-clause-found
 returns-clause-found c =

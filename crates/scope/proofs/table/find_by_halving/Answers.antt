@@ -21,7 +21,9 @@ returns-then-is_eq c =
     let q : ℕ = c.partition_point-first.result in
     let point = IsPartitionPoint-from_clause (is_before c.args.objects.now c.args.name.now) c.args.table.now c.partition_point-first.result c.partition_point-first.ensures.partitioned
     (partitioned c.args.objects.now c.args.table.now c.args.name.now c.requires.table) (λ a r f k. search rules) in
-    let here : order_to objects (get_or c.args.table.now q none) name ≡ Equal = is-equal (order_to objects (get_or c.args.table.now q none) name) (ap is_eq (sym c.compare_to.ensures) ∙ sym c.is_eq.ensures ∙ c.if-is_eq.true) in
+    let here : order_to objects (get_or c.args.table.now q none) name ≡ Equal =
+    is-equal (order_to objects (get_or c.args.table.now q none) name)
+    (ap is_eq (sym c.compare_to.ensures) ∙ sym c.is_eq.ensures ∙ c.if-is_eq.true) in
     found objects c.args.table.now name q none c.requires.table c.requires.taken point c.if-first-table.true here (get_or c.args.table.now q none) refl
 
 pub returns-else-first-table : goal.returns-else-first-table

@@ -7,7 +7,13 @@ use Rattle.program_parts.specs.Told.{IsTold}
 use Rattle.tool_commands.proofs.file.run_file.Goals as goal
 
 pub returns-in-Ok-clause-ends : goal.returns-in-Ok-clause-ends
-returns-in-Ok-clause-ends g c s at = inl (c.in-Ok.bytes.items, c.in-Ok.ensures.ok s at, subst (λ l. IsTold Done l (g.O.Write.contents c.args.output.now) (g.O.Write.contents c.write_bytes.new.output) c.write_bytes.result) c.deref.ensures.value c.write_bytes.ensures)
+returns-in-Ok-clause-ends g c s at = inl (
+  c.in-Ok.bytes.items,
+  c.in-Ok.ensures.ok s at,
+  subst
+      (λ l. IsTold Done l (g.O.Write.contents c.args.output.now) (g.O.Write.contents c.write_bytes.new.output) c.write_bytes.result)
+      c.deref.ensures.value c.write_bytes.ensures,
+)
 
 pub returns-in-Err-clause-ends : goal.returns-in-Err-clause-ends
 returns-in-Err-clause-ends g c s at =

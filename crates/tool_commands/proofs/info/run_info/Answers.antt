@@ -15,7 +15,8 @@ returns g c = record {
       let e = c.info.ensures in
       let is = e.state s at in
       let same : info_text info.sectors info.generation info.libraries info.preloads info.free.sectors info.free.runs info.free.largest
-      ≡ info_text (g.D.Disk.facts store.disk).sectors s.generation (length s.libraries) (length s.preloads) (free_count (layout_in_use store)) (length (free_runs (layout_in_use store))) info.free.largest =
+      ≡ info_text (g.D.Disk.facts store.disk).sectors s.generation (length s.libraries) (length s.preloads) (free_count (layout_in_use store))
+      (length (free_runs (layout_in_use store))) info.free.largest =
       λ i. info_text (is.sectors_are i) (is.generation i) (is.libraries i) (is.preloads i) (e.free i) (e.runs i) info.free.largest in
       let before = g.O.Write.contents c.args.output.now in
       let after = g.O.Write.contents c.tell_info.new.output in

@@ -23,7 +23,9 @@ pub invariant_of-self-in-Ok-Going : goal.invariant_of-self-in-Ok-Going
 invariant_of-self-in-Ok-Going g c =
     let slots : List (Option Binding) = c.self.inside.slots in
     let there : get_or slots c.args.slot None ≡ Some c.in-Some.taken = sym c.take.ensures.taken ∙ c.in-Some.is in
-    let put : c.put.new.self ≡ set slots c.args.slot (Some c.advance.new.binder) = c.put.ensures ∙ ap (λ l. set l c.args.slot (Some c.advance.new.binder)) c.take.ensures.free ∙ set_twice slots c.args.slot None (Some c.advance.new.binder) in
+    let put : c.put.new.self ≡ set slots c.args.slot (Some c.advance.new.binder) = c.put.ensures
+    ∙ ap (λ l. set l c.args.slot (Some c.advance.new.binder)) c.take.ensures.free
+    ∙ set_twice slots c.args.slot None (Some c.advance.new.binder) in
     subst (IsHeld c.advance.new.self) (sym put)
     (stepped_held g.D.Disk.facts c.self.inside.registry slots c.args.slot c.in-Some.taken there c.advance.new.self c.advance.new.binder c.advance.result c.advance.ensures c.self.invariant)
 
@@ -31,7 +33,9 @@ pub invariant_of-self-in-Err : goal.invariant_of-self-in-Err
 invariant_of-self-in-Err g c =
     let slots : List (Option Binding) = c.self.inside.slots in
     let there : get_or slots c.args.slot None ≡ Some c.in-Some.taken = sym c.take.ensures.taken ∙ c.in-Some.is in
-    let put : c.put-in-Err.new.self ≡ set slots c.args.slot (Some c.advance.new.binder) = c.put-in-Err.ensures ∙ ap (λ l. set l c.args.slot (Some c.advance.new.binder)) c.take.ensures.free ∙ set_twice slots c.args.slot None (Some c.advance.new.binder) in
+    let put : c.put-in-Err.new.self ≡ set slots c.args.slot (Some c.advance.new.binder) = c.put-in-Err.ensures
+    ∙ ap (λ l. set l c.args.slot (Some c.advance.new.binder)) c.take.ensures.free
+    ∙ set_twice slots c.args.slot None (Some c.advance.new.binder) in
     subst (IsHeld c.advance.new.self) (sym put)
     (stepped_held g.D.Disk.facts c.self.inside.registry slots c.args.slot c.in-Some.taken there c.advance.new.self c.advance.new.binder c.advance.result c.advance.ensures c.self.invariant)
 
@@ -42,22 +46,28 @@ returns-in-Ok-Final g c =
     subst (λ (k : Slotted g.row.D.Denot). AdvancesIn g.D.Disk.facts k (with_slots c.end.new.self c.take.new.self) c.args.slot (Ok (Final c.in-Ok-Final.answer))) c.self.view_is
     (subst (λ l. AdvancesIn g.D.Disk.facts (with_slots c.self.inside.registry slots) (with_slots c.end.new.self l) c.args.slot (Ok (Final c.in-Ok-Final.answer))) (sym c.take.ensures.free)
     (final_in g.D.Disk.facts c.self.inside.registry slots c.args.slot c.in-Some.taken there c.advance.new.self c.end.new.self c.advance.new.binder c.in-Ok-Final.answer c.self.invariant
-    (subst (λ r. Advances g.D.Disk.facts c.self.inside.registry c.advance.new.self c.in-Some.taken c.advance.new.binder r) (c.in-Ok-Final.is ∙ ap (λ r. Ok r) c.in-Ok-Final.field-0-is) c.advance.ensures) c.end.ensures))
+    (subst (λ r. Advances g.D.Disk.facts c.self.inside.registry c.advance.new.self c.in-Some.taken c.advance.new.binder r)
+    (c.in-Ok-Final.is ∙ ap (λ r. Ok r) c.in-Ok-Final.field-0-is) c.advance.ensures) c.end.ensures))
 
 pub returns-in-Ok-Going : goal.returns-in-Ok-Going
 returns-in-Ok-Going g c =
     let slots : List (Option Binding) = c.self.inside.slots in
     let there : get_or slots c.args.slot None ≡ Some c.in-Some.taken = sym c.take.ensures.taken ∙ c.in-Some.is in
-    let put : c.put.new.self ≡ set slots c.args.slot (Some c.advance.new.binder) = c.put.ensures ∙ ap (λ l. set l c.args.slot (Some c.advance.new.binder)) c.take.ensures.free ∙ set_twice slots c.args.slot None (Some c.advance.new.binder) in
+    let put : c.put.new.self ≡ set slots c.args.slot (Some c.advance.new.binder) = c.put.ensures
+    ∙ ap (λ l. set l c.args.slot (Some c.advance.new.binder)) c.take.ensures.free
+    ∙ set_twice slots c.args.slot None (Some c.advance.new.binder) in
     subst (λ (k : Slotted g.row.D.Denot). AdvancesIn g.D.Disk.facts k (with_slots c.advance.new.self c.put.new.self) c.args.slot (Ok Going)) c.self.view_is
     (subst (λ l. AdvancesIn g.D.Disk.facts (with_slots c.self.inside.registry slots) (with_slots c.advance.new.self l) c.args.slot (Ok Going)) (sym put)
-    (going_in g.D.Disk.facts c.self.inside.registry slots c.args.slot c.in-Some.taken there c.advance.new.self c.advance.new.binder c.advance.result c.advance.ensures (c.in-Ok-Going.is ∙ ap (λ r. Ok r) c.in-Ok-Going.field-0-is)))
+    (going_in g.D.Disk.facts c.self.inside.registry slots c.args.slot c.in-Some.taken there c.advance.new.self c.advance.new.binder c.advance.result
+    c.advance.ensures (c.in-Ok-Going.is ∙ ap (λ r. Ok r) c.in-Ok-Going.field-0-is)))
 
 pub returns-in-Err : goal.returns-in-Err
 returns-in-Err g c =
     let slots : List (Option Binding) = c.self.inside.slots in
     let there : get_or slots c.args.slot None ≡ Some c.in-Some.taken = sym c.take.ensures.taken ∙ c.in-Some.is in
-    let put : c.put-in-Err.new.self ≡ set slots c.args.slot (Some c.advance.new.binder) = c.put-in-Err.ensures ∙ ap (λ l. set l c.args.slot (Some c.advance.new.binder)) c.take.ensures.free ∙ set_twice slots c.args.slot None (Some c.advance.new.binder) in
+    let put : c.put-in-Err.new.self ≡ set slots c.args.slot (Some c.advance.new.binder) = c.put-in-Err.ensures
+    ∙ ap (λ l. set l c.args.slot (Some c.advance.new.binder)) c.take.ensures.free
+    ∙ set_twice slots c.args.slot None (Some c.advance.new.binder) in
     subst (λ (k : Slotted g.row.D.Denot). AdvancesIn g.D.Disk.facts k (with_slots c.advance.new.self c.put-in-Err.new.self) c.args.slot (Err c.in-Err.refusal)) c.self.view_is
     (subst (λ l. AdvancesIn g.D.Disk.facts (with_slots c.self.inside.registry slots) (with_slots c.advance.new.self l) c.args.slot (Err c.in-Err.refusal)) (sym put)
     (again_in g.D.Disk.facts c.self.inside.registry slots c.args.slot c.in-Some.taken there c.advance.new.self c.advance.new.binder c.advance.result c.advance.ensures c.in-Err.refusal c.in-Err.is))

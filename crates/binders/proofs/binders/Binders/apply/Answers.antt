@@ -15,12 +15,15 @@ use Rattle.binders.proofs.binders.Binders.apply.Goals as goal
 
 pub returns-clause-applied : goal.returns-clause-applied
 returns-clause-applied g c =
-    subst (λ (k : Slotted g.row.D.Denot). (s : State) → IsAt g.D.Disk.facts k.registry s → Applies g.D.Disk.facts k.registry c.apply.new.self s (request_of c.args.command.now) c.apply.result) c.self.view_is c.apply.ensures.applied
+    subst (λ (k : Slotted g.row.D.Denot). (s : State) → IsAt g.D.Disk.facts k.registry s
+    → Applies g.D.Disk.facts k.registry c.apply.new.self s (request_of c.args.command.now) c.apply.result) c.self.view_is c.apply.ensures.applied
 
 pub returns-clause-all_calls : goal.returns-clause-all_calls
 returns-clause-all_calls g c =
     let facts = g.D.Disk.facts in
-    subst (λ (k : Slotted g.row.D.Denot). (s : State) → IsAt facts k.registry s → IfAccepted c.apply.result (AreCallsExactly (calls_of s (request_of c.args.command.now)) (facts k.registry.disk) (facts c.apply.new.self.disk))) c.self.view_is
+    subst (λ (k : Slotted g.row.D.Denot). (s : State) → IsAt facts k.registry s
+    → IfAccepted c.apply.result (AreCallsExactly (calls_of s (request_of c.args.command.now)) (facts k.registry.disk)
+    (facts c.apply.new.self.disk))) c.self.view_is
     (λ s at. c.apply.ensures.all_calls s at.stored)
 
 pub returns-clause-fly_on : goal.returns-clause-fly_on

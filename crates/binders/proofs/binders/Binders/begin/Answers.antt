@@ -27,6 +27,7 @@ pub returns : goal.returns
 returns g c =
     let lowest : lowest_free c.self.inside.slots ≡ Some c.in-Some.slot = sym c.lowest_free.ensures.lowest ∙ c.in-Some.is in
     subst (λ (k : Slotted g.row.D.Denot). BeginsIn g.D.Disk.facts k (with_slots c.begin.new.self c.put.new.self) c.args.program.now c.args.base (Ok c.in-Some.slot)) c.self.view_is
-    (subst (λ slots. BeginsIn g.D.Disk.facts (with_slots c.self.inside.registry c.self.inside.slots) (with_slots c.begin.new.self slots) c.args.program.now c.args.base (Ok c.in-Some.slot)) (sym c.put.ensures)
+    (subst (λ slots. BeginsIn g.D.Disk.facts (with_slots c.self.inside.registry c.self.inside.slots)
+    (with_slots c.begin.new.self slots) c.args.program.now c.args.base (Ok c.in-Some.slot)) (sym c.put.ensures)
     (begun_in g.D.Disk.facts c.self.inside.registry c.begin.new.self c.self.inside.slots c.args.program.now c.args.base c.in_ok-binder.binder c.in-Some.slot lowest
     (subst (λ r. Begins g.D.Disk.facts c.self.inside.registry c.begin.new.self c.args.program.now c.args.base r) c.in_ok-binder.was c.begin.ensures)))

@@ -34,7 +34,8 @@ loop-event-preserved g c =
       happened =
           subst (λ (l : List EventReply). Run (EventStep g.D.Disk.facts) c.args.self.now (map happening_of (take (i + 1) xs)) l c.happen-reply.new.self) (sym items)
           (subst (λ (l : List Happening). Run (EventStep g.D.Disk.facts) c.args.self.now l (c.loop-event.replies.items ++ c.happen-reply.result ∷ []) c.happen-reply.new.self) (sym more)
-          (run_more (EventStep g.D.Disk.facts) c.args.self.now c.loop-event.self c.happen-reply.new.self asked c.happen-reply.result (map happening_of (take i xs)) c.loop-event.replies.items c.loop-event.invariant.happened
+          (run_more (EventStep g.D.Disk.facts) c.args.self.now c.loop-event.self c.happen-reply.new.self asked c.happen-reply.result
+          (map happening_of (take i xs)) c.loop-event.replies.items c.loop-event.invariant.happened
           c.happen-reply.ensures));
     }
 

@@ -24,7 +24,9 @@ returns-in-Some-clause-not_installed g c s at =
     (λ is. absurd (c.read.ensures.installed is), λ none. absurd (none c.in-Some.position no_library named.0 named.1))
 
 pub returns-in-Some-clause-all_calls : goal.returns-in-Some-clause-all_calls
-returns-in-Some-clause-all_calls g c = of_length (λ n. AreCallsExactly (div_ceil n 512) (g.D.Disk.facts c.args.self.now.disk) (g.D.Disk.facts c.read.new.self.disk)) _ c.read.result (c.read.ensures.all_calls no_entry) (c.read.ensures.length no_entry)
+returns-in-Some-clause-all_calls g c = of_length
+    (λ n. AreCallsExactly (div_ceil n 512) (g.D.Disk.facts c.args.self.now.disk) (g.D.Disk.facts c.read.new.self.disk)) _ c.read.result
+    (c.read.ensures.all_calls no_entry) (c.read.ensures.length no_entry)
 
 pub returns-in-None-clause-not_installed : goal.returns-in-None-clause-not_installed
 returns-in-None-clause-not_installed g c s at =

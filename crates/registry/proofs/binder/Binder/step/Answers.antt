@@ -18,7 +18,8 @@ returns-then-not-has_next-clause-step g c flight flies =
     let whole = λ (o : Option Walk). let b : Binding = record { program = c.self.inside.program.items; base = c.self.inside.base; snapshot = c.self.inside.snapshot; found = found_of o } in b in
     let walk : Walk = c.in-Some.walk in
     let here : Flies g.D.Disk.facts c.args.store.now (whole (Some walk)) flight =
-    subst (λ (o : Option Walk). Flies g.D.Disk.facts c.args.store.now (whole o) flight) c.in-Some.is (subst (λ (b : Binding). Flies g.D.Disk.facts c.args.store.now b flight) (sym c.self.view_is) flies) in
+    subst (λ (o : Option Walk). Flies g.D.Disk.facts c.args.store.now (whole o) flight) c.in-Some.is
+    (subst (λ (b : Binding). Flies g.D.Disk.facts c.args.store.now b flight) (sym c.self.view_is) flies) in
     let holds = g.met.D.Disk.holds_now here.taken.disk in
     let outside = c.if-not-has_next.ensures.no refl in
     elim c.match-answer.branch [
@@ -26,7 +27,9 @@ returns-then-not-has_next-clause-step g c flight flies =
           (ap (λ (p : List ℕ). walked_refusal p c.self.inside.base walk.needs.missing walk.files.items) (sym c.deref.ensures.value) ∙ w.in-Ok.ensures.accepted)
           (w.in-Ok.ensures.ok ∙ ap (λ (p : List ℕ). image_of (walked_objects p c.self.inside.base walk.files.items)) c.deref.ensures.value)
           (λ a. w.in-Ok.ensures.bytes a ∙ ap (λ (p : List ℕ). byte_of (walked_objects p c.self.inside.base walk.files.items) a) c.deref.ensures.value))
-      | in-Err w ↦ rw w.result-is (rw w.refused.ensures.value (refused_at_last g.D.Disk.facts c.args.store.now (whole (Some walk)) flight here holds walk.needs walk.files.items refl outside w.in-Err.refusal
+      | in-Err w ↦ rw w.result-is (rw w.refused.ensures.value
+          (refused_at_last g.D.Disk.facts c.args.store.now
+          (whole (Some walk)) flight here holds walk.needs walk.files.items refl outside w.in-Err.refusal
           (subst (λ (p : List ℕ). IsFirstOrWantsMemory (walked_refusal p c.self.inside.base walk.needs.missing walk.files.items) w.in-Err.refusal) c.deref.ensures.value w.in-Err.ensures.refused)))
     ]
 
@@ -35,7 +38,8 @@ returns-clause-step g c flight flies =
     let whole = λ (o : Option Walk). let b : Binding = record { program = c.self.inside.program.items; base = c.self.inside.base; snapshot = c.self.inside.snapshot; found = found_of o } in b in
     let walk : Walk = c.in-Some.walk in
     let here : Flies g.D.Disk.facts c.args.store.now (whole (Some walk)) flight =
-    subst (λ (o : Option Walk). Flies g.D.Disk.facts c.args.store.now (whole o) flight) c.in-Some.is (subst (λ (b : Binding). Flies g.D.Disk.facts c.args.store.now b flight) (sym c.self.view_is) flies) in
+    subst (λ (o : Option Walk). Flies g.D.Disk.facts c.args.store.now (whole o) flight) c.in-Some.is
+    (subst (λ (b : Binding). Flies g.D.Disk.facts c.args.store.now b flight) (sym c.self.view_is) flies) in
     let holds = g.met.D.Disk.holds_now here.taken.disk in
     let offers = flies_offers g.D.Disk.facts here _ refl in
     elim c.match-step.branch [
@@ -47,9 +51,15 @@ returns-clause-step g c flight flies =
       | in-Err-step w ↦
           let same = w.in-Err-step.ensures.same in
           let e : StoreRefusal = w.in-Err-step.refusal in
-          rw w.result-is (rw w.unread.ensures.value (subst (λ (k : Binding). IsStep g.D.Disk.facts c.args.store.now c.step.new.store flight k (unread_step e)) (λ i. with_found (whole (Some walk)) (sym same.0 i) (sym same.1 i))
-          (unread_on g.D.Disk.facts c.args.store.now (whole (Some walk)) flight here holds walk.needs walk.files.items refl c.step.new.store c.step.ensures.read c.if-not-has_next.ensures.apart (c.if-not-has_next.ensures.yes refl)
+          rw w.result-is (rw w.unread.ensures.value
+          (subst (λ (k : Binding). IsStep g.D.Disk.facts c.args.store.now c.step.new.store flight k (unread_step e))
+          (λ i. with_found (whole (Some walk)) (sym same.0 i) (sym same.1 i))
+          (unread_on g.D.Disk.facts c.args.store.now
+          (whole (Some walk)) flight here holds walk.needs walk.files.items refl c.step.new.store c.step.ensures.read
+          c.if-not-has_next.ensures.apart (c.if-not-has_next.ensures.yes refl)
           (c.step.ensures.calls here.taken.entries offers.entries no_entry) e w.in-Err-step.ensures.refusals
           (λ is. w.in-Err-step.ensures.damaged flight.state here.taken offers here.at.stored is
-          (next_library g.D.Disk.facts c.args.store.now (whole (Some walk)) flight here holds walk.needs walk.files.items refl c.step.new.store c.step.ensures.read c.if-not-has_next.ensures.apart (c.if-not-has_next.ensures.yes refl))))))
+          (next_library g.D.Disk.facts c.args.store.now
+          (whole (Some walk)) flight here holds walk.needs walk.files.items refl c.step.new.store c.step.ensures.read
+          c.if-not-has_next.ensures.apart (c.if-not-has_next.ensures.yes refl))))))
     ]

@@ -9,5 +9,6 @@ use Rattle.registry.proofs.needs.Needs.add_each.Given as goal
 
 abbrev pub invariant-loop-name : goal.invariant-loop-name
 invariant-loop-name g l =
-    ((entries : List PlacedEntry) → HasEntries l.source l.store entries → HaveOwnNames entries → l.self ≡ more_needs (entry_names entries) l.fn.self l.needer (take (length l.yielded) (needed l.object)))
+    ((entries : List PlacedEntry) → HasEntries l.source l.store entries → HaveOwnNames entries
+    → l.self ≡ more_needs (entry_names entries) l.fn.self l.needer (take (length l.yielded) (needed l.object)))
     × Grows l.fn.self l.self

@@ -32,4 +32,5 @@ returns g c =
     (subst (λ (ps : List ℕ). All (λ p. p < length b.snapshot.handles) ps) c.preloads-preloads.ensures.value c.preloads-preloads.ensures.inside)
     (subst (λ (ps : List ℕ). IsDistinct nat_eq ps) c.preloads-preloads.ensures.value c.preloads-preloads.ensures.once) in
     subst (λ k. Advances g.D.Disk.facts k c.step.new.store before c.step.new.self c.step.result) c.self.view_is
-    (has_advanced g.D.Disk.facts c.self.inside.store c.step.new.store before.program before.base before c.step.new.self c.step.result usable c.step.ensures.read c.step.ensures.stays c.step.ensures.step bounds c.step.ensures.refusals c.step.ensures.answers)
+    (has_advanced g.D.Disk.facts c.self.inside.store c.step.new.store before.program before.base before c.step.new.self c.step.result usable
+    c.step.ensures.read c.step.ensures.stays c.step.ensures.step bounds c.step.ensures.refusals c.step.ensures.answers)

@@ -4,4 +4,5 @@ use Rattle.registry.proofs.registry.Registry.apply.Goals as goal
 
 pub returns-clause-applied : goal.returns-clause-applied
 returns-clause-applied g c s at =
-    tested g.D.Disk.facts c.args.self.now c.reply_to-reply.new.self s at (g.met.D.Disk.holds_now c.args.self.now.disk) (request_of c.args.command.now) c.reply_to-reply.result (c.reply_to-reply.ensures.untested s at.stored)
+    tested g.D.Disk.facts c.args.self.now c.reply_to-reply.new.self s at (g.met.D.Disk.holds_now c.args.self.now.disk)
+    (request_of c.args.command.now) c.reply_to-reply.result (c.reply_to-reply.ensures.untested s at.stored)

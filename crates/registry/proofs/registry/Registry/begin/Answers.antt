@@ -16,8 +16,10 @@ pub returns : goal.returns
 returns g c =
     subst (λ k. Begins g.D.Disk.facts k c.take.new.store c.args.program.now c.args.base c.match-take.result) c.self.view_is
     (elim c.match-take.branch [
-      | in-Ok w ↦ rw w.result-is (is_begun g.D.Disk.facts c.self.inside.store c.take.new.store c.args.program.now c.args.base w.in-Ok.snapshot c.count-count.ensures.own_names c.count-count.ensures.lengths
-          (subst (λ r. Takes g.D.Disk.facts c.self.inside.store c.take.new.store r) w.in-Ok.is c.take.ensures) c.in_ok-program.program.items (c.in_ok-program.ensures.items_if_clones_equal (λ x y is. is)))
+      | in-Ok w ↦ rw w.result-is (is_begun g.D.Disk.facts c.self.inside.store c.take.new.store c.args.program.now c.args.base w.in-Ok.snapshot
+          c.count-count.ensures.own_names c.count-count.ensures.lengths
+          (subst (λ r. Takes g.D.Disk.facts c.self.inside.store c.take.new.store r) w.in-Ok.is c.take.ensures) c.in_ok-program.program.items
+          (c.in_ok-program.ensures.items_if_clones_equal (λ x y is. is)))
       | in-Err w ↦ rw w.result-is (rw w.refusal_of_read.ensures (isnt_begun g.D.Disk.facts c.self.inside.store c.take.new.store c.args.program.now c.args.base w.in-Err.refusal
           (subst (λ r. Takes g.D.Disk.facts c.self.inside.store c.take.new.store r) w.in-Err.is c.take.ensures)))
     ])

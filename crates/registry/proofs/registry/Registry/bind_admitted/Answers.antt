@@ -22,7 +22,8 @@ pub returns-in-Err-clause-step : goal.returns-in-Err-clause-step
 returns-in-Err-clause-step g c s at =
     let read : IsRead g.D.Disk.facts c.args.self.now c.read_needed.new.store = subst (λ k. IsRead g.D.Disk.facts k c.read_needed.new.store) c.self.view_is c.read_needed.ensures.read in
     let here : IsAt g.D.Disk.facts c.self.inside.store s = subst (λ k. IsAt g.D.Disk.facts k s) (sym c.self.view_is) at in
-    subst (λ r. UntestedStep (phase_of g.D.Disk.facts c.args.self.now s) (bind c.args.program.now c.args.base) (Refused r) (phase_of g.D.Disk.facts c.read_needed.new.store s)) (sym c.refusal_of_read.ensures)
+    subst (λ r. UntestedStep (phase_of g.D.Disk.facts c.args.self.now s) (bind c.args.program.now c.args.base) (Refused r)
+    (phase_of g.D.Disk.facts c.read_needed.new.store s)) (sym c.refusal_of_read.ensures)
     (unread g.D.Disk.facts c.args.self.now c.read_needed.new.store s read at c.args.program.now c.args.base c.requires c.in-Err.refusal
     (subst (λ k. IsReadRefusal g.D.Disk.facts k c.read_needed.new.store c.in-Err.refusal) c.self.view_is c.in-Err.ensures.refusals) (c.in-Err.ensures.damaged s here))
 
@@ -58,4 +59,5 @@ returns-clause-all_calls g c s at =
     let walk : Walk = c.in-Ok.walk in
     subst (λ n. AreCallsExactly n (g.D.Disk.facts c.args.self.now.disk) (g.D.Disk.facts c.read_needed.new.store.disk))
     (sectors_read s c.args.program.now c.args.base walk.files.items walk.needs.missing c.requires (c.in-Ok.ensures.ok s here) (c.in-Ok.ensures.missing s here))
-    (subst (λ k. AreCallsExactly (sum_by (λ (f : Library). data_sectors f.bytes) walk.files.items) (g.D.Disk.facts k.disk) (g.D.Disk.facts c.read_needed.new.store.disk)) c.self.view_is c.in-Ok.ensures.all_calls)
+    (subst (λ k. AreCallsExactly (sum_by (λ (f : Library). data_sectors f.bytes) walk.files.items) (g.D.Disk.facts k.disk)
+    (g.D.Disk.facts c.read_needed.new.store.disk)) c.self.view_is c.in-Ok.ensures.all_calls)

@@ -21,7 +21,8 @@ returns-in_err-name-clause-applied g c s at =
 pub returns-then-is_some-clause-applied : goal.returns-then-is_some-clause-applied
 returns-then-is_some-clause-applied g c s at =
     let here : IsAt g.D.Disk.facts c.self.inside.store s = subst (λ r. IsAt g.D.Disk.facts r s) (sym c.self.view_is) at in
-    let there : has_name (names_of s.libraries) c.in_ok-name.name.now ≡ true = installed s c.in_ok-name.name.now c.position.result (c.position.ensures.state s here) ∙ sym c.is_some.ensures ∙ c.if-is_some.true in
+    let there : has_name (names_of s.libraries) c.in_ok-name.name.now ≡ true =
+    installed s c.in_ok-name.name.now c.position.result (c.position.ensures.state s here) ∙ sym c.is_some.ensures ∙ c.if-is_some.true in
     install_there g.D.Disk.facts c.args.self.now s at c.args.bytes.now c.in_ok-name.ensures.ok c.in_ok-name.name.now c.in_ok-name.ensures.name there
 
 pub put_new-requires-clause-name : goal.put_new-requires-clause-name
@@ -48,5 +49,6 @@ returns-clause-applied g c s at =
       | in-Err w ↦ subst (λ r. AppliesUntested facts old new s (install bytes) (answer_of r)) (sym w.result-is)
           (subst (λ r. AppliesUntested facts old new s (install bytes) (Refused r)) (sym w.refusal_of.ensures)
           (install_refused facts old s here bytes c.in_ok-name.ensures.ok name c.in_ok-name.ensures.name new root absent leaves w.in-Err.refusal
-          (w.in-Err.ensures.refused s here) w.in-Err.ensures.on_any_disk.reopen w.in-Err.ensures.on_any_disk.refusals w.in-Err.ensures.on_any_disk.device w.in-Err.ensures.on_any_disk.same c.in_ok-name.ensures.memory))
+          (w.in-Err.ensures.refused s here) w.in-Err.ensures.on_any_disk.reopen w.in-Err.ensures.on_any_disk.refusals
+          w.in-Err.ensures.on_any_disk.device w.in-Err.ensures.on_any_disk.same c.in_ok-name.ensures.memory))
     ])

@@ -33,7 +33,8 @@ returns-clause-applied g c s at =
     let here : IsAt facts old s = subst (λ r. IsAt facts r s) (sym c.self.view_is) at in
     let first = refusal_of_change s in
     let tested : refusal_at (phase_of facts old s) (remove name) ≡ option_map refusal_of first =
-    subst (λ r. refusal_at (phase_of facts r s) (remove name) ≡ option_map refusal_of first) (sym c.self.view_is) (c.in_ok-test_remove.ensures.ok s at ∙ last_change (phase_of facts c.args.self.now s)) in
+    subst (λ r. refusal_at (phase_of facts r s) (remove name) ≡ option_map refusal_of first) (sym c.self.view_is)
+    (c.in_ok-test_remove.ensures.ok s at ∙ last_change (phase_of facts c.args.self.now s)) in
     let leaves = c.delete.ensures.any_moment s here in
     subst (λ r. AppliesUntested facts r new s (remove name) (answer_of c.match-delete.result)) c.self.view_is
     (elim c.match-delete.branch [

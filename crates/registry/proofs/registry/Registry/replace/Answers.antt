@@ -21,7 +21,8 @@ returns-in_err-name-clause-applied g c s at =
 pub returns-then-is_none-clause-applied : goal.returns-then-is_none-clause-applied
 returns-then-is_none-clause-applied g c s at =
     let here : IsAt g.D.Disk.facts c.self.inside.store s = subst (λ r. IsAt g.D.Disk.facts r s) (sym c.self.view_is) at in
-    let absent : has_name (names_of s.libraries) c.in_ok-name.name.now ≡ false = installed s c.in_ok-name.name.now c.position.result (c.position.ensures.state s here) ∙ c.is_none.ensures ∙ ap not c.if-is_none.true in
+    let absent : has_name (names_of s.libraries) c.in_ok-name.name.now ≡ false =
+    installed s c.in_ok-name.name.now c.position.result (c.position.ensures.state s here) ∙ c.is_none.ensures ∙ ap not c.if-is_none.true in
     replace_lacking g.D.Disk.facts c.args.self.now s at c.args.bytes.now c.in_ok-name.ensures.ok c.in_ok-name.name.now c.in_ok-name.ensures.name absent
 
 pub put_over-requires-clause-present : goal.put_over-requires-clause-present
@@ -50,5 +51,6 @@ returns-clause-applied g c s at =
       | in-Err w ↦ subst (λ r. AppliesUntested facts old new s (replace bytes) (answer_of r)) (sym w.result-is)
           (subst (λ r. AppliesUntested facts old new s (replace bytes) (Refused r)) (sym w.refusal_of.ensures)
           (replace_refused facts old s here bytes c.in_ok-name.ensures.ok name c.in_ok-name.ensures.name new root there leaves w.in-Err.refusal
-          (w.in-Err.ensures.refused s here) w.in-Err.ensures.on_any_disk.reopen w.in-Err.ensures.on_any_disk.refusals w.in-Err.ensures.on_any_disk.device w.in-Err.ensures.on_any_disk.same c.in_ok-name.ensures.memory))
+          (w.in-Err.ensures.refused s here) w.in-Err.ensures.on_any_disk.reopen w.in-Err.ensures.on_any_disk.refusals
+          w.in-Err.ensures.on_any_disk.device w.in-Err.ensures.on_any_disk.same c.in_ok-name.ensures.memory))
     ])

@@ -45,5 +45,6 @@ pub returns-clause-no_preload : goal.returns-clause-no_preload
 returns-clause-no_preload g c =
     let now = c.args.self.now in
     let own : HaveOwnNames now.entries = subst (λ (r : Opened g.row.D.Denot). HaveOwnNames r.entries) c.self.view_is c.in-Some.ensures.own_names in
-    let found = subst (λ (r : Opened g.row.D.Denot). (c.in-Some.position < length r.entries) × ((d : PlacedEntry) → name_of (get_or r.entries c.in-Some.position d).entry ≡ c.args.name.now)) c.self.view_is c.in-Some.ensures.some in
+    let found = subst (λ (r : Opened g.row.D.Denot). (c.in-Some.position < length r.entries)
+    × ((d : PlacedEntry) → name_of (get_or r.entries c.in-Some.position d).entry ≡ c.args.name.now)) c.self.view_is c.in-Some.ensures.some in
     no_preload now.entries c.args.name.now c.in-Some.position (listed_preloads now.root) own found.0 found.1 c.is_preload.ensures.inside (sym c.is_preload.ensures.is ∙ c.if-is_preload.false)

@@ -62,7 +62,7 @@ returns-in-Current g c =
     let calls = subst (λ l. AreCalls start (facts (seen l).disk)) is look.calls.some in
     let still : IsTrue start.honest → IsTrue (facts store.disk).honest = λ honest. subst IsTrue (sym calls.honest) honest in
     let unwritten : IsTrue start.honest → LeavesOnly start (facts store.disk) (Mixture start) =
-        λ honest. subst (λ l. LeavesOnly start (facts (seen l).disk) (Mixture start)) is (look.any_moment honest) in
+    λ honest. subst (λ l. LeavesOnly start (facts (seen l).disk) (Mixture start)) is (look.any_moment honest) in
     let unchanged : IsTrue start.honest → (facts store.disk).now ≡ start.now = λ honest. subst (λ l. (facts (seen l).disk).now ≡ start.now) is (look.now honest) in
     let found = λ (honest : IsTrue start.honest). current_found facts seen_as store start.now (look.ok honest) is in
     let none_old = λ (honest : IsTrue start.honest) (s : State) (stands : StandsOld start.now s). seen_current facts seen_as store is s (look.stands_old honest s stands.stored) in
@@ -78,13 +78,16 @@ returns-in-Current g c =
           (λ registry at. ((found honest).0, inl (record { stored = (found honest).1; libraries = at.libraries }, at))) (admitted.ok (found honest).0 (found honest).2);
       stands = λ honest s stands.
           let at = current_at facts seen_as store is s (look.stands honest s stands.stored) in
-          either_result _ _ result (admitted.ok s at) (err_both _ _ _ result (λ e which damaged. libraries_refuse e.0 which (λ is. damaged is stands.libraries)) admitted.refusals (admitted.damaged s at));
+          either_result _ _ result (admitted.ok s at)
+          (err_both _ _ _ result (λ e which damaged. libraries_refuse e.0 which (λ is. damaged is stands.libraries)) admitted.refusals
+          (admitted.damaged s at));
       stands_old = λ honest s stands. absurd (none_old honest s stands);
       placed_old = λ honest s stands. absurd (none_old honest s stands);
       answer = λ honest s stands. absurd (none_old honest s stands);
       refused = λ honest none.
           let geometry : IsGeometry (length start.now) = subst IsGeometry (sym (g.met.D.Disk.holds_now _ honest).size) look.geometry in
-          err_both _ _ _ result (λ e which damaged. refuses_seen start.now Two (found honest).0 (found honest).1 e.0 which geometry damaged) admitted.refusals (admitted.damaged (found honest).0 (found honest).2);
+          err_both _ _ _ result (λ e which damaged. refuses_seen start.now Two (found honest).0 (found honest).1 e.0 which geometry damaged)
+          admitted.refusals (admitted.damaged (found honest).0 (found honest).2);
       calls_current = λ honest s stands.
           let looked = subst (λ l. AreCallsExactly (3 + length (catalogues_of (seen l).root) + length (seen l).entries) start (facts (seen l).disk)) is look.all_calls in
           admitted_calls facts start store looked result admitted.kept admitted.all_calls;
@@ -111,10 +114,11 @@ returns-in-Old g c =
     let admitted = c.admit_old.ensures in
     let calls = subst (λ l. AreCalls start (facts (seen l).disk)) is look.calls.some in
     let unwritten : IsTrue start.honest → LeavesOnly start (facts store.disk) (Mixture start) =
-        λ honest. subst (λ l. LeavesOnly start (facts (seen l).disk) (Mixture start)) is (look.any_moment honest) in
+    λ honest. subst (λ l. LeavesOnly start (facts (seen l).disk) (Mixture start)) is (look.any_moment honest) in
     let unchanged : IsTrue start.honest → (facts store.disk).now ≡ start.now = λ honest. subst (λ l. (facts (seen l).disk).now ≡ start.now) is (look.now honest) in
     let found = λ (honest : IsTrue start.honest). old_found facts seen_as store start.now (look.ok honest) is in
-    let lacks = λ (honest : IsTrue start.honest) (none : (s : State) → StandsOld start.now s → ⊥) (libraries : All IsLibrary (found honest).0.libraries). none (found honest).0 (record { stored = (found honest).1; libraries = libraries }) in
+    let lacks = λ (honest : IsTrue start.honest) (none : (s : State) → StandsOld start.now s → ⊥)
+    (libraries : All IsLibrary (found honest).0.libraries). none (found honest).0 (record { stored = (found honest).1; libraries = libraries }) in
     let at_old = λ (honest : IsTrue start.honest) (s : State) (stands : StandsOld start.now s). old_at facts seen_as store is s (look.stands_old honest s stands.stored) in
     let none_current = λ (honest : IsTrue start.honest) (s : State) (stands : Stands start.now s). seen_old facts seen_as store is s (look.stands honest s stands.stored) in
     let refusals = IfErr-weaker result _ _ (λ e which. refuses_relisted start.sectors e.0 look.geometry which) admitted.refusals in
@@ -140,7 +144,8 @@ returns-in-Old g c =
           (admitted.answer s at stands.libraries);
       refused = λ honest none.
           let geometry : IsGeometry (length start.now) = subst IsGeometry (sym (g.met.D.Disk.holds_now _ honest).size) look.geometry in
-          IfErr-weaker result _ _ (λ e which. refuses_seen start.now One (found honest).0 (found honest).1 e.0 which geometry (λ is. lacks honest none)) (admitted.no_library (found honest).0 (found honest).2 (lacks honest none));
+          IfErr-weaker result _ _ (λ e which. refuses_seen start.now One (found honest).0 (found honest).1 e.0 which geometry
+          (λ is. lacks honest none)) (admitted.no_library (found honest).0 (found honest).2 (lacks honest none));
       calls_current = λ honest s stands. absurd (none_current honest s stands);
       calls_old = λ honest s stands.
           let at = at_old honest s stands in

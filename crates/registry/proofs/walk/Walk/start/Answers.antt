@@ -17,7 +17,8 @@ returns-clause-ok g c taken offers =
     let names : List (List ℕ) = entry_names taken.entries in
     let after = λ (q : Queue). let before : Needs = record { places = q; missing = None } in more_needs names before program_name (needed c.args.program.now) in
     let count : offered c.args.source c.args.store.now ≡ length taken.entries = offered_count c.args.source c.args.store.now taken.entries offers.entries in
-    let inside : All (λ p. p < length taken.entries) (offered_preloads c.args.source c.args.store.now) = subst (λ (n : ℕ). All (λ p. p < n) (offered_preloads c.args.source c.args.store.now)) count c.preload_numbers.ensures.inside in
+    let inside : All (λ p. p < length taken.entries) (offered_preloads c.args.source c.args.store.now) =
+    subst (λ (n : ℕ). All (λ p. p < n) (offered_preloads c.args.source c.args.store.now)) count c.preload_numbers.ensures.inside in
     subst (IsWalked g.D.Disk.facts c.args.program.now taken c.add_needed.new.self) (sym c.new-files.ensures.items)
     (none_read g.D.Disk.facts c.args.program.now taken (g.met.D.Disk.holds_now taken.disk) offers.own
     (subst (All (λ p. p < length taken.entries)) offers.preloads inside) (subst (IsDistinct nat_eq) offers.preloads c.preload_numbers.ensures.once) c.add_needed.new.self
@@ -26,4 +27,5 @@ returns-clause-ok g c taken offers =
     ∙ ap (λ (f : List ℕ). let before : Needs = record { places = c.in_ok-places.places; missing = None } in more_needs names before program_name (needed f)) c.object.ensures.same
     ∙ ap after c.in_ok-places.ensures
     ∙ ap (λ (n : ℕ). let q : Queue = record { limit = n + 1; places = level_0 c.deref.result.now } in after q) (c.count.ensures.count ∙ count)
-    ∙ ap (λ (l : List ℕ). more_needs names (first_needs (length taken.entries + 1) l) program_name (needed c.args.program.now)) (c.deref.ensures.value ∙ c.in_ok-preloads.ensures.same ∙ offers.preloads)))
+    ∙ ap (λ (l : List ℕ). more_needs names (first_needs (length taken.entries + 1) l) program_name (needed c.args.program.now))
+    (c.deref.ensures.value ∙ c.in_ok-preloads.ensures.same ∙ offers.preloads)))
