@@ -21,9 +21,9 @@ WIDEST = 160
 CLAUSES = [
     ('sector_disk/disk', 'read write sync', 'calls honest'),
     ('sector_disk/disk', 'sync', 'holds_now whole_sectors'),
-    ('registry/format', 'format', 'any_moment'),
+    ('registry/format', 'format', 'result'),
     ('registry/open', 'open', 'result'),
-    ('registry/upgrade', 'upgrade', 'any_moment left_alone unwritten now now_refused ok stands stands_old answer refused'),
+    ('registry/upgrade', 'upgrade', 'result'),
     ('registry/open', 'open_untested', 'opened registry'),
     ('registry/apply', 'apply', 'applied untested'),
     ('registry/apply', 'run', 'ok'),
