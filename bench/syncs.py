@@ -61,6 +61,11 @@ def told(state):
     return f'{state.kind}' + (f' ({libraries}; {b" ".join(state.preloads).decode()})' if state.kind == REGISTRY else '')
 
 
+def unanswered(state, replies):
+    """The states that lines without answers may have led to: no other is made before an accepted change is answered."""
+    return {state, *[after for reply, after in replies if reply == b'ok\n'][:1]}
+
+
 class Book:
     """What this script itself knows that commands make of states."""
 
@@ -97,7 +102,9 @@ class Book:
         if not left and not failed:
             return {state} if not text and ended.status in (status, CUT_STATUS) else set()
         as_failed = failed and ended.status == 3 and text in (b'', FAILED, FAILED + REOPEN * (left - 1))
-        if ended.status == CUT_STATUS and not text or as_failed:
+        if ended.status == CUT_STATUS and not text:
+            return unanswered(state, replies[number:])
+        if as_failed:
             return {state, replies[number][1]} if left else {state}
         return set()
 
