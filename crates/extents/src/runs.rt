@@ -1,5 +1,5 @@
-ghost use Rattle.std.specs.Prelude.{◌≡◌, ◌+◌, ◌-◌, ◌<◌, ◌≤◌, ◌^◌, ◌∷◌, ◌++◌, min, length, take, drop};
-ghost use Rattle.std.specs.Prelude.{slice_index_or, vec_len, vec_capacity, IfOk};
+ghost use Rattle.std.specs.Prelude.{◌≡◌, ◌+◌, ◌-◌, ◌<◌, ◌≤◌, ◌^◌, ◌∷◌, ◌++◌, min, length};
+ghost use Rattle.std.specs.Prelude.{take, drop, slice_index_or, vec_len, vec_capacity, IfOk};
 ghost use Rattle.std.specs.List.{AllWithin};
 ghost use Rattle.std.specs.Vec.{vec_ptr};
 ghost use Rattle.extents.specs.Limits.{most_extents, root_sectors};

@@ -16,7 +16,8 @@ returns-in-Pass-clause-honest g c honest =
     subst (λ reply. IsRead (fused self.plan (facts self.inner) past) (fused new.plan (facts new.inner) new.past.items) c.args.at c.read-reply.new.into reply) (sym c.end_call.ensures.reply)
     (subst (λ plan. IsRead (fused self.plan (facts self.inner) past) (fused plan (facts new.inner) new.past.items) c.args.at c.read-reply.new.into c.read-reply.result) (sym c.end_call.ensures.plan)
     (subst (λ inner. IsRead (fused self.plan (facts self.inner) past) (fused self.plan (facts inner) new.past.items) c.args.at c.read-reply.new.into c.read-reply.result) (sym c.end_call.ensures.inner)
-    (read_through self.plan (facts self.inner) (facts c.read-reply.new.self) past new.past.items _ c.end_call.ensures.past refl c.read-reply.ensures.calls.time c.args.at c.read-reply.new.into c.read-reply.result (c.read-reply.ensures.honest honest))))
+    (read_through self.plan (facts self.inner) (facts c.read-reply.new.self) past new.past.items _ c.end_call.ensures.past refl
+    c.read-reply.ensures.calls.time c.args.at c.read-reply.new.into c.read-reply.result (c.read-reply.ensures.honest honest))))
 
 pub returns-in-Late-clause-honest : goal.returns-in-Late-clause-honest
 returns-in-Late-clause-honest g c honest =
@@ -28,4 +29,5 @@ returns-in-Late-clause-honest g c honest =
     subst (λ reply. IsRead (fused self.plan (facts self.inner) past) (fused new.plan (facts new.inner) new.past.items) c.args.at c.read.new.into reply) (sym c.end_call-in-Late.ensures.reply)
     (subst (λ plan. IsRead (fused self.plan (facts self.inner) past) (fused plan (facts new.inner) new.past.items) c.args.at c.read.new.into failed) (sym c.end_call-in-Late.ensures.plan)
     (subst (λ inner. IsRead (fused self.plan (facts self.inner) past) (fused self.plan (facts inner) new.past.items) c.args.at c.read.new.into failed) (sym c.end_call-in-Late.ensures.inner)
-    (late_read self.plan (facts self.inner) (facts c.read.new.self) past new.past.items _ c.end_call-in-Late.ensures.past refl c.read.ensures.calls.time c.args.at c.read.new.into c.read.result Failed (c.read.ensures.honest honest))))
+    (late_read self.plan (facts self.inner) (facts c.read.new.self) past new.past.items _ c.end_call-in-Late.ensures.past refl
+    c.read.ensures.calls.time c.args.at c.read.new.into c.read.result Failed (c.read.ensures.honest honest))))

@@ -30,4 +30,5 @@ returns-in-Late-clause-honest g c honest =
     subst (λ reply. IsSync (fused self.plan (facts self.inner) past) (fused new.plan (facts new.inner) new.past.items) reply) (sym c.end_call-in-Late.ensures.reply)
     (subst (λ plan. IsSync (fused self.plan (facts self.inner) past) (fused plan (facts new.inner) new.past.items) failed) (sym c.end_call-in-Late.ensures.plan)
     (subst (λ inner. IsSync (fused self.plan (facts self.inner) past) (fused self.plan (facts inner) new.past.items) failed) (sym c.end_call-in-Late.ensures.inner)
-    (late_sync self.plan (facts self.inner) (facts c.sync.new.self) past new.past.items _ c.end_call-in-Late.ensures.past refl c.sync.ensures.calls.time c.sync.result Failed (c.sync.ensures.honest honest))))
+    (late_sync self.plan (facts self.inner) (facts c.sync.new.self) past new.past.items _ c.end_call-in-Late.ensures.past refl
+    c.sync.ensures.calls.time c.sync.result Failed (c.sync.ensures.honest honest))))

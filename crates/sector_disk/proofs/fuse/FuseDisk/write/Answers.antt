@@ -14,4 +14,5 @@ returns-in-Pass-clause-honest g c honest =
     (subst (λ plan. IsWrite (fused self.plan (facts self.inner) self.past.items)
     (fused plan (facts c.end_call.new.self.inner) past) c.args.at c.args.from.now c.write-reply.result) (sym c.end_call.ensures.plan)
     (subst (λ inner. IsWrite (fused self.plan (facts self.inner) self.past.items) (fused self.plan (facts inner) past) c.args.at c.args.from.now c.write-reply.result) (sym c.end_call.ensures.inner)
-    (write_through self.plan (facts self.inner) (facts c.write-reply.new.self) self.past.items past _ c.end_call.ensures.past refl c.write-reply.ensures.calls.time c.args.at c.args.from.now c.write-reply.result (c.write-reply.ensures.honest honest))))
+    (write_through self.plan (facts self.inner) (facts c.write-reply.new.self) self.past.items past _ c.end_call.ensures.past refl
+    c.write-reply.ensures.calls.time c.args.at c.args.from.now c.write-reply.result (c.write-reply.ensures.honest honest))))

@@ -54,7 +54,8 @@ invariant_of-result-clause-whole_start g c =
     subst (Picks self.start.items) c.deref.ensures.value
     (subst (λ l. Picks l c.deref.result.now) c.deref_mut.ensures.value c.mix.ensures.picked) in
     subst (All IsWhole) (sym (with_items_is self.start mixture (omega (arith, c.mix.auto.sectors, c.deref_mut.ensures.len))))
-    (picked_whole (λ at. goal.F-post g c.args.pick at (length (choices self.start.items self.writes.items self.synced at))) self.start.items self.writes.items self.synced mixture size self.whole_start self.whole_writes picked)
+    (picked_whole (λ at. goal.F-post g c.args.pick at (length (choices self.start.items self.writes.items self.synced at))) self.start.items self.writes.items self.synced
+    mixture size self.whole_start self.whole_writes picked)
 
 pub invariant_of-result-clause-one_count_each : goal.invariant_of-result-clause-one_count_each
 invariant_of-result-clause-one_count_each g c =
