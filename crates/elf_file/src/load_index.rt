@@ -85,10 +85,10 @@ impl LoadIndex {
     /// span it.
     fn add(&mut self, headers: &Headers<'_>, i: usize)
         requires within { i < header_count headers.now }
+        requires number { i < 65536 }
         requires indexes { Indexes headers.now i self.old }
         ensures { Indexes headers.now (i + 1) self.new }
     {
-        let _count = headers.count();
         if !headers.is_load(i) {
             return;
         }
@@ -164,14 +164,14 @@ impl Segments<'_> {
         Some(usize::from(index.first[low - 1]))
     }
 
-    /// Whether there is a program header of this number, and it is a PT_LOAD that begins at or
-    /// below an address.
+    /// Whether a program header is a PT_LOAD that begins at or below an address.
     fn begins_by(&self, i: usize, address: u64) -> bool
+        requires { i < header_count self.now }
         ensures begins { result ≡ true → BeginsBy self.now address i }
         ensures order { has_bad_order self.now ≡ false }
     {
         let headers = self.headers();
-        i < headers.count() && headers.is_load(i) && headers.nth(i).address <= address
+        headers.is_load(i) && headers.nth(i).address <= address
     }
 
     /// The second of two program headers, where it is a PT_LOAD that begins at or below an address,
@@ -179,6 +179,7 @@ impl Segments<'_> {
     fn later(&self, first: usize, second: usize, address: u64) -> usize
         requires block { IsBlockAt self.now address first }
         requires order { first ≤ second }
+        requires within { second < header_count self.now }
         ensures { IsBlockAt self.now address result }
     {
         if self.begins_by(second, address) {
@@ -195,11 +196,13 @@ impl Segments<'_> {
         requires { IsBlockAt self.now address first }
         ensures { IsBlockAt self.now address result }
     {
-        let _most = self.header_count();
+        let count = self.header_count();
         let mut low = first;
         let mut step = BLOCK / 2;
         while step > 0 {
-            low = self.later(low, low + step, address);
+            if low + step < count {
+                low = self.later(low, low + step, address);
+            }
             step /= 2;
         }
         low

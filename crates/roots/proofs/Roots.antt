@@ -62,7 +62,8 @@ front_len root fits = omega (
 -- the spelling of a root with the magic of one list and the bytes of another
 abbrev spelt_by : EntryList → Root → EntryList → List ℕ
 spelt_by version root list =
-    magic_of version ++ to_le_bytes w64 root.generation ++ to_le_bytes w32 root.sectors ++ to_le_bytes w16 root.library_count ++ to_le_bytes w16 root.preload_count ++ numbers w16 root.preloads ++ list_bytes list
+    magic_of version ++ to_le_bytes w64 root.generation ++ to_le_bytes w32 root.sectors ++ to_le_bytes w16 root.library_count
+    ++ to_le_bytes w16 root.preload_count ++ numbers w16 root.preloads ++ list_bytes list
 
 spelt : (root : Root) (list : EntryList) → root.list ≡ list → root_bytes root ≡ spelt_by list root list
 unfolding root_bytes
@@ -124,7 +125,8 @@ same_root root g s l p ps es e1 e2 e3 e4 e5 e6 = rw (e1, e2, e3, e4, e5, e6) ref
 
 -- the fields of a root's spelling are the root's, whatever its eight bytes of magic are, where its list is
 fields_again : (root : Root) (a b c d e f g h : ℕ)
-    → root_bytes root ≡ (a ∷ b ∷ c ∷ d ∷ e ∷ f ∷ g ∷ h ∷ []) ++ to_le_bytes w64 root.generation ++ to_le_bytes w32 root.sectors ++ to_le_bytes w16 root.library_count ++ to_le_bytes w16 root.preload_count ++ numbers w16 root.preloads ++ list_bytes root.list
+    → root_bytes root ≡ (a ∷ b ∷ c ∷ d ∷ e ∷ f ∷ g ∷ h ∷ []) ++ to_le_bytes w64 root.generation ++ to_le_bytes w32 root.sectors
+    ++ to_le_bytes w16 root.library_count ++ to_le_bytes w16 root.preload_count ++ numbers w16 root.preloads ++ list_bytes root.list
     → RootHasSpelling root → list_of (root_bytes root) ≡ root.list → root_of (root_bytes root) ≡ root
 unfolding root_of
 fields_again root a b c d e f g h same fits list =

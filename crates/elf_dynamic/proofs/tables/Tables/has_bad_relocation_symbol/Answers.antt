@@ -16,13 +16,17 @@ pub returns-then-has_bad_relocation_symbol_in : goal.returns-then-has_bad_reloca
 unfolding has_bad_relocation_symbol relocations
 returns-then-has_bad_relocation_symbol_in c =
     let file = c.args.self.now in
-    let first = in-part file c.rela.result.now (rela_table file) c.symbol_count-count.result c.has_bad_relocation_symbol_in.result c.has_bad_relocation_symbol_in.ensures c.symbol_count-count.ensures.chains c.rela.ensures in
+    let first = in-part file c.rela.result.now (rela_table file) c.symbol_count-count.result
+    c.has_bad_relocation_symbol_in.result c.has_bad_relocation_symbol_in.ensures c.symbol_count-count.ensures.chains c.rela.ensures in
     c.if-has_bad_relocation_symbol_in.true ∙ sym (any_both (lacks_symbol file) (rela_table file) (jmprel_table file) true (first ∙ c.if-has_bad_relocation_symbol_in.true))
 
 pub returns-else-has_bad_relocation_symbol_in : goal.returns-else-has_bad_relocation_symbol_in
 unfolding has_bad_relocation_symbol relocations
 returns-else-has_bad_relocation_symbol_in c =
     let file = c.args.self.now in
-    let first = in-part file c.rela.result.now (rela_table file) c.symbol_count-count.result c.has_bad_relocation_symbol_in.result c.has_bad_relocation_symbol_in.ensures c.symbol_count-count.ensures.chains c.rela.ensures in
-    let second = in-part file c.jmprel.result.now (jmprel_table file) c.symbol_count-count.result c.has_bad_relocation_symbol_in-else-has_bad_relocation_symbol_in.result c.has_bad_relocation_symbol_in-else-has_bad_relocation_symbol_in.ensures c.symbol_count-count.ensures.chains c.jmprel.ensures in
+    let first = in-part file c.rela.result.now (rela_table file) c.symbol_count-count.result
+    c.has_bad_relocation_symbol_in.result c.has_bad_relocation_symbol_in.ensures c.symbol_count-count.ensures.chains c.rela.ensures in
+    let second = in-part file c.jmprel.result.now (jmprel_table file) c.symbol_count-count.result
+    c.has_bad_relocation_symbol_in-else-has_bad_relocation_symbol_in.result c.has_bad_relocation_symbol_in-else-has_bad_relocation_symbol_in.ensures
+    c.symbol_count-count.ensures.chains c.jmprel.ensures in
     sym (any_both (lacks_symbol file) (rela_table file) (jmprel_table file) false (first ∙ c.if-has_bad_relocation_symbol_in.false) ∙ second)
