@@ -24,7 +24,7 @@ pub use object::Object;
 pub use object_file::ObjectFile;
 pub use relocation::{
     R_X86_64_64, R_X86_64_GLOB_DAT, R_X86_64_JUMP_SLOT, R_X86_64_NONE, R_X86_64_RELATIVE,
-    Relocation,
+    Relocation, uses_symbol,
 };
 pub use strings::NeededNames;
 pub use symbol::Symbol;
