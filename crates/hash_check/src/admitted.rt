@@ -61,7 +61,6 @@ impl<'a> Admitted<'a> {
         ensures refused { IfErr result (IsRefusedBy object.entry) }
         ensures says { IfErr result (Says object.entry) }
     {
-        let _count = object.symbol_count();
         if has_duplicate_definition(alloc, &object)? {
             return Err(AdmitRefusal::DuplicateDefinition);
         }

@@ -1,6 +1,7 @@
 // The chain words of an object.
 
-ghost use Rattle.std.specs.Prelude.{◌≡◌, ◌<◌, ◌↔◌, length, slice_index, IsTrue};
+ghost use Rattle.std.specs.Prelude.{◌≡◌, ◌<◌, ◌^◌, ◌↔◌, length, slice_index, IsTrue};
+ghost use Rattle.elf_dynamic.specs.Symbol.{symbols};
 ghost use Rattle.elf_dynamic.specs.HashTable.{chains};
 ghost use Rattle.hash_check.specs.HashTable.{AreIndices};
 
@@ -11,30 +12,36 @@ use std::marker::Model;
 #[derive(Drop)]
 pub(crate) struct Chains<'o, 'a> {
     object: &'o Object<'a>,
+    count: u32,
 }
 
 impl<'o, 'a> Model for Chains<'o, 'a> {
-    ghost use Rattle.std.specs.Prelude.{List, ℕ};
+    ghost use Rattle.std.specs.Prelude.{List, ℕ, ◌≡◌, length};
     ghost use Rattle.elf_dynamic.specs.HashTable.{chains};
 
     ghost Value = { List ℕ };
 
     ghost view = { λ c. chains c.object.now };
+
+    ghost invariant = { λ c. c.count ≡ length (chains c.object.now) };
 }
 
 impl<'o, 'a> Chains<'o, 'a> {
-    /// Those of an object.
+    /// Those of an object, one for each symbol.
     pub(crate) fn new(object: &'o Object<'a>) -> Chains<'o, 'a>
-        ensures { result ≡ chains object.now }
+        ensures words { result ≡ chains object.now }
+        ensures symbols { length result ≡ length (symbols object.now) }
+        ensures few { length result < 2 ^ 32 }
     {
-        Chains { object }
+        let count = object.symbol_count();
+        Chains { object, count }
     }
 
     /// How many there are.
     pub(crate) fn count(&self) -> u32
         ensures { result ≡ length self.now }
     {
-        self.object.symbol_count()
+        self.count
     }
 
     /// The chain word of an index.

@@ -78,7 +78,6 @@ pub(crate) fn search(object: &Object<'_>, name: &[u8], hash: u32) -> Found
     ensures compared { result.compared ≡ compared object.now name.now hash }
 {
     let chains = Chains::new(object);
-    let _count = object.symbol_count();
     let mut at = Buckets::new(object).of_hash(hash);
     let mut compared = 0;
     while at != 0 {

@@ -77,7 +77,6 @@ fn hangs_on_its_hash(object: &Object<'_>, places: &[Option<Place>], joint: u32, 
     ensures exported { IsTrue result → is_exported object.now i ≡ true }
     ensures met { result ≡ false → is_exported object.now i ≡ true → IsMet object.now i }
 {
-    let _count = object.symbol_count();
     is_exported(object, i) && !is_met(places, &Chains::new(object), joint, i)
 }
 
@@ -91,7 +90,6 @@ fn is_met_by_hash(object: &Object<'_>, places: &[Option<Place>], hash: u32, i: u
     ensures { let from = bucket_of (buckets object.now) hash in
         IsTrue result ↔ Meets (chains object.now) from i }
 {
-    let _count = object.symbol_count();
     let from = Buckets::new(object).of_hash(hash);
     is_met(places, &Chains::new(object), from, i)
 }

@@ -1,4 +1,4 @@
-use Rattle.std.proofs.Common.{◌≡◌, ◌≢◌, ◌<◌, ℕ, List, length, arith, sym, ap, subst, ◌∙◌}
+use Rattle.std.proofs.Common.{◌≡◌, ◌≢◌, ◌<◌, ◌^◌, ℕ, List, length, arith, sym, ap, subst, ◌∙◌}
 use Rattle.std.specs.Prelude.{slice_index}
 use Rattle.elf_dynamic.specs.HashTable.{buckets, chains}
 use Rattle.hash_check.specs.Definition.{is_exported_as}
@@ -30,7 +30,8 @@ overflow_add-compared c =
     let less : c.loop-at.compared < length (walked (chains file) from) =
     compared-some (chains file) from c.loop-at.compared
     (is_exported_as file c.args.name.now) c.requires.table.words.chain_words lt ends c.loop-at.invariant.search some in
-    omega (arith, less, c.symbol_count-count.ensures.chains, compared-most (chains file) from c.requires.table.words.chain_words lt ends)
+    let few : length (chains file) < 2 ^ 32 = subst (λ l. length l < 2 ^ 32) c.new-chains.ensures.words c.new-chains.ensures.few in
+    omega (arith, less, few, compared-most (chains file) from c.requires.table.words.chain_words lt ends)
 
 pub loop-at-smaller : goal.loop-at-smaller
 loop-at-smaller c =
@@ -50,7 +51,7 @@ loop-at-preserved c =
     let from : ℕ = bucket_of (buckets file) c.args.hash in
     let some : walk (chains file) from c.loop-at.compared ≢ 0 = λ z. c.loop-at-test.true (c.loop-at.invariant.at ∙ z) in
     let missed = sym (subst (λ i. c.is_exported_as.result ≡ is_exported_as file c.args.name.now i) c.loop-at.invariant.at c.is_exported_as.ensures) ∙ c.if-is_exported_as.false in
-    let next : c.next-at.result ≡ slice_index (chains file) c.loop-at.at = rw c.new-chains.ensures at c.next-at.ensures in
+    let next : c.next-at.result ≡ slice_index (chains file) c.loop-at.at = rw c.new-chains.ensures.words at c.next-at.ensures in
     record {
       at = next ∙ ap (slice_index (chains file)) c.loop-at.invariant.at ∙ sym (walk-next (chains file) from c.loop-at.compared);
       within = omega (arith, next, c.requires.table.words.chain_words c.loop-at.at 0 c.loop-at.invariant.within);

@@ -14,5 +14,5 @@ was-true false e = absurd (cc)
 pub returns-then-is_exported-clause-met : goal.returns-then-is_exported-clause-met
 returns-then-is_exported-clause-met c = λ no is.
     let file : List ℕ = c.args.object.now in
-    let met : Meets (chains file) c.args.joint c.args.i = rw c.new.ensures at (c.is_met.ensures.0 (was-true c.is_met.result no)) in
+    let met : Meets (chains file) c.args.joint c.args.i = rw c.new.ensures.words at (c.is_met.ensures.0 (was-true c.is_met.result no)) in
     joint-meets (buckets file) (chains file) c.args.places.now c.args.joint (elf_hash (name_of file c.args.i)) c.args.i c.requires.some c.requires.joint met
