@@ -1,7 +1,6 @@
 // Names that a command borrows.
 
-ghost use Rattle.std.specs.Prelude.{◌≡◌, map, length, bytes_eq, nat_lt};
-ghost use Rattle.std.specs.List.{list_any};
+ghost use Rattle.std.specs.Prelude.{◌≡◌, map, length, nat_lt};
 ghost use Rattle.states.specs.Limits.{most_preloads};
 ghost use Rattle.states.specs.State.{has_name};
 ghost use Rattle.requests.specs.Tests.{has_repeat};
@@ -9,17 +8,10 @@ ghost use Rattle.requests.specs.Tests.{has_repeat};
 use states::MOST_PRELOADS;
 
 /// Whether one of the names is this one.
-fn is_among(name: &[u8], names: &[&[u8]]) -> bool
-    ensures { result ≡ list_any (λ n. bytes_eq name.now n.now) names.now }
-{
-    names.iter().any(|n| name == *n)
-}
-
-/// Whether one of the names is this one.
 fn has_name(names: &[&[u8]], name: &[u8]) -> bool
     ensures { result ≡ has_name (map (λ n. n.now) names.now) name.now }
 {
-    is_among(name, names)
+    names.iter().any(|n| name == *n)
 }
 
 /// Whether there are more names than there may be preloads.
