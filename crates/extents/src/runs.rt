@@ -67,15 +67,16 @@ pub(crate) fn cut(runs: &mut Vec<Extent>, place: usize, extent: Extent)
     let end = extent.start + extent.count;
     let front = extent.start - run.start;
     let back = run.start + run.count - end;
+    let rest = Extent {
+        start: end,
+        count: back,
+    };
     if front == 0 && back == 0 {
         runs.remove(place);
         return;
     }
     if front == 0 {
-        runs[place] = Extent {
-            start: end,
-            count: back,
-        };
+        runs[place] = rest;
         return;
     }
     runs[place] = Extent {
@@ -83,10 +84,6 @@ pub(crate) fn cut(runs: &mut Vec<Extent>, place: usize, extent: Extent)
         count: front,
     };
     if back > 0 {
-        let rest = Extent {
-            start: end,
-            count: back,
-        };
         runs.insert(place + 1, rest).unwrap();
     }
 }
