@@ -7,7 +7,7 @@ ghost use Rattle.image.specs.Relocating.{file_at};
 ghost use Rattle.image.specs.inside.Layout.{Keeps, IsSymbolName};
 
 use crate::placed::PlacedOrder;
-use elf_dynamic::{Object, R_X86_64_64, R_X86_64_GLOB_DAT, R_X86_64_JUMP_SLOT, Relocation};
+use elf_dynamic::{Object, Relocation, uses_symbol};
 use hash_check::KeyedName;
 use scope::Ahead;
 use std::alloc::{AllocError, Global};
@@ -26,19 +26,15 @@ pub(crate) struct Lookahead<'a> {
 
 /// How many bytes the name of a relocation's symbol has, unless that is kept.
 fn name_bytes(object: &Object<'_>, kept: &[Option<u64>], relocation: Relocation) -> u64 {
-    match relocation.kind {
-        R_X86_64_64 | R_X86_64_GLOB_DAT | R_X86_64_JUMP_SLOT => {
-            let symbol = relocation.symbol;
-            if (symbol as usize) < kept.len()
-                && kept[symbol as usize].is_none()
-                && symbol < object.symbol_count()
-            {
-                object.name_of(symbol).len() as u64
-            } else {
-                0
-            }
-        }
-        _ => 0,
+    let symbol = relocation.symbol;
+    if uses_symbol(relocation.kind)
+        && (symbol as usize) < kept.len()
+        && kept[symbol as usize].is_none()
+        && symbol < object.symbol_count()
+    {
+        object.name_of(symbol).len() as u64
+    } else {
+        0
     }
 }
 

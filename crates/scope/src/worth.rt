@@ -5,7 +5,7 @@ ghost use Rattle.scope.specs.inside.NameTable.{IsNames};
 
 use crate::loaded::LoadedObject;
 use crate::table::{Names, names_of_all};
-use elf_dynamic::{Object, R_X86_64_64, R_X86_64_GLOB_DAT, R_X86_64_JUMP_SLOT};
+use elf_dynamic::{Object, uses_symbol};
 use std::alloc::Global;
 
 /// How many walks of an object are followed to see how long they are.
@@ -77,9 +77,8 @@ fn sampled_walks(object: &Object<'_>) -> u64 {
 fn lookups_of(object: &Object<'_>) -> u64 {
     let mut naming = 0;
     for i in 0..object.rela_count() {
-        match object.rela(i).kind {
-            R_X86_64_64 | R_X86_64_GLOB_DAT | R_X86_64_JUMP_SLOT => naming += 1,
-            _ => {}
+        if uses_symbol(object.rela(i).kind) {
+            naming += 1;
         }
     }
     u64::from(object.symbol_count()).min(naming)
