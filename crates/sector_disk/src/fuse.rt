@@ -30,7 +30,6 @@ pub(crate) struct Step {
 
 /// A disk that passes its calls on to an inner one, up to a call that fails. What reads give and
 /// what a stop may leave is what the inner disk gives and leaves.
-#[derive(Drop)]
 pub struct Fuse<D> {
     inner: D,
     plan: Plan,
@@ -72,7 +71,12 @@ impl<D: Disk> Fuse<D> {
         ensures inner { result ≡ inner_of self }
         ensures same { IsSameDisk (fuse_facts D.facts self) (D.facts result) }
     {
-        let Fuse { inner, .. } = self;
+        let Fuse {
+            inner,
+            plan: _,
+            wait: _,
+            past: _,
+        } = self;
         inner
     }
 
@@ -107,6 +111,18 @@ impl<D: Disk> Fuse<D> {
         });
         self.wait = self.wait.saturating_sub(1);
         reply
+    }
+}
+
+// As that of a disk in memory.
+impl<D: Drop> Drop for Fuse<D> {
+    fn drop(self) {
+        let Fuse {
+            inner: _inner,
+            plan: _,
+            wait: _,
+            past: _past,
+        } = self;
     }
 }
 
