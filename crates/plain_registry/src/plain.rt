@@ -19,13 +19,23 @@ struct File {
 /// A registry without a disk: the libraries in the order in which they were installed, and the
 /// names of the preloads in theirs. It knows two limits, the room of a disk and 2,048 libraries:
 /// that there are at most 16 preloads and 2^64 - 1 changes is for its user to see to.
-#[derive(Drop)]
 pub struct PlainRegistry {
     alloc: Global,
     // How many sectors the disk has.
     sectors: u32,
     files: Vec<File>,
     preloads: Vec<Vec<u8>>,
+}
+
+impl Drop for PlainRegistry {
+    fn drop(self) {
+        let PlainRegistry {
+            alloc: _,
+            sectors: _,
+            files: _files,
+            preloads: _preloads,
+        } = self;
+    }
 }
 
 // The name of a library's file, or why it is none.
