@@ -51,6 +51,7 @@ closed : (file symbols : List ℕ) (n first : ℕ) (s : Stretch) (endings : List
     → IsMade file n first s e → IsEnding (texts file symbols) e
 unfolding back
 closed file symbols n first s endings e valid le o made = record {
+  order = omega (arith, o.order, made.first_is, made.past_is);
   within = omega (arith, made.past_is, le, length-map symbols (name_of file));
   tails = λ k is.
       let low : first ≤ k = omega (arith, is.0, made.first_is) in

@@ -12,6 +12,8 @@ pub mod Tabling
 pub mod Holding
 pub mod Differing
 pub mod Gathering
+pub mod Listing
+pub mod Joined
 pub mod Starting
 pub mod Sorting
 pub mod Exported

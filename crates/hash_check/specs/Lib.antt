@@ -4,6 +4,7 @@ pub mod Key
 pub mod KeyedName
 pub mod Definition
 pub mod Numbers
+pub mod Numbered
 pub mod Walk
 pub mod HashTable
 pub mod Admission

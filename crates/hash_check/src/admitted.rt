@@ -1,11 +1,12 @@
 // An admitted object.
 
-ghost use Rattle.std.specs.Prelude.{◌≡◌, map, Some, None, true, false, IfOk, IfErr, OnOk, OnErr};
+ghost use Rattle.std.specs.Prelude.{◌≡◌, ◌<◌, length, map, Some, None, true, false, IfOk, IfErr, OnOk, OnErr};
 ghost use Rattle.std.specs.List.Sorted.{IsPermutation};
 ghost use Rattle.elf_dynamic.specs.Refusal.{first_refusal};
 ghost use Rattle.elf_dynamic.specs.Strings.{name_of, soname};
 ghost use Rattle.elf_file.specs.declared.refusal.ObjectRefusal.TheVariants.{BadSoname};
-ghost use Rattle.hash_check.specs.Export.{exported_symbols};
+ghost use Rattle.elf_dynamic.specs.Symbol.{symbols};
+ghost use Rattle.hash_check.specs.Export.{exported_symbols, is_exported};
 ghost use Rattle.hash_check.specs.KeyedName.{named, all_symbols};
 ghost use Rattle.hash_check.specs.Hash.{elf_hash};
 ghost use Rattle.hash_check.specs.Definition.{definition_of, HasUniqueNames};
@@ -16,6 +17,7 @@ ghost use Rattle.hash_check.specs.Soname.{has_bad_soname};
 
 use crate::duplicates::has_duplicate_definition;
 use crate::exported_names::{all_names, exported_names};
+use crate::export::is_exported;
 use crate::hash::elf_hash;
 use crate::keyed_name::KeyedName;
 use crate::names::{name_at, text_of_name};
@@ -106,6 +108,14 @@ impl<'a> Admitted<'a> {
         ensures { result.now ≡ name_of self.now name.symbol }
     {
         text_of_name(self.object(), name)
+    }
+
+    /// Whether the symbol of a number is exported.
+    pub fn is_exported(&self, i: u32) -> bool
+        requires { i < length (symbols self.now) }
+        ensures { result ≡ is_exported self.now i }
+    {
+        is_exported(self.object(), i)
     }
 
     /// The name of a library: its SONAME, or E33.

@@ -71,7 +71,7 @@ pub(crate) fn exported_names(
 
 /// The numbers of all symbols but number 0.
 #[tactic(auto, unfolding(crate::specs::KeyedName::all_symbols))]
-fn all_symbols(alloc: Global, object: &Object<'_>) -> Result<Vec<u32>, AllocError>
+pub(crate) fn all_symbols(alloc: Global, object: &Object<'_>) -> Result<Vec<u32>, AllocError>
     ensures { IfOk result (λ numbers. numbers.items ≡ all_symbols object.now) }
 {
     (1..object.symbol_count()).collect(alloc)

@@ -22,6 +22,7 @@ IsIn k e = (e.first ≤ k) × (k < e.past)
 
 -- names that are tails of one string
 pub record IsEnding (names : List (List ℕ)) (e : Ending) : Type 0 where
+  pub order : e.first ≤ e.past
   pub within : e.past ≤ length names
   pub tails : (k : ℕ) → IsIn k e → take (length (back names k)) (string_back e) ≡ back names k
 

@@ -1,0 +1,161 @@
+// The names of all symbols of several objects, told by numbers.
+
+ghost use Rattle.std.specs.Prelude.{◌≡◌, ◌<◌, ◌≤◌, ◌+◌, ◌^◌, ◌++◌, ℕ, length, map, slice_index};
+ghost use Rattle.std.specs.Prelude.{IfOk, IfSome, OnOk};
+ghost use Rattle.std.specs.List.{All};
+ghost use Rattle.hash_check.specs.Numbered.{nth_symbol, AreNumbered};
+ghost use Rattle.hash_check.specs.inside.Endings.{AreEndings};
+ghost use Rattle.hash_check.specs.inside.Numbered.{unnumbered, with_number, behind, AreGathered};
+
+use crate::admitted::Admitted;
+use crate::endings::{Ending, numbers_of_endings};
+use crate::exported_names::all_symbols;
+use crate::name::Name;
+use crate::name_table::numbers_in_table;
+use crate::names::{names_of, offset_of, short_names};
+use crate::strings::endings_of;
+use std::alloc::{AllocError, Global};
+
+/// A symbol of one of several objects, with the number of its name.
+#[derive(Clone, Copy, Debug, PartialEq, Eq)]
+pub struct NumberedSymbol {
+    /// The place of the object.
+    pub object: usize,
+    /// The symbol's number in the object.
+    pub symbol: u32,
+    /// The number of its name.
+    pub number: u32,
+}
+
+/// Symbols of objects, which have no numbers yet, and their names.
+#[derive(Drop)]
+struct Gathered<'a> {
+    symbols: Vec<NumberedSymbol>,
+    names: Vec<Name<'a>>,
+}
+
+/// Adds symbols of the object at a place, and their names.
+fn add_symbols<'a>(
+    gathered: &mut Gathered<'a>,
+    place: usize,
+    symbols: &[u32],
+    mut names: Vec<Name<'a>>,
+) -> Result<(), AllocError>
+    ensures symbols { OnOk result (gathered.new.symbols.items
+        ≡ gathered.old.symbols.items ++ map (unnumbered place) symbols.now) }
+    ensures names { OnOk result (gathered.new.names.items
+        ≡ gathered.old.names.items ++ names.entry.items) }
+{
+    for symbol in symbols {
+        gathered.symbols.push(NumberedSymbol {
+            object: place,
+            symbol: *symbol,
+            number: 0,
+        })?;
+    }
+    gathered.names.append(&mut names)?;
+    Ok(())
+}
+
+/// The names of all symbols of objects, each read to its end; none where those of an object have so
+/// many bytes that many of them are tails of others.
+fn all_short_names<'a>(
+    alloc: Global,
+    objects: &[&'a Admitted<'a>],
+) -> Result<Option<Gathered<'a>>, AllocError>
+    ensures { IfOk result (λ found. IfSome found (λ g.
+        AreGathered (map (λ o. o.now) objects.now) (length objects.now)
+        g.symbols.items g.names.items)) }
+{
+    let mut gathered = Gathered {
+        symbols: Vec::new(alloc),
+        names: Vec::new(alloc),
+    };
+    for place in 0..objects.len() {
+        let object = objects[place].object();
+        let symbols = all_symbols(alloc, object)?;
+        let Some(names) = short_names(alloc, object, &symbols)? else {
+            return Ok(None);
+        };
+        add_symbols(&mut gathered, place, &symbols, names)?;
+    }
+    Ok(Some(gathered))
+}
+
+/// Adds endings of names that stand behind some others.
+#[tactic(auto, unfolding(crate::specs::inside::Numbered::behind))]
+fn add_endings<'a>(
+    all: &mut Vec<Ending<'a>>,
+    endings: &[Ending<'a>],
+    before: usize,
+) -> Result<(), AllocError>
+    requires { All (λ e. (e.first ≤ e.past) × (before + e.past < 2 ^ 64)) endings.now }
+    ensures { OnOk result (all.new.items
+        ≡ all.old.items ++ map (behind before) endings.now) }
+{
+    for ending in endings {
+        all.push(Ending {
+            string: ending.string,
+            first: before + ending.first,
+            past: before + ending.past,
+        })?;
+    }
+    Ok(())
+}
+
+/// The names of all symbols of objects by their places, and the strings that they are tails of.
+fn all_names_by_place<'a>(
+    alloc: Global,
+    objects: &[&'a Admitted<'a>],
+) -> Result<(Gathered<'a>, Vec<Ending<'a>>), AllocError>
+    ensures gathered { IfOk result (λ r.
+        AreGathered (map (λ o. o.now) objects.now) (length objects.now)
+        r.0.symbols.items r.0.names.items) }
+    ensures endings { IfOk result (λ r. AreEndings r.0.names.items r.1.items) }
+{
+    let mut gathered = Gathered {
+        symbols: Vec::new(alloc),
+        names: Vec::new(alloc),
+    };
+    let mut all = Vec::new(alloc);
+    for place in 0..objects.len() {
+        let object = objects[place].object();
+        let mut symbols = all_symbols(alloc, object)?;
+        symbols.sort_unstable_by_key(|i| offset_of(object, *i));
+        let names = names_of(alloc, object, &symbols)?;
+        let endings = endings_of(alloc, object, &symbols)?;
+        add_endings(&mut all, &endings, gathered.names.len())?;
+        add_symbols(&mut gathered, place, &symbols, names)?;
+    }
+    Ok((gathered, all))
+}
+
+/// Gives symbols their numbers.
+fn give_numbers(mut symbols: Vec<NumberedSymbol>, numbers: &[u32]) -> Vec<NumberedSymbol>
+    requires { length numbers.now ≡ length symbols.items }
+    ensures size { length result.items ≡ length symbols.items }
+    ensures given { (k : ℕ) → k < length symbols.items → nth_symbol result.items k
+        ≡ with_number (nth_symbol symbols.items k) (slice_index numbers.now k) }
+{
+    for i in 0..symbols.len() {
+        symbols[i].number = numbers[i];
+    }
+    symbols
+}
+
+/// All symbols but number 0 of objects with the numbers of their names.
+pub fn numbered_symbols(
+    alloc: Global,
+    objects: &[&Admitted<'_>],
+) -> Result<Vec<NumberedSymbol>, AllocError>
+    ensures { IfOk result (λ all. AreNumbered (map (λ o. o.now) objects.now) all.items) }
+{
+    if let Some(gathered) = all_short_names(alloc, objects)? {
+        if let Some(numbers) = numbers_in_table(alloc, &gathered.names)? {
+            return Ok(give_numbers(gathered.symbols, &numbers));
+        }
+    }
+    let (gathered, endings) = all_names_by_place(alloc, objects)?;
+    let numbers = numbers_of_endings(alloc, &gathered.names, endings)?;
+    Ok(give_numbers(gathered.symbols, &numbers))
+}
