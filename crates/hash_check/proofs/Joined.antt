@@ -48,10 +48,13 @@ module _ (names own : List (List ℕ)) where
   in-behind : (m : ℕ) (old new : List Ending) → Any (IsIn m) new → Any (IsIn (length names + m)) (old ++ map (behind (length names)) new)
   unfolding behind
   in-behind m old new a =
-      let e : Ending = behind (length names) a.1 in
-      (length old + a.0, e, omega (arith, a.2, length-append old (map (behind (length names)) new), length-map new (behind (length names))),
-      get_or-append-add old (map (behind (length names)) new) a.0 e ∙ get_or-map (behind (length names)) new a.0 a.1 e a.2 ∙ ap (behind (length names)) a.3,
-      (omega (arith, a.4.0), omega (arith, a.4.1)))
+      let e : Ending = behind (length names) a.1 in (
+        length old + a.0,
+        e,
+        omega (arith, a.2, length-append old (map (behind (length names)) new), length-map new (behind (length names))),
+        get_or-append-add old (map (behind (length names)) new) a.0 e ∙ get_or-map (behind (length names)) new a.0 a.1 e a.2 ∙ ap (behind (length names)) a.3,
+        (omega (arith, a.4.0), omega (arith, a.4.1)),
+      )
 
   pub endings-more : (old new : List Ending) → AreEndings names old → AreEndings own new → AreEndings (names ++ own) (old ++ map (behind (length names)) new)
   endings-more old new front rest = record {

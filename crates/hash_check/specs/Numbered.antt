@@ -8,6 +8,7 @@ use Rattle.hash_check.specs.declared.numbered.NumberedSymbol.{NumberedSymbol}
 abbrev pub nth_file : List (List ℕ) → ℕ → List ℕ
 nth_file files place = slice_index_or files place []
 
+-- the symbol at a place of a list
 abbrev pub nth_symbol : List NumberedSymbol → ℕ → NumberedSymbol
 nth_symbol all k = slice_index_or all k (record { object = 0; symbol = 0; number = 0 })
 

@@ -16,8 +16,8 @@ ghost use Rattle.hash_check.specs.Search.{compared};
 ghost use Rattle.hash_check.specs.Soname.{has_bad_soname};
 
 use crate::duplicates::has_duplicate_definition;
-use crate::exported_names::{all_names, exported_names};
 use crate::export::is_exported;
+use crate::exported_names::{all_names, exported_names};
 use crate::hash::elf_hash;
 use crate::keyed_name::KeyedName;
 use crate::names::{name_at, text_of_name};

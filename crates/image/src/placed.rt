@@ -7,11 +7,10 @@ ghost use Rattle.scope.specs.Target.{target};
 ghost use Rattle.image.specs.Placement.{named};
 ghost use Rattle.image.specs.Relocating.{base_at, file_at, name_at, own_address, symbol_value};
 ghost use Rattle.image.specs.inside.Layout.{AllAccepted, IsPlaced, Stacked};
-ghost use Rattle.image.specs.inside.Layout.{IsSymbolName, with_bases};
+ghost use Rattle.image.specs.inside.Layout.{with_bases};
 
 use elf_dynamic::Object;
-use hash_check::KeyedName;
-use scope::{Ahead, Order, Target, Undefined, resolve};
+use scope::{Order, Target, Undefined, resolve};
 use std::alloc::{AllocError, Global};
 use std::marker::Model;
 
@@ -118,43 +117,6 @@ impl<'a> PlacedOrder<'a> {
             (λ _. symbol_value self.now own symbol ≡ None) }
     {
         match self.target(own, symbol)? {
-            Target::Zero => Ok(0),
-            Target::At { object, symbol } => Ok(self.own_address(object, symbol)),
-        }
-    }
-    /// What lookups of many symbols take.
-    pub(crate) fn ahead(&self, alloc: Global) -> Result<Ahead<'a>, AllocError>
-        ensures { IfOk result (λ ahead. ahead ≡ map named self.now) }
-    {
-        Ahead::new(alloc, self.order)
-    }
-
-    /// The names of all symbols of the object at a place but number 0, for these lookups.
-    pub(crate) fn all_names(&self, alloc: Global, own: usize) -> Result<Vec<KeyedName>, AllocError>
-        requires { own < length self.now }
-        ensures { IfOk result (λ names. All (IsSymbolName (file_at self.now own)) names.items) }
-    {
-        self.order.object(own).all_names(alloc)
-    }
-
-    /// The value of the symbol of a name of the object at a place, by these lookups, unless it is
-    /// undefined.
-    #[tactic(auto, unfolding(crate::specs::Relocating::symbol_value))]
-    pub(crate) fn symbol_value_ahead(
-        &self,
-        ahead: &mut Ahead<'_>,
-        own: usize,
-        name: KeyedName,
-    ) -> Result<u64, Undefined>
-        requires own { own < length self.now }
-        requires name { IsSymbolName (file_at self.now own) name }
-        requires ahead { ahead.old ≡ map named self.now }
-        ensures ahead { ahead.new ≡ map named self.now }
-        ensures value { MatchResult result
-            (λ value. symbol_value self.now own name.symbol ≡ Some value)
-            (λ _. symbol_value self.now own name.symbol ≡ None) }
-    {
-        match ahead.resolve(own, name)? {
             Target::Zero => Ok(0),
             Target::At { object, symbol } => Ok(self.own_address(object, symbol)),
         }

@@ -12,7 +12,6 @@ ghost use Rattle.image.specs.Relocating.{file_at, is_undefined, write_of, writes
 ghost use Rattle.image.specs.Relocating.{last_write_at, written_or};
 ghost use Rattle.image.specs.inside.Layout.{Rising, after, Lands, Keeps};
 
-use crate::lookahead::Lookahead;
 use crate::patch::patch;
 use crate::placed::PlacedOrder;
 use crate::refusal::BindRefusal;
@@ -57,17 +56,14 @@ fn relocate_one(
 
 /// Writes what the relocations of the object at a place in load order write, in their order, or
 /// gives the refusal of the first one that is undefined. One that goes where the one before it went
-/// takes constant time, any other a halving over the segments. Each symbol is looked up once, by
-/// itself, or with all others where their names share bytes: it takes 16 bytes a symbol, which it
-/// gives back.
-fn relocate_object<'a>(
+/// takes constant time, any other a halving over the segments. Each symbol is looked up once: it
+/// takes 16 bytes a symbol, which it gives back.
+fn relocate_object(
     alloc: Global,
     segments: &mut [Segment],
-    objects: &PlacedOrder<'a>,
+    objects: &PlacedOrder<'_>,
     own: usize,
-    lookahead: &mut Lookahead<'a>,
 ) -> Result<(), BindRefusal>
-    requires ahead { IfSome lookahead.old.ahead (λ a. a ≡ map named objects.now) }
     requires own { own < length objects.now }
     requires headings { map heading segments.old ≡ map (λ s. s.heading) (all_loaded objects.now) }
     ensures headings { map heading segments.new ≡ map heading segments.old }
@@ -76,15 +72,12 @@ fn relocate_object<'a>(
         ≡ written_or (last_write_at (writes_of objects.now own) a)
         (segments_byte segments.old a) a) }
     ensures refused { IfErr result (IsFirstOrWantsMemory (undefined_in objects.now own)) }
-    ensures ahead { IfSome lookahead.new.ahead (λ a. a ≡ map named objects.now) }
 {
     let object = objects.object(own);
-    lookahead.begin(object);
     let mut kept = nothing_kept(alloc, object.symbol_count())?;
     let mut near = 0;
     for i in 0..object.rela_count() {
         let relocation = object.rela(i);
-        lookahead.go_on(alloc, objects, own, &mut kept, relocation);
         match relocate_one(segments, near, objects, own, &mut kept, relocation) {
             Ok(found) => near = found,
             Err(_) => {
@@ -110,9 +103,8 @@ pub(crate) fn relocate(
         ≡ written_or (last_write_at (all_writes objects.now) a) (segments_byte segments.old a) a) }
     ensures refused { IfErr result (IsFirstOrWantsMemory (undefined_refusal objects.now)) }
 {
-    let mut lookahead = Lookahead::new();
     for own in 0..objects.count() {
-        relocate_object(alloc, segments, objects, own, &mut lookahead)?;
+        relocate_object(alloc, segments, objects, own)?;
     }
     Ok(())
 }

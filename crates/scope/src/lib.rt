@@ -6,32 +6,23 @@
 //! undefined.
 #![tactic(auto)]
 
-mod ahead;
-mod classed;
-mod classes;
-mod compared;
-mod endings;
-mod entry;
+mod definitions;
+mod found;
 mod installed;
 mod level;
 mod library;
 mod loaded;
 mod loading;
 mod lookup;
-mod name_search;
-mod name_table;
 mod needed_name;
 mod needs;
 mod order;
 mod places;
 mod refusal;
 mod resolution;
-mod strings;
-mod table;
 mod target;
 mod worth;
 
-pub use ahead::Ahead;
 pub use level::first_level;
 pub use library::Library;
 pub use loading::load_order;

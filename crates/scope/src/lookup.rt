@@ -1,8 +1,11 @@
 // The search for a name among objects.
 
-ghost use Rattle.std.specs.Prelude.{◌≡◌, ◌<◌, length, map, IfSome};
+ghost use Rattle.std.specs.Prelude.{◌≡◌, ◌<◌, ◌≤◌, length, map};
 ghost use Rattle.elf_file.specs.FirstOf.{first_of};
+ghost use Rattle.elf_dynamic.specs.Symbol.{symbols};
+ghost use Rattle.elf_dynamic.specs.Strings.{name_of};
 ghost use Rattle.hash_check.specs.Hash.{elf_hash};
+ghost use Rattle.scope.specs.Objects.{file_at};
 ghost use Rattle.scope.specs.Lookup.{all_places, definition_at, lookup};
 
 use crate::order::Order;
@@ -39,35 +42,24 @@ fn first_by_walks(order: &Order<'_>, name: &[u8], hash: u32) -> Option<Target>
     None
 }
 
-/// The first definition of a name in load order, weak or not: by one search in the order's table of
-/// all exported names, where it has one, and else by the name's hash, which is made unless it is
-/// given.
-fn first_definition(order: &Order<'_>, name: &[u8], hash: Option<u32>) -> Option<Target>
-    requires { IfSome hash (λ h. h ≡ elf_hash name.now) }
-    ensures { result ≡ first_of
-        (map (definition_at order.now name.now) (all_places order.now)) }
-{
-    match (order.table(), hash) {
-        (Some(names), _) => names.find_first(order.objects(), name),
-        (None, Some(hash)) => first_by_walks(order, name, hash),
-        (None, None) => first_by_walks(order, name, elf_hash(name)),
-    }
-}
-
-/// The first definition of a name, weak or not, for the object at a place, that asks: in load
-/// order, and before that in the object itself where it is symbolic. The name is hashed once at
-/// most.
+/// The first definition of the name of a symbol, weak or not, for the object at a place, that asks:
+/// in load order, and before that in the object itself where it is symbolic.
 #[tactic(auto, unfolding(crate::specs::Lookup::lookup))]
-pub(crate) fn lookup(order: &Order<'_>, object: usize, name: &[u8]) -> Option<Target>
-    requires { object < length order.now }
-    ensures { result ≡ lookup order.now object name.now }
+pub(crate) fn lookup(order: &Order<'_>, object: usize, symbol: u32) -> Option<Target>
+    requires object { object < length order.now }
+    requires some { 1 ≤ symbol }
+    requires within { symbol < length (symbols (file_at order.now object)) }
+    ensures { result ≡ lookup order.now object (name_of (file_at order.now object) symbol) }
 {
-    if !order.is_symbolic(object) {
-        return first_definition(order, name, None);
+    if let Some(found) = order.table() {
+        return found.of_symbol(object, symbol);
     }
+    let name = order.object(object).name_at(symbol);
     let hash = elf_hash(name);
-    match definition_at(order, object, name, hash) {
-        Some(own) => Some(own),
-        None => first_definition(order, name, Some(hash)),
+    if order.is_symbolic(object) {
+        if let Some(own) = definition_at(order, object, name, hash) {
+            return Some(own);
+        }
     }
+    first_by_walks(order, name, hash)
 }

@@ -1,15 +1,15 @@
 // Objects in load order.
 
-ghost use Rattle.std.specs.Prelude.{◌≡◌, ◌<◌, length, IfOk, IfSome};
+ghost use Rattle.std.specs.Prelude.{◌≡◌, ◌<◌, length, map, IfOk, IfSome};
 ghost use Rattle.std.specs.List.{All};
 ghost use Rattle.elf_file.specs.Dynamic.{is_symbolic};
 ghost use Rattle.scope.specs.LoadOrder.{available};
 ghost use Rattle.scope.specs.Objects.{IsOrder, IsTaken, name_at, file_at, program_name};
-ghost use Rattle.scope.specs.inside.NameTable.{IsNames};
+ghost use Rattle.scope.specs.inside.Definitions.{IsFound};
 
+use crate::found::Found;
 use crate::library::Library;
 use crate::loaded::LoadedObject;
-use crate::table::Names;
 use crate::worth::worthy_table;
 use hash_check::Admitted;
 use std::alloc::{AllocError, Global};
@@ -26,30 +26,30 @@ pub fn program_name<'a>() -> &'a [u8]
 }
 
 /// A program and the libraries that are bound with it, in load order: the program is the first and
-/// goes by the name `/program`. Contracts see the names and the files' bytes. Where there are more
-/// symbols to look up than the objects are worth, it has a table of all exported names.
+/// goes by the name `/program`. Contracts see the names and the files' bytes. Where that is worth its
+/// cost, it keeps what is found for each symbol.
 #[derive(Drop)]
 pub struct Order<'a> {
     objects: Vec<LoadedObject<'a>>,
-    table: Option<Names>,
+    table: Option<Found>,
 }
 
 impl<'a> Model for Order<'a> {
-    ghost use Rattle.std.specs.Prelude.{List, IfSome};
+    ghost use Rattle.std.specs.Prelude.{List, IfSome, map};
     ghost use Rattle.scope.specs.Objects.{Named, IsOrder};
-    ghost use Rattle.scope.specs.inside.NameTable.{IsNames};
+    ghost use Rattle.scope.specs.inside.Definitions.{IsFound};
 
     ghost Value = { List Named };
 
     ghost view = { λ o. o.objects.items };
 
     ghost invariant = { λ o. IsOrder o.objects.items
-        × IfSome o.table (λ t. IsNames o.objects.items t.entries.items t.cells.items) };
+        × IfSome o.table (λ t. IsFound o.objects.items (map (λ r. r.items) t.rows.items)) };
 }
 
 impl<'a> Order<'a> {
-    /// An order of these objects. It takes memory for a table of names where this is worth it, and
-    /// goes without where that memory is refused.
+    /// An order of these objects. It takes memory for what is found for each symbol where this is
+    /// worth it, and goes without where that memory is refused.
     pub(crate) fn new(alloc: Global, objects: Vec<LoadedObject<'a>>) -> Order<'a>
         requires { IsOrder objects.items }
         ensures { result ≡ objects.entry.items }
@@ -104,7 +104,7 @@ impl<'a> Order<'a> {
         self.objects[i].object()
     }
 
-    /// The objects, for a search in the table.
+    /// The objects.
     pub(crate) fn objects(&self) -> &[LoadedObject<'a>]
         ensures objects { result.now ≡ self.now }
         ensures taken { All (λ o. IsTaken o.file) self.now }
@@ -112,13 +112,12 @@ impl<'a> Order<'a> {
         &self.objects
     }
 
-    /// The table of all exported names, if there is one.
-    pub(crate) fn table(&self) -> Option<&Names>
-        ensures { IfSome result (λ t.
-            IsNames self.now t.now.entries.items t.now.cells.items) }
+    /// What is found for all symbols, if that is known.
+    pub(crate) fn table(&self) -> Option<&Found>
+        ensures { IfSome result (λ t. IsFound self.now (map (λ r. r.items) t.now.rows.items)) }
     {
         match &self.table {
-            Some(names) => Some(names),
+            Some(found) => Some(found),
             None => None,
         }
     }

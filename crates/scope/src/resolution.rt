@@ -44,7 +44,7 @@ pub fn resolve(order: &Order<'_>, object: usize, symbol: u32) -> Result<Target, 
         return Ok(Target::At { object, symbol });
     }
     if !is_withheld(entry) {
-        if let Some(found) = lookup(order, object, file.name_of(symbol)) {
+        if let Some(found) = lookup(order, object, symbol) {
             return Ok(found);
         }
     }

@@ -1,11 +1,14 @@
-// Whether a table of names is worth its cost.
+// Whether it is worth its cost to look all symbols up at once.
 
-ghost use Rattle.std.specs.Prelude.{◌≤◌, IfSome};
-ghost use Rattle.scope.specs.inside.NameTable.{IsNames};
+ghost use Rattle.std.specs.Prelude.{◌≤◌, map, IfSome};
+ghost use Rattle.std.specs.List.{All};
+ghost use Rattle.scope.specs.Objects.{IsTaken};
+ghost use Rattle.scope.specs.inside.Definitions.{IsFound};
 
+use crate::found::Found;
 use crate::loaded::LoadedObject;
-use crate::table::{Names, names_of_all};
-use elf_dynamic::{Object, uses_symbol};
+use elf_dynamic::{Object, R_X86_64_64, R_X86_64_GLOB_DAT, R_X86_64_JUMP_SLOT};
+use hash_check::Room;
 use std::alloc::Global;
 
 /// How many walks of an object are followed to see how long they are.
@@ -77,8 +80,9 @@ fn sampled_walks(object: &Object<'_>) -> u64 {
 fn lookups_of(object: &Object<'_>) -> u64 {
     let mut naming = 0;
     for i in 0..object.rela_count() {
-        if uses_symbol(object.rela(i).kind) {
-            naming += 1;
+        match object.rela(i).kind {
+            R_X86_64_64 | R_X86_64_GLOB_DAT | R_X86_64_JUMP_SLOT => naming += 1,
+            _ => {}
         }
     }
     u64::from(object.symbol_count()).min(naming)
@@ -113,12 +117,42 @@ fn is_worth(objects: &[LoadedObject<'_>]) -> bool {
     is_less(lookups, walks, names)
 }
 
-/// A table of all exported names, where it is worth its cost and there is memory for it.
-pub(crate) fn worthy_table(alloc: Global, objects: &[LoadedObject<'_>]) -> Option<Names>
-    ensures { IfSome result (λ t. IsNames objects.now t.entries.items t.cells.items) }
+/// Whether the names of the symbols that an object's relocations name have so many bytes that many
+/// of them are tails of others.
+fn share_bytes(object: &Object<'_>) -> bool {
+    let mut room = Room::new(object.string_table().len());
+    for i in 0..object.rela_count() {
+        let relocation = object.rela(i);
+        match relocation.kind {
+            R_X86_64_64 | R_X86_64_GLOB_DAT | R_X86_64_JUMP_SLOT => {
+                if relocation.symbol < object.symbol_count()
+                    && !room.take(object.name_of(relocation.symbol).len())
+                {
+                    return true;
+                }
+            }
+            _ => {}
+        }
+    }
+    false
+}
+
+fn any_share_bytes(objects: &[LoadedObject<'_>]) -> bool {
+    for loaded in objects {
+        if share_bytes(loaded.object().object()) {
+            return true;
+        }
+    }
+    false
+}
+
+/// What is found for all symbols, where that is worth its cost and there is memory for it.
+pub(crate) fn worthy_table(alloc: Global, objects: &[LoadedObject<'_>]) -> Option<Found>
+    requires { All (λ o. IsTaken o.file) objects.now }
+    ensures { IfSome result (λ t. IsFound objects.now (map (λ r. r.items) t.rows.items)) }
 {
-    if !is_worth(objects) {
+    if !is_worth(objects) && !any_share_bytes(objects) {
         return None;
     }
-    names_of_all(alloc, objects).ok()
+    Found::new(alloc, objects).ok()
 }

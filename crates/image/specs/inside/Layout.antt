@@ -6,8 +6,6 @@ use Rattle.std.specs.List.{All, list_any}
 use Rattle.byteorder.specs.Endian.{little_bytes}
 use Rattle.elf_dynamic.specs.Refusal.{first_refusal}
 use Rattle.elf_dynamic.specs.Symbol.{symbols}
-use Rattle.hash_check.specs.KeyedName.{named}
-use Rattle.hash_check.specs.declared.keyed_name.KeyedName.{KeyedName}
 use Rattle.scope.specs.Objects.{Named}
 use Rattle.image.specs.Constant.{MEMORY_LIMIT}
 use Rattle.image.specs.Heading.{Heading, within}
@@ -87,8 +85,3 @@ pub record IsPlaced (order : List Named) (bases : List ℕ) : Type 0 where
 pub record Keeps (objects : List Placed) (own : ℕ) (kept : List (Option ℕ)) : Type 0 where
   pub counted : length kept ≡ length (symbols (file_at objects own))
   pub values : (k v : ℕ) → slice_get kept k ≡ Some (Some v) → symbol_value objects own k ≡ Some v
-
--- the name of a symbol of a file, with its key and its length
-pub record IsSymbolName (file : List ℕ) (name : KeyedName) : Type 0 where
-  pub is : name ≡ named file name.symbol
-  pub within : name.symbol < length (symbols file)

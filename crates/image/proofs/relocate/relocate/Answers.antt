@@ -1,10 +1,8 @@
-use Rattle.std.proofs.Common.{◌≡◌, ◌<◌, List, length, map, Option, subst, ap, ◌∙◌, sym, refl, arith}
-use Rattle.std.specs.Prelude.{IfSome}
+use Rattle.std.proofs.Common.{◌<◌, List, length, ap, ◌∙◌, sym, refl, arith}
 use Rattle.std.specs.List.{flat_map, range_with_len}
 use Rattle.std.proofs.lemmas.Result.{err_from_is_err_and}
 use Rattle.image.specs.Image.{segments_byte}
-use Rattle.scope.specs.Objects.{Named}
-use Rattle.image.specs.Placement.{Placed, named}
+use Rattle.image.specs.Placement.{Placed}
 use Rattle.image.specs.Refusal.{undefined_in, undefined_refusal}
 use Rattle.image.specs.Relocating.{Write, writes_of, last_write_at, written_or}
 use Rattle.image.proofs.Relocating.{written_or-then, writes-more}
@@ -14,8 +12,6 @@ use Rattle.image.proofs.relocate.relocate.Goals as goal
 pub loop-own-init : goal.loop-own-init
 unfolding undefined_refusal
 loop-own-init c = record {
-  ahead = subst (λ (o : Option (List Named)). IfSome o (λ a. a ≡ map named c.args.objects.now))
-      (sym c.new-lookahead.ensures) tt;
   headings = refl;
   bytes = λ a. refl;
   first = refl;
@@ -28,7 +24,6 @@ loop-own-preserved c =
     let within : own < length objects = omega (arith, c.count-own-end.ensures.count) in
     let f = writes_of objects in
     record {
-      ahead = c.relocate_object.ensures.ahead;
       headings = c.relocate_object.ensures.headings ∙ c.loop-own.invariant.headings;
       bytes = λ a.
           let start = segments_byte c.args.segments.now a in

@@ -1,4 +1,4 @@
-use Rattle.std.proofs.Common.{◌≡◌, ◌+◌, ◌<◌, ◌++◌, [], ◌∷◌, List, ℕ, Some, length, map, take, Option, ap, ◌∙◌, sym, refl, subst, arith, inl, inr}
+use Rattle.std.proofs.Common.{◌≡◌, ◌+◌, ◌<◌, ◌++◌, [], ◌∷◌, List, ℕ, Some, length, take, ap, ◌∙◌, sym, refl, subst, arith, inl, inr}
 use Rattle.std.specs.Prelude.{slice_get, IfSome}
 use Rattle.std.specs.List.{filter_map}
 use Rattle.std.proofs.lemmas.List.{take_all}
@@ -8,8 +8,7 @@ use Rattle.elf_dynamic.specs.Symbol.{symbols}
 use Rattle.elf_dynamic.specs.declared.relocation.Relocation.{Relocation}
 use Rattle.image.specs.Heading.{Heading}
 use Rattle.image.specs.Image.{segments_byte}
-use Rattle.scope.specs.Objects.{Named}
-use Rattle.image.specs.Placement.{Placed, named}
+use Rattle.image.specs.Placement.{Placed}
 use Rattle.image.specs.Refusal.{undefined_by}
 use Rattle.image.specs.Relocating.{file_at, first_undefined, is_undefined, relocations_of, write_of, last_write_at, written_or}
 use Rattle.image.specs.declared.refusal.BindRefusal.{BindRefusal}
@@ -26,7 +25,6 @@ use Rattle.image.proofs.relocate.relocate_object.Goals as goal
 pub loop-i-init : goal.loop-i-init
 loop-i-init c =
     record {
-      ahead = subst (λ (o : Option (List Named)). IfSome o (λ a. a ≡ map named c.args.objects.now)) (sym c.begin.ensures) c.requires.ahead;
       kept = keeps-nothing c.args.objects.now c.args.own c.symbol_count.result c.in_ok-kept.kept.items c.in_ok-kept.ensures
           (c.symbol_count.ensures.count ∙ ap (λ f. length (symbols f)) c.object-object.ensures.file);
       headings = refl;
@@ -66,7 +64,6 @@ loop-i-preserved c =
     let more : take (i + 1) all ≡ done ++ r ∷ [] = take_next all i r at in
     let f = write_of objects own in
     record {
-      ahead = c.go_on.ensures.ahead;
       kept = c.relocate_one.ensures.kept;
       headings = c.relocate_one.ensures.headings ∙ c.loop-i.invariant.headings;
       bytes = λ a.

@@ -1,7 +1,5 @@
 use Rattle.std.proofs.Common.{◌≡◌, ℕ, map, take, drop}
 use Rattle.std.specs.List.{filter_map, find}
-use Rattle.std.specs.Prelude.{IfSome}
-use Rattle.image.specs.Placement.{named}
 use Rattle.image.specs.Image.{heading, segments_byte}
 use Rattle.image.specs.Relocating.{is_undefined, first_undefined, write_of, relocations_of, last_write_at, written_or}
 use Rattle.image.specs.inside.Layout.{Keeps}
@@ -9,7 +7,6 @@ use Rattle.image.proofs.relocate.relocate_object.Given as goal
 
 abbrev pub invariant-loop-i : goal.invariant-loop-i
 invariant-loop-i l = record {
-  ahead : IfSome l.lookahead.ahead (λ a. a ≡ map named l.objects);
   kept : Keeps l.objects l.own l.kept.items;
   headings : map heading l.segments ≡ map heading l.fn.segments;
   bytes : (a : ℕ) → segments_byte l.segments a

@@ -1,6 +1,6 @@
 use Rattle.std.proofs.Common.{◌≡◌, ◌+◌, sym, ap, ◌∙◌, below_more, length, arith}
 use Rattle.scope.specs.Lookup.{definition_at}
-use Rattle.scope.proofs.Found.{none_from, some_from}
+use Rattle.scope.proofs.FirstOf.{none_from, some_from}
 use Rattle.scope.proofs.lookup.first_by_walks.Goals as goal
 
 pub loop-place-preserved : goal.loop-place-preserved

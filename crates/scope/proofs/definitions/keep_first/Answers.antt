@@ -1,0 +1,22 @@
+use Rattle.std.proofs.Common.{◌≡◌, ◌+◌, ◌∙◌, List, length, Bool, true, false, Option, Some, None, refl, sym, arith}
+use Rattle.std.specs.Prelude.{is_some, not}
+use Rattle.std.proofs.lemmas.Bool.{false≢true}
+use Rattle.hash_check.specs.Numbered.{nth_symbol}
+use Rattle.hash_check.specs.declared.numbered.NumberedSymbol.{NumberedSymbol}
+use Rattle.scope.specs.inside.Definitions.{nth_target}
+use Rattle.scope.proofs.Kept.{first-new}
+use Rattle.scope.proofs.definitions.keep_first.Goals as goal
+
+none-is : {X : Type 0} (o : Option X) (b : Bool) → is_some o ≡ not b → b ≡ true → o ≡ None
+none-is None b e is = refl
+none-is (Some x) true e is = absurd (false≢true (sym e))
+none-is (Some x) false e is = absurd (false≢true is)
+
+pub returns-then-is_exported : goal.returns-then-is_exported
+returns-then-is_exported c =
+    let all : List NumberedSymbol = c.args.symbols.now in
+    let few = c.requires.numbered.few c.args.at c.requires.at in
+    let size : length c.args.first.now ≡ length c.args.symbols.now + 1 = c.requires.first.size in
+    let none : nth_target c.args.first.now (nth_symbol all c.args.at).number ≡ None =
+    none-is (nth_target c.args.first.now (nth_symbol all c.args.at).number) c.is_none.result c.is_none.ensures c.if-is_none.true in
+    first-new c.args.objects.now all c.args.first.now c.args.at c.requires.at c.requires.first (sym c.is_exported.ensures ∙ c.if-is_exported.true) (omega (arith, few, size)) none

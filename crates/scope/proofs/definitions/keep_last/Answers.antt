@@ -1,0 +1,11 @@
+use Rattle.std.proofs.Common.{◌≡◌, ◌+◌, ◌∙◌, List, length, sym, arith}
+use Rattle.hash_check.specs.declared.numbered.NumberedSymbol.{NumberedSymbol}
+use Rattle.scope.proofs.Kept.{last-new}
+use Rattle.scope.proofs.definitions.keep_last.Goals as goal
+
+pub returns-then-is_exported : goal.returns-then-is_exported
+returns-then-is_exported c =
+    let all : List NumberedSymbol = c.args.symbols.now in
+    let few = c.requires.numbered.few c.args.at c.requires.at in
+    let size : length c.args.last.now ≡ length c.args.symbols.now + 1 = c.requires.last.size in
+    last-new c.args.objects.now all c.args.last.now c.args.at c.requires.at c.requires.last (sym c.is_exported.ensures ∙ c.if-is_exported.true) (omega (arith, few, size))

@@ -1,0 +1,156 @@
+// What is found for all symbols of an order.
+
+ghost use Rattle.std.specs.Prelude.{◌≡◌, ◌<◌, ◌≤◌, ◌+◌, ◌↔◌, ℕ, [], length, map, false};
+ghost use Rattle.std.specs.Prelude.{IsTrue, IfOk, slice_index_or};
+ghost use Rattle.std.specs.List.{All};
+ghost use Rattle.elf_file.specs.Dynamic.{is_symbolic};
+ghost use Rattle.hash_check.specs.Numbered.{nth_symbol, name_in, AreNumbered};
+ghost use Rattle.scope.specs.Objects.{IsTaken, file_at};
+ghost use Rattle.scope.specs.Lookup.{lookup};
+ghost use Rattle.scope.specs.inside.Definitions.{nth_target, nth_found, AreFirst, AreOwn};
+ghost use Rattle.scope.specs.inside.Definitions.{HaveRoom, IsPutAt, IsFound};
+
+use crate::definitions::{first_definitions, no_definitions, own_definitions};
+use crate::loaded::LoadedObject;
+use crate::target::Target;
+use hash_check::{Admitted, NumberedSymbol, numbered_symbols};
+use std::alloc::{AllocError, Global};
+
+/// For each symbol of each object the definition of its name that is found for this object.
+#[derive(Drop)]
+pub(crate) struct Found {
+    rows: Vec<Vec<Option<Target>>>,
+}
+
+/// The objects.
+fn admitted<'a>(
+    alloc: Global,
+    objects: &[LoadedObject<'a>],
+) -> Result<Vec<&'a Admitted<'a>>, AllocError>
+    ensures { IfOk result (λ v. map (λ o. o.now) v.items ≡ map (λ o. o.file) objects.now) }
+{
+    let mut all = Vec::with_capacity(alloc, objects.len())?;
+    for object in objects {
+        all.push(object.object())?;
+    }
+    Ok(all)
+}
+
+/// Room for what is found for the symbols of objects.
+fn no_rows(
+    alloc: Global,
+    objects: &[LoadedObject<'_>],
+) -> Result<Vec<Vec<Option<Target>>>, AllocError>
+    ensures { IfOk result (λ v. HaveRoom objects.now (map (λ r. r.items) v.items)) }
+{
+    let mut rows = Vec::with_capacity(alloc, objects.len())?;
+    for object in objects {
+        let count = object.object().object().symbol_count() as usize;
+        rows.push(no_definitions(alloc, count)?)?;
+    }
+    Ok(rows)
+}
+
+/// Whether an object is symbolic.
+fn has_symbolic(objects: &[LoadedObject<'_>]) -> bool
+    ensures { result ≡ false → (p : ℕ) → p < length objects.now
+        → is_symbolic (file_at objects.now p) ≡ false }
+{
+    for object in objects {
+        if object.is_symbolic() {
+            return true;
+        }
+    }
+    false
+}
+
+/// For each symbol what its own object exports under its name; nothing where no object is symbolic,
+/// so that it isn't asked for.
+fn own_where_symbolic(
+    alloc: Global,
+    objects: &[LoadedObject<'_>],
+    symbols: &[NumberedSymbol],
+) -> Result<Vec<Option<Target>>, AllocError>
+    requires numbered { AreNumbered (map (λ o. o.file) objects.now) symbols.now }
+    requires taken { All (λ o. IsTaken o.file) objects.now }
+    ensures { IfOk result (λ v. AreOwn objects.now symbols.now v.items) }
+{
+    if has_symbolic(objects) {
+        own_definitions(alloc, objects, symbols)
+    } else {
+        Ok(Vec::new(alloc))
+    }
+}
+
+/// A definition of a list; none behind its end.
+fn target_at(kept: &[Option<Target>], at: usize) -> Option<Target>
+    ensures { result ≡ nth_target kept.now at }
+{
+    if at < kept.len() { kept[at] } else { None }
+}
+
+/// What is found for a symbol.
+fn found_for(
+    objects: &[LoadedObject<'_>],
+    symbols: &[NumberedSymbol],
+    first: &[Option<Target>],
+    own: &[Option<Target>],
+    at: usize,
+) -> Option<Target>
+    requires numbered { AreNumbered (map (λ o. o.file) objects.now) symbols.now }
+    requires taken { All (λ o. IsTaken o.file) objects.now }
+    requires first { AreFirst objects.now symbols.now (length symbols.now) first.now }
+    requires own { AreOwn objects.now symbols.now own.now }
+    requires at { at < length symbols.now }
+    ensures { let symbol = nth_symbol symbols.now at in result
+        ≡ lookup objects.now symbol.object (name_in (map (λ o. o.file) objects.now) symbol) }
+{
+    let symbol = symbols[at];
+    if objects[symbol.object].is_symbolic() {
+        if let Some(own) = target_at(own, at) {
+            return Some(own);
+        }
+    }
+    target_at(first, symbol.number as usize)
+}
+
+/// Puts what is found for a symbol of the object at a place into its row.
+fn put(rows: &mut [Vec<Option<Target>>], place: usize, symbol: u32, found: Option<Target>)
+    requires place { place < length rows.old }
+    requires symbol { symbol
+        < length (slice_index_or (map (λ r. r.items) rows.old) place []) }
+    ensures { IsPutAt (map (λ r. r.items) rows.old) (map (λ r. r.items) rows.new)
+        place symbol found }
+{
+    rows[place][symbol as usize] = found;
+}
+
+impl Found {
+    /// What is found for all symbols of objects. It takes some 24 bytes a symbol, and some 60 more
+    /// while it is made.
+    pub(crate) fn new(alloc: Global, objects: &[LoadedObject<'_>]) -> Result<Found, AllocError>
+        requires { All (λ o. IsTaken o.file) objects.now }
+        ensures { IfOk result (λ f. IsFound objects.now (map (λ r. r.items) f.rows.items)) }
+    {
+        let admitted = admitted(alloc, objects)?;
+        let symbols = numbered_symbols(alloc, &admitted)?;
+        let first = first_definitions(alloc, objects, &symbols)?;
+        let own = own_where_symbolic(alloc, objects, &symbols)?;
+        let mut rows = no_rows(alloc, objects)?;
+        for at in 0..symbols.len() {
+            let found = found_for(objects, &symbols, &first, &own, at);
+            put(&mut rows, symbols[at].object, symbols[at].symbol, found);
+        }
+        Ok(Found { rows })
+    }
+
+    /// What is found for the symbol of a number of the object at a place.
+    pub(crate) fn of_symbol(&self, place: usize, symbol: u32) -> Option<Target>
+        requires place { place < length self.now.rows.items }
+        requires symbol { symbol
+            < length (slice_index_or (map (λ r. r.items) self.now.rows.items) place []) }
+        ensures { result ≡ nth_found (map (λ r. r.items) self.now.rows.items) place symbol }
+    {
+        self.rows[place][symbol as usize]
+    }
+}
