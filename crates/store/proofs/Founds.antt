@@ -1,5 +1,5 @@
 -- What is found on a disk, by what was read of its entries.
-use Rattle.std.proofs.Common.{◌≡◌, ◌⊎◌, inl, inr, ⊎_elim, ℕ, ◌+◌, ◌-◌, List, [], length, All, Result, Ok, Err, IfOk, IfErr, OnOk, sym, ap, subst, ◌∙◌, arith}
+use Rattle.std.proofs.Common.{◌≡◌, ◌⊎◌, inl, inr, ⊎_elim, ℕ, ◌+◌, ◌-◌, List, length, All, Result, Ok, Err, IfOk, IfErr, OnOk, sym, ap, subst, ◌∙◌, arith}
 use Rattle.std.specs.Global.{Vec}
 use Rattle.std.proofs.lemmas.List.{length-map}
 use Rattle.sector_disk.specs.Disk.{Sector, sector, DiskFacts, AreCallsExactly}
@@ -12,8 +12,7 @@ use Rattle.store.specs.declared.placed_entry.PlacedEntry.{PlacedEntry}
 use Rattle.store.specs.declared.refusal.StoreRefusal.{StoreRefusal}
 use Rattle.store.specs.declared.refusal.StoreRefusal.TheVariants.{Damaged, Device, OutOfMemory}
 use Rattle.store.specs.Stands.{AreListed, IsListed, IsIntact, UsesApart, HasRoom, HaveOwnNames, entry_sectors}
-use Rattle.store.specs.inside.Kept.{IsKept}
-use Rattle.store.specs.inside.NameIndex.{IsIndex}
+use Rattle.store.specs.inside.Found.{IsFound}
 use Rattle.store.specs.inside.Reading.{RefusesEntries}
 use Rattle.store.proofs.Beside.{room_more}
 use Rattle.store.proofs.Broken.{not_spelt, not_apart}
@@ -53,24 +52,24 @@ module _ (root : Root) (entries : List PlacedEntry) where
   found_calls old new n (Ok found) same calls = subst (λ l. AreCallsExactly (n + length l) old new) (sym same.1) calls
   found_calls old new n (Err e) same calls = tt
 
-  pub found_kept : {sectors : ℕ} (r : Result Found StoreRefusal) → IfOk r (λ found. IsKept found.root found.entries.items [] found.layout × IsIndex found.entries.items found.index)
+  pub found_kept : {sectors : ℕ} (r : Result Found StoreRefusal) → IfOk r (λ found. IsFound found.root found.entries.items found.sectors.items found.index found.layout)
       → IfOk r (λ found. (found.root ≡ root) × (found.entries.items ≡ entries)) → root.sectors ≡ sectors
-      → IfOk r (λ found. IsKept found.root found.entries.items [] found.layout × IsIndex found.entries.items found.index × (found.root ≡ root) × (root.sectors ≡ sectors))
-  found_kept (Ok found) kept same size = (kept.0, kept.1, same.0, size)
+      → IfOk r (λ found. IsFound found.root found.entries.items found.sectors.items found.index found.layout × (found.root ≡ root) × (root.sectors ≡ sectors))
+  found_kept (Ok found) kept same size = (kept, same.0, size)
   found_kept (Err e) kept same size = tt
 
   module _ (m : List Sector) (size : root.sectors ≡ length m) (listed : IsListed m root entries) where
     -- and the sectors are intact by them,
     pub found_intact : IsCurrent (sector m 0) (sector m 1) root → (r : Result Found StoreRefusal)
-        → IfOk r (λ found. IsKept found.root found.entries.items [] found.layout × IsIndex found.entries.items found.index)
+        → IfOk r (λ found. IsFound found.root found.entries.items found.sectors.items found.index found.layout)
         → IfOk r (λ found. (found.root ≡ root) × (found.entries.items ≡ entries)) → IfOk r (λ found. IsIntact m found.root found.entries.items)
     found_intact current (Ok found) kept same = record {
       current = subst (IsCurrent (sector m 0) (sector m 1)) (sym same.0) current;
       size = whole;
       listed = subst (λ l. IsListed m found.root l) (sym same.1) (subst (λ r. IsListed m r entries) (sym same.0) listed);
-      apart = subst (λ n. UsesApart n found.root found.entries.items) whole kept.0.apart;
-      room = subst (λ n. HasRoom n found.root.list found.entries.items) whole (room_more (found.root.sectors - 0) found.root.sectors found.root.list found.entries.items (omega arith) kept.0.room);
-      names = kept.0.names;
+      apart = subst (λ n. UsesApart n found.root found.entries.items) whole kept.kept.apart;
+      room = subst (λ n. HasRoom n found.root.list found.entries.items) whole (room_more (found.root.sectors - 0) found.root.sectors found.root.list found.entries.items (omega arith) kept.kept.room);
+      names = kept.kept.names;
     }
       where
         whole : found.root.sectors ≡ length m

@@ -1,5 +1,6 @@
 pub mod Anew
 pub mod Beside
+pub mod BlobReads
 pub mod Broken
 pub mod CatalogueParts
 pub mod CatalogueReads

@@ -2,6 +2,7 @@
 pub mod Catalogues
 pub mod Claimed
 pub mod First
+pub mod Found
 pub mod Holdings
 pub mod Kept
 pub mod NameIndex

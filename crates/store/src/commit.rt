@@ -1,75 +1,12 @@
 // Committing what was found on a disk of version 1 as one of version 2.
 use crate::change::write_list;
-use crate::kept::Kept;
 use crate::next::next_root;
 use crate::old_store::OldStore;
 use crate::refusal::StoreRefusal;
-use crate::room::{release_sectors, take_catalogues};
+use crate::room::take_catalogues;
 use crate::store::Store;
 use roots::catalogues_for;
 use sector_disk::Disk;
-
-impl<D: Disk> Kept<D> {
-    ghost use Rattle.std.specs.Prelude.{◌≡◌, ◌+◌, ◌⊎◌, [], IsFalse, length, OnOk};
-    ghost use Rattle.sector_disk.specs.Disk.{LeavesOnly};
-    ghost use Rattle.states.specs.Cost.{catalogues_for};
-    ghost use Rattle.roots.specs.declared.version.Version.TheVariants.{One, Two};
-    ghost use Rattle.roots.specs.Root.{version_of};
-    ghost use Rattle.store.specs.Changed.{Changed};
-    ghost use Rattle.store.specs.Opened.{IsAt, IsOldAt};
-    ghost use Rattle.store.specs.Taken.{IsRelisted};
-    ghost use Rattle.store.specs.Stands.{Stands, StandsOld};
-    ghost use Rattle.states.specs.State.{State};
-    ghost use Rattle.store.specs.Step.{refusal_of_upgrade, IsExactAnswer};
-    ghost use Rattle.store.specs.Step.{IsRefusalOfCommit};
-    ghost use Rattle.store.specs.Upgraded.{upgraded};
-
-    /// Lists by catalogues what a root of version 1 listed. It takes no memory.
-    fn relist(&mut self) -> Result<(), StoreRefusal>
-        requires version { version_of self.old.root ≡ One }
-        requires usable { IsFalse self.old.failed }
-        requires unheld { self.old.held ≡ [] }
-        ensures any_moment { (s : State) → IsOldAt D.facts self.old s
-            → LeavesOnly (D.facts self.old.disk) (D.facts self.new.disk)
-            (λ m. StandsOld m s ⊎ Stands m (upgraded s)) }
-        ensures ok { (s : State) → IsOldAt D.facts self.old s
-            → OnOk result (IsAt D.facts self.new (upgraded s)) }
-        ensures refused { (s : State) → IsOldAt D.facts self.old s
-            → IsExactAnswer (refusal_of_upgrade self.old.root.sectors s) result }
-        ensures placed { OnOk result (IsRelisted self.old self.new) }
-        ensures version { OnOk result (version_of self.new.root ≡ Two) }
-        ensures unheld { self.new.held ≡ [] }
-        ensures on_any_disk { Changed D.facts StoreRefusal.Device StoreRefusal.Reopen
-            self.old self.new (catalogues_for (length self.old.entries) + 3)
-            IsRefusalOfCommit result }
-    {
-        if self.root.generation == u64::MAX {
-            return Err(StoreRefusal::GenerationEnd);
-        }
-        let libraries = self.entries.len();
-        let count = catalogues_for(libraries);
-        if (self.layout.free_count() as usize) < 2 * count {
-            return Err(StoreRefusal::Full);
-        }
-        let taken = take_catalogues(&mut self.layout, count);
-        let listed = taken.as_slice();
-        let root = next_root(&self.root, libraries, listed);
-        self.failed = true;
-        if let Err(fault) = write_list(
-            &mut self.disk,
-            &mut self.singles,
-            listed,
-            &self.sectors,
-            &root,
-        ) {
-            release_sectors(&mut self.layout, listed);
-            return Err(StoreRefusal::from(fault));
-        }
-        self.root = root;
-        self.failed = false;
-        Ok(())
-    }
-}
 
 impl<D: Disk> OldStore<D> {
     ghost use Rattle.std.specs.Prelude.{◌≡◌, ◌≢◌, ◌+◌, ◌<◌, ◌≤◌, ◌⊎◌, IsFalse, IfOk};
@@ -115,11 +52,26 @@ impl<D: Disk> OldStore<D> {
             (catalogues_for (length self.entries) + 3)
             (D.facts self.disk) (D.facts store.disk)) }
     {
-        let OldStore { kept } = self;
-        let mut kept = kept;
-        match kept.relist() {
-            Ok(()) => Ok(Store { kept }),
-            Err(refusal) => Err((refusal, kept.into_disk())),
+        let OldStore { disk, found, alloc } = self;
+        let mut disk = disk;
+        let mut found = found;
+        if found.root.generation == u64::MAX {
+            return Err((StoreRefusal::GenerationEnd, disk));
+        }
+        let libraries = found.entries.len();
+        let count = catalogues_for(libraries);
+        if (found.layout.free_count() as usize) < 2 * count {
+            return Err((StoreRefusal::Full, disk));
+        }
+        let taken = take_catalogues(&mut found.layout, count);
+        let listed = taken.as_slice();
+        let root = next_root(&found.root, libraries, listed);
+        match write_list(&mut disk, &mut found.singles, listed, &found.sectors, &root) {
+            Ok(()) => {
+                found.root = root;
+                Ok(found.beside(alloc, disk))
+            }
+            Err(fault) => Err((StoreRefusal::from(fault), disk)),
         }
     }
 }

@@ -1,6 +1,5 @@
 // Taking out a byte string.
 use crate::change::write_list;
-use crate::kept::Kept;
 use crate::listed::catalogues;
 use crate::next::root_without;
 use crate::refusal::StoreRefusal;
@@ -8,89 +7,6 @@ use crate::room::{give_up, release_sectors, take_catalogues};
 use crate::store::Store;
 use roots::catalogues_for;
 use sector_disk::Disk;
-
-impl<D: Disk> Kept<D> {
-    ghost use Rattle.std.specs.Prelude.{◌≡◌, ◌+◌, ◌-◌, ◌⊎◌, length, OnOk};
-    ghost use Rattle.sector_disk.specs.Disk.{LeavesOnly};
-    ghost use Rattle.states.specs.Cost.{catalogues_for};
-    ghost use Rattle.store.specs.Changed.{Changed};
-    ghost use Rattle.store.specs.Holders.{KeepsHeld};
-    ghost use Rattle.store.specs.Names.{HasName, IsNoPreload};
-    ghost use Rattle.store.specs.Opened.{IsAt};
-    ghost use Rattle.store.specs.Taken.{IsTakenOut};
-    ghost use Rattle.store.specs.Stands.{Stands};
-    ghost use Rattle.states.specs.State.{State};
-    ghost use Rattle.states.specs.Changes.{without};
-    ghost use Rattle.store.specs.Step.{refusal_of_change, IsExactAnswer, IsRefusalOfChange};
-    ghost use Rattle.roots.specs.declared.version.Version.TheVariants.{Two};
-    ghost use Rattle.roots.specs.Root.{version_of};
-
-    /// Takes out the byte string with this name, which is no preload. Those behind it close up, and
-    /// the preloads keep their names. It takes no memory, and never more sectors than there are.
-    pub(crate) fn delete(&mut self, name: &[u8]) -> Result<(), StoreRefusal>
-        requires version { version_of self.old.root ≡ Two }
-        requires present { HasName self.old name.now }
-        requires no_preload { IsNoPreload self.old name.now }
-
-        // A stop at any moment leaves the state from before it or the one after.
-        ensures any_moment { (s : State) → IsAt D.facts self.old s
-            → LeavesOnly (D.facts self.old.disk) (D.facts self.new.disk)
-            (λ m. Stands m s ⊎ Stands m (without name.now s)) }
-        ensures ok { (s : State) → IsAt D.facts self.old s
-            → OnOk result (IsAt D.facts self.new (without name.now s)) }
-        ensures refused { (s : State) → IsAt D.facts self.old s
-            → IsExactAnswer (refusal_of_change s) result }
-
-        // It takes the sectors of the catalogues of what is left.
-        ensures placed { OnOk result (IsTakenOut self.old self.new name.now) }
-
-        // What somebody holds stays as it was.
-        ensures held { KeepsHeld D.facts self.old self.new }
-
-        // On any disk. After a failed call the store has to be opened again.
-        ensures on_any_disk { Changed D.facts StoreRefusal.Device StoreRefusal.Reopen
-            self.old self.new (catalogues_for (length self.old.entries - 1) + 3)
-            IsRefusalOfChange result }
-        ensures version { version_of self.new.root ≡ Two }
-    {
-        if self.failed {
-            return Err(StoreRefusal::Reopen);
-        }
-        if self.root.generation == u64::MAX {
-            return Err(StoreRefusal::GenerationEnd);
-        }
-        let Some(position) = self.index.position_of(&self.entries, name) else {
-            unreachable!();
-        };
-        let libraries = self.entries.len() - 1;
-        let taken = take_catalogues(&mut self.layout, catalogues_for(libraries));
-        self.sectors.remove(position);
-        let listed = taken.as_slice();
-        let root = root_without(&self.root, libraries, listed, position);
-        self.failed = true;
-        if let Err(fault) = write_list(
-            &mut self.disk,
-            &mut self.singles,
-            listed,
-            &self.sectors,
-            &root,
-        ) {
-            release_sectors(&mut self.layout, listed);
-            return Err(StoreRefusal::from(fault));
-        }
-        give_up(
-            &mut self.layout,
-            &mut self.held,
-            &self.entries[position],
-            catalogues(&self.root),
-        );
-        self.index.remove(&self.entries, position);
-        self.entries.remove(position);
-        self.root = root;
-        self.failed = false;
-        Ok(())
-    }
-}
 
 impl<D: Disk> Store<D> {
     ghost use Rattle.std.specs.Prelude.{◌≡◌, ◌+◌, ◌-◌, ◌⊎◌, length, OnOk};
@@ -132,6 +48,41 @@ impl<D: Disk> Store<D> {
             self.old self.new (catalogues_for (length self.old.entries - 1) + 3)
             IsRefusalOfChange result }
     {
-        self.kept.delete(name)
+        if self.failed {
+            return Err(StoreRefusal::Reopen);
+        }
+        if self.root.generation == u64::MAX {
+            return Err(StoreRefusal::GenerationEnd);
+        }
+        let Some(position) = self.index.position_of(&self.entries, name) else {
+            unreachable!();
+        };
+        let libraries = self.entries.len() - 1;
+        let taken = take_catalogues(&mut self.layout, catalogues_for(libraries));
+        self.sectors.remove(position);
+        let listed = taken.as_slice();
+        let root = root_without(&self.root, libraries, listed, position);
+        self.failed = true;
+        if let Err(fault) = write_list(
+            &mut self.disk,
+            &mut self.singles,
+            listed,
+            &self.sectors,
+            &root,
+        ) {
+            release_sectors(&mut self.layout, listed);
+            return Err(StoreRefusal::from(fault));
+        }
+        give_up(
+            &mut self.layout,
+            &mut self.held,
+            &self.entries[position],
+            catalogues(&self.root),
+        );
+        self.index.remove(&self.entries, position);
+        self.entries.remove(position);
+        self.root = root;
+        self.failed = false;
+        Ok(())
     }
 }

@@ -13,8 +13,8 @@ ghost use Rattle.store.specs.Opening.{RefusesLook, RefusesOpen};
 ghost use Rattle.states.specs.Geometry.{IsGeometry};
 ghost use Rattle.store.specs.declared.placed_entry.PlacedEntry.{PlacedEntry};
 ghost use Rattle.store.specs.Stands.{IsIntact, IsListed, Stands, StandsEither, catalogues_of};
-ghost use Rattle.store.specs.inside.Kept.{HaveSpellings, IsKept};
-ghost use Rattle.store.specs.inside.NameIndex.{IsIndex};
+ghost use Rattle.store.specs.inside.Found.{IsFound};
+ghost use Rattle.store.specs.inside.Kept.{HaveSpellings};
 ghost use Rattle.store.specs.inside.Reading.{RefusesRoot, RefusesEntries};
 
 use crate::entries::read_entries;
@@ -96,8 +96,8 @@ fn find_entries<D: Disk>(alloc: Global, disk: &mut D, root: Root) -> Result<Foun
         (D.facts disk.old) (D.facts disk.new)) }
     ensures same { IsTrue (D.facts disk.old).honest
         → AreReads (D.facts disk.old) (D.facts disk.new) }
-    ensures kept { IfOk result (λ found. IsKept found.root found.entries.items [] found.layout
-        × IsIndex found.entries.items found.index
+    ensures kept { IfOk result (λ found. IsFound found.root found.entries.items
+        found.sectors.items found.index found.layout
         × (found.root ≡ root) × (root.sectors ≡ (D.facts disk.old).sectors)) }
     ensures intact { IsTrue (D.facts disk.old).honest
         → IsCurrent (sector (D.facts disk.old).now 0) (sector (D.facts disk.old).now 1) root
@@ -132,8 +132,8 @@ pub(crate) fn find_store<D: Disk>(alloc: Global, disk: &mut D) -> Result<Found, 
     ensures log { IsTrue (D.facts disk.old).honest
         → MayAddSync (D.facts disk.old).log (D.facts disk.new).log }
     ensures synced { IsTrue (D.facts disk.old).honest → OnOk result (IsSynced (D.facts disk.new)) }
-    ensures kept { IfOk result (λ found. IsKept found.root found.entries.items [] found.layout
-        × IsIndex found.entries.items found.index
+    ensures kept { IfOk result (λ found. IsFound found.root found.entries.items
+        found.sectors.items found.index found.layout
         × (found.root.sectors ≡ (D.facts disk.old).sectors)) }
     ensures intact { IsTrue (D.facts disk.old).honest → IfOk result (λ found.
         IsIntact (D.facts disk.old).now found.root found.entries.items) }
@@ -164,8 +164,8 @@ pub(crate) fn find_current<D: Disk>(alloc: Global, disk: &mut D) -> Result<Found
     ensures log { IsTrue (D.facts disk.old).honest
         → MayAddSync (D.facts disk.old).log (D.facts disk.new).log }
     ensures synced { IsTrue (D.facts disk.old).honest → OnOk result (IsSynced (D.facts disk.new)) }
-    ensures kept { IfOk result (λ found. IsKept found.root found.entries.items [] found.layout
-        × IsIndex found.entries.items found.index
+    ensures kept { IfOk result (λ found. IsFound found.root found.entries.items
+        found.sectors.items found.index found.layout
         × (version_of found.root ≡ Two)
         × (found.root.sectors ≡ (D.facts disk.old).sectors)) }
     ensures intact { IsTrue (D.facts disk.old).honest → IfOk result (λ found.

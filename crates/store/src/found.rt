@@ -1,16 +1,17 @@
 // What a disk holds, as a store keeps it.
 ghost use Rattle.std.specs.Prelude.{◌≡◌, ◌⊎◌, [], IfOk, IfErr, length, false};
-ghost use Rattle.roots.specs.Root.{RootHasSpelling};
+ghost use Rattle.roots.specs.Root.{RootHasSpelling, version_of};
+ghost use Rattle.roots.specs.declared.version.Version.TheVariants.{Two};
 ghost use Rattle.store.specs.Stands.{HasRoom, HaveOwnNames, UsesApart, entry_sectors};
-ghost use Rattle.store.specs.inside.Kept.{HaveSpellings, IsKept};
-ghost use Rattle.store.specs.inside.NameIndex.{IsIndex};
+ghost use Rattle.store.specs.inside.Found.{IsFound};
+ghost use Rattle.store.specs.inside.Kept.{HaveSpellings};
 
 use crate::catalogues::Singles;
 use crate::held_versions::HeldVersions;
-use crate::kept::Kept;
 use crate::name_index::NameIndex;
 use crate::placed_entry::PlacedEntry;
 use crate::refusal::StoreRefusal;
+use crate::store::Store;
 use crate::used::claim_used;
 use extents::Layout;
 use roots::Root;
@@ -26,7 +27,6 @@ pub(crate) struct Found {
     pub singles: Singles,
     pub index: NameIndex,
     pub layout: Layout,
-    ghost listed: { sectors.items ≡ entry_sectors entries.items },
 }
 
 /// The sectors of entries, in their order.
@@ -51,8 +51,8 @@ impl Found {
         requires root { RootHasSpelling root }
         requires entries { HaveSpellings entries.items }
         requires counted { length entries.items ≡ root.library_count }
-        ensures kept { IfOk result (λ found. IsKept found.root found.entries.items [] found.layout
-            × IsIndex found.entries.items found.index) }
+        ensures kept { IfOk result (λ found. IsFound found.root found.entries.items
+            found.sectors.items found.index found.layout) }
         ensures same { IfOk result (λ found. (found.root ≡ root)
             × (found.entries.items ≡ entries.items)) }
         ensures refused { IfErr result (λ e. (e ≡ StoreRefusal.OutOfMemory)
@@ -76,10 +76,11 @@ impl Found {
         })
     }
 
-    /// What was found, kept beside the disk where it was.
-    pub(crate) fn beside<D: Disk>(self, alloc: Global, disk: D) -> Kept<D>
-        requires kept { IsKept self.root self.entries.items [] self.layout }
-        requires index { IsIndex self.entries.items self.index }
+    /// What was found, as a store of version 2 over the disk where it was.
+    pub(crate) fn beside<D: Disk>(self, alloc: Global, disk: D) -> Store<D>
+        requires version { version_of self.root ≡ Two }
+        requires found { IsFound self.root self.entries.items self.sectors.items
+            self.index self.layout }
         requires sectors { (D.facts disk).sectors ≡ self.root.sectors }
         ensures disk { result.disk ≡ disk }
         ensures root { result.root ≡ self.root }
@@ -95,7 +96,7 @@ impl Found {
             index,
             layout,
         } = self;
-        Kept {
+        Store {
             disk,
             root,
             entries,

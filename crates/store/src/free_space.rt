@@ -6,7 +6,6 @@ ghost use Rattle.extents.specs.Layout.{free_count};
 ghost use Rattle.extents.specs.Longest.{longest_runs};
 ghost use Rattle.roots.specs.Limits.{most_catalogues, most_file_bytes};
 
-use crate::kept::Kept;
 use crate::listed::catalogues;
 use crate::store::Store;
 use extents::Layout;
@@ -45,11 +44,9 @@ fn most_bytes(sectors: usize) -> u32
     bytes.min(MOST_FILE_BYTES as usize) as u32
 }
 
-impl<D: Disk> Kept<D> {
+impl<D: Disk> Store<D> {
     ghost use Rattle.std.specs.Prelude.{◌⊎◌, ◌↔◌, ℕ, List, None, IsTrue, length};
     ghost use Rattle.extents.specs.Runs.{free_runs};
-    ghost use Rattle.roots.specs.Root.{version_of};
-    ghost use Rattle.roots.specs.declared.version.Version.TheVariants.{Two};
     ghost use Rattle.states.specs.Cost.{catalogues_for, free};
     ghost use Rattle.states.specs.State.{State};
     ghost use Rattle.store.specs.Names.{IsFileSize};
@@ -59,7 +56,6 @@ impl<D: Disk> Kept<D> {
     /// The greatest length in bytes of a byte string that a put under a new name would take now,
     /// or 0 where it would take none.
     fn largest(&self) -> u32
-        requires version { version_of self.now.root ≡ Two }
         ensures form { (result ≡ 0) ⊎ IsFileSize result }
         ensures failed { IsTrue self.now.failed → result ≡ 0 }
         ensures state { (s : State) → IsAt D.facts self.now s
@@ -82,37 +78,6 @@ impl<D: Disk> Kept<D> {
         most_bytes(sectors)
     }
 
-    /// How much of the disk is free. It makes one pass over the free runs, and takes no memory.
-    pub(crate) fn free_space(&self) -> FreeSpace
-        requires version { version_of self.now.root ≡ Two }
-        ensures sectors { result.sectors ≡ free_count (layout_in_use self.now) }
-        ensures runs { result.runs ≡ length (free_runs (layout_in_use self.now)) }
-        ensures form { (result.largest ≡ 0) ⊎ IsFileSize result.largest }
-        ensures failed { IsTrue self.now.failed → result.largest ≡ 0 }
-        ensures state { (s : State) → IsAt D.facts self.now s
-            → result.sectors ≡ free (room_of self.now) s + catalogues_for (length s.libraries) }
-        ensures largest { (s : State) → IsAt D.facts self.now s
-            → (bytes : List ℕ) → IsFileSize (length bytes)
-            → (length bytes ≤ result.largest)
-            ↔ (refusal_of_new (room_of self.now) (longest_free self.now) s bytes ≡ None) }
-    {
-        FreeSpace {
-            sectors: self.layout.free_count(),
-            runs: self.layout.run_count(),
-            largest: self.largest(),
-        }
-    }
-}
-
-impl<D: Disk> Store<D> {
-    ghost use Rattle.std.specs.Prelude.{◌⊎◌, ◌↔◌, ℕ, List, None, IsTrue, length};
-    ghost use Rattle.extents.specs.Runs.{free_runs};
-    ghost use Rattle.states.specs.Cost.{catalogues_for, free};
-    ghost use Rattle.states.specs.State.{State};
-    ghost use Rattle.store.specs.Names.{IsFileSize};
-    ghost use Rattle.store.specs.Opened.{IsAt, layout_in_use, room_of};
-    ghost use Rattle.store.specs.Step.{longest_free, refusal_of_new};
-
     /// How much of the disk is free. It makes one pass over the free runs, and neither takes memory
     /// nor calls the disk.
     pub fn free_space(&self) -> FreeSpace
@@ -134,6 +99,10 @@ impl<D: Disk> Store<D> {
         // After a failed call nothing goes in.
         ensures failed { IsTrue self.now.failed → result.largest ≡ 0 }
     {
-        self.kept.free_space()
+        FreeSpace {
+            sectors: self.layout.free_count(),
+            runs: self.layout.run_count(),
+            largest: self.largest(),
+        }
     }
 }

@@ -1,68 +1,11 @@
 // Holding versions of byte strings: what is held is read as it was, whatever is put over it.
 use crate::held::Held;
-use crate::kept::Kept;
 use crate::read::read_file;
 use crate::refusal::StoreRefusal;
 use crate::room::give_back;
 use crate::store::Store;
 use sector_disk::Disk;
 use std::alloc::Global;
-
-impl<D: Disk> Kept<D> {
-    ghost use Rattle.std.specs.Prelude.{◌≡◌, ◌<◌, ◌↔◌, IsNone, IfSome, length};
-    ghost use Rattle.store.specs.declared.placed_entry.PlacedEntry.{PlacedEntry};
-    ghost use Rattle.store.specs.Held.{IsHeldBy, holders_of};
-    ghost use Rattle.store.specs.Holding.{Holds, LetsGo, ReadsHeld};
-    ghost use Rattle.store.specs.Stands.{name_of};
-
-    /// Holds the byte string at this position as it is now.
-    fn hold(&mut self, position: usize) -> Result<Held, StoreRefusal>
-        requires { position < length self.old.entries }
-        ensures { Holds D.facts self.old self.new position result }
-    {
-        if self.failed {
-            return Err(StoreRefusal::Reopen);
-        }
-        let placed = &self.entries[position];
-        self.held.hold(placed)?;
-        Ok(Held { at: placed.at })
-    }
-
-    /// The name of the version that is held.
-    fn held_name(&self, held: &Held) -> Option<&[u8]>
-        ensures none { IsNone result ↔ (holders_of self.now.held held.now ≡ 0) }
-        ensures some { IfSome result (λ name. (placed : PlacedEntry)
-            → IsHeldBy self.now.held held.now placed → name.now ≡ name_of placed.entry) }
-    {
-        let placed = self.held.placed(held.at)?;
-        Some(placed.entry.name_bytes())
-    }
-
-    /// The byte string that is held.
-    fn read_held(&mut self, alloc: Global, held: &Held) -> Result<Vec<u8>, StoreRefusal>
-        ensures { ReadsHeld D.facts self.old self.new held.now result }
-    {
-        if self.failed {
-            return Err(StoreRefusal::Reopen);
-        }
-        let Some(placed) = self.held.placed(held.at) else {
-            return Err(StoreRefusal::Damaged);
-        };
-        read_file(alloc, &mut self.disk, placed)
-    }
-
-    /// Lets a version go.
-    fn let_go(&mut self, held: Held)
-        ensures { LetsGo D.facts self.old self.new held }
-    {
-        let Held { at } = held;
-        if let Some(version) = self.held.let_go(at) {
-            if !version.listed {
-                give_back(&mut self.layout, &version.placed);
-            }
-        }
-    }
-}
 
 impl<D: Disk> Store<D> {
     ghost use Rattle.std.specs.Prelude.{◌≡◌, ◌<◌, ◌↔◌, IsNone, IfSome, length};
@@ -78,7 +21,12 @@ impl<D: Disk> Store<D> {
         requires { position < length self.old.entries }
         ensures { Holds D.facts self.old self.new position result }
     {
-        self.kept.hold(position)
+        if self.failed {
+            return Err(StoreRefusal::Reopen);
+        }
+        let placed = &self.entries[position];
+        self.held.hold(placed)?;
+        Ok(Held { at: placed.at })
     }
 
     /// The name of the version that is held, found by hashing; None where nobody holds it here. It
@@ -88,7 +36,8 @@ impl<D: Disk> Store<D> {
         ensures some { IfSome result (λ name. (placed : PlacedEntry)
             → IsHeldBy self.now.held held.now placed → name.now ≡ name_of placed.entry) }
     {
-        self.kept.held_name(held)
+        let placed = self.held.placed(held.at)?;
+        Some(placed.entry.name_bytes())
     }
 
     /// The byte string that is held. It reads each of its sectors once, and writes nothing.
@@ -98,7 +47,13 @@ impl<D: Disk> Store<D> {
     pub fn read_held(&mut self, alloc: Global, held: &Held) -> Result<Vec<u8>, StoreRefusal>
         ensures { ReadsHeld D.facts self.old self.new held.now result }
     {
-        self.kept.read_held(alloc, held)
+        if self.failed {
+            return Err(StoreRefusal::Reopen);
+        }
+        let Some(placed) = self.held.placed(held.at) else {
+            return Err(StoreRefusal::Damaged);
+        };
+        read_file(alloc, &mut self.disk, placed)
     }
 
     /// Lets a version go. Where this was its last holder and the state lists it no longer, its
@@ -108,6 +63,11 @@ impl<D: Disk> Store<D> {
     pub fn let_go(&mut self, held: Held)
         ensures { LetsGo D.facts self.old self.new held }
     {
-        self.kept.let_go(held);
+        let Held { at } = held;
+        if let Some(version) = self.held.let_go(at) {
+            if !version.listed {
+                give_back(&mut self.layout, &version.placed);
+            }
+        }
     }
 }

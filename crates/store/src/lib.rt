@@ -20,8 +20,6 @@ mod held;
 mod held_versions;
 mod hold;
 mod holding;
-mod kept;
-mod kept_query;
 mod listed;
 mod look;
 mod name_index;

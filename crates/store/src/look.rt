@@ -79,12 +79,8 @@ impl<D: Disk> Store<D> {
         let mut disk = disk;
         match find_store(alloc, &mut disk) {
             Ok(found) => match found.root.version() {
-                Version::One => Ok(Look::Old(OldStore {
-                    kept: found.beside(alloc, disk),
-                })),
-                Version::Two => Ok(Look::Current(Store {
-                    kept: found.beside(alloc, disk),
-                })),
+                Version::One => Ok(Look::Old(OldStore { disk, found, alloc })),
+                Version::Two => Ok(Look::Current(found.beside(alloc, disk))),
             },
             Err(refusal) => Err((refusal, disk)),
         }

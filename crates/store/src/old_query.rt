@@ -24,7 +24,7 @@ impl<D: Disk> OldStore<D> {
         ensures state { (s : State) → IsOldAt D.facts self.now s
             → result ≡ length s.libraries }
     {
-        self.kept.count()
+        self.found.entries.len()
     }
 
     /// The name of the byte string at this position.
@@ -36,7 +36,7 @@ impl<D: Disk> OldStore<D> {
         ensures state { (s : State) → IsOldAt D.facts self.now s
             → result.now ≡ (slice_index_or s.libraries position no_library).name }
     {
-        self.kept.name(position)
+        self.found.entries[position].entry.name_bytes()
     }
 
     /// The length in bytes of the byte string at this position.
@@ -48,7 +48,7 @@ impl<D: Disk> OldStore<D> {
         ensures state { (s : State) → IsOldAt D.facts self.now s
             → result ≡ length (slice_index_or s.libraries position no_library).bytes }
     {
-        self.kept.length(position)
+        self.found.entries[position].entry.file_length
     }
 
     /// The position of the byte string with this name. It halves an order of the names: 8
@@ -66,7 +66,7 @@ impl<D: Disk> OldStore<D> {
             ↔ ((i < length s.libraries)
             × ((slice_index_or s.libraries i no_library).name ≡ name.now)) }
     {
-        self.kept.position(name)
+        self.found.index.position_of(&self.found.entries, name)
     }
 
     /// The positions of the preloads, in their order.
@@ -78,6 +78,6 @@ impl<D: Disk> OldStore<D> {
         ensures state { (s : State) → IsOldAt D.facts self.now s
             → s.preloads ≡ names_at s.libraries result.now }
     {
-        self.kept.preloads()
+        self.found.root.preload_positions()
     }
 }

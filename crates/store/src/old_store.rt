@@ -1,25 +1,37 @@
-use crate::kept::Kept;
+use crate::found::Found;
 use sector_disk::Disk;
+use std::alloc::Global;
 use std::marker::Model;
 
 /// A store that was found on a disk of version 1. It is read, and not changed but by
 /// `commit`, which makes it one of version 2.
 pub struct OldStore<D: Disk> {
-    pub(crate) kept: Kept<D>,
+    pub(crate) disk: D,
+    pub(crate) found: Found,
+    pub(crate) alloc: Global,
 }
 
 impl<D: Disk> Model for OldStore<D> {
     ghost use Rattle.store.specs.Opened.{Opened};
+    ghost use Rattle.store.specs.inside.Found.{IsFound};
     ghost use Rattle.roots.specs.Root.{version_of};
     ghost use Rattle.roots.specs.declared.version.Version.TheVariants.{One};
-    ghost use Rattle.std.specs.Prelude.{◌≡◌, [], IsFalse};
+    ghost use Rattle.std.specs.Prelude.{◌≡◌, [], false};
 
     ghost Value = { Opened D };
 
-    ghost view = { λ store. store.kept };
+    ghost view = { λ store. record {
+      disk = store.disk;
+      root = store.found.root;
+      entries = store.found.entries.items;
+      held = [];
+      failed = false;
+    } };
 
-    ghost invariant = { λ store. (version_of store.kept.root ≡ One) × IsFalse store.kept.failed
-        × (store.kept.held ≡ []) };
+    ghost invariant = { λ store. IsFound store.found.root store.found.entries.items
+        store.found.sectors.items store.found.index store.found.layout
+        × ((D.facts store.disk).sectors ≡ store.found.root.sectors)
+        × (version_of store.found.root ≡ One) };
 }
 
 impl<D: Disk> OldStore<D> {
@@ -29,7 +41,11 @@ impl<D: Disk> OldStore<D> {
     pub fn into_disk(self) -> D
         ensures { result ≡ self.disk }
     {
-        let OldStore { kept } = self;
-        kept.into_disk()
+        let OldStore {
+            disk,
+            found: _,
+            alloc: _,
+        } = self;
+        disk
     }
 }

@@ -1,69 +1,8 @@
 use crate::change::write_root;
-use crate::kept::Kept;
 use crate::next::with_preloads;
 use crate::refusal::StoreRefusal;
 use crate::store::Store;
 use sector_disk::Disk;
-
-impl<D: Disk> Kept<D> {
-    ghost use Rattle.std.specs.Prelude.{◌≡◌, ◌<◌, ◌≤◌, ◌⊎◌, length, All, OnOk};
-    ghost use Rattle.extents.specs.Extent.{AreDistinct};
-    ghost use Rattle.states.specs.Limits.{most_preloads};
-    ghost use Rattle.sector_disk.specs.Disk.{LeavesOnly};
-    ghost use Rattle.store.specs.Changed.{Changed};
-    ghost use Rattle.store.specs.Holders.{KeepsHeld};
-    ghost use Rattle.store.specs.Opened.{IsAt};
-    ghost use Rattle.store.specs.Stands.{Stands, catalogues_of, names_at};
-    ghost use Rattle.roots.specs.declared.version.Version.TheVariants.{Two};
-    ghost use Rattle.roots.specs.Root.{version_of};
-    ghost use Rattle.states.specs.State.{State};
-    ghost use Rattle.states.specs.Changes.{with_preloads};
-    ghost use Rattle.store.specs.Step.{refusal_of_change, IsExactAnswer, IsRefusalOfChange};
-
-    /// Makes the byte strings at these positions the preloads, in this order: 16 at most, none of
-    /// them twice. It takes no memory and no sector.
-    pub(crate) fn set_preloads(&mut self, positions: &[usize]) -> Result<(), StoreRefusal>
-        requires version { version_of self.old.root ≡ Two }
-        requires few { length positions.now ≤ most_preloads }
-        requires inside { All (λ position. position < length self.old.entries) positions.now }
-        requires distinct { AreDistinct positions.now }
-
-        // A stop at any moment leaves the state from before it or the one after.
-        ensures any_moment { (s : State) → IsAt D.facts self.old s
-            → LeavesOnly (D.facts self.old.disk) (D.facts self.new.disk)
-            (λ m. Stands m s ⊎ Stands m (with_preloads (names_at s.libraries positions.now) s)) }
-        ensures ok { (s : State) → IsAt D.facts self.old s → OnOk result
-            (IsAt D.facts self.new (with_preloads (names_at s.libraries positions.now) s)) }
-        ensures refused { (s : State) → IsAt D.facts self.old s
-            → IsExactAnswer (refusal_of_change s) result }
-
-        ensures version { version_of self.new.root ≡ Two }
-
-        // It keeps the catalogues.
-        ensures catalogues { OnOk result
-            (catalogues_of self.new.root ≡ catalogues_of self.old.root) }
-
-        // What somebody holds stays as it was.
-        ensures held { KeepsHeld D.facts self.old self.new }
-
-        // On any disk. After a failed call the store has to be opened again.
-        ensures on_any_disk { Changed D.facts StoreRefusal.Device StoreRefusal.Reopen
-            self.old self.new 2 IsRefusalOfChange result }
-    {
-        if self.failed {
-            return Err(StoreRefusal::Reopen);
-        }
-        if self.root.generation == u64::MAX {
-            return Err(StoreRefusal::GenerationEnd);
-        }
-        let root = with_preloads(&self.root, positions);
-        self.failed = true;
-        write_root(&mut self.disk, &root)?;
-        self.root = root;
-        self.failed = false;
-        Ok(())
-    }
-}
 
 impl<D: Disk> Store<D> {
     ghost use Rattle.std.specs.Prelude.{◌≡◌, ◌<◌, ◌≤◌, ◌⊎◌, length, All, OnOk};
@@ -105,6 +44,17 @@ impl<D: Disk> Store<D> {
         ensures on_any_disk { Changed D.facts StoreRefusal.Device StoreRefusal.Reopen
             self.old self.new 2 IsRefusalOfChange result }
     {
-        self.kept.set_preloads(positions)
+        if self.failed {
+            return Err(StoreRefusal::Reopen);
+        }
+        if self.root.generation == u64::MAX {
+            return Err(StoreRefusal::GenerationEnd);
+        }
+        let root = with_preloads(&self.root, positions);
+        self.failed = true;
+        write_root(&mut self.disk, &root)?;
+        self.root = root;
+        self.failed = false;
+        Ok(())
     }
 }

@@ -1,5 +1,4 @@
 // Putting other bytes in the place of a byte string's.
-use crate::kept::Kept;
 use crate::listed::catalogues;
 use crate::next::next_root;
 use crate::put::{new_entry, sector_need, write_put};
@@ -8,97 +7,6 @@ use crate::room::{give_back_room, give_up, take_room};
 use crate::store::Store;
 use roots::catalogues_for;
 use sector_disk::Disk;
-
-impl<D: Disk> Kept<D> {
-    ghost use Rattle.std.specs.Prelude.{◌≡◌, ◌+◌, ◌⊎◌, length, OnOk};
-    ghost use Rattle.std.specs.Int.{div_ceil};
-    ghost use Rattle.sector_disk.specs.Disk.{sector_bytes, LeavesOnly};
-    ghost use Rattle.states.specs.Cost.{catalogues_for};
-    ghost use Rattle.store.specs.Changed.{Changed};
-    ghost use Rattle.store.specs.Holders.{KeepsHeld};
-    ghost use Rattle.store.specs.Names.{HasName, IsFileSize};
-    ghost use Rattle.store.specs.Opened.{IsAt, room_of};
-    ghost use Rattle.store.specs.Taken.{IsPutOver};
-    ghost use Rattle.store.specs.Stands.{Stands};
-    ghost use Rattle.states.specs.State.{State};
-    ghost use Rattle.states.specs.Changes.{with_bytes};
-    ghost use Rattle.store.specs.Step.{longest_free, refusal_of_put};
-    ghost use Rattle.store.specs.Step.{IsExactAnswer, IsRefusalOfPutOver};
-    ghost use Rattle.roots.specs.declared.version.Version.TheVariants.{Two};
-    ghost use Rattle.roots.specs.Root.{version_of};
-
-    /// Puts other bytes, 64 bytes to 16 MiB, in the place of those under this name. The sectors of
-    /// the old ones are free once it is done, and not before. It takes no memory.
-    pub(crate) fn put_over(&mut self, name: &[u8], bytes: &[u8]) -> Result<(), StoreRefusal>
-        requires version { version_of self.old.root ≡ Two }
-        requires present { HasName self.old name.now }
-        requires size { IsFileSize (length bytes.now) }
-
-        // A stop at any moment leaves the state from before it or the one after.
-        ensures any_moment { (s : State) → IsAt D.facts self.old s
-            → LeavesOnly (D.facts self.old.disk) (D.facts self.new.disk)
-            (λ m. Stands m s ⊎ Stands m (with_bytes name.now bytes.now s)) }
-        ensures ok { (s : State) → IsAt D.facts self.old s
-            → OnOk result (IsAt D.facts self.new (with_bytes name.now bytes.now s)) }
-        ensures refused { (s : State) → IsAt D.facts self.old s → IsExactAnswer
-            (refusal_of_put (room_of self.old) (longest_free self.old) s bytes.now) result }
-
-        // It takes the sectors of the bytes first, then that of the entry, and then those of the
-        // catalogues. On an honest disk the bytes are there then, and zeros behind them.
-        ensures placed { OnOk result
-            (IsPutOver D.facts self.old self.new name.now bytes.now) }
-
-        // What somebody holds stays as it was.
-        ensures held { KeepsHeld D.facts self.old self.new }
-
-        // On any disk. After a failed call the store has to be opened again.
-        ensures on_any_disk { Changed D.facts StoreRefusal.Device StoreRefusal.Reopen
-            self.old self.new (div_ceil (length bytes.now) sector_bytes
-            + catalogues_for (length self.old.entries) + 4)
-            IsRefusalOfPutOver result }
-        ensures version { version_of self.new.root ≡ Two }
-    {
-        if self.failed {
-            return Err(StoreRefusal::Reopen);
-        }
-        if self.root.generation == u64::MAX {
-            return Err(StoreRefusal::GenerationEnd);
-        }
-        let Some(position) = self.index.position_of(&self.entries, name) else {
-            unreachable!();
-        };
-        let libraries = self.entries.len();
-        let count = catalogues_for(libraries);
-        let room = take_room(&mut self.layout, sector_need(bytes), count, 0)?;
-        let put = new_entry(name, bytes, &room);
-        self.sectors[position] = put.at;
-        let listed = room.catalogues.as_slice();
-        let root = next_root(&self.root, libraries, listed);
-        self.failed = true;
-        if let Err(fault) = write_put(
-            &mut self.disk,
-            &mut self.singles,
-            &put,
-            bytes,
-            listed,
-            &self.sectors,
-            &root,
-        ) {
-            give_back_room(&mut self.layout, &put, listed);
-            return Err(StoreRefusal::from(fault));
-        }
-        give_up(
-            &mut self.layout,
-            &mut self.held,
-            &self.entries[position],
-            catalogues(&self.root),
-        );
-        self.entries[position] = put;
-        self.root = root;
-        self.failed = false;
-        Ok(())
-    }
-}
 
 impl<D: Disk> Store<D> {
     ghost use Rattle.std.specs.Prelude.{◌≡◌, ◌+◌, ◌⊎◌, length, OnOk};
@@ -145,6 +53,44 @@ impl<D: Disk> Store<D> {
             + catalogues_for (length self.old.entries) + 4)
             IsRefusalOfPutOver result }
     {
-        self.kept.put_over(name, bytes)
+        if self.failed {
+            return Err(StoreRefusal::Reopen);
+        }
+        if self.root.generation == u64::MAX {
+            return Err(StoreRefusal::GenerationEnd);
+        }
+        let Some(position) = self.index.position_of(&self.entries, name) else {
+            unreachable!();
+        };
+        let libraries = self.entries.len();
+        let count = catalogues_for(libraries);
+        let room = take_room(&mut self.layout, sector_need(bytes), count, 0)?;
+        let put = new_entry(name, bytes, &room);
+        self.sectors[position] = put.at;
+        let listed = room.catalogues.as_slice();
+        let root = next_root(&self.root, libraries, listed);
+        self.failed = true;
+        if let Err(fault) = write_put(
+            &mut self.disk,
+            &mut self.singles,
+            &put,
+            bytes,
+            listed,
+            &self.sectors,
+            &root,
+        ) {
+            give_back_room(&mut self.layout, &put, listed);
+            return Err(StoreRefusal::from(fault));
+        }
+        give_up(
+            &mut self.layout,
+            &mut self.held,
+            &self.entries[position],
+            catalogues(&self.root),
+        );
+        self.entries[position] = put;
+        self.root = root;
+        self.failed = false;
+        Ok(())
     }
 }

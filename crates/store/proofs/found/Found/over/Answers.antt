@@ -1,10 +1,10 @@
-use Rattle.std.proofs.Common.{rules, ◌≡◌, ◌⊎◌, ◌-◌, List, inl, inr, ⊎_elim, refl, sym, subst, arith}
+use Rattle.std.proofs.Common.{rules, ◌≡◌, ◌⊎◌, ◌-◌, List, inl, inr, ⊎_elim, refl, sym, subst, ap, ◌∙◌, arith}
 use Rattle.std.specs.Prelude.{IfSome}
 use Rattle.std.proofs.lemmas.Result.{err_from_is_err_and}
 use Rattle.extents.specs.Used.{ClaimsJust}
 use Rattle.store.specs.declared.placed_entry.PlacedEntry.{PlacedEntry}
 use Rattle.store.specs.declared.refusal.StoreRefusal.TheVariants.{Damaged, OutOfMemory}
-use Rattle.store.specs.Stands.{UsesApart, HasRoom, HaveOwnNames, used}
+use Rattle.store.specs.Stands.{UsesApart, HasRoom, HaveOwnNames, entry_sectors, used}
 use Rattle.store.specs.inside.NameIndex.{IsIndex}
 use Rattle.store.proofs.Beside.{no_rows, none_beside, room_more}
 use Rattle.store.proofs.found.Found.over.Goals as goal
@@ -28,8 +28,9 @@ returns-clause-kept c =
     let layout = c.in_ok-layout.layout in
     let items = c.args.entries.items in
     let both = subst (λ o. IfSome o (λ index. IsIndex c.deref.result.now index × HaveOwnNames c.deref.result.now)) c.in-Some.is c.in_ok-index.ensures.own in
-    let apart = subst (UsesApart root.sectors root) c.deref-2.ensures.value c.in_ok-layout.ensures.apart in (
-      record {
+    let apart = subst (UsesApart root.sectors root) c.deref-2.ensures.value c.in_ok-layout.ensures.apart in
+    record {
+      kept = record {
         root_fits = c.requires.root;
         size = c.in_ok-layout.ensures.size;
         counted = c.requires.counted;
@@ -39,6 +40,7 @@ returns-clause-kept c =
         names = subst HaveOwnNames c.deref.ensures.value both.1;
         rows = no_rows items;
         claimed = none_beside (used root items) apart.once (subst (λ (l : List PlacedEntry). ClaimsJust layout (used root l)) c.deref-2.ensures.value c.in_ok-layout.ensures.claims);
-      },
-      subst (λ (l : List PlacedEntry). IsIndex l c.in-Some.index) c.deref.ensures.value both.0,
-    )
+      };
+      indexed = subst (λ (l : List PlacedEntry). IsIndex l c.in-Some.index) c.deref.ensures.value both.0;
+      listed = c.in_ok-sectors.ensures ∙ ap entry_sectors c.deref-3.ensures.value;
+    }

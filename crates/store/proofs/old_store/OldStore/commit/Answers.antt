@@ -1,20 +1,195 @@
-use Rattle.std.proofs.Common.{◌⊎◌, sym, subst}
-use Rattle.sector_disk.specs.Disk.{LeavesOnly}
+use Rattle.std.proofs.Common.{◌≡◌, ◌≢◌, ◌⊎◌, ⊎_elim, ◌↔◌, ◌+◌, ◌-◌, ◌*◌, ◌<◌, ◌≤◌, IsTrue, List, ℕ, [], None, Ok, Err, length, refl, sym, ap, subst, ◌∙◌, arith}
+use Rattle.std.proofs.lemmas.Bool.{cases_lt}
+use Rattle.sector_disk.specs.Disk.{LeavesOnly, Mixture}
+use Rattle.states.specs.Cost.{catalogues_for, taken_by}
+use Rattle.store.specs.inside.Claimed.{IsClaimedBeside}
+use Rattle.roots.specs.Root.{listed_preloads}
+use Rattle.roots.specs.declared.version.Version.TheVariants.{One, Two}
+use Rattle.sector_disk.proofs.Mixtures.{whole_mixture}
+use Rattle.extents.specs.Limits.{root_sectors}
+use Rattle.extents.specs.Used.{layout_of}
+use Rattle.states.specs.Limits.{last_generation}
+use Rattle.states.specs.State.{State}
+use Rattle.store.specs.declared.refusal.StoreRefusal.TheVariants.{Full}
+use Rattle.store.specs.Step.{refusal_of_upgrade, IsExactAnswer}
 use Rattle.store.specs.Opened.{IsOldAt}
-use Rattle.store.specs.Stands.{Stands, StandsOld}
+use Rattle.store.specs.Stands.{Stands, StandsBy, StandsOld, catalogues_of, entry_sectors, used}
+use Rattle.store.specs.Taken.{AreTaken}
 use Rattle.store.specs.Upgraded.{upgraded}
+use Rattle.store.specs.inside.Catalogues.{CanBeCatalogued}
+use Rattle.store.specs.inside.Next.{IsRelisting, next_root}
+use Rattle.store.specs.inside.Room.{HavePlaces}
+use Rattle.store.proofs.Anew.{more_inside, more_once, moved_claimed, moved_size, released_nothing}
+use Rattle.store.proofs.Beside.{in_use_alone}
+use Rattle.store.proofs.CataloguedEntries.{can_be_catalogued}
+use Rattle.store.proofs.Frees.{old_free_is, upgrade_full, upgrade_accepted}
+use Rattle.store.proofs.Following.{following_fits, following_kept, next_version}
+use Rattle.store.proofs.Relistings.{IsRelist, relist_next, relist_moved, relist_room, relist_taken, relisting}
+use Rattle.store.proofs.old_store.OldStore.commit.Given as given
+use Rattle.store.proofs.old_store.OldStore.commit.Goals.{After-free_count, After-next_root-root, After-write_list}
 use Rattle.store.proofs.old_store.OldStore.commit.Goals as goal
 
-pub returns-in-Ok-clause-any_moment : goal.returns-in-Ok-clause-any_moment
-returns-in-Ok-clause-any_moment g c s at =
-    subst (λ store. LeavesOnly (g.D.Disk.facts store.disk) (g.D.Disk.facts c.relist.new.self.disk) (λ m. StandsOld m s ⊎ Stands m (upgraded s))) c.self.view_is
-    (c.relist.ensures.any_moment s (subst (λ store. IsOldAt g.D.Disk.facts store s) (sym c.self.view_is) at))
+-- the next root lists the same entries by the catalogues that were taken
+relisted : (g : given.Over) (c : After-next_root-root g)
+    → IsRelist c.self.inside.found.root c.self.inside.found.entries.items [] c.self.inside.found.layout c.take_catalogues-taken.new.layout
+    c.as_slice-listed.result.now c.next_root-root.result
+relisted g c =
+    let kept = c.self.invariant.0.kept in
+    let cats = c.as_slice-listed.ensures.value in
+    let count : c.len-libraries.result ≡ length c.self.inside.found.entries.items = omega (arith, c.len-libraries.ensures) in
+    record {
+      kept = kept;
+      one = c.self.invariant.2;
+      claimed = subst (λ l. IsClaimedBeside c.self.inside.found.layout c.take_catalogues-taken.new.layout l) (sym cats) c.take_catalogues-taken.ensures.claimed;
+      enough = omega (arith, ap length cats, c.take_catalogues-taken.ensures.count, c.catalogues_for-count.ensures, ap catalogues_for count);
+      free = omega (arith, c.if-free_count-count.false, c.free_count.ensures.value, c.catalogues_for-count.ensures, ap catalogues_for count);
+      later = omega (arith, c.if-found.false, kept.root_fits.generation);
+      is_next = c.next_root-root.ensures ∙ ap (λ n. next_root c.self.inside.found.root n c.as_slice-listed.result.now (listed_preloads c.self.inside.found.root)) count;
+    }
 
-pub returns-in-Ok-clause-ok : goal.returns-in-Ok-clause-ok
-returns-in-Ok-clause-ok g c s at = c.in-Ok.ensures.ok s (subst (λ store. IsOldAt g.D.Disk.facts store s) (sym c.self.view_is) at)
+-- and these list the entries' sectors
+sectors_are : (g : given.Over) (c : After-next_root-root g) → c.self.inside.found.sectors.items ≡ entry_sectors c.self.inside.found.entries.items
+sectors_are g c = c.self.invariant.0.listed
+
+following : (g : given.Over) (c : After-next_root-root g) (s : State) (sectors : List ℕ) → sectors ≡ c.self.inside.found.sectors.items
+    → IsRelisting One c.self.inside.found.root c.self.inside.found.entries.items s c.as_slice-listed.result.now sectors c.next_root-root.result c.self.inside.found.entries.items (upgraded s)
+following g c s sectors are =
+    subst (λ l. IsRelisting One c.self.inside.found.root c.self.inside.found.entries.items s c.as_slice-listed.result.now l c.next_root-root.result
+    c.self.inside.found.entries.items (upgraded s)) (sym (are ∙ sectors_are g c)) (relisting (relisted g c) s)
+
+pub write_list-requires-clause-root : goal.write_list-requires-clause-root
+write_list-requires-clause-root g c =
+    following_fits (relist_next (relisted g (goal.at.write_list-requires-clause-root g c).After-next_root-root)) c.self.invariant.0.kept.root_fits
+
+pub write_list-requires-clause-places : goal.write_list-requires-clause-places
+write_list-requires-clause-places g c =
+    let is = relisted g (goal.at.write_list-requires-clause-places g c).After-next_root-root in
+    subst (λ n. HavePlaces n c.as_slice-listed.result.now) (sym c.self.invariant.1) (record { inside = more_inside is.kept is.claimed; once = more_once is.kept is.claimed })
+
+pub write_list-requires-clause-listed : goal.write_list-requires-clause-listed
+write_list-requires-clause-listed g c =
+    let before = (goal.at.write_list-requires-clause-listed g c).After-next_root-root in
+    let is = relisted g before in
+    let next = relist_next is in
+    subst (CanBeCatalogued (length c.as_slice-listed.result.now)) (sym (c.deref.ensures.value ∙ sectors_are g before))
+    (can_be_catalogued c.self.inside.found.root.sectors (length c.as_slice-listed.result.now) c.next_root-root.result c.self.inside.found.entries.items
+    (omega (arith, is.kept.root_fits.sectors)) is.enough next.few next.apart)
+
+-- a stop leaves the state from before or the one after
+leaves : (g : given.Over) (c : After-write_list g) (s : State)
+    → IsRelisting One c.self.inside.found.root c.self.inside.found.entries.items s c.as_slice-listed.result.now c.deref.result.now c.next_root-root.result
+    c.self.inside.found.entries.items (upgraded s)
+    → IsOldAt g.D.Disk.facts c.args.self s → LeavesOnly (g.D.Disk.facts c.args.self.disk) (g.D.Disk.facts c.write_list.new.disk) (λ m. StandsOld m s ⊎ Stands m (upgraded s))
+leaves g c s is at_entry =
+    let at = subst (λ store. IsOldAt g.D.Disk.facts store s) (sym c.self.view_is) at_entry in
+    subst (λ store. LeavesOnly (g.D.Disk.facts store.disk) (g.D.Disk.facts c.write_list.new.disk) (λ m. StandsOld m s ⊎ Stands m (upgraded s))) c.self.view_is
+    (c.write_list.ensures.any_moment at.honest One c.self.inside.found.root c.self.inside.found.entries.items s c.self.inside.found.entries.items
+    (upgraded s) at.stands is)
 
 pub returns-in-Err-clause-any_moment : goal.returns-in-Err-clause-any_moment
 returns-in-Err-clause-any_moment g c s at =
-    let leaves = subst (λ store. LeavesOnly (g.D.Disk.facts store.disk) (g.D.Disk.facts c.relist.new.self.disk) (λ m. StandsOld m s ⊎ Stands m (upgraded s))) c.self.view_is
-    (c.relist.ensures.any_moment s (subst (λ store. IsOldAt g.D.Disk.facts store s) (sym c.self.view_is) at)) in
-    subst (λ d. LeavesOnly (g.D.Disk.facts c.args.self.disk) (g.D.Disk.facts d) (λ m. StandsOld m s ⊎ Stands m (upgraded s))) (sym c.into_disk.ensures) leaves
+    let here = goal.at.returns-in-Err-clause-any_moment g c in
+    leaves g here.After-write_list s (following g here.After-next_root-root s c.deref.result.now c.deref.ensures.value) at
+
+pub returns-in-Ok-clause-any_moment : goal.returns-in-Ok-clause-any_moment
+returns-in-Ok-clause-any_moment g c s at =
+    let here = goal.at.returns-in-Ok-clause-any_moment g c in
+    subst (λ d. LeavesOnly (g.D.Disk.facts c.args.self.disk) (g.D.Disk.facts d) (λ m. StandsOld m s ⊎ Stands m (upgraded s))) (sym c.beside.ensures.disk)
+    (leaves g here.After-write_list s (following g here.After-next_root-root s c.deref.result.now c.deref.ensures.value) at)
+
+pub beside-requires-clause-found : goal.beside-requires-clause-found
+beside-requires-clause-found g c =
+    let here = (goal.at.beside-requires-clause-found g c).After-next_root-root in
+    let is = relisted g here in
+    let mid = c.take_catalogues-taken.new.layout in
+    let nothing = released_nothing mid in
+    record {
+      kept = following_kept (relist_next is) is.kept.root_fits [] mid
+          (moved_size is.kept is.claimed mid nothing)
+          (relist_room is (c.self.inside.found.root.sectors - 0) (omega arith))
+          is.kept.rows
+          (moved_claimed is.kept is.claimed c.next_root-root.result c.self.inside.found.entries.items (relist_moved is) mid nothing);
+      indexed = c.self.invariant.0.indexed;
+      listed = sectors_are g here;
+    }
+
+pub beside-requires-clause-sectors : goal.beside-requires-clause-sectors
+beside-requires-clause-sectors g c = c.write_list.ensures.calls.sectors ∙ c.self.invariant.1 ∙ sym (ap (λ r. r.sectors) c.next_root-root.ensures)
+
+pub beside-requires-clause-version : goal.beside-requires-clause-version
+beside-requires-clause-version g c =
+    let is = relisted g (goal.at.beside-requires-clause-version g c).After-next_root-root in
+    next_version (relist_next is) is.kept.root_fits
+
+pub returns-in-Ok-clause-ok : goal.returns-in-Ok-clause-ok
+returns-in-Ok-clause-ok g c s at_entry =
+    let facts = g.D.Disk.facts in
+    let at = subst (λ store. IsOldAt facts store s) (sym c.self.view_is) at_entry in
+    let before = (goal.at.returns-in-Ok-clause-ok g c).After-next_root-root in
+    let next = c.next_root-root.result in
+    let entries = c.self.inside.found.entries.items in
+    let done = c.in-Ok.ensures.done at.honest One c.self.inside.found.root entries s entries (upgraded s) at.stands (following g before s c.deref.result.now c.deref.ensures.value) in
+    record {
+      honest = subst (λ d. IsTrue (facts d).honest) (sym c.beside.ensures.disk) (subst IsTrue (sym c.write_list.ensures.calls.honest) at.honest);
+      usable = c.beside.ensures.usable;
+      stands = λ m mixture. subst (λ r. StandsBy Two m r c.beside.result.entries (upgraded s)) (sym c.beside.ensures.root)
+          (subst (λ l. StandsBy Two m next l (upgraded s)) (sym c.beside.ensures.entries) (done m (subst (λ d. Mixture (facts d) m) c.beside.ensures.disk mixture)));
+    }
+
+-- a commit is refused by its generation or for want of room, and not otherwise
+usable_of : (g : given.Over) (c : After-free_count g) (s : State) → IsOldAt g.D.Disk.facts c.args.self s → s.generation ≢ last_generation
+usable_of g c s at_entry is =
+    let at = subst (λ store. IsOldAt g.D.Disk.facts store s) (sym c.self.view_is) at_entry in
+    let by = at.stands (g.D.Disk.facts c.self.inside.disk).now (g.met.D.Disk.holds_now _ at.honest) in
+    omega (arith, is, ap (λ t. t.generation) by.is, c.if-found.false)
+
+room_of : (g : given.Over) (c : After-free_count g) (s : State) → IsOldAt g.D.Disk.facts c.args.self s
+    → (c.free_count.result < 2 * c.catalogues_for-count.result) ↔ (c.self.inside.found.root.sectors < root_sectors + taken_by s)
+room_of g c s at_entry =
+    let at = subst (λ store. IsOldAt g.D.Disk.facts store s) (sym c.self.view_is) at_entry in
+    let now = (g.D.Disk.facts c.self.inside.disk).now in
+    let holds = g.met.D.Disk.holds_now _ at.honest in
+    let whole = whole_mixture (g.met.D.Disk.whole_sectors _ at.honest) (g.D.Disk.facts c.self.inside.disk).time (omega arith) now holds in
+    let count : c.len-libraries.result ≡ length c.self.inside.found.entries.items = omega (arith, c.len-libraries.ensures) in
+    let all : c.catalogues_for-count.result ≡ catalogues_for (length c.self.inside.found.entries.items) = c.catalogues_for-count.ensures ∙ ap catalogues_for count in
+    let is = old_free_is c.self.inside.found.root c.self.inside.found.entries.items [] c.self.inside.found.layout c.self.invariant.0.kept refl now s whole (at.stands now holds) in (
+      λ lt. is.0 (omega (arith, lt, c.free_count.ensures.value, all)),
+      λ lt. omega (arith, is.1 lt, c.free_count.ensures.value, all),
+    )
+
+pub returns-then-free_count-count-clause-refused : goal.returns-then-free_count-count-clause-refused
+returns-then-free_count-count-clause-refused g c s at =
+    let before = (goal.at.returns-then-free_count-count-clause-refused g c).After-free_count in
+    let first = upgrade_full c.self.inside.found.root.sectors s (usable_of g before s at) ((room_of g before s at).0 c.if-free_count-count.true) in
+    subst (λ store. IsExactAnswer (refusal_of_upgrade store.root.sectors s) (Err Full)) c.self.view_is
+    (subst (λ refusal. IsExactAnswer refusal (Err Full)) (sym first) refl)
+
+accepted_of : (g : given.Over) (c : After-free_count g) (s : State) → IsOldAt g.D.Disk.facts c.args.self s
+    → 2 * c.catalogues_for-count.result ≤ c.free_count.result → refusal_of_upgrade c.self.inside.found.root.sectors s ≡ None
+accepted_of g c s at enough = upgrade_accepted c.self.inside.found.root.sectors s (usable_of g c s at)
+    (⊎_elim (λ few. omega (arith, (room_of g c s at).1 few, enough)) (λ room. room) (cases_lt c.self.inside.found.root.sectors (root_sectors + taken_by s)))
+
+pub returns-in-Err-clause-refused : goal.returns-in-Err-clause-refused
+returns-in-Err-clause-refused g c s at =
+    let first = accepted_of g (goal.at.returns-in-Err-clause-refused g c).After-free_count s at (omega (arith, c.if-free_count-count.false)) in
+    subst (λ store. IsExactAnswer (refusal_of_upgrade store.root.sectors s) (Err c.from.result)) c.self.view_is
+    (subst (λ refusal. IsExactAnswer refusal (Err c.from.result)) (sym first) c.from.ensures)
+
+pub returns-in-Ok-clause-refused : goal.returns-in-Ok-clause-refused
+returns-in-Ok-clause-refused g c s at =
+    let first = accepted_of g (goal.at.returns-in-Ok-clause-refused g c).After-free_count s at (omega (arith, c.if-free_count-count.false)) in
+    subst (λ store. IsExactAnswer (refusal_of_upgrade store.root.sectors s) (Ok tt)) c.self.view_is
+    (subst (λ refusal. IsExactAnswer refusal (Ok tt)) (sym first) tt)
+
+pub returns-in-Ok-clause-placed : goal.returns-in-Ok-clause-placed
+returns-in-Ok-clause-placed g c =
+    let is = relisted g (goal.at.returns-in-Ok-clause-placed g c).After-next_root-root in
+    let root = c.self.inside.found.root in
+    let entries = c.self.inside.found.entries.items in
+    let taken = subst (AreTaken c.self.inside.found.layout) (sym c.as_slice-listed.ensures.value) c.take_catalogues-taken.ensures.taken in
+    let all = subst (λ l. AreTaken (layout_of root.sectors l) (catalogues_of c.next_root-root.result)) (in_use_alone root entries [] refl) (relist_taken is taken) in
+    record {
+      taken = subst (λ store. AreTaken (layout_of store.root.sectors (used store.root store.entries)) (catalogues_of c.beside.result.root)) c.self.view_is
+          (subst (λ r. AreTaken (layout_of root.sectors (used root entries)) (catalogues_of r)) (sym c.beside.ensures.root) all);
+      entries = c.beside.ensures.entries ∙ ap (λ store. store.entries) c.self.view_is;
+    }

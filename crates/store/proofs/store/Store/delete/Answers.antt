@@ -1,11 +1,213 @@
-use Rattle.std.proofs.Common.{◌⊎◌, sym, subst}
+use Rattle.std.proofs.Common.{◌≡◌, ◌≢◌, ◌⊎◌, ◌-◌, ◌<◌, List, ℕ, ◌++◌, All, get_or, length, map, IsTrue, refl, sym, subst, ap, ◌∙◌, arith}
+use Rattle.std.specs.List.{remove}
+use Rattle.std.proofs.lemmas.List.{get_or_read}
 use Rattle.sector_disk.specs.Disk.{LeavesOnly}
-use Rattle.store.specs.Opened.{IsAt}
-use Rattle.store.specs.Stands.{Stands}
+use Rattle.extents.specs.Used.{layout_of}
+use Rattle.roots.specs.declared.version.Version.TheVariants.{Two}
+use Rattle.states.specs.Cost.{catalogues_for}
+use Rattle.roots.specs.Root.{listed_preloads}
+use Rattle.states.specs.State.{State}
 use Rattle.states.specs.Changes.{without}
+use Rattle.store.specs.declared.placed_entry.PlacedEntry.{PlacedEntry}
+use Rattle.store.specs.Names.{HasName, IsNoPreload}
+use Rattle.store.specs.Opened.{IsAt, layout_in_use}
+use Rattle.store.specs.Stands.{Stands, StandsBy, catalogues_of, entry_sectors, name_of, sectors_of}
+use Rattle.store.specs.Taken.{AreTaken, IsNamedAt}
+use Rattle.store.specs.inside.Catalogues.{CanBeCatalogued}
+use Rattle.store.specs.inside.Claimed.{IsClaimedBeside, IsUsable}
+use Rattle.store.specs.inside.Kept.{IsKept}
+use Rattle.store.specs.NameOrder.{IsOrderOf, entry_names}
+use Rattle.store.specs.inside.NameIndex.{closed_up}
+use Rattle.store.specs.inside.Next.{IsRelisting, next_root}
+use Rattle.store.specs.Held.{in_use, lone_sectors}
+use Rattle.store.specs.Holders.{KeepsHolders}
+use Rattle.store.specs.inside.Room.{AreHeld, IsGivenUp}
+use Rattle.store.proofs.Anew.{more_free, more_inside, more_once, moved_held}
+use Rattle.store.proofs.CataloguedEntries.{can_be_catalogued}
+use Rattle.store.proofs.Following.{following_fits, following_kept, next_catalogues, next_version}
+use Rattle.store.proofs.GivenUp.{given_claimed, given_few, given_keeps, given_rows, given_size, still_removed}
+use Rattle.store.proofs.Holders.{keeps_table}
+use Rattle.store.proofs.Placing.{singles_in_use}
+use Rattle.store.proofs.Removals.{IsRemoval, catalogues_fit, removal_next, removal_moved, removal_relisting, removal_room}
+use Rattle.store.proofs.Removed.{map_remove}
+use Rattle.store.proofs.UsedAlone.{no_entry}
+use Rattle.store.proofs.store.Store.delete.Given as given
+use Rattle.store.proofs.store.Store.delete.Goals.{After-root_without-root, After-write_list, After-catalogues, After-give_up}
 use Rattle.store.proofs.store.Store.delete.Goals as goal
+
+pub unreachable-requires : goal.unreachable-requires
+unreachable-requires g c =
+    let has = subst (λ store. HasName store c.args.name.now) (sym c.self.view_is) c.requires.present in
+    let none = subst (All (λ (placed : PlacedEntry). name_of placed.entry ≢ c.args.name.now)) c.deref.ensures.value (c.in_default.ensures.none refl) in
+    none has.0 no_entry has.1 (has.2 no_entry)
+
+pub take_catalogues-taken-requires-clause-enough : goal.take_catalogues-taken-requires-clause-enough
+take_catalogues-taken-requires-clause-enough g c =
+    let two = c.self.invariant.4 in
+    omega (arith, c.catalogues_for.ensures, c.len-libraries.ensures, catalogues_fit c.self.inside.root c.self.inside.entries.items c.self.inside.held c.self.inside.layout c.self.invariant.0 two)
+
+count_is : (g : given.Over) (c : After-root_without-root g) → c.len-libraries.result ≡ length c.self.inside.entries.items
+count_is g c = c.len-libraries.ensures ∙ sym c.deref.ensures.len ∙ ap length c.deref.ensures.value
+
+-- the entry of the name goes
+removing : (g : given.Over) (c : After-root_without-root g)
+    → IsRemoval c.self.inside.root c.self.inside.entries.items c.self.inside.held c.self.inside.layout c.take_catalogues-taken.new.layout
+    c.args.name.now c.in-Some.position c.as_slice-listed.result.now c.root_without-root.result
+removing g c =
+    let gone = c.in-Some.position in
+    let listed = c.as_slice-listed.result.now in
+    record {
+      kept = c.self.invariant.0;
+      two = c.self.invariant.4;
+      claimed = subst (IsClaimedBeside c.self.inside.layout c.take_catalogues-taken.new.layout) (sym c.as_slice-listed.ensures.value) c.take_catalogues-taken.ensures.claimed;
+      fits = omega (arith, c.in-Some.ensures.some.0, ap length c.deref.ensures.value);
+      named = λ d. subst (λ l. name_of (get_or l gone d).entry ≡ c.args.name.now) c.deref.ensures.value (c.in-Some.ensures.some.1 d);
+      others = subst (λ store. IsNoPreload store c.args.name.now) (sym c.self.view_is) c.requires.no_preload;
+      later = omega (arith, c.if-self-2.false, c.self.invariant.0.root_fits.generation);
+      enough = ap length c.as_slice-listed.ensures.value ∙ c.take_catalogues-taken.ensures.count ∙ c.catalogues_for.ensures ∙ ap (λ n. catalogues_for (n - 1)) (count_is g c);
+      is_next = c.root_without-root.ensures ∙ ap (λ n. next_root c.self.inside.root (n - 1) listed (map (closed_up gone) (listed_preloads c.self.inside.root))) (count_is g c);
+    }
+
+-- the sectors of the others are listed
+listed_are : (g : given.Over) (c : After-root_without-root g) → c.remove.new.self.items ≡ entry_sectors (remove c.self.inside.entries.items c.in-Some.position)
+listed_are g c =
+    c.remove.ensures.items
+    ∙ ap (λ l. remove l c.in-Some.position) (c.self.invariant.3 c.if-self.false)
+    ∙ sym (map_remove (λ (p : PlacedEntry). p.at) c.self.inside.entries.items c.in-Some.position)
+
+relisting : (g : given.Over) (c : After-root_without-root g) (s : State) (sectors : List ℕ) → sectors ≡ c.remove.new.self.items
+    → IsRelisting Two c.self.inside.root c.self.inside.entries.items s c.as_slice-listed.result.now sectors c.root_without-root.result
+    (remove c.self.inside.entries.items c.in-Some.position) (without c.args.name.now s)
+relisting g c s sectors are =
+    subst (λ sectors. IsRelisting Two c.self.inside.root c.self.inside.entries.items s c.as_slice-listed.result.now sectors
+    c.root_without-root.result (remove c.self.inside.entries.items c.in-Some.position) (without c.args.name.now s)) (sym (are ∙ listed_are g c))
+    (removal_relisting (removing g c) s)
+
+pub write_list-requires-clause-root : goal.write_list-requires-clause-root
+write_list-requires-clause-root g c =
+    let removal = removing g (goal.at.write_list-requires-clause-root g c).After-root_without-root in
+    following_fits (removal_next removal) removal.kept.root_fits
+
+pub write_list-requires-clause-places : goal.write_list-requires-clause-places
+write_list-requires-clause-places g c =
+    let removal = removing g (goal.at.write_list-requires-clause-places g c).After-root_without-root in
+    record {
+      inside = subst (λ n. All (IsUsable n) c.as_slice-listed.result.now) (sym c.self.invariant.2) (more_inside removal.kept removal.claimed);
+      once = more_once removal.kept removal.claimed;
+    }
+
+pub write_list-requires-clause-listed : goal.write_list-requires-clause-listed
+write_list-requires-clause-listed g c =
+    let before = (goal.at.write_list-requires-clause-listed g c).After-root_without-root in
+    let removal = removing g before in
+    let next = removal_next removal in
+    subst (CanBeCatalogued (length c.as_slice-listed.result.now)) (sym (c.deref-2.ensures.value ∙ listed_are g before))
+    (can_be_catalogued c.self.inside.root.sectors (length c.as_slice-listed.result.now) c.root_without-root.result
+    (remove c.self.inside.entries.items c.in-Some.position) (omega (arith, removal.kept.root_fits.sectors)) next.enough next.few next.apart)
+
+-- a stop leaves the state from before or the one after
+leaves : (g : given.Over) (c : After-write_list g) (s : State)
+    → IsRelisting Two c.self.inside.root c.self.inside.entries.items s c.as_slice-listed.result.now c.deref-2.result.now c.root_without-root.result
+    (remove c.self.inside.entries.items c.in-Some.position) (without c.args.name.now s)
+    → IsAt g.D.Disk.facts c.args.self.now s → LeavesOnly (g.D.Disk.facts c.args.self.now.disk) (g.D.Disk.facts c.write_list.new.disk) (λ m. Stands m s ⊎ Stands m (without c.args.name.now s))
+leaves g c s is at_entry =
+    let at = subst (λ store. IsAt g.D.Disk.facts store s) (sym c.self.view_is) at_entry in
+    subst (λ store. LeavesOnly (g.D.Disk.facts store.disk) (g.D.Disk.facts c.write_list.new.disk) (λ m. Stands m s ⊎ Stands m (without c.args.name.now s))) c.self.view_is
+    (c.write_list.ensures.any_moment at.honest Two c.self.inside.root c.self.inside.entries.items s (remove c.self.inside.entries.items c.in-Some.position) (without c.args.name.now s) at.stands is)
+
+pub returns-in-Err-clause-any_moment : goal.returns-in-Err-clause-any_moment
+returns-in-Err-clause-any_moment g c s at =
+    let here = goal.at.returns-in-Err-clause-any_moment g c in
+    leaves g here.After-write_list s (relisting g here.After-root_without-root s c.deref-2.result.now c.deref-2.ensures.value) at
 
 pub returns-clause-any_moment : goal.returns-clause-any_moment
 returns-clause-any_moment g c s at =
-    subst (λ store. LeavesOnly (g.D.Disk.facts store.disk) (g.D.Disk.facts c.delete.new.self.disk) (λ m. Stands m s ⊎ Stands m (without c.args.name.now s))) c.self.view_is
-    (c.delete.ensures.any_moment s (subst (λ store. IsAt g.D.Disk.facts store s) (sym c.self.view_is) at))
+    let here = goal.at.returns-clause-any_moment g c in
+    leaves g here.After-write_list s (relisting g here.After-root_without-root s c.deref-2.result.now c.deref-2.ensures.value) at
+
+-- what is given back is what stood there
+gone_are : (g : given.Over) (c : After-catalogues g) → sectors_of c.index.result.now
+    ++ c.catalogues.result.now ≡ sectors_of (get_or c.self.inside.entries.items c.in-Some.position no_entry) ++ catalogues_of c.self.inside.root
+gone_are g c =
+    let items = c.self.inside.entries.items in
+    let lt : c.in-Some.position < length items = omega (arith, c.in-Some.ensures.some.0, ap length c.deref.ensures.value) in
+    ap (λ (p : PlacedEntry). sectors_of p ++ c.catalogues.result.now) (get_or_read items c.in-Some.position c.index.result.now lt c.index.ensures no_entry)
+    ∙ ap (λ l. sectors_of (get_or items c.in-Some.position no_entry) ++ l) c.catalogues.ensures
+
+pub give_up-requires-clause-held : goal.give_up-requires-clause-held
+give_up-requires-clause-held g c =
+    let before = (goal.at.give_up-requires-clause-held g c).After-root_without-root in
+    let removal = removing g before in
+    subst (AreHeld c.take_catalogues-taken.new.layout) (sym (gone_are g (goal.at.give_up-requires-clause-held g c).After-catalogues))
+    (moved_held removal.kept removal.claimed c.root_without-root.result (remove c.self.inside.entries.items c.in-Some.position) (removal_moved removal))
+
+-- what is given up is what stood there
+given_up : (g : given.Over) (c : After-give_up g)
+    → IsGivenUp c.self.inside.held c.give_up.new.held c.take_catalogues-taken.new.layout c.give_up.new.layout
+    (get_or c.self.inside.entries.items c.in-Some.position no_entry) (catalogues_of c.self.inside.root)
+given_up g c =
+    let items = c.self.inside.entries.items in
+    let lt : c.in-Some.position < length items = omega (arith, c.in-Some.ensures.some.0, ap length c.deref.ensures.value) in
+    let old = get_or_read items c.in-Some.position c.index.result.now lt c.index.ensures no_entry in
+    subst (λ p. IsGivenUp c.self.inside.held c.give_up.new.held c.take_catalogues-taken.new.layout c.give_up.new.layout p (catalogues_of c.self.inside.root)) old
+    (subst (λ l. IsGivenUp c.self.inside.held c.give_up.new.held c.take_catalogues-taken.new.layout c.give_up.new.layout c.index.result.now l) c.catalogues.ensures c.give_up.ensures)
+
+pub invariant_of-self-2 : goal.invariant_of-self-2
+invariant_of-self-2 g c =
+    let at = goal.at.invariant_of-self-2 g c in
+    let removal = removing g at.After-root_without-root in
+    let gone = c.in-Some.position in
+    let left = remove c.self.inside.entries.items gone in
+    let next = c.root_without-root.result in
+    let new = c.give_up.new.layout in
+    let up = given_up g at.After-give_up in (
+      subst (λ l. IsKept next l c.give_up.new.held new) (sym c.remove-3.ensures.items) (following_kept (removal_next removal) removal.kept.root_fits c.give_up.new.held new
+          (given_size removal.kept gone removal.fits up removal.claimed)
+          (removal_room removal (c.self.inside.root.sectors - length (lone_sectors c.give_up.new.held)) (omega (arith, given_few removal.kept gone removal.fits up)))
+          (given_rows removal.kept gone removal.fits up left (still_removed c.self.inside.entries.items gone removal.fits))
+          (given_claimed removal.kept gone removal.fits up removal.claimed next left (removal_moved removal))),
+      subst (λ l. IsOrderOf (entry_names l) c.remove-2.new.self.positions) (ap (λ l. remove l c.in-Some.position) c.deref-3.ensures.value ∙ sym c.remove-3.ensures.items) c.remove-2.ensures,
+      c.write_list.ensures.calls.sectors ∙ c.self.invariant.2 ∙ sym (ap (λ r. r.sectors) c.root_without-root.ensures),
+      λ _. listed_are g at.After-root_without-root ∙ ap entry_sectors (sym c.remove-3.ensures.items),
+      next_version (removal_next removal) removal.kept.root_fits,
+    )
+
+pub returns-in-Err-clause-held : goal.returns-in-Err-clause-held
+returns-in-Err-clause-held g c =
+    let removal = removing g (goal.at.returns-in-Err-clause-held g c).After-root_without-root in
+    subst (λ store. KeepsHolders (g.D.Disk.facts store.disk) (g.D.Disk.facts c.write_list.new.disk) store.held c.self.inside.held) c.self.view_is
+    (keeps_table removal.kept c.as_slice-listed.result.now (more_free removal.kept removal.claimed) (c.write_list.ensures.others))
+
+pub returns-clause-held : goal.returns-clause-held
+returns-clause-held g c =
+    let at = goal.at.returns-clause-held g c in
+    let removal = removing g at.After-root_without-root in
+    subst (λ store. KeepsHolders (g.D.Disk.facts store.disk) (g.D.Disk.facts c.write_list.new.disk) store.held c.give_up.new.held) c.self.view_is
+    (given_keeps removal.kept c.in-Some.position removal.fits (given_up g at.After-give_up) removal.claimed (c.write_list.ensures.others))
+
+pub returns-clause-ok : goal.returns-clause-ok
+returns-clause-ok g c s at_entry =
+    let at = subst (λ store. IsAt g.D.Disk.facts store s) (sym c.self.view_is) at_entry in
+    let is = relisting g (goal.at.returns-clause-ok g c).After-root_without-root s c.deref-2.result.now c.deref-2.ensures.value in
+    record {
+      honest = subst IsTrue (sym c.write_list.ensures.calls.honest) at.honest;
+      usable = refl;
+      stands = λ m mixture. subst (λ l. StandsBy Two m c.root_without-root.result l (without c.args.name.now s)) (sym c.remove-3.ensures.items)
+          (c.in_default-write_list.ensures.done at.honest Two c.self.inside.root c.self.inside.entries.items s
+          (remove c.self.inside.entries.items c.in-Some.position) (without c.args.name.now s) at.stands is m mixture);
+    }
+
+pub returns-clause-placed : goal.returns-clause-placed
+returns-clause-placed g c =
+    let removal = removing g (goal.at.returns-clause-placed g c).After-root_without-root in
+    let gone = c.in-Some.position in
+    let next = c.root_without-root.result in
+    let listed : catalogues_of next ≡ c.take_catalogues-taken.result = next_catalogues (removal_next removal) removal.kept.root_fits ∙ c.as_slice-listed.ensures.value in
+    record {
+      position = gone;
+      at = subst (λ store. IsNamedAt store c.args.name.now gone) c.self.view_is (record { inside = removal.fits; named = removal.named });
+      taken = subst (λ store. AreTaken (layout_in_use store) (catalogues_of next)) c.self.view_is
+          (subst (AreTaken (layout_of c.self.inside.root.sectors (in_use c.self.inside.root c.self.inside.entries.items c.self.inside.held))) (sym listed)
+          (singles_in_use c.self.inside.root c.self.inside.entries.items c.self.inside.held c.self.inside.layout removal.kept c.take_catalogues-taken.result c.take_catalogues-taken.ensures.taken));
+      entries = c.remove-3.ensures.items ∙ ap (λ store. remove store.entries gone) c.self.view_is;
+    }

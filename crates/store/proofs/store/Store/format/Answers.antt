@@ -1,4 +1,5 @@
 use Rattle.std.proofs.Common.{rules, ⊎_elim, [], length, sym, subst, ap, ◌∙◌}
+use Rattle.roots.specs.Root.{version_of}
 use Rattle.store.specs.Opening.{RefusesFormat}
 use Rattle.states.specs.Geometry.{IsGeometry}
 use Rattle.store.specs.Stands.{entry_sectors}
@@ -20,6 +21,7 @@ invariant_of-result g c =
       subst (λ l. IsIndex l c.empty.result) (sym c.new-in-Ok-write_first_root.ensures.items) c.empty.ensures,
       c.write_first_root.ensures.calls.some.sectors ∙ sym c.sectors-sectors.ensures ∙ ap (λ r. r.sectors) (sym root),
       λ _. c.new-in-Ok-write_first_root-2.ensures.items ∙ ap entry_sectors (sym c.new-in-Ok-write_first_root.ensures.items),
+      ap version_of root,
     )
 
 pub returns-in-Err-clause-refused : goal.returns-in-Err-clause-refused

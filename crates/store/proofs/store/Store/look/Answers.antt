@@ -1,5 +1,6 @@
-use Rattle.std.proofs.Common.{IsTrue, inl, inr, refl, sym, subst, ◌∙◌}
+use Rattle.std.proofs.Common.{[], IsTrue, false, inl, inr, refl, sym, subst, ◌∙◌}
 use Rattle.roots.specs.declared.version.Version.TheVariants.{One, Two}
+use Rattle.store.specs.Opened.{Opened}
 use Rattle.store.specs.Stands.{state_of}
 use Rattle.store.proofs.Openings.{refuses_look, other_version, found_at, found_at_state}
 use Rattle.store.proofs.store.Store.look.Goals as goal
@@ -18,9 +19,10 @@ returns-in-One-clause-stands_old g c honest s stands =
     let items = c.in-Ok.found.entries.items in
     let intact = c.in-Ok.ensures.intact honest in
     let one = sym c.version.ensures ∙ c.in-One.is in
-    let at = found_at g.D.Disk.facts c.beside.result c.find_store.new.disk now root items One c.beside.ensures.disk c.beside.ensures.root c.beside.ensures.entries c.beside.ensures.usable
+    let store : Opened g.row.D.Denot = record { disk = c.find_store.new.disk; root = root; entries = items; held = []; failed = false } in
+    let at = found_at g.D.Disk.facts store c.find_store.new.disk now root items One refl refl refl refl
     (subst IsTrue (sym c.find_store.ensures.calls.some.honest) honest) (c.find_store.ensures.now honest) (c.in-Ok.ensures.synced honest) intact one in
-    found_at_state g.D.Disk.facts c.beside.result c.find_store.new.disk now root items One s stands at intact one
+    found_at_state g.D.Disk.facts store c.find_store.new.disk now root items One s stands at intact one
 
 pub returns-in-One-clause-ok : goal.returns-in-One-clause-ok
 returns-in-One-clause-ok g c honest =
@@ -29,7 +31,8 @@ returns-in-One-clause-ok g c honest =
     let items = c.in-Ok.found.entries.items in
     let intact = c.in-Ok.ensures.intact honest in
     let one = sym c.version.ensures ∙ c.in-One.is in
-    let at = found_at g.D.Disk.facts c.beside.result c.find_store.new.disk now root items One c.beside.ensures.disk c.beside.ensures.root c.beside.ensures.entries c.beside.ensures.usable
+    let store : Opened g.row.D.Denot = record { disk = c.find_store.new.disk; root = root; entries = items; held = []; failed = false } in
+    let at = found_at g.D.Disk.facts store c.find_store.new.disk now root items One refl refl refl refl
     (subst IsTrue (sym c.find_store.ensures.calls.some.honest) honest) (c.find_store.ensures.now honest) (c.in-Ok.ensures.synced honest) intact one in
     (state_of now root items, inr ((root, items, record { of_version = one; intact = intact; is = refl }), at))
 
@@ -40,10 +43,10 @@ returns-in-Two-clause-stands g c honest s stands =
     let items = c.in-Ok.found.entries.items in
     let intact = c.in-Ok.ensures.intact honest in
     let two = sym c.version.ensures ∙ c.in-Two.is in
-    let at = found_at g.D.Disk.facts c.beside-in-Two.result c.find_store.new.disk now root items Two c.beside-in-Two.ensures.disk
-    c.beside-in-Two.ensures.root c.beside-in-Two.ensures.entries c.beside-in-Two.ensures.usable
+    let at = found_at g.D.Disk.facts c.beside.result c.find_store.new.disk now root items Two c.beside.ensures.disk
+    c.beside.ensures.root c.beside.ensures.entries c.beside.ensures.usable
     (subst IsTrue (sym c.find_store.ensures.calls.some.honest) honest) (c.find_store.ensures.now honest) (c.in-Ok.ensures.synced honest) intact two in
-    found_at_state g.D.Disk.facts c.beside-in-Two.result c.find_store.new.disk now root items Two s stands at intact two
+    found_at_state g.D.Disk.facts c.beside.result c.find_store.new.disk now root items Two s stands at intact two
 
 pub returns-in-Two-clause-stands_old : goal.returns-in-Two-clause-stands_old
 returns-in-Two-clause-stands_old g c honest s stands =
@@ -59,8 +62,8 @@ returns-in-Two-clause-ok g c honest =
     let items = c.in-Ok.found.entries.items in
     let intact = c.in-Ok.ensures.intact honest in
     let two = sym c.version.ensures ∙ c.in-Two.is in
-    let at = found_at g.D.Disk.facts c.beside-in-Two.result c.find_store.new.disk now root items Two c.beside-in-Two.ensures.disk
-    c.beside-in-Two.ensures.root c.beside-in-Two.ensures.entries c.beside-in-Two.ensures.usable
+    let at = found_at g.D.Disk.facts c.beside.result c.find_store.new.disk now root items Two c.beside.ensures.disk
+    c.beside.ensures.root c.beside.ensures.entries c.beside.ensures.usable
     (subst IsTrue (sym c.find_store.ensures.calls.some.honest) honest) (c.find_store.ensures.now honest) (c.in-Ok.ensures.synced honest) intact two in
     (state_of now root items, inl ((root, items, record { of_version = two; intact = intact; is = refl }), at))
 

@@ -11,7 +11,7 @@ returns-in-Ok-clause-opened g c =
     let now = (facts c.args.disk).now in
     let root = c.in-Ok.found.root in
     let items = c.in-Ok.found.entries.items in
-    let two = c.in-Ok.ensures.kept.2 in
+    let two = c.in-Ok.ensures.kept.1 in
     let calls = c.find_current.ensures.calls.some in
     let at = λ (honest : IsTrue (facts c.args.disk).honest). found_at facts c.beside.result c.find_current.new.disk now root items Two
     c.beside.ensures.disk c.beside.ensures.root c.beside.ensures.entries c.beside.ensures.usable

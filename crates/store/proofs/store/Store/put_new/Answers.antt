@@ -1,11 +1,278 @@
-use Rattle.std.proofs.Common.{◌⊎◌, sym, subst}
+use Rattle.std.proofs.Common.{◌≡◌, ◌≢◌, ◌⊎◌, ◌+◌, ◌-◌, ◌*◌, ◌<◌, ◌≤◌, List, ℕ, ◌∷◌, ◌++◌, [], All, length, IsTrue, refl, sym, subst, ap, ◌∙◌, arith}
+use Rattle.std.specs.Int.{div_ceil}
+use Rattle.std.proofs.lemmas.Bool.{false≢true}
+use Rattle.std.proofs.lemmas.Grind.{div_ceil_times}
+use Rattle.std.proofs.lemmas.List.{map_push}
 use Rattle.sector_disk.specs.Disk.{LeavesOnly}
-use Rattle.store.specs.Opened.{IsAt}
-use Rattle.store.specs.Stands.{Stands}
+use Rattle.extents.specs.Extent.{sector_count}
+use Rattle.states.specs.Limits.{most_libraries, last_generation}
+use Rattle.states.specs.Cost.{catalogues_for}
+use Rattle.roots.specs.Root.{listed_preloads}
+use Rattle.roots.specs.declared.version.Version.TheVariants.{Two}
+use Rattle.store.specs.declared.placed_entry.PlacedEntry.{PlacedEntry}
+use Rattle.states.specs.State.{State}
 use Rattle.states.specs.Changes.{with_new}
+use Rattle.store.specs.Held.{lone_sectors}
+use Rattle.store.specs.Holders.{KeepsHolders}
+use Rattle.store.specs.Names.{LacksName}
+use Rattle.store.specs.Opened.{IsAt, layout_in_use}
+use Rattle.store.specs.Stands.{Stands, StandsBy, catalogues_of, entry_sectors, extents_of, name_of, sectors_of}
+use Rattle.store.specs.Taken.{IsTaken}
+use Rattle.store.specs.inside.Catalogues.{CanBeCatalogued}
+use Rattle.store.specs.inside.Claimed.{IsClaimedBeside}
+use Rattle.store.specs.inside.Kept.{IsKept}
+use Rattle.store.specs.NameOrder.{IsOrderOf, entry_names}
+use Rattle.store.specs.inside.Next.{IsPut, next_root}
+use Rattle.store.specs.inside.Room.{AreHeld, IsReleased}
+use Rattle.store.proofs.Anew.{put_claimed, more_free, more_held, back_kept, moved_held, moved_size, moved_claimed}
+use Rattle.store.proofs.CataloguedEntries.{can_be_catalogued}
+use Rattle.store.proofs.Following.{following_fits, following_kept, next_catalogues, next_version}
+use Rattle.store.proofs.Frees.{IsCounted, facts_of, catalogues_enough, new_refused, new_taken, answers_refused, answers_failed, answers_done}
+use Rattle.store.proofs.GivenUp.{rows_more}
+use Rattle.store.proofs.Holders.{keeps_same, keeps_table}
+use Rattle.store.proofs.News.{IsNew, free_room, room_place, new_next, new_moved, new_put, new_room}
+use Rattle.store.proofs.Placing.{taken_so}
+use Rattle.store.proofs.Untouched.{untouched}
+use Rattle.store.proofs.Written.{have_bytes}
+use Rattle.store.proofs.store.Store.put_new.Given as given
+use Rattle.store.proofs.store.Store.put_new.Goals.{After-take_room, After-next_root-root}
 use Rattle.store.proofs.store.Store.put_new.Goals as goal
 
+-- what is known of the state before
+counted : (g : given.Over) (c : After-take_room g) (s : State) → IsAt g.D.Disk.facts c.args.self.now s
+    → IsCounted c.self.inside.root c.self.inside.entries.items c.self.inside.held c.self.inside.layout s
+counted g c s at = facts_of g.D.Disk.facts (λ disk honest. g.met.D.Disk.holds_now _ honest) (λ disk honest. g.met.D.Disk.whole_sectors _ honest) c.self.view_is c.self.invariant.0 at
+
+usable : (g : given.Over) (c : After-take_room g) → c.self.inside.root.generation ≢ last_generation
+usable g c is = omega (arith, is, c.if-self-2.false)
+
+few : (g : given.Over) (c : After-take_room g) → length c.self.inside.entries.items < most_libraries
+few g c = omega (arith, c.if-len-ge-MOST_LIBRARIES.false, c.len.ensures)
+
+-- how many catalogues list one entry more, and how many more they are
+more : (g : given.Over) (c : After-take_room g) → c.catalogues_for-count.result ≡ catalogues_for (length c.self.inside.entries.items + 1)
+more g c = omega (arith, c.catalogues_for-count.ensures, c.len-libraries.ensures, ap length c.reserve-2.ensures.items)
+
+rest : (g : given.Over) (c : After-take_room g) → c.catalogues_for-count.result - length c.catalogues.result.now ≡ c.catalogues_for-count.result - catalogues_for (length c.self.inside.entries.items)
+rest g c =
+    let two = c.self.invariant.4 in
+    ap (λ n. c.catalogues_for-count.result - n)
+    (ap length c.catalogues.ensures ∙ catalogues_enough c.self.inside.root c.self.inside.entries.items c.self.inside.held c.self.inside.layout
+    c.self.invariant.0 two)
+
+count_is : (g : given.Over) (c : After-next_root-root g) → c.len-libraries.result ≡ length c.self.inside.entries.items
+count_is g c = omega (arith, c.len-libraries.ensures, ap length c.reserve-2.ensures.items)
+
+-- what is put is one more entry
+newly : (g : given.Over) (c : After-next_root-root g)
+    → IsNew c.self.inside.root c.self.inside.entries.items c.self.inside.held c.self.inside.layout c.take_room.new.layout
+    c.as_slice-listed.result.now c.new_entry-put.result c.next_root-root.result
+newly g c =
+    let put = c.new_entry-put.result in
+    let room = c.in_ok-room.room in
+    let listed = c.as_slice-listed.ensures.value in
+    let count : length c.as_slice-listed.result.now ≡ c.catalogues_for-count.result = ap length listed ∙ c.in_ok-room.ensures.count in
+    record {
+      kept = c.self.invariant.0;
+      claimed = subst (λ l. IsClaimedBeside c.self.inside.layout c.take_room.new.layout (sectors_of put ++ l)) (sym listed)
+          (put_claimed c.self.inside.layout c.take_room.new.layout room.extents room.entry room.catalogues put c.new_entry-put.ensures.extents c.new_entry-put.ensures.at c.in_ok-room.ensures.claimed);
+      fits = c.new_entry-put.ensures.fits;
+      named = subst (λ name. All (λ (other : PlacedEntry). name_of other.entry ≢ name) c.self.inside.entries.items)
+          (sym c.new_entry-put.ensures.name) (subst (λ store. LacksName store c.args.name.now) (sym c.self.view_is) c.requires.new);
+      few = omega (arith, c.if-len-ge-MOST_LIBRARIES.false, c.len.ensures);
+      later = omega (arith, c.if-self-2.false, c.self.invariant.0.root_fits.generation);
+      enough = count ∙ c.catalogues_for-count.ensures ∙ ap (λ n. catalogues_for (n + 1)) (count_is g c);
+      room = omega (arith, free_room c.in_ok-room.ensures.full, c.sector_need.ensures, c.new_entry-put.ensures.length, count, ap length c.catalogues.ensures);
+      is_next = c.next_root-root.ensures ∙ ap (λ n. next_root c.self.inside.root (n + 1) c.as_slice-listed.result.now (listed_preloads c.self.inside.root)) (count_is g c);
+    }
+
+-- its sectors are listed with the others'
+listed_are : (g : given.Over) (c : After-next_root-root g) → c.push_sector.new.sectors.items ≡ entry_sectors (c.self.inside.entries.items ++ c.new_entry-put.result ∷ [])
+listed_are g c =
+    let put = c.new_entry-put.result in
+    c.push_sector.ensures
+    ∙ ap (λ l. l ++ put.at ∷ []) (c.reserve-3.ensures.items ∙ c.self.invariant.3 c.if-self.false)
+    ∙ sym (map_push (λ (p : PlacedEntry). p.at) c.self.inside.entries.items put)
+
+-- it has room for the bytes
+enough : (g : given.Over) (c : After-next_root-root g) → length c.args.bytes.now ≤ 512 * sector_count (extents_of c.new_entry-put.result.entry)
+enough g c = omega (arith, ap sector_count c.new_entry-put.ensures.extents, c.in_ok-room.ensures.sum, c.sector_need.ensures, (div_ceil_times (length c.args.bytes.now) 512 (omega arith)).0)
+
+putting : (g : given.Over) (c : After-next_root-root g) (s : State) (sectors : List ℕ) → sectors ≡ c.push_sector.new.sectors.items
+    → IsPut Two c.self.inside.root c.self.inside.entries.items s c.args.bytes.now c.new_entry-put.result c.as_slice-listed.result.now sectors
+    c.next_root-root.result (c.self.inside.entries.items ++ c.new_entry-put.result ∷ []) (with_new c.args.name.now c.args.bytes.now s)
+putting g c s sectors are =
+    let others = c.self.inside.entries.items ++ c.new_entry-put.result ∷ [] in
+    subst (λ sectors. IsPut Two c.self.inside.root c.self.inside.entries.items s c.args.bytes.now c.new_entry-put.result c.as_slice-listed.result.now
+    sectors c.next_root-root.result others (with_new c.args.name.now c.args.bytes.now s)) (sym (are ∙ listed_are g c))
+    (new_put (newly g c) c.args.name.now c.args.bytes.now s c.new_entry-put.ensures.name c.new_entry-put.ensures.length (enough g c))
+
+pub returns-in_err-reserve-clause-any_moment : goal.returns-in_err-reserve-clause-any_moment
+returns-in_err-reserve-clause-any_moment g c s at = untouched g.D.Disk.facts c.args.self.now _ s (with_new c.args.name.now c.args.bytes.now s) c.self.view_is at
+
+pub returns-in_err-reserve-2-clause-any_moment : goal.returns-in_err-reserve-2-clause-any_moment
+returns-in_err-reserve-2-clause-any_moment g c s at = untouched g.D.Disk.facts c.args.self.now _ s (with_new c.args.name.now c.args.bytes.now s) c.self.view_is at
+
+pub returns-in_err-reserve-3-clause-any_moment : goal.returns-in_err-reserve-3-clause-any_moment
+returns-in_err-reserve-3-clause-any_moment g c s at = untouched g.D.Disk.facts c.args.self.now _ s (with_new c.args.name.now c.args.bytes.now s) c.self.view_is at
+
+pub returns-in_err-room-clause-any_moment : goal.returns-in_err-room-clause-any_moment
+returns-in_err-room-clause-any_moment g c s at = untouched g.D.Disk.facts c.args.self.now _ s (with_new c.args.name.now c.args.bytes.now s) c.self.view_is at
+
+pub returns-in_err-room-clause-refused : goal.returns-in_err-room-clause-refused
+returns-in_err-room-clause-refused g c s at =
+    let before = (goal.at.returns-in_err-room-clause-refused g c).After-take_room in
+    let first = new_refused c.self.view_is (counted g before s at) c.args.bytes.now (usable g before) c.sector_need.ensures (few g before)
+    (more g before) (rest g before) c.in_err-room.field-0.0
+    (record { full = c.in_err-room.ensures.full; fragmented = c.in_err-room.ensures.fragmented }) in
+    answers_refused c.in_err-room.field-0.0 c.from_residual-in_err-room.result first c.from_residual-in_err-room.ensures.1
+
+pub write_put-requires-clause-root : goal.write_put-requires-clause-root
+write_put-requires-clause-root g c =
+    let is_new = newly g (goal.at.write_put-requires-clause-root g c).After-next_root-root in
+    following_fits (new_next is_new) is_new.kept.root_fits
+
+pub write_put-requires-clause-place : goal.write_put-requires-clause-place
+write_put-requires-clause-place g c =
+    let is_new = newly g (goal.at.write_put-requires-clause-place g c).After-next_root-root in
+    room_place is_new.kept is_new.claimed is_new.fits c.new_entry-put.ensures.extents c.in_ok-room.ensures.inside c.in_ok-room.ensures.apart c.self.invariant.2
+
+pub write_put-requires-clause-listed : goal.write_put-requires-clause-listed
+write_put-requires-clause-listed g c =
+    let before = (goal.at.write_put-requires-clause-listed g c).After-next_root-root in
+    let is_new = newly g before in
+    let next = new_next is_new in
+    subst (CanBeCatalogued (length c.as_slice-listed.result.now)) (sym (c.deref.ensures.value ∙ listed_are g before))
+    (can_be_catalogued c.self.inside.root.sectors (length c.as_slice-listed.result.now) c.next_root-root.result
+    (c.self.inside.entries.items ++ c.new_entry-put.result ∷ []) (omega (arith, is_new.kept.root_fits.sectors)) next.enough next.few next.apart)
+
+pub give_back_room-requires-clause-held : goal.give_back_room-requires-clause-held
+give_back_room-requires-clause-held g c =
+    let is_new = newly g (goal.at.give_back_room-requires-clause-held g c).After-next_root-root in
+    more_held is_new.kept is_new.claimed
+
+pub invariant_of-self-in-Err : goal.invariant_of-self-in-Err
+invariant_of-self-in-Err g c =
+    let is_new = newly g (goal.at.invariant_of-self-in-Err g c).After-next_root-root in
+    let items = c.reserve-2.ensures.items in (
+      subst (λ l. IsKept c.self.inside.root l c.self.inside.held c.give_back_room.new.layout) (sym items) (back_kept is_new.kept is_new.claimed c.give_back_room.new.layout c.give_back_room.ensures),
+      subst (λ l. IsOrderOf (entry_names l) c.reserve.new.self.positions) (sym items)
+          (subst (IsOrderOf (entry_names c.self.inside.entries.items)) (sym c.reserve.ensures.positions) c.self.invariant.1),
+      c.write_put.ensures.calls.sectors ∙ c.self.invariant.2,
+      λ is. absurd (false≢true (sym is)),
+      c.self.invariant.4,
+    )
+
+pub returns-in-Err-clause-any_moment : goal.returns-in-Err-clause-any_moment
+returns-in-Err-clause-any_moment g c s at_entry =
+    let at = subst (λ store. IsAt g.D.Disk.facts store s) (sym c.self.view_is) at_entry in
+    let put = putting g (goal.at.returns-in-Err-clause-any_moment g c).After-next_root-root s c.deref.result.now c.deref.ensures.value in
+    subst (λ store. LeavesOnly (g.D.Disk.facts store.disk) (g.D.Disk.facts c.write_put.new.disk) (λ m. Stands m s ⊎ Stands m (with_new c.args.name.now c.args.bytes.now s))) c.self.view_is
+    (c.write_put.ensures.any_moment at.honest Two c.self.inside.root c.self.inside.entries.items s
+    (c.self.inside.entries.items ++ c.new_entry-put.result ∷ []) (with_new c.args.name.now c.args.bytes.now s) at.stands put)
+
+pub returns-in-Err-clause-refused : goal.returns-in-Err-clause-refused
+returns-in-Err-clause-refused g c s at =
+    let before = (goal.at.returns-in-Err-clause-refused g c).After-take_room in
+    let first = new_taken c.self.view_is (counted g before s at) c.args.bytes.now (usable g before) c.sector_need.ensures (few g before)
+    (more g before) (rest g before) {x = c.in_ok-room.room}
+    (record { full = c.in_ok-room.ensures.full; fragmented = c.in_ok-room.ensures.fragmented }) in
+    answers_failed c.from.result first c.from.ensures
+
+pub release_sectors-requires : goal.release_sectors-requires
+release_sectors-requires g c =
+    let is_new = newly g (goal.at.release_sectors-requires g c).After-next_root-root in
+    let others = c.self.inside.entries.items ++ c.new_entry-put.result ∷ [] in
+    subst (AreHeld c.take_room.new.layout) (sym c.catalogues-2.ensures) (moved_held is_new.kept is_new.claimed c.next_root-root.result others (new_moved is_new))
+
+pub invariant_of-self-2 : goal.invariant_of-self-2
+invariant_of-self-2 g c =
+    let before = (goal.at.invariant_of-self-2 g c).After-next_root-root in
+    let is_new = newly g before in
+    let put = c.new_entry-put.result in
+    let others = c.self.inside.entries.items ++ put ∷ [] in
+    let items = c.in-Ok.ensures.items ∙ ap (λ l. l ++ put ∷ []) c.reserve-2.ensures.items in
+    let new = c.release_sectors.new.layout in
+    let released : IsReleased c.take_room.new.layout new (catalogues_of c.self.inside.root) = subst (IsReleased c.take_room.new.layout new) c.catalogues-2.ensures c.release_sectors.ensures in
+    let moved = new_moved is_new in (
+      subst (λ l. IsKept c.next_root-root.result l c.self.inside.held new) (sym items) (following_kept (new_next is_new) is_new.kept.root_fits c.self.inside.held new
+          (moved_size is_new.kept is_new.claimed new released)
+          (new_room is_new (c.self.inside.root.sectors - length (lone_sectors c.self.inside.held)) (omega arith))
+          (rows_more put is_new.kept.rows)
+          (moved_claimed is_new.kept is_new.claimed c.next_root-root.result others moved new released)),
+      subst (λ l. IsOrderOf (entry_names l) c.insert.new.self.positions)
+          (ap (λ l. l ++ put ∷ []) c.deref-2.ensures.value ∙ sym c.in-Ok.ensures.items) (c.insert.ensures put c.new_entry-put.ensures.name),
+      c.write_put.ensures.calls.sectors ∙ c.self.invariant.2 ∙ sym (ap (λ r. r.sectors) c.next_root-root.ensures),
+      λ _. listed_are g before ∙ ap entry_sectors (sym items),
+      next_version (new_next is_new) is_new.kept.root_fits,
+    )
+
+pub returns-in_err-reserve-clause-held : goal.returns-in_err-reserve-clause-held
+returns-in_err-reserve-clause-held g c = keeps_same g.D.Disk.facts c.self.view_is
+
+pub returns-in_err-reserve-2-clause-held : goal.returns-in_err-reserve-2-clause-held
+returns-in_err-reserve-2-clause-held g c = keeps_same g.D.Disk.facts c.self.view_is
+
+pub returns-in_err-reserve-3-clause-held : goal.returns-in_err-reserve-3-clause-held
+returns-in_err-reserve-3-clause-held g c = keeps_same g.D.Disk.facts c.self.view_is
+
+pub returns-in_err-room-clause-held : goal.returns-in_err-room-clause-held
+returns-in_err-room-clause-held g c = keeps_same g.D.Disk.facts c.self.view_is
+
+pub returns-in-Err-clause-held : goal.returns-in-Err-clause-held
+returns-in-Err-clause-held g c =
+    let is_new = newly g (goal.at.returns-in-Err-clause-held g c).After-next_root-root in
+    subst (λ store. KeepsHolders (g.D.Disk.facts store.disk) (g.D.Disk.facts c.write_put.new.disk) store.held c.self.inside.held) c.self.view_is
+    (keeps_table is_new.kept (sectors_of c.new_entry-put.result ++ c.as_slice-listed.result.now) (more_free is_new.kept is_new.claimed) (c.write_put.ensures.others))
+
+pub returns-clause-held : goal.returns-clause-held
+returns-clause-held g c =
+    let is_new = newly g (goal.at.returns-clause-held g c).After-next_root-root in
+    subst (λ store. KeepsHolders (g.D.Disk.facts store.disk) (g.D.Disk.facts c.write_put.new.disk) store.held c.self.inside.held) c.self.view_is
+    (keeps_table is_new.kept (sectors_of c.new_entry-put.result ++ c.as_slice-listed.result.now) (more_free is_new.kept is_new.claimed) (c.write_put.ensures.others))
+
 pub returns-clause-any_moment : goal.returns-clause-any_moment
-returns-clause-any_moment g c s at =
-    subst (λ store. LeavesOnly (g.D.Disk.facts store.disk) (g.D.Disk.facts c.put_new.new.self.disk) (λ m. Stands m s ⊎ Stands m (with_new c.args.name.now c.args.bytes.now s))) c.self.view_is
-    (c.put_new.ensures.any_moment s (subst (λ store. IsAt g.D.Disk.facts store s) (sym c.self.view_is) at))
+returns-clause-any_moment g c s at_entry =
+    let at = subst (λ store. IsAt g.D.Disk.facts store s) (sym c.self.view_is) at_entry in
+    let put = putting g (goal.at.returns-clause-any_moment g c).After-next_root-root s c.deref.result.now c.deref.ensures.value in
+    subst (λ store. LeavesOnly (g.D.Disk.facts store.disk) (g.D.Disk.facts c.write_put.new.disk) (λ m. Stands m s ⊎ Stands m (with_new c.args.name.now c.args.bytes.now s))) c.self.view_is
+    (c.write_put.ensures.any_moment at.honest Two c.self.inside.root c.self.inside.entries.items s
+    (c.self.inside.entries.items ++ c.new_entry-put.result ∷ []) (with_new c.args.name.now c.args.bytes.now s) at.stands put)
+
+pub returns-clause-ok : goal.returns-clause-ok
+returns-clause-ok g c s at_entry =
+    let at = subst (λ store. IsAt g.D.Disk.facts store s) (sym c.self.view_is) at_entry in
+    let put = putting g (goal.at.returns-clause-ok g c).After-next_root-root s c.deref.result.now c.deref.ensures.value in
+    let items = c.in-Ok.ensures.items ∙ ap (λ l. l ++ c.new_entry-put.result ∷ []) c.reserve-2.ensures.items in
+    record {
+      honest = subst IsTrue (sym c.write_put.ensures.calls.honest) at.honest;
+      usable = refl;
+      stands = λ m mixture. subst (λ l. StandsBy Two m c.next_root-root.result l (with_new c.args.name.now c.args.bytes.now s)) (sym items)
+          (c.in_default.ensures.done at.honest Two c.self.inside.root c.self.inside.entries.items s
+          (c.self.inside.entries.items ++ c.new_entry-put.result ∷ []) (with_new c.args.name.now c.args.bytes.now s) at.stands put m mixture);
+    }
+
+pub returns-clause-refused : goal.returns-clause-refused
+returns-clause-refused g c s at =
+    let before = (goal.at.returns-clause-refused g c).After-take_room in
+    let first = new_taken c.self.view_is (counted g before s at) c.args.bytes.now (usable g before) c.sector_need.ensures (few g before)
+    (more g before) (rest g before) {x = c.in_ok-room.room}
+    (record { full = c.in_ok-room.ensures.full; fragmented = c.in_ok-room.ensures.fragmented }) in
+    answers_done first
+
+pub returns-clause-placed : goal.returns-clause-placed
+returns-clause-placed g c =
+    let is_new = newly g (goal.at.returns-clause-placed g c).After-next_root-root in
+    let put = c.new_entry-put.result in
+    let room = c.in_ok-room.ensures in
+    let taken = taken_so c.self.inside.root c.self.inside.entries.items c.self.inside.held c.self.inside.layout c.self.invariant.0
+    c.sector_need.ensures c.new_entry-put.ensures.extents c.new_entry-put.ensures.at
+    (next_catalogues (new_next is_new) is_new.kept.root_fits ∙ c.as_slice-listed.ensures.value) room.data room.inside room.taken in
+    record {
+      put = put;
+      taken = subst (λ store. IsTaken (layout_in_use store) (div_ceil (length c.args.bytes.now) 512) (extents_of put.entry) put.at (catalogues_of c.next_root-root.result)) c.self.view_is taken;
+      entries = c.in-Ok.ensures.items ∙ ap (λ l. l ++ put ∷ []) c.reserve-2.ensures.items ∙ ap (λ store. store.entries ++ put ∷ []) c.self.view_is;
+      written = λ honest. have_bytes (g.D.Disk.facts c.write_put.new.disk) (extents_of put.entry) c.args.bytes.now
+          (ap sector_count c.new_entry-put.ensures.extents ∙ room.sum ∙ c.sector_need.ensures)
+          (c.in_default.ensures.written (subst (λ store. IsTrue (g.D.Disk.facts store.disk).honest) (sym c.self.view_is) honest));
+    }

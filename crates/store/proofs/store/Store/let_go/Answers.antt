@@ -4,9 +4,9 @@ use Rattle.store.specs.Opened.{Opened}
 use Rattle.store.specs.inside.Kept.{IsKept}
 use Rattle.store.proofs.Handles.{gone_done, gone_freed, gone_held, gone_listed, held_fits, kept_held, less_done, none_done, with_held}
 use Rattle.store.proofs.Holdings.{by_place, held_less, lone_less}
-use Rattle.store.proofs.kept.Kept.let_go.Given as given
-use Rattle.store.proofs.kept.Kept.let_go.Goals.{After-let_go}
-use Rattle.store.proofs.kept.Kept.let_go.Goals as goal
+use Rattle.store.proofs.store.Store.let_go.Given as given
+use Rattle.store.proofs.store.Store.let_go.Goals.{After-let_go}
+use Rattle.store.proofs.store.Store.let_go.Goals as goal
 
 -- the store before
 abbrev before : (g : given.Over) (c : After-let_go g) → Opened g.row.D.Denot
@@ -29,12 +29,12 @@ give_back-requires-clause-held g c =
 pub invariant_of-self : goal.invariant_of-self
 invariant_of-self g c =
     let unlisted : c.in-Some.version.listed ≡ false = search rules in
-    (gone_freed c.self.invariant.0 c.in-Some.ensures.some unlisted c.give_back.new.layout c.give_back.ensures, c.self.invariant.1, c.self.invariant.2, c.self.invariant.3)
+    (gone_freed c.self.invariant.0 c.in-Some.ensures.some unlisted c.give_back.new.layout c.give_back.ensures, c.self.invariant.1, c.self.invariant.2, c.self.invariant.3, c.self.invariant.4)
 
 pub invariant_of-self-else-not-version : goal.invariant_of-self-else-not-version
 invariant_of-self-else-not-version g c =
     let listed : c.in-Some.version.listed ≡ true = search rules in
-    (gone_listed c.self.invariant.0 c.in-Some.ensures.some listed, c.self.invariant.1, c.self.invariant.2, c.self.invariant.3)
+    (gone_listed c.self.invariant.0 c.in-Some.ensures.some listed, c.self.invariant.1, c.self.invariant.2, c.self.invariant.3, c.self.invariant.4)
 
 pub invariant_of-self-in_default : goal.invariant_of-self-in_default
 invariant_of-self-in_default g c = (
@@ -45,6 +45,7 @@ invariant_of-self-in_default g c = (
   c.self.invariant.1,
   c.self.invariant.2,
   c.self.invariant.3,
+  c.self.invariant.4,
 )
 
 pub returns-then-not-version : goal.returns-then-not-version

@@ -9,9 +9,9 @@ use Rattle.store.specs.declared.refusal.StoreRefusal.TheVariants.{OutOfMemory, R
 use Rattle.store.specs.inside.Holdings.{IsHeldMore, IsHeldOnce}
 use Rattle.store.proofs.Handles.{hold_done, hold_refused, holding_lone, holding_rows, kept_held, with_held}
 use Rattle.store.proofs.UsedAlone.{no_entry}
-use Rattle.store.proofs.kept.Kept.hold.Given as given
-use Rattle.store.proofs.kept.Kept.hold.Goals.{In_ok-hold}
-use Rattle.store.proofs.kept.Kept.hold.Goals as goal
+use Rattle.store.proofs.store.Store.hold.Given as given
+use Rattle.store.proofs.store.Store.hold.Goals.{In_ok-hold}
+use Rattle.store.proofs.store.Store.hold.Goals as goal
 
 -- the store before
 abbrev before : (g : given.Over) (c : In_ok-hold g) → Opened g.row.D.Denot
@@ -65,6 +65,7 @@ invariant_of-self-2 g c =
       c.self.invariant.1,
       c.self.invariant.2,
       c.self.invariant.3,
+      c.self.invariant.4,
     )
 
 pub returns : goal.returns

@@ -7,7 +7,7 @@ use Rattle.states.specs.Cost.{catalogues_for, free}
 use Rattle.store.specs.Held.{in_use}
 use Rattle.store.specs.Opened.{layout_in_use, room_of}
 use Rattle.store.proofs.Frees.{facts_of, same_layout}
-use Rattle.store.proofs.kept.Kept.free_space.Goals as goal
+use Rattle.store.proofs.store.Store.free_space.Goals as goal
 
 pub returns-clause-sectors : goal.returns-clause-sectors
 returns-clause-sectors g c =

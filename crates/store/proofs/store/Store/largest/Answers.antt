@@ -2,14 +2,12 @@ use Rattle.std.proofs.Common.{◌≡◌, ◌≤◌, ◌↔◌, ◌-◌, ◌+◌,
 use Rattle.extents.specs.Extent.{sector_count}
 use Rattle.extents.specs.Layout.{free_count}
 use Rattle.extents.specs.Longest.{longest_runs}
-use Rattle.roots.specs.Root.{version_of}
-use Rattle.roots.specs.declared.version.Version.TheVariants.{Two}
 use Rattle.states.specs.Cost.{catalogues_for}
 use Rattle.store.specs.Opened.{room_of}
 use Rattle.store.specs.Step.{longest_free, refusal_of_new}
 use Rattle.store.proofs.Frees.{catalogues_enough, facts_of}
 use Rattle.store.proofs.FreeSpaces.{largest_iff}
-use Rattle.store.proofs.kept.Kept.largest.Goals as goal
+use Rattle.store.proofs.store.Store.largest.Goals as goal
 
 pub returns-clause-state : goal.returns-clause-state
 returns-clause-state g c s at bytes size =
@@ -17,7 +15,7 @@ returns-clause-state g c s at bytes size =
     let layout = c.self.inside.layout in
     let count = c.catalogues_for-count.result in
     let listed = length c.catalogues.result.now in
-    let two = subst (λ store. version_of store.root ≡ Two) (sym c.self.view_is) c.requires.version in
+    let two = c.self.invariant.4 in
     let more : count ≡ catalogues_for (length entries + 1) = omega (arith, c.catalogues_for-count.ensures, c.len-2.ensures) in
     let rest : count - listed ≡ count - catalogues_for (length entries) =
     ap (λ n. count - n) (ap length c.catalogues.ensures
