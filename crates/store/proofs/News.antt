@@ -29,7 +29,9 @@ use Rattle.store.specs.inside.Claimed.{IsClaimedBeside, IsUsable}
 use Rattle.store.specs.declared.holding.Holding.{Holding}
 use Rattle.store.specs.Held.{lone_sectors}
 use Rattle.store.specs.inside.Kept.{IsKept}
-use Rattle.store.specs.inside.Next.{IsNext, IsPut, next_root}
+use Rattle.store.specs.declared.change.Staged.TheVariants.{Put}
+use Rattle.store.specs.inside.Change.{IsFollowed}
+use Rattle.store.specs.inside.Next.{IsNext, next_root}
 use Rattle.store.specs.inside.Room.{HasPlace}
 use Rattle.store.proofs.Anew.{IsMoved, more_unused, more_inside, more_once, moved_apart}
 use Rattle.store.proofs.Counts.{occurs, occurs-append}
@@ -163,10 +165,10 @@ module _ {root : Root} {entries : List PlacedEntry} {held : List Holding} {layou
   -- what the put makes of sectors
   pub new_put : (name bytes : List ℕ) (s : State) → name_of put.entry ≡ name → put.entry.file_length ≡ length bytes
       → length bytes ≤ 512 * sector_count (extents_of put.entry)
-      → IsPut Two root entries s bytes put catalogues (entry_sectors others) next others (with_new name bytes s)
+      → IsFollowed Two root entries s (record { staged = Put put catalogues; root = next }) bytes (entry_sectors others) others (with_new name bytes s)
   new_put name bytes s its_name its_length enough = record {
     unused = more_unused kept is_new.claimed;
-    stands = λ m by written spelt listed. following_stands new_next kept.root_fits Two m entries s (with_new name bytes s) by listed
+    stands = λ m by (written, spelt, listed). following_stands new_next kept.root_fits Two m entries s (with_new name bytes s) by listed
         (All-push (λ (p : PlacedEntry). SpellsEntry (sector m p.at) p.entry) entries put by.intact.listed.each spelt)
         (ap (with_new name bytes) by.is ∙ (λ i. record {
           generation = root.generation + 1;

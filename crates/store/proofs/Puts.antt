@@ -5,7 +5,7 @@ use Rattle.std.proofs.lemmas.List.{length-set, get_or-set_same, get_or-set_other
 use Rattle.std.specs.List.{flat_map}
 use Rattle.std.proofs.lemmas.List.Elements.{All-contains, Contains-append_left, Contains-append_right}
 use Rattle.sector_disk.specs.Disk.{Sector, sector, DiskFacts, Mixture, HoldsNow, IsSynced, LeavesOnly, SameBut, IsMixtureBut, IsMixtureOrSet}
-use Rattle.sector_disk.proofs.Moments.{goes_on, weaken, left_now}
+use Rattle.sector_disk.proofs.Moments.{weaken, left_now}
 use Rattle.extents.specs.Limits.{root_sectors}
 use Rattle.roots.specs.declared.root.Root.{Root}
 use Rattle.roots.specs.Root.{RootHasSpelling, SpellsRoot, root_bytes, version_of, listed_preloads}
@@ -17,7 +17,8 @@ use Rattle.states.specs.State.{State}
 use Rattle.roots.specs.declared.version.Version.{Version}
 use Rattle.roots.specs.declared.version.Version.TheVariants.{Two}
 use Rattle.store.specs.Stands.{IsListed, UsesApart, HasRoom, HaveOwnNames, StandsBy, StandsAs, Stands, entry_sectors, library_of, names_at, catalogues_of, sectors_of, used, state_of}
-use Rattle.store.specs.inside.Next.{IsFollowed}
+use Rattle.store.specs.declared.change.Change.{Change}
+use Rattle.store.specs.inside.Change.{IsFollowed, IsStaged}
 use Rattle.store.specs.inside.Room.{IsRootOr}
 use Rattle.store.proofs.UsedAlone.{same_used, libraries_same, listed_same, own_used}
 
@@ -105,40 +106,26 @@ module _ (version : Version) {old mid : DiskFacts} (root : Root) (entries : List
   pub staged_only : (s' : State) → LeavesOnly old mid (λ m. StandsAs version m s ⊎ Stands m s')
   staged_only s' = weaken IsOld (λ m. StandsAs version m s ⊎ Stands m s') (λ m by. inl (root, entries, by)) staged_stands
 
-  module _ (synced : IsSynced mid) (next : Root) (others : List PlacedEntry) (s' : State) (at : ℕ) (content : Sector) (written : StandsBy Two (set mid.now at content) next others s') where
-    -- the commit leaves the old state or the new one,
-    pub committed_only : {new : DiskFacts} → LeavesOnly mid new (IsMixtureOrSet mid at content) → LeavesOnly old new (λ m. StandsAs version m s ⊎ Stands m s')
-    committed_only committed = goes_on (λ m. StandsAs version m s ⊎ Stands m s') (staged_only s')
-        (weaken (IsMixtureOrSet mid at content) (λ m. StandsAs version m s ⊎ Stands m s')
-        (λ m either. ⊎_elim
-        (λ mixture. inl (root, entries, left_now IsOld staged_stands m mixture))
-        (λ newer. inr (next, others, subst (λ l. StandsBy Two l next others s') (sym (newer.2 ∙ ap (λ l. set l at content) (synced.each newer.0 newer.1))) written))
-        either)
-        committed)
-
-    -- and once it is synced the new one alone
-    pub committed_stands : {new : DiskFacts} → IsSynced new → new.now ≡ set mid.now at content → (m : List Sector) → Mixture new m → StandsBy Two m next others s'
-    committed_stands is_synced is_set m mixture = subst (λ l. StandsBy Two l next others s') (sym (is_synced.each m mixture ∙ is_set)) written
-
--- A root is written where each mixture stands for a state: each stands for that one or the next.
-module _ (version : Version) {old : DiskFacts} (root : Root) (entries : List PlacedEntry) (s : State) (next : Root) (others : List PlacedEntry)
-    (s' : State) (stands : (m : List Sector) → Mixture old m → StandsBy version m root entries s)
-    (followed : IsFollowed version root entries s (λ m. Unit) next others s') (at : ℕ) (content : Sector) (slot : at ≡ slot_of next.generation)
-    (spelt : content ≡ root_bytes next) where
-  after_stands : (m : List Sector) → Mixture old m → StandsBy Two (set m at content) next others s'
-  after_stands m mixture = subst (λ c. StandsBy Two (set m at c) next others s') (sym spelt)
-      (subst (λ k. StandsBy Two (set m k (root_bytes next)) next others s') (sym slot) (followed.stands m (stands m mixture) tt))
+-- A root is written where each mixture stands for a state and has what is staged: each stands for that state or the next.
+module _ (version : Version) {old : DiskFacts} (root : Root) (entries : List PlacedEntry) (s : State) (change : Change) (bytes listed : List ℕ)
+    (others : List PlacedEntry) (s' : State) (stands : (m : List Sector) → Mixture old m → StandsBy version m root entries s)
+    (staged : (m : List Sector) → Mixture old m → IsStaged m change.staged bytes listed)
+    (followed : IsFollowed version root entries s change bytes listed others s') (at : ℕ) (content : Sector) (slot : at ≡ slot_of change.root.generation)
+    (spelt : content ≡ root_bytes change.root) where
+  after_stands : (m : List Sector) → Mixture old m → StandsBy Two (set m at content) change.root others s'
+  after_stands m mixture = subst (λ c. StandsBy Two (set m at c) change.root others s') (sym spelt)
+      (subst (λ k. StandsBy Two (set m k (root_bytes change.root)) change.root others s') (sym slot) (followed.stands m (stands m mixture) (staged m mixture)))
 
   pub followed_only : {new : DiskFacts} → LeavesOnly old new (IsMixtureOrSet old at content) → LeavesOnly old new (λ m. StandsAs version m s ⊎ Stands m s')
   followed_only leaves = weaken (IsMixtureOrSet old at content) (λ m. StandsAs version m s ⊎ Stands m s')
       (λ m either. ⊎_elim
       (λ mixture. inl (root, entries, stands m mixture))
-      (λ newer. inr (next, others, subst (λ l. StandsBy Two l next others s') (sym newer.2) (after_stands newer.0 newer.1)))
+      (λ newer. inr (change.root, others, subst (λ l. StandsBy Two l change.root others s') (sym newer.2) (after_stands newer.0 newer.1)))
       either)
       leaves
 
-  pub followed_done : HoldsNow old → {new : DiskFacts} → IsSynced new → new.now ≡ set old.now at content → (m : List Sector) → Mixture new m → StandsBy Two m next others s'
-  followed_done holds is_synced is_set m mixture = subst (λ l. StandsBy Two l next others s') (sym (is_synced.each m mixture ∙ is_set)) (after_stands old.now holds)
+  pub followed_done : HoldsNow old → {new : DiskFacts} → IsSynced new → new.now ≡ set old.now at content → (m : List Sector) → Mixture new m → StandsBy Two m change.root others s'
+  followed_done holds is_synced is_set m mixture = subst (λ l. StandsBy Two l change.root others s') (sym (is_synced.each m mixture ∙ is_set)) (after_stands old.now holds)
 
 -- what follows from two facts of an answer that is Ok
 pub ok_both : {T E P Q R : Type 0} (result : Result T E) → (P → Q → R) → OnOk result P → OnOk result Q → OnOk result R
@@ -165,10 +152,3 @@ module _ {old mid : DiskFacts} (changed : List ℕ) (staged : LeavesOnly old mid
       (λ before. staged_others m before)
       (λ newer. let but = staged_others newer.0 newer.1 in (but.0, but.1, set_others changed at content low but.2 newer.2))
       (left_now (IsMixtureOrSet mid at content) committed m mixture)
-
--- What is committed alone changes no sector but the roots'.
-pub root_others : {old new : DiskFacts} (at : ℕ) (content : Sector) → at < 2 → LeavesOnly old new (IsMixtureOrSet old at content) → (m : List Sector) → Mixture new m → IsMixtureBut (IsRootOr []) old m
-root_others {old = old} at content low committed m mixture = ⊎_elim
-    (λ before. (m, before, record { size = refl; others = λ k other. refl }))
-    (λ newer. (newer.0, newer.1, set_others [] at content low (record { size = refl; others = λ k other. refl }) newer.2))
-    (left_now (IsMixtureOrSet old at content) committed m mixture)

@@ -21,7 +21,9 @@ use Rattle.store.specs.inside.Claimed.{IsClaimedBeside}
 use Rattle.store.specs.declared.holding.Holding.{Holding}
 use Rattle.store.specs.Held.{in_use, lone_sectors}
 use Rattle.store.specs.inside.Kept.{IsKept}
-use Rattle.store.specs.inside.Next.{IsNext, IsRelisting, next_root}
+use Rattle.store.specs.declared.change.Staged.TheVariants.{Catalogues}
+use Rattle.store.specs.inside.Change.{IsFollowed}
+use Rattle.store.specs.inside.Next.{IsNext, next_root}
 use Rattle.store.proofs.Anew.{IsMoved, more_unused, moved_apart}
 use Rattle.store.proofs.Counts.{occurs, occurs-append}
 use Rattle.store.proofs.Following.{following_stands}
@@ -92,8 +94,8 @@ module _ {root : Root} {entries : List PlacedEntry} {held : List Holding} {layou
   }
 
   -- What it makes of sectors.
-  pub relisting : (s : State) → IsRelisting One root entries s catalogues (entry_sectors entries) next entries (upgraded s)
-  relisting s = record {
+  pub relist_followed : (s : State) (bytes : List ℕ) → IsFollowed One root entries s (record { staged = Catalogues catalogues; root = next }) bytes (entry_sectors entries) entries (upgraded s)
+  relist_followed s bytes = record {
     unused = more_unused is.kept is.claimed;
     stands = λ m by catalogued. following_stands relist_next is.kept.root_fits One m entries s (upgraded s) by catalogued by.intact.listed.each (ap upgraded by.is);
   }

@@ -27,7 +27,9 @@ use Rattle.store.specs.declared.holding.Holding.{Holding}
 use Rattle.store.specs.Held.{lone_sectors}
 use Rattle.store.specs.inside.Kept.{IsKept}
 use Rattle.store.specs.inside.NameIndex.{closed_up}
-use Rattle.store.specs.inside.Next.{IsNext, IsRelisting, next_root}
+use Rattle.store.specs.declared.change.Staged.TheVariants.{Catalogues}
+use Rattle.store.specs.inside.Change.{IsFollowed}
+use Rattle.store.specs.inside.Next.{IsNext, next_root}
 use Rattle.store.proofs.Anew.{IsMoved, more_unused, moved_apart}
 use Rattle.store.proofs.Counts.{occurs, occurs-append, occurs-flat_map}
 use Rattle.store.proofs.Following.{following_stands}
@@ -160,8 +162,8 @@ module _ {root : Root} {entries : List PlacedEntry} {held : List Holding} {layou
   }
 
   -- What the removal makes of sectors.
-  pub removal_relisting : (s : State) → IsRelisting Two root entries s catalogues (entry_sectors left) next left (without name s)
-  removal_relisting s = record {
+  pub removal_followed : (s : State) (bytes : List ℕ) → IsFollowed Two root entries s (record { staged = Catalogues catalogues; root = next }) bytes (entry_sectors left) left (without name s)
+  removal_followed s bytes = record {
     unused = more_unused kept removal.claimed;
     stands = λ m by catalogued. following_stands removal_next kept.root_fits Two m entries s (without name s) by catalogued
         (all_remove (λ (p : PlacedEntry). SpellsEntry (sector m p.at) p.entry) entries gone by.intact.listed.each)

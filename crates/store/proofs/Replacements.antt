@@ -26,7 +26,9 @@ use Rattle.store.specs.inside.Claimed.{IsClaimedBeside}
 use Rattle.store.specs.declared.holding.Holding.{Holding}
 use Rattle.store.specs.Held.{lone_sectors}
 use Rattle.store.specs.inside.Kept.{IsKept}
-use Rattle.store.specs.inside.Next.{IsNext, IsPut, next_root}
+use Rattle.store.specs.declared.change.Staged.TheVariants.{Put}
+use Rattle.store.specs.inside.Change.{IsFollowed}
+use Rattle.store.specs.inside.Next.{IsNext, next_root}
 use Rattle.store.proofs.Anew.{IsMoved, more_unused, moved_apart}
 use Rattle.store.proofs.Counts.{occurs, occurs-append, occurs-flat_map}
 use Rattle.store.proofs.Following.{following_stands}
@@ -180,10 +182,10 @@ module _ {root : Root} {entries : List PlacedEntry} {held : List Holding} {layou
   -- and this is what the put makes of sectors.
   pub replacement_put : (bytes : List ℕ) (s : State) → put.entry.file_length ≡ length bytes
       → length bytes ≤ 512 * sector_count (extents_of put.entry)
-      → IsPut Two root entries s bytes put catalogues (entry_sectors others) next others (with_bytes name bytes s)
+      → IsFollowed Two root entries s (record { staged = Put put catalogues; root = next }) bytes (entry_sectors others) others (with_bytes name bytes s)
   replacement_put bytes s its_length enough = record {
     unused = more_unused kept is.claimed;
-    stands = λ m by written spelt listed. following_stands replacement_next kept.root_fits Two m entries s (with_bytes name bytes s) by listed
+    stands = λ m by (written, spelt, listed). following_stands replacement_next kept.root_fits Two m entries s (with_bytes name bytes s) by listed
         (All-set (λ (p : PlacedEntry). SpellsEntry (sector m p.at) p.entry) entries place put spelt by.intact.listed.each)
         (ap (with_bytes name bytes) by.is ∙ (λ i. record {
           generation = root.generation + 1;

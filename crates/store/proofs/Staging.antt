@@ -1,27 +1,33 @@
 -- What a change stages: the places of its single sectors beside those of its bytes.
-use Rattle.std.proofs.Common.{◌≡◌, inl, inr, ⊎_elim, ℕ, ◌+◌, ◌*◌, ◌<◌, ◌≤◌, List, [], ◌∷◌, ◌++◌, get_or, All, sym, ap, subst, ◌∙◌, arith}
+use Rattle.std.proofs.Common.{◌≡◌, ℕ, ◌+◌, ◌*◌, ◌<◌, ◌≤◌, List, [], ◌∷◌, ◌++◌, get_or, set, All, sym, ap, subst, ◌∙◌, arith}
 use Rattle.std.specs.Prelude.{Contains}
 use Rattle.std.proofs.lemmas.List.{append-nil}
-use Rattle.std.proofs.lemmas.List.Elements.{All-contains, Contains-get_or}
+use Rattle.std.proofs.lemmas.List.Elements.{All-contains, Contains-append_left, Contains-append_right, Contains-get_or}
 use Rattle.std.proofs.lemmas.List.Sums.{sum_by-cons}
 use Rattle.extents.specs.declared.extent.Extent.{Extent}
 use Rattle.extents.specs.Limits.{root_sectors}
 use Rattle.extents.specs.Extent.{AreDistinct, places, sector_count}
-use Rattle.sector_disk.specs.Disk.{Sector, sector, sector_bytes, DiskFacts, IsMixtureBut}
-use Rattle.passes.specs.Bytes.{bytes_at, padded}
-use Rattle.passes.specs.Singles.{single_places, HoldsSingles}
+use Rattle.sector_disk.specs.Disk.{Sector, sector_bytes, DiskFacts, Mixture, IsMixtureBut, IsSynced, LeavesOnly}
+use Rattle.sector_disk.proofs.Moments.{weaken}
+use Rattle.passes.specs.Bytes.{padded}
+use Rattle.passes.specs.Singles.{single_places}
 use Rattle.passes.specs.declared.single.SingleSector.{SingleSector}
-use Rattle.roots.specs.declared.root.Root.{Root}
-use Rattle.roots.specs.declared.version.Version.{Version}
-use Rattle.roots.specs.Entry.{SpellsEntry}
-use Rattle.states.specs.State.{State}
 use Rattle.store.specs.declared.placed_entry.PlacedEntry.{PlacedEntry}
-use Rattle.store.specs.Stands.{AreCatalogued, extents_of, sectors_of, used}
+use Rattle.store.specs.declared.change.Staged.{Staged}
+use Rattle.store.specs.declared.change.Staged.TheVariants.{Nothing, Catalogues, Put}
+use Rattle.store.specs.Stands.{extents_of, sectors_of}
+use Rattle.store.specs.inside.Change.{CanBeStaged, HasBytes, IsStaged, staged_sectors}
 use Rattle.store.specs.inside.Claimed.{IsUsable}
-use Rattle.store.specs.inside.Next.{IsFollowed, IsPut, IsRelisting}
-use Rattle.store.specs.inside.Room.{HavePlaces, HasPlace, IsRootOr}
+use Rattle.store.specs.inside.Room.{HavePlaces, HasPlace}
 use Rattle.store.proofs.CataloguedEntries.{all_singles}
 use Rattle.store.proofs.Counts.{one, occurs, occurs-append, contains_occurs, occurs_contains, distinct_occurs, occurs_distinct}
+use Rattle.store.proofs.Written.{written_stays}
+
+-- what differs in these sectors alone, differs in more of them alone
+among_more : {old new : DiskFacts} (few more : List ℕ) → ((k : ℕ) → Contains few k → Contains more k)
+    → LeavesOnly old new (IsMixtureBut (Contains few) old) → LeavesOnly old new (IsMixtureBut (Contains more) old)
+among_more {old = old} few more among = weaken (IsMixtureBut (Contains few) old) (IsMixtureBut (Contains more) old)
+    (λ m but. (but.0, but.1, record { size = but.2.size; others = λ k other. but.2.others k (λ here. other (among k here)) }))
 
 -- Of bytes, their entry and catalogues.
 module _ {sectors : ℕ} {put : PlacedEntry} {catalogues : List ℕ} (singles : List SingleSector) (extents : List Extent)
@@ -64,36 +70,32 @@ module _ {sectors : ℕ} {put : PlacedEntry} {catalogues : List ℕ} (singles : 
   staged_among : (k : ℕ) → Contains (single_places singles ++ places extents) k → Contains all k
   staged_among k found = occurs_contains k all (omega (arith, parts k, occurs-append k (single_places singles) (places extents), contains_occurs k (single_places singles ++ places extents) found))
 
-  -- so a stop finds all but the entry's sectors, the catalogues and the roots as it might have before
-  pub put_others : {disk : DiskFacts} {m : List Sector} → IsMixtureBut (IsRootOr (single_places singles ++ places extents)) disk m → IsMixtureBut (IsRootOr (sectors_of put ++ catalogues)) disk m
-  put_others but = (but.0, but.1, record { size = but.2.size; others = λ k other. but.2.others k (λ here. other (⊎_elim inl (λ found. inr (staged_among k found)) here)) })
-
-  pub put_behind : (k : ℕ) → Contains (single_places singles ++ places extents) k → root_sectors ≤ k
-  put_behind k found = (All-contains (IsUsable sectors) all k place.inside (staged_among k found)).0
-
-  module _ {version : Version} {before next : Root} {entries others : List PlacedEntry} {s s' : State} {content listed : List ℕ}
-      (is_put : IsPut version before entries s content put catalogues listed next others s') where
-    pub put_unused : (k : ℕ) → Contains (single_places singles ++ places extents) k → Contains (used before entries) k → ⊥
-    put_unused k found there = is_put.unused k (staged_among k found) there
-
-    pub put_followed : ((m : List Sector) → HoldsSingles m singles → SpellsEntry (sector m put.at) put.entry) → ((m : List Sector) → HoldsSingles m singles → AreCatalogued m catalogues listed)
-        → IsFollowed version before entries s (λ m. (bytes_at m (places extents) ≡ padded (sector_bytes * sector_count extents) content) × HoldsSingles m singles) next others s'
-    put_followed spells catalogued = record {
-      stands = λ m by staged. is_put.stands m by (subst (λ l. bytes_at m (places l) ≡ padded (sector_bytes * sector_count l) content) its staged.0) (spells m staged.1) (catalogued m staged.1);
-    }
+  -- so a stop while they are staged changes the entry's sectors and the catalogues alone
+  pub put_moment : {old new : DiskFacts} → LeavesOnly old new (IsMixtureBut (Contains (single_places singles ++ places extents)) old)
+      → LeavesOnly old new (IsMixtureBut (Contains (sectors_of put ++ catalogues)) old)
+  put_moment = among_more (single_places singles ++ places extents) (sectors_of put ++ catalogues) staged_among
 
 -- Of catalogues alone.
 module _ {sectors : ℕ} {catalogues : List ℕ} (singles : List SingleSector) (have : HavePlaces sectors catalogues) (is : single_places singles ≡ catalogues) where
   pub list_inside : All (λ single. single.at < sectors) singles
   list_inside = all_singles (λ k. k < sectors) singles (subst (All (λ k. k < sectors)) (sym is) (λ i d lt. (have.inside i d lt).1))
 
-  listed_among : (k : ℕ) → Contains (single_places singles ++ []) k → Contains catalogues k
-  listed_among k found = subst (λ l. Contains l k) (append-nil (single_places singles) ∙ is) found
+  pub list_moment : {old new : DiskFacts} → LeavesOnly old new (IsMixtureBut (Contains (single_places singles ++ [])) old) → LeavesOnly old new (IsMixtureBut (Contains catalogues) old)
+  list_moment = among_more (single_places singles ++ []) catalogues (λ k found. subst (λ l. Contains l k) (append-nil (single_places singles) ∙ is) found)
 
-  module _ {version : Version} {before next : Root} {entries others : List PlacedEntry} {s s' : State} {listed : List ℕ}
-      (relisting : IsRelisting version before entries s catalogues listed next others s') where
-    pub list_unused : (k : ℕ) → Contains (single_places singles ++ []) k → Contains (used before entries) k → ⊥
-    list_unused k found there = relisting.unused k (listed_among k found) there
+-- What is staged lies behind the roots,
+pub staged_behind : (sectors : ℕ) (staged : Staged) (listed : List ℕ) → CanBeStaged sectors staged listed → (k : ℕ) → Contains (staged_sectors staged) k → root_sectors ≤ k
+staged_behind sectors Nothing listed room k found = omega (arith, found.1)
+staged_behind sectors (Catalogues catalogues) listed room k found = (All-contains (IsUsable sectors) catalogues k room.0.inside found).0
+staged_behind sectors (Put put catalogues) listed room k found = (All-contains (IsUsable sectors) (sectors_of put ++ catalogues) k room.0.inside found).0
 
-    pub list_followed : (Staged : List Sector → Type 0) → ((m : List Sector) → Staged m → AreCatalogued m catalogues listed) → IsFollowed version before entries s Staged next others s'
-    list_followed Staged catalogued = record { stands = λ m by staged. relisting.stands m by (catalogued m staged) }
+-- so the bytes stay once the root is written and synced.
+pub bytes_stay : (sectors : ℕ) (staged : Staged) (listed : List ℕ) → CanBeStaged sectors staged listed → (mid new : DiskFacts) (contents : List ℕ) (at : ℕ) (content : Sector)
+    → at < root_sectors → IsStaged mid.now staged contents listed → IsSynced new → new.now ≡ set mid.now at content → (m : List Sector) → Mixture new m → HasBytes m staged contents
+bytes_stay sectors Nothing listed room mid new contents at content low is synced now m mixture = tt
+bytes_stay sectors (Catalogues catalogues) listed room mid new contents at content low is synced now m mixture = tt
+bytes_stay sectors (Put put catalogues) listed room mid new contents at content low is synced now m mixture =
+    let ks = places (extents_of put.entry) in
+    written_stays mid.now new ks (padded (sector_bytes * sector_count (extents_of put.entry)) contents) at content low
+    (λ k found. staged_behind sectors (Put put catalogues) listed room k (Contains-append_left (sectors_of put) catalogues k (Contains-append_right (put.at ∷ []) ks k found)))
+    is.0 synced now m mixture

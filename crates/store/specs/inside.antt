@@ -1,5 +1,6 @@
 -- What the code keeps as it goes. No public clause cites it, and nobody has to believe it.
 pub mod Catalogues
+pub mod Change
 pub mod Claimed
 pub mod First
 pub mod Found

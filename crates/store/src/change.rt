@@ -1,152 +1,138 @@
 // What a change writes: what is staged in sectors that nothing uses, and the root that follows.
-ghost use Rattle.std.specs.Prelude.{◌≡◌, ◌+◌, ◌*◌, ◌<◌, ◌≤◌, ◌^◌, ◌⊎◌, ◌++◌, List};
-ghost use Rattle.std.specs.Prelude.{[], length, All, AllPairs, Contains, IsTrue, OnOk};
-ghost use Rattle.extents.specs.Extent.{AreDistinct, IsApart, sector_count, places};
+ghost use Rattle.std.specs.Prelude.{◌≡◌, ◌+◌, ◌<◌, ◌≤◌, ◌^◌, ◌⊎◌, List, Contains, IsTrue, OnOk};
 ghost use Rattle.extents.specs.Limits.{root_sectors};
-ghost use Rattle.sector_disk.specs.Disk.{Sector, sector_bytes, Mixture, IsMixtureBut, LeavesOnly};
-ghost use Rattle.passes.specs.Bytes.{IsOnDisk, bytes_at, padded};
+ghost use Rattle.sector_disk.specs.Disk.{Sector, Mixture, IsMixtureBut, LeavesOnly};
 ghost use Rattle.passes.specs.Calls.{AreCallsInRow};
-ghost use Rattle.passes.specs.Singles.{single_places, HoldsSingles};
 ghost use Rattle.roots.specs.declared.root.Root.{Root};
 ghost use Rattle.roots.specs.declared.version.Version.{Version};
 ghost use Rattle.roots.specs.declared.version.Version.TheVariants.{Two};
 ghost use Rattle.roots.specs.Root.{RootHasSpelling};
 ghost use Rattle.states.specs.State.{State};
 ghost use Rattle.store.specs.declared.placed_entry.PlacedEntry.{PlacedEntry};
-ghost use Rattle.store.specs.Stands.{StandsBy, StandsAs, Stands, used};
-ghost use Rattle.store.specs.inside.Catalogues.{CanBeCatalogued};
-ghost use Rattle.store.specs.inside.Next.{IsFollowed, IsRelisting};
-ghost use Rattle.store.specs.inside.Room.{HavePlaces, IsRootOr};
+ghost use Rattle.store.specs.Stands.{StandsBy, StandsAs, Stands};
+ghost use Rattle.store.specs.inside.Change.{CanBeStaged, HasBytes, HasSpelling, IsFollowed};
+ghost use Rattle.store.specs.inside.Change.{IsStaged, staged_calls, staged_sectors};
+ghost use Rattle.store.specs.inside.Room.{AreHeld, IsReleased, IsRootOr};
 
 use crate::catalogues::Singles;
-use extents::Extent;
-use passes::{SingleSector, commit, stage};
+use crate::placed_entry::PlacedEntry;
+use crate::room::{CatalogueSectors, give_back_room, release_sectors};
+use extents::Layout;
+use passes::{commit, stage};
 use roots::{Root, encode_root, slot_of};
 use sector_disk::{Disk, DiskFault};
 
-/// Writes bytes into their extents and each single sector and syncs, and then the root, and syncs.
-/// The root may follow one of either version.
-pub(crate) fn write_change<D: Disk>(
-    disk: &mut D,
-    extents: &[Extent],
-    bytes: &[u8],
-    singles: &[SingleSector],
-    root: &Root,
-) -> Result<(), DiskFault>
-    requires root { RootHasSpelling root.now }
-    requires fits { (D.facts disk.old).sectors < 2 ^ 32 }
-    requires roots { root_sectors ≤ (D.facts disk.old).sectors }
-    requires inside { All (IsOnDisk (D.facts disk.old).sectors) extents.now }
-    requires apart { AllPairs IsApart extents.now }
-    requires room { All (λ single. single.at < (D.facts disk.old).sectors) singles.now }
-    requires once { AreDistinct (single_places singles.now) }
-    requires elsewhere { (k : _) → Contains (single_places singles.now) k
-        → Contains (places extents.now) k → ⊥ }
-    requires behind { (k : _) → Contains (single_places singles.now ++ places extents.now) k
-        → root_sectors ≤ k }
-    ensures calls { AreCallsInRow (sector_count extents.now + length singles.now + 3)
-        (D.facts disk.old) (D.facts disk.new) result }
-    ensures any_moment { IsTrue (D.facts disk.old).honest
-        → (version : Version) → (before : Root) → (entries : List PlacedEntry) → (s : State)
-        → (others : List PlacedEntry) → (s' : State)
-        → ((m : List Sector) → Mixture (D.facts disk.old) m → StandsBy version m before entries s)
-        → ((k : _) → Contains (single_places singles.now ++ places extents.now) k
-        → Contains (used before entries) k → ⊥)
-        → IsFollowed version before entries s (λ m. (bytes_at m (places extents.now)
-        ≡ padded (sector_bytes * sector_count extents.now) bytes.now)
-        × HoldsSingles m singles.now) root.now others s'
-        → LeavesOnly (D.facts disk.old) (D.facts disk.new)
-        (λ m. StandsAs version m s ⊎ Stands m s') }
-    ensures done { IsTrue (D.facts disk.old).honest
-        → (version : Version) → (before : Root) → (entries : List PlacedEntry) → (s : State)
-        → (others : List PlacedEntry) → (s' : State)
-        → ((m : List Sector) → Mixture (D.facts disk.old) m → StandsBy version m before entries s)
-        → ((k : _) → Contains (single_places singles.now ++ places extents.now) k
-        → Contains (used before entries) k → ⊥)
-        → IsFollowed version before entries s (λ m. (bytes_at m (places extents.now)
-        ≡ padded (sector_bytes * sector_count extents.now) bytes.now)
-        × HoldsSingles m singles.now) root.now others s'
-        → OnOk result ((m : List Sector) → Mixture (D.facts disk.new) m
-        → StandsBy Two m root.now others s') }
-    ensures written { IsTrue (D.facts disk.old).honest
-        → OnOk result ((m : List Sector) → Mixture (D.facts disk.new) m
-        → bytes_at m (places extents.now)
-        ≡ padded (sector_bytes * sector_count extents.now) bytes.now) }
-
-    // A stop finds each other sector as it might have been found before.
-    ensures others { IsTrue (D.facts disk.old).honest
-        → (m : List Sector) → Mixture (D.facts disk.new) m
-        → IsMixtureBut (IsRootOr (single_places singles.now ++ places extents.now))
-        (D.facts disk.old) m }
-{
-    stage(disk, extents, bytes, singles)?;
-    commit(disk, slot_of(root.generation), &encode_root(root))
+/// What a change stages in sectors that nothing uses.
+#[derive(Drop)]
+pub(crate) enum Staged {
+    /// Nothing: what its root lists stands already.
+    Nothing,
+    /// The catalogues of its list.
+    Catalogues(CatalogueSectors),
+    /// A byte string with its entry, and the catalogues of the list with it.
+    Put(PlacedEntry, CatalogueSectors),
 }
 
-/// Writes the catalogues of a list and syncs, and then the root, and syncs. The root may follow one
-/// of either version.
-pub(crate) fn write_list<D: Disk>(
+/// A change that is planned: what it stages, and the root that follows.
+#[derive(Drop)]
+pub(crate) struct Change {
+    pub staged: Staged,
+    pub root: Root,
+}
+
+/// Writes what a change stages, and syncs if that is anything.
+fn write_staged<D: Disk>(
     disk: &mut D,
     singles: &mut Singles,
-    catalogues: &[u32],
-    sectors: &[u32],
-    root: &Root,
+    staged: &Staged,
+    bytes: &[u8],
+    listed: &[u32],
 ) -> Result<(), DiskFault>
-    requires root { RootHasSpelling root.now }
     requires fits { (D.facts disk.old).sectors < 2 ^ 32 }
-    requires roots { root_sectors ≤ (D.facts disk.old).sectors }
-    requires places { HavePlaces (D.facts disk.old).sectors catalogues.now }
-    requires listed { CanBeCatalogued (length catalogues.now) sectors.now }
-    ensures calls { AreCallsInRow (length catalogues.now + 3)
+    requires room { CanBeStaged (D.facts disk.old).sectors staged.now listed.now }
+    ensures calls { AreCallsInRow (staged_calls staged.now)
         (D.facts disk.old) (D.facts disk.new) result }
-    ensures any_moment { IsTrue (D.facts disk.old).honest
-        → (version : Version) → (before : Root) → (entries : List PlacedEntry) → (s : State)
-        → (others : List PlacedEntry) → (s' : State)
-        → ((m : List Sector) → Mixture (D.facts disk.old) m → StandsBy version m before entries s)
-        → IsRelisting version before entries s catalogues.now sectors.now root.now others s'
-        → LeavesOnly (D.facts disk.old) (D.facts disk.new)
-        (λ m. StandsAs version m s ⊎ Stands m s') }
-    ensures done { IsTrue (D.facts disk.old).honest
-        → (version : Version) → (before : Root) → (entries : List PlacedEntry) → (s : State)
-        → (others : List PlacedEntry) → (s' : State)
-        → ((m : List Sector) → Mixture (D.facts disk.old) m → StandsBy version m before entries s)
-        → IsRelisting version before entries s catalogues.now sectors.now root.now others s'
-        → OnOk result ((m : List Sector) → Mixture (D.facts disk.new) m
-        → StandsBy Two m root.now others s') }
 
-    // A stop finds each other sector as it might have been found before.
-    ensures others { IsTrue (D.facts disk.old).honest
-        → (m : List Sector) → Mixture (D.facts disk.new) m
-        → IsMixtureBut (IsRootOr catalogues.now) (D.facts disk.old) m }
+    // A stop at any moment changes the staged sectors alone.
+    ensures any_moment { IsTrue (D.facts disk.old).honest
+        → LeavesOnly (D.facts disk.old) (D.facts disk.new)
+        (IsMixtureBut (Contains (staged_sectors staged.now)) (D.facts disk.old)) }
+    ensures staged { IsTrue (D.facts disk.old).honest
+        → OnOk result ((m : List Sector) → Mixture (D.facts disk.new) m
+        → IsStaged m staged.now bytes.now listed.now) }
 {
-    singles.set_catalogues(catalogues, sectors);
-    write_change(disk, &[], &[], singles.as_slice(), root)
+    match staged {
+        Staged::Nothing => Ok(()),
+        Staged::Catalogues(catalogues) => {
+            singles.set_catalogues(catalogues.as_slice(), listed);
+            stage(disk, &[], &[], singles.as_slice())
+        }
+        Staged::Put(put, catalogues) => {
+            singles.set_put(put, catalogues.as_slice(), listed);
+            stage(disk, put.entry.file_extents(), bytes, singles.as_slice())
+        }
+    }
 }
 
-/// Writes a root, which lists what stands already, and syncs.
-pub(crate) fn write_root<D: Disk>(disk: &mut D, root: &Root) -> Result<(), DiskFault>
-    requires root { RootHasSpelling root.now }
-    requires roots { root_sectors ≤ (D.facts disk.old).sectors }
-    ensures calls { AreCallsInRow 2 (D.facts disk.old) (D.facts disk.new) result }
-    ensures any_moment { IsTrue (D.facts disk.old).honest
-        → (version : Version) → (before : Root) → (entries : List PlacedEntry) → (s : State)
-        → (others : List PlacedEntry) → (s' : State)
-        → ((m : List Sector) → Mixture (D.facts disk.old) m → StandsBy version m before entries s)
-        → IsFollowed version before entries s (λ m. Unit) root.now others s'
-        → LeavesOnly (D.facts disk.old) (D.facts disk.new)
-        (λ m. StandsAs version m s ⊎ Stands m s') }
-    ensures done { IsTrue (D.facts disk.old).honest
-        → (version : Version) → (before : Root) → (entries : List PlacedEntry) → (s : State)
-        → (others : List PlacedEntry) → (s' : State)
-        → ((m : List Sector) → Mixture (D.facts disk.old) m → StandsBy version m before entries s)
-        → IsFollowed version before entries s (λ m. Unit) root.now others s'
-        → OnOk result ((m : List Sector) → Mixture (D.facts disk.new) m
-        → StandsBy Two m root.now others s') }
+impl Change {
+    /// Writes what it stages, with these bytes and the sectors of the entries that its catalogues
+    /// list, and then its root, and syncs. The root may follow one of either version.
+    pub(crate) fn carry_out<D: Disk>(
+        &self,
+        disk: &mut D,
+        singles: &mut Singles,
+        bytes: &[u8],
+        listed: &[u32],
+    ) -> Result<(), DiskFault>
+        requires root { RootHasSpelling self.now.root }
+        requires fits { (D.facts disk.old).sectors < 2 ^ 32 }
+        requires roots { root_sectors ≤ (D.facts disk.old).sectors }
+        requires room { CanBeStaged (D.facts disk.old).sectors self.now.staged listed.now }
+        ensures calls { AreCallsInRow (staged_calls self.now.staged + 2)
+            (D.facts disk.old) (D.facts disk.new) result }
+        ensures any_moment { IsTrue (D.facts disk.old).honest
+            → (version : Version) → (before : Root) → (entries : List PlacedEntry) → (s : State)
+            → (others : List PlacedEntry) → (s' : State)
+            → ((m : List Sector) → Mixture (D.facts disk.old) m
+            → StandsBy version m before entries s)
+            → IsFollowed version before entries s self.now bytes.now listed.now others s'
+            → LeavesOnly (D.facts disk.old) (D.facts disk.new)
+            (λ m. StandsAs version m s ⊎ Stands m s') }
+        ensures done { IsTrue (D.facts disk.old).honest
+            → (version : Version) → (before : Root) → (entries : List PlacedEntry) → (s : State)
+            → (others : List PlacedEntry) → (s' : State)
+            → ((m : List Sector) → Mixture (D.facts disk.old) m
+            → StandsBy version m before entries s)
+            → IsFollowed version before entries s self.now bytes.now listed.now others s'
+            → OnOk result ((m : List Sector) → Mixture (D.facts disk.new) m
+            → StandsBy Two m self.now.root others s') }
+        ensures written { IsTrue (D.facts disk.old).honest
+            → OnOk result ((m : List Sector) → Mixture (D.facts disk.new) m
+            → HasBytes m self.now.staged bytes.now) }
 
-    // A stop finds each other sector as it might have been found before.
-    ensures others { IsTrue (D.facts disk.old).honest
-        → (m : List Sector) → Mixture (D.facts disk.new) m
-        → IsMixtureBut (IsRootOr []) (D.facts disk.old) m }
-{
-    commit(disk, slot_of(root.generation), &encode_root(root))
+        // A stop finds each other sector as it might have been found before.
+        ensures others { IsTrue (D.facts disk.old).honest
+            → (m : List Sector) → Mixture (D.facts disk.new) m
+            → IsMixtureBut (IsRootOr (staged_sectors self.now.staged)) (D.facts disk.old) m }
+    {
+        write_staged(disk, singles, &self.staged, bytes, listed)?;
+        commit(
+            disk,
+            slot_of(self.root.generation),
+            &encode_root(&self.root),
+        )
+    }
+
+    /// Frees the sectors that it took.
+    pub(crate) fn give_back(&self, layout: &mut Layout)
+        requires fits { HasSpelling self.now.staged }
+        requires held { AreHeld layout.old (staged_sectors self.now.staged) }
+        ensures { IsReleased layout.old layout.new (staged_sectors self.now.staged) }
+    {
+        match &self.staged {
+            Staged::Nothing => {}
+            Staged::Catalogues(catalogues) => release_sectors(layout, catalogues.as_slice()),
+            Staged::Put(put, catalogues) => give_back_room(layout, put, catalogues.as_slice()),
+        }
+    }
 }

@@ -1,5 +1,5 @@
 // Committing what was found on a disk of version 1 as one of version 2.
-use crate::change::write_list;
+use crate::change::{Change, Staged};
 use crate::next::next_root;
 use crate::old_store::OldStore;
 use crate::refusal::StoreRefusal;
@@ -64,11 +64,14 @@ impl<D: Disk> OldStore<D> {
             return Err((StoreRefusal::Full, disk));
         }
         let taken = take_catalogues(&mut found.layout, count);
-        let listed = taken.as_slice();
-        let root = next_root(&found.root, libraries, listed);
-        match write_list(&mut disk, &mut found.singles, listed, &found.sectors, &root) {
+        let root = next_root(&found.root, libraries, taken.as_slice());
+        let change = Change {
+            staged: Staged::Catalogues(taken),
+            root,
+        };
+        match change.carry_out(&mut disk, &mut found.singles, &[], &found.sectors) {
             Ok(()) => {
-                found.root = root;
+                found.root = change.root;
                 Ok(found.beside(alloc, disk))
             }
             Err(fault) => Err((StoreRefusal::from(fault), disk)),

@@ -1,9 +1,9 @@
 // Taking out a byte string.
-use crate::change::write_list;
+use crate::change::{Change, Staged};
 use crate::listed::catalogues;
 use crate::next::root_without;
 use crate::refusal::StoreRefusal;
-use crate::room::{give_up, release_sectors, take_catalogues};
+use crate::room::{give_up, take_catalogues};
 use crate::store::Store;
 use roots::catalogues_for;
 use sector_disk::Disk;
@@ -60,17 +60,15 @@ impl<D: Disk> Store<D> {
         let libraries = self.entries.len() - 1;
         let taken = take_catalogues(&mut self.layout, catalogues_for(libraries));
         self.sectors.remove(position);
-        let listed = taken.as_slice();
-        let root = root_without(&self.root, libraries, listed, position);
+        let root = root_without(&self.root, libraries, taken.as_slice(), position);
+        let change = Change {
+            staged: Staged::Catalogues(taken),
+            root,
+        };
         self.failed = true;
-        if let Err(fault) = write_list(
-            &mut self.disk,
-            &mut self.singles,
-            listed,
-            &self.sectors,
-            &root,
-        ) {
-            release_sectors(&mut self.layout, listed);
+        let written = change.carry_out(&mut self.disk, &mut self.singles, &[], &self.sectors);
+        if let Err(fault) = written {
+            change.give_back(&mut self.layout);
             return Err(StoreRefusal::from(fault));
         }
         give_up(
@@ -81,7 +79,7 @@ impl<D: Disk> Store<D> {
         );
         self.index.remove(&self.entries, position);
         self.entries.remove(position);
-        self.root = root;
+        self.root = change.root;
         self.failed = false;
         Ok(())
     }

@@ -1,3 +1,10 @@
+// Holding versions of byte strings: what is held is read as it was, whatever is put over it.
+use crate::read::read_file;
+use crate::refusal::StoreRefusal;
+use crate::room::give_back;
+use crate::store::Store;
+use sector_disk::Disk;
+use std::alloc::Global;
 use std::marker::Model;
 
 /// A holder's right to read a version of a byte string, until it gives the handle to
@@ -15,4 +22,69 @@ impl Model for Held {
     ghost Value = { ℕ };
 
     ghost view = { λ held. held.at };
+}
+
+impl<D: Disk> Store<D> {
+    ghost use Rattle.std.specs.Prelude.{◌≡◌, ◌<◌, ◌↔◌, IsNone, IfSome, length};
+    ghost use Rattle.store.specs.declared.placed_entry.PlacedEntry.{PlacedEntry};
+    ghost use Rattle.store.specs.Held.{IsHeldBy, holders_of};
+    ghost use Rattle.store.specs.Holding.{Holds, LetsGo, ReadsHeld};
+    ghost use Rattle.store.specs.Stands.{name_of};
+
+    /// Holds the byte string at this position as it is now. It makes no call of the disk, and
+    /// copies none of its bytes. The first holder of a version takes memory, for all that follows
+    /// of it.
+    pub fn hold(&mut self, position: usize) -> Result<Held, StoreRefusal>
+        requires { position < length self.old.entries }
+        ensures { Holds D.facts self.old self.new position result }
+    {
+        if self.failed {
+            return Err(StoreRefusal::Reopen);
+        }
+        let placed = &self.entries[position];
+        self.held.hold(placed)?;
+        Ok(Held { at: placed.at })
+    }
+
+    /// The name of the version that is held, found by hashing; None where nobody holds it here. It
+    /// makes no call of the disk.
+    pub fn held_name(&self, held: &Held) -> Option<&[u8]>
+        ensures none { IsNone result ↔ (holders_of self.now.held held.now ≡ 0) }
+        ensures some { IfSome result (λ name. (placed : PlacedEntry)
+            → IsHeldBy self.now.held held.now placed → name.now ≡ name_of placed.entry) }
+    {
+        let placed = self.held.placed(held.at)?;
+        Some(placed.entry.name_bytes())
+    }
+
+    /// The byte string that is held. It reads each of its sectors once, and writes nothing.
+    /// Damaged, without a call of the disk, where nobody holds it here: the handle is another
+    /// store's, or from before the same disk was opened again. A handle is the sector of its entry:
+    /// where somebody holds a version here whose entry has the same sector, that one is read.
+    pub fn read_held(&mut self, alloc: Global, held: &Held) -> Result<Vec<u8>, StoreRefusal>
+        ensures { ReadsHeld D.facts self.old self.new held.now result }
+    {
+        if self.failed {
+            return Err(StoreRefusal::Reopen);
+        }
+        let Some(placed) = self.held.placed(held.at) else {
+            return Err(StoreRefusal::Damaged);
+        };
+        read_file(alloc, &mut self.disk, placed)
+    }
+
+    /// Lets a version go. Where this was its last holder and the state lists it no longer, its
+    /// sectors are free. It makes no call of the disk and takes no memory, also after S2; and it
+    /// does nothing where nobody holds the version here. A handle of another store, or from before
+    /// the disk was opened again, is taken as `read_held` takes it.
+    pub fn let_go(&mut self, held: Held)
+        ensures { LetsGo D.facts self.old self.new held }
+    {
+        let Held { at } = held;
+        if let Some(version) = self.held.let_go(at) {
+            if !version.listed {
+                give_back(&mut self.layout, &version.placed);
+            }
+        }
+    }
 }

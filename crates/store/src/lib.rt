@@ -18,7 +18,6 @@ mod found;
 mod free_space;
 mod held;
 mod held_versions;
-mod hold;
 mod holding;
 mod listed;
 mod look;

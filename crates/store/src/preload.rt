@@ -1,4 +1,4 @@
-use crate::change::write_root;
+use crate::change::{Change, Staged};
 use crate::next::with_preloads;
 use crate::refusal::StoreRefusal;
 use crate::store::Store;
@@ -50,10 +50,13 @@ impl<D: Disk> Store<D> {
         if self.root.generation == u64::MAX {
             return Err(StoreRefusal::GenerationEnd);
         }
-        let root = with_preloads(&self.root, positions);
+        let change = Change {
+            staged: Staged::Nothing,
+            root: with_preloads(&self.root, positions),
+        };
         self.failed = true;
-        write_root(&mut self.disk, &root)?;
-        self.root = root;
+        change.carry_out(&mut self.disk, &mut self.singles, &[], &[])?;
+        self.root = change.root;
         self.failed = false;
         Ok(())
     }

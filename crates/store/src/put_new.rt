@@ -1,9 +1,10 @@
 // Putting a byte string behind the others.
+use crate::change::{Change, Staged};
 use crate::listed::catalogues;
 use crate::next::{next_root, push_sector};
-use crate::put::{new_entry, sector_need, write_put};
+use crate::put::{new_entry, sector_need};
 use crate::refusal::StoreRefusal;
-use crate::room::{give_back_room, release_sectors, take_room};
+use crate::room::{release_sectors, take_room};
 use crate::store::Store;
 use roots::{MOST_LIBRARIES, catalogues_for};
 use sector_disk::Disk;
@@ -70,19 +71,15 @@ impl<D: Disk> Store<D> {
         let room = take_room(&mut self.layout, sector_need(bytes), count, spare)?;
         let put = new_entry(name, bytes, &room);
         push_sector(&mut self.sectors, put.at);
-        let listed = room.catalogues.as_slice();
-        let root = next_root(&self.root, libraries, listed);
+        let root = next_root(&self.root, libraries, room.catalogues.as_slice());
+        let change = Change {
+            staged: Staged::Put(put, room.catalogues),
+            root,
+        };
         self.failed = true;
-        if let Err(fault) = write_put(
-            &mut self.disk,
-            &mut self.singles,
-            &put,
-            bytes,
-            listed,
-            &self.sectors,
-            &root,
-        ) {
-            give_back_room(&mut self.layout, &put, listed);
+        let written = change.carry_out(&mut self.disk, &mut self.singles, bytes, &self.sectors);
+        if let Err(fault) = written {
+            change.give_back(&mut self.layout);
             return Err(StoreRefusal::from(fault));
         }
         release_sectors(&mut self.layout, catalogues(&self.root));
@@ -91,7 +88,7 @@ impl<D: Disk> Store<D> {
             Ok(()) => {}
             Err(_) => unreachable!(),
         }
-        self.root = root;
+        self.root = change.root;
         self.failed = false;
         Ok(())
     }

@@ -2,7 +2,6 @@ use Rattle.std.proofs.Common.{◌≡◌, ◌≢◌, ◌⊎◌, ⊎_elim, ◌↔�
 use Rattle.std.proofs.lemmas.Bool.{cases_lt}
 use Rattle.sector_disk.specs.Disk.{LeavesOnly, Mixture}
 use Rattle.states.specs.Cost.{catalogues_for, taken_by}
-use Rattle.store.specs.inside.Claimed.{IsClaimedBeside}
 use Rattle.roots.specs.Root.{listed_preloads}
 use Rattle.roots.specs.declared.version.Version.TheVariants.{One, Two}
 use Rattle.sector_disk.proofs.Mixtures.{whole_mixture}
@@ -17,85 +16,90 @@ use Rattle.store.specs.Stands.{Stands, StandsBy, StandsOld, catalogues_of, entry
 use Rattle.store.specs.Taken.{AreTaken}
 use Rattle.store.specs.Upgraded.{upgraded}
 use Rattle.store.specs.inside.Catalogues.{CanBeCatalogued}
-use Rattle.store.specs.inside.Next.{IsRelisting, next_root}
+use Rattle.store.specs.declared.change.Staged.TheVariants.{Catalogues}
+use Rattle.store.specs.declared.change.Change.{Change}
+use Rattle.store.specs.inside.Change.{IsFollowed}
+use Rattle.store.specs.inside.Next.{next_root}
 use Rattle.store.specs.inside.Room.{HavePlaces}
 use Rattle.store.proofs.Anew.{more_inside, more_once, moved_claimed, moved_size, released_nothing}
 use Rattle.store.proofs.Beside.{in_use_alone}
 use Rattle.store.proofs.CataloguedEntries.{can_be_catalogued}
 use Rattle.store.proofs.Frees.{old_free_is, upgrade_full, upgrade_accepted}
 use Rattle.store.proofs.Following.{following_fits, following_kept, next_version}
-use Rattle.store.proofs.Relistings.{IsRelist, relist_next, relist_moved, relist_room, relist_taken, relisting}
+use Rattle.store.proofs.Relistings.{IsRelist, relist_next, relist_moved, relist_room, relist_taken, relist_followed}
 use Rattle.store.proofs.old_store.OldStore.commit.Given as given
-use Rattle.store.proofs.old_store.OldStore.commit.Goals.{After-free_count, After-next_root-root, After-write_list}
+use Rattle.store.proofs.old_store.OldStore.commit.Goals.{After-free_count, After-next_root-root, After-carry_out}
 use Rattle.store.proofs.old_store.OldStore.commit.Goals as goal
 
 -- the next root lists the same entries by the catalogues that were taken
 relisted : (g : given.Over) (c : After-next_root-root g)
     → IsRelist c.self.inside.found.root c.self.inside.found.entries.items [] c.self.inside.found.layout c.take_catalogues-taken.new.layout
-    c.as_slice-listed.result.now c.next_root-root.result
+    c.take_catalogues-taken.result c.next_root-root.result
 relisted g c =
     let kept = c.self.invariant.0.kept in
-    let cats = c.as_slice-listed.ensures.value in
     let count : c.len-libraries.result ≡ length c.self.inside.found.entries.items = omega (arith, c.len-libraries.ensures) in
     record {
       kept = kept;
       one = c.self.invariant.2;
-      claimed = subst (λ l. IsClaimedBeside c.self.inside.found.layout c.take_catalogues-taken.new.layout l) (sym cats) c.take_catalogues-taken.ensures.claimed;
-      enough = omega (arith, ap length cats, c.take_catalogues-taken.ensures.count, c.catalogues_for-count.ensures, ap catalogues_for count);
+      claimed = c.take_catalogues-taken.ensures.claimed;
+      enough = omega (arith, c.take_catalogues-taken.ensures.count, c.catalogues_for-count.ensures, ap catalogues_for count);
       free = omega (arith, c.if-free_count-count.false, c.free_count.ensures.value, c.catalogues_for-count.ensures, ap catalogues_for count);
       later = omega (arith, c.if-found.false, kept.root_fits.generation);
-      is_next = c.next_root-root.ensures ∙ ap (λ n. next_root c.self.inside.found.root n c.as_slice-listed.result.now (listed_preloads c.self.inside.found.root)) count;
+      is_next = c.next_root-root.ensures
+          ∙ ap (λ n. next_root c.self.inside.found.root n c.as_slice.result.now (listed_preloads c.self.inside.found.root)) count
+          ∙ ap (λ l. next_root c.self.inside.found.root (length c.self.inside.found.entries.items) l (listed_preloads c.self.inside.found.root)) c.as_slice.ensures.value;
     }
 
 -- and these list the entries' sectors
 sectors_are : (g : given.Over) (c : After-next_root-root g) → c.self.inside.found.sectors.items ≡ entry_sectors c.self.inside.found.entries.items
 sectors_are g c = c.self.invariant.0.listed
 
-following : (g : given.Over) (c : After-next_root-root g) (s : State) (sectors : List ℕ) → sectors ≡ c.self.inside.found.sectors.items
-    → IsRelisting One c.self.inside.found.root c.self.inside.found.entries.items s c.as_slice-listed.result.now sectors c.next_root-root.result c.self.inside.found.entries.items (upgraded s)
-following g c s sectors are =
-    subst (λ l. IsRelisting One c.self.inside.found.root c.self.inside.found.entries.items s c.as_slice-listed.result.now l c.next_root-root.result
-    c.self.inside.found.entries.items (upgraded s)) (sym (are ∙ sectors_are g c)) (relisting (relisted g c) s)
+abbrev change : (g : given.Over) (c : After-next_root-root g) → Change
+change g c = record { staged = Catalogues c.take_catalogues-taken.result; root = c.next_root-root.result }
 
-pub write_list-requires-clause-root : goal.write_list-requires-clause-root
-write_list-requires-clause-root g c =
-    following_fits (relist_next (relisted g (goal.at.write_list-requires-clause-root g c).After-next_root-root)) c.self.invariant.0.kept.root_fits
+following : (g : given.Over) (c : After-next_root-root g) (s : State) (bytes sectors : List ℕ) → sectors ≡ c.self.inside.found.sectors.items
+    → IsFollowed One c.self.inside.found.root c.self.inside.found.entries.items s (change g c) bytes sectors c.self.inside.found.entries.items (upgraded s)
+following g c s bytes sectors are =
+    subst (λ l. IsFollowed One c.self.inside.found.root c.self.inside.found.entries.items s (change g c) bytes l c.self.inside.found.entries.items (upgraded s))
+    (sym (are ∙ sectors_are g c)) (relist_followed (relisted g c) s bytes)
 
-pub write_list-requires-clause-places : goal.write_list-requires-clause-places
-write_list-requires-clause-places g c =
-    let is = relisted g (goal.at.write_list-requires-clause-places g c).After-next_root-root in
-    subst (λ n. HavePlaces n c.as_slice-listed.result.now) (sym c.self.invariant.1) (record { inside = more_inside is.kept is.claimed; once = more_once is.kept is.claimed })
+pub carry_out-requires-clause-root : goal.carry_out-requires-clause-root
+carry_out-requires-clause-root g c =
+    following_fits (relist_next (relisted g (goal.at.carry_out-requires-clause-root g c).After-next_root-root)) c.self.invariant.0.kept.root_fits
 
-pub write_list-requires-clause-listed : goal.write_list-requires-clause-listed
-write_list-requires-clause-listed g c =
-    let before = (goal.at.write_list-requires-clause-listed g c).After-next_root-root in
+pub carry_out-requires-clause-room : goal.carry_out-requires-clause-room
+carry_out-requires-clause-room g c =
+    let before = (goal.at.carry_out-requires-clause-room g c).After-next_root-root in
     let is = relisted g before in
     let next = relist_next is in
-    subst (CanBeCatalogued (length c.as_slice-listed.result.now)) (sym (c.deref.ensures.value ∙ sectors_are g before))
-    (can_be_catalogued c.self.inside.found.root.sectors (length c.as_slice-listed.result.now) c.next_root-root.result c.self.inside.found.entries.items
-    (omega (arith, is.kept.root_fits.sectors)) is.enough next.few next.apart)
+    let taken = c.take_catalogues-taken.result in (
+      subst (λ n. HavePlaces n taken) (sym c.self.invariant.1) (record { inside = more_inside is.kept is.claimed; once = more_once is.kept is.claimed }),
+      subst (CanBeCatalogued (length taken)) (sym (c.deref.ensures.value ∙ sectors_are g before))
+          (can_be_catalogued c.self.inside.found.root.sectors (length taken) c.next_root-root.result c.self.inside.found.entries.items
+          (omega (arith, is.kept.root_fits.sectors)) is.enough next.few next.apart),
+    )
 
 -- a stop leaves the state from before or the one after
-leaves : (g : given.Over) (c : After-write_list g) (s : State)
-    → IsRelisting One c.self.inside.found.root c.self.inside.found.entries.items s c.as_slice-listed.result.now c.deref.result.now c.next_root-root.result
-    c.self.inside.found.entries.items (upgraded s)
-    → IsOldAt g.D.Disk.facts c.args.self s → LeavesOnly (g.D.Disk.facts c.args.self.disk) (g.D.Disk.facts c.write_list.new.disk) (λ m. StandsOld m s ⊎ Stands m (upgraded s))
+leaves : (g : given.Over) (c : After-carry_out g) (s : State)
+    → IsFollowed One c.self.inside.found.root c.self.inside.found.entries.items s (record { staged = Catalogues c.take_catalogues-taken.result; root = c.next_root-root.result })
+    [] c.deref.result.now c.self.inside.found.entries.items (upgraded s)
+    → IsOldAt g.D.Disk.facts c.args.self s → LeavesOnly (g.D.Disk.facts c.args.self.disk) (g.D.Disk.facts c.carry_out.new.disk) (λ m. StandsOld m s ⊎ Stands m (upgraded s))
 leaves g c s is at_entry =
     let at = subst (λ store. IsOldAt g.D.Disk.facts store s) (sym c.self.view_is) at_entry in
-    subst (λ store. LeavesOnly (g.D.Disk.facts store.disk) (g.D.Disk.facts c.write_list.new.disk) (λ m. StandsOld m s ⊎ Stands m (upgraded s))) c.self.view_is
-    (c.write_list.ensures.any_moment at.honest One c.self.inside.found.root c.self.inside.found.entries.items s c.self.inside.found.entries.items
+    subst (λ store. LeavesOnly (g.D.Disk.facts store.disk) (g.D.Disk.facts c.carry_out.new.disk) (λ m. StandsOld m s ⊎ Stands m (upgraded s))) c.self.view_is
+    (c.carry_out.ensures.any_moment at.honest One c.self.inside.found.root c.self.inside.found.entries.items s c.self.inside.found.entries.items
     (upgraded s) at.stands is)
 
 pub returns-in-Err-clause-any_moment : goal.returns-in-Err-clause-any_moment
 returns-in-Err-clause-any_moment g c s at =
     let here = goal.at.returns-in-Err-clause-any_moment g c in
-    leaves g here.After-write_list s (following g here.After-next_root-root s c.deref.result.now c.deref.ensures.value) at
+    leaves g here.After-carry_out s (following g here.After-next_root-root s [] c.deref.result.now c.deref.ensures.value) at
 
 pub returns-in-Ok-clause-any_moment : goal.returns-in-Ok-clause-any_moment
 returns-in-Ok-clause-any_moment g c s at =
     let here = goal.at.returns-in-Ok-clause-any_moment g c in
     subst (λ d. LeavesOnly (g.D.Disk.facts c.args.self.disk) (g.D.Disk.facts d) (λ m. StandsOld m s ⊎ Stands m (upgraded s))) (sym c.beside.ensures.disk)
-    (leaves g here.After-write_list s (following g here.After-next_root-root s c.deref.result.now c.deref.ensures.value) at)
+    (leaves g here.After-carry_out s (following g here.After-next_root-root s [] c.deref.result.now c.deref.ensures.value) at)
 
 pub beside-requires-clause-found : goal.beside-requires-clause-found
 beside-requires-clause-found g c =
@@ -114,7 +118,7 @@ beside-requires-clause-found g c =
     }
 
 pub beside-requires-clause-sectors : goal.beside-requires-clause-sectors
-beside-requires-clause-sectors g c = c.write_list.ensures.calls.sectors ∙ c.self.invariant.1 ∙ sym (ap (λ r. r.sectors) c.next_root-root.ensures)
+beside-requires-clause-sectors g c = c.carry_out.ensures.calls.sectors ∙ c.self.invariant.1 ∙ sym (ap (λ r. r.sectors) c.next_root-root.ensures)
 
 pub beside-requires-clause-version : goal.beside-requires-clause-version
 beside-requires-clause-version g c =
@@ -128,9 +132,9 @@ returns-in-Ok-clause-ok g c s at_entry =
     let before = (goal.at.returns-in-Ok-clause-ok g c).After-next_root-root in
     let next = c.next_root-root.result in
     let entries = c.self.inside.found.entries.items in
-    let done = c.in-Ok.ensures.done at.honest One c.self.inside.found.root entries s entries (upgraded s) at.stands (following g before s c.deref.result.now c.deref.ensures.value) in
+    let done = c.in-Ok.ensures.done at.honest One c.self.inside.found.root entries s entries (upgraded s) at.stands (following g before s [] c.deref.result.now c.deref.ensures.value) in
     record {
-      honest = subst (λ d. IsTrue (facts d).honest) (sym c.beside.ensures.disk) (subst IsTrue (sym c.write_list.ensures.calls.honest) at.honest);
+      honest = subst (λ d. IsTrue (facts d).honest) (sym c.beside.ensures.disk) (subst IsTrue (sym c.carry_out.ensures.calls.honest) at.honest);
       usable = c.beside.ensures.usable;
       stands = λ m mixture. subst (λ r. StandsBy Two m r c.beside.result.entries (upgraded s)) (sym c.beside.ensures.root)
           (subst (λ l. StandsBy Two m next l (upgraded s)) (sym c.beside.ensures.entries) (done m (subst (λ d. Mixture (facts d) m) c.beside.ensures.disk mixture)));
@@ -186,8 +190,7 @@ returns-in-Ok-clause-placed g c =
     let is = relisted g (goal.at.returns-in-Ok-clause-placed g c).After-next_root-root in
     let root = c.self.inside.found.root in
     let entries = c.self.inside.found.entries.items in
-    let taken = subst (AreTaken c.self.inside.found.layout) (sym c.as_slice-listed.ensures.value) c.take_catalogues-taken.ensures.taken in
-    let all = subst (λ l. AreTaken (layout_of root.sectors l) (catalogues_of c.next_root-root.result)) (in_use_alone root entries [] refl) (relist_taken is taken) in
+    let all = subst (λ l. AreTaken (layout_of root.sectors l) (catalogues_of c.next_root-root.result)) (in_use_alone root entries [] refl) (relist_taken is c.take_catalogues-taken.ensures.taken) in
     record {
       taken = subst (λ store. AreTaken (layout_of store.root.sectors (used store.root store.entries)) (catalogues_of c.beside.result.root)) c.self.view_is
           (subst (λ r. AreTaken (layout_of root.sectors (used root entries)) (catalogues_of r)) (sym c.beside.ensures.root) all);

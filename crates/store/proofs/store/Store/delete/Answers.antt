@@ -1,4 +1,4 @@
-use Rattle.std.proofs.Common.{◌≡◌, ◌≢◌, ◌⊎◌, ◌-◌, ◌<◌, List, ℕ, ◌++◌, All, get_or, length, map, IsTrue, refl, sym, subst, ap, ◌∙◌, arith}
+use Rattle.std.proofs.Common.{◌≡◌, ◌≢◌, ◌⊎◌, ◌-◌, ◌<◌, List, [], ℕ, ◌++◌, All, get_or, length, map, IsTrue, refl, sym, subst, ap, ◌∙◌, arith}
 use Rattle.std.specs.List.{remove}
 use Rattle.std.proofs.lemmas.List.{get_or_read}
 use Rattle.sector_disk.specs.Disk.{LeavesOnly}
@@ -14,11 +14,14 @@ use Rattle.store.specs.Opened.{IsAt, layout_in_use}
 use Rattle.store.specs.Stands.{Stands, StandsBy, catalogues_of, entry_sectors, name_of, sectors_of}
 use Rattle.store.specs.Taken.{AreTaken, IsNamedAt}
 use Rattle.store.specs.inside.Catalogues.{CanBeCatalogued}
-use Rattle.store.specs.inside.Claimed.{IsClaimedBeside, IsUsable}
+use Rattle.store.specs.inside.Claimed.{IsUsable}
 use Rattle.store.specs.inside.Kept.{IsKept}
 use Rattle.store.specs.NameOrder.{IsOrderOf, entry_names}
 use Rattle.store.specs.inside.NameIndex.{closed_up}
-use Rattle.store.specs.inside.Next.{IsRelisting, next_root}
+use Rattle.store.specs.declared.change.Staged.TheVariants.{Catalogues}
+use Rattle.store.specs.declared.change.Change.{Change}
+use Rattle.store.specs.inside.Change.{IsFollowed}
+use Rattle.store.specs.inside.Next.{next_root}
 use Rattle.store.specs.Held.{in_use, lone_sectors}
 use Rattle.store.specs.Holders.{KeepsHolders}
 use Rattle.store.specs.inside.Room.{AreHeld, IsGivenUp}
@@ -28,11 +31,11 @@ use Rattle.store.proofs.Following.{following_fits, following_kept, next_catalogu
 use Rattle.store.proofs.GivenUp.{given_claimed, given_few, given_keeps, given_rows, given_size, still_removed}
 use Rattle.store.proofs.Holders.{keeps_table}
 use Rattle.store.proofs.Placing.{singles_in_use}
-use Rattle.store.proofs.Removals.{IsRemoval, catalogues_fit, removal_next, removal_moved, removal_relisting, removal_room}
+use Rattle.store.proofs.Removals.{IsRemoval, catalogues_fit, removal_next, removal_moved, removal_followed, removal_room}
 use Rattle.store.proofs.Removed.{map_remove}
 use Rattle.store.proofs.UsedAlone.{no_entry}
 use Rattle.store.proofs.store.Store.delete.Given as given
-use Rattle.store.proofs.store.Store.delete.Goals.{After-root_without-root, After-write_list, After-catalogues, After-give_up}
+use Rattle.store.proofs.store.Store.delete.Goals.{After-root_without-root, After-carry_out-written, After-catalogues, After-give_up}
 use Rattle.store.proofs.store.Store.delete.Goals as goal
 
 pub unreachable-requires : goal.unreachable-requires
@@ -52,20 +55,22 @@ count_is g c = c.len-libraries.ensures ∙ sym c.deref.ensures.len ∙ ap length
 -- the entry of the name goes
 removing : (g : given.Over) (c : After-root_without-root g)
     → IsRemoval c.self.inside.root c.self.inside.entries.items c.self.inside.held c.self.inside.layout c.take_catalogues-taken.new.layout
-    c.args.name.now c.in-Some.position c.as_slice-listed.result.now c.root_without-root.result
+    c.args.name.now c.in-Some.position c.take_catalogues-taken.result c.root_without-root.result
 removing g c =
     let gone = c.in-Some.position in
-    let listed = c.as_slice-listed.result.now in
+    let preloads = map (closed_up gone) (listed_preloads c.self.inside.root) in
     record {
       kept = c.self.invariant.0;
       two = c.self.invariant.4;
-      claimed = subst (IsClaimedBeside c.self.inside.layout c.take_catalogues-taken.new.layout) (sym c.as_slice-listed.ensures.value) c.take_catalogues-taken.ensures.claimed;
+      claimed = c.take_catalogues-taken.ensures.claimed;
       fits = omega (arith, c.in-Some.ensures.some.0, ap length c.deref.ensures.value);
       named = λ d. subst (λ l. name_of (get_or l gone d).entry ≡ c.args.name.now) c.deref.ensures.value (c.in-Some.ensures.some.1 d);
       others = subst (λ store. IsNoPreload store c.args.name.now) (sym c.self.view_is) c.requires.no_preload;
       later = omega (arith, c.if-self-2.false, c.self.invariant.0.root_fits.generation);
-      enough = ap length c.as_slice-listed.ensures.value ∙ c.take_catalogues-taken.ensures.count ∙ c.catalogues_for.ensures ∙ ap (λ n. catalogues_for (n - 1)) (count_is g c);
-      is_next = c.root_without-root.ensures ∙ ap (λ n. next_root c.self.inside.root (n - 1) listed (map (closed_up gone) (listed_preloads c.self.inside.root))) (count_is g c);
+      enough = c.take_catalogues-taken.ensures.count ∙ c.catalogues_for.ensures ∙ ap (λ n. catalogues_for (n - 1)) (count_is g c);
+      is_next = c.root_without-root.ensures
+          ∙ ap (λ n. next_root c.self.inside.root (n - 1) c.as_slice.result.now preloads) (count_is g c)
+          ∙ ap (λ l. next_root c.self.inside.root (length c.self.inside.entries.items - 1) l preloads) c.as_slice.ensures.value;
     }
 
 -- the sectors of the others are listed
@@ -75,55 +80,56 @@ listed_are g c =
     ∙ ap (λ l. remove l c.in-Some.position) (c.self.invariant.3 c.if-self.false)
     ∙ sym (map_remove (λ (p : PlacedEntry). p.at) c.self.inside.entries.items c.in-Some.position)
 
-relisting : (g : given.Over) (c : After-root_without-root g) (s : State) (sectors : List ℕ) → sectors ≡ c.remove.new.self.items
-    → IsRelisting Two c.self.inside.root c.self.inside.entries.items s c.as_slice-listed.result.now sectors c.root_without-root.result
-    (remove c.self.inside.entries.items c.in-Some.position) (without c.args.name.now s)
-relisting g c s sectors are =
-    subst (λ sectors. IsRelisting Two c.self.inside.root c.self.inside.entries.items s c.as_slice-listed.result.now sectors
-    c.root_without-root.result (remove c.self.inside.entries.items c.in-Some.position) (without c.args.name.now s)) (sym (are ∙ listed_are g c))
-    (removal_relisting (removing g c) s)
+abbrev change : (g : given.Over) (c : After-root_without-root g) → Change
+change g c = record { staged = Catalogues c.take_catalogues-taken.result; root = c.root_without-root.result }
 
-pub write_list-requires-clause-root : goal.write_list-requires-clause-root
-write_list-requires-clause-root g c =
-    let removal = removing g (goal.at.write_list-requires-clause-root g c).After-root_without-root in
+removed : (g : given.Over) (c : After-root_without-root g) (s : State) (bytes sectors : List ℕ) → sectors ≡ c.remove.new.self.items
+    → IsFollowed Two c.self.inside.root c.self.inside.entries.items s (change g c) bytes sectors
+    (remove c.self.inside.entries.items c.in-Some.position) (without c.args.name.now s)
+removed g c s bytes sectors are =
+    subst (λ sectors. IsFollowed Two c.self.inside.root c.self.inside.entries.items s (change g c) bytes sectors
+    (remove c.self.inside.entries.items c.in-Some.position) (without c.args.name.now s)) (sym (are ∙ listed_are g c))
+    (removal_followed (removing g c) s bytes)
+
+pub carry_out-written-requires-clause-root : goal.carry_out-written-requires-clause-root
+carry_out-written-requires-clause-root g c =
+    let removal = removing g (goal.at.carry_out-written-requires-clause-root g c).After-root_without-root in
     following_fits (removal_next removal) removal.kept.root_fits
 
-pub write_list-requires-clause-places : goal.write_list-requires-clause-places
-write_list-requires-clause-places g c =
-    let removal = removing g (goal.at.write_list-requires-clause-places g c).After-root_without-root in
-    record {
-      inside = subst (λ n. All (IsUsable n) c.as_slice-listed.result.now) (sym c.self.invariant.2) (more_inside removal.kept removal.claimed);
-      once = more_once removal.kept removal.claimed;
-    }
-
-pub write_list-requires-clause-listed : goal.write_list-requires-clause-listed
-write_list-requires-clause-listed g c =
-    let before = (goal.at.write_list-requires-clause-listed g c).After-root_without-root in
+pub carry_out-written-requires-clause-room : goal.carry_out-written-requires-clause-room
+carry_out-written-requires-clause-room g c =
+    let before = (goal.at.carry_out-written-requires-clause-room g c).After-root_without-root in
     let removal = removing g before in
     let next = removal_next removal in
-    subst (CanBeCatalogued (length c.as_slice-listed.result.now)) (sym (c.deref-2.ensures.value ∙ listed_are g before))
-    (can_be_catalogued c.self.inside.root.sectors (length c.as_slice-listed.result.now) c.root_without-root.result
-    (remove c.self.inside.entries.items c.in-Some.position) (omega (arith, removal.kept.root_fits.sectors)) next.enough next.few next.apart)
+    let taken = c.take_catalogues-taken.result in (
+      record {
+        inside = subst (λ n. All (IsUsable n) taken) (sym c.self.invariant.2) (more_inside removal.kept removal.claimed);
+        once = more_once removal.kept removal.claimed;
+      },
+      subst (CanBeCatalogued (length taken)) (sym (c.deref-2.ensures.value ∙ listed_are g before))
+          (can_be_catalogued c.self.inside.root.sectors (length taken) c.root_without-root.result
+          (remove c.self.inside.entries.items c.in-Some.position) (omega (arith, removal.kept.root_fits.sectors)) next.enough next.few next.apart),
+    )
 
 -- a stop leaves the state from before or the one after
-leaves : (g : given.Over) (c : After-write_list g) (s : State)
-    → IsRelisting Two c.self.inside.root c.self.inside.entries.items s c.as_slice-listed.result.now c.deref-2.result.now c.root_without-root.result
+leaves : (g : given.Over) (c : After-carry_out-written g) (s : State)
+    → IsFollowed Two c.self.inside.root c.self.inside.entries.items s (record { staged = Catalogues c.take_catalogues-taken.result; root = c.root_without-root.result }) [] c.deref-2.result.now
     (remove c.self.inside.entries.items c.in-Some.position) (without c.args.name.now s)
-    → IsAt g.D.Disk.facts c.args.self.now s → LeavesOnly (g.D.Disk.facts c.args.self.now.disk) (g.D.Disk.facts c.write_list.new.disk) (λ m. Stands m s ⊎ Stands m (without c.args.name.now s))
+    → IsAt g.D.Disk.facts c.args.self.now s → LeavesOnly (g.D.Disk.facts c.args.self.now.disk) (g.D.Disk.facts c.carry_out-written.new.disk) (λ m. Stands m s ⊎ Stands m (without c.args.name.now s))
 leaves g c s is at_entry =
     let at = subst (λ store. IsAt g.D.Disk.facts store s) (sym c.self.view_is) at_entry in
-    subst (λ store. LeavesOnly (g.D.Disk.facts store.disk) (g.D.Disk.facts c.write_list.new.disk) (λ m. Stands m s ⊎ Stands m (without c.args.name.now s))) c.self.view_is
-    (c.write_list.ensures.any_moment at.honest Two c.self.inside.root c.self.inside.entries.items s (remove c.self.inside.entries.items c.in-Some.position) (without c.args.name.now s) at.stands is)
+    subst (λ store. LeavesOnly (g.D.Disk.facts store.disk) (g.D.Disk.facts c.carry_out-written.new.disk) (λ m. Stands m s ⊎ Stands m (without c.args.name.now s))) c.self.view_is
+    (c.carry_out-written.ensures.any_moment at.honest Two c.self.inside.root c.self.inside.entries.items s (remove c.self.inside.entries.items c.in-Some.position) (without c.args.name.now s) at.stands is)
 
 pub returns-in-Err-clause-any_moment : goal.returns-in-Err-clause-any_moment
 returns-in-Err-clause-any_moment g c s at =
     let here = goal.at.returns-in-Err-clause-any_moment g c in
-    leaves g here.After-write_list s (relisting g here.After-root_without-root s c.deref-2.result.now c.deref-2.ensures.value) at
+    leaves g here.After-carry_out-written s (removed g here.After-root_without-root s [] c.deref-2.result.now c.deref-2.ensures.value) at
 
 pub returns-clause-any_moment : goal.returns-clause-any_moment
 returns-clause-any_moment g c s at =
     let here = goal.at.returns-clause-any_moment g c in
-    leaves g here.After-write_list s (relisting g here.After-root_without-root s c.deref-2.result.now c.deref-2.ensures.value) at
+    leaves g here.After-carry_out-written s (removed g here.After-root_without-root s [] c.deref-2.result.now c.deref-2.ensures.value) at
 
 -- what is given back is what stood there
 gone_are : (g : given.Over) (c : After-catalogues g) → sectors_of c.index.result.now
@@ -167,7 +173,7 @@ invariant_of-self-2 g c =
           (given_rows removal.kept gone removal.fits up left (still_removed c.self.inside.entries.items gone removal.fits))
           (given_claimed removal.kept gone removal.fits up removal.claimed next left (removal_moved removal))),
       subst (λ l. IsOrderOf (entry_names l) c.remove-2.new.self.positions) (ap (λ l. remove l c.in-Some.position) c.deref-3.ensures.value ∙ sym c.remove-3.ensures.items) c.remove-2.ensures,
-      c.write_list.ensures.calls.sectors ∙ c.self.invariant.2 ∙ sym (ap (λ r. r.sectors) c.root_without-root.ensures),
+      c.carry_out-written.ensures.calls.sectors ∙ c.self.invariant.2 ∙ sym (ap (λ r. r.sectors) c.root_without-root.ensures),
       λ _. listed_are g at.After-root_without-root ∙ ap entry_sectors (sym c.remove-3.ensures.items),
       next_version (removal_next removal) removal.kept.root_fits,
     )
@@ -175,25 +181,25 @@ invariant_of-self-2 g c =
 pub returns-in-Err-clause-held : goal.returns-in-Err-clause-held
 returns-in-Err-clause-held g c =
     let removal = removing g (goal.at.returns-in-Err-clause-held g c).After-root_without-root in
-    subst (λ store. KeepsHolders (g.D.Disk.facts store.disk) (g.D.Disk.facts c.write_list.new.disk) store.held c.self.inside.held) c.self.view_is
-    (keeps_table removal.kept c.as_slice-listed.result.now (more_free removal.kept removal.claimed) (c.write_list.ensures.others))
+    subst (λ store. KeepsHolders (g.D.Disk.facts store.disk) (g.D.Disk.facts c.carry_out-written.new.disk) store.held c.self.inside.held) c.self.view_is
+    (keeps_table removal.kept c.take_catalogues-taken.result (more_free removal.kept removal.claimed) (c.carry_out-written.ensures.others))
 
 pub returns-clause-held : goal.returns-clause-held
 returns-clause-held g c =
     let at = goal.at.returns-clause-held g c in
     let removal = removing g at.After-root_without-root in
-    subst (λ store. KeepsHolders (g.D.Disk.facts store.disk) (g.D.Disk.facts c.write_list.new.disk) store.held c.give_up.new.held) c.self.view_is
-    (given_keeps removal.kept c.in-Some.position removal.fits (given_up g at.After-give_up) removal.claimed (c.write_list.ensures.others))
+    subst (λ store. KeepsHolders (g.D.Disk.facts store.disk) (g.D.Disk.facts c.carry_out-written.new.disk) store.held c.give_up.new.held) c.self.view_is
+    (given_keeps removal.kept c.in-Some.position removal.fits (given_up g at.After-give_up) removal.claimed (c.carry_out-written.ensures.others))
 
 pub returns-clause-ok : goal.returns-clause-ok
 returns-clause-ok g c s at_entry =
     let at = subst (λ store. IsAt g.D.Disk.facts store s) (sym c.self.view_is) at_entry in
-    let is = relisting g (goal.at.returns-clause-ok g c).After-root_without-root s c.deref-2.result.now c.deref-2.ensures.value in
+    let is = removed g (goal.at.returns-clause-ok g c).After-root_without-root s [] c.deref-2.result.now c.deref-2.ensures.value in
     record {
-      honest = subst IsTrue (sym c.write_list.ensures.calls.honest) at.honest;
+      honest = subst IsTrue (sym c.carry_out-written.ensures.calls.honest) at.honest;
       usable = refl;
       stands = λ m mixture. subst (λ l. StandsBy Two m c.root_without-root.result l (without c.args.name.now s)) (sym c.remove-3.ensures.items)
-          (c.in_default-write_list.ensures.done at.honest Two c.self.inside.root c.self.inside.entries.items s
+          (c.in_default-written.ensures.done at.honest Two c.self.inside.root c.self.inside.entries.items s
           (remove c.self.inside.entries.items c.in-Some.position) (without c.args.name.now s) at.stands is m mixture);
     }
 
@@ -202,7 +208,7 @@ returns-clause-placed g c =
     let removal = removing g (goal.at.returns-clause-placed g c).After-root_without-root in
     let gone = c.in-Some.position in
     let next = c.root_without-root.result in
-    let listed : catalogues_of next ≡ c.take_catalogues-taken.result = next_catalogues (removal_next removal) removal.kept.root_fits ∙ c.as_slice-listed.ensures.value in
+    let listed : catalogues_of next ≡ c.take_catalogues-taken.result = next_catalogues (removal_next removal) removal.kept.root_fits in
     record {
       position = gone;
       at = subst (λ store. IsNamedAt store c.args.name.now gone) c.self.view_is (record { inside = removal.fits; named = removal.named });

@@ -9,6 +9,7 @@ use Rattle.states.specs.Limits.{most_libraries, last_generation}
 use Rattle.states.specs.Cost.{catalogues_for}
 use Rattle.roots.specs.Root.{listed_preloads}
 use Rattle.roots.specs.declared.version.Version.TheVariants.{Two}
+use Rattle.store.specs.declared.change.Change.{Change}
 use Rattle.store.specs.declared.placed_entry.PlacedEntry.{PlacedEntry}
 use Rattle.states.specs.State.{State}
 use Rattle.states.specs.Changes.{with_new}
@@ -19,10 +20,11 @@ use Rattle.store.specs.Opened.{IsAt, layout_in_use}
 use Rattle.store.specs.Stands.{Stands, StandsBy, catalogues_of, entry_sectors, extents_of, name_of, sectors_of}
 use Rattle.store.specs.Taken.{IsTaken}
 use Rattle.store.specs.inside.Catalogues.{CanBeCatalogued}
-use Rattle.store.specs.inside.Claimed.{IsClaimedBeside}
 use Rattle.store.specs.inside.Kept.{IsKept}
 use Rattle.store.specs.NameOrder.{IsOrderOf, entry_names}
-use Rattle.store.specs.inside.Next.{IsPut, next_root}
+use Rattle.store.specs.declared.change.Staged.TheVariants.{Put}
+use Rattle.store.specs.inside.Change.{IsFollowed}
+use Rattle.store.specs.inside.Next.{next_root}
 use Rattle.store.specs.inside.Room.{AreHeld, IsReleased}
 use Rattle.store.proofs.Anew.{put_claimed, more_free, more_held, back_kept, moved_held, moved_size, moved_claimed}
 use Rattle.store.proofs.CataloguedEntries.{can_be_catalogued}
@@ -66,16 +68,15 @@ count_is g c = omega (arith, c.len-libraries.ensures, ap length c.reserve-2.ensu
 -- what is put is one more entry
 newly : (g : given.Over) (c : After-next_root-root g)
     → IsNew c.self.inside.root c.self.inside.entries.items c.self.inside.held c.self.inside.layout c.take_room.new.layout
-    c.as_slice-listed.result.now c.new_entry-put.result c.next_root-root.result
+    c.in_ok-room.room.catalogues c.new_entry-put.result c.next_root-root.result
 newly g c =
     let put = c.new_entry-put.result in
     let room = c.in_ok-room.room in
-    let listed = c.as_slice-listed.ensures.value in
-    let count : length c.as_slice-listed.result.now ≡ c.catalogues_for-count.result = ap length listed ∙ c.in_ok-room.ensures.count in
+    let count : length room.catalogues ≡ c.catalogues_for-count.result = c.in_ok-room.ensures.count in
     record {
       kept = c.self.invariant.0;
-      claimed = subst (λ l. IsClaimedBeside c.self.inside.layout c.take_room.new.layout (sectors_of put ++ l)) (sym listed)
-          (put_claimed c.self.inside.layout c.take_room.new.layout room.extents room.entry room.catalogues put c.new_entry-put.ensures.extents c.new_entry-put.ensures.at c.in_ok-room.ensures.claimed);
+      claimed = put_claimed c.self.inside.layout c.take_room.new.layout room.extents room.entry room.catalogues put
+          c.new_entry-put.ensures.extents c.new_entry-put.ensures.at c.in_ok-room.ensures.claimed;
       fits = c.new_entry-put.ensures.fits;
       named = subst (λ name. All (λ (other : PlacedEntry). name_of other.entry ≢ name) c.self.inside.entries.items)
           (sym c.new_entry-put.ensures.name) (subst (λ store. LacksName store c.args.name.now) (sym c.self.view_is) c.requires.new);
@@ -83,7 +84,9 @@ newly g c =
       later = omega (arith, c.if-self-2.false, c.self.invariant.0.root_fits.generation);
       enough = count ∙ c.catalogues_for-count.ensures ∙ ap (λ n. catalogues_for (n + 1)) (count_is g c);
       room = omega (arith, free_room c.in_ok-room.ensures.full, c.sector_need.ensures, c.new_entry-put.ensures.length, count, ap length c.catalogues.ensures);
-      is_next = c.next_root-root.ensures ∙ ap (λ n. next_root c.self.inside.root (n + 1) c.as_slice-listed.result.now (listed_preloads c.self.inside.root)) (count_is g c);
+      is_next = c.next_root-root.ensures
+          ∙ ap (λ n. next_root c.self.inside.root (n + 1) c.as_slice.result.now (listed_preloads c.self.inside.root)) (count_is g c)
+          ∙ ap (λ l. next_root c.self.inside.root (length c.self.inside.entries.items + 1) l (listed_preloads c.self.inside.root)) c.as_slice.ensures.value;
     }
 
 -- its sectors are listed with the others'
@@ -99,12 +102,12 @@ enough : (g : given.Over) (c : After-next_root-root g) → length c.args.bytes.n
 enough g c = omega (arith, ap sector_count c.new_entry-put.ensures.extents, c.in_ok-room.ensures.sum, c.sector_need.ensures, (div_ceil_times (length c.args.bytes.now) 512 (omega arith)).0)
 
 putting : (g : given.Over) (c : After-next_root-root g) (s : State) (sectors : List ℕ) → sectors ≡ c.push_sector.new.sectors.items
-    → IsPut Two c.self.inside.root c.self.inside.entries.items s c.args.bytes.now c.new_entry-put.result c.as_slice-listed.result.now sectors
-    c.next_root-root.result (c.self.inside.entries.items ++ c.new_entry-put.result ∷ []) (with_new c.args.name.now c.args.bytes.now s)
+    → IsFollowed Two c.self.inside.root c.self.inside.entries.items s (record { staged = Put c.new_entry-put.result c.in_ok-room.room.catalogues; root = c.next_root-root.result })
+    c.args.bytes.now sectors (c.self.inside.entries.items ++ c.new_entry-put.result ∷ []) (with_new c.args.name.now c.args.bytes.now s)
 putting g c s sectors are =
     let others = c.self.inside.entries.items ++ c.new_entry-put.result ∷ [] in
-    subst (λ sectors. IsPut Two c.self.inside.root c.self.inside.entries.items s c.args.bytes.now c.new_entry-put.result c.as_slice-listed.result.now
-    sectors c.next_root-root.result others (with_new c.args.name.now c.args.bytes.now s)) (sym (are ∙ listed_are g c))
+    let change : Change = record { staged = Put c.new_entry-put.result c.in_ok-room.room.catalogues; root = c.next_root-root.result } in
+    subst (λ sectors. IsFollowed Two c.self.inside.root c.self.inside.entries.items s change c.args.bytes.now sectors others (with_new c.args.name.now c.args.bytes.now s)) (sym (are ∙ listed_are g c))
     (new_put (newly g c) c.args.name.now c.args.bytes.now s c.new_entry-put.ensures.name c.new_entry-put.ensures.length (enough g c))
 
 pub returns-in_err-reserve-clause-any_moment : goal.returns-in_err-reserve-clause-any_moment
@@ -127,38 +130,36 @@ returns-in_err-room-clause-refused g c s at =
     (record { full = c.in_err-room.ensures.full; fragmented = c.in_err-room.ensures.fragmented }) in
     answers_refused c.in_err-room.field-0.0 c.from_residual-in_err-room.result first c.from_residual-in_err-room.ensures.1
 
-pub write_put-requires-clause-root : goal.write_put-requires-clause-root
-write_put-requires-clause-root g c =
-    let is_new = newly g (goal.at.write_put-requires-clause-root g c).After-next_root-root in
+pub carry_out-written-requires-clause-root : goal.carry_out-written-requires-clause-root
+carry_out-written-requires-clause-root g c =
+    let is_new = newly g (goal.at.carry_out-written-requires-clause-root g c).After-next_root-root in
     following_fits (new_next is_new) is_new.kept.root_fits
 
-pub write_put-requires-clause-place : goal.write_put-requires-clause-place
-write_put-requires-clause-place g c =
-    let is_new = newly g (goal.at.write_put-requires-clause-place g c).After-next_root-root in
-    room_place is_new.kept is_new.claimed is_new.fits c.new_entry-put.ensures.extents c.in_ok-room.ensures.inside c.in_ok-room.ensures.apart c.self.invariant.2
-
-pub write_put-requires-clause-listed : goal.write_put-requires-clause-listed
-write_put-requires-clause-listed g c =
-    let before = (goal.at.write_put-requires-clause-listed g c).After-next_root-root in
+pub carry_out-written-requires-clause-room : goal.carry_out-written-requires-clause-room
+carry_out-written-requires-clause-room g c =
+    let before = (goal.at.carry_out-written-requires-clause-room g c).After-next_root-root in
     let is_new = newly g before in
     let next = new_next is_new in
-    subst (CanBeCatalogued (length c.as_slice-listed.result.now)) (sym (c.deref.ensures.value ∙ listed_are g before))
-    (can_be_catalogued c.self.inside.root.sectors (length c.as_slice-listed.result.now) c.next_root-root.result
-    (c.self.inside.entries.items ++ c.new_entry-put.result ∷ []) (omega (arith, is_new.kept.root_fits.sectors)) next.enough next.few next.apart)
+    let count = length c.in_ok-room.room.catalogues in (
+      room_place is_new.kept is_new.claimed is_new.fits c.new_entry-put.ensures.extents c.in_ok-room.ensures.inside c.in_ok-room.ensures.apart c.self.invariant.2,
+      subst (CanBeCatalogued count) (sym (c.deref.ensures.value ∙ listed_are g before))
+          (can_be_catalogued c.self.inside.root.sectors count c.next_root-root.result
+          (c.self.inside.entries.items ++ c.new_entry-put.result ∷ []) (omega (arith, is_new.kept.root_fits.sectors)) next.enough next.few next.apart),
+    )
 
-pub give_back_room-requires-clause-held : goal.give_back_room-requires-clause-held
-give_back_room-requires-clause-held g c =
-    let is_new = newly g (goal.at.give_back_room-requires-clause-held g c).After-next_root-root in
+pub give_back-requires-clause-held : goal.give_back-requires-clause-held
+give_back-requires-clause-held g c =
+    let is_new = newly g (goal.at.give_back-requires-clause-held g c).After-next_root-root in
     more_held is_new.kept is_new.claimed
 
 pub invariant_of-self-in-Err : goal.invariant_of-self-in-Err
 invariant_of-self-in-Err g c =
     let is_new = newly g (goal.at.invariant_of-self-in-Err g c).After-next_root-root in
     let items = c.reserve-2.ensures.items in (
-      subst (λ l. IsKept c.self.inside.root l c.self.inside.held c.give_back_room.new.layout) (sym items) (back_kept is_new.kept is_new.claimed c.give_back_room.new.layout c.give_back_room.ensures),
+      subst (λ l. IsKept c.self.inside.root l c.self.inside.held c.give_back.new.layout) (sym items) (back_kept is_new.kept is_new.claimed c.give_back.new.layout c.give_back.ensures),
       subst (λ l. IsOrderOf (entry_names l) c.reserve.new.self.positions) (sym items)
           (subst (IsOrderOf (entry_names c.self.inside.entries.items)) (sym c.reserve.ensures.positions) c.self.invariant.1),
-      c.write_put.ensures.calls.sectors ∙ c.self.invariant.2,
+      c.carry_out-written.ensures.calls.sectors ∙ c.self.invariant.2,
       λ is. absurd (false≢true (sym is)),
       c.self.invariant.4,
     )
@@ -167,8 +168,8 @@ pub returns-in-Err-clause-any_moment : goal.returns-in-Err-clause-any_moment
 returns-in-Err-clause-any_moment g c s at_entry =
     let at = subst (λ store. IsAt g.D.Disk.facts store s) (sym c.self.view_is) at_entry in
     let put = putting g (goal.at.returns-in-Err-clause-any_moment g c).After-next_root-root s c.deref.result.now c.deref.ensures.value in
-    subst (λ store. LeavesOnly (g.D.Disk.facts store.disk) (g.D.Disk.facts c.write_put.new.disk) (λ m. Stands m s ⊎ Stands m (with_new c.args.name.now c.args.bytes.now s))) c.self.view_is
-    (c.write_put.ensures.any_moment at.honest Two c.self.inside.root c.self.inside.entries.items s
+    subst (λ store. LeavesOnly (g.D.Disk.facts store.disk) (g.D.Disk.facts c.carry_out-written.new.disk) (λ m. Stands m s ⊎ Stands m (with_new c.args.name.now c.args.bytes.now s))) c.self.view_is
+    (c.carry_out-written.ensures.any_moment at.honest Two c.self.inside.root c.self.inside.entries.items s
     (c.self.inside.entries.items ++ c.new_entry-put.result ∷ []) (with_new c.args.name.now c.args.bytes.now s) at.stands put)
 
 pub returns-in-Err-clause-refused : goal.returns-in-Err-clause-refused
@@ -202,7 +203,7 @@ invariant_of-self-2 g c =
           (moved_claimed is_new.kept is_new.claimed c.next_root-root.result others moved new released)),
       subst (λ l. IsOrderOf (entry_names l) c.insert.new.self.positions)
           (ap (λ l. l ++ put ∷ []) c.deref-2.ensures.value ∙ sym c.in-Ok.ensures.items) (c.insert.ensures put c.new_entry-put.ensures.name),
-      c.write_put.ensures.calls.sectors ∙ c.self.invariant.2 ∙ sym (ap (λ r. r.sectors) c.next_root-root.ensures),
+      c.carry_out-written.ensures.calls.sectors ∙ c.self.invariant.2 ∙ sym (ap (λ r. r.sectors) c.next_root-root.ensures),
       λ _. listed_are g before ∙ ap entry_sectors (sym items),
       next_version (new_next is_new) is_new.kept.root_fits,
     )
@@ -222,21 +223,21 @@ returns-in_err-room-clause-held g c = keeps_same g.D.Disk.facts c.self.view_is
 pub returns-in-Err-clause-held : goal.returns-in-Err-clause-held
 returns-in-Err-clause-held g c =
     let is_new = newly g (goal.at.returns-in-Err-clause-held g c).After-next_root-root in
-    subst (λ store. KeepsHolders (g.D.Disk.facts store.disk) (g.D.Disk.facts c.write_put.new.disk) store.held c.self.inside.held) c.self.view_is
-    (keeps_table is_new.kept (sectors_of c.new_entry-put.result ++ c.as_slice-listed.result.now) (more_free is_new.kept is_new.claimed) (c.write_put.ensures.others))
+    subst (λ store. KeepsHolders (g.D.Disk.facts store.disk) (g.D.Disk.facts c.carry_out-written.new.disk) store.held c.self.inside.held) c.self.view_is
+    (keeps_table is_new.kept (sectors_of c.new_entry-put.result ++ c.in_ok-room.room.catalogues) (more_free is_new.kept is_new.claimed) (c.carry_out-written.ensures.others))
 
 pub returns-clause-held : goal.returns-clause-held
 returns-clause-held g c =
     let is_new = newly g (goal.at.returns-clause-held g c).After-next_root-root in
-    subst (λ store. KeepsHolders (g.D.Disk.facts store.disk) (g.D.Disk.facts c.write_put.new.disk) store.held c.self.inside.held) c.self.view_is
-    (keeps_table is_new.kept (sectors_of c.new_entry-put.result ++ c.as_slice-listed.result.now) (more_free is_new.kept is_new.claimed) (c.write_put.ensures.others))
+    subst (λ store. KeepsHolders (g.D.Disk.facts store.disk) (g.D.Disk.facts c.carry_out-written.new.disk) store.held c.self.inside.held) c.self.view_is
+    (keeps_table is_new.kept (sectors_of c.new_entry-put.result ++ c.in_ok-room.room.catalogues) (more_free is_new.kept is_new.claimed) (c.carry_out-written.ensures.others))
 
 pub returns-clause-any_moment : goal.returns-clause-any_moment
 returns-clause-any_moment g c s at_entry =
     let at = subst (λ store. IsAt g.D.Disk.facts store s) (sym c.self.view_is) at_entry in
     let put = putting g (goal.at.returns-clause-any_moment g c).After-next_root-root s c.deref.result.now c.deref.ensures.value in
-    subst (λ store. LeavesOnly (g.D.Disk.facts store.disk) (g.D.Disk.facts c.write_put.new.disk) (λ m. Stands m s ⊎ Stands m (with_new c.args.name.now c.args.bytes.now s))) c.self.view_is
-    (c.write_put.ensures.any_moment at.honest Two c.self.inside.root c.self.inside.entries.items s
+    subst (λ store. LeavesOnly (g.D.Disk.facts store.disk) (g.D.Disk.facts c.carry_out-written.new.disk) (λ m. Stands m s ⊎ Stands m (with_new c.args.name.now c.args.bytes.now s))) c.self.view_is
+    (c.carry_out-written.ensures.any_moment at.honest Two c.self.inside.root c.self.inside.entries.items s
     (c.self.inside.entries.items ++ c.new_entry-put.result ∷ []) (with_new c.args.name.now c.args.bytes.now s) at.stands put)
 
 pub returns-clause-ok : goal.returns-clause-ok
@@ -245,7 +246,7 @@ returns-clause-ok g c s at_entry =
     let put = putting g (goal.at.returns-clause-ok g c).After-next_root-root s c.deref.result.now c.deref.ensures.value in
     let items = c.in-Ok.ensures.items ∙ ap (λ l. l ++ c.new_entry-put.result ∷ []) c.reserve-2.ensures.items in
     record {
-      honest = subst IsTrue (sym c.write_put.ensures.calls.honest) at.honest;
+      honest = subst IsTrue (sym c.carry_out-written.ensures.calls.honest) at.honest;
       usable = refl;
       stands = λ m mixture. subst (λ l. StandsBy Two m c.next_root-root.result l (with_new c.args.name.now c.args.bytes.now s)) (sym items)
           (c.in_default.ensures.done at.honest Two c.self.inside.root c.self.inside.entries.items s
@@ -267,12 +268,12 @@ returns-clause-placed g c =
     let room = c.in_ok-room.ensures in
     let taken = taken_so c.self.inside.root c.self.inside.entries.items c.self.inside.held c.self.inside.layout c.self.invariant.0
     c.sector_need.ensures c.new_entry-put.ensures.extents c.new_entry-put.ensures.at
-    (next_catalogues (new_next is_new) is_new.kept.root_fits ∙ c.as_slice-listed.ensures.value) room.data room.inside room.taken in
+    (next_catalogues (new_next is_new) is_new.kept.root_fits) room.data room.inside room.taken in
     record {
       put = put;
       taken = subst (λ store. IsTaken (layout_in_use store) (div_ceil (length c.args.bytes.now) 512) (extents_of put.entry) put.at (catalogues_of c.next_root-root.result)) c.self.view_is taken;
       entries = c.in-Ok.ensures.items ∙ ap (λ l. l ++ put ∷ []) c.reserve-2.ensures.items ∙ ap (λ store. store.entries ++ put ∷ []) c.self.view_is;
-      written = λ honest. have_bytes (g.D.Disk.facts c.write_put.new.disk) (extents_of put.entry) c.args.bytes.now
+      written = λ honest. have_bytes (g.D.Disk.facts c.carry_out-written.new.disk) (extents_of put.entry) c.args.bytes.now
           (ap sector_count c.new_entry-put.ensures.extents ∙ room.sum ∙ c.sector_need.ensures)
           (c.in_default.ensures.written (subst (λ store. IsTrue (g.D.Disk.facts store.disk).honest) (sym c.self.view_is) honest));
     }

@@ -8,6 +8,7 @@ use Rattle.extents.specs.Extent.{sector_count}
 use Rattle.states.specs.Cost.{catalogues_for}
 use Rattle.roots.specs.Root.{listed_preloads}
 use Rattle.roots.specs.declared.version.Version.TheVariants.{Two}
+use Rattle.store.specs.declared.change.Change.{Change}
 use Rattle.store.specs.declared.placed_entry.PlacedEntry.{PlacedEntry}
 use Rattle.states.specs.State.{State}
 use Rattle.states.specs.Changes.{with_bytes}
@@ -19,8 +20,9 @@ use Rattle.store.specs.Stands.{Stands, catalogues_of, entry_sectors, extents_of,
 use Rattle.store.specs.Step.{longest_free, refusal_of_put}
 use Rattle.store.specs.Taken.{IsNamedAt, IsTaken}
 use Rattle.store.specs.inside.Catalogues.{CanBeCatalogued}
-use Rattle.store.specs.inside.Claimed.{IsClaimedBeside}
-use Rattle.store.specs.inside.Next.{IsPut, next_root}
+use Rattle.store.specs.declared.change.Staged.TheVariants.{Put}
+use Rattle.store.specs.inside.Change.{IsFollowed}
+use Rattle.store.specs.inside.Next.{next_root}
 use Rattle.store.specs.inside.Room.{AreHeld, IsGivenUp}
 use Rattle.store.proofs.Anew.{put_claimed, more_free, more_held, back_kept, moved_held}
 use Rattle.store.proofs.CataloguedEntries.{can_be_catalogued}
@@ -46,18 +48,17 @@ count_is g c = omega (arith, c.len-libraries.ensures)
 -- what is put stands in the place of the entry of its name
 replacing : (g : given.Over) (c : After-next_root-root g)
     → IsReplacement c.self.inside.root c.self.inside.entries.items c.self.inside.held c.self.inside.layout c.take_room.new.layout c.args.name.now
-    c.in-Some.position c.as_slice-listed.result.now c.new_entry-put.result c.next_root-root.result
+    c.in-Some.position c.in_ok-room.room.catalogues c.new_entry-put.result c.next_root-root.result
 replacing g c =
     let entries = c.self.inside.entries.items in
     let put = c.new_entry-put.result in
     let room = c.in_ok-room.room in
-    let listed = c.as_slice-listed.ensures.value in
-    let count : length c.as_slice-listed.result.now ≡ c.catalogues_for-count.result = ap length listed ∙ c.in_ok-room.ensures.count in
+    let count : length room.catalogues ≡ c.catalogues_for-count.result = c.in_ok-room.ensures.count in
     record {
       kept = c.self.invariant.0;
       two = c.self.invariant.4;
-      claimed = subst (λ l. IsClaimedBeside c.self.inside.layout c.take_room.new.layout (sectors_of put ++ l)) (sym listed)
-          (put_claimed c.self.inside.layout c.take_room.new.layout room.extents room.entry room.catalogues put c.new_entry-put.ensures.extents c.new_entry-put.ensures.at c.in_ok-room.ensures.claimed);
+      claimed = put_claimed c.self.inside.layout c.take_room.new.layout room.extents room.entry room.catalogues put
+          c.new_entry-put.ensures.extents c.new_entry-put.ensures.at c.in_ok-room.ensures.claimed;
       fits = c.new_entry-put.ensures.fits;
       inside = omega (arith, c.in-Some.ensures.some.0, ap length c.deref.ensures.value);
       named = λ d. subst (λ l. name_of (get_or l c.in-Some.position d).entry ≡ c.args.name.now) c.deref.ensures.value (c.in-Some.ensures.some.1 d);
@@ -65,7 +66,9 @@ replacing g c =
       later = omega (arith, c.if-self-2.false, c.self.invariant.0.root_fits.generation);
       enough = count ∙ c.catalogues_for-count.ensures ∙ ap catalogues_for (count_is g c);
       room = omega (arith, free_room c.in_ok-room.ensures.full, c.sector_need.ensures, c.new_entry-put.ensures.length, count);
-      is_next = c.next_root-root.ensures ∙ ap (λ n. next_root c.self.inside.root n c.as_slice-listed.result.now (listed_preloads c.self.inside.root)) (count_is g c);
+      is_next = c.next_root-root.ensures
+          ∙ ap (λ n. next_root c.self.inside.root n c.as_slice.result.now (listed_preloads c.self.inside.root)) (count_is g c)
+          ∙ ap (λ l. next_root c.self.inside.root (length entries) l (listed_preloads c.self.inside.root)) c.as_slice.ensures.value;
     }
 
 -- its sector is listed with the others'
@@ -82,13 +85,12 @@ enough : (g : given.Over) (c : After-next_root-root g) → length c.args.bytes.n
 enough g c = omega (arith, ap sector_count c.new_entry-put.ensures.extents, c.in_ok-room.ensures.sum, c.sector_need.ensures, (div_ceil_times (length c.args.bytes.now) 512 (omega arith)).0)
 
 putting : (g : given.Over) (c : After-next_root-root g) (s : State) (sectors : List ℕ) → sectors ≡ set c.self.inside.sectors.items c.in-Some.position c.new_entry-put.result.at
-    → IsPut Two c.self.inside.root c.self.inside.entries.items s c.args.bytes.now c.new_entry-put.result c.as_slice-listed.result.now sectors
-    c.next_root-root.result (set c.self.inside.entries.items c.in-Some.position c.new_entry-put.result)
-    (with_bytes c.args.name.now c.args.bytes.now s)
+    → IsFollowed Two c.self.inside.root c.self.inside.entries.items s (record { staged = Put c.new_entry-put.result c.in_ok-room.room.catalogues; root = c.next_root-root.result })
+    c.args.bytes.now sectors (set c.self.inside.entries.items c.in-Some.position c.new_entry-put.result) (with_bytes c.args.name.now c.args.bytes.now s)
 putting g c s sectors are =
     let others = set c.self.inside.entries.items c.in-Some.position c.new_entry-put.result in
-    subst (λ sectors. IsPut Two c.self.inside.root c.self.inside.entries.items s c.args.bytes.now c.new_entry-put.result c.as_slice-listed.result.now
-    sectors c.next_root-root.result others (with_bytes c.args.name.now c.args.bytes.now s)) (sym (are ∙ listed_are g c))
+    let change : Change = record { staged = Put c.new_entry-put.result c.in_ok-room.room.catalogues; root = c.next_root-root.result } in
+    subst (λ sectors. IsFollowed Two c.self.inside.root c.self.inside.entries.items s change c.args.bytes.now sectors others (with_bytes c.args.name.now c.args.bytes.now s)) (sym (are ∙ listed_are g c))
     (replacement_put (replacing g c) c.args.bytes.now s c.new_entry-put.ensures.length (enough g c))
 
 -- what is given back once it is done stood there
@@ -117,37 +119,35 @@ new_entry-put-requires-clause-name g c =
     subst IsName (subst (λ l. name_of (get_or l position no_entry).entry ≡ c.args.name.now) c.deref.ensures.value (c.in-Some.ensures.some.1 no_entry))
     (name_fits its.entry (c.self.invariant.0.entries_fit position no_entry inside))
 
-pub write_put-requires-clause-root : goal.write_put-requires-clause-root
-write_put-requires-clause-root g c =
-    let is = replacing g (goal.at.write_put-requires-clause-root g c).After-next_root-root in
+pub carry_out-written-requires-clause-root : goal.carry_out-written-requires-clause-root
+carry_out-written-requires-clause-root g c =
+    let is = replacing g (goal.at.carry_out-written-requires-clause-root g c).After-next_root-root in
     following_fits (replacement_next is) is.kept.root_fits
 
-pub write_put-requires-clause-place : goal.write_put-requires-clause-place
-write_put-requires-clause-place g c =
-    let is = replacing g (goal.at.write_put-requires-clause-place g c).After-next_root-root in
-    room_place is.kept is.claimed is.fits c.new_entry-put.ensures.extents c.in_ok-room.ensures.inside c.in_ok-room.ensures.apart c.self.invariant.2
-
-pub write_put-requires-clause-listed : goal.write_put-requires-clause-listed
-write_put-requires-clause-listed g c =
-    let before = (goal.at.write_put-requires-clause-listed g c).After-next_root-root in
+pub carry_out-written-requires-clause-room : goal.carry_out-written-requires-clause-room
+carry_out-written-requires-clause-room g c =
+    let before = (goal.at.carry_out-written-requires-clause-room g c).After-next_root-root in
     let is = replacing g before in
     let next = replacement_next is in
-    subst (CanBeCatalogued (length c.as_slice-listed.result.now)) (sym (c.deref-2.ensures.value ∙ listed_are g before))
-    (can_be_catalogued c.self.inside.root.sectors (length c.as_slice-listed.result.now) c.next_root-root.result
-    (set c.self.inside.entries.items c.in-Some.position c.new_entry-put.result)
-    (omega (arith, is.kept.root_fits.sectors)) next.enough next.few next.apart)
+    let count = length c.in_ok-room.room.catalogues in (
+      room_place is.kept is.claimed is.fits c.new_entry-put.ensures.extents c.in_ok-room.ensures.inside c.in_ok-room.ensures.apart c.self.invariant.2,
+      subst (CanBeCatalogued count) (sym (c.deref-2.ensures.value ∙ listed_are g before))
+          (can_be_catalogued c.self.inside.root.sectors count c.next_root-root.result
+          (set c.self.inside.entries.items c.in-Some.position c.new_entry-put.result)
+          (omega (arith, is.kept.root_fits.sectors)) next.enough next.few next.apart),
+    )
 
-pub give_back_room-requires-clause-held : goal.give_back_room-requires-clause-held
-give_back_room-requires-clause-held g c =
-    let is = replacing g (goal.at.give_back_room-requires-clause-held g c).After-next_root-root in
+pub give_back-requires-clause-held : goal.give_back-requires-clause-held
+give_back-requires-clause-held g c =
+    let is = replacing g (goal.at.give_back-requires-clause-held g c).After-next_root-root in
     more_held is.kept is.claimed
 
 pub invariant_of-self-in-Err : goal.invariant_of-self-in-Err
 invariant_of-self-in-Err g c =
     let is = replacing g (goal.at.invariant_of-self-in-Err g c).After-next_root-root in (
-      back_kept is.kept is.claimed c.give_back_room.new.layout c.give_back_room.ensures,
+      back_kept is.kept is.claimed c.give_back.new.layout c.give_back.ensures,
       c.self.invariant.1,
-      c.write_put.ensures.calls.sectors ∙ c.self.invariant.2,
+      c.carry_out-written.ensures.calls.sectors ∙ c.self.invariant.2,
       λ is. absurd (false≢true (sym is)),
       c.self.invariant.4,
     )
@@ -158,8 +158,8 @@ returns-in-Err-clause-any_moment g c s at_entry =
     let at = subst (λ store. IsAt g.D.Disk.facts store s) (sym c.self.view_is) at_entry in
     let put = putting g (goal.at.returns-in-Err-clause-any_moment g c).After-next_root-root s c.deref-2.result.now c.deref-2.ensures.value in
     let next = with_bytes c.args.name.now c.args.bytes.now s in
-    subst (λ store. LeavesOnly (g.D.Disk.facts store.disk) (g.D.Disk.facts c.write_put.new.disk) (λ m. Stands m s ⊎ Stands m next)) c.self.view_is
-    (c.write_put.ensures.any_moment at.honest Two c.self.inside.root entries s (set entries c.in-Some.position c.new_entry-put.result) next at.stands put)
+    subst (λ store. LeavesOnly (g.D.Disk.facts store.disk) (g.D.Disk.facts c.carry_out-written.new.disk) (λ m. Stands m s ⊎ Stands m next)) c.self.view_is
+    (c.carry_out-written.ensures.any_moment at.honest Two c.self.inside.root entries s (set entries c.in-Some.position c.new_entry-put.result) next at.stands put)
 
 pub give_up-requires-clause-held : goal.give_up-requires-clause-held
 give_up-requires-clause-held g c =
@@ -195,7 +195,7 @@ invariant_of-self-2 g c =
           (given_rows is.kept position is.inside up others (still_set entries position is.inside put))
           (given_claimed is.kept position is.inside up is.claimed root others (replacement_moved is)),
       replaced entries c.self.inside.index position put no_entry c.self.invariant.1 is.inside (is.named no_entry ∙ sym is.its_name),
-      c.write_put.ensures.calls.sectors ∙ c.self.invariant.2 ∙ sym (ap (λ r. r.sectors) c.next_root-root.ensures),
+      c.carry_out-written.ensures.calls.sectors ∙ c.self.invariant.2 ∙ sym (ap (λ r. r.sectors) c.next_root-root.ensures),
       λ _. listed_are g before.After-next_root-root,
       next_version (replacement_next is) is.kept.root_fits,
     )
@@ -206,15 +206,15 @@ returns-in_err-room-clause-held g c = keeps_same g.D.Disk.facts c.self.view_is
 pub returns-in-Err-clause-held : goal.returns-in-Err-clause-held
 returns-in-Err-clause-held g c =
     let is = replacing g (goal.at.returns-in-Err-clause-held g c).After-next_root-root in
-    subst (λ store. KeepsHolders (g.D.Disk.facts store.disk) (g.D.Disk.facts c.write_put.new.disk) store.held c.self.inside.held) c.self.view_is
-    (keeps_table is.kept (sectors_of c.new_entry-put.result ++ c.as_slice-listed.result.now) (more_free is.kept is.claimed) (c.write_put.ensures.others))
+    subst (λ store. KeepsHolders (g.D.Disk.facts store.disk) (g.D.Disk.facts c.carry_out-written.new.disk) store.held c.self.inside.held) c.self.view_is
+    (keeps_table is.kept (sectors_of c.new_entry-put.result ++ c.in_ok-room.room.catalogues) (more_free is.kept is.claimed) (c.carry_out-written.ensures.others))
 
 pub returns-clause-held : goal.returns-clause-held
 returns-clause-held g c =
     let before = goal.at.returns-clause-held g c in
     let is = replacing g before.After-next_root-root in
-    subst (λ store. KeepsHolders (g.D.Disk.facts store.disk) (g.D.Disk.facts c.write_put.new.disk) store.held c.give_up.new.held) c.self.view_is
-    (given_keeps is.kept c.in-Some.position is.inside (given_up g before.After-give_up) is.claimed (c.write_put.ensures.others))
+    subst (λ store. KeepsHolders (g.D.Disk.facts store.disk) (g.D.Disk.facts c.carry_out-written.new.disk) store.held c.give_up.new.held) c.self.view_is
+    (given_keeps is.kept c.in-Some.position is.inside (given_up g before.After-give_up) is.claimed (c.carry_out-written.ensures.others))
 
 pub returns-clause-any_moment : goal.returns-clause-any_moment
 returns-clause-any_moment g c s at_entry =
@@ -222,8 +222,8 @@ returns-clause-any_moment g c s at_entry =
     let at = subst (λ store. IsAt g.D.Disk.facts store s) (sym c.self.view_is) at_entry in
     let put = putting g (goal.at.returns-clause-any_moment g c).After-next_root-root s c.deref-2.result.now c.deref-2.ensures.value in
     let next = with_bytes c.args.name.now c.args.bytes.now s in
-    subst (λ store. LeavesOnly (g.D.Disk.facts store.disk) (g.D.Disk.facts c.write_put.new.disk) (λ m. Stands m s ⊎ Stands m next)) c.self.view_is
-    (c.write_put.ensures.any_moment at.honest Two c.self.inside.root entries s (set entries c.in-Some.position c.new_entry-put.result) next at.stands put)
+    subst (λ store. LeavesOnly (g.D.Disk.facts store.disk) (g.D.Disk.facts c.carry_out-written.new.disk) (λ m. Stands m s ⊎ Stands m next)) c.self.view_is
+    (c.carry_out-written.ensures.any_moment at.honest Two c.self.inside.root entries s (set entries c.in-Some.position c.new_entry-put.result) next at.stands put)
 
 pub returns-clause-ok : goal.returns-clause-ok
 returns-clause-ok g c s at_entry =
@@ -231,9 +231,9 @@ returns-clause-ok g c s at_entry =
     let at = subst (λ store. IsAt g.D.Disk.facts store s) (sym c.self.view_is) at_entry in
     let put = putting g (goal.at.returns-clause-ok g c).After-next_root-root s c.deref-2.result.now c.deref-2.ensures.value in
     record {
-      honest = subst IsTrue (sym c.write_put.ensures.calls.honest) at.honest;
+      honest = subst IsTrue (sym c.carry_out-written.ensures.calls.honest) at.honest;
       usable = refl;
-      stands = c.in_default-write_put.ensures.done at.honest Two c.self.inside.root entries s (set entries c.in-Some.position c.new_entry-put.result)
+      stands = c.in_default-written.ensures.done at.honest Two c.self.inside.root entries s (set entries c.in-Some.position c.new_entry-put.result)
           (with_bytes c.args.name.now c.args.bytes.now s) at.stands put;
     }
 
@@ -268,7 +268,7 @@ returns-clause-placed g c =
     let is = replacing g (goal.at.returns-clause-placed g c).After-next_root-root in
     let put = c.new_entry-put.result in
     let room = c.in_ok-room.ensures in
-    let listed = next_catalogues (replacement_next is) is.kept.root_fits ∙ c.as_slice-listed.ensures.value in
+    let listed = next_catalogues (replacement_next is) is.kept.root_fits in
     let taken = taken_so c.self.inside.root c.self.inside.entries.items c.self.inside.held c.self.inside.layout is.kept c.sector_need.ensures
     c.new_entry-put.ensures.extents c.new_entry-put.ensures.at listed room.data room.inside room.taken in
     record {
@@ -277,7 +277,7 @@ returns-clause-placed g c =
       put = put;
       taken = subst (λ store. IsTaken (layout_in_use store) (div_ceil (length c.args.bytes.now) 512) (extents_of put.entry) put.at (catalogues_of c.next_root-root.result)) c.self.view_is taken;
       entries = ap (λ store. set store.entries c.in-Some.position put) c.self.view_is;
-      written = λ honest. have_bytes (g.D.Disk.facts c.write_put.new.disk) (extents_of put.entry) c.args.bytes.now
+      written = λ honest. have_bytes (g.D.Disk.facts c.carry_out-written.new.disk) (extents_of put.entry) c.args.bytes.now
           (ap sector_count c.new_entry-put.ensures.extents ∙ room.sum ∙ c.sector_need.ensures)
-          (c.in_default-write_put.ensures.written (subst (λ store. IsTrue (g.D.Disk.facts store.disk).honest) (sym c.self.view_is) honest));
+          (c.in_default-written.ensures.written (subst (λ store. IsTrue (g.D.Disk.facts store.disk).honest) (sym c.self.view_is) honest));
     }

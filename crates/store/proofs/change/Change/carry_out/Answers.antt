@@ -1,0 +1,63 @@
+use Rattle.std.proofs.Common.{◌⊎◌, ℕ, ◌<◌, ◌≤◌, IsTrue, sym, subst, arith}
+use Rattle.std.specs.Prelude.{Contains}
+use Rattle.sector_disk.proofs.Moments.{goes_on, left_now}
+use Rattle.extents.specs.Limits.{root_sectors}
+use Rattle.store.specs.Stands.{StandsBy, StandsAs, Stands}
+use Rattle.store.specs.inside.Change.{staged_sectors}
+use Rattle.store.proofs.Puts.{ok_both, staged_only, staged_stands, followed_done, followed_only, committed_others, staged_others}
+use Rattle.store.proofs.Staging.{bytes_stay, staged_behind}
+use Rattle.store.proofs.change.Change.carry_out.Given as given
+use Rattle.store.proofs.change.Change.carry_out.Goals.{After-write_staged}
+use Rattle.store.proofs.change.Change.carry_out.Goals as goal
+
+behind : (g : given.Over) (c : After-write_staged g) (k : ℕ) → Contains (staged_sectors c.args.self.now.staged) k → root_sectors ≤ k
+behind g c = staged_behind (g.D.Disk.facts c.args.disk.now).sectors c.args.self.now.staged c.args.listed.now c.requires.room
+
+pub returns-in_err-write_staged-clause-any_moment : goal.returns-in_err-write_staged-clause-any_moment
+returns-in_err-write_staged-clause-any_moment g c honest version before entries s others s' stands followed =
+    let here = (goal.at.returns-in_err-write_staged-clause-any_moment g c).After-write_staged in
+    staged_only version before entries s stands (Contains (staged_sectors c.args.self.now.staged)) (behind g here) followed.unused (c.write_staged.ensures.any_moment honest) s'
+
+pub returns-clause-any_moment : goal.returns-clause-any_moment
+returns-clause-any_moment g c honest version before entries s others s' stands followed =
+    let here = (goal.at.returns-clause-any_moment g c).After-write_staged in
+    let honest_mid = subst IsTrue (sym c.write_staged.ensures.calls.honest) honest in
+    let changed = Contains (staged_sectors c.args.self.now.staged) in
+    let staged = c.write_staged.ensures.any_moment honest in
+    let still = left_now (λ m. StandsBy version m before entries s) (staged_stands version before entries s stands changed (behind g here) followed.unused staged) in
+    goes_on (λ m. StandsAs version m s ⊎ Stands m s')
+    (staged_only version before entries s stands changed (behind g here) followed.unused staged s')
+    (followed_only version before entries s c.args.self.now c.args.bytes.now c.args.listed.now others s' still (c.in_ok-write_staged.ensures.staged honest) followed
+    c.slot_of.result c.encode_root.result c.slot_of.ensures.value c.encode_root.ensures.spelling (c.commit.ensures.any_moment honest_mid))
+
+pub returns-clause-done : goal.returns-clause-done
+returns-clause-done g c honest version before entries s others s' stands followed =
+    let here = (goal.at.returns-clause-done g c).After-write_staged in
+    let honest_mid = subst IsTrue (sym c.write_staged.ensures.calls.honest) honest in
+    let changed = Contains (staged_sectors c.args.self.now.staged) in
+    let still = left_now (λ m. StandsBy version m before entries s)
+    (staged_stands version before entries s stands changed (behind g here) followed.unused (c.write_staged.ensures.any_moment honest)) in
+    ok_both c.commit.result
+    (followed_done version before entries s c.args.self.now c.args.bytes.now c.args.listed.now others s' still (c.in_ok-write_staged.ensures.staged honest) followed
+    c.slot_of.result c.encode_root.result c.slot_of.ensures.value c.encode_root.ensures.spelling (g.met.D.Disk.holds_now _ honest_mid) {new = g.D.Disk.facts c.commit.new.disk})
+    (c.commit.ensures.synced honest_mid) (c.commit.ensures.now honest_mid)
+
+pub returns-clause-written : goal.returns-clause-written
+returns-clause-written g c honest =
+    let mid = g.D.Disk.facts c.write_staged.new.disk in
+    let honest_mid = subst IsTrue (sym c.write_staged.ensures.calls.honest) honest in
+    let low : c.slot_of.result < 2 = grind (arith, c.slot_of.ensures.value) in
+    ok_both c.commit.result
+    (bytes_stay (g.D.Disk.facts c.args.disk.now).sectors c.args.self.now.staged c.args.listed.now c.requires.room mid (g.D.Disk.facts c.commit.new.disk) c.args.bytes.now c.slot_of.result c.encode_root.result low
+    (c.in_ok-write_staged.ensures.staged honest mid.now (g.met.D.Disk.holds_now _ honest_mid)))
+    (c.commit.ensures.synced honest_mid) (c.commit.ensures.now honest_mid)
+
+pub returns-in_err-write_staged-clause-others : goal.returns-in_err-write_staged-clause-others
+returns-in_err-write_staged-clause-others g c honest = staged_others (staged_sectors c.args.self.now.staged) (c.write_staged.ensures.any_moment honest)
+
+pub returns-clause-others : goal.returns-clause-others
+returns-clause-others g c honest =
+    let honest_mid = subst IsTrue (sym c.write_staged.ensures.calls.honest) honest in
+    let low : c.slot_of.result < 2 = grind (arith, c.slot_of.ensures.value) in
+    committed_others (staged_sectors c.args.self.now.staged)
+    (c.write_staged.ensures.any_moment honest) c.slot_of.result c.encode_root.result low (c.commit.ensures.any_moment honest_mid)

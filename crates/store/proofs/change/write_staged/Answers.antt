@@ -1,0 +1,67 @@
+use Rattle.std.proofs.Common.{◌≡◌, ◌∷◌, length, refl, sym, ap, ◌∙◌, subst}
+use Rattle.std.specs.Prelude.{Contains}
+use Rattle.sector_disk.specs.Disk.{IsMixtureBut, LeavesOnly}
+use Rattle.sector_disk.proofs.Moments.{at_rest}
+use Rattle.passes.specs.Singles.{single_places}
+use Rattle.store.specs.inside.Change.{CanBeStaged, staged_sectors}
+use Rattle.store.specs.inside.Catalogues.{CanBeCatalogued}
+use Rattle.store.specs.inside.Room.{HasPlace, HavePlaces}
+use Rattle.store.proofs.Staging.{list_inside, list_moment, put_inside, put_once, put_elsewhere, put_moment}
+use Rattle.store.proofs.change.write_staged.Given as given
+use Rattle.store.proofs.change.write_staged.Goals.{After-as_slice-in-Catalogues, After-as_slice-in-Put-2}
+use Rattle.store.proofs.change.write_staged.Goals as goal
+
+-- the places of catalogues alone
+have : (g : given.Over) (c : After-as_slice-in-Catalogues g)
+    → HavePlaces (g.D.Disk.facts c.args.disk.now).sectors c.in-Catalogues.catalogues × CanBeCatalogued (length c.in-Catalogues.catalogues) c.args.listed.now
+have g c = subst (λ staged. CanBeStaged (g.D.Disk.facts c.args.disk.now).sectors staged c.args.listed.now) c.in-Catalogues.is c.requires.room
+
+list_are : (g : given.Over) (c : After-as_slice-in-Catalogues g) → single_places c.as_slice-in-Catalogues.result.now ≡ c.in-Catalogues.catalogues
+list_are g c = ap single_places c.as_slice-in-Catalogues.ensures ∙ c.set_catalogues.ensures.places ∙ c.as_slice.ensures.value
+
+-- those of an entry, its bytes and catalogues
+place : (g : given.Over) (c : After-as_slice-in-Put-2 g)
+    → HasPlace (g.D.Disk.facts c.args.disk.now).sectors c.in-Put.put c.in-Put.catalogues × CanBeCatalogued (length c.in-Put.catalogues) c.args.listed.now
+place g c = subst (λ staged. CanBeStaged (g.D.Disk.facts c.args.disk.now).sectors staged c.args.listed.now) c.in-Put.is c.requires.room
+
+put_are : (g : given.Over) (c : After-as_slice-in-Put-2 g) → single_places c.as_slice-in-Put-2.result.now ≡ c.in-Put.put.at ∷ c.in-Put.catalogues
+put_are g c = ap single_places c.as_slice-in-Put-2.ensures ∙ c.set_put.ensures.places ∙ ap (λ l. c.in-Put.put.at ∷ l) c.as_slice-in-Put.ensures.value
+
+pub stage-requires-clause-room : goal.stage-requires-clause-room
+stage-requires-clause-room g c =
+    let here = (goal.at.stage-requires-clause-room g c).After-as_slice-in-Catalogues in
+    list_inside c.as_slice-in-Catalogues.result.now (have g here).0 (list_are g here)
+
+pub stage-requires-in-Put-clause-room : goal.stage-requires-in-Put-clause-room
+stage-requires-in-Put-clause-room g c =
+    let here = (goal.at.stage-requires-in-Put-clause-room g c).After-as_slice-in-Put-2 in
+    put_inside c.as_slice-in-Put-2.result.now c.file_extents.result.now (place g here).0 (put_are g here) c.file_extents.ensures
+
+pub stage-requires-in-Put-clause-once : goal.stage-requires-in-Put-clause-once
+stage-requires-in-Put-clause-once g c =
+    let here = (goal.at.stage-requires-in-Put-clause-once g c).After-as_slice-in-Put-2 in
+    put_once c.as_slice-in-Put-2.result.now c.file_extents.result.now (place g here).0 (put_are g here) c.file_extents.ensures
+
+pub stage-requires-in-Put-clause-elsewhere : goal.stage-requires-in-Put-clause-elsewhere
+stage-requires-in-Put-clause-elsewhere g c =
+    let here = (goal.at.stage-requires-in-Put-clause-elsewhere g c).After-as_slice-in-Put-2 in
+    put_elsewhere c.as_slice-in-Put-2.result.now c.file_extents.result.now (place g here).0 (put_are g here) c.file_extents.ensures
+
+pub returns-in-Nothing-clause-any_moment : goal.returns-in-Nothing-clause-any_moment
+returns-in-Nothing-clause-any_moment g c honest =
+    let disk = g.D.Disk.facts c.args.disk.now in
+    at_rest disk (IsMixtureBut (Contains (staged_sectors c.args.staged.now)) disk) (λ m mixture. (m, mixture, record { size = refl; others = λ k other. refl }))
+
+pub returns-in-Catalogues-clause-any_moment : goal.returns-in-Catalogues-clause-any_moment
+returns-in-Catalogues-clause-any_moment g c honest =
+    let here = (goal.at.returns-in-Catalogues-clause-any_moment g c).After-as_slice-in-Catalogues in
+    let disk = g.D.Disk.facts c.args.disk.now in
+    subst (λ staged. LeavesOnly disk (g.D.Disk.facts c.stage.new.disk) (IsMixtureBut (Contains (staged_sectors staged)) disk)) (sym c.in-Catalogues.is)
+    (list_moment c.as_slice-in-Catalogues.result.now (have g here).0 (list_are g here) (c.stage.ensures.any_moment honest))
+
+pub returns-in-Put-clause-any_moment : goal.returns-in-Put-clause-any_moment
+returns-in-Put-clause-any_moment g c honest =
+    let here = (goal.at.returns-in-Put-clause-any_moment g c).After-as_slice-in-Put-2 in
+    let disk = g.D.Disk.facts c.args.disk.now in
+    subst (λ staged. LeavesOnly disk (g.D.Disk.facts c.stage-in-Put.new.disk) (IsMixtureBut (Contains (staged_sectors staged)) disk)) (sym c.in-Put.is)
+    (put_moment c.as_slice-in-Put-2.result.now c.file_extents.result.now (place g here).0 (put_are g here) c.file_extents.ensures (c.stage-in-Put.ensures.any_moment honest))

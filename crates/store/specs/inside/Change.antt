@@ -1,0 +1,66 @@
+-- A change that is planned: what it stages, and what sectors hold once it is carried out.
+use Rattle.std.specs.Prelude.{◌≡◌, ℕ, ◌+◌, ◌*◌, List, [], ◌++◌, length, set, Contains}
+use Rattle.sector_disk.specs.Disk.{Sector, sector, sector_bytes}
+use Rattle.extents.specs.Extent.{places, sector_count}
+use Rattle.passes.specs.Bytes.{bytes_at, padded}
+use Rattle.roots.specs.declared.root.Root.{Root}
+use Rattle.roots.specs.declared.version.Version.{Version}
+use Rattle.roots.specs.declared.version.Version.TheVariants.{Two}
+use Rattle.roots.specs.Root.{root_bytes}
+use Rattle.roots.specs.Choice.{slot_of}
+use Rattle.roots.specs.Entry.{EntryHasSpelling, SpellsEntry}
+use Rattle.states.specs.State.{State}
+use Rattle.store.specs.declared.placed_entry.PlacedEntry.{PlacedEntry}
+use Rattle.store.specs.declared.change.Staged.{Staged}
+use Rattle.store.specs.declared.change.Staged.TheVariants.{Nothing, Catalogues, Put}
+use Rattle.store.specs.declared.change.Change.{Change}
+use Rattle.store.specs.Stands.{StandsBy, AreCatalogued, extents_of, sectors_of, used}
+use Rattle.store.specs.inside.Catalogues.{CanBeCatalogued}
+use Rattle.store.specs.inside.Room.{HavePlaces, HasPlace}
+
+-- the sectors that are staged
+abbrev pub staged_sectors : Staged → List ℕ
+staged_sectors Nothing = []
+staged_sectors (Catalogues catalogues) = catalogues
+staged_sectors (Put put catalogues) = sectors_of put ++ catalogues
+
+-- how many calls that takes: a write for each of them, and a sync
+abbrev pub staged_calls : Staged → ℕ
+staged_calls Nothing = 0
+staged_calls (Catalogues catalogues) = length catalogues + 1
+staged_calls (Put put catalogues) = sector_count (extents_of put.entry) + length catalogues + 2
+
+-- an entry that is put has a spelling
+abbrev pub HasSpelling : Staged → Type 0
+HasSpelling Nothing = Unit
+HasSpelling (Catalogues catalogues) = Unit
+HasSpelling (Put put catalogues) = EntryHasSpelling put.entry
+
+-- What is staged has its places on a disk of so many sectors, and the catalogues just the room for
+-- these sectors of entries.
+abbrev pub CanBeStaged : ℕ → Staged → List ℕ → Type 0
+CanBeStaged sectors Nothing listed = Unit
+CanBeStaged sectors (Catalogues catalogues) listed = HavePlaces sectors catalogues × CanBeCatalogued (length catalogues) listed
+CanBeStaged sectors (Put put catalogues) listed = HasPlace sectors put catalogues × CanBeCatalogued (length catalogues) listed
+
+-- bytes that are put stand in their extents, with zeros behind them
+abbrev pub HasBytes : List Sector → Staged → List ℕ → Type 0
+HasBytes m Nothing bytes = Unit
+HasBytes m (Catalogues catalogues) bytes = Unit
+HasBytes m (Put put catalogues) bytes =
+    bytes_at m (places (extents_of put.entry)) ≡ padded (sector_bytes * sector_count (extents_of put.entry)) bytes
+
+-- In these sectors all is staged.
+abbrev pub IsStaged : List Sector → Staged → (bytes listed : List ℕ) → Type 0
+IsStaged m Nothing bytes listed = Unit
+IsStaged m (Catalogues catalogues) bytes listed = AreCatalogued m catalogues listed
+IsStaged m (Put put catalogues) bytes listed =
+    HasBytes m (Put put catalogues) bytes × SpellsEntry (sector m put.at) put.entry × AreCatalogued m catalogues listed
+
+-- Sectors that hold s, in which this is staged beside what s uses, hold s' once the next root is
+-- written.
+pub record IsFollowed (version : Version) (root : Root) (entries : List PlacedEntry) (s : State) (change : Change)
+    (bytes listed : List ℕ) (others : List PlacedEntry) (s' : State) : Type 0 where
+  pub unused : (k : ℕ) → Contains (staged_sectors change.staged) k → Contains (used root entries) k → ⊥
+  pub stands : (m : List Sector) → StandsBy version m root entries s → IsStaged m change.staged bytes listed
+      → StandsBy Two (set m (slot_of change.root.generation) (root_bytes change.root)) change.root others s'
