@@ -20,10 +20,13 @@ pub encode-nil : (t : List ℕ) → [] ≡ encode_with t []
 unfolding encode_with
 encode-nil t = refl
 
+-- the text of an element behind others
+pub text-behind : {T : Type 0} (f : T → List ℕ) (xs : List T) (x : T) → flat_map f (xs ++ x ∷ []) ≡ flat_map f xs ++ f x
+text-behind f xs x = flat_map-append f xs (x ∷ []) ∙ ap (λ l. flat_map f xs ++ l) (append-nil (f x))
+
 -- the text of one element more
 pub text-more : {T : Type 0} (f : T → List ℕ) (xs : List T) (i : ℕ) (d : T) → i < length xs → flat_map f (take (i + 1) xs) ≡ flat_map f (take i xs) ++ f (get_or xs i d)
-text-more f xs i d h =
-    ap (flat_map f) (take_more xs i d h) ∙ flat_map-append f (take i xs) (get_or xs i d ∷ []) ∙ ap (λ l. flat_map f (take i xs) ++ l) (append-nil (f (get_or xs i d)))
+text-more f xs i d h = ap (flat_map f) (take_more xs i d h) ∙ text-behind f (take i xs) (get_or xs i d)
 
 -- the name at a position, behind a space
 abbrev pub spaced : List Library → ℕ → List ℕ

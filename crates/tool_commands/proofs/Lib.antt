@@ -3,5 +3,7 @@ pub mod Cuts
 pub mod Findings
 pub mod Forms
 pub mod Installs
+pub mod Listing
 pub mod Named
+pub mod Outcomes
 pub mod Sent

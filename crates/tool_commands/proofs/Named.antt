@@ -38,3 +38,8 @@ module _ (s : State) (position : ℕ) (name file : List ℕ) (lt : position < le
   pub is_lacking : (result : Result (Vec ℕ) Lack) → IfErr result (IsLack read) → IfErr result (IsLack at)
   is_lacking (Ok f) h = tt
   is_lacking (Err lack) h = subst (λ l. IsLack l lack) library_is h
+
+-- a library that something lacks, whichever it is
+pub lacks : (l : Library) (result : Result (Vec ℕ) Lack) → IfErr result (IsLack l) → IfErr result (λ lack. (it : Library) × IsLack it lack)
+lacks l (Ok f) h = tt
+lacks l (Err lack) h = (l, h)

@@ -1,9 +1,11 @@
+pub mod AnyDisk
 pub mod Check
 pub mod Dump
 pub mod Ends
 pub mod Executable
 pub mod Form
 pub mod Info
+pub mod Outcome
 pub mod Request
 pub mod Said
 pub mod Telling

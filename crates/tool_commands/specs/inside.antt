@@ -1,1 +1,2 @@
 pub mod Lack
+pub mod Listed

@@ -1,5 +1,10 @@
 // The words of the process.
 
+ghost use Rattle.std.specs.Prelude.{◌≡◌, ◌≤◌, ◌⊎◌, IfOk, IfSome, OnErr, None, map, string_bytes};
+ghost use Rattle.file_disk.specs.declared.disk_file.DiskFile.{DiskFile};
+ghost use Rattle.tool_commands.specs.Form.{command_line};
+ghost use Rattle.tool_commands.specs.Outcome.{LineEnds};
+
 use crate::command::run_words;
 use crate::said::{bad_words, say_refusal};
 use std::alloc::Global;
@@ -17,7 +22,24 @@ pub fn run_arguments<R: Files<File = File> + Clock, O: Write, E: Write>(
     words: io::Result<Vec<String>>,
     output: &mut O,
     errors: &mut E,
-) -> u8 {
+) -> u8
+    ensures most { result ≤ 4 }
+
+    // Words that were read: 2 exactly where they are none of the forms.
+    ensures bad_words { IfOk words (λ list.
+        command_line (map (λ word. string_bytes word) list.items) ≡ None → result ≡ 2) }
+    ensures form { IfOk words (λ list.
+        result ≡ 2 → command_line (map (λ word. string_bytes word) list.items) ≡ None) }
+
+    // Words of a form: what is told, and the status that goes with it.
+    ensures ends { IfOk words (λ list.
+        IfSome (command_line (map (λ word. string_bytes word) list.items)) (λ line.
+        LineEnds DiskFile line (O.contents output.old) (O.contents output.new) result)) }
+
+    // Words that weren't read: nothing is given to the output.
+    ensures err { OnErr words ((result ≡ 2) ⊎ (result ≡ 4)) }
+    ensures same { OnErr words (output.new ≡ output.old) }
+{
     match words {
         Ok(words) => run_words(rt, alloc, &words, output, errors),
         Err(e) if e.kind() == ErrorKind::OutOfMemory => {

@@ -1,14 +1,16 @@
 // Whether the libraries are libraries.
 
-ghost use Rattle.std.specs.Prelude.{◌≡◌, OnOk, length};
+ghost use Rattle.std.specs.Prelude.{◌≡◌, List, OnOk, length};
 ghost use Rattle.std.specs.List.{list_all};
 ghost use Rattle.std.specs.Io.KnownBytes.{Appends};
-ghost use Rattle.states.specs.State.{State};
+ghost use Rattle.states.specs.State.{Library, State};
 ghost use Rattle.store.specs.IsRead.{IsRead};
 ghost use Rattle.store.specs.Opened.{IsAt};
 ghost use Rattle.text_output.specs.Sends.{Sends};
+ghost use Rattle.tool_commands.specs.AnyDisk.{CheckTells};
 ghost use Rattle.tool_commands.specs.Check.{check_status, check_text, findings_text, is_sound};
 ghost use Rattle.tool_commands.specs.Ends.{CheckEnds};
+ghost use Rattle.tool_commands.specs.inside.Listed.{Lists};
 ghost use Rattle.program_parts.specs.Told.{IsTold};
 
 use crate::finding::{Line, put_finding};
@@ -29,9 +31,9 @@ fn put_findings<D: Disk, W: Write>(
     out: &mut W,
 ) -> Result<(), WriteFault>
     requires { length findings.now ≡ length store.now.entries }
-    ensures { (s : State) → IsAt D.facts store.now s → OnOk result
+    ensures { (libraries : List Library) → Lists D.facts store.now libraries → OnOk result
         (Sends (W.contents out.old) line.old (W.contents out.new) line.new
-        (findings_text s.libraries findings.now)) }
+        (findings_text libraries findings.now)) }
 {
     for position in 0..store.count() {
         let name = store.name(position);
@@ -48,9 +50,9 @@ fn put_check<D: Disk, W: Write>(
     out: &mut W,
 ) -> Result<(), WriteFault>
     requires { length findings.now ≡ length store.now.entries }
-    ensures { (s : State) → IsAt D.facts store.now s → OnOk result
+    ensures { (libraries : List Library) → Lists D.facts store.now libraries → OnOk result
         (Sends (W.contents out.old) line.old (W.contents out.new) line.new
-        (check_text s.libraries findings.now)) }
+        (check_text libraries findings.now)) }
 {
     put_findings(store, findings, line, out)?;
     line.put(out, b"end\n")
@@ -63,9 +65,9 @@ fn write_findings<D: Disk, W: Write>(
     out: &mut W,
 ) -> Result<(), WriteFault>
     requires { length findings.now ≡ length store.now.entries }
-    ensures { (s : State) → IsAt D.facts store.now s → OnOk result
+    ensures { (libraries : List Library) → Lists D.facts store.now libraries → OnOk result
         (Appends (W.contents out.old) (W.contents out.new)
-        (check_text s.libraries findings.now)) }
+        (check_text libraries findings.now)) }
 {
     let mut line = Line::new();
     put_check(store, findings, &mut line, out)?;
@@ -105,8 +107,8 @@ fn tell_findings<D: Disk, O: Write, E: Write>(
     errors: &mut E,
 ) -> Status
     requires { length findings.now ≡ length store.now.entries }
-    ensures { (s : State) → IsAt D.facts store.now s
-        → IsTold (check_status findings.now) (check_text s.libraries findings.now)
+    ensures { (libraries : List Library) → Lists D.facts store.now libraries
+        → IsTold (check_status findings.now) (check_text libraries findings.now)
         (O.contents output.old) (O.contents output.new) result }
 {
     match write_findings(store, findings, output) {
@@ -125,6 +127,9 @@ pub fn run_check<D: Disk, O: Write, E: Write>(
     ensures read { IsRead D.facts contents.old contents.new }
     ensures ends { (s : State) → IsAt D.facts contents.old s
         → CheckEnds s (O.contents output.old) (O.contents output.new) result }
+
+    // On any disk
+    ensures told { CheckTells (O.contents output.old) (O.contents output.new) result }
 {
     match contents.check(alloc) {
         Ok(findings) => tell_findings(contents.store(), &findings, output, errors),

@@ -1,8 +1,10 @@
 // A command line.
 
-ghost use Rattle.std.specs.Prelude.{◌≡◌, ◌≤◌, None, map, string_bytes};
+ghost use Rattle.std.specs.Prelude.{◌≡◌, ◌≤◌, IfSome, None, map, string_bytes};
+ghost use Rattle.file_disk.specs.declared.disk_file.DiskFile.{DiskFile};
 ghost use Rattle.program_parts.specs.Said.{AppendsFront};
-ghost use Rattle.tool_commands.specs.Form.{command_line};
+ghost use Rattle.tool_commands.specs.Form.{command_line, line_of};
+ghost use Rattle.tool_commands.specs.Outcome.{IsEnd, LineEnds};
 ghost use Rattle.tool_commands.specs.Said.{usage_line};
 
 use crate::form::{Asked, read_words};
@@ -21,7 +23,10 @@ fn run_apart<R: Files<File = File> + Clock, O: Write, E: Write>(
     asked: &Asked<'_>,
     output: &mut O,
     errors: &mut E,
-) -> Status {
+) -> Status
+    ensures { IsEnd DiskFile (line_of asked.now)
+        (O.contents output.old) (O.contents output.new) result }
+{
     match behind_streams(rt, asked.disk, false) {
         Behind::Other => run_asked(rt, alloc, asked, output, errors),
         Behind::OtherStream => cannot_read(errors, asked.disk),
@@ -45,6 +50,13 @@ pub fn run_words<R: Files<File = File> + Clock, O: Write, E: Write>(
     // the usage to standard error.
     ensures bad_words { command_line (map (λ word. string_bytes word) words.now) ≡ None
         → result ≡ 2 }
+
+    // 2 is the answer to no others.
+    ensures form { result ≡ 2 → command_line (map (λ word. string_bytes word) words.now) ≡ None }
+
+    // Words of a form: what is told, and the status that goes with it.
+    ensures ends { IfSome (command_line (map (λ word. string_bytes word) words.now)) (λ line.
+        LineEnds DiskFile line (O.contents output.old) (O.contents output.new) result) }
     ensures same { command_line (map (λ word. string_bytes word) words.now) ≡ None
         → output.new ≡ output.old }
     ensures told { command_line (map (λ word. string_bytes word) words.now) ≡ None

@@ -1,20 +1,25 @@
 // The script that makes a registry anew.
 
-ghost use Rattle.std.specs.Prelude.{◌≡◌, ◌++◌, ◌<◌, IfOk, IfSome, OnOk, length, slice_index_or};
+ghost use Rattle.std.specs.Prelude.{◌≡◌, ◌++◌, ◌<◌, ℕ, List, IfOk, IfSome, OnOk, length};
+ghost use Rattle.std.specs.Prelude.{slice_index_or};
 ghost use Rattle.std.specs.List.{flat_map};
 ghost use Rattle.std.specs.Io.KnownBytes.{Appends};
-ghost use Rattle.states.specs.State.{State};
+ghost use Rattle.roots.specs.Root.{listed_preloads};
+ghost use Rattle.states.specs.State.{Library, State};
 ghost use Rattle.store.specs.IsRead.{IsRead};
 ghost use Rattle.store.specs.Opened.{IsAt};
-ghost use Rattle.store.specs.Stands.{no_library};
+ghost use Rattle.store.specs.Stands.{names_at, no_library};
 ghost use Rattle.program_parts.specs.Said.{AppendsFront};
 ghost use Rattle.text_output.specs.Sends.{Sends};
+ghost use Rattle.tool_commands.specs.AnyDisk.{DumpTells};
 ghost use Rattle.tool_commands.specs.Check.{finding_line};
-ghost use Rattle.tool_commands.specs.Dump.{behind_space, cut_status, install_line, preload_text};
+ghost use Rattle.tool_commands.specs.Dump.{behind_space, cut_status, install_line, install_text};
+ghost use Rattle.tool_commands.specs.Dump.{preload_text};
 ghost use Rattle.tool_commands.specs.Ends.{DumpEnds};
 ghost use Rattle.tool_commands.specs.Said.{said_line};
-ghost use Rattle.tool_commands.specs.inside.Lack.{IsGone, dump_status, end_text, lack_line};
-ghost use Rattle.tool_commands.specs.inside.Lack.{lack_status, libraries_text};
+ghost use Rattle.tool_commands.specs.inside.Lack.{IsGone, IsLacking, dump_status, end_text};
+ghost use Rattle.tool_commands.specs.inside.Lack.{lack_line, lack_status, libraries_text};
+ghost use Rattle.tool_commands.specs.inside.Listed.{Lists};
 
 use crate::finding::{Line, put_finding};
 use crate::hexadecimal::put_hex;
@@ -66,6 +71,9 @@ fn put_libraries<D: Disk, W: Write>(
     ensures ok { (s : State) → IsAt D.facts contents.old s → IfOk result (λ cut.
         IsGone s cut × Sends (W.contents out.old) script.old (W.contents out.new) script.new
         (libraries_text s cut)) }
+    ensures told { IfOk result (λ cut. (libraries : List Library) × IsLacking cut
+        × Sends (W.contents out.old) script.old (W.contents out.new) script.new
+        (flat_map install_text libraries)) }
 {
     for position in 0..contents.store().count() {
         match sound_file(contents, alloc, position) {
@@ -82,9 +90,9 @@ fn put_preload_names<D: Disk, W: Write>(
     script: &mut Script,
     out: &mut W,
 ) -> Result<(), WriteFault>
-    ensures { (s : State) → IsAt D.facts store.now s → OnOk result
+    ensures { (libraries : List Library) → Lists D.facts store.now libraries → OnOk result
         (Sends (W.contents out.old) script.old (W.contents out.new) script.new
-        (flat_map behind_space s.preloads)) }
+        (flat_map behind_space (names_at libraries (listed_preloads store.now.root)))) }
 {
     let positions = store.preloads();
     for position in positions {
@@ -100,9 +108,9 @@ fn put_preloads<D: Disk, W: Write>(
     script: &mut Script,
     out: &mut W,
 ) -> Result<(), WriteFault>
-    ensures { (s : State) → IsAt D.facts store.now s → OnOk result
+    ensures { (libraries : List Library) → Lists D.facts store.now libraries → OnOk result
         (Sends (W.contents out.old) script.old (W.contents out.new) script.new
-        (preload_text s.preloads)) }
+        (preload_text (names_at libraries (listed_preloads store.now.root)))) }
 {
     if store.preloads().is_empty() {
         return Ok(());
@@ -119,9 +127,9 @@ fn put_end<D: Disk, W: Write>(
     script: &mut Script,
     out: &mut W,
 ) -> Result<(), WriteFault>
-    ensures { (s : State) → IsAt D.facts store.now s → OnOk result
+    ensures { (libraries : List Library) → Lists D.facts store.now libraries → OnOk result
         (Sends (W.contents out.old) script.old (W.contents out.new) script.new
-        (end_text s cut.now)) }
+        (end_text (names_at libraries (listed_preloads store.now.root)) cut.now)) }
 {
     match cut {
         Some(_) => script.put(out, b"cut"),
@@ -141,7 +149,10 @@ fn put_script<D: Disk, W: Write>(
         c.position < length contents.new.entries)) }
     ensures ok { (s : State) → IsAt D.facts contents.old s → IfOk result (λ cut.
         IsGone s cut × Sends (W.contents out.old) script.old (W.contents out.new) script.new
-        (libraries_text s cut ++ end_text s cut)) }
+        (libraries_text s cut ++ end_text s.preloads cut)) }
+    ensures told { IfOk result (λ cut. (libraries : List Library) × (preloads : List (List ℕ))
+        × IsLacking cut × Sends (W.contents out.old) script.old (W.contents out.new) script.new
+        (flat_map install_text libraries ++ end_text preloads cut)) }
 {
     let cut = put_libraries(contents, alloc, script, out)?;
     put_end(contents.store(), &cut, script, out)?;
@@ -159,7 +170,10 @@ fn write_script<D: Disk, W: Write>(
         c.position < length contents.new.entries)) }
     ensures ok { (s : State) → IsAt D.facts contents.old s → IfOk result (λ cut.
         IsGone s cut × Appends (W.contents out.old) (W.contents out.new)
-        (libraries_text s cut ++ end_text s cut)) }
+        (libraries_text s cut ++ end_text s.preloads cut)) }
+    ensures told { IfOk result (λ cut. (libraries : List Library) × (preloads : List (List ℕ))
+        × IsLacking cut × Appends (W.contents out.old) (W.contents out.new)
+        (flat_map install_text libraries ++ end_text preloads cut)) }
 {
     let mut script = Script::new();
     let cut = put_script(contents, alloc, &mut script, out)?;
@@ -263,6 +277,9 @@ pub fn run_dump<D: Disk, O: Write, E: Write>(
     ensures read { IsRead D.facts contents.old contents.new }
     ensures ends { (s : State) → IsAt D.facts contents.old s
         → DumpEnds s (O.contents output.old) (O.contents output.new) result }
+
+    // On any disk
+    ensures told { DumpTells (O.contents output.old) (O.contents output.new) result }
 {
     match write_script(contents, alloc, output) {
         Ok(cut) => end_dump(contents.store(), alloc, cut, errors),

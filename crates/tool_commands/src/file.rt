@@ -7,6 +7,7 @@ ghost use Rattle.store.specs.Opened.{IsAt};
 ghost use Rattle.contents.specs.declared.unread.Unread.TheVariants.{NotInstalled};
 ghost use Rattle.program_parts.specs.declared.status.Status.TheVariants.{Done, Refused};
 ghost use Rattle.program_parts.specs.declared.status.Status.TheVariants.{Failed, NoMemory};
+ghost use Rattle.tool_commands.specs.AnyDisk.{FileTells};
 ghost use Rattle.tool_commands.specs.Ends.{FileEnds};
 ghost use Rattle.program_parts.specs.Told.{IsTold};
 
@@ -52,6 +53,9 @@ pub fn run_file<D: Disk, O: Write, E: Write>(
     ensures read { IsRead D.facts contents.old contents.new }
     ensures ends { (s : State) → IsAt D.facts contents.old s
         → FileEnds s name.now (O.contents output.old) (O.contents output.new) result }
+
+    // On any disk
+    ensures told { FileTells (O.contents output.old) (O.contents output.new) result }
 {
     match contents.file(alloc, name) {
         Ok(bytes) => write_bytes(&bytes, output, errors),

@@ -7,6 +7,7 @@ ghost use Rattle.states.specs.State.{State};
 ghost use Rattle.store.specs.Opened.{IsAt};
 ghost use Rattle.text_output.specs.Sends.{Sends};
 ghost use Rattle.program_parts.specs.declared.status.Status.TheVariants.{Done};
+ghost use Rattle.tool_commands.specs.AnyDisk.{InfoTells};
 ghost use Rattle.tool_commands.specs.Ends.{InfoEnds};
 ghost use Rattle.program_parts.specs.Told.{IsTold};
 ghost use Rattle.tool_commands.specs.Info.{disk_lines, count_lines, free_lines, info_text};
@@ -121,6 +122,9 @@ pub fn run_info<D: Disk, O: Write, E: Write>(
 ) -> Status
     ensures ends { (s : State) → IsAt D.facts contents.now s
         → InfoEnds D.facts contents.now s (O.contents output.old) (O.contents output.new) result }
+
+    // On any disk
+    ensures told { InfoTells (O.contents output.old) (O.contents output.new) result }
 {
     tell_info(&contents.info(), output, errors)
 }

@@ -1,5 +1,14 @@
 // What is done with the disk that a file is.
 
+ghost use Rattle.std.specs.Prelude.{◌≡◌, IfOk};
+ghost use Rattle.requests.specs.Request as request;
+ghost use Rattle.requests.specs.Request.{request_of};
+ghost use Rattle.file_disk.specs.FileDisk.{IsNew};
+ghost use Rattle.file_disk.specs.declared.disk_file.DiskFile.{DiskFile};
+ghost use Rattle.tool_commands.specs.Form.{deed_of, question_of};
+ghost use Rattle.tool_commands.specs.Outcome.{AskEnds, DeedEnds, ReadEnds, TellEnds};
+ghost use Rattle.tool_commands.specs.Outcome.{open_status, read_status};
+
 use crate::form::{Action, Asked, Form};
 use crate::request::run_request;
 use crate::run::{end_unopened, run_form};
@@ -15,7 +24,9 @@ use std::rt::{Clock, Files};
 use store::StoreRefusal;
 
 /// Says why the file of a disk isn't opened.
-fn not_opened<E: Write>(alloc: Global, path: &str, fault: OpenFault, errors: &mut E) -> Status {
+fn not_opened<E: Write>(alloc: Global, path: &str, fault: OpenFault, errors: &mut E) -> Status
+    ensures { result ≡ open_status fault }
+{
     match fault {
         OpenFault::CannotOpen => cannot_read(errors, path),
         OpenFault::BadLength => say_refusal(alloc, StoreRefusal::BadGeometry, errors),
@@ -32,7 +43,10 @@ fn tell<R: Files<File = File> + Clock, O: Write, E: Write>(
     form: &Form<'_>,
     output: &mut O,
     errors: &mut E,
-) -> Status {
+) -> Status
+    ensures { TellEnds (question_of form.now)
+        (O.contents output.old) (O.contents output.new) result }
+{
     match FileDisk::open_read_only(rt, alloc, path) {
         Ok(disk) => {
             let (status, disk) = run_form(alloc, disk, form, output, errors);
@@ -56,7 +70,11 @@ fn ask<O: Write, E: Write>(
     telling: Telling,
     output: &mut O,
     errors: &mut E,
-) -> Status {
+) -> Status
+    requires { IfOk opened (λ disk. IsNew disk) }
+    ensures { AskEnds DiskFile (request_of command.now) telling
+        (O.contents output.old) (O.contents output.new) result }
+{
     match opened {
         Ok(disk) => {
             let (status, disk) = run_request(alloc, disk, command, telling, output, errors);
@@ -75,13 +93,18 @@ fn change<R: Files<File = File> + Clock, O: Write, E: Write>(
     command: &Command<'_>,
     output: &mut O,
     errors: &mut E,
-) -> Status {
+) -> Status
+    ensures { AskEnds DiskFile (request_of command.now) Telling.Text
+        (O.contents output.old) (O.contents output.new) result }
+{
     let opened = FileDisk::open(rt, alloc, path);
     ask(alloc, opened, path, command, Telling::Text, output, errors)
 }
 
 /// Says why a file wasn't read.
-fn not_read<E: Write>(alloc: Global, path: &str, fault: FileFault, errors: &mut E) -> Status {
+fn not_read<E: Write>(alloc: Global, path: &str, fault: FileFault, errors: &mut E) -> Status
+    ensures { result ≡ read_status fault }
+{
     match fault {
         FileFault::CannotRead => cannot_read(errors, path),
         FileFault::OutOfMemory => say_refusal(alloc, StoreRefusal::OutOfMemory, errors),
@@ -96,7 +119,10 @@ fn replace<R: Files<File = File> + Clock, O: Write, E: Write>(
     file: &str,
     output: &mut O,
     errors: &mut E,
-) -> Status {
+) -> Status
+    ensures { ReadEnds DiskFile request.replace Telling.Text
+        (O.contents output.old) (O.contents output.new) result }
+{
     match read_file(rt, alloc, file) {
         Ok(bytes) => {
             let command = Command::Replace(&bytes);
@@ -115,7 +141,10 @@ fn executable<R: Files<File = File> + Clock, O: Write, E: Write>(
     base: u64,
     output: &mut O,
     errors: &mut E,
-) -> Status {
+) -> Status
+    ensures { ReadEnds DiskFile (λ bytes. request.bind bytes base) Telling.Executable
+        (O.contents output.old) (O.contents output.new) result }
+{
     match read_file(rt, alloc, program) {
         Ok(bytes) => {
             let command = Command::Bind {
@@ -137,7 +166,10 @@ pub(crate) fn run_asked<R: Files<File = File> + Clock, O: Write, E: Write>(
     asked: &Asked<'_>,
     output: &mut O,
     errors: &mut E,
-) -> Status {
+) -> Status
+    ensures { DeedEnds DiskFile (deed_of asked.now.action)
+        (O.contents output.old) (O.contents output.new) result }
+{
     let disk = asked.disk;
     match asked.action {
         Action::Tell(form) => tell(rt, alloc, disk, &form, output, errors),

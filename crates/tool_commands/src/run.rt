@@ -5,6 +5,7 @@ ghost use Rattle.std.specs.Io.KnownBytes.{Appends};
 ghost use Rattle.states.specs.State.{State};
 ghost use Rattle.store.specs.IsRead.{IsRead};
 ghost use Rattle.store.specs.Opened.{IsAt};
+ghost use Rattle.tool_commands.specs.AnyDisk.{DiskTells, FormTells};
 ghost use Rattle.tool_commands.specs.Ends.{DiskEnds, FormEnds, cut_of};
 ghost use Rattle.program_parts.specs.Told.{IsTold};
 ghost use Rattle.tool_commands.specs.Form.{question_of};
@@ -60,6 +61,8 @@ fn run_opened<D: Disk, O: Write, E: Write>(
     ensures ends { (s : State) → IsAt D.facts contents.old s
         → FormEnds D.facts contents.old s (question_of form.now)
         (O.contents output.old) (O.contents output.new) result }
+    ensures told { FormTells (question_of form.now)
+        (O.contents output.old) (O.contents output.new) result }
 {
     match *form {
         Form::Info => run_info(contents, output, errors),
@@ -83,6 +86,10 @@ pub fn run_form<D: Disk, O: Write, E: Write>(
 
     // What reads give stays.
     ensures now { IsTrue (D.facts disk).honest → (D.facts result.1).now ≡ (D.facts disk).now }
+
+    // On any disk
+    ensures told { DiskTells (question_of form.now)
+        (O.contents output.old) (O.contents output.new) result.0 }
 {
     match Contents::open(alloc, disk) {
         Ok(contents) => {

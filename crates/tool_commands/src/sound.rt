@@ -90,6 +90,7 @@ pub(crate) fn sound_file<D: Disk>(
         × IsLibrary (slice_index_or s.libraries position no_library)) }
     ensures err { (s : State) → IsAt D.facts contents.old s → position < length s.libraries
         → IfErr result (IsLack (slice_index_or s.libraries position no_library)) }
+    ensures lack { IfErr result (λ lack. (l : Library) × IsLack l lack) }
 {
     let name = Name::copy_of(alloc, contents.store().name(position))?;
     match named_file(contents, alloc, name.as_bytes()) {

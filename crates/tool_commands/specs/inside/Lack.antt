@@ -45,10 +45,15 @@ abbrev pub libraries_text : State → Option Cut → List ℕ
 libraries_text s None = flat_map install_text s.libraries
 libraries_text s (Some cut) = flat_map install_text (take cut.position s.libraries)
 
--- what stands behind them
-abbrev pub end_text : State → Option Cut → List ℕ
-end_text s None = preload_text s.preloads
-end_text s (Some cut) = codes "cut"
+-- what stands behind them, by the preloads
+abbrev pub end_text : List (List ℕ) → Option Cut → List ℕ
+end_text preloads None = preload_text preloads
+end_text preloads (Some cut) = codes "cut"
+
+-- it was cut, if it was, since something lacks some library
+abbrev pub IsLacking : Option Cut → Type 0
+IsLacking None = Unit {0}
+IsLacking (Some cut) = (l : Library) × IsLack l cut.lack
 
 -- what a script ends with
 abbrev pub dump_status : Option Cut → Status

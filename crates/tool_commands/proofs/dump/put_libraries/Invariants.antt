@@ -1,7 +1,7 @@
-use Rattle.std.proofs.Common.{All, take}
+use Rattle.std.proofs.Common.{List, All, take}
 use Rattle.std.specs.List.{flat_map}
 use Rattle.requests.specs.Library.{IsLibrary}
-use Rattle.states.specs.State.{State}
+use Rattle.states.specs.State.{Library, State}
 use Rattle.store.specs.IsRead.{IsRead}
 use Rattle.store.specs.Opened.{IsAt}
 use Rattle.text_output.specs.Sends.{Sends}
@@ -14,4 +14,5 @@ invariant-loop-position g l = record {
   sound : (s : State) → IsAt g.D.Disk.facts l.fn.contents s → All IsLibrary (take l.position s.libraries);
   sends : (s : State) → IsAt g.D.Disk.facts l.fn.contents s → Sends (g.W.Write.contents l.fn.out) l.fn.script (g.W.Write.contents l.out) l.script
       (flat_map install_text (take l.position s.libraries));
+  told : (libraries : List Library) × Sends (g.W.Write.contents l.fn.out) l.fn.script (g.W.Write.contents l.out) l.script (flat_map install_text libraries);
 }

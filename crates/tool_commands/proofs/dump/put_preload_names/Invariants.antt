@@ -1,12 +1,12 @@
-use Rattle.std.proofs.Common.{take}
+use Rattle.std.proofs.Common.{List, take}
 use Rattle.std.specs.List.{flat_map}
-use Rattle.states.specs.State.{State}
-use Rattle.store.specs.Opened.{IsAt}
+use Rattle.states.specs.State.{Library}
 use Rattle.text_output.specs.Sends.{Sends}
+use Rattle.tool_commands.specs.inside.Listed.{Lists}
 use Rattle.tool_commands.proofs.Installs.{spaced}
 use Rattle.tool_commands.proofs.dump.put_preload_names.Given as goal
 
 abbrev pub invariant-loop-position : goal.invariant-loop-position
 invariant-loop-position g l =
-    (s : State) → IsAt g.D.Disk.facts l.store s → Sends (g.W.Write.contents l.fn.out) l.fn.script (g.W.Write.contents l.out) l.script
-    (flat_map (spaced s.libraries) (take l.position-index l.positions))
+    (libraries : List Library) → Lists g.D.Disk.facts l.store libraries → Sends (g.W.Write.contents l.fn.out) l.fn.script (g.W.Write.contents l.out) l.script
+    (flat_map (spaced libraries) (take l.position-index l.positions))

@@ -23,3 +23,9 @@ returns-in-Err-clause-ends g c s at =
     inr (inl ((c.in-Err.ensures.not_installed s at).0 no, h.1, refl)))
     (λ h. inr (inr (h, refl)))
     c.say_unread.ensures
+
+pub returns-in-Ok-clause-told : goal.returns-in-Ok-clause-told
+returns-in-Ok-clause-told g c = inl (_, c.write_bytes.ensures)
+
+pub returns-in-Err-clause-told : goal.returns-in-Err-clause-told
+returns-in-Err-clause-told g c = inr (⊎_elim (λ h. inl h.1) (λ h. inr h) c.say_unread.ensures, refl)

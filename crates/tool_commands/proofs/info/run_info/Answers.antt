@@ -21,4 +21,5 @@ returns g c = record {
       let before = g.O.Write.contents c.args.output.now in
       let after = g.O.Write.contents c.tell_info.new.output in
       (info.free.largest, record { exact = e.largest s at; form = e.form }, subst (λ t. IsTold Done t before after c.tell_info.result) same c.tell_info.ensures);
+  told = (c.info.result, c.tell_info.ensures);
 }

@@ -1,5 +1,6 @@
 use Rattle.std.proofs.Common.{sym, subst}
 use Rattle.store.proofs.IsReadLemmas.{read_none}
+use Rattle.tool_commands.specs.AnyDisk.{FormTells}
 use Rattle.tool_commands.specs.Ends.{FileEnds, FormEnds}
 use Rattle.tool_commands.specs.Form.{question_of}
 use Rattle.tool_commands.proofs.run.run_opened.Goals as goal
@@ -23,3 +24,18 @@ returns-in-File-clause-ends g c s at =
     let after = g.O.Write.contents c.run_file.new.output in
     let named = subst (λ n. FileEnds s n before after c.run_file.result) c.as_bytes.ensures.value (c.run_file.ensures.ends s at) in
     subst (λ f. FormEnds g.D.Disk.facts c.args.contents.now s (question_of f) before after c.run_file.result) (sym c.in-File.is) named
+
+pub returns-in-Info-clause-told : goal.returns-in-Info-clause-told
+returns-in-Info-clause-told g c =
+    subst (λ f. FormTells (question_of f) (g.O.Write.contents c.args.output.now) (g.O.Write.contents c.run_info.new.output) c.run_info.result)
+    (sym c.in-Info.is) c.run_info.ensures.told
+
+pub returns-in-Check-clause-told : goal.returns-in-Check-clause-told
+returns-in-Check-clause-told g c =
+    subst (λ f. FormTells (question_of f) (g.O.Write.contents c.args.output.now) (g.O.Write.contents c.run_check.new.output) c.run_check.result)
+    (sym c.in-Check.is) c.run_check.ensures.told
+
+pub returns-in-File-clause-told : goal.returns-in-File-clause-told
+returns-in-File-clause-told g c =
+    subst (λ f. FormTells (question_of f) (g.O.Write.contents c.args.output.now) (g.O.Write.contents c.run_file.new.output) c.run_file.result)
+    (sym c.in-File.is) c.run_file.ensures.told

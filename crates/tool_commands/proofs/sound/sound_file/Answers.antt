@@ -1,8 +1,8 @@
-use Rattle.std.proofs.Common.{◌≡◌, ℕ, List, get_or, sym, subst, ◌∙◌}
+use Rattle.std.proofs.Common.{◌≡◌, ℕ, List, get_or, rules, sym, subst, ◌∙◌}
 use Rattle.store.specs.Opened.{IsAt}
 use Rattle.store.specs.Stands.{no_library}
 use Rattle.contents.specs.File.{HasFile}
-use Rattle.tool_commands.proofs.Named.{is_given, is_lacking}
+use Rattle.tool_commands.proofs.Named.{is_given, is_lacking, lacks}
 use Rattle.tool_commands.proofs.sound.sound_file.Goals as goal
 
 pub returns-in-Ok-clause-ok : goal.returns-in-Ok-clause-ok
@@ -23,3 +23,12 @@ returns-in-Ok-clause-err g c s at lt =
 
 pub returns-clause-err : goal.returns-clause-err
 returns-clause-err g c s at lt = c.in-Err.ensures.err (get_or s.libraries c.args.position no_library)
+
+pub returns-in-Ok-clause-lack : goal.returns-in-Ok-clause-lack
+returns-in-Ok-clause-lack g c = lacks _ c.tested.result c.tested.ensures.err
+
+pub returns-clause-lack : goal.returns-clause-lack
+returns-clause-lack g c = (no_library, c.in-Err.ensures.err no_library)
+
+pub returns-in_err-name-clause-lack : goal.returns-in_err-name-clause-lack
+returns-in_err-name-clause-lack g c = lacks no_library c.from_residual.result (search (rules, c.from_residual.ensures, c.in_err-name.ensures))

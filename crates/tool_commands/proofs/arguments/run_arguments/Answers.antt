@@ -1,0 +1,29 @@
+use Rattle.std.proofs.Common.{◌≡◌, map, None, Result, Ok, sym, subst}
+use Rattle.std.specs.Prelude.{IfOk, IfSome, string_bytes}
+use Rattle.file_disk.specs.declared.disk_file.DiskFile.{DiskFile}
+use Rattle.tool_commands.specs.Form.{command_line}
+use Rattle.tool_commands.specs.Outcome.{LineEnds}
+use Rattle.tool_commands.proofs.arguments.run_arguments.Goals as goal
+
+-- words that were read
+were_read : {T E : Type 0} (r : Result T E) (v : T) → r ≡ Ok v → (P : T → Type 0) → P v → IfOk r P
+were_read r v is P h = subst (λ o. IfOk o P) (sym is) h
+
+pub returns-in-Ok-clause-bad_words : goal.returns-in-Ok-clause-bad_words
+returns-in-Ok-clause-bad_words g c =
+    were_read c.args.words c.in-Ok.words c.in-Ok.is (λ list. command_line (map (λ word. string_bytes word) list.items) ≡ None → c.run_words.result ≡ 2)
+    (λ none. c.run_words.ensures.bad_words (subst (λ l. command_line (map (λ word. string_bytes word) l) ≡ None) (sym c.deref.ensures.value) none))
+
+pub returns-in-Ok-clause-form : goal.returns-in-Ok-clause-form
+returns-in-Ok-clause-form g c =
+    were_read c.args.words c.in-Ok.words c.in-Ok.is (λ list. c.run_words.result ≡ 2 → command_line (map (λ word. string_bytes word) list.items) ≡ None)
+    (λ is. subst (λ l. command_line (map (λ word. string_bytes word) l) ≡ None) c.deref.ensures.value (c.run_words.ensures.form is))
+
+pub returns-in-Ok-clause-ends : goal.returns-in-Ok-clause-ends
+returns-in-Ok-clause-ends g c =
+    let before = g.O.Write.contents c.args.output.now in
+    let after = g.O.Write.contents c.run_words.new.output in
+    were_read c.args.words c.in-Ok.words c.in-Ok.is
+    (λ list. IfSome (command_line (map (λ word. string_bytes word) list.items)) (λ line. LineEnds DiskFile line before after c.run_words.result))
+    (subst (λ l. IfSome (command_line (map (λ word. string_bytes word) l)) (λ line. LineEnds DiskFile line before after c.run_words.result))
+    c.deref.ensures.value c.run_words.ensures.ends)

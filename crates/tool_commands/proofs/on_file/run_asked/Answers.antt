@@ -1,0 +1,27 @@
+use Rattle.std.proofs.Common.{sym, subst}
+use Rattle.requests.specs.Request as request
+use Rattle.file_disk.specs.declared.disk_file.DiskFile.{DiskFile}
+use Rattle.tool_commands.specs.Form.{deed_of}
+use Rattle.tool_commands.specs.Outcome.{AskEnds, DeedEnds}
+use Rattle.tool_commands.specs.declared.telling.Telling.TheVariants.{Text}
+use Rattle.tool_commands.proofs.on_file.run_asked.Goals as goal
+
+pub returns-in-Tell : goal.returns-in-Tell
+returns-in-Tell g c =
+    subst (λ a. DeedEnds DiskFile (deed_of a) (g.O.Write.contents c.args.output.now) (g.O.Write.contents c.tell.new.output) c.tell.result) (sym c.in-Tell.is) c.tell.ensures
+
+pub returns-in-Replace : goal.returns-in-Replace
+returns-in-Replace g c =
+    subst (λ a. DeedEnds DiskFile (deed_of a) (g.O.Write.contents c.args.output.now) (g.O.Write.contents c.replace.new.output) c.replace.result) (sym c.in-Replace.is) c.replace.ensures
+
+pub returns-in-Remove : goal.returns-in-Remove
+returns-in-Remove g c =
+    let before = g.O.Write.contents c.args.output.now in
+    let after = g.O.Write.contents c.change.new.output in
+    let named = subst (λ n. AskEnds DiskFile (request.remove n) Text before after c.change.result) c.as_bytes.ensures.value c.change.ensures in
+    subst (λ a. DeedEnds DiskFile (deed_of a) before after c.change.result) (sym c.in-Remove.is) named
+
+pub returns-in-Executable : goal.returns-in-Executable
+returns-in-Executable g c =
+    subst (λ a. DeedEnds DiskFile (deed_of a) (g.O.Write.contents c.args.output.now) (g.O.Write.contents c.executable.new.output) c.executable.result)
+    (sym c.in-Executable.is) c.executable.ensures
