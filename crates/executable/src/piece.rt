@@ -67,11 +67,14 @@ impl Piece {
     pub(crate) fn of(alloc: Global, segment: &Segment) -> Result<Piece, AllocError>
         ensures { IfOk result (λ piece. piece ≡ piece_of segment.now) }
     {
+        let memory = segment.memory();
+        let mut contents = Vec::with_capacity(alloc, memory.len())?;
+        memory.append_to(&mut contents)?;
         Ok(Piece {
             address: segment.address(),
             flags: flags_of(segment),
-            size: segment.bytes().len() as u64,
-            contents: segment.bytes().to_vec(alloc)?,
+            size: memory.len() as u64,
+            contents,
         })
     }
 
@@ -128,9 +131,10 @@ impl Piece {
     {
         let begin = segment.address() - self.address;
         self.contents.resize(begin as usize, 0)?;
-        self.contents.extend_from_slice(segment.bytes())?;
+        let memory = segment.memory();
+        memory.append_to(&mut self.contents)?;
         self.flags |= flags_of(segment);
-        self.size = begin + segment.bytes().len() as u64;
+        self.size = begin + memory.len() as u64;
         Ok(())
     }
 

@@ -46,7 +46,7 @@ pub(crate) fn pieces_of(alloc: Global, segments: &[Segment]) -> Result<Vec<Piece
     let mut done = Vec::new(alloc);
     let mut last = None;
     for segment in segments {
-        if !segment.bytes().is_empty() {
+        if segment.memory().len() != 0 {
             last = add(alloc, &mut done, last, segment)?;
         }
     }

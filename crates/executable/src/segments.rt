@@ -12,7 +12,7 @@ use image::Segment;
 pub(crate) fn holds(segment: &Segment, address: u64) -> bool
     ensures { result ≡ holds address (heading segment.now) }
 {
-    segment.address() <= address && address - segment.address() < segment.bytes().len() as u64
+    segment.address() <= address && address - segment.address() < segment.memory().len() as u64
 }
 
 /// The first so many segments, or all of them, and those behind.
@@ -30,7 +30,7 @@ pub(crate) fn is_rising(segments: &[Segment]) -> bool
 {
     let mut end = 0;
     for segment in segments {
-        let size = segment.bytes().len() as u64;
+        let size = segment.memory().len() as u64;
         let address = segment.address();
         if address < end || address > MEMORY_LIMIT || size > MEMORY_LIMIT - address {
             return false;

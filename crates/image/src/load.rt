@@ -1,6 +1,6 @@
 // Filling segments from a file.
 
-ghost use Rattle.std.specs.Prelude.{◌≡◌, ◌+◌, ◌-◌, ◌≤◌, ◌++◌, length, map, replicate, IfOk, OnOk};
+ghost use Rattle.std.specs.Prelude.{◌≡◌, ◌+◌, ◌≤◌, ◌++◌, map, IfOk, OnOk};
 ghost use Rattle.elf_file.specs.Segment.{loads};
 ghost use Rattle.image.specs.Constant.{MEMORY_LIMIT};
 ghost use Rattle.image.specs.Loading.{all_loaded, loaded_at};
@@ -13,16 +13,13 @@ use crate::segment::Segment;
 use elf_dynamic::Object;
 use std::alloc::{AllocError, Global};
 
-/// So many bytes of memory that begin with these of a file and go on with zeros.
-fn fresh_bytes(alloc: Global, contents: &[u8], size: usize) -> Result<Vec<u8>, AllocError>
-    requires { length contents.now ≤ size }
-    ensures { IfOk result (λ v.
-        v.items ≡ contents.now ++ replicate (size - length contents.now) 0) }
+/// A copy of bytes.
+fn copy_of(alloc: Global, bytes: &[u8]) -> Result<Vec<u8>, AllocError>
+    ensures { IfOk result (λ v. v.items ≡ bytes.now) }
 {
-    let mut bytes = Vec::with_capacity(alloc, size)?;
-    bytes.extend_from_slice(contents)?;
-    bytes.resize(size, 0)?;
-    Ok(bytes)
+    let mut copy = Vec::with_capacity(alloc, bytes.len())?;
+    copy.extend_from_slice(bytes)?;
+    Ok(copy)
 }
 
 /// Adds the segments of an object at a base before any relocation. One pass over its PT_LOADs; the
@@ -38,13 +35,10 @@ fn load_object(
         ++ map fresh (map (loaded_at base object.now) (loads object.now))) }
 {
     for header in object.segments() {
-        let bytes = fresh_bytes(
-            alloc,
-            object.contents_of(header),
-            header.memory_size as usize,
-        )?;
+        let front = copy_of(alloc, object.contents_of(header))?;
         let permissions = Permissions::of_flags(header.flags);
-        segments.push(Segment::new(base + header.address, permissions, bytes))?;
+        let size = header.memory_size as u32;
+        segments.push(Segment::new(base + header.address, permissions, front, size))?;
     }
     Ok(())
 }

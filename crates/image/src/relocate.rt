@@ -9,7 +9,7 @@ ghost use Rattle.image.specs.Loading.{all_loaded};
 ghost use Rattle.image.specs.Placement.{named};
 ghost use Rattle.image.specs.Refusal.{undefined_in, undefined_refusal, IsFirstOrWantsMemory};
 ghost use Rattle.image.specs.Relocating.{file_at, is_undefined, write_of, writes_of, all_writes};
-ghost use Rattle.image.specs.Relocating.{last_write_at, written_or};
+ghost use Rattle.image.specs.Relocating.{last_write_at, value_of, written_or};
 ghost use Rattle.image.specs.inside.Layout.{Rising, after, Lands, Keeps};
 
 use crate::patch::patch;
@@ -18,37 +18,31 @@ use crate::refusal::BindRefusal;
 use crate::segment::Segment;
 use crate::value::{nothing_kept, value_of};
 use elf_dynamic::Relocation;
-use scope::Undefined;
-use std::alloc::Global;
+use std::alloc::{AllocError, Global};
 
-/// Writes what one relocation of the object at a place in load order writes, and gives the segment
-/// that was found last, unless its symbol is undefined.
-fn relocate_one(
+/// Writes the value of a relocation of the object at a place in load order, where it writes one,
+/// and gives the segment that was found last.
+fn write_value(
     segments: &mut [Segment],
     near: usize,
     objects: &PlacedOrder<'_>,
     own: usize,
-    kept: &mut Vec<Option<u64>>,
     relocation: Relocation,
-) -> Result<usize, Undefined>
+    value: Option<u64>,
+) -> Result<usize, AllocError>
     requires own { own < length objects.now }
-    requires symbol { uses_symbol relocation.kind ≡ true
-        → relocation.symbol < length (symbols (file_at objects.now own)) }
-    requires kept { Keeps objects.now own kept.old.items }
+    requires value { value ≡ value_of objects.now own relocation }
     requires rising { Rising 0 (map heading segments.old) }
     requires lands { IfSome (write_of objects.now own relocation)
         (Lands (map heading segments.old)) }
-    ensures kept { Keeps objects.now own kept.new.items }
     ensures headings { map heading segments.new ≡ map heading segments.old }
-    ensures ok { OnOk result (is_undefined objects.now own relocation ≡ false) }
     ensures bytes { OnOk result ((a : ℕ) → segments_byte segments.new a
         ≡ after (write_of objects.now own relocation) (segments_byte segments.old a) a) }
-    ensures err { OnErr result (is_undefined objects.now own relocation ≡ true) }
 {
-    match value_of(objects, own, kept, relocation)? {
+    match value {
         Some(value) => {
             let place = objects.base(own) + relocation.offset;
-            Ok(patch(segments, near, place, value))
+            patch(segments, near, place, value)
         }
         None => Ok(near),
     }
@@ -78,13 +72,11 @@ fn relocate_object(
     let mut near = 0;
     for i in 0..object.rela_count() {
         let relocation = object.rela(i);
-        match relocate_one(segments, near, objects, own, &mut kept, relocation) {
-            Ok(found) => near = found,
-            Err(_) => {
-                let symbol = object.name_of(relocation.symbol);
-                return Err(BindRefusal::undefined(alloc, objects.name(own), symbol));
-            }
-        }
+        let Ok(value) = value_of(objects, own, &mut kept, relocation) else {
+            let symbol = object.name_of(relocation.symbol);
+            return Err(BindRefusal::undefined(alloc, objects.name(own), symbol));
+        };
+        near = write_value(segments, near, objects, own, relocation, value)?;
     }
     Ok(())
 }

@@ -10,7 +10,7 @@ use crate::answer::Answer;
 use crate::entry::{name_bytes, put_name};
 use crate::object::{ObjectPlace, object_place};
 use crate::place::{SegmentPlace, place_of};
-use crate::put::put;
+use crate::put::put_memory;
 use crate::status::{DONE, NO_ROOM};
 use image::Image;
 
@@ -20,7 +20,7 @@ fn segments_bytes(image: &Image) -> u64
 {
     let mut bytes = 0u64;
     for segment in image.segments() {
-        bytes = bytes.saturating_add(segment.bytes().len() as u64);
+        bytes = bytes.saturating_add(segment.memory().len() as u64);
     }
     bytes
 }
@@ -54,7 +54,7 @@ fn put_segments(image: &Image, places: &mut [SegmentPlace], bytes: &mut [u8]) ->
             return None;
         }
         places[i] = place_of(segment, at);
-        at = put(bytes, at, segment.bytes())?;
+        at = put_memory(bytes, at, &segment.memory())?;
     }
     Some(at)
 }

@@ -25,7 +25,7 @@ pub(crate) fn place_of(segment: &Segment, from: usize) -> SegmentPlace
 {
     SegmentPlace {
         address: segment.address(),
-        length: segment.bytes().len() as u64,
+        length: segment.memory().len() as u64,
         from: from as u64,
         permissions: u64::from(segment.permissions().bits()),
     }

@@ -1,8 +1,9 @@
 -- Lines of zeros, and lines of zeros behind others.
-use Rattle.std.proofs.Common.{◌≡◌, ℕ, ◌+◌, ◌-◌, ◌*◌, ◌/◌, ◌%◌, ◌<◌, ◌≤◌, List, [], ◌∷◌, ◌++◌, length, take, drop, slice_index_or, sym, ap, ◌∙◌, arith, suc, zero, append-nil, refl, Option, Some, None}
+use Rattle.std.proofs.Common.{◌≡◌, ℕ, ◌+◌, ◌-◌, ◌*◌, ◌/◌, ◌%◌, ◌<◌, ◌≤◌, List, [], ◌∷◌, ◌++◌, length, take, drop, slice_index_or, sym, ap, ◌∙◌, arith, suc, zero, append-nil, refl, Option, Some, None, ◌⊎◌, inl, inr, append_assoc, min}
 use Rattle.std.specs.Prelude.{replicate}
-use Rattle.std.proofs.Math.Seq.{drop-append-add}
-use Rattle.std.proofs.lemmas.List.{length-append, length-drop, length-take, drop-drop, take-append-drop, take-append-le, drop-append-le, replicate-append-replicate, length-replicate}
+use Rattle.std.proofs.lemmas.Bool.{cases_lt}
+use Rattle.std.proofs.Math.Seq.{drop-append-add, take-append-add}
+use Rattle.std.proofs.lemmas.List.{length-append, length-drop, length-take, drop-drop, take-append-drop, take-append-le, drop-append-le, replicate-append-replicate, length-replicate, take-replicate}
 use Rattle.std.specs.List.{flat_map, range_with_len}
 use Rattle.std.specs.Simd.{first_chunks}
 use Rattle.std.proofs.lemmas.Grind.{flat_map-append}
@@ -119,3 +120,32 @@ pub sent-and-kept : (a b : Option (List ℕ)) (waiting : List ℕ) → Appends a
 sent-and-kept None b waiting p = tt
 sent-and-kept (Some x) None waiting p = absurd p
 sent-and-kept (Some x) (Some y) waiting p = ap (λ l. l ++ waiting) p
+
+-- a whole line and zeros behind it, or a shorter one and nothing
+line-and : (line zeros : List ℕ) → (length line ≡ 16) ⊎ (zeros ≡ []) → hex_lines line ++ hex_lines zeros ≡ hex_lines (line ++ zeros)
+line-and line zeros (inl h) = sym (hex_lines-append line zeros 1 h)
+line-and line zeros (inr h) =
+    ap (λ l. hex_lines line ++ hex_lines l) h ∙ append-nil (hex_lines line) ∙ ap hex_lines (sym (append-nil line)) ∙ ap (λ l. hex_lines (line ++ l)) (sym h)
+
+full-or-last : (rest zeros more : ℕ) → rest < 16 → more ≡ min zeros (16 - rest) → (rest + more ≡ 16) ⊎ (zeros - more ≡ 0)
+full-or-last rest zeros more h e = elim (cases_lt zeros (16 - rest)) [ inl l ↦ inr (omega (arith, l, e)) | inr l ↦ inl (omega (arith, l, e, h)) ]
+
+-- bytes with zeros behind them: their whole lines, the line that begins with the rest, and lines of zeros
+pub padded-lines : (bytes lines rest : List ℕ) (zeros more n : ℕ) → lines ++ rest ≡ bytes → length lines ≡ 16 * n → length rest < 16 → more ≡ min zeros (16 - length rest)
+    → (hex_lines lines ++ hex_lines (take (length rest + more) (rest ++ replicate (16 - length rest) 0))) ++ hex_lines (replicate (zeros - more) 0) ≡ hex_lines (bytes ++ replicate zeros 0)
+padded-lines bytes lines rest zeros more n all whole short least =
+    let within : more ≤ 16 - length rest = omega (arith, least) in
+    let below : more + (zeros - more) ≡ zeros = omega (arith, least) in
+    let line = rest ++ replicate more 0 in
+    let others : List ℕ = replicate (zeros - more) 0 in
+    let is : take (length rest + more) (rest ++ replicate (16 - length rest) 0) ≡ line =
+    take-append-add rest (replicate (16 - length rest) 0) more ∙ ap (λ l. rest ++ l) (take-replicate more (16 - length rest) 0 within) in
+    let size : length line ≡ length rest + more = length-append rest (replicate more 0) ∙ ap (λ k. length rest + k) (length-replicate more 0) in
+    let last : (length line ≡ 16) ⊎ (others ≡ []) = elim (full-or-last (length rest) zeros more short least) [ inl h ↦ inl (size ∙ h) | inr h ↦ inr (ap (λ k. replicate k 0) h) ] in
+    let joined : line ++ others ≡ rest ++ replicate zeros 0 =
+    append_assoc rest (replicate more 0) others ∙ ap (λ l. rest ++ l) (replicate-append-replicate more (zeros - more) 0 ∙ ap (λ k. replicate k 0) below) in
+    ap (λ l. (hex_lines lines ++ hex_lines l) ++ hex_lines others) is
+    ∙ append_assoc (hex_lines lines) (hex_lines line) (hex_lines others)
+    ∙ ap (λ l. hex_lines lines ++ l) (line-and line others last ∙ ap hex_lines joined)
+    ∙ sym (hex_lines-append lines (rest ++ replicate zeros 0) n whole)
+    ∙ ap hex_lines (sym (append_assoc lines rest (replicate zeros 0)) ∙ ap (λ l. l ++ replicate zeros 0) all)

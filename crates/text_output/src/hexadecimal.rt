@@ -73,7 +73,11 @@ impl<const SIZE: usize> OutputBuffer<SIZE> {
     }
 
     /// Puts bytes in hexadecimal behind what waits, sixteen a line, each line by itself.
-    fn put_lines<W: Write>(&mut self, out: &mut W, bytes: &[u8]) -> Result<(), WriteFault>
+    pub(crate) fn put_lines<W: Write>(
+        &mut self,
+        out: &mut W,
+        bytes: &[u8],
+    ) -> Result<(), WriteFault>
         ensures ok { OnOk result (Sends (W.contents out.old) self.old (W.contents out.new) self.new
             (hex_lines bytes.now)) }
         ensures err { OnErr result (self.new.failed ≡ true) }

@@ -1,6 +1,7 @@
 // Zeros in hexadecimal.
 
-ghost use Rattle.std.specs.Prelude.{◌≡◌, ◌*◌, ◌-◌, ◌%◌, ◌≤◌, drop, length, replicate, true};
+ghost use Rattle.std.specs.Prelude.{◌≡◌, ◌*◌, ◌-◌, ◌%◌, ◌<◌, ◌≤◌, ◌++◌, drop, length, replicate};
+ghost use Rattle.std.specs.Prelude.{true};
 ghost use Rattle.std.specs.Prelude.{OnOk, OnErr, Ok};
 ghost use Rattle.text_output.specs.Sends.{Sends, HasRoom, with_text};
 ghost use Rattle.text_output.specs.Hexadecimal.{hex_lines};
@@ -40,6 +41,16 @@ pub(crate) fn zeros_begin(bytes: &[u8]) -> usize
         count -= 1;
     }
     BLOCK * count
+}
+
+/// A line that begins with these bytes and goes on with zeros.
+fn line_of(bytes: &[u8]) -> [u8; LINE_BYTES]
+    requires { length bytes.now < LINE_BYTES }
+    ensures { result ≡ bytes.now ++ replicate (LINE_BYTES - length bytes.now) 0 }
+{
+    let mut line = [0; LINE_BYTES];
+    line[..bytes.len()].copy_from_slice(bytes);
+    line
 }
 
 impl<const SIZE: usize> OutputBuffer<SIZE> {
@@ -82,5 +93,35 @@ impl<const SIZE: usize> OutputBuffer<SIZE> {
             left -= full;
         }
         self.put_few_zero_lines(out, left)
+    }
+    /// Puts so many zeros in hexadecimal behind what waits, sixteen a line.
+    fn put_zeros<W: Write>(&mut self, out: &mut W, count: u64) -> Result<(), WriteFault>
+        ensures ok { OnOk result (Sends (W.contents out.old) self.old (W.contents out.new) self.new
+            (hex_lines (replicate count 0))) }
+        ensures err { OnErr result (self.new.failed ≡ true) }
+    {
+        let zeros = [0; LINE_BYTES];
+        self.put_zero_lines(out, count / LINE_BYTES as u64)?;
+        self.put_lines(out, &zeros[..(count % LINE_BYTES as u64) as usize])
+    }
+
+    /// Puts bytes and so many zeros behind them in hexadecimal behind what waits, sixteen a line.
+    /// The zeros are made as lines, and the lines once.
+    pub fn put_padded_hex_lines<W: Write>(
+        &mut self,
+        out: &mut W,
+        bytes: &[u8],
+        zeros: u64,
+    ) -> Result<(), WriteFault>
+        ensures ok { OnOk result (Sends (W.contents out.old) self.old (W.contents out.new) self.new
+            (hex_lines (bytes.now ++ replicate zeros 0))) }
+        ensures err { OnErr result (self.new.failed ≡ true) }
+    {
+        let (lines, rest) = bytes.split_at(bytes.len() - bytes.len() % LINE_BYTES);
+        self.put_hex_lines(out, lines)?;
+        let line = line_of(rest);
+        let more = zeros.min((LINE_BYTES - rest.len()) as u64);
+        self.put_lines(out, &line[..rest.len() + more as usize])?;
+        self.put_zeros(out, zeros - more)
     }
 }

@@ -15,13 +15,17 @@ use Rattle.image.specs.Placement.{Placed, placed_at, end_of}
 use Rattle.image.specs.Relocating.{Write, file_at, symbol_value}
 use Rattle.image.specs.declared.object.ImageObject.{ImageObject}
 
+-- bytes with zeros behind them, so many together
+abbrev pub padded : List ℕ → ℕ → List ℕ
+padded front size = front ++ replicate (size - length front) 0
+
 -- a PT_LOAD in memory before any relocation: the file's bytes, and zeros behind them
 abbrev pub fresh : Loaded → ImageSegment
 fresh s =
     record {
       address = s.heading.address;
       permissions = s.heading.permissions;
-      bytes = s.contents ++ replicate (s.heading.size - length s.contents) 0;
+      bytes = padded s.contents s.heading.size;
     }
 
 -- each segment lies above those before it, and all of them at or above `from`

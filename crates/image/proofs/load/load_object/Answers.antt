@@ -1,25 +1,35 @@
-use Rattle.std.proofs.Common.{◌≡◌, ◌+◌, ◌-◌, ◌++◌, [], ◌∷◌, List, Some, length, map, replicate, ap, ◌∙◌, refl, sym, arith, append_assoc}
+use Rattle.std.proofs.Common.{◌≡◌, ◌+◌, ◌-◌, ◌++◌, [], ◌∷◌, List, Some, length, map, ap, ◌∙◌, refl, sym, arith, append_assoc}
 use Rattle.std.specs.Prelude.{slice_get}
 use Rattle.std.proofs.lemmas.Iterator.Consumers.{YieldsList-from_first, YieldsList-turn, YieldsList-end}
 use Rattle.std.proofs.lemmas.List.{map_push, map-id}
 use Rattle.std.proofs.lemmas.Option.{slice_get_read}
-use Rattle.elf_file.specs.Segment.{loads}
+use Rattle.elf_file.specs.Segment.{loads, contents}
 use Rattle.elf_file.specs.declared.segment.ProgramHeader.{ProgramHeader}
 use Rattle.image.specs.Image.{ImageSegment}
 use Rattle.image.specs.Loading.{loaded_at}
-use Rattle.image.specs.inside.Layout.{fresh}
-use Rattle.image.proofs.Placing.{contents-fit, reach-bounds}
+use Rattle.image.specs.inside.Layout.{fresh, padded}
+use Rattle.image.proofs.Placing.{contents-fit, memory-small, reach-bounds}
 use Rattle.image.proofs.load.load_object.Goals as goal
 
-pub fresh_bytes-requires : goal.fresh_bytes-requires
-fresh_bytes-requires c =
+pub overflow_cast-size : goal.overflow_cast-size
+overflow_cast-size c =
     let file = c.args.object.now in
     let h : ProgramHeader = c.in-Some.header in
     let road = YieldsList-from_first (λ (x : ProgramHeader). x) (λ (hs : List ProgramHeader). hs) (loads file)
     (c.into_iter-header-iterator.ensures.into_iter_gives ∙ c.segments-header-items.ensures.segments) in
     let turn = YieldsList-turn road c.loop-header.yielded _ c.loop-header.yielded_by _ _ h c.in-Some.is c.next.ensures.steps in
     let at : slice_get (loads file) (length c.loop-header.yielded) ≡ Some h = slice_get_read (loads file) (length (loads file)) (length c.loop-header.yielded) h refl turn.0 turn.1 in
-    omega (arith, ap length c.contents_of.ensures.contents, contents-fit file (length c.loop-header.yielded) h c.contents_of.ensures.accepted at)
+    omega (arith, memory-small file (length c.loop-header.yielded) h c.contents_of.ensures.accepted at)
+
+pub new-requires : goal.new-requires
+new-requires c =
+    let file = c.args.object.now in
+    let h : ProgramHeader = c.in-Some.header in
+    let road = YieldsList-from_first (λ (x : ProgramHeader). x) (λ (hs : List ProgramHeader). hs) (loads file)
+    (c.into_iter-header-iterator.ensures.into_iter_gives ∙ c.segments-header-items.ensures.segments) in
+    let turn = YieldsList-turn road c.loop-header.yielded _ c.loop-header.yielded_by _ _ h c.in-Some.is c.next.ensures.steps in
+    let at : slice_get (loads file) (length c.loop-header.yielded) ≡ Some h = slice_get_read (loads file) (length (loads file)) (length c.loop-header.yielded) h refl turn.0 turn.1 in
+    omega (arith, ap length c.in_ok-front.ensures, ap length c.contents_of.ensures.contents, contents-fit file (length c.loop-header.yielded) h c.contents_of.ensures.accepted at)
 
 pub overflow_add-base : goal.overflow_add-base
 overflow_add-base c =
@@ -38,12 +48,12 @@ loop-header-preserved c =
     let start : List ImageSegment = c.args.segments.now.items in
     let h : ProgramHeader = c.in-Some.header in
     let done : List ProgramHeader = c.loop-header.yielded in
-    let bytes = c.in_ok-bytes.ensures ∙ ap (λ bs. bs ++ replicate (h.memory_size - length bs) 0) c.contents_of.ensures.contents in
+    let bytes : c.in_ok-front.front.items ≡ contents file h = c.in_ok-front.ensures ∙ c.contents_of.ensures.contents in
     let new : ImageSegment = c.new.result in
     let view : new ≡ fresh (loaded_at base file h) =
     c.new.ensures
-    ∙ ap (λ p. let s : ImageSegment = record { address = base + h.address; permissions = p; bytes = c.in_ok-bytes.bytes.items } in s) c.of_flags-permissions.ensures
-    ∙ ap (λ bs. let s : ImageSegment = record (fresh (loaded_at base file h)) { bytes = bs } in s) bytes in
+    ∙ ap (λ p. let s : ImageSegment = record { address = base + h.address; permissions = p; bytes = padded c.in_ok-front.front.items h.memory_size } in s) c.of_flags-permissions.ensures
+    ∙ ap (λ bs. let s : ImageSegment = record (fresh (loaded_at base file h)) { bytes = padded bs h.memory_size } in s) bytes in
     c.in_ok-push.ensures.items
     ∙ ap (λ l. l ++ new ∷ []) c.loop-header.invariant
     ∙ append_assoc start (map fresh (map (loaded_at base file) done)) (new ∷ [])

@@ -32,19 +32,19 @@ loop-i-init c =
       first = refl;
     }
 
-pub relocate_one-requires-clause-symbol : goal.relocate_one-requires-clause-symbol
-relocate_one-requires-clause-symbol c = λ uses.
+pub value_of-requires-clause-symbol : goal.value_of-requires-clause-symbol
+value_of-requires-clause-symbol c = λ uses.
     let obj = c.object-object.result.now in
     let r : Relocation = c.rela-relocation.result in
     subst (λ (f : List ℕ). r.symbol < length (symbols f)) c.object-object.ensures.file
     (omega (arith, symbol-there obj c.loop-i.i r c.rela-relocation.ensures.accepted c.rela-relocation.ensures.relocation uses, c.symbol_count.ensures.count, c.symbol_count.ensures.chains))
 
-pub relocate_one-requires-clause-rising : goal.relocate_one-requires-clause-rising
-relocate_one-requires-clause-rising c =
+pub write_value-requires-clause-rising : goal.write_value-requires-clause-rising
+write_value-requires-clause-rising c =
     bound-rising c.args.objects.now c.loop-i.segments c.object-object.ensures.stacked c.object-object.ensures.accepted (c.loop-i.invariant.headings ∙ c.requires.headings)
 
-pub relocate_one-requires-clause-lands : goal.relocate_one-requires-clause-lands
-relocate_one-requires-clause-lands c =
+pub write_value-requires-clause-lands : goal.write_value-requires-clause-lands
+write_value-requires-clause-lands c =
     let objects = c.args.objects.now in
     let r : Relocation = c.rela-relocation.result in
     let at : slice_get (relocations_of objects c.args.own) c.loop-i.i ≡ Some r =
@@ -64,31 +64,31 @@ loop-i-preserved c =
     let more : take (i + 1) all ≡ done ++ r ∷ [] = take_next all i r at in
     let f = write_of objects own in
     record {
-      kept = c.relocate_one.ensures.kept;
-      headings = c.relocate_one.ensures.headings ∙ c.loop-i.invariant.headings;
+      kept = c.value_of.ensures.kept;
+      headings = c.write_value.ensures.headings ∙ c.loop-i.invariant.headings;
       bytes = λ a.
           let start = segments_byte c.args.segments.now a in
-          c.in-Ok.ensures.bytes a ∙ ap (λ o. after (f r) o a) (c.loop-i.invariant.bytes a)
+          c.in_ok-near.ensures.bytes a ∙ ap (λ o. after (f r) o a) (c.loop-i.invariant.bytes a)
           ∙ sym (written_or-more f done r start a) ∙ ap (λ (l : List Relocation). written_or (last_write_at (filter_map f l) a) start a) (sym more);
-      first = passed (is_undefined objects own) all i r at c.in-Ok.ensures.ok ∙ c.loop-i.invariant.first;
+      first = passed (is_undefined objects own) all i r at c.in-Ok.ensures.value.1 ∙ c.loop-i.invariant.first;
     }
 
 pub name_of-symbol-requires : goal.name_of-symbol-requires
 name_of-symbol-requires c =
     let obj = c.object-object.result.now in
     let r : Relocation = c.rela-relocation.result in
-    let uses = undefined-uses c.args.objects.now c.args.own r c.in-Err.ensures.err in
+    let uses = undefined-uses c.args.objects.now c.args.own r c.in_default.ensures.value in
     omega (arith, symbol-there obj c.loop-i.i r c.rela-relocation.ensures.accepted c.rela-relocation.ensures.relocation uses, c.symbol_count.ensures.count, c.symbol_count.ensures.chains)
 
-pub returns-in-Err-clause-refused : goal.returns-in-Err-clause-refused
-returns-in-Err-clause-refused c =
+pub returns-in_default-clause-refused : goal.returns-in_default-clause-refused
+returns-in_default-clause-refused c =
     let objects : List Placed = c.args.objects.now in
     let own = c.args.own in
     let i = c.loop-i.i in
     let r : Relocation = c.rela-relocation.result in
     let all : List Relocation = relocations_of objects own in
     let at : slice_get all i ≡ Some r = subst (λ (f : List ℕ). slice_get (relocations f) i ≡ Some r) c.object-object.ensures.file c.rela-relocation.ensures.relocation in
-    let first : first_undefined objects own ≡ Some r = sym c.loop-i.invariant.first ∙ found (is_undefined objects own) all i r at c.in-Err.ensures.err in
+    let first : first_undefined objects own ≡ Some r = sym c.loop-i.invariant.first ∙ found (is_undefined objects own) all i r at c.in_default.ensures.value in
     let same : undefined_by objects own r ≡ Undefined c.name.result.now c.name_of-symbol.result.now =
     ap (λ n. Undefined n (name_of (file_at objects own) r.symbol)) (sym c.name.ensures)
     ∙ ap (λ n. Undefined c.name.result.now n) (sym (c.name_of-symbol.ensures.name ∙ ap (λ f. name_of f r.symbol) c.object-object.ensures.file)) in

@@ -13,7 +13,7 @@ returns-in_err-at-clause-small c =
     (omega (arith, ap length c.segments-segment-items.ensures))
     (subst (λ (l : List ImageSegment). c.segment-item.result ≡ get_or l c.loop-i.i c.segment-item.result) c.segments-segment-items.ensures
     c.segment-item.is) c.loop-i.at c.loop-i.invariant.at (length c.args.bytes.now)
-    (omega (arith, c.in_err-at.ensures.small, c.loop-i.auto.bytes, ap length c.bytes.ensures))))
+    (omega (arith, c.in_err-at.ensures.small, c.loop-i.auto.bytes, ap length c.memory.ensures))))
 
 pub loop-i-preserved : goal.loop-i-preserved
 loop-i-preserved c =
@@ -25,11 +25,11 @@ loop-i-preserved c =
     record {
       at = end_more bytes segments i s (omega (arith, ap length c.segments-segment-items.ensures))
           (subst (λ (l : List ImageSegment). c.segment-item.result ≡ get_or l c.loop-i.i c.segment-item.result) c.segments-segment-items.ensures
-          c.segment-item.is) c.loop-i.at was.at c.in_ok-at.at (c.in_ok-at.ensures.end ∙ ap (λ l. c.loop-i.at + length l) c.bytes.ensures);
+          c.segment-item.is) c.loop-i.at was.at c.in_ok-at.at (c.in_ok-at.ensures.end ∙ ap (λ l. c.loop-i.at + length l) c.memory.ensures);
       bytes = front_more bytes segments i s (omega (arith, ap length c.segments-segment-items.ensures))
           (subst (λ (l : List ImageSegment). c.segment-item.result ≡ get_or l c.loop-i.i c.segment-item.result) c.segments-segment-items.ensures
-          c.segment-item.is) c.loop-i.at was.at c.loop-i.bytes c.put.new.out c.in_ok-at.at was.bytes
-          (c.in_ok-at.ensures.front ∙ ap (λ l. take c.loop-i.at c.loop-i.bytes ++ l) c.bytes.ensures);
+          c.segment-item.is) c.loop-i.at was.at c.loop-i.bytes c.put_memory.new.out c.in_ok-at.at was.bytes
+          (c.in_ok-at.ensures.front ∙ ap (λ l. take c.loop-i.at c.loop-i.bytes ++ l) c.memory.ensures);
       places = take_more_set c.loop-i.places i c.place_of.result (omega arith)
           ∙ ap (λ l. l ++ c.place_of.result ∷ []) was.places
           ∙ ap (λ p. places_of 0 (take i segments) ++ p ∷ []) (c.place_of.ensures ∙ ap (λ n. place_of n s) (omega (arith, was.at)))
