@@ -53,8 +53,8 @@ want 'libraries that ask to come first' \
         printf ' %s' {g,h}-{first,early,late}) entered$(
             printf ' %s' {h,g,f,b,c,a}-{soon,then,last})" \
     "$(./rlibreg-run disk ./firsts word)"
-gcc $checked -o damaged "$here/damaged.c" "$here"/../rlibreg_run_{objects,order,calls}.c \
-    "$built/librlibreg.a"
+compiled damaged "$checked" "$here/damaged.c" "$here"/../rlibreg_run_{objects,order,calls}.c
+gcc $checked -o damaged "$objects"/damaged/*.o "$built/librlibreg.a"
 ./damaged disk stages
 
 # C++, and what initializers are given.

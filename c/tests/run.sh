@@ -1,7 +1,8 @@
 #!/usr/bin/env bash
-# run.sh FOLDER RLIBREG tries the C library that build.sh has put into FOLDER, beside the program
-# RLIBREG. The C side is compiled anew for that, with the sanitizers of addresses and of undefined
-# behaviour, which see the C code alone.
+# run.sh FOLDER RLIBREG [OBJECTS] tries the C library that build.sh has put into FOLDER, beside the
+# program RLIBREG. The C side is compiled anew for that, with the sanitizers of addresses and of
+# undefined behaviour, which see the C code alone. A later run with the same folder OBJECTS, over what
+# another compiler has made of the proved calls, takes that C.
 set -eu
 here=$(cd "$(dirname "$0")" && pwd)
 built=$(cd "$1" && pwd)
@@ -19,29 +20,33 @@ trap 'rm -rf "$room"' EXIT
 flags="-std=c11 -g -Wall -Wextra -Wpedantic -Werror -I$built"
 checked="$flags -O1 -fsanitize=address,undefined -fno-sanitize-recover=all"
 wraps=-Wl,--wrap=malloc,--wrap=calloc,--wrap=realloc
+objects=${3:-$room/objects}
 # compiled NAME FLAGS FILE..: objects of C files, in a folder of the name.
 compiled() {
-    mkdir "$room/$1"
-    (cd "$room/$1" && gcc $2 -c "${@:3}")
+    [ ! -d "$objects/$1" ] || return 0
+    mkdir -p "$objects/$1"
+    (cd "$objects/$1" && gcc $2 -c "${@:3}")
 }
 library=$(printf "$here/../rlibreg_%s.c " file disk_file new_disk status)
 compiled library "$checked" $library
-beside="$room/library/*.o $built/librlibreg.a"
+beside="$objects/library/*.o $built/librlibreg.a"
 watched=$(printf ',--wrap=%s' open openat fstat stat fstatat lseek nanosleep flock fsync \
     posix_fadvise mmap ftruncate pwrite linkat renameat2 renameat unlink unlinkat)
-watched="-Wl$watched $here/watched.c"
-for name in tool calls cuts; do
-    gcc $checked -o "$room/$name" "$here/$name.c" $beside
-done
-gcc $checked $wraps -o "$room/faults" "$here/faults.c" $watched $beside
-for name in opening making forked contents findings; do
-    gcc $checked -o "$room/$name" "$here/$name.c" $watched $beside
+watched="-Wl$watched $objects/tests/watched.o"
+plain='tool calls cuts'
+over_watched='opening making forked contents findings'
+compiled tests "$checked" $(printf "$here/%s.c " watched faults $plain $over_watched)
+for name in $plain; do gcc $checked -o "$room/$name" "$objects/tests/$name.o" $beside; done
+for name in faults $over_watched; do
+    wrapped=
+    if [ $name = faults ]; then wrapped=$wraps; fi
+    gcc $checked $wrapped -o "$room/$name" "$objects/tests/$name.o" $watched $beside
 done
 # With the sanitizer of addresses a program can't be mapped at each address, so the loader has one.
 loader="$flags -O1 -fsanitize=undefined -fno-sanitize-recover=all"
 compiled loader "$loader" "$here"/../rlibreg_run*.c $library
-gcc $loader -o "$room/rlibreg-run" "$room"/loader/*.o "$built/librlibreg.a"
-gcc $loader -o "$room/run-taken" -Wl,--wrap=mmap "$here/taken.c" "$room"/loader/*.o \
+gcc $loader -o "$room/rlibreg-run" "$objects"/loader/*.o "$built/librlibreg.a"
+gcc $loader -o "$room/run-taken" -Wl,--wrap=mmap "$here/taken.c" "$objects"/loader/*.o \
     "$built/librlibreg.a"
 gcc $flags -o "$room/within" "$here/within.c"
 
