@@ -48,7 +48,8 @@ returns-clause-written g c honest =
     let honest_mid = subst IsTrue (sym c.write_staged.ensures.calls.honest) honest in
     let low : c.slot_of.result < 2 = grind (arith, c.slot_of.ensures.value) in
     ok_both c.commit.result
-    (bytes_stay (g.D.Disk.facts c.args.disk.now).sectors c.args.self.now.staged c.args.listed.now c.requires.room mid (g.D.Disk.facts c.commit.new.disk) c.args.bytes.now c.slot_of.result c.encode_root.result low
+    (bytes_stay (g.D.Disk.facts c.args.disk.now).sectors c.args.self.now.staged c.args.listed.now c.requires.room mid
+    (g.D.Disk.facts c.commit.new.disk) c.args.bytes.now c.slot_of.result c.encode_root.result low
     (c.in_ok-write_staged.ensures.staged honest mid.now (g.met.D.Disk.holds_now _ honest_mid)))
     (c.commit.ensures.synced honest_mid) (c.commit.ensures.now honest_mid)
 

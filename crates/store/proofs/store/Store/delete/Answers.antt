@@ -119,7 +119,8 @@ leaves : (g : given.Over) (c : After-carry_out-written g) (s : State)
 leaves g c s is at_entry =
     let at = subst (λ store. IsAt g.D.Disk.facts store s) (sym c.self.view_is) at_entry in
     subst (λ store. LeavesOnly (g.D.Disk.facts store.disk) (g.D.Disk.facts c.carry_out-written.new.disk) (λ m. Stands m s ⊎ Stands m (without c.args.name.now s))) c.self.view_is
-    (c.carry_out-written.ensures.any_moment at.honest Two c.self.inside.root c.self.inside.entries.items s (remove c.self.inside.entries.items c.in-Some.position) (without c.args.name.now s) at.stands is)
+    (c.carry_out-written.ensures.any_moment at.honest Two c.self.inside.root c.self.inside.entries.items s
+    (remove c.self.inside.entries.items c.in-Some.position) (without c.args.name.now s) at.stands is)
 
 pub returns-in-Err-clause-any_moment : goal.returns-in-Err-clause-any_moment
 returns-in-Err-clause-any_moment g c s at =

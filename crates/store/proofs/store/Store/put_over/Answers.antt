@@ -90,7 +90,8 @@ putting : (g : given.Over) (c : After-next_root-root g) (s : State) (sectors : L
 putting g c s sectors are =
     let others = set c.self.inside.entries.items c.in-Some.position c.new_entry-put.result in
     let change : Change = record { staged = Put c.new_entry-put.result c.in_ok-room.room.catalogues; root = c.next_root-root.result } in
-    subst (λ sectors. IsFollowed Two c.self.inside.root c.self.inside.entries.items s change c.args.bytes.now sectors others (with_bytes c.args.name.now c.args.bytes.now s)) (sym (are ∙ listed_are g c))
+    subst (λ sectors. IsFollowed Two c.self.inside.root c.self.inside.entries.items s change c.args.bytes.now sectors others (with_bytes c.args.name.now c.args.bytes.now s))
+    (sym (are ∙ listed_are g c))
     (replacement_put (replacing g c) c.args.bytes.now s c.new_entry-put.ensures.length (enough g c))
 
 -- what is given back once it is done stood there

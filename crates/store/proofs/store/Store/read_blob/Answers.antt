@@ -21,14 +21,17 @@ read_file-requires-clause-inside g c =
 
 pub returns-then-self : goal.returns-then-self
 returns-then-self g c =
-    let before : Opened g.row.D.Denot = record { disk = c.self.inside.disk; root = c.self.inside.root; entries = c.self.inside.entries.items; held = c.self.inside.held; failed = c.self.inside.failed } in
+    let before : Opened g.row.D.Denot =
+    record { disk = c.self.inside.disk; root = c.self.inside.root; entries = c.self.inside.entries.items; held = c.self.inside.held; failed = c.self.inside.failed } in
     subst (λ store. ReadsBlob Two g.D.Disk.facts store store c.args.position (Err Reopen)) c.self.view_is
     (blob_refused Two g.D.Disk.facts before c.args.position c.if-self.true)
 
 pub returns : goal.returns
 returns g c =
-    let before : Opened g.row.D.Denot = record { disk = c.self.inside.disk; root = c.self.inside.root; entries = c.self.inside.entries.items; held = c.self.inside.held; failed = c.self.inside.failed } in
-    let after : Opened g.row.D.Denot = record { disk = c.read_file.new.disk; root = c.self.inside.root; entries = c.self.inside.entries.items; held = c.self.inside.held; failed = c.self.inside.failed } in
+    let before : Opened g.row.D.Denot =
+    record { disk = c.self.inside.disk; root = c.self.inside.root; entries = c.self.inside.entries.items; held = c.self.inside.held; failed = c.self.inside.failed } in
+    let after : Opened g.row.D.Denot =
+    record { disk = c.read_file.new.disk; root = c.self.inside.root; entries = c.self.inside.entries.items; held = c.self.inside.held; failed = c.self.inside.failed } in
     let lt = subst (λ store. c.args.position < length store.entries) (sym c.self.view_is) c.requires in
     let read = c.read_file.ensures in
     subst (λ store. ReadsBlob Two g.D.Disk.facts store after c.args.position c.read_file.result) c.self.view_is
