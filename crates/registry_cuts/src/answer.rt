@@ -6,11 +6,14 @@ use requests::Reply;
 use std::alloc::Global;
 use std::io::Write;
 
+/// What a reply to a change says that was made.
+pub(crate) const DONE: &[u8] = b"done";
+
 /// What the reply to a command says.
 pub(crate) fn answer(alloc: Global, reply: &Reply) -> Result<Vec<u8>> {
     let mut text = Vec::new(alloc);
     match reply {
-        Reply::Done => write!(text, "done")?,
+        Reply::Done => text.extend_from_slice(DONE)?,
         Reply::Listing(listing) => write!(text, "{listing:?}")?,
         Reply::Bound(image) => {
             if image.write_text(&mut text).is_err() {

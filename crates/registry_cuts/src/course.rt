@@ -7,8 +7,9 @@ use crate::mixture::leave_same;
 use crate::plain::Plain;
 use crate::run::{Beginning, Run};
 use crate::seen::{Probe, Seen};
+use crate::sides::Sides;
 use crate::tally::Tally;
-use crate::wanted::Which;
+use crate::wanted::{Wanted, Which};
 use anyhow::Result;
 use sector_disk::Memory;
 use std::alloc::Global;
@@ -25,6 +26,14 @@ pub(crate) struct Course {
     start: Vec<Rc<Event>>,
     pub(crate) run: Run,
     pub(crate) probe: Probe,
+}
+
+// Puts the cuts of each of so many calls of an event behind others.
+fn put_cuts(cuts: &mut Vec<Cut>, event: usize, before: u64, calls: u64) -> Result<()> {
+    for at in 0..Cut::count(calls) {
+        cuts.push(Cut::nth(event, before, at))?;
+    }
+    Ok(())
 }
 
 impl Course {
@@ -52,23 +61,24 @@ impl Course {
 
     /// The plain registry with binders on which they happen.
     pub(crate) fn plain(&self, alloc: Global, keeps: bool) -> Result<Plain> {
-        Plain::after(alloc, self.sectors, &self.start, keeps)
+        Plain::of(alloc, self.sectors, &self.start, keeps)
     }
 
     /// The cuts of each call of its opening and of each event, and of one behind them all, which
     /// nothing makes.
     pub(crate) fn cuts(&self, alloc: Global) -> Result<Vec<Cut>> {
-        let mut before = Seen::after(alloc, self.sectors, &self.start, &self.probe)?.opening;
-        let mut cuts = Cut::all(alloc, 0, 0, before)?;
+        let mut before = Seen::of(alloc, self.sectors, &self.start, &self.probe)?.opening;
+        let mut cuts = Vec::new(alloc);
+        put_cuts(&mut cuts, 0, 0, before)?;
         let mut plain = self.plain(alloc, true)?;
         let mut number = 1usize;
         for event in &self.run.events {
             let (_, calls) = plain.happen(event, None)?;
-            cuts.extend_from_slice(&Cut::all(alloc, number, before, calls)?)?;
+            put_cuts(&mut cuts, number, before, calls)?;
             before = before.saturating_add(calls);
             number = number.saturating_add(1);
         }
-        cuts.extend_from_slice(&Cut::all(alloc, number, before, 1)?)?;
+        put_cuts(&mut cuts, number, before, 1)?;
         Ok(cuts)
     }
 
@@ -82,7 +92,7 @@ impl Course {
             cut,
         )?;
         let (told, disk) = self.run.cut(alloc, count, cut)?;
-        tally.count(told == Ok(wanted), &cut, "the answers")?;
+        tally.count(told == Ok(wanted), &cut, "the answers");
         Ok((plain, disk.into_inner()))
     }
 
@@ -99,23 +109,28 @@ impl Course {
     // that failed changes nothing. A call that fails before it reaches the disk leaves what the one
     // before it leaves where it fails late.
     fn cut_list_at(&self, tally: &mut Tally, cut: Cut) -> Result<()> {
-        let count = self.run.events.len();
-        let (plain, disk) = self.leave(tally, count, cut)?;
-        let wanted = plain.wanted;
+        let (plain, disk) = self.leave(tally, self.run.events.len(), cut)?;
         let mut sides = plain.sides(&self.probe)?;
         if tally.on_purpose {
             sides.exchange();
         }
-        sides.open(tally, &disk, cut, wanted)?;
-        if cut.forever && cut.late {
-            sides.cut_openings(tally, &disk, wanted)?;
-            sides.cut_stopped(tally, &disk)?;
+        self.open_list(tally, &sides, &disk, plain.wanted)
+    }
+
+    // Opens what is left behind such a call.
+    fn open_list(&self, tally: &mut Tally, sides: &Sides, disk: &Memory, on: Wanted) -> Result<()> {
+        sides.open(tally, disk, on)?;
+        if on.cut.forever && on.cut.late {
+            sides.cut_all(tally, disk, on)?;
+            sides.cut_stopped(tally, disk)
+        } else if !on.cut.forever && on.cut.event <= self.run.events.len() {
+            let (_, disk) = self
+                .run
+                .cut(tally.rt.alloc(), self.run.events.len(), on.cut)?;
+            sides.reopen(tally, disk, on)
+        } else {
+            Ok(())
         }
-        if !cut.forever && cut.event <= count {
-            let (_, disk) = self.run.cut(tally.rt.alloc(), count, cut)?;
-            sides.open_behind(tally, disk, cut, wanted)?;
-        }
-        Ok(())
     }
 
     /// Cuts a list of commands at each of its calls, those of its opening too, and behind them all;
@@ -123,7 +138,7 @@ impl Course {
     pub(crate) fn cut_list(&self, tally: &mut Tally) -> Result<()> {
         let plain = self.plain(tally.rt.alloc(), true)?;
         let sides = plain.sides(&self.probe)?;
-        sides.cut_openings(tally, &self.run.disk, plain.wanted)?;
+        sides.cut_all(tally, &self.run.disk, plain.wanted)?;
         for &cut in &self.cuts(tally.rt.alloc())? {
             if !cut.is_in_opening() {
                 self.cut_list_at(tally, cut)?;
@@ -132,19 +147,23 @@ impl Course {
         Ok(())
     }
 
-    /// Opens what is left behind each event, where no call is cut. What is no change leaves the
-    /// disk as it was.
+    // Opens what so many events leave, with the first disk or the one behind all but the last. What
+    // is no change leaves the disk as it was.
+    fn follow_one(&self, tally: &mut Tally, count: usize, before: &Memory) -> Result<Memory> {
+        let (plain, disk) = self.leave(tally, count, Cut::NONE)?;
+        plain.sides(&self.probe)?.open(tally, &disk, plain.wanted)?;
+        if !self.is_change(count) {
+            let right = leave_same(tally.rt.alloc(), &disk, before)?;
+            tally.count(right, &count, "the disk behind a step");
+        }
+        Ok(disk)
+    }
+
+    /// Opens what is left behind each event, where no call is cut.
     pub(crate) fn follow(&self, tally: &mut Tally) -> Result<()> {
         let mut before = self.run.disk.copy()?;
         for count in 1..=self.run.events.len() {
-            let (plain, disk) = self.leave(tally, count, Cut::NONE)?;
-            let sides = plain.sides(&self.probe)?;
-            sides.open(tally, &disk, Cut::NONE, plain.wanted)?;
-            if !self.is_change(count) {
-                let right = leave_same(tally.rt.alloc(), &disk, &before)?;
-                tally.count(right, &count, "the disk behind a step")?;
-            }
-            before = disk;
+            before = self.follow_one(tally, count, &before)?;
         }
         Ok(())
     }
@@ -163,23 +182,31 @@ impl Course {
     // behind it, and a read that failed leaves what it found.
     fn cut_flight_at(&self, tally: &mut Tally, cut: Cut) -> Result<()> {
         let (plain, disk) = self.leave(tally, self.run.events.len(), cut)?;
+        self.open_flight(tally, &plain, &disk)?;
+        self.compare_left(tally, &disk, cut)?;
+        self.go_on(tally, &plain, disk)
+    }
+
+    // Opens what is left behind such a call.
+    fn open_flight(&self, tally: &mut Tally, plain: &Plain, disk: &Memory) -> Result<()> {
         let sides = plain.sides(&self.probe)?;
-        sides.open(tally, &disk, cut, plain.wanted)?;
-        if cut.forever {
-            sides.cut_openings(tally, &disk, plain.wanted)?;
+        sides.open(tally, disk, plain.wanted)?;
+        if plain.wanted.cut.forever {
+            sides.cut_all(tally, disk, plain.wanted)?;
         }
+        Ok(())
+    }
+
+    // Compares it with what fewer events leave.
+    fn compare_left(&self, tally: &mut Tally, disk: &Memory, cut: Cut) -> Result<()> {
         let is_change = self.is_change(cut.event);
         if cut.forever || is_change {
-            let count = if is_change {
-                cut.event
-            } else {
-                cut.event.saturating_sub(1)
-            };
+            let count = cut.event.saturating_sub(usize::from(!is_change));
             let left = self.run.left(tally.rt.alloc(), count, cut)?;
-            let right = leave_same(tally.rt.alloc(), &disk, &left)?;
-            tally.count(right, &cut, "the disk behind what failed")?;
+            let right = leave_same(tally.rt.alloc(), disk, &left)?;
+            tally.count(right, &cut, "the disk behind what failed");
         }
-        self.go_on(tally, &plain, disk)
+        Ok(())
     }
 
     /// Opens what is left behind each event, and cuts each call of each event.

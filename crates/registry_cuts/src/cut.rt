@@ -1,8 +1,6 @@
 // Where the power is cut.
 
-use anyhow::Result;
 use sector_disk::{Fuse, Memory};
-use std::alloc::Global;
 
 /// A disk in memory whose power can be cut.
 pub(crate) type Powered = Fuse<Memory>;
@@ -57,21 +55,20 @@ impl Cut {
         }
     }
 
-    /// The cuts of each of so many calls of an event, behind so many others: early and late, once
-    /// and for ever.
-    pub(crate) fn all(alloc: Global, event: usize, before: u64, calls: u64) -> Result<Vec<Cut>> {
-        let mut cuts = Vec::new(alloc);
-        for call in 1..=calls {
-            for (late, forever) in [(false, false), (false, true), (true, false), (true, true)] {
-                cuts.push(Cut {
-                    event,
-                    number: before.saturating_add(call),
-                    call,
-                    late,
-                    forever,
-                })?;
-            }
+    /// How many cuts so many calls of an event have: each early and late, once and for ever.
+    pub(crate) fn count(calls: u64) -> u64 {
+        calls.saturating_mul(4)
+    }
+
+    /// One of these cuts, counted from 0, of an event behind so many calls.
+    pub(crate) fn nth(event: usize, before: u64, at: u64) -> Cut {
+        let call = (at / 4).saturating_add(1);
+        Cut {
+            event,
+            number: before.saturating_add(call),
+            call,
+            late: at % 4 >= 2,
+            forever: at % 2 == 1,
         }
-        Ok(cuts)
     }
 }

@@ -1,6 +1,6 @@
 // A plain registry with binders: what each event is to be answered, wherever the disk fails.
 
-use crate::answer::{answer, event_answer};
+use crate::answer::{DONE, answer, event_answer};
 use crate::cut::Cut;
 use crate::event::{Event, What};
 use crate::seen::{Probe, Seen};
@@ -34,7 +34,6 @@ struct Flight {
 }
 
 /// A plain registry with binders, on a disk of so many sectors.
-#[derive(Drop)]
 pub(crate) struct Plain {
     alloc: Global,
     sectors: u32,
@@ -52,20 +51,51 @@ pub(crate) struct Plain {
     pub(crate) wanted: Wanted,
 }
 
+// Taken apart in one place: a derived drop is proved anew on each way out of whatever has one.
+impl Drop for Plain {
+    fn drop(self) {
+        let Plain {
+            alloc: _,
+            sectors: _,
+            keeps: _,
+            registry: _registry,
+            versions: _versions,
+            flights: _flights,
+            old: _old,
+            new: _new,
+            wanted: _,
+        } = self;
+    }
+}
+
 // What an event is answered, and how many calls of the disk it makes.
 type Told = (Vec<u8>, u64);
 
+fn told(alloc: Global, reply: EventReply, calls: u64) -> Result<Told> {
+    Ok((event_answer(alloc, &reply)?, calls))
+}
+
 fn refused(alloc: Global, refusal: Refusal) -> Result<Told> {
-    Ok((answer(alloc, &Reply::Refused(refusal))?, 0))
+    told(alloc, EventReply::Replied(Reply::Refused(refusal)), 0)
+}
+
+// Puts the number of sectors that the file of a library has, if it is listed.
+fn put_sectors(steps: &mut Vec<u64>, listing: &Listing, name: &[u8]) -> Result<()> {
+    for (other, length) in &listing.libraries {
+        if other.as_bytes() == name {
+            steps.push(u64::from(length.div_ceil(512)))?;
+        }
+    }
+    Ok(())
 }
 
 impl Plain {
     /// A registry after these commands, without binders. Whether those that are begun keep what
     /// they are begun at.
-    pub(crate) fn after(
+    pub(crate) fn of(
         alloc: Global,
         sectors: u32,
-        changes: &[Rc<Event>],
+        start: &[Rc<Event>],
         keeps: bool,
     ) -> Result<Plain> {
         let mut plain = Plain {
@@ -82,7 +112,7 @@ impl Plain {
         for _ in 0..8 {
             plain.flights.push(None)?;
         }
-        for change in changes {
+        for change in start {
             let _ = plain.happen(change, None)?;
         }
         Ok(plain)
@@ -138,27 +168,24 @@ impl Plain {
         }
     }
 
-    // How many sectors a bind of a program reads of each library that it reads, in its order: the
-    // preloads, and then the library that is needed. Libraries need none.
-    fn reads(&mut self, needed: u8) -> Result<Vec<u64>> {
+    // How many sectors each step of a bind of a program reads, the first one last. The first reads
+    // none, each other one a library, the preloads and then the one that is needed, and the last
+    // none. Libraries need none.
+    fn steps(&mut self, needed: u8) -> Result<Vec<u64>> {
         let needed = [needed];
         let listing = self.listing()?;
-        let mut names = Vec::new(self.alloc);
+        let mut steps = vec![in self.alloc; 0; 1]?;
+        let mut is_preload = false;
         for name in &listing.preloads {
-            names.push(name.as_bytes())?;
+            is_preload = is_preload || name.as_bytes() == needed.as_slice();
+            put_sectors(&mut steps, &listing, name.as_bytes())?;
         }
-        if !names.contains(&needed.as_slice()) {
-            names.push(&needed)?;
+        if !is_preload {
+            put_sectors(&mut steps, &listing, &needed)?;
         }
-        let mut reads = Vec::new(self.alloc);
-        for name in &names {
-            for (other, length) in &listing.libraries {
-                if other.as_bytes() == *name {
-                    reads.push(u64::from(length.div_ceil(512)))?;
-                }
-            }
-        }
-        Ok(reads)
+        steps.push(0)?;
+        steps.reverse();
+        Ok(steps)
     }
 
     // How many calls of the disk a command makes: a bind reads also where a library is missing, and
@@ -169,55 +196,58 @@ impl Plain {
         }
         let mut all = 0u64;
         if event.what == What::Bind {
-            for sectors in &self.reads(event.name)? {
+            for sectors in &self.steps(event.name)? {
                 all = all.saturating_add(*sectors);
             }
         }
         Ok(all)
     }
 
+    // What the command of an event is answered.
+    fn ask(&mut self, event: &Event) -> Result<Vec<u8>> {
+        answer(self.alloc, &self.registry.apply(&event.command()))
+    }
+
+    // A command of which a call is cut, a change if it was done.
+    fn fail(&mut self, event: &Rc<Event>, is_done: bool, calls: u64, cut: Cut) -> Result<Told> {
+        if is_done {
+            self.new.push(Rc::clone(event)?)?;
+            self.wanted = by_table(cut, calls);
+        }
+        refused(self.alloc, Refusal::Device)
+    }
+
     // A command; one of its calls is cut, if it makes any.
     fn give(&mut self, event: &Rc<Event>, cut: Option<Cut>) -> Result<Told> {
         let room = self.room();
         self.registry.set_sectors(room);
-        let reply = self.registry.apply(&event.command());
-        let is_done = matches!(reply, Reply::Done);
+        let text = self.ask(event)?;
+        let is_done = text.as_slice() == DONE;
         let calls = self.calls(event, is_done)?;
-        if let Some(cut) = cut
-            && calls > 0
-        {
-            if is_done {
-                self.new.push(Rc::clone(event)?)?;
-                self.wanted = by_table(cut.call, calls, cut.late);
-            }
-            return refused(self.alloc, Refusal::Device);
+        match cut {
+            Some(cut) if calls > 0 => return self.fail(event, is_done, calls, cut),
+            _ if is_done => self.note(event)?,
+            _ => {}
         }
-        if is_done {
-            self.note(event)?;
-        }
-        Ok((answer(self.alloc, &reply)?, calls))
+        Ok((text, calls))
     }
 
-    // The first step of a binder and its last read nothing.
     fn begin(&mut self, event: &Rc<Event>) -> Result<Told> {
         let Some(slot) = self.flights.iter().position(|flight| flight.is_none()) else {
             return refused(self.alloc, Refusal::NoSlot);
         };
-        let mut steps = vec![in self.alloc; 0; 1]?;
-        for sectors in self.reads(event.name)?.iter().rev() {
-            steps.push(*sectors)?;
-        }
-        steps.push(0)?;
+        let answer = self.ask(event)?;
+        let steps = self.steps(event.name)?;
         let flight = Flight {
             event: Rc::clone(event)?,
             begun: self.old.len(),
             steps,
-            answer: answer(self.alloc, &self.registry.apply(&event.command()))?,
+            answer,
         };
         if let Some(place) = self.flights.get_mut(slot) {
             *place = Some(flight);
         }
-        Ok((event_answer(self.alloc, &EventReply::Slot(slot))?, 0))
+        told(self.alloc, EventReply::Slot(slot), 0)
     }
 
     // Makes a step of the binder in a slot: whether another one comes.
@@ -227,6 +257,15 @@ impl Plain {
             return !flight.steps.is_empty();
         }
         false
+    }
+
+    // Ends the binder in a slot: its answer.
+    fn end(&mut self, slot: usize) -> Result<Vec<u8>> {
+        match self.take(slot) {
+            Some(flight) if self.keeps => Ok(flight.answer),
+            Some(flight) => self.ask(&flight.event),
+            None => bail!("no binder"),
+        }
     }
 
     // A step of the binder in a slot; one of its calls is cut, if it makes any.
@@ -242,16 +281,9 @@ impl Plain {
             return refused(self.alloc, Refusal::Device);
         }
         if self.step(slot) {
-            return Ok((event_answer(self.alloc, &EventReply::Going)?, calls));
+            return told(self.alloc, EventReply::Going, calls);
         }
-        match self.take(slot) {
-            Some(flight) if self.keeps => Ok((flight.answer, calls)),
-            Some(flight) => {
-                let reply = self.registry.apply(&flight.event.command());
-                Ok((answer(self.alloc, &reply)?, calls))
-            }
-            None => bail!("no binder"),
-        }
+        Ok((self.end(slot)?, calls))
     }
 
     // Takes the binder out of a slot, if one lives there.
@@ -264,7 +296,7 @@ impl Plain {
         match event.what {
             What::Advance => self.advance(event.slot, cut),
             What::Cancel => match self.take(event.slot) {
-                Some(_) => Ok((answer(self.alloc, &Reply::Done)?, 0)),
+                Some(_) => told(self.alloc, EventReply::Replied(Reply::Done), 0),
                 None => refused(self.alloc, Refusal::NoSuchBinder),
             },
             _ if self.has_failed() => refused(self.alloc, Refusal::Reopen),
@@ -279,6 +311,7 @@ impl Plain {
         for (at, event) in events.iter().enumerate() {
             answers.push(self.happen(event, cut.at(at.saturating_add(1)))?.0)?;
         }
+        self.wanted.cut = cut;
         Ok(answers)
     }
 
@@ -290,8 +323,8 @@ impl Plain {
     /// What is seen of the two states, where no binder lives.
     pub(crate) fn sides<'b>(&self, probe: &'b Probe) -> Result<Sides<'b>> {
         Ok(Sides {
-            old: Seen::after(self.alloc, self.sectors, &self.old, probe)?,
-            new: Seen::after(self.alloc, self.sectors, &self.new, probe)?,
+            old: Seen::of(self.alloc, self.sectors, &self.old, probe)?,
+            new: Seen::of(self.alloc, self.sectors, &self.new, probe)?,
             probe,
         })
     }

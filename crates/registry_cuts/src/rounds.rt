@@ -8,6 +8,7 @@ use crate::event::Event;
 use crate::mixture::{all_picks, leave_same, stopped};
 use crate::plain::Plain;
 use crate::run::{Told, disk_after};
+use crate::sides::Sides;
 use crate::tally::Tally;
 use anyhow::{Result, bail};
 use registry::{Round, RoundReplies, run_rounds};
@@ -33,6 +34,17 @@ struct Past {
     turns: Vec<Rc<Turn>>,
     done: Vec<Rc<Event>>,
     disk: Memory,
+}
+
+// A round behind others that was cut so: what has to be told of it, its disk, and what may stand.
+#[derive(Drop)]
+struct Ended<'a> {
+    past: &'a Past,
+    cut: Cut,
+    told: Rc<Told>,
+    disk: Memory,
+    plain: Plain,
+    sides: Sides<'a>,
 }
 
 // Rounds of commands on a disk of so many sectors with a registry, and what was played, with the
@@ -67,24 +79,6 @@ fn round<'b>(alloc: Global, turn: &Turn, events: &'b [Rc<Event>]) -> Result<Roun
     })
 }
 
-// Rounds with one more behind them.
-fn and_turn(
-    alloc: Global,
-    turns: &[Rc<Turn>],
-    cut: Cut,
-    told: &Rc<Told>,
-    picks: &[usize],
-) -> Result<Vec<Rc<Turn>>> {
-    let mut all = turns.to_vec(alloc)?;
-    let turn = Turn {
-        cut,
-        told: Rc::clone(told)?,
-        picks: Vec::from_slice(alloc, picks)?,
-    };
-    all.push(Rc::new(alloc, turn)?)?;
-    Ok(all)
-}
-
 // What has to be told of a round that is cut so, and the plain registry behind it. Where its
 // opening is cut nothing is done, as where its first call is.
 fn outcome(alloc: Global, course: &Course, cut: Cut) -> Result<(Told, Plain)> {
@@ -100,7 +94,57 @@ fn outcome(alloc: Global, course: &Course, cut: Cut) -> Result<(Told, Plain)> {
     Ok((Ok(answers), plain))
 }
 
+impl<'a> Ended<'a> {
+    // Plays a round behind others that is cut so.
+    fn of(tally: &Tally, past: &'a Past, course: &'a Course, cut: Cut) -> Result<Ended<'a>> {
+        let alloc = tally.rt.alloc();
+        let (told, plain) = outcome(alloc, course, cut)?;
+        let mut sides = plain.sides(&course.probe)?;
+        if tally.on_purpose {
+            sides.exchange();
+        }
+        Ok(Ended {
+            past,
+            cut,
+            told: Rc::new(alloc, told)?,
+            disk: course.run.left(alloc, course.run.events.len(), cut)?,
+            plain,
+            sides,
+        })
+    }
+
+    // The rounds, of which this one is stopped with these picks.
+    fn turns(&self, alloc: Global, picks: &[usize]) -> Result<Vec<Rc<Turn>>> {
+        let turn = Turn {
+            cut: self.cut,
+            told: Rc::clone(&self.told)?,
+            picks: Vec::from_slice(alloc, picks)?,
+        };
+        let mut all = self.past.turns.to_vec(alloc)?;
+        all.push(Rc::new(alloc, turn)?)?;
+        Ok(all)
+    }
+}
+
 impl Game {
+    // On a disk of so many sectors after these changes.
+    fn on(alloc: Global, sectors: u32, start: &[Rc<Event>]) -> Result<Game> {
+        let disk = disk_after(alloc, sectors, start)?;
+        let past = Past {
+            turns: Vec::new(alloc),
+            done: start.to_vec(alloc)?,
+            disk: disk.copy()?,
+        };
+        let mut played = Vec::new(alloc);
+        played.push(past)?;
+        Ok(Game {
+            sectors,
+            disk,
+            rounds: Vec::new(alloc),
+            played,
+        })
+    }
+
     // Runs rounds from the first disk, and compares what is told of them, and what is left.
     fn compare(&self, tally: &mut Tally, turns: &[Rc<Turn>], left: &Memory) -> Result<()> {
         let alloc = tally.rt.alloc();
@@ -117,49 +161,63 @@ impl Game {
         for (turn, replies) in turns.iter().zip(replies) {
             right = told_of(alloc, replies)? == *turn.told && right;
         }
-        tally.count(right, &cuts, "what is told of rounds")?;
+        tally.count(right, &cuts, "what is told of rounds");
         let right = leave_same(alloc, &disk, left)?;
-        tally.count(right, &cuts, "the disk behind rounds")
+        tally.count(right, &cuts, "the disk behind rounds");
+        Ok(())
     }
 
-    // Plays a round behind these that is cut so, and stops its disk with every pick; behind no
-    // other round with fewer picks than sectors too. With `goes_on` another round comes.
-    fn cut(
-        &mut self,
-        tally: &mut Tally,
-        past: &Past,
-        course: &Course,
-        cut: Cut,
-        goes_on: bool,
-    ) -> Result<()> {
-        let alloc = tally.rt.alloc();
-        let (told, plain) = outcome(alloc, course, cut)?;
-        let told = Rc::new(alloc, told)?;
-        let mut sides = plain.sides(&course.probe)?;
-        if tally.on_purpose {
-            sides.exchange();
+    // Stops a round with fewer picks than sectors.
+    fn stop_short(&self, tally: &mut Tally, ended: &Ended) -> Result<()> {
+        for picks in SHORT {
+            let turns = ended.turns(tally.rt.alloc(), picks)?;
+            self.compare(tally, &turns, &stopped(&ended.disk, picks)?)?;
         }
-        let disk = course.run.left(alloc, course.run.events.len(), cut)?;
-        if past.turns.is_empty() {
-            for picks in SHORT {
-                let turns = and_turn(alloc, &past.turns, cut, &told, picks)?;
-                self.compare(tally, &turns, &stopped(&disk, picks)?)?;
-            }
+        Ok(())
+    }
+
+    // Stops a round with these picks: what was played then.
+    fn stop(&self, tally: &mut Tally, ended: &Ended, picks: &[usize]) -> Result<Past> {
+        let turns = ended.turns(tally.rt.alloc(), picks)?;
+        let disk = stopped(&ended.disk, picks)?;
+        let (_, is_new) = ended.sides.see(tally, &disk, ended.plain.wanted)?;
+        self.compare(tally, &turns, &disk)?;
+        let done = ended.plain.changes(is_new).to_vec(tally.rt.alloc())?;
+        Ok(Past { turns, done, disk })
+    }
+
+    // Stops the disk of a round with every pick; behind no other round with fewer picks than
+    // sectors too. With `goes_on` another round comes.
+    fn stop_each(&mut self, tally: &mut Tally, ended: &Ended, goes_on: bool) -> Result<()> {
+        if ended.past.turns.is_empty() {
+            self.stop_short(tally, ended)?;
         }
-        for picks in &all_picks(alloc, &disk)? {
-            let disk = stopped(&disk, picks)?;
-            let (_, is_new) = sides.see(tally, &disk, cut, plain.wanted.stopped)?;
-            let turns = and_turn(alloc, &past.turns, cut, &told, picks)?;
-            self.compare(tally, &turns, &disk)?;
+        for picks in &all_picks(tally.rt.alloc(), &ended.disk)? {
+            let past = self.stop(tally, ended, picks)?;
             if goes_on {
-                let done = plain.changes(is_new).to_vec(alloc)?;
-                self.played.push(Past { turns, done, disk })?;
+                self.played.push(past)?;
             }
         }
         Ok(())
     }
 
-    // Plays one more round behind all that was played, cut at each of its calls and not at all.
+    // Plays this round behind others, cut at each of its calls and not at all.
+    fn play_behind(
+        &mut self,
+        tally: &mut Tally,
+        past: &Past,
+        course: &Course,
+        goes_on: bool,
+    ) -> Result<()> {
+        for &cut in &course.cuts(tally.rt.alloc())? {
+            if cut.forever {
+                self.stop_each(tally, &Ended::of(tally, past, course, cut)?, goes_on)?;
+            }
+        }
+        self.stop_each(tally, &Ended::of(tally, past, course, Cut::NONE)?, goes_on)
+    }
+
+    // Plays one more round behind all that was played.
     fn play(&mut self, tally: &mut Tally, events: &[Rc<Event>], goes_on: bool) -> Result<()> {
         let alloc = tally.rt.alloc();
         self.rounds.push(events.to_vec(alloc)?)?;
@@ -167,12 +225,7 @@ impl Game {
         for past in &pasts {
             let disk = past.disk.copy()?;
             let course = Course::on(alloc, disk, self.sectors, &past.done, events, false)?;
-            for &cut in &course.cuts(alloc)? {
-                if cut.forever {
-                    self.cut(tally, past, &course, cut, goes_on)?;
-                }
-            }
-            self.cut(tally, past, &course, Cut::NONE, goes_on)?;
+            self.play_behind(tally, past, &course, goes_on)?;
         }
         Ok(())
     }
@@ -187,19 +240,7 @@ pub(crate) fn play_rounds(
     text: &str,
 ) -> Result<()> {
     let alloc = tally.rt.alloc();
-    let disk = disk_after(alloc, sectors, start)?;
-    let past = Past {
-        turns: Vec::new(alloc),
-        done: start.to_vec(alloc)?,
-        disk: disk.copy()?,
-    };
-    let mut game = Game {
-        sectors,
-        disk,
-        rounds: Vec::new(alloc),
-        played: Vec::new(alloc),
-    };
-    game.played.push(past)?;
+    let mut game = Game::on(alloc, sectors, start)?;
     let mut left = text.split(" / ").count();
     for round in text.split(" / ") {
         left = left.saturating_sub(1);

@@ -3,6 +3,7 @@
 use crate::answer::answers;
 use crate::cut::{Cut, Powered};
 use crate::event::{Event, bind};
+use crate::run::Beginning;
 use anyhow::{Result, bail};
 use plain_registry::PlainRegistry;
 use registry::Registry;
@@ -129,7 +130,7 @@ impl Seen {
 
     /// What is to be seen after these changes: what a plain registry answers, with room for as much
     /// as a disk of so many sectors.
-    pub(crate) fn after(
+    pub(crate) fn of(
         alloc: Global,
         sectors: u32,
         changes: &[Rc<Event>],
@@ -144,8 +145,25 @@ impl Seen {
         seen_of(alloc, &plain.run(&probe.looks(alloc)?)?)
     }
 
+    /// The same before a registry begins so.
+    pub(crate) fn before(self, alloc: Global, beginning: Beginning) -> Seen {
+        match beginning {
+            Beginning::Format => Seen::refused(alloc, StoreRefusal::NotFormatted),
+            Beginning::Upgrade => self.before_upgrade(),
+            _ => self.behind(alloc, beginning),
+        }
+    }
+
+    /// The same behind that.
+    pub(crate) fn behind(self, alloc: Global, beginning: Beginning) -> Seen {
+        match beginning {
+            Beginning::Full => Seen::refused(alloc, StoreRefusal::Full),
+            _ => self,
+        }
+    }
+
     /// The same before an upgrade.
-    pub(crate) fn before_upgrade(self) -> Seen {
+    fn before_upgrade(self) -> Seen {
         match self.refusal {
             None => Seen {
                 refusal: Some(StoreRefusal::OldFormat),

@@ -8,6 +8,7 @@ use crate::wanted::{Wanted, Which};
 use anyhow::Result;
 use registry::Registry;
 use sector_disk::Memory;
+use std::alloc::Global;
 use store::StoreRefusal;
 
 /// What stands before a change and after it, and what is asked to see it.
@@ -16,6 +17,14 @@ pub(crate) struct Sides<'a> {
     pub(crate) old: Seen,
     pub(crate) new: Seen,
     pub(crate) probe: &'a Probe,
+}
+
+// How an opening of a disk is refused, if it is; and the disk.
+fn opened_once(alloc: Global, disk: Powered) -> (Option<StoreRefusal>, Powered) {
+    match Registry::open(alloc, disk) {
+        Ok(registry) => (None, registry.into_disk()),
+        Err((refusal, left)) => (Some(refusal), left),
+    }
 }
 
 impl Sides<'_> {
@@ -37,99 +46,83 @@ impl Sides<'_> {
         &self,
         tally: &mut Tally,
         disk: &Memory,
-        cut: Cut,
-        which: Which,
+        wanted: Wanted,
     ) -> Result<(bool, bool)> {
         let seen = look(tally.rt.alloc(), disk.copy()?, self.probe)?;
         let (is_old, is_new) = (seen == self.old, seen == self.new);
-        tally.count(which.allows(is_old, is_new), &cut, "a mixture")?;
+        let right = wanted.stopped.allows(is_old, is_new);
+        tally.count(right, &wanted.cut, "a mixture");
         Ok((is_old, is_new))
     }
 
     // Opens all that a stop of the disk may leave.
-    fn open_mixtures(
-        &self,
-        tally: &mut Tally,
-        disk: &Memory,
-        cut: Cut,
-        which: Which,
-    ) -> Result<()> {
-        let alloc = tally.rt.alloc();
+    fn open_mixtures(&self, tally: &mut Tally, disk: &Memory, wanted: Wanted) -> Result<()> {
         let (mut old, mut new) = (false, false);
-        for picks in &all_picks(alloc, disk)? {
-            let left = stopped(disk, picks)?;
-            let (is_old, is_new) = self.see(tally, &left, cut, which)?;
+        for picks in &all_picks(tally.rt.alloc(), disk)? {
+            let (is_old, is_new) = self.see(tally, &stopped(disk, picks)?, wanted)?;
             old = old || is_old;
             new = new || is_new;
         }
         // Both are seen where both may stand.
-        if which == Which::Either && !(old && new) {
-            tally.count(false, &cut, "one state alone")?;
+        if wanted.stopped == Which::Either && !(old && new) {
+            tally.count(false, &wanted.cut, "one state alone");
         }
         Ok(())
     }
 
     /// Opens a disk that a cut has left, as it stands behind its fuse.
-    pub(crate) fn open_behind(
-        &self,
-        tally: &mut Tally,
-        disk: Powered,
-        cut: Cut,
-        wanted: Wanted,
-    ) -> Result<()> {
+    pub(crate) fn reopen(&self, tally: &mut Tally, disk: Powered, wanted: Wanted) -> Result<()> {
         let again = look_behind(tally.rt.alloc(), disk, self.probe)?;
         let right = again == *self.reopened(wanted);
-        tally.count(right, &cut, "opened again on the same disk")
+        tally.count(right, &wanted.cut, "opened again on the same disk");
+        Ok(())
     }
 
     /// Opens a disk that a cut has left, at once and after each stop.
-    pub(crate) fn open(
-        &self,
-        tally: &mut Tally,
-        disk: &Memory,
-        cut: Cut,
-        wanted: Wanted,
-    ) -> Result<()> {
+    pub(crate) fn open(&self, tally: &mut Tally, disk: &Memory, wanted: Wanted) -> Result<()> {
         let again = look(tally.rt.alloc(), disk.copy()?, self.probe)?;
         let right = again == *self.reopened(wanted);
-        tally.count(right, &cut, "opened again")?;
-        self.open_mixtures(tally, disk, cut, wanted.stopped)
+        tally.count(right, &wanted.cut, "opened again");
+        self.open_mixtures(tally, disk, wanted)
+    }
+
+    // Cuts an opening of this disk so, and opens what is left.
+    fn cut_one(&self, tally: &mut Tally, disk: &Memory, cut: Cut, wanted: Wanted) -> Result<()> {
+        let (refusal, left) = opened_once(tally.rt.alloc(), cut.of(disk.copy()?));
+        let right = refusal == Some(StoreRefusal::Device);
+        tally.count(right, &cut, "the answer to a cut opening");
+        self.open_left(tally, left, wanted.after_opening(cut))
+    }
+
+    // Opens what a cut opening has left.
+    fn open_left(&self, tally: &mut Tally, left: Powered, wanted: Wanted) -> Result<()> {
+        if wanted.cut.forever {
+            self.open_mixtures(tally, &left.into_inner(), wanted)
+        } else {
+            self.reopen(tally, left, wanted)
+        }
     }
 
     /// Cuts each call of an opening of this disk, which is answered S1: the same stands afterwards.
-    pub(crate) fn cut_openings(
-        &self,
-        tally: &mut Tally,
-        disk: &Memory,
-        wanted: Wanted,
-    ) -> Result<()> {
-        let alloc = tally.rt.alloc();
-        for &cut in &Cut::all(alloc, 0, 0, self.reopened(wanted).opening)? {
-            let (refusal, left) = match Registry::open(alloc, cut.of(disk.copy()?)) {
-                Ok(registry) => (None, registry.into_disk()),
-                Err((refusal, left)) => (Some(refusal), left),
-            };
-            let right = refusal == Some(StoreRefusal::Device);
-            tally.count(right, &cut, "the answer to a cut opening")?;
-            if cut.forever {
-                let which = wanted.after_opening(cut);
-                self.open_mixtures(tally, &left.into_inner(), cut, which)?;
-            } else {
-                self.open_behind(tally, left, cut, wanted)?;
-            }
+    pub(crate) fn cut_all(&self, tally: &mut Tally, disk: &Memory, wanted: Wanted) -> Result<()> {
+        for at in 0..Cut::count(self.reopened(wanted).opening) {
+            self.cut_one(tally, disk, Cut::nth(0, 0, at), wanted)?;
         }
         Ok(())
+    }
+
+    // Does so with a disk that a stop has left.
+    fn cut_left(&self, tally: &mut Tally, left: &Memory) -> Result<()> {
+        let is_old = look(tally.rt.alloc(), left.copy()?, self.probe)? == self.old;
+        let stands = if is_old { Which::Old } else { Which::New };
+        self.cut_all(tally, left, Wanted::only(stands))
     }
 
     /// Cuts each call of an opening of all that a stop of the disk may leave: the same stands
     /// afterwards.
     pub(crate) fn cut_stopped(&self, tally: &mut Tally, disk: &Memory) -> Result<()> {
-        let alloc = tally.rt.alloc();
-        for picks in &all_picks(alloc, disk)? {
-            let left = stopped(disk, picks)?;
-            let is_old = look(alloc, left.copy()?, self.probe)? == self.old;
-            let stands = if is_old { Which::Old } else { Which::New };
-            self.cut_openings(tally, &left, Wanted::only(stands))?;
+        for picks in &all_picks(tally.rt.alloc(), disk)? {
+            self.cut_left(tally, &stopped(disk, picks)?)?;
         }
         Ok(())
     }

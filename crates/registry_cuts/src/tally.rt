@@ -1,6 +1,5 @@
 // How many openings the rows of a file made, and how many of them were wrong.
 
-use anyhow::Result;
 use std::fmt::Debug;
 
 /// How many openings were made, and how many gave something else than was wanted.
@@ -24,15 +23,15 @@ impl<'a> Tally<'a> {
     }
 
     /// Counts an opening, and prints where it was wrong.
-    pub(crate) fn count(&mut self, right: bool, place: &impl Debug, what: &str) -> Result<()> {
+    pub(crate) fn count(&mut self, right: bool, place: &impl Debug, what: &str) {
         self.openings = self.openings.saturating_add(1);
         if right {
-            return Ok(());
+            return;
         }
         self.wrong = self.wrong.saturating_add(1);
         if !self.on_purpose {
-            println!(self.rt; "wrong: {what} at {place:?}")?;
+            // Where this fails, so does the line of the file.
+            let _ = println!(self.rt; "wrong: {what} at {place:?}");
         }
-        Ok(())
     }
 }

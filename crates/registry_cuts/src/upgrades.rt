@@ -1,13 +1,13 @@
 // Formats, and upgrades to version 2, cut at each of their calls.
 
-use crate::cut::Cut;
+use crate::cut::{Cut, Powered};
 use crate::event::Event;
 use crate::mixture::{all_picks, leave_same, stopped};
 use crate::run::{Beginning, Run, disk_after};
 use crate::seen::{Probe, Seen, look, look_upgraded};
 use crate::sides::Sides;
 use crate::tally::Tally;
-use crate::wanted::by_table;
+use crate::wanted::{Wanted, by_table};
 use anyhow::{Context, Result};
 use sector_disk::{Disk, Memory, SECTOR_BYTES};
 use std::alloc::Global;
@@ -60,21 +60,14 @@ impl<'a> Trial<'a> {
         changes: &[Rc<Event>],
         probe: &'a Probe,
     ) -> Result<Trial<'a>> {
-        let old = Seen::after(alloc, AMPLE, changes, probe)?;
-        let new = Seen::after(alloc, AMPLE, changes, probe)?;
+        let old = Seen::of(alloc, AMPLE, changes, probe)?;
+        let new = Seen::of(alloc, AMPLE, changes, probe)?;
         let opening = new.opening;
-        let full = StoreRefusal::Full;
-        let (calls, refusal, old, new) = match beginning {
-            Beginning::Format => {
-                let none = Seen::refused(alloc, StoreRefusal::NotFormatted);
-                (FORMAT_CALLS, None, none, new)
-            }
-            Beginning::Upgrade => (opening.saturating_add(3), None, old.before_upgrade(), new),
-            Beginning::Open | Beginning::Newer => (opening, None, old, new),
-            Beginning::Full => {
-                let (old, new) = (Seen::refused(alloc, full), Seen::refused(alloc, full));
-                (opening.saturating_sub(1), Some(full), old, new)
-            }
+        let (calls, refusal) = match beginning {
+            Beginning::Format => (FORMAT_CALLS, None),
+            Beginning::Upgrade => (opening.saturating_add(3), None),
+            Beginning::Open | Beginning::Newer => (opening, None),
+            Beginning::Full => (opening.saturating_sub(1), Some(StoreRefusal::Full)),
         };
         Ok(Trial {
             run: Run {
@@ -84,37 +77,59 @@ impl<'a> Trial<'a> {
             },
             calls,
             refusal,
-            sides: Sides { old, new, probe },
+            sides: Sides {
+                old: old.before(alloc, beginning),
+                new: new.behind(alloc, beginning),
+                probe,
+            },
         })
     }
 
-    // Each call of the disk, early and late, for ever and once, and none.
-    fn cuts(&self, alloc: Global) -> Result<Vec<Cut>> {
-        Cut::all(alloc, 0, 0, self.calls.saturating_add(1))
+    // How many cuts there are of its calls, and of one behind them, which nothing makes.
+    fn cuts(&self) -> u64 {
+        Cut::count(self.calls.saturating_add(1))
     }
 
-    // Cuts each call of the disk and opens what is left, and with `further` cuts each call of that.
-    // No registry is left that could answer S2.
+    // Cuts a call of the disk, and compares the answer: the disk.
+    fn cut(&self, tally: &mut Tally, cut: Cut) -> Result<Powered> {
+        let (told, disk) = self.run.cut(tally.rt.alloc(), 0, cut)?;
+        let refusal = if cut.call <= self.calls {
+            Some(StoreRefusal::Device)
+        } else {
+            self.refusal
+        };
+        tally.count(told.err() == refusal, &cut, "the answer");
+        Ok(disk)
+    }
+
+    // Cuts a call of the disk and opens what is left, and with `further` cuts each call of that. No
+    // registry is left that could answer S2.
+    fn cut_at(&self, tally: &mut Tally, cut: Cut, further: bool) -> Result<()> {
+        let wanted = by_table(cut, self.calls);
+        let disk = self.cut(tally, cut)?.into_inner();
+        self.sides.open(tally, &disk, wanted)?;
+        if further {
+            self.open_again(tally, &disk, wanted)?;
+        }
+        Ok(())
+    }
+
+    // Opens a disk that was left once more: with cuts, or behind its fuse.
+    fn open_again(&self, tally: &mut Tally, disk: &Memory, wanted: Wanted) -> Result<()> {
+        if wanted.cut.forever {
+            self.sides.cut_all(tally, disk, wanted)
+        } else if wanted.cut.call <= self.calls {
+            let (_, disk) = self.run.cut(tally.rt.alloc(), 0, wanted.cut)?;
+            self.sides.reopen(tally, disk, wanted)
+        } else {
+            Ok(())
+        }
+    }
+
+    // Does so with each call of the disk.
     fn cut_each(&self, tally: &mut Tally, further: bool) -> Result<()> {
-        let alloc = tally.rt.alloc();
-        for &cut in &self.cuts(alloc)? {
-            let is_cut = cut.call <= self.calls;
-            let wanted = by_table(cut.call, self.calls, cut.late);
-            let (told, disk) = self.run.cut(alloc, 0, cut)?;
-            let refusal = if is_cut {
-                Some(StoreRefusal::Device)
-            } else {
-                self.refusal
-            };
-            tally.count(told.err() == refusal, &cut, "the answer")?;
-            let disk = disk.into_inner();
-            self.sides.open(tally, &disk, cut, wanted)?;
-            if further && cut.forever {
-                self.sides.cut_openings(tally, &disk, wanted)?;
-            } else if further && is_cut {
-                let (_, disk) = self.run.cut(alloc, 0, cut)?;
-                self.sides.open_behind(tally, disk, cut, wanted)?;
-            }
+        for at in 0..self.cuts() {
+            self.cut_at(tally, Cut::nth(0, 0, at), further)?;
         }
         Ok(())
     }
@@ -123,38 +138,64 @@ impl<'a> Trial<'a> {
     fn look_on(&self, tally: &mut Tally) -> Result<()> {
         let disk = Cut::NONE.of(self.run.disk.copy()?);
         let seen = look_upgraded(tally.rt.alloc(), disk, self.sides.probe)?;
-        tally.count(seen == self.sides.new, &Cut::NONE, "what an upgrade gives")
+        tally.count(seen == self.sides.new, &Cut::NONE, "what an upgrade gives");
+        Ok(())
     }
 
-    // Cuts the upgrades of what each cut has left, unless that is what it found.
-    fn cut_further(&self, tally: &mut Tally, changes: &[Rc<Event>]) -> Result<()> {
+    // Cuts the upgrade of what was left.
+    fn cut_again(&self, tally: &mut Tally, left: Memory, changes: &[Rc<Event>]) -> Result<()> {
         let alloc = tally.rt.alloc();
-        for &cut in &Cut::all(alloc, 0, 0, self.calls)? {
-            let disk = self.run.left(alloc, 0, cut)?;
-            if !cut.forever || leave_same(alloc, &disk, &self.run.disk)? {
-                continue;
-            }
+        let is_old = look(alloc, left.copy()?, self.sides.probe)? == self.sides.old;
+        let beginning = if is_old {
+            Beginning::Upgrade
+        } else {
+            Beginning::Newer
+        };
+        Trial::of(alloc, beginning, left, changes, self.sides.probe)?.cut_each(tally, false)
+    }
+
+    // Cuts the upgrades of what a cut has left, unless that is what it found.
+    fn cut_behind(&self, tally: &mut Tally, cut: Cut, changes: &[Rc<Event>]) -> Result<()> {
+        let alloc = tally.rt.alloc();
+        let disk = self.run.left(alloc, 0, cut)?;
+        if cut.forever && !leave_same(alloc, &disk, &self.run.disk)? {
             for picks in &all_picks(alloc, &disk)? {
-                let left = stopped(&disk, picks)?;
-                let is_old = look(alloc, left.copy()?, self.sides.probe)? == self.sides.old;
-                let beginning = if is_old {
-                    Beginning::Upgrade
-                } else {
-                    Beginning::Newer
-                };
-                let again = Trial::of(alloc, beginning, left, changes, self.sides.probe)?;
-                again.cut_each(tally, false)?;
+                self.cut_again(tally, stopped(&disk, picks)?, changes)?;
             }
         }
         Ok(())
     }
 
+    // Does so with each cut.
+    fn cut_further(&self, tally: &mut Tally, changes: &[Rc<Event>]) -> Result<()> {
+        for at in 0..Cut::count(self.calls) {
+            self.cut_behind(tally, Cut::nth(0, 0, at), changes)?;
+        }
+        Ok(())
+    }
+
+    // All that is done with a disk of a row.
+    fn cut_all(&mut self, tally: &mut Tally, changes: &[Rc<Event>]) -> Result<()> {
+        if tally.on_purpose {
+            self.sides.exchange();
+            return self.cut_each(tally, true);
+        }
+        self.cut_each(tally, true)?;
+        match self.run.beginning {
+            Beginning::Format => return Ok(()),
+            Beginning::Upgrade => self.cut_further(tally, changes)?,
+            _ => self.see_unwritten(tally)?,
+        }
+        self.look_on(tally)
+    }
+
     // Sees that nothing is written, wherever it is cut.
     fn see_unwritten(&self, tally: &mut Tally) -> Result<()> {
         let alloc = tally.rt.alloc();
-        for &cut in &self.cuts(alloc)? {
+        for at in 0..self.cuts() {
+            let cut = Cut::nth(0, 0, at);
             let right = leave_same(alloc, &self.run.left(alloc, 0, cut)?, &self.run.disk)?;
-            tally.count(right, &cut, "the disk that is left")?;
+            tally.count(right, &cut, "the disk that is left");
         }
         Ok(())
     }
@@ -176,16 +217,5 @@ pub(crate) fn cut_making(
         Beginning::Open | Beginning::Newer => disk_after(alloc, word.parse::<u32>()?, changes)?,
     };
     let probe = Probe::new(alloc, 0)?;
-    let mut first = Trial::of(alloc, beginning, disk, changes, &probe)?;
-    if tally.on_purpose {
-        first.sides.exchange();
-        return first.cut_each(tally, true);
-    }
-    first.cut_each(tally, true)?;
-    match beginning {
-        Beginning::Format => return Ok(()),
-        Beginning::Upgrade => first.cut_further(tally, changes)?,
-        _ => first.see_unwritten(tally)?,
-    }
-    first.look_on(tally)
+    Trial::of(alloc, beginning, disk, changes, &probe)?.cut_all(tally, changes)
 }

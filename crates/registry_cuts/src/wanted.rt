@@ -14,6 +14,8 @@ pub(crate) enum Which {
 /// after a stop before that.
 #[derive(Clone, Copy)]
 pub(crate) struct Wanted {
+    /// The cut that left the disk.
+    pub(crate) cut: Cut,
     pub(crate) reopened: Which,
     pub(crate) stopped: Which,
 }
@@ -29,9 +31,10 @@ impl Which {
     }
 }
 
-/// What is wanted after call `failed` of a change that makes so many calls failed: the last one is
-/// a sync, and the one before it writes the root. A `late` call reached the disk.
-pub(crate) fn by_table(failed: u64, calls: u64, late: bool) -> Wanted {
+/// What is wanted after a change was cut that makes so many calls: the last one is a sync, and the
+/// one before it writes the root. A late call reached the disk.
+pub(crate) fn by_table(cut: Cut, calls: u64) -> Wanted {
+    let (failed, late) = (cut.call, cut.late);
     let (reopened, stopped) = if failed > calls {
         (Which::New, Which::New)
     } else if failed == calls {
@@ -41,25 +44,35 @@ pub(crate) fn by_table(failed: u64, calls: u64, late: bool) -> Wanted {
     } else {
         (Which::Old, Which::Old)
     };
-    Wanted { reopened, stopped }
+    Wanted {
+        cut,
+        reopened,
+        stopped,
+    }
 }
 
 impl Wanted {
     /// This state alone.
     pub(crate) fn only(which: Which) -> Wanted {
         Wanted {
+            cut: Cut::NONE,
             reopened: which,
             stopped: which,
         }
     }
 
-    /// What a disk shows after a stop where its opening was cut so. The opening's first call is a
-    /// sync: once it reached the disk, no stop leaves another state than the one that it finds.
-    pub(crate) fn after_opening(self, cut: Cut) -> Which {
-        if cut.call > 1 || cut.late {
+    /// What a disk shows where its opening was cut so. The opening's first call is a sync: once it
+    /// reached the disk, no stop leaves another state than the one that it finds.
+    pub(crate) fn after_opening(self, cut: Cut) -> Wanted {
+        let stopped = if cut.call > 1 || cut.late {
             self.reopened
         } else {
             self.stopped
+        };
+        Wanted {
+            cut,
+            stopped,
+            ..self
         }
     }
 }
