@@ -1,4 +1,4 @@
-//! Tests of `store` and `snapshots` through their public calls: what no clause says.
+//! Tests of `store`, `snapshots` and `contents` through their public calls: what no clause says.
 #![tactic(auto)]
 
 #[cfg(test)]
@@ -10,6 +10,8 @@ mod faults;
 #[cfg(test)]
 mod holds;
 #[cfg(test)]
+mod libraries;
+#[cfg(test)]
 mod reads;
 #[cfg(test)]
 mod sectors;
@@ -17,3 +19,5 @@ mod sectors;
 mod seen;
 #[cfg(test)]
 mod snapshot;
+#[cfg(test)]
+mod told;

@@ -1,5 +1,5 @@
-// What is told of that disk.
-use crate::disk::disk;
+// What is told of a disk of four byte strings as the contents of a registry.
+use crate::libraries::disk;
 use contents::{Contents, Finding, Info, Unread};
 use elf_dynamic::ObjectRefusal;
 use hash_check::FileRefusal;

@@ -1,5 +1,6 @@
 // A disk of 64 sectors with four byte strings: a library, one that is none, a library under another
 // name, and a library that is a preload.
+use crate::calls::formatted;
 use samples::library;
 use sector_disk::Memory;
 use std::process::Abort;
@@ -17,20 +18,9 @@ fn put(rt: &impl Abort, store: &mut Store<Memory>, letter: u8, bytes: &[u8]) {
     assert!(rt; is_put);
 }
 
-// An empty store.
-fn formatted(rt: &(impl Abort + AllocGlobal)) -> Store<Memory> {
-    let Ok(disk) = Memory::new(rt.alloc(), 64) else {
-        panic!(rt; "no memory for the disk")
-    };
-    match Store::format(rt.alloc(), disk) {
-        Ok(store) => store,
-        Err(_) => panic!(rt; "format refused"),
-    }
-}
-
 /// The disk.
 pub(crate) fn disk(rt: &(impl Abort + AllocGlobal)) -> Memory {
-    let mut store = formatted(rt);
+    let mut store = formatted(rt, 64);
     put(rt, &mut store, b'a', &library(b'a', 1));
     put(rt, &mut store, b'b', &[7; 600]);
     put(rt, &mut store, b'c', &library(b'd', 1));
