@@ -119,14 +119,13 @@ impl Course {
 
     // Opens what is left behind such a call.
     fn open_list(&self, tally: &mut Tally, sides: &Sides, disk: &Memory, on: Wanted) -> Result<()> {
+        let count = self.run.events.len();
         sides.open(tally, disk, on)?;
         if on.cut.forever && on.cut.late {
             sides.cut_all(tally, disk, on)?;
             sides.cut_stopped(tally, disk)
-        } else if !on.cut.forever && on.cut.event <= self.run.events.len() {
-            let (_, disk) = self
-                .run
-                .cut(tally.rt.alloc(), self.run.events.len(), on.cut)?;
+        } else if !on.cut.forever && on.cut.event <= count {
+            let (_, disk) = self.run.cut(tally.rt.alloc(), count, on.cut)?;
             sides.reopen(tally, disk, on)
         } else {
             Ok(())

@@ -55,6 +55,8 @@ struct Game {
     disk: Memory,
     rounds: Vec<Vec<Rc<Event>>>,
     played: Vec<Past>,
+    // Whether another round comes.
+    goes_on: bool,
 }
 
 // What is told of a round.
@@ -142,6 +144,7 @@ impl Game {
             disk,
             rounds: Vec::new(alloc),
             played,
+            goes_on: true,
         })
     }
 
@@ -187,14 +190,14 @@ impl Game {
     }
 
     // Stops the disk of a round with every pick; behind no other round with fewer picks than
-    // sectors too. With `goes_on` another round comes.
-    fn stop_each(&mut self, tally: &mut Tally, ended: &Ended, goes_on: bool) -> Result<()> {
+    // sectors too.
+    fn stop_each(&mut self, tally: &mut Tally, ended: &Ended) -> Result<()> {
         if ended.past.turns.is_empty() {
             self.stop_short(tally, ended)?;
         }
         for picks in &all_picks(tally.rt.alloc(), &ended.disk)? {
             let past = self.stop(tally, ended, picks)?;
-            if goes_on {
+            if self.goes_on {
                 self.played.push(past)?;
             }
         }
@@ -202,30 +205,26 @@ impl Game {
     }
 
     // Plays this round behind others, cut at each of its calls and not at all.
-    fn play_behind(
-        &mut self,
-        tally: &mut Tally,
-        past: &Past,
-        course: &Course,
-        goes_on: bool,
-    ) -> Result<()> {
+    fn play_behind(&mut self, tally: &mut Tally, past: &Past, course: &Course) -> Result<()> {
         for &cut in &course.cuts(tally.rt.alloc())? {
             if cut.forever {
-                self.stop_each(tally, &Ended::of(tally, past, course, cut)?, goes_on)?;
+                let ended = Ended::of(tally, past, course, cut)?;
+                self.stop_each(tally, &ended)?;
             }
         }
-        self.stop_each(tally, &Ended::of(tally, past, course, Cut::NONE)?, goes_on)
+        let ended = Ended::of(tally, past, course, Cut::NONE)?;
+        self.stop_each(tally, &ended)
     }
 
     // Plays one more round behind all that was played.
-    fn play(&mut self, tally: &mut Tally, events: &[Rc<Event>], goes_on: bool) -> Result<()> {
+    fn play(&mut self, tally: &mut Tally, events: &[Rc<Event>]) -> Result<()> {
         let alloc = tally.rt.alloc();
         self.rounds.push(events.to_vec(alloc)?)?;
         let pasts = std::mem::replace(&mut self.played, Vec::new(alloc));
         for past in &pasts {
             let disk = past.disk.copy()?;
             let course = Course::on(alloc, disk, self.sectors, &past.done, events, false)?;
-            self.play_behind(tally, past, &course, goes_on)?;
+            self.play_behind(tally, past, &course)?;
         }
         Ok(())
     }
@@ -244,7 +243,8 @@ pub(crate) fn play_rounds(
     let mut left = text.split(" / ").count();
     for round in text.split(" / ") {
         left = left.saturating_sub(1);
-        game.play(tally, &Event::all(alloc, round)?, left > 0)?;
+        game.goes_on = left > 0;
+        game.play(tally, &Event::all(alloc, round)?)?;
     }
     Ok(())
 }

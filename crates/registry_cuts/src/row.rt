@@ -7,7 +7,6 @@ use crate::run::{Beginning, disk_after};
 use crate::tally::Tally;
 use crate::upgrades::cut_making;
 use anyhow::{Context, Result, bail};
-use std::alloc::Global;
 use std::fs;
 use std::rc::Rc;
 
@@ -23,21 +22,8 @@ fn lines(tally: &Tally, file: &str) -> Result<Vec<String>> {
     Ok(lines)
 }
 
-// The course of events on a disk of so many sectors after these changes.
-fn course(
-    alloc: Global,
-    size: &str,
-    start: &[Rc<Event>],
-    events: &[Rc<Event>],
-    room: bool,
-) -> Result<Course> {
-    let sectors = size.parse::<u32>()?;
-    let disk = disk_after(alloc, sectors, start)?;
-    Course::on(alloc, disk, sectors, start, events, room)
-}
-
 // Events on disks of these sizes after these changes.
-fn run_all(
+fn run_events(
     tally: &mut Tally,
     word: &str,
     sizes: &str,
@@ -47,7 +33,9 @@ fn run_all(
     let alloc = tally.rt.alloc();
     let events = Event::all(alloc, text)?;
     for size in sizes.split(' ') {
-        let course = course(alloc, size, start, &events, word != "list")?;
+        let sectors = size.parse::<u32>()?;
+        let disk = disk_after(alloc, sectors, start)?;
+        let course = Course::on(alloc, disk, sectors, start, &events, word != "list")?;
         match word {
             "list" => course.cut_list(tally),
             "follow" => course.follow(tally),
@@ -69,10 +57,10 @@ fn run_row(tally: &mut Tally, row: &str) -> Result<()> {
         "full" => cut_making(tally, Beginning::Full, disk, &start),
         "newer" => cut_making(tally, Beginning::Newer, disk, &start),
         "rounds" => play_rounds(tally, disk.parse::<u32>()?, &start, rest),
-        "list" | "follow" | "binders" => run_all(tally, word, disk, &start, rest),
+        "list" | "follow" | "binders" => run_events(tally, word, disk, &start, rest),
         "lists" => {
             for list in &lines(tally, rest)? {
-                run_all(tally, "list", disk, &start, list)?;
+                run_events(tally, "list", disk, &start, list)?;
             }
             Ok(())
         }

@@ -145,19 +145,12 @@ impl Seen {
         seen_of(alloc, &plain.run(&probe.looks(alloc)?)?)
     }
 
-    /// The same before a registry begins so.
-    pub(crate) fn before(self, alloc: Global, beginning: Beginning) -> Seen {
-        match beginning {
-            Beginning::Format => Seen::refused(alloc, StoreRefusal::NotFormatted),
-            Beginning::Upgrade => self.before_upgrade(),
-            _ => self.behind(alloc, beginning),
-        }
-    }
-
-    /// The same behind that.
-    pub(crate) fn behind(self, alloc: Global, beginning: Beginning) -> Seen {
+    /// The same before a registry begins so, or behind that.
+    pub(crate) fn side(self, alloc: Global, beginning: Beginning, is_before: bool) -> Seen {
         match beginning {
             Beginning::Full => Seen::refused(alloc, StoreRefusal::Full),
+            Beginning::Format if is_before => Seen::refused(alloc, StoreRefusal::NotFormatted),
+            Beginning::Upgrade if is_before => self.before_upgrade(),
             _ => self,
         }
     }

@@ -42,16 +42,10 @@ impl Sides<'_> {
     }
 
     /// Opens a disk after a stop: whether the old state stands there, and whether the new one.
-    pub(crate) fn see(
-        &self,
-        tally: &mut Tally,
-        disk: &Memory,
-        wanted: Wanted,
-    ) -> Result<(bool, bool)> {
+    pub(crate) fn see(&self, tally: &mut Tally, disk: &Memory, on: Wanted) -> Result<(bool, bool)> {
         let seen = look(tally.rt.alloc(), disk.copy()?, self.probe)?;
         let (is_old, is_new) = (seen == self.old, seen == self.new);
-        let right = wanted.stopped.allows(is_old, is_new);
-        tally.count(right, &wanted.cut, "a mixture");
+        tally.count(on.stopped.allows(is_old, is_new), &on.cut, "a mixture");
         Ok((is_old, is_new))
     }
 

@@ -78,16 +78,11 @@ impl<'a> Trial<'a> {
             calls,
             refusal,
             sides: Sides {
-                old: old.before(alloc, beginning),
-                new: new.behind(alloc, beginning),
+                old: old.side(alloc, beginning, true),
+                new: new.side(alloc, beginning, false),
                 probe,
             },
         })
-    }
-
-    // How many cuts there are of its calls, and of one behind them, which nothing makes.
-    fn cuts(&self) -> u64 {
-        Cut::count(self.calls.saturating_add(1))
     }
 
     // Cuts a call of the disk, and compares the answer: the disk.
@@ -126,9 +121,9 @@ impl<'a> Trial<'a> {
         }
     }
 
-    // Does so with each call of the disk.
+    // Does so with each call of the disk, and one behind them, which nothing makes.
     fn cut_each(&self, tally: &mut Tally, further: bool) -> Result<()> {
-        for at in 0..self.cuts() {
+        for at in 0..Cut::count(self.calls.saturating_add(1)) {
             self.cut_at(tally, Cut::nth(0, 0, at), further)?;
         }
         Ok(())
@@ -192,7 +187,7 @@ impl<'a> Trial<'a> {
     // Sees that nothing is written, wherever it is cut.
     fn see_unwritten(&self, tally: &mut Tally) -> Result<()> {
         let alloc = tally.rt.alloc();
-        for at in 0..self.cuts() {
+        for at in 0..Cut::count(self.calls.saturating_add(1)) {
             let cut = Cut::nth(0, 0, at);
             let right = leave_same(alloc, &self.run.left(alloc, 0, cut)?, &self.run.disk)?;
             tally.count(right, &cut, "the disk that is left");
