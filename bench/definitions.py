@@ -78,8 +78,8 @@ PLAIN = {
     'byte_registry/Asked: IsUpgraded': 'the steps lead from a state by the rules of version 1 to the one after it; or leave one by those of version 2',
     'byte_registry/Asked: IsUnupgraded': 'why none is upgraded: a test of an upgrade, want of memory, or what a look at the bytes refuses',
     'byte_registry/Plans: LeadsFrom': 'each mixture after each prefix of the steps is as before or as after, and each after all of them as after',
-    'rlibreg_c/Answers: IsPreloadAnswered': 'a choice of the preloads, answered as a change; or the bytes are no names in a row; or memory was refused',
-    'rlibreg_c/Layout: IsImageOf': 'the buffers have the image that is defined over the registry that the bytes hold, with the defined byte at each address',
+    'c_answers/Answers: IsPreloadAnswered': 'a choice of the preloads, answered as a change; or the bytes are no names in a row; or memory was refused',
+    'c_answers/Layout: IsImageOf': 'the buffers have the image that is defined over the registry that the bytes hold, with the defined byte at each address',
     'program_parts/Reply: command_refusal_text': 'the line of a refusal; after C1 comes that of the file; that of a bind or of a disk is as without a command',
     'registry/Acknowledged: Exchange': 'what was asked and answered: a command with its reply, or none, as of a step of a binder',
     'registry/Flight: goings_by': 'the length of a load order; 0 where a test refuses the program by itself',
@@ -147,7 +147,7 @@ PLAIN = {
     'registry/Applied: MayLeaveBy': 'the state before the command, the one after, or that of a change that a failed call cut off',
     'registry/Applied: AppliedBy': 'one command: a step of the step table, during which a stop leaves only what `MayLeaveBy` says',
     'registry/Untested: UntestedStep': 'the step table where files may be no libraries: a bind that needs such a one is answered S5, and nothing else changes',
-    'rlibreg_c/Answers: IsPlanOf': 'the plan leads from the one state that the bytes hold to that of acceptance, and from one of a registry to such a one',
+    'c_answers/Answers: IsPlanOf': 'the plan leads from the one state that the bytes hold to that of acceptance, and from one of a registry to such a one',
     'registry/Ran: HasBegun': 'the first k commands have all begun by this moment',
     'registry/Ran: HoldsAcknowledged': 'every command acknowledged by this moment is among the first k',
     'registry/Ran: LeavesAccepted': 'what a stop leaves at a moment holds the state after the accepted ones of such first k commands',
@@ -182,7 +182,7 @@ CRATES = [
     ('states', 'States'), ('roots', 'Root, catalogue and entry sectors'), ('passes', 'Passes over a disk'), ('store', 'Named byte strings'),
     ('snapshots', 'Snapshots'), ('contents', 'What a disk has'), ('registry', 'The registry on a disk'),
     ('binders', 'Binders in slots'), ('byte_disk', 'A disk over given bytes'),
-    ('byte_contents', 'What a disk of given bytes has'), ('byte_registry', 'A registry on given bytes'), ('rlibreg_c', 'The calls for C'), ('commands', 'The program'),
+    ('byte_registry', 'A registry on given bytes'), ('c_answers', 'What calls for C are answered'), ('rlibreg_c', 'The calls for C'), ('commands', 'The program'),
     ('program_parts', 'What programs share'), ('tool_commands', 'The second program'),
     ('replays', 'The law that a dump replays')]
 HEAD = """# Definitions

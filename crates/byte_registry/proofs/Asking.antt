@@ -30,7 +30,7 @@ use Rattle.registry.specs.Stands.{Stands}
 use Rattle.registry.specs.Untested.{AppliedUntested, AppliesUntested, UntestedStep}
 use Rattle.registry.proofs.States.{few_libraries}
 use Rattle.registry.proofs.Untested.{each_accepted, other_step}
-use Rattle.byte_contents.specs.Bytes.{HoldStore}
+use Rattle.byte_registry.specs.Bytes.{HoldStore}
 use Rattle.byte_registry.specs.Asked.{IsDiskOf, IsAsked}
 use Rattle.byte_registry.specs.Plans.{Holds, LeadsFrom, LeadsTo, behind_sync, synced_plan, most_steps}
 use Rattle.byte_registry.specs.Replies.{phase_on, opened_on, IsReplyOn}

@@ -4,7 +4,7 @@ use Rattle.std.specs.Prelude.{Result, Ok, Option, Some}
 use Rattle.roots.specs.declared.root.Root.{Root}
 use Rattle.roots.specs.declared.choice.ChooseRefusal.{ChooseRefusal}
 use Rattle.states.specs.State.{State}
-use Rattle.byte_contents.specs.Bytes.{HoldStore}
+use Rattle.byte_registry.specs.Bytes.{HoldStore}
 
 pub same_root : (a b : Root) → ◌≡◌ {A = Result Root ChooseRefusal} (Ok a) (Ok b) → ◌≡◌ {A = Option Root} (Some a) (Some b)
 same_root a b e = cc

@@ -18,8 +18,8 @@ use Rattle.requests.specs.Request.{Request}
 use Rattle.requests.specs.Step.{accepted}
 use Rattle.requests.specs.declared.reply.Reply.{Reply}
 use Rattle.requests.specs.declared.reply.Reply.TheVariants.{Done}
-use Rattle.byte_contents.specs.Bytes as contents
-use Rattle.byte_contents.specs.Bytes.{HoldStore}
+use Rattle.byte_registry.specs.Bytes as contents
+use Rattle.byte_registry.specs.Bytes.{HoldStore}
 use Rattle.registry.specs.Calls.{calls_of}
 use Rattle.registry.specs.Stands.{Stands, StandsOld, StandsEither}
 use Rattle.registry.specs.Upgraded.{IsNotOld}

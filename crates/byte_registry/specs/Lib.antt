@@ -1,3 +1,4 @@
 pub mod Asked
+pub mod Bytes
 pub mod Plans
 pub mod Replies

@@ -5,7 +5,7 @@ ghost use Rattle.roots.specs.declared.version.Version.{Version};
 ghost use Rattle.states.specs.State.{State};
 ghost use Rattle.store.specs.declared.placed_entry.PlacedEntry.{PlacedEntry};
 ghost use Rattle.store.specs.Stands.{StandsBy};
-ghost use Rattle.byte_contents.specs.Bytes.{HoldStore};
+ghost use Rattle.byte_registry.specs.Bytes.{HoldStore};
 
 use roots::{Root, choose, decode_root};
 use sector_disk::SECTOR_BYTES;

@@ -8,11 +8,13 @@
 mod asked;
 mod generation;
 mod making;
+mod opened;
 mod plan;
 mod upgrading;
 
 pub use asked::ask;
 pub use generation::generation_of;
 pub use making::format;
+pub use opened::contents_of;
 pub use plan::behind_sync;
 pub use upgrading::upgrade;

@@ -18,7 +18,7 @@ use sector_disk::Disk;
 use std::alloc::{AllocError, Global};
 
 /// What is found of a file under this name.
-fn finding_of(alloc: Global, name: &[u8], file: &[u8]) -> Result<Finding, AllocError>
+pub fn finding_of(alloc: Global, name: &[u8], file: &[u8]) -> Result<Finding, AllocError>
     ensures finding { IfOk result (IsFinding (record { name = name.now; bytes = file.now })) }
     ensures read { IfOk result (λ finding. finding ≢ Finding.Unreadable) }
 {

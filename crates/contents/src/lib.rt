@@ -14,6 +14,7 @@ mod info;
 mod open;
 mod unread;
 
+pub use check::finding_of;
 pub use contents::Contents;
 pub use finding::Finding;
 pub use info::Info;

@@ -3,32 +3,16 @@
 //! A call reads the sectors that it is given and writes none. What changes a registry gives a plan:
 //! the writes and syncs that the registry would make, in their order, for whoever has the disk. No
 //! call keeps anything, and none asks more of its arguments than that their memory is there.
+//!
+//! Here are the exported functions alone: `c_answers` makes what they are answered.
 #![tactic(auto)]
 
-mod answer;
 mod bind;
 mod change;
 mod check;
-mod entry;
 mod file;
-mod finding;
 mod format;
 mod information;
-mod layout;
 mod list;
-mod listing;
-mod object;
-mod place;
-mod plan;
 mod preload;
-mod put;
-mod status;
-mod text;
 mod upgrade;
-
-pub use answer::Answer;
-pub use entry::EntryPlace;
-pub use finding::FindingPlace;
-pub use information::Information;
-pub use object::ObjectPlace;
-pub use place::SegmentPlace;

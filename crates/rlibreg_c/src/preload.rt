@@ -1,61 +1,11 @@
 // A choice of the preloads: a plan.
-ghost use Rattle.std.specs.Prelude.{◌≡◌, ◌==◌, ℕ, List, map, IfOk, MatchOption};
-ghost use Rattle.std.specs.List.{slice_split};
+ghost use Rattle.std.specs.Prelude.{◌≡◌, ℕ, List};
 ghost use Rattle.requests.specs.Request.{set_preloads};
-ghost use Rattle.rlibreg_c.specs.Answers.{IsLeft, IsPlanOf, IsPreloadAnswered};
-ghost use Rattle.rlibreg_c.specs.Names.{AreNames};
+ghost use Rattle.c_answers.specs.Answers.{IsLeft, IsPlanOf, IsPreloadAnswered};
+ghost use Rattle.c_answers.specs.Names.{AreNames};
 
-use crate::answer::Answer;
-use crate::change::plan_change;
-use crate::status::BAD_ARGUMENT;
-use crate::text::tell_memory;
-use requests::Command;
-use std::alloc::{AllocError, Global};
-
-/// The parts between bytes 0.
-fn parts_of(alloc: Global, row: &[u8]) -> Result<Vec<&[u8]>, AllocError>
-    ensures { IfOk result (λ parts. map (λ part. part.now) parts.items
-        ≡ slice_split (λ byte. byte == 0) row.now) }
-{
-    row.split(|byte| *byte == 0).collect(alloc)
-}
-
-/// The names that stand in bytes, each with a byte 0 behind it; none where the last has no 0.
-pub(crate) fn names_in(alloc: Global, bytes: &[u8]) -> Result<Option<Vec<&[u8]>>, AllocError>
-    ensures { IfOk result (λ read. MatchOption read
-        ((list : List (List ℕ)) → AreNames list bytes.now → ⊥)
-        (λ names. AreNames (map (λ name. name.now) names.items) bytes.now)) }
-{
-    let Some((last, row)) = bytes.split_last() else {
-        return Ok(Some(Vec::new(alloc)));
-    };
-    if *last != 0 {
-        return Ok(None);
-    }
-    Ok(Some(parts_of(alloc, row)?))
-}
-
-/// The plan of a choice of names in a row, or why it is refused.
-fn plan_preloads(
-    alloc: Global,
-    disk: &[u8],
-    names: &[u8],
-    plan: &mut [u8],
-    text: &mut [u8],
-) -> Answer
-    ensures answered { IsPreloadAnswered disk.now names.now plan.new text.new result
-        result.status }
-    ensures left { IsLeft plan.old plan.new result.status }
-{
-    match names_in(alloc, names) {
-        Ok(Some(names)) => {
-            let command = Command::SetPreloads(&names);
-            plan_change(alloc, disk, &command, plan, text)
-        }
-        Ok(None) => Answer::of(BAD_ARGUMENT),
-        Err(_) => tell_memory(text),
-    }
-}
+use c_answers::{Answer, plan_preloads};
+use std::alloc::Global;
 
 /// The plan of a choice of the preloads: of their names in their order, each with a byte 0 behind
 /// it.

@@ -1,23 +1,9 @@
 // Making a disk of version 1 one of version 2: a plan.
 ghost use Rattle.std.specs.Prelude.{◌≡◌};
-ghost use Rattle.rlibreg_c.specs.Answers.{IsLeft, IsUpgradeAnswered, IsUpgradePlan};
+ghost use Rattle.c_answers.specs.Answers.{IsLeft, IsUpgradeAnswered, IsUpgradePlan};
 
-use crate::answer::Answer;
-use crate::plan::put_done;
-use crate::text::turn_away;
-use byte_registry::upgrade;
+use c_answers::{Answer, upgrade_on};
 use std::alloc::Global;
-
-/// The plan, or why there is none.
-fn upgrade_on(alloc: Global, disk: &[u8], plan: &mut [u8], text: &mut [u8]) -> Answer
-    ensures answered { IsUpgradeAnswered disk.now plan.new text.new result result.status }
-    ensures left { IsLeft plan.old plan.new result.status }
-{
-    match upgrade(alloc, disk) {
-        Ok(disk) => put_done(alloc, &disk, plan, text),
-        Err(refusal) => turn_away(alloc, refusal, text),
-    }
-}
 
 /// The plan of making a registry of version 1 one of version 2; of one of version 2 nothing is
 /// written.

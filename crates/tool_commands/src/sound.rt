@@ -7,13 +7,11 @@ ghost use Rattle.store.specs.IsRead.{IsRead};
 ghost use Rattle.store.specs.Opened.{IsAt};
 ghost use Rattle.store.specs.Stands.{no_library};
 ghost use Rattle.contents.specs.File.{HasFile};
-ghost use Rattle.contents.specs.Finding.{IsFinding};
 ghost use Rattle.tool_commands.specs.declared.sound.Lack.TheVariants.{OutOfMemory};
 ghost use Rattle.tool_commands.specs.inside.Lack.{IsLack};
 
-use contents::{Contents, Finding, Unread};
+use contents::{Contents, Finding, Unread, finding_of};
 use names::Name;
-use requests::{Refusal, library_name};
 use sector_disk::Disk;
 use std::alloc::{AllocError, Global};
 
@@ -31,18 +29,6 @@ impl From<AllocError> for Lack {
 
     fn from(_refused: AllocError) -> Lack {
         Lack::OutOfMemory
-    }
-}
-
-/// What is found of a file under this name.
-fn finding_of(alloc: Global, name: &[u8], file: &[u8]) -> Result<Finding, AllocError>
-    ensures { IfOk result (IsFinding (record { name = name.now; bytes = file.now })) }
-{
-    match library_name(alloc, file) {
-        Ok(soname) if soname == name => Ok(Finding::Sound),
-        Ok(_) => Ok(Finding::OtherName),
-        Err(Refusal::Object(refusal)) => Ok(Finding::Refused(refusal)),
-        Err(_) => Err(AllocError),
     }
 }
 

@@ -1,4 +1,4 @@
-use Rattle.rlibreg_c.proofs.Given.{image_given}
+use Rattle.c_answers.proofs.Given.{image_given}
 use Rattle.rlibreg_c.proofs.bind.rlibreg_bind.Goals as goal
 
 pub returns-clause-image : goal.returns-clause-image

@@ -1,5 +1,5 @@
 use Rattle.requests.specs.Request.{remove}
-use Rattle.rlibreg_c.proofs.Given.{plan_given, no_listing, no_image}
+use Rattle.c_answers.proofs.Given.{plan_given, no_listing, no_image}
 use Rattle.rlibreg_c.proofs.change.rlibreg_plan_remove.Goals as goal
 
 pub returns-clause-plan : goal.returns-clause-plan

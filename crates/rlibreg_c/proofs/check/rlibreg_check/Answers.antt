@@ -1,4 +1,4 @@
-use Rattle.rlibreg_c.proofs.Findings.{check_given}
+use Rattle.c_answers.proofs.Findings.{check_given}
 use Rattle.rlibreg_c.proofs.check.rlibreg_check.Goals as goal
 
 pub returns-clause-check : goal.returns-clause-check

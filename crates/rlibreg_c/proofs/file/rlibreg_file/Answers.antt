@@ -1,4 +1,4 @@
-use Rattle.rlibreg_c.proofs.Contents.{file_given}
+use Rattle.c_answers.proofs.Contents.{file_given}
 use Rattle.rlibreg_c.proofs.file.rlibreg_file.Goals as goal
 
 pub returns-clause-file : goal.returns-clause-file

@@ -1,4 +1,4 @@
-use Rattle.rlibreg_c.proofs.Given.{format_given}
+use Rattle.c_answers.proofs.Given.{format_given}
 use Rattle.rlibreg_c.proofs.format.rlibreg_plan_format.Goals as goal
 
 pub returns-clause-answered : goal.returns-clause-answered

@@ -1,4 +1,4 @@
-use Rattle.rlibreg_c.proofs.Contents.{info_given}
+use Rattle.c_answers.proofs.Contents.{info_given}
 use Rattle.rlibreg_c.proofs.information.rlibreg_info.Goals as goal
 
 pub returns-clause-info : goal.returns-clause-info

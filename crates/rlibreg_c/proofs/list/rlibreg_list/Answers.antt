@@ -1,4 +1,4 @@
-use Rattle.rlibreg_c.proofs.Given.{listing_given}
+use Rattle.c_answers.proofs.Given.{listing_given}
 use Rattle.rlibreg_c.proofs.list.rlibreg_list.Goals as goal
 
 pub returns-clause-listing : goal.returns-clause-listing

@@ -1,4 +1,4 @@
-use Rattle.rlibreg_c.proofs.Given.{preload_given}
+use Rattle.c_answers.proofs.Given.{preload_given}
 use Rattle.rlibreg_c.proofs.preload.rlibreg_plan_preload.Goals as goal
 
 pub returns-clause-plan : goal.returns-clause-plan

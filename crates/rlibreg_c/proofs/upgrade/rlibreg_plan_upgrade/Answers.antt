@@ -1,4 +1,4 @@
-use Rattle.rlibreg_c.proofs.Given.{upgrade_given}
+use Rattle.c_answers.proofs.Given.{upgrade_given}
 use Rattle.rlibreg_c.proofs.upgrade.rlibreg_plan_upgrade.Goals as goal
 
 pub returns-clause-plan : goal.returns-clause-plan

@@ -1,0 +1,39 @@
+// The contents of a disk of given bytes.
+ghost use Rattle.std.specs.Prelude.{◌≡◌, [], IfOk, IfErr, length};
+ghost use Rattle.byte_disk.specs.Bytes.{sectors_in};
+ghost use Rattle.byte_disk.specs.ReadOnlyDisk.{read_only_facts};
+ghost use Rattle.states.specs.State.{State};
+ghost use Rattle.store.specs.Opened.{IsAt};
+ghost use Rattle.byte_registry.specs.Bytes.{HaveNoContents, HoldStore};
+
+use byte_disk::ReadOnlyDisk;
+use contents::Contents;
+use std::alloc::Global;
+use store::StoreRefusal;
+
+/// The contents of a disk of these bytes, or why they aren't those of a disk of version 2: S6 also
+/// where they aren't whole sectors. No call of their disk fails, so S1 never comes.
+pub fn contents_of<'a>(
+    alloc: Global,
+    disk: &'a [u8],
+) -> Result<Contents<ReadOnlyDisk<'a>>, StoreRefusal>
+    // They are those of the state that the bytes hold.
+    ensures ok { IfOk result (λ contents. (s : State) × HoldStore disk.now s
+        × IsAt read_only_facts contents s) }
+    ensures held { (s : State) → HoldStore disk.now s
+        → IfOk result (λ contents. IsAt read_only_facts contents s) }
+    ensures sectors { IfOk result (λ contents.
+        (read_only_facts contents.disk).sectors ≡ length (sectors_in disk.now)) }
+    ensures now { IfOk result (λ contents.
+        (read_only_facts contents.disk).now ≡ sectors_in disk.now) }
+    ensures unheld { IfOk result (λ contents. contents.held ≡ []) }
+    ensures err { IfErr result (HaveNoContents disk.now) }
+{
+    let Some(disk) = ReadOnlyDisk::over(disk) else {
+        return Err(StoreRefusal::BadGeometry);
+    };
+    match Contents::open(alloc, disk) {
+        Ok(contents) => Ok(contents),
+        Err((refusal, _disk)) => Err(refusal),
+    }
+}

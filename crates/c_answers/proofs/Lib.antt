@@ -1,0 +1,9 @@
+pub mod Contents
+mod Entries
+pub mod Findings
+pub mod Given
+mod Names
+mod Objects
+mod Places
+mod Rows
+mod Steps

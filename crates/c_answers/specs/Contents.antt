@@ -1,0 +1,103 @@
+-- What a disk has, as C gets it: a library's bytes, and what is told of the whole (own).
+use Rattle.std.specs.Prelude.{◌≡◌, ◌≢◌, ◌⊎◌, ◌↔◌, ◌<◌, ◌≤◌, ℕ, List, [], All, None, length, take}
+use Rattle.byte_disk.specs.Bytes.{sectors_in}
+use Rattle.byte_disk.specs.ReadOnlyDisk.{read_only_facts}
+use Rattle.byte_disk.specs.declared.read_only.ReadOnlyDisk.{ReadOnlyDisk}
+use Rattle.extents.specs.Layout.{free_count}
+use Rattle.extents.specs.Runs.{free_runs}
+use Rattle.states.specs.State.{State}
+use Rattle.store.specs.Names.{IsFileSize}
+use Rattle.store.specs.Opened.{Opened, IsAt, layout_in_use}
+use Rattle.store.specs.Step.{longest_free, refusal_of_new}
+use Rattle.store.specs.declared.refusal.StoreRefusal.{StoreRefusal}
+use Rattle.requests.specs.declared.refusal.Refusal.{Refusal}
+use Rattle.requests.specs.declared.refusal.Refusal.TheVariants as refusal
+use Rattle.requests.specs.declared.reply.Reply.TheVariants.{Refused}
+use Rattle.contents.specs.File.{HasFile}
+use Rattle.contents.specs.Info.{IsInfo}
+use Rattle.contents.specs.declared.info.Info.{Info}
+use Rattle.contents.specs.declared.unread.Unread.{Unread}
+use Rattle.contents.specs.declared.unread.Unread.TheVariants as unread
+use Rattle.byte_registry.specs.Bytes.{HaveNoContents, HoldStore}
+use Rattle.c_answers.specs.Answers.{IsToldAlone, IsTurnedAway}
+use Rattle.c_answers.specs.Numbers.{done, no_room}
+use Rattle.c_answers.specs.Unsaid.{IsSilent, IsUnbound, IsUncounted, IsUnlisted}
+use Rattle.c_answers.specs.declared.answer.Answer.{Answer}
+use Rattle.c_answers.specs.declared.information.Information.{Information}
+
+-- why a library's bytes aren't given, as a command is refused
+abbrev pub refusal_of : Unread → Refusal
+refusal_of unread.NotInstalled = refusal.NotInstalled
+refusal_of unread.Unreadable = refusal.Device
+refusal_of unread.OutOfMemory = refusal.OutOfMemory
+
+-- the file is in the buffer, or that is too small; no text is told
+abbrev pub IsFileGiven : List ℕ → List ℕ → Answer → ℕ → Type 0
+IsFileGiven file bytes answer status =
+    (((status ≡ done) × (take answer.bytes bytes ≡ file)) ⊎ ((status ≡ no_room) × (length bytes < length file)))
+    × (answer.bytes ≡ length file) × (answer.count ≡ 0) × IsUnlisted answer × IsUnbound answer × IsSilent answer
+
+-- C3 is answered exactly where no library has the name, and S1 never, since no read of bytes fails
+abbrev pub IsUnread : State → List ℕ → Unread → Type 0
+IsUnread s name unread.NotInstalled = All (λ library. library.name ≢ name) s.libraries
+IsUnread s name unread.Unreadable = ⊥
+IsUnread s name unread.OutOfMemory = All (λ library. library.name ≢ name) s.libraries → ⊥
+
+-- a library's file is given, or it is told why not
+abbrev pub IsFileTold : State → (name bytes text : List ℕ) → Answer → ℕ → Type 0
+IsFileTold s name bytes text answer status =
+    ((file : List ℕ) × HasFile s name file × IsFileGiven file bytes answer status)
+    ⊎ ((why : Unread) × IsUnread s name why × IsToldAlone (Refused (refusal_of why)) text answer status)
+
+-- a library's file of the state that the bytes hold is given, or it is told why not; or there is no
+-- registry, and it is told why
+abbrev pub IsFileAnswered : (disk name bytes text : List ℕ) → Answer → ℕ → Type 0
+IsFileAnswered disk name bytes text answer status =
+    ((s : State) × HoldStore disk s × IsFileTold s name bytes text answer status)
+    ⊎ ((why : StoreRefusal) × HaveNoContents disk why × IsTurnedAway why text answer status)
+
+-- The buffer has the file of the library of this name, which the state that the bytes hold has.
+pub record IsFileOf (disk name bytes : List ℕ) (answer : Answer) : Type 0 where
+  pub state : State
+  pub holds : HoldStore disk state
+  pub file : List ℕ
+  pub has : HasFile state name file
+  pub size : answer.bytes ≡ length file
+  pub given : take answer.bytes bytes ≡ file
+
+-- what is told, for C
+abbrev pub information_of : Info → Information
+information_of info =
+    record {
+      version = 2;
+      sectors = info.sectors;
+      generation = info.generation;
+      libraries = info.libraries;
+      preloads = info.preloads;
+      free_sectors = info.free.sectors;
+      free_runs = info.free.runs;
+      largest = info.free.largest;
+    }
+
+-- It is told of the state that the bytes hold, and of what is free in them, by the step table.
+pub record IsInfoOf (disk : List ℕ) (information : Information) : Type 0 where
+  pub state : State
+  pub holds : HoldStore disk state
+  pub store : Opened ReadOnlyDisk
+  pub at : IsAt read_only_facts store state
+  pub now : (read_only_facts store.disk).now ≡ sectors_in disk
+  pub unheld : store.held ≡ []
+  pub told : Info
+  pub is : information ≡ information_of told
+  pub numbers : IsInfo (length (sectors_in disk)) state told
+  pub free : told.free.sectors ≡ free_count (layout_in_use store)
+  pub runs : told.free.runs ≡ length (free_runs (layout_in_use store))
+  pub largest : (file : List ℕ) → IsFileSize (length file)
+      → (length file ≤ told.free.largest) ↔ (refusal_of_new (length (sectors_in disk)) (longest_free store) state file ≡ None)
+  pub form : (told.free.largest ≡ 0) ⊎ IsFileSize told.free.largest
+
+-- it is told of the registry that the bytes hold; or there is none, and it is told why
+abbrev pub IsInfoAnswered : List ℕ → Information → List ℕ → Answer → ℕ → Type 0
+IsInfoAnswered disk information text answer status =
+    ((status ≡ done) × IsInfoOf disk information × IsUncounted answer × IsSilent answer)
+    ⊎ ((why : StoreRefusal) × HaveNoContents disk why × IsTurnedAway why text answer status)

@@ -1,0 +1,51 @@
+// Changes of the libraries: plans.
+ghost use Rattle.std.specs.Prelude.{◌≡◌};
+ghost use Rattle.requests.specs.Request.{request_of};
+ghost use Rattle.byte_registry.specs.Plans.{synced_plan};
+ghost use Rattle.c_answers.specs.Answers.{IsChangeAnswered, IsChangeTold, IsLeft};
+
+use crate::answer::Answer;
+use crate::plan::put_done;
+use crate::text::{tell, turn_away};
+use byte_disk::ByteDisk;
+use byte_registry::ask;
+use requests::{Command, Reply};
+use std::alloc::Global;
+
+/// Says what a change was answered, and gives its plan where that is Done.
+fn tell_change(
+    alloc: Global,
+    reply: &Reply,
+    disk: &ByteDisk<'_>,
+    plan: &mut [u8],
+    text: &mut [u8],
+) -> Answer
+    ensures told { IsChangeTold reply.now (synced_plan disk.now) plan.new text.new
+        result result.status }
+    ensures left { IsLeft plan.old plan.new result.status }
+{
+    match reply {
+        Reply::Done => put_done(alloc, disk, plan, text),
+        Reply::Listing(_) => tell(alloc, reply, text),
+        Reply::Bound(_) => tell(alloc, reply, text),
+        Reply::Refused(_) => tell(alloc, reply, text),
+    }
+}
+
+/// The plan of a change, or why it is refused.
+pub fn plan_change(
+    alloc: Global,
+    disk: &[u8],
+    command: &Command<'_>,
+    plan: &mut [u8],
+    text: &mut [u8],
+) -> Answer
+    ensures answered { IsChangeAnswered disk.now (request_of command.now) plan.new text.new
+        result result.status }
+    ensures left { IsLeft plan.old plan.new result.status }
+{
+    match ask(alloc, disk, command) {
+        Ok((reply, disk)) => tell_change(alloc, &reply, &disk, plan, text),
+        Err(refusal) => turn_away(alloc, refusal, text),
+    }
+}

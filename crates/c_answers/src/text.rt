@@ -1,0 +1,84 @@
+// The text of what a call is answered: the line or the reply that the program prints.
+ghost use Rattle.std.specs.Prelude.{◌≡◌};
+ghost use Rattle.c_answers.specs.Answers.{Says, WantsMemory, IsToldAlone, IsTurnedAway};
+ghost use Rattle.c_answers.specs.Numbers.{reply_number, file_number_in};
+ghost use Rattle.c_answers.specs.Unsaid.{IsUncounted};
+
+use crate::answer::Answer;
+use crate::status::{DONE, OUT_OF_MEMORY, file_refusal_number, refusal_status, store_status};
+use program_parts::{write_disk_refusal, write_reply};
+use requests::Reply;
+use std::alloc::Global;
+use store::StoreRefusal;
+
+/// The line of want of memory.
+const MEMORY_LINE: &[u8] = b"refused S11 OutOfMemory\n";
+
+/// Puts as much of a text into a buffer as has room there. Says how many bytes the whole has.
+fn put_text(said: &[u8], text: &mut [u8]) -> u64
+    ensures { Says said.now text.new result }
+{
+    let most = said.len().min(text.len());
+    text[..most].copy_from_slice(&said[..most]);
+    said.len() as u64
+}
+
+/// Says that memory was refused. It takes none.
+pub(crate) fn tell_memory(text: &mut [u8]) -> Answer
+    ensures told { WantsMemory text.new result.text result.file_refusal result.status }
+    ensures uncounted { IsUncounted result }
+{
+    Answer {
+        text: put_text(MEMORY_LINE, text),
+        ..Answer::of(OUT_OF_MEMORY)
+    }
+}
+
+/// The status of a reply.
+fn reply_status(reply: &Reply) -> u32
+    ensures { result ≡ reply_number reply.now }
+{
+    match reply {
+        Reply::Refused(refusal) => refusal_status(refusal),
+        _ => DONE,
+    }
+}
+
+/// The number of the refusal of a file in a reply; 0 where there is none.
+fn reply_file_refusal(reply: &Reply) -> u32
+    ensures { result ≡ file_number_in reply.now }
+{
+    match reply {
+        Reply::Refused(refusal) => file_refusal_number(refusal),
+        _ => 0,
+    }
+}
+
+/// Says what a command was answered. Where memory for the text is refused, that is the answer.
+pub(crate) fn tell(alloc: Global, reply: &Reply, text: &mut [u8]) -> Answer
+    ensures { IsToldAlone reply.now text.new result result.status }
+{
+    let mut said = Vec::new(alloc);
+    match write_reply(&mut said, reply) {
+        Ok(()) => Answer {
+            file_refusal: reply_file_refusal(reply),
+            text: put_text(&said, text),
+            ..Answer::of(reply_status(reply))
+        },
+        Err(_) => tell_memory(text),
+    }
+}
+
+/// Says why there is no registry on a disk.
+pub(crate) fn turn_away(alloc: Global, refusal: StoreRefusal, text: &mut [u8]) -> Answer
+    ensures { IsTurnedAway refusal text.new result result.status }
+{
+    let mut said = Vec::new(alloc);
+    match write_disk_refusal(&mut said, refusal) {
+        Ok(()) => Answer {
+            text: put_text(&said, text),
+            ..Answer::of(store_status(refusal))
+        },
+        Err(_) => tell_memory(text),
+    }
+}

@@ -1,0 +1,20 @@
+// Making a disk of version 1 one of version 2: a plan.
+ghost use Rattle.std.specs.Prelude.{◌≡◌};
+ghost use Rattle.c_answers.specs.Answers.{IsLeft, IsUpgradeAnswered};
+
+use crate::answer::Answer;
+use crate::plan::put_done;
+use crate::text::turn_away;
+use byte_registry::upgrade;
+use std::alloc::Global;
+
+/// The plan, or why there is none.
+pub fn upgrade_on(alloc: Global, disk: &[u8], plan: &mut [u8], text: &mut [u8]) -> Answer
+    ensures answered { IsUpgradeAnswered disk.now plan.new text.new result result.status }
+    ensures left { IsLeft plan.old plan.new result.status }
+{
+    match upgrade(alloc, disk) {
+        Ok(disk) => put_done(alloc, &disk, plan, text),
+        Err(refusal) => turn_away(alloc, refusal, text),
+    }
+}

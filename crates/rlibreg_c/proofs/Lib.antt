@@ -1,9 +1,0 @@
-mod Contents
-mod Entries
-mod Findings
-mod Given
-mod Names
-mod Objects
-mod Places
-mod Rows
-mod Steps

@@ -1,9 +1,0 @@
-use Rattle.std.proofs.Common.{◌≡◌, ◌-◌, ◌^◌, length, min, take}
-use Rattle.states.specs.State.{State}
-use Rattle.store.specs.Opened.{IsAt}
-use Rattle.rlibreg_c.specs.Check.{library_names}
-use Rattle.rlibreg_c.proofs.check.names_bytes.Given as goal
-
-abbrev pub invariant-loop-position : goal.invariant-loop-position
-invariant-loop-position g l =
-    (s : State) → IsAt g.D.Disk.facts l.store s → l.bytes ≡ min (length (library_names (take l.position s.libraries))) (2 ^ 64 - 1)

@@ -1,6 +1,0 @@
-use Rattle.std.proofs.Common.{inl}
-use Rattle.byte_registry.specs.Plans.{synced_plan}
-use Rattle.rlibreg_c.proofs.list.list_on.Goals as goal
-
-pub returns-in-Ok : goal.returns-in-Ok
-returns-in-Ok c = let asked = c.in-Ok.ensures.ok in inl (asked.0, c.in-Ok.reply, synced_plan c.in-Ok.field-0-1, asked.1, c.tell_list.ensures asked.0 asked.1.holds)

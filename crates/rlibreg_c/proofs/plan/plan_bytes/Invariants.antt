@@ -1,6 +1,0 @@
-use Rattle.std.proofs.Common.{◌≡◌, ◌-◌, ◌^◌, length, min}
-use Rattle.rlibreg_c.proofs.Steps.{begun}
-use Rattle.rlibreg_c.proofs.plan.plan_bytes.Given as goal
-
-abbrev pub invariant-loop-planned : goal.invariant-loop-planned
-invariant-loop-planned l = l.bytes ≡ min (length (begun l.steps l.planned-index)) (2 ^ 64 - 1)
