@@ -442,32 +442,47 @@ struct room {
     size_t objects, segments, bytes;
 };
 
-static uint32_t bind_into(rlibreg *it, const struct bound *what, rlibreg_image *out,
-                          struct room room) {
+/* Room for most images: what isn't used of it isn't touched, and where it is too small a program is
+ * bound twice. */
+static const struct room FIRST_ROOM = { 1024, 4096, 16 << 20 };
+
+static int make_room(rlibreg_image *out, struct room room) {
     out->objects = malloc(room.objects * sizeof *out->objects);
     out->segments = malloc(room.segments * sizeof *out->segments);
     out->bytes = malloc(room.bytes);
-    if (!out->objects || !out->segments || !out->bytes) return say_memory(it);
-    return rlibreg_bind(it->file.bytes, it->file.length, what->program, what->length, what->base,
-                        out->objects, room.objects, out->segments, room.segments, out->bytes,
-                        room.bytes, it->text, it->text_room, &it->answer);
+    if (out->objects && out->segments && out->bytes) return 1;
+    rlibreg_image_free(out);
+    return 0;
+}
+
+static uint32_t bind_into(rlibreg *it, const struct bound *what, rlibreg_image *out,
+                          struct room room) {
+    return over_bytes(it, rlibreg_bind(it->file.bytes, it->file.length, what->program, what->length,
+                                       what->base, out->objects, room.objects, out->segments,
+                                       room.segments, out->bytes, room.bytes, it->text,
+                                       it->text_room, &it->answer));
 }
 
 uint32_t rlibreg_image_of(rlibreg *it, const void *program, size_t length, uint64_t base,
                           rlibreg_image *out) {
     struct bound what = { program, length, base };
-    struct room room = { 16, 64, 1 << 20 };
+    struct room room = FIRST_ROOM;
     *out = (rlibreg_image){ 0 };
     uint32_t status = refuse(it);
     if (status) return status;
+    if (!make_room(out, room)) room = (struct room){ 0 }; /* and so it is asked what it takes */
     for (;;) {
-        status = over_bytes(it, bind_into(it, &what, out, room));
+        status = bind_into(it, &what, out, room);
         int again = text_was_cut(it) || status == RLIBREG_NO_ROOM;
         if (!status && !again) break;
+        if (!again) {
+            rlibreg_image_free(out);
+            return status;
+        }
+        if (status != RLIBREG_NO_ROOM) continue;
         rlibreg_image_free(out);
-        if (!again) return status;
-        if (status == RLIBREG_NO_ROOM)
-            room = (struct room){ it->answer.objects, it->answer.count, it->answer.bytes };
+        room = (struct room){ it->answer.objects, it->answer.count, it->answer.bytes };
+        if (!make_room(out, room)) return say_memory(it);
     }
     out->count = it->answer.count;
     out->object_count = it->answer.objects;

@@ -29,29 +29,30 @@ static int take_pages(uint64_t from, uint64_t to) {
     return -1;
 }
 
-/* Gives the pages of the first segments back. */
-static void free_pages(const rlibreg_image *image, size_t count) {
+/* Gives the pages of the segments below an address back. */
+static void free_pages(const rlibreg_image *image, uint64_t end) {
     int why = errno;
-    for (size_t i = 0; i < count; i++) {
+    for (size_t i = 0; i < image->count; i++) {
         uint64_t from = page_of(image->segments[i].address), to = page_behind(&image->segments[i]);
-        if (image->segments[i].length) munmap((void *)from, to - from);
+        if (image->segments[i].length && from < end) munmap((void *)from, to - from);
     }
     errno = why;
 }
 
-/* Takes the pages of each segment, but for one that the segment before has: all, or none. */
+/* Takes the pages of all segments, and those without a gap at once: all, or none. */
 static int take_all_pages(const rlibreg_image *image) {
-    uint64_t taken = 0; /* all pages of the segments before end here */
-    for (size_t i = 0; i < image->count; i++) {
-        const rlibreg_segment *it = &image->segments[i];
-        uint64_t from = page_of(it->address), to = page_behind(it);
-        if (!it->length) continue;
-        if (from < taken) from = taken;
-        if (from < to && take_pages(from, to)) {
-            free_pages(image, i);
-            return -1;
+    uint64_t from = 0, to = 0; /* pages without a gap, which aren't taken yet */
+    for (size_t i = 0; i <= image->count; i++) {
+        const rlibreg_segment *it = i < image->count ? &image->segments[i] : NULL;
+        if (it && !it->length) continue;
+        if (!it || page_of(it->address) > to) {
+            if (from < to && take_pages(from, to)) {
+                free_pages(image, from);
+                return -1;
+            }
+            if (it) from = page_of(it->address);
         }
-        taken = to;
+        if (it) to = page_behind(it);
     }
     return 0;
 }
@@ -64,11 +65,19 @@ static int protection(const rlibreg_segment *it) {
            (it->permissions & RLIBREG_EXECUTE ? PROT_EXEC : 0);
 }
 
-/* An object of a program, and the pages of it that are fixed. */
+/* Pages that are protected alike, which takes one call. */
+struct run {
+    uint64_t from, to;
+    int how;
+};
+
+/* An object of a program, the pages of it that are fixed, and those before that aren't protected
+ * yet. */
 struct part {
     const struct program *program;
     const rlibreg_object *object;
     struct pages fixed;
+    struct run *run;
 };
 
 /* What is done with pages of an object that are to be protected so. */
@@ -104,11 +113,11 @@ static void each_pages_of(const struct part *part, page_action *action) {
 }
 
 /* Two objects never share a page. */
-static void each_pages(const struct program *program, page_action *action) {
+static void each_pages(const struct program *program, page_action *action, struct run *run) {
     const rlibreg_image *image = &program->image;
     for (size_t i = 0; i < image->object_count; i++) {
         const rlibreg_object *it = &image->objects[i];
-        struct part part = { program, it, fixed_pages(image, it) };
+        struct part part = { program, it, fixed_pages(image, it), run };
         each_pages_of(&part, action);
     }
 }
@@ -120,13 +129,29 @@ static void refuse_both(const struct part *part, uint64_t from, uint64_t to, int
                 "it has memory that may be written and executed, for which -x is needed");
 }
 
-static void protect(const struct part *part, uint64_t from, uint64_t to, int how) {
-    (void)part;
-    if (!mprotect((void *)from, to - from, how)) return;
-    if (how & PROT_EXEC && (errno == EACCES || errno == EPERM))
+static void protect_run(const struct run *it) {
+    if (!mprotect((void *)it->from, it->to - it->from, it->how)) return;
+    if (it->how & PROT_EXEC && (errno == EACCES || errno == EPERM))
         fail("memory that may be executed (SELinux: allow execmem; "
              "systemd: MemoryDenyWriteExecute=no)");
     fail("permissions");
+}
+
+/* Protects pages, with those before where that is the same; these wait for what comes behind. */
+static void protect(const struct part *part, uint64_t from, uint64_t to, int how) {
+    struct run *run = part->run;
+    if (from == run->to && how == run->how) {
+        run->to = to;
+        return;
+    }
+    protect_run(run);
+    *run = (struct run){ from, to, how };
+}
+
+static void protect_all(const struct program *program) {
+    struct run run = { 0 };
+    each_pages(program, protect, &run);
+    protect_run(&run);
 }
 
 /* ---- The image */
@@ -157,7 +182,7 @@ static int bind_at(struct program *it, rlibreg *registry, const char *disk) {
     if (status) refuse(registry, status, disk);
     it->object = it->image.objects[0];
     if (!has_entry(it)) give_up(REFUSED, it->path, "it has no entry");
-    each_pages(it, refuse_both);
+    each_pages(it, refuse_both, NULL);
     if (!it->has_base && !is_low(&it->image))
         errno = ENOMEM;
     else if (!take_all_pages(&it->image))
@@ -183,5 +208,5 @@ void map_program(struct program *it, rlibreg *registry, const char *disk) {
     }
     if (!is_there) fail("memory at the base");
     put_bytes(&it->image);
-    each_pages(it, protect);
+    protect_all(it);
 }

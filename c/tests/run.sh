@@ -20,7 +20,7 @@ trap 'rm -rf "$room"' EXIT
 flags="-std=c11 -g -Wall -Wextra -Wpedantic -Werror -I$built"
 checked="$flags -O1 -fsanitize=address,undefined -fno-sanitize-recover=all"
 wraps=-Wl,--wrap=malloc,--wrap=calloc,--wrap=realloc
-objects=${3:-$room/objects}
+objects=$(realpath -m "${3:-$room/objects}")
 # compiled NAME FLAGS FILE..: objects of C files, in a folder of the name.
 compiled() {
     [ ! -d "$objects/$1" ] || return 0

@@ -1,0 +1,85 @@
+#!/usr/bin/env python3
+"""Times how a program of many libraries starts: by the system's own loader, which binds all at once, and by rlibreg-run.
+
+    python3 bench/starts.py FOLDER [LIBRARIES [RELOCATIONS]]
+
+FOLDER has rlibreg and rlibreg-run (c/build.sh). Each of 100 libraries exports ten functions, and has the addresses of
+200 of the others' in its data; the program needs all of them, and ends at once. gcc makes them, and ld links them; both
+loaders start the same objects. The least of some hundred starts in turn are printed, in milliseconds, and those of the
+processor behind them.
+"""
+
+import os
+import random
+import subprocess
+import sys
+import tempfile
+import time
+from pathlib import Path
+
+COMPILE = ['gcc', '-O1', '-fPIC', '-nostdlib', '-fno-stack-protector', '-fno-asynchronous-unwind-tables']
+LINK = ['ld', '--hash-style=sysv', '--no-as-needed', '--allow-shlib-undefined']
+EXPORTS, STARTS = 10, 200
+START = 'void _start(void) { __asm__ volatile("syscall" : : "a"(60), "D"(0)); }\n'
+
+
+def run(*words, **more):
+    subprocess.run([str(word) for word in words], check=True, capture_output=True, **more)
+
+
+def source(number, count, relocations, choose):
+    """A library's functions, and its row of addresses of the others'."""
+    own = ''.join(f'void f{number}_{k}(void) {{}}\n' for k in range(EXPORTS))
+    others = [it for it in range(count) if it != number]
+    named = [f'f{choose.choice(others)}_{choose.randrange(EXPORTS)}' for _ in range(relocations)]
+    declared = ''.join(f'void {it}(void);\n' for it in sorted(set(named)))
+    return f'{own}{declared}void (*row{number}[])(void) = {{{", ".join(named)}}};\n'
+
+
+def make(folder, count, relocations):
+    choose = random.Random(1)
+    names = [f'lib{number}.so' for number in range(count)]
+    for number, name in enumerate(names):
+        (folder / 'source.c').write_text(source(number, count, relocations // count, choose))
+        run(*COMPILE, '-c', '-o', 'object.o', 'source.c', cwd=folder)
+        run(*LINK, '-shared', f'-soname={name}', '-o', name, 'object.o', cwd=folder)
+    (folder / 'source.c').write_text(START)
+    run(*COMPILE, '-c', '-o', 'object.o', 'source.c', cwd=folder)
+    run(*LINK, '-pie', '-dynamic-linker=/lib64/ld-linux-x86-64.so.2', '-o', 'program', 'object.o', *names, cwd=folder)
+    return names
+
+
+def start(words, environment):
+    """The time of a start by the clock and of the processor."""
+    begin = time.perf_counter()
+    child = os.posix_spawn(words[0], words, environment)
+    _, status, usage = os.wait4(child, 0)
+    assert status == 0, (words, status)
+    return time.perf_counter() - begin, usage.ru_utime + usage.ru_stime
+
+
+def main():
+    built = Path(sys.argv[1]).resolve()
+    count, relocations = (int(sys.argv[k]) if len(sys.argv) > k else usual for k, usual in ((2, 100), (3, 20000)))
+    with tempfile.TemporaryDirectory() as name:
+        folder = Path(name)
+        names = make(folder, count, relocations)
+        lines = ''.join(f'install {(folder / it).read_bytes().hex()}\n' for it in names)
+        run(built / 'rlibreg', 'format', folder / 'disk', 1 << 16)
+        run(built / 'rlibreg', 'script', folder / 'disk', input=lines.encode())
+        os.chdir(folder)
+        ways = {
+            "the system's loader": (['./program'], {'LD_BIND_NOW': '1', 'LD_LIBRARY_PATH': '.'}),
+            'rlibreg-run': ([str(built / 'rlibreg-run'), 'disk', './program'], {})}
+        rows = {way: [] for way in ways}
+        for _ in range(STARTS):
+            for way, words in ways.items():
+                rows[way].append(start(*words))
+        least = {way: [1000 * min(row[k] for row in found) for k in (0, 1)] for way, found in rows.items()}
+        for way, (real, spent) in least.items():
+            print(f'{count} libraries, {relocations} relocations, {way}: {real:.1f} ms ({spent:.1f} used)')
+        print(f"rlibreg-run takes {least['rlibreg-run'][0] / least[next(iter(ways))][0]:.2f} of the system's loader")
+
+
+if __name__ == '__main__':
+    main()
