@@ -5,7 +5,6 @@ pub mod Ending
 pub mod Fronts
 pub mod Ascii
 pub mod Lines
-pub mod ReadLines
 pub mod Pages
 pub mod Pieces
 pub mod ScriptRuns

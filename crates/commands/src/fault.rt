@@ -1,8 +1,9 @@
 // Why a run couldn't go on.
 
 ghost use Rattle.std.specs.Prelude.{◌≡◌};
-ghost use Rattle.commands.specs.declared.fault.ScriptFault.TheVariants.{Write};
+ghost use Rattle.commands.specs.declared.fault.ScriptFault.TheVariants.{OutOfMemory, Write};
 
+use std::alloc::AllocError;
 use text_output::WriteFault;
 use thiserror::Error;
 
@@ -25,5 +26,13 @@ impl From<WriteFault> for ScriptFault {
 
     fn from(_fault: WriteFault) -> ScriptFault {
         ScriptFault::Write
+    }
+}
+
+impl From<AllocError> for ScriptFault {
+    ghost from_gives = { λ _ fault. fault ≡ OutOfMemory };
+
+    fn from(_refused: AllocError) -> ScriptFault {
+        ScriptFault::OutOfMemory
     }
 }

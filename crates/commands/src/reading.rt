@@ -1,11 +1,14 @@
 // Reading a line.
 
-ghost use Rattle.std.specs.Prelude.{◌≡◌, ◌≢◌, IfOk, IfErr};
+ghost use Rattle.std.specs.Prelude.{◌≡◌, ◌≢◌, ◌==◌, ℕ, List, Option, length};
+ghost use Rattle.std.specs.Prelude.{if◌then◌else◌, IfOk, IfErr, OnErr};
 ghost use Rattle.std.specs.Io.{StopsAt};
-ghost use Rattle.std.specs.Io.KnownBytes.{Consumes};
-ghost use Rattle.commands.specs.inside.Progress.{GotLine};
+ghost use Rattle.std.specs.Io.KnownBytes.{Consumes, Keeps};
+ghost use Rattle.commands.specs.Script.{IsLine};
+ghost use Rattle.commands.specs.inside.Progress.{GotLine, GotPart};
 
 use crate::fault::ScriptFault;
+use memchr::memchr;
 use std::io::{BufRead, Error, ErrorKind};
 
 /// What one read of a line gave.
@@ -29,6 +32,47 @@ fn fault_of(error: &Error) -> ScriptFault
     }
 }
 
+/// What a line is that nothing follows.
+fn last_part(line: &[u8]) -> Got
+    ensures { result ≡ (if length line.now == 0 then Got.End else Got.Cut) }
+{
+    if line.is_empty() { Got::End } else { Got::Cut }
+}
+
+/// Puts what the reader has at hand behind a part of a line, up to the newline, and says what the
+/// line is once it has ended. After an error all is as it was.
+fn read_part<R: BufRead>(reader: &mut R, line: &mut Vec<u8>) -> Result<Option<Got>, ScriptFault>
+    requires { IsLine line.old.items }
+    ensures ok { IfOk result (λ got. (before : Option (List ℕ))
+        → Consumes before (R.remaining reader.old) line.old.items
+        → GotPart before (R.remaining reader.new) line.new.items got) }
+    ensures kept { OnErr result (Keeps (R.remaining reader.old) (R.remaining reader.new)) }
+    ensures same { OnErr result (line.new.items ≡ line.old.items) }
+    ensures fault { IfErr result (λ fault. fault ≢ ScriptFault.Write) }
+{
+    let bytes = match reader.fill_buf() {
+        Ok(bytes) => bytes,
+        Err(e) if e.kind() == ErrorKind::Interrupted => return Ok(None),
+        Err(e) => return Err(fault_of(&e)),
+    };
+    if bytes.is_empty() {
+        return Ok(Some(last_part(line)));
+    }
+    match memchr(b'\n', bytes) {
+        Some(end) => {
+            line.extend_from_slice(&bytes[..end])?;
+            reader.consume(end + 1);
+            Ok(Some(Got::Whole))
+        }
+        None => {
+            let end = bytes.len();
+            line.extend_from_slice(bytes)?;
+            reader.consume(end);
+            Ok(None)
+        }
+    }
+}
+
 /// Reads a line into the buffer, in place of what was there.
 pub(crate) fn read_line<R: BufRead>(reader: &mut R, line: &mut Vec<u8>) -> Result<Got, ScriptFault>
     ensures ok { IfOk result
@@ -39,16 +83,10 @@ pub(crate) fn read_line<R: BufRead>(reader: &mut R, line: &mut Vec<u8>) -> Resul
     ensures fault { IfErr result (λ fault. fault ≢ ScriptFault.Write) }
 {
     line.clear();
-    match reader.read_until(b'\n', line) {
-        Ok(0) => Ok(Got::End),
-        Ok(n) => {
-            if line[n - 1] == b'\n' {
-                line.pop();
-                Ok(Got::Whole)
-            } else {
-                Ok(Got::Cut)
-            }
+    for _ in 0..u64::MAX {
+        if let Some(got) = read_part(reader, line)? {
+            return Ok(got);
         }
-        Err(e) => Err(fault_of(&e)),
     }
+    Err(ScriptFault::Read)
 }

@@ -1,5 +1,5 @@
 -- How far a script has come.
-use Rattle.std.specs.Prelude.{◌≡◌, ◌==◌, true, ◌++◌, ℕ, ◌<◌, List, [], length, All, Option, IfSome}
+use Rattle.std.specs.Prelude.{◌≡◌, ◌==◌, true, ◌++◌, ℕ, ◌<◌, List, [], length, All, Option, Some, None, IfSome}
 use Rattle.std.specs.List.{flat_map, list_any, AllZip}
 use Rattle.std.specs.Io.{StopsAt}
 use Rattle.std.specs.Io.KnownBytes.{Appends, Consumes}
@@ -34,6 +34,11 @@ GotLine before after line End = IsAll before [] × Consumes before after []
 abbrev pub Unread : Option (List ℕ) → Option (List ℕ) → Option (List ℕ) → Option (List ℕ) → List ℕ → ScriptFault → Type 0
 Unread before after waits now line Write = after ≡ before
 Unread before after waits now line fault = Consumes before after line × StopsAt line 10 × Appends waits now []
+
+-- What was read of a line so far: all up to its end, with what the line is, or a part of it.
+abbrev pub GotPart : Option (List ℕ) → Option (List ℕ) → List ℕ → Option Got → Type 0
+GotPart before after line (Some got) = GotLine before after line got
+GotPart before after line None = Consumes before after line × IsLine line
 
 -- the streams at a place of a script: what is left to read, and what the writer holds
 pub record Place : Type 0 where
