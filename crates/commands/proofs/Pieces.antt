@@ -1,44 +1,35 @@
 -- HEX by pieces.
 use Rattle.std.proofs.Common.{◌≡◌, ℕ, zero, suc, ◌+◌, ◌*◌, ◌/◌, ◌%◌, ◌<◌, ◌≤◌, ◌==◌, Bool, true, false, if◌then◌else◌, List, [], ◌∷◌, ◌++◌, length}
-use Rattle.std.proofs.Common.{length-take, length-drop, take, drop, slice_index_or, Option, Some, None, unwrap_or, Result, Ok, Err, refl, sym, ap}
-use Rattle.std.proofs.Common.{◌∙◌, arith, append_assoc, take-append-drop}
+use Rattle.std.proofs.Common.{length-take, length-drop, take, drop, slice_index, slice_index_or, is_some, Option, Some, None, Result, Ok, Err, refl, sym, ap}
+use Rattle.std.proofs.Common.{◌∙◌, arith, append_assoc, take-append-drop, get_or-take}
 use Rattle.std.specs.Prelude.{MatchResult}
 use Rattle.std.specs.Result.{result_ok}
 use Rattle.std.specs.Simd.{first_chunks}
-use Rattle.std.proofs.lemmas.List.{drop-drop}
-use Rattle.hex.proofs.HexLemmas.{decode_of-even, decode_of-odd, decode_sized-twice}
+use Rattle.std.proofs.lemmas.List.{drop-drop, get_or-drop}
+use Rattle.hex.proofs.HexLemmas.{decode_of-even, decode_of-odd, decode_of-ok, decode_sized-twice}
 use Rattle.hex.specs.Hex.{decode_of, decode_pairs, decode_sized, digit_or_error, hex_digit_value, pair_value, ◌>>=◌}
 use Rattle.hex.specs.declared.error.FromHexError.{FromHexError}
-use Rattle.hex.specs.declared.error.FromHexError.TheVariants.{InvalidHexCharacter}
 use Rattle.commands.specs.Line.{hex_bytes}
 
 -- two digits that may be none
 abbrev paired : ℕ → ℕ → ℕ → Option ℕ → Option ℕ → Result ℕ FromHexError
 paired a b i high low = digit_or_error a i high >>= (λ h. digit_or_error b (i + 1) low >>= (λ l. Ok (h * 16 + l)))
 
-good-pair : (a b i : ℕ) (high low : Option ℕ) → unwrap_or high 16 < 16 → unwrap_or low 16 < 16 → paired a b i high low ≡ Ok (unwrap_or high 16 * 16 + unwrap_or low 16)
-good-pair a b i (Some h) (Some l) p q = refl
-good-pair a b i None low p q = absurd (omega (arith, p))
-good-pair a b i (Some h) None p q = absurd (omega (arith, q))
-
--- two digits are a byte
-pub read-pair : (a b i v w : ℕ) → v ≡ unwrap_or (hex_digit_value a) 16 → w ≡ unwrap_or (hex_digit_value b) 16 → v < 16 → w < 16 → pair_value a b i ≡ Ok (v * 16 + w)
-read-pair a b i v w ev ew hv hw = rw (ev, ew) (good-pair a b i (hex_digit_value a) (hex_digit_value b) (rw ev at hv) (rw ew at hw))
-
 -- a digit's value is below 16
-digit-below : (c v : ℕ) → hex_digit_value c ≡ Some v → v < 16
+pub digit-below : (c v : ℕ) → hex_digit_value c ≡ Some v → v < 16
 digit-below c v h = grind (arith)
 
-bad-pair : (a b i : ℕ) (high low : Option ℕ) → ((x : ℕ) → high ≡ Some x → x < 16) → ((x : ℕ) → low ≡ Some x → x < 16)
-    → (unwrap_or high 16 < 16 → unwrap_or low 16 < 16 → ⊥) → (e : FromHexError) × (paired a b i high low ≡ Err e)
-bad-pair a b i None low hs ls p = (InvalidHexCharacter a i, refl)
-bad-pair a b i (Some h) None hs ls p = (InvalidHexCharacter b (i + 1), refl)
-bad-pair a b i (Some h) (Some l) hs ls p = absurd (p (hs h refl) (ls l refl))
+-- two digits are a byte
+pub read-pair : (a b i v w : ℕ) → hex_digit_value a ≡ Some v → hex_digit_value b ≡ Some w → pair_value a b i ≡ Ok (v * 16 + w)
+read-pair a b i v w high low = ap (λ h. paired a b i h (hex_digit_value b)) high ∙ ap (λ l. paired a b i (Some v) l) low
 
--- a pair of which one is no digit is none
-pub refuse-pair : (a b i v w : ℕ) → v ≡ unwrap_or (hex_digit_value a) 16 → w ≡ unwrap_or (hex_digit_value b) 16 → (v < 16 → w < 16 → ⊥) → (e : FromHexError) × (pair_value a b i ≡ Err e)
-refuse-pair a b i v w ev ew p =
-    bad-pair a b i (hex_digit_value a) (hex_digit_value b) (digit-below a) (digit-below b) (λ x y. p (rw ev x) (rw ew y))
+-- text with a byte that is no digit spells nothing
+pub not-all : (s : List ℕ) (k : ℕ) → k < length s → hex_digit_value (slice_index s k) ≡ None → None ≡ result_ok (decode_of s)
+not-all s k within none = by (decode_of s) refl
+  where
+    by : (r : Result (List ℕ) FromHexError) → decode_of s ≡ r → None ≡ result_ok r
+    by (Ok bytes) is = absurd (cc (sym (ap is_some none) ∙ (decode_of-ok s bytes is).1 k 0 within))
+    by (Err e) is = refl
 
 -- bytes before others, where both are there
 abbrev pub joined : Option (List ℕ) → Option (List ℕ) → Option (List ℕ)
@@ -110,6 +101,27 @@ pairs-append i (x ∷ y ∷ a) b even =
     ∙ ap (λ r. joined (one (result_ok (pair_value x y i))) r) (pairs-append (i + 2) a b (omega (arith, even)))
     ∙ joined-three (one (result_ok (pair_value x y i))) (result_ok (decode_pairs (i + 2) a)) (result_ok (decode_pairs 0 b))
     ∙ ap (λ r. joined r (result_ok (decode_pairs 0 b))) (sym (first-pair i x y a))
+
+-- one of the pairs
+pair-at : (n i : ℕ) (bytes d : List ℕ) → i < n → slice_index_or (first_chunks 2 n bytes) i d ≡ take 2 (drop (2 * i) bytes)
+pair-at zero i bytes d h = absurd (omega arith)
+pair-at (suc n) zero bytes d h = refl
+pair-at (suc n) (suc i) bytes d h =
+    let e : 2 + 2 * i ≡ 2 * suc i = omega arith in
+    pair-at n i (drop 2 bytes) d (omega arith) ∙ ap (take 2) (drop-drop (2 * i) 2 bytes ∙ ap (λ k. drop k bytes) e)
+
+-- its first value
+pub pair-high : (n i : ℕ) (pairs : List (List ℕ)) (values d : List ℕ) → pairs ≡ first_chunks 2 n values → i < n → slice_index (slice_index_or pairs i d) 0 ≡ slice_index values (2 * i)
+pair-high n i pairs values d are within =
+    let at : 2 * i + 0 ≡ 2 * i = omega arith in
+    ap (λ l. slice_index (slice_index_or l i d) 0) are ∙ ap (λ l. slice_index l 0) (pair-at n i values d within) ∙ get_or-take 2 (drop (2 * i) values) 0 0 (omega arith)
+    ∙ get_or-drop (2 * i) values 0 0 ∙ ap (λ k. slice_index values k) at
+
+-- and its second one
+pub pair-low : (n i : ℕ) (pairs : List (List ℕ)) (values d : List ℕ) → pairs ≡ first_chunks 2 n values → i < n → slice_index (slice_index_or pairs i d) 1 ≡ slice_index values (2 * i + 1)
+pair-low n i pairs values d are within =
+    ap (λ l. slice_index (slice_index_or l i d) 1) are ∙ ap (λ l. slice_index l 1) (pair-at n i values d within) ∙ get_or-take 2 (drop (2 * i) values) 1 0 (omega arith)
+    ∙ get_or-drop (2 * i) values 1 0
 
 -- one of the whole pieces
 pub piece-at : (n i : ℕ) (bytes d : List ℕ) → i < n → slice_index_or (first_chunks 32 n bytes) i d ≡ take 32 (drop (32 * i) bytes)

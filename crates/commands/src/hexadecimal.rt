@@ -1,6 +1,7 @@
 // HEX: pairs of hexadecimal digits, and the bytes that they spell.
 
-ghost use Rattle.std.specs.Prelude.{◌≡◌, ◌%◌, ◌<◌, length, max, unwrap_or, IfOk};
+ghost use Rattle.std.specs.Prelude.{◌≡◌, ◌+◌, ◌*◌, ◌<◌, ℕ, slice_index, Some, None};
+ghost use Rattle.std.specs.Prelude.{unwrap_or, IfOk, IfSome};
 ghost use Rattle.std.specs.Option.{option_map};
 ghost use Rattle.std.specs.Result.{result_ok};
 ghost use Rattle.hex.specs.Hex.{decode_of, hex_digit_value};
@@ -33,24 +34,52 @@ fn digit_value(digit: u8) -> u8
     }
 }
 
+/// The values of the digits of a piece, where all of it is digits.
+fn values_of(digits: &[u8; DIGITS]) -> Option<[u8; DIGITS]>
+    ensures all { IfSome result (λ values. (k : ℕ) → k < 32
+        → hex_digit_value (slice_index digits.now k) ≡ Some (slice_index values k)) }
+    ensures other { result ≡ None
+        → (k : ℕ) × (k < 32) × (hex_digit_value (slice_index digits.now k) ≡ None) }
+{
+    let mut values = [0; DIGITS];
+    // The greatest of all values: `NO_DIGIT` once there is a byte that is no digit.
+    let mut greatest = 0u8;
+    for i in 0..DIGITS {
+        let value = digit_value(digits[i]);
+        greatest = greatest.max(value);
+        values[i] = value;
+    }
+    if greatest < NO_DIGIT {
+        Some(values)
+    } else {
+        None
+    }
+}
+
+/// The byte of the values of two digits. One number in place of two lets the compiler make all bytes
+/// of a piece at once.
+fn byte_of(values: [u8; 2]) -> u8
+    requires high { slice_index values 0 < 16 }
+    requires low { slice_index values 1 < 16 }
+    ensures { result ≡ slice_index values 0 * 16 + slice_index values 1 }
+{
+    let pair = u16::from_le_bytes(values);
+    ((pair * 16 + pair / 256) % 256) as u8
+}
+
 /// The bytes of a piece, where all of it is digits.
 fn decode_piece(digits: &[u8; DIGITS]) -> Option<[u8; PIECE]>
     ensures { result ≡ result_ok (decode_of digits.now) }
 {
+    let Some(values) = values_of(digits) else {
+        return None;
+    };
+    let (pairs, _) = values.as_chunks::<2>();
     let mut bytes = [0; PIECE];
-    // The greatest of all values: `NO_DIGIT` once there is a byte that is no digit.
-    let mut greatest = 0u8;
     for i in 0..PIECE {
-        let high = digit_value(digits[2 * i]);
-        let low = digit_value(digits[2 * i + 1]);
-        greatest = greatest.max(high).max(low);
-        bytes[i] = high % 16 * 16 + low % 16;
+        bytes[i] = byte_of(pairs[i]);
     }
-    if greatest < NO_DIGIT {
-        Some(bytes)
-    } else {
-        None
-    }
+    Some(bytes)
 }
 
 /// The bytes that HEX spells. An odd number of digits is refused without memory.
