@@ -1,7 +1,7 @@
-// The keys of names, and the search by chains beside a plain one.
+// The search by chains beside a plain one.
 
 use elf_dynamic::Object;
-use hash_check::{AdmitRefusal, Admitted, KeyedName, elf_hash, key_of};
+use hash_check::{AdmitRefusal, Admitted, elf_hash};
 use std::alloc::Global;
 
 /// A library named q with two buckets, which exports f and g and refers to u.
@@ -131,65 +131,6 @@ fn compare(alloc: Global, file: &[u8]) -> Outcome {
             agrees: !good && refusal == AdmitRefusal::BadHashTable,
         },
     }
-}
-
-#[test]
-fn makes_keys_of_names(rt: HostRuntime) {
-    let keys = [
-        key_of(b""),
-        key_of(b"ab"),
-        key_of(b"abcdefg"),
-        key_of(b"abcdefgh"),
-        key_of(b"abcdefghijklmnopqrstuvwxyz"),
-    ];
-    let expected = [
-        0,
-        0x6162,
-        0x0061_6263_6465_6667,
-        0xf09c_bc5d_ba45_a70d,
-        0xb19e_71bd_eaf6_6dda,
-    ];
-    assert!(rt; keys == expected);
-}
-
-/// What the library exports.
-const EXPORTED: [KeyedName; 2] = [
-    KeyedName {
-        key: 0x66,
-        symbol: 1,
-        length: 1,
-    },
-    KeyedName {
-        key: 0x67,
-        symbol: 2,
-        length: 1,
-    },
-];
-
-/// Whether an object exports these names, in this order.
-fn exports(alloc: Global, admitted: &Admitted<'_>, expected: &[KeyedName]) -> bool {
-    match admitted.exported_names(alloc) {
-        Ok(names) => names.as_slice() == expected,
-        Err(_) => false,
-    }
-}
-
-/// Whether the library exports its names, and the names of two of its symbols.
-fn names_of_library(alloc: Global) -> Option<(bool, &'static [u8], &'static [u8])> {
-    match Admitted::read(alloc, library()) {
-        Ok(admitted) => Some((
-            exports(alloc, &admitted, &EXPORTED),
-            admitted.name_at(2),
-            admitted.name_at(4),
-        )),
-        Err(_) => None,
-    }
-}
-
-#[test]
-fn exported_names_have_their_keys(rt: HostRuntime) {
-    let names = names_of_library(rt.alloc());
-    assert!(rt; names == Some((true, b"g".as_slice(), b"".as_slice())));
 }
 
 #[test]

@@ -3,7 +3,7 @@ use Rattle.std.proofs.Common.{◌≡◌, ℕ, ◌<◌, ◌+◌, ◌-◌, List, l
 use Rattle.std.specs.List.{All, range_with_len}
 use Rattle.std.proofs.lemmas.List.FromFn.{length-range_with_len, get_or-range_with_len}
 use Rattle.elf_dynamic.specs.Symbol.{symbols}
-use Rattle.hash_check.specs.KeyedName.{all_symbols}
+use Rattle.hash_check.specs.inside.Names.{all_symbols}
 use Rattle.hash_check.specs.inside.Names.{IsSymbol}
 
 pub all-symbols : (file : List ℕ) → All (IsSymbol file) (all_symbols file)

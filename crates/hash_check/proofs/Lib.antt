@@ -18,7 +18,6 @@ pub mod Starting
 pub mod Sorting
 pub mod Exported
 pub mod NameLengths
-pub mod NameTexts
 pub mod Moved
 pub mod SharedNames
 pub mod AllSymbols

@@ -10,7 +10,7 @@ use Rattle.std.proofs.lemmas.List.FromFn.{length-range_with_len, get_or-range_wi
 use Rattle.std.proofs.lemmas.List.Sorted.{All-permutation, IsPermutation-sym}
 use Rattle.elf_dynamic.specs.Symbol.{symbols}
 use Rattle.elf_dynamic.specs.Strings.{name_of}
-use Rattle.hash_check.specs.KeyedName.{all_symbols}
+use Rattle.hash_check.specs.inside.Names.{all_symbols}
 use Rattle.hash_check.specs.Numbered.{nth_file, nth_symbol, name_in, IsSymbolOf, HasSymbol, AreSymbols}
 use Rattle.hash_check.specs.declared.numbered.NumberedSymbol.{NumberedSymbol}
 use Rattle.hash_check.specs.inside.Names.{IsSymbol}

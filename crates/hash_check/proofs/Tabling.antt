@@ -3,7 +3,7 @@ use Rattle.std.proofs.Common.{◌≡◌, ◌≢◌, ℕ, ◌<◌, ◌≤◌, ◌
 use Rattle.std.proofs.lemmas.List.{get_or_append_left}
 use Rattle.std.proofs.lemmas.Bool.{cases_lt}
 use Rattle.std.proofs.Math.Seq.{get_or-append_seam}
-use Rattle.hash_check.specs.Key.{key_of}
+use Rattle.hash_check.specs.inside.Key.{key_of}
 use Rattle.hash_check.specs.Numbers.{nth_text, AreNumbers}
 use Rattle.hash_check.specs.inside.NameTable.{home, home_of, Reaches, Stands, IsPut}
 use Rattle.hash_check.proofs.Cells.{one-place}

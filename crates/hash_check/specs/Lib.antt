@@ -1,7 +1,5 @@
 pub mod Hash
 pub mod Export
-pub mod Key
-pub mod KeyedName
 pub mod Definition
 pub mod Numbers
 pub mod Numbered

@@ -1,13 +1,11 @@
 // An admitted object.
 
-ghost use Rattle.std.specs.Prelude.{◌≡◌, ◌<◌, length, map, Some, None, true, false, IfOk, IfErr, OnOk, OnErr};
-ghost use Rattle.std.specs.List.Sorted.{IsPermutation};
+ghost use Rattle.std.specs.Prelude.{◌≡◌, ◌<◌, length, Some, None, true, false, IfOk, IfErr, OnOk, OnErr};
 ghost use Rattle.elf_dynamic.specs.Refusal.{first_refusal};
 ghost use Rattle.elf_dynamic.specs.Strings.{name_of, soname};
 ghost use Rattle.elf_file.specs.declared.refusal.ObjectRefusal.TheVariants.{BadSoname};
 ghost use Rattle.elf_dynamic.specs.Symbol.{symbols};
-ghost use Rattle.hash_check.specs.Export.{exported_symbols, is_exported};
-ghost use Rattle.hash_check.specs.KeyedName.{named, all_symbols};
+ghost use Rattle.hash_check.specs.Export.{is_exported};
 ghost use Rattle.hash_check.specs.Hash.{elf_hash};
 ghost use Rattle.hash_check.specs.Definition.{definition_of, HasUniqueNames};
 ghost use Rattle.hash_check.specs.HashTable.{HasGoodTable};
@@ -17,16 +15,14 @@ ghost use Rattle.hash_check.specs.Soname.{has_bad_soname};
 
 use crate::duplicates::has_duplicate_definition;
 use crate::export::is_exported;
-use crate::exported_names::{all_names, exported_names};
 use crate::hash::elf_hash;
-use crate::keyed_name::KeyedName;
-use crate::names::{name_at, text_of_name};
+use crate::names::name_at;
 use crate::refusal::AdmitRefusal;
 use crate::search::{Found, search};
 use crate::soname::is_library_name;
 use crate::table::has_bad_hash_table;
 use elf_dynamic::{Object, ObjectRefusal};
-use std::alloc::{AllocError, Global};
+use std::alloc::Global;
 use std::marker::Model;
 
 /// A shared object that no test refuses, that exports no name twice, and whose hash table can be
@@ -101,15 +97,6 @@ impl<'a> Admitted<'a> {
         name_at(self.object(), i)
     }
 
-    /// The name of a symbol with its key and its length, in constant time: its end is looked for
-    /// only in a string table of 2^32 bytes and more.
-    pub fn text_of(&self, name: KeyedName) -> &'a [u8]
-        requires { name ≡ named self.now name.symbol }
-        ensures { result.now ≡ name_of self.now name.symbol }
-    {
-        text_of_name(self.object(), name)
-    }
-
     /// Whether the symbol of a number is exported.
     pub fn is_exported(&self, i: u32) -> bool
         requires { i < length (symbols self.now) }
@@ -147,24 +134,5 @@ impl<'a> Admitted<'a> {
         ensures compared { result.compared ≡ compared self.now name.now hash }
     {
         search(self.object(), name, hash)
-    }
-    /// The exported symbols with the keys of their names, for tables over several objects. It takes
-    /// some 20 bytes an exported symbol, of which it keeps 16.
-    pub fn exported_names(&self, alloc: Global) -> Result<Vec<KeyedName>, AllocError>
-        // Each exported symbol once, in any order.
-        ensures { IfOk result (λ names.
-            IsPermutation (map (named self.now) (exported_symbols self.now)) names.items) }
-    {
-        exported_names(alloc, self.object())
-    }
-    /// All symbols but number 0 with the keys of their names, for lookups ahead. They come by the
-    /// places of their names, so of names that are tails of one string the longest is the first. It
-    /// takes some 20 bytes a symbol, of which it keeps 16.
-    pub fn all_names(&self, alloc: Global) -> Result<Vec<KeyedName>, AllocError>
-        // Each of them once; no clause says in which order.
-        ensures { IfOk result (λ names.
-            IsPermutation (map (named self.now) (all_symbols self.now)) names.items) }
-    {
-        all_names(alloc, self.object())
     }
 }

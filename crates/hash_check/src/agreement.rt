@@ -7,7 +7,7 @@ ghost use Rattle.std.specs.Ordering.{nat_cmp};
 use std::cmp::Ordering;
 
 /// In how many of their last bytes two strings agree.
-pub fn common_end(a: &[u8], b: &[u8]) -> usize
+pub(crate) fn common_end(a: &[u8], b: &[u8]) -> usize
     ensures first { result ≤ length a.now }
     ensures second { result ≤ length b.now }
     ensures agree { take result (reverse a.now) ≡ take result (reverse b.now) }
@@ -24,7 +24,7 @@ pub fn common_end(a: &[u8], b: &[u8]) -> usize
 }
 
 /// The order of two strings by their bytes from the last one on.
-pub fn compare_ends(a: &[u8], b: &[u8]) -> Ordering
+pub(crate) fn compare_ends(a: &[u8], b: &[u8]) -> Ordering
     ensures { result ≡ slice_cmp nat_cmp (reverse a.now) (reverse b.now) }
 {
     if a == b {

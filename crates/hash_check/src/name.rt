@@ -1,7 +1,7 @@
 // The bytes of a name with their key.
 
 ghost use Rattle.std.specs.Prelude.{◌≡◌, ◌↔◌, IsTrue};
-ghost use Rattle.hash_check.specs.Key.{key_of};
+ghost use Rattle.hash_check.specs.inside.Key.{key_of};
 
 use crate::key::key_of;
 use std::marker::Model;
@@ -15,7 +15,7 @@ pub(crate) struct Name<'a> {
 
 impl<'a> Model for Name<'a> {
     ghost use Rattle.std.specs.Prelude.{List, ℕ, ◌≡◌};
-    ghost use Rattle.hash_check.specs.Key.{key_of};
+    ghost use Rattle.hash_check.specs.inside.Key.{key_of};
 
     ghost Value = { List ℕ };
 

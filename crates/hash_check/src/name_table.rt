@@ -9,26 +9,18 @@ use std::alloc::{AllocError, Global};
 
 /// How many cells a name may stand in, from its home on. Half of all are empty, so that keys which
 /// nobody chose need a few.
-pub const FARTHEST: usize = 128;
+const FARTHEST: usize = 128;
 
-/// The home of a key in a table of so many cells.
+/// The home of a key in a table of so many cells: the first of those in which a name of it may
+/// stand.
 #[tactic(auto, unfolding(crate::specs::inside::NameTable::home))]
-fn home_among(count: usize, key: u64) -> usize
+fn home(count: usize, key: u64) -> usize
     requires { 128 < count }
     ensures value { result ≡ home count key }
     ensures within { result + 128 < count }
 {
     let spread = key.wrapping_mul(0x9e37_79b9_7f4a_7c15) >> 32;
     (spread % (count - FARTHEST) as u64) as usize
-}
-
-/// The home of a key in a table of names: the first of the cells in which a name of it may stand.
-pub fn home(cells: &[usize], key: u64) -> usize
-    requires { 128 < length cells.now }
-    ensures value { result ≡ home (length cells.now) key }
-    ensures within { result + 128 < length cells.now }
-{
-    home_among(cells.len(), key)
 }
 
 /// Puts a name into a table of those before it, unless the same one is there. Gives the number of
@@ -41,7 +33,7 @@ fn put(names: &[Name<'_>], cells: &mut [u32], number: usize) -> Option<u32>
     ensures { IfSome result (IsPut names.now cells.old cells.new number) }
 {
     let name = &names[number];
-    let first = home_among(cells.len(), name.key());
+    let first = home(cells.len(), name.key());
     for at in first..first + FARTHEST {
         let cell = cells[at];
         if cell == 0 {

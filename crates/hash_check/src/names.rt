@@ -3,10 +3,8 @@
 ghost use Rattle.std.specs.Prelude.{◌≡◌, map, IfOk, IfSome};
 ghost use Rattle.std.specs.List.{All};
 ghost use Rattle.elf_dynamic.specs.Strings.{name_of};
-ghost use Rattle.hash_check.specs.KeyedName.{named};
 ghost use Rattle.hash_check.specs.inside.Names.{IsSymbol, IsLengthOf, offset_of};
 
-use crate::keyed_name::KeyedName;
 use crate::name::Name;
 use crate::room::Room;
 use crate::strings::stretch_of;
@@ -45,21 +43,6 @@ fn text_of<'a>(object: &Object<'a>, symbol: u32, length: usize) -> &'a [u8]
     let from = (offset_of(object, symbol) as usize).min(table.len());
     let rest = &table[from..];
     &rest[..length]
-}
-
-/// The name of a symbol with its key and its length. Its end is looked for only in a string table
-/// that is so large that lengths are cut.
-pub(crate) fn text_of_name<'a>(object: &Object<'a>, name: KeyedName) -> &'a [u8]
-    requires { name ≡ named object.now name.symbol }
-    ensures { result.now ≡ name_of object.now name.symbol }
-{
-    let symbol = name.symbol;
-    let small = object.string_table().len() < 1 << 32;
-    if small && symbol != 0 && symbol < object.symbol_count() {
-        text_of(object, symbol, name.length as usize)
-    } else {
-        name_at(object, symbol)
-    }
 }
 
 /// The names of symbols. Where these are sorted by the places of their names, each byte is looked

@@ -5,15 +5,16 @@ ghost use Rattle.std.specs.Prelude.{IfOk, IfSome, OnOk};
 ghost use Rattle.std.specs.List.{All};
 ghost use Rattle.hash_check.specs.Numbered.{nth_symbol, AreNumbered};
 ghost use Rattle.hash_check.specs.inside.Endings.{AreEndings};
+ghost use Rattle.hash_check.specs.inside.Names.{all_symbols};
 ghost use Rattle.hash_check.specs.inside.Numbered.{unnumbered, with_number, behind, AreGathered};
 
 use crate::admitted::Admitted;
 use crate::endings::{Ending, numbers_of_endings};
-use crate::exported_names::all_symbols;
 use crate::name::Name;
 use crate::name_table::numbers_in_table;
 use crate::names::{names_of, offset_of, short_names};
 use crate::strings::endings_of;
+use elf_dynamic::Object;
 use std::alloc::{AllocError, Global};
 
 /// A symbol of one of several objects, with the number of its name.
@@ -55,6 +56,14 @@ fn add_symbols<'a>(
     }
     gathered.names.append(&mut names)?;
     Ok(())
+}
+
+/// The numbers of all symbols but number 0.
+#[tactic(auto, unfolding(crate::specs::inside::Names::all_symbols))]
+fn all_symbols(alloc: Global, object: &Object<'_>) -> Result<Vec<u32>, AllocError>
+    ensures { IfOk result (λ numbers. numbers.items ≡ all_symbols object.now) }
+{
+    (1..object.symbol_count()).collect(alloc)
 }
 
 /// The names of all symbols of objects, each read to its end; none where those of an object have so

@@ -1,7 +1,7 @@
 -- A table in which a name is looked for by its key. A name is told by its number: a cell has the number of a name, counted
 -- from 1, or 0 where it is empty. Nobody has to believe this.
 use Rattle.std.specs.Prelude.{ℕ, List, ◌≡◌, ◌≢◌, ◌<◌, ◌≤◌, ◌+◌, ◌-◌, ◌*◌, ◌/◌, ◌%◌, ◌^◌, length, slice_index}
-use Rattle.hash_check.specs.Key.{key_of}
+use Rattle.hash_check.specs.inside.Key.{key_of}
 use Rattle.hash_check.specs.Numbers.{nth_text}
 
 -- the first cell in which a name of a key may stand, of a table of some size

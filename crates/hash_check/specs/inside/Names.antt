@@ -1,5 +1,6 @@
 -- The names of symbols, and the strings of the string table that they are tails of.
-use Rattle.std.specs.Prelude.{ℕ, List, ◌≡◌, ◌≢◌, ◌<◌, ◌≤◌, ◌+◌, length, take, drop, reverse, slice_index, slice_get}
+use Rattle.std.specs.Prelude.{ℕ, List, ◌≡◌, ◌≢◌, ◌<◌, ◌≤◌, ◌+◌, ◌-◌, length, take, drop, reverse, slice_index, slice_get}
+use Rattle.std.specs.List.{range_with_len}
 use Rattle.std.specs.Option.{option_map_or}
 use Rattle.elf_dynamic.specs.Symbol.{symbols}
 use Rattle.elf_dynamic.specs.Strings.{name_of}
@@ -10,6 +11,10 @@ use Rattle.hash_check.specs.declared.strings.Stretch.{Stretch}
 pub record IsSymbol (file : List ℕ) (i : ℕ) : Type 0 where
   pub some : 1 ≤ i
   pub within : i < length (symbols file)
+
+-- the numbers of all symbols but number 0
+unfoldable pub all_symbols : List ℕ → List ℕ
+all_symbols file = range_with_len 1 (length (symbols file) - 1)
 
 -- where the name of a symbol begins in the string table
 abbrev pub offset_of : List ℕ → ℕ → ℕ

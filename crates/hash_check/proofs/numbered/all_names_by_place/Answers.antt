@@ -4,7 +4,7 @@ use Rattle.std.specs.List.Sorted.{IsPermutation}
 use Rattle.std.proofs.lemmas.List.{get_or-map}
 use Rattle.std.proofs.lemmas.List.Sorted.{All-permutation}
 use Rattle.elf_dynamic.specs.Strings.{name_of}
-use Rattle.hash_check.specs.KeyedName.{all_symbols}
+use Rattle.hash_check.specs.inside.Names.{all_symbols}
 use Rattle.hash_check.specs.declared.admitted.Admitted.{Admitted}
 use Rattle.hash_check.specs.declared.endings.Ending.{Ending}
 use Rattle.hash_check.specs.inside.Names.{IsSymbol}

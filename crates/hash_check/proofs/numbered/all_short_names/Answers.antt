@@ -5,7 +5,7 @@ use Rattle.std.specs.List.Sorted.{IsPermutation}
 use Rattle.std.proofs.lemmas.List.{get_or-map}
 use Rattle.std.proofs.lemmas.List.Sorted.{IsPermutation-refl}
 use Rattle.elf_dynamic.specs.Strings.{name_of}
-use Rattle.hash_check.specs.KeyedName.{all_symbols}
+use Rattle.hash_check.specs.inside.Names.{all_symbols}
 use Rattle.hash_check.specs.declared.admitted.Admitted.{Admitted}
 use Rattle.hash_check.specs.inside.Names.{IsSymbol}
 use Rattle.hash_check.proofs.AllSymbols.{all-symbols}

@@ -1,8 +1,8 @@
 use Rattle.std.proofs.Common.{◌≡◌, ◌-◌, length, refl, ap}
 use Rattle.std.proofs.lemmas.Iterator.{items_from_collect, YieldsList-from_range}
 use Rattle.elf_dynamic.specs.Symbol.{symbols}
-use Rattle.hash_check.specs.KeyedName.{all_symbols}
-use Rattle.hash_check.proofs.exported_names.all_symbols.Goals as goal
+use Rattle.hash_check.specs.inside.Names.{all_symbols}
+use Rattle.hash_check.proofs.numbered.all_symbols.Goals as goal
 
 pub returns : goal.returns
 unfolding all_symbols

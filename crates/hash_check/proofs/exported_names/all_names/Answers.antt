@@ -1,8 +1,0 @@
-use Rattle.std.proofs.Common.{subst, sym, List, ℕ}
-use Rattle.std.specs.List.{All}
-use Rattle.hash_check.specs.inside.Names.{IsSymbol}
-use Rattle.hash_check.proofs.AllSymbols.{all-symbols}
-use Rattle.hash_check.proofs.exported_names.all_names.Goals as goal
-
-pub names_by_place-requires : goal.names_by_place-requires
-names_by_place-requires c = subst (λ (l : List ℕ). All (IsSymbol c.args.object.now) l) (sym c.in_ok-symbols.ensures) (all-symbols c.args.object.now)
