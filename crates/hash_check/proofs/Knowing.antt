@@ -3,7 +3,7 @@ use Rattle.std.proofs.Common.{◌≡◌, ◌≢◌, ℕ, ◌<◌, ◌≤◌, ◌
 use Rattle.std.specs.Prelude.{Option, slice_index}
 use Rattle.std.proofs.lemmas.Bool.{cases_lt, cases_eq}
 use Rattle.std.proofs.lemmas.List.{get_or_past, get_or-set_same, get_or-set_other}
-use Rattle.hash_check.specs.Walk.{walk}
+use Rattle.hash_check.specs.Walk.{walk, Meets}
 use Rattle.hash_check.specs.HashTable.{AreIndices}
 use Rattle.hash_check.specs.inside.Places.{Depth, Known, Sound, Says, IsBefore, place_at}
 use Rattle.hash_check.specs.declared.place.Place.{Place}
@@ -41,21 +41,23 @@ jump_far c ps v p far sound at landed =
 pub depth_bound : (c : List ℕ) (ps : List (Option Place)) (v : ℕ) (p : Place) → AreIndices (length c) c → v < length c → Sound c ps → place_at ps v ≡ Some p → p.depth < length c
 depth_bound c ps v p words lt sound at = depth-small c v p.depth words lt ((sound.says v p at).depth)
 
-pub joined : (c : List ℕ) (ps : List (Option Place)) (v : ℕ) (p far : Place) → Sound c ps → place_at ps v ≡ Some p → place_at ps p.jump ≡ Some far
-    → IsBefore c v p (record { depth = p.depth + 1; jump = far.jump; landing = far.landing })
-joined c ps v p far sound at landed =
+pub joined : (c : List ℕ) (ps : List (Option Place)) (head v : ℕ) (p far : Place) → Sound c ps → place_at ps v ≡ Some p → place_at ps p.jump ≡ Some far
+    → IsBefore c head v p (record { depth = p.depth + 1; jump = far.jump; landing = far.landing; head = head })
+joined c ps head v p far sound at landed =
     let s : Says c ps v p = sound.says v p at in
     let f : Says c ps p.jump far = sound.says p.jump far landed in
     let down : far.depth ≡ p.landing = jump_depth c ps v p far sound at landed in
     let steps : p.depth - far.landing ≡ (p.depth - p.landing) + (far.depth - far.landing) = omega (arith, s.landing, f.landing, down) in
     record {
+      begins = refl;
       depth = refl;
       landing = omega (arith, s.landing, f.landing, down);
       jump = ap (walk c v) steps ∙ walk-add c v (p.depth - p.landing) (far.depth - far.landing) ∙ ap (λ w. walk c w (far.depth - far.landing)) s.jump ∙ f.jump;
     }
 
-pub single : (c : List ℕ) (v : ℕ) (p : Place) → IsBefore c v p (record { depth = p.depth + 1; jump = v; landing = p.depth })
-single c v p = record {
+pub single : (c : List ℕ) (head v : ℕ) (p : Place) → IsBefore c head v p (record { depth = p.depth + 1; jump = v; landing = p.depth; head = head })
+single c head v p = record {
+  begins = refl;
   depth = refl;
   landing = omega arith;
   jump = let none : p.depth - p.depth ≡ 0 = omega arith in ap (walk c v) none ∙ walk-zero c v;
@@ -72,7 +74,7 @@ pub known-new : (ps : List (Option Place)) (i : ℕ) (new : Place) → i < lengt
 known-new ps i new lt = record { place = new; is = get_or-set_same ps i (Some new) None lt }
 
 says-set : (c : List ℕ) (ps : List (Option Place)) (i : ℕ) (new : Place) (k : ℕ) (p : Place) → Says c ps k p → Says c (set ps i (Some new)) k p
-says-set c ps i new k p s = record { depth = s.depth; landing = s.landing; ahead = s.ahead; jump = s.jump; along = λ j le. known-set ps i new (walk c k j) (s.along j le) }
+says-set c ps i new k p s = record { depth = s.depth; landing = s.landing; ahead = s.ahead; jump = s.jump; along = λ j le. known-set ps i new (walk c k j) (s.along j le); head = s.head }
 
 along-before : (c : List ℕ) (ps : List (Option Place)) (i : ℕ) (next new : Place) → i < length ps → Says c ps (slice_index c i) next → (j : ℕ)
     → j ≤ next.depth + 1 → Known (set ps i (Some new)) (walk c i j)
@@ -80,9 +82,10 @@ along-before c ps i next new lt s zero le = subst (Known (set ps i (Some new))) 
 along-before c ps i next new lt s (suc j) le = let less : j ≤ next.depth = omega arith in
     subst (Known (set ps i (Some new))) (sym (walk-suc c i j)) (known-set ps i new (walk c (slice_index c i) j) (s.along j less))
 
-says-before : (c : List ℕ) (ps : List (Option Place)) (i : ℕ) (next new : Place) → i ≢ 0 → i < length ps → Says c ps (slice_index c i) next
-    → IsBefore c (slice_index c i) next new → Says c (set ps i (Some new)) i new
-says-before c ps i next new some lt s b = record {
+says-before : (c : List ℕ) (ps : List (Option Place)) (head i : ℕ) (next new : Place) → i ≢ 0 → i < length ps → Says c ps (slice_index c i) next
+    → IsBefore c head (slice_index c i) next new → Meets c head i → Says c (set ps i (Some new)) i new
+says-before c ps head i next new some lt s b met = record {
+  head = λ other. subst (λ h. Meets c h i) (sym b.begins) met;
   depth = subst (Depth c i) (sym b.depth) (depth-before c i next.depth some s.depth);
   landing = omega (arith, b.depth, b.landing);
   ahead = λ h. omega (arith, b.depth, b.landing);
@@ -92,14 +95,14 @@ says-before c ps i next new some lt s b = record {
 }
 
 -- one index more
-pub sound-set : (c : List ℕ) (ps : List (Option Place)) (i : ℕ) (new : Place) → Sound c ps → i ≢ 0 → i < length ps → Known ps (slice_index c i)
-    → ((p : Place) → place_at ps (slice_index c i) ≡ Some p → IsBefore c (slice_index c i) p new) → Sound c (set ps i (Some new))
-sound-set c ps i new sound some lt h b = record {
+pub sound-set : (c : List ℕ) (ps : List (Option Place)) (head i : ℕ) (new : Place) → Sound c ps → i ≢ 0 → i < length ps → Known ps (slice_index c i)
+    → ((p : Place) → place_at ps (slice_index c i) ≡ Some p → IsBefore c head (slice_index c i) p new) → Meets c head i → Sound c (set ps i (Some new))
+sound-set c ps head i new sound some lt h b met = record {
   says = λ k p at. elim (cases_eq k i) [
     | inl is ↦
         let e : Some new ≡ Some p = sym (get_or-set_same ps i (Some new) None lt) ∙ ap (λ j. get_or (set ps i (Some new)) j None) (sym is) ∙ at in
         let same : new ≡ p = cc in
-        let s : Says c (set ps i (Some new)) i new = says-before c ps i h.place new some lt (sound.says (slice_index c i) h.place h.is) (b h.place h.is) in
+        let s : Says c (set ps i (Some new)) i new = says-before c ps head i h.place new some lt (sound.says (slice_index c i) h.place h.is) (b h.place h.is) met in
         subst (λ q. Says c (set ps i (Some new)) k q) same (subst (λ j. Says c (set ps i (Some new)) j new) (sym is) s)
     | inr other ↦ says-set c ps i new k p (sound.says k p (sym (get_or-set_other ps i k (Some new) None other) ∙ at))
   ];

@@ -3,12 +3,12 @@ use Rattle.std.proofs.Common.{◌≡◌, ◌≢◌, ℕ, true, false, ◌<◌, �
 use Rattle.std.specs.Prelude.{Option, slice_index}
 use Rattle.std.specs.Option.{is_some}
 use Rattle.std.proofs.lemmas.Bool.{cases_lt}
-use Rattle.std.proofs.lemmas.List.{get_or_append_left, get_or_push, length_push, get_or_past}
-use Rattle.hash_check.specs.Walk.{walk, Ends}
+use Rattle.std.proofs.lemmas.List.{get_or_append_left, get_or_push, length_push}
+use Rattle.hash_check.specs.Walk.{walk, Ends, Meets}
 use Rattle.hash_check.specs.HashTable.{AreIndices}
-use Rattle.hash_check.specs.inside.Places.{Known, Keeps, IsPath, place_at}
+use Rattle.hash_check.specs.inside.Places.{Known, IsPath, place_at}
 use Rattle.hash_check.specs.declared.place.Place.{Place}
-use Rattle.hash_check.proofs.Walks.{walk-zero, walk-next, walk-index, depth-small, depth-from-ends}
+use Rattle.hash_check.proofs.Walks.{walk-next, walk-index, depth-small, depth-from-ends}
 
 pub path-empty : (c : List ℕ) (from : ℕ) → IsPath c from []
 path-empty c from = record { walked = λ k lt. absurd (omega arith); before = λ k lt. absurd (omega arith) }
@@ -33,6 +33,14 @@ path-last c from front i h = let lt : length front < length (front ++ i ∷ []) 
 pub path-last-some : (c : List ℕ) (from : ℕ) (front : List ℕ) (i : ℕ) → IsPath c from (front ++ i ∷ []) → i ≢ 0
 path-last-some c from front i h z = let lt : length front < length (front ++ i ∷ []) = omega (arith, length_push front i) in
     h.before (length front) lt (sym (path-last c from front i h) ∙ z)
+
+-- the walk meets the last index
+pub path-meets : (c : List ℕ) (from : ℕ) (front : List ℕ) (i : ℕ) → IsPath c from (front ++ i ∷ []) → Meets c from i
+path-meets c from front i h = record {
+  steps = length front;
+  arrives = sym (path-last c from front i h);
+  before = λ k le. let less : k < length (front ++ i ∷ []) = omega (arith, length_push front i) in h.before k less;
+}
 
 pub path-front : (c : List ℕ) (from : ℕ) (front : List ℕ) (i : ℕ) → IsPath c from (front ++ i ∷ []) → IsPath c from front
 path-front c from front i h = record {
@@ -69,42 +77,3 @@ unknown-some ps i h none z = let some : place_at ps i ≡ Some h.place = ap (pla
 pub unknown-tested : (ps : List (Option Place)) (i : ℕ) (o : Option Place) → Known ps 0 → o ≡ place_at ps i → is_some o ≡ false → i ≢ 0
 unknown-tested ps i None h e t = unknown-some ps i h (sym e)
 unknown-tested ps i (Some p) h e t = let f : true ≡ false = t in absurd (cc)
-
-pub path-none : (c : List ℕ) (from : ℕ) (path : List ℕ) → length path ≡ 0 → IsPath c from path
-path-none c from path none = record { walked = λ k lt. absurd (omega arith); before = λ k lt. absurd (omega arith) }
-
--- where a path begins
-pub path-first : (c : List ℕ) (from : ℕ) (path : List ℕ) → IsPath c from path → 0 < length path → from ≡ slice_index path 0
-path-first c from path h some = sym (h.walked 0 some ∙ walk-zero c from)
-
-first-none : (path : List ℕ) → length path ≡ 0 → 0 ≡ slice_index path 0
-first-none path none = sym (get_or_past path 0 0 (omega arith))
-
--- a path seen from its own first index, which is 0 where it has none
-pub own-first : (c : List ℕ) (from : ℕ) (path : List ℕ) → from < length c → IsPath c from path → slice_index path 0 < length c
-own-first c from path lt h = elim (cases_lt 0 (length path)) [
-  | inl some ↦ omega (arith, path-first c from path h some)
-  | inr none ↦ omega (arith, first-none path (omega arith))
-]
-
-pub own-path : (c : List ℕ) (from : ℕ) (path : List ℕ) → IsPath c from path → IsPath c (slice_index path 0) path
-own-path c from path h = elim (cases_lt 0 (length path)) [
-  | inl some ↦ subst (λ f. IsPath c f path) (path-first c from path h some) h
-  | inr none ↦ path-none c (slice_index path 0) path (omega arith)
-]
-
-pub own-end : (c : List ℕ) (ps : List (Option Place)) (from : ℕ) (path : List ℕ) → IsPath c from path → Known ps 0
-    → Known ps (walk c from (length path)) → Known ps (walk c (slice_index path 0) (length path))
-own-end c ps from path h zero end = elim (cases_lt 0 (length path)) [
-  | inl some ↦ subst (λ f. Known ps (walk c f (length path))) (path-first c from path h some) end
-  | inr none ↦
-      let no : length path ≡ 0 = omega arith in
-      subst (Known ps) (first-none path no ∙ sym (walk-zero c (slice_index path 0)) ∙ ap (walk c (slice_index path 0)) (sym no)) zero
-]
-
-pub own-known : (c : List ℕ) (old new : List (Option Place)) (from : ℕ) (path : List ℕ) → IsPath c from path → Keeps old new
-    → Known old (walk c from (length path)) → Known new (slice_index path 0) → Known new from
-own-known c old new from path h keeps end first = elim (cases_lt 0 (length path)) [
-  | inl some ↦ subst (Known new) (sym (path-first c from path h some)) first
-  | inr none ↦ let no : length path ≡ 0 = omega arith in keeps.known from (subst (Known old) (ap (walk c from) no ∙ walk-zero c from) end)
-]

@@ -1,5 +1,5 @@
 -- The places before any walk, and after all of them.
-use Rattle.std.proofs.Common.{◌≡◌, ◌≢◌, ℕ, ◌<◌, List, length, arith, ◌∙◌, sym, ap, subst, Some, None, inl, inr, get_or}
+use Rattle.std.proofs.Common.{◌≡◌, ◌≢◌, ℕ, ◌<◌, List, length, arith, refl, ◌∙◌, sym, ap, subst, Some, None, inl, inr, get_or}
 use Rattle.std.specs.Prelude.{Option}
 use Rattle.std.specs.List.{All}
 use Rattle.std.proofs.Math.ListN.{replicate}
@@ -11,15 +11,15 @@ use Rattle.hash_check.specs.declared.place.Place.{Place}
 use Rattle.hash_check.proofs.Walks.{walk-zero, depth-zero}
 
 origin : Place
-origin = record { depth = 0; jump = 0; landing = 0 }
+origin = record { depth = 0; jump = 0; landing = 0; head = 0 }
 
 pub first-size : (n : ℕ) → length (none_but_zero n) ≡ n
 unfolding none_but_zero
-first-size n = length-set (replicate n None) 0 (Some (record { depth = 0; jump = 0; landing = 0 })) ∙ length-replicate n None
+first-size n = length-set (replicate n None) 0 (Some (record { depth = 0; jump = 0; landing = 0; head = 0 })) ∙ length-replicate n None
 
 at-origin : (n : ℕ) → 0 < n → place_at (none_but_zero n) 0 ≡ Some origin
 unfolding none_but_zero origin
-at-origin n lt = get_or-set_same (replicate n None) 0 (Some (record { depth = 0; jump = 0; landing = 0 })) None (omega (arith, length-replicate {A = Option Place} n None))
+at-origin n lt = get_or-set_same (replicate n None) 0 (Some (record { depth = 0; jump = 0; landing = 0; head = 0 })) None (omega (arith, length-replicate {A = Option Place} n None))
 
 pub first-zero : (n : ℕ) → 0 < n → Known (none_but_zero n) 0
 first-zero n lt = record { place = origin; is = at-origin n lt }
@@ -32,7 +32,7 @@ unset n i = elim (cases_lt i n) [
 
 at-others : (n i : ℕ) → i ≢ 0 → place_at (none_but_zero n) i ≡ None
 unfolding none_but_zero
-at-others n i other = get_or-set_other (replicate n None) 0 i (Some (record { depth = 0; jump = 0; landing = 0 })) None other ∙ unset n i
+at-others n i other = get_or-set_other (replicate n None) 0 i (Some (record { depth = 0; jump = 0; landing = 0; head = 0 })) None other ∙ unset n i
 
 says-origin : (c : List ℕ) (n : ℕ) → 0 < n → Says c (none_but_zero n) 0 origin
 unfolding origin
@@ -41,6 +41,7 @@ says-origin c n lt = record {
   landing = omega arith;
   ahead = λ h. absurd (omega arith);
   jump = walk-zero c 0;
+  head = λ other. absurd (other refl);
   along = λ k le. let none : k ≡ 0 = omega arith in subst (Known (none_but_zero n)) (sym (walk-zero c 0) ∙ ap (walk c 0) (sym none)) (first-zero n lt);
 }
 

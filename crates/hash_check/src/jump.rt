@@ -7,16 +7,21 @@ ghost use Rattle.hash_check.specs.inside.Places.{Known, Sound, IsBefore, place_a
 use crate::chains::Chains;
 use crate::place::{Place, known_place};
 
-/// The place of an index from that of the next one on its walk. The jump joins two jumps of the
+/// The place of an index on the walk from a head, from that of the next one. The jump joins two jumps of the
 /// same length and is else a single step, so a walk of n steps is climbed by some log n jumps.
-pub(crate) fn place_before(places: &[Option<Place>], chains: &Chains<'_, '_>, next: u32) -> Place
+pub(crate) fn place_before(
+    places: &[Option<Place>],
+    chains: &Chains<'_, '_>,
+    head: u32,
+    next: u32,
+) -> Place
     requires words { AreIndices (length chains.now) chains.now }
     requires size { length places.now ≡ length chains.now }
     requires limit { length chains.now < 2 ^ 32 }
     requires within { next < length chains.now }
     requires sound { Sound chains.now places.now }
     requires known { Known places.now next }
-    ensures { (p : Place) → place_at places.now next ≡ Some p → IsBefore chains.now next p result }
+    ensures { (p : Place) → place_at places.now next ≡ Some p → IsBefore chains.now head next p result }
 {
     let place = known_place(places, next);
     let far = known_place(places, place.jump);
@@ -25,12 +30,14 @@ pub(crate) fn place_before(places: &[Option<Place>], chains: &Chains<'_, '_>, ne
             depth: place.depth + 1,
             jump: far.jump,
             landing: far.landing,
+            head,
         }
     } else {
         Place {
             depth: place.depth + 1,
             jump: next,
             landing: place.depth,
+            head,
         }
     }
 }

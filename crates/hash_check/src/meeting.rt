@@ -31,7 +31,8 @@ fn at_depth(places: &[Option<Place>], chains: &Chains<'_, '_>, from: u32, depth:
     at
 }
 
-/// Whether the walk from an index meets another one before 0.
+/// Whether the walk from an index meets another one before 0: at once where that one is known to be
+/// met from it, as where no two walks share an index.
 pub(crate) fn is_met(
     places: &[Option<Place>],
     chains: &Chains<'_, '_>,
@@ -48,7 +49,9 @@ pub(crate) fn is_met(
     ensures { IsTrue result ↔ Meets chains.now from index }
 {
     match place_of(places, index) {
-        Some(place) => at_depth(places, chains, from, place.depth) == index,
+        Some(place) => {
+            place.head == from || at_depth(places, chains, from, place.depth) == index
+        }
         None => false,
     }
 }

@@ -6,13 +6,14 @@ ghost use Rattle.hash_check.specs.inside.Places.{Known, place_at, none_but_zero}
 
 use std::alloc::{AllocError, Global};
 
-/// Where an index stands on its walk: how many chain steps lead from it to 0, and an index further
-/// along the walk with its own number of steps.
+/// Where an index stands on its walk: how many chain steps lead from it to 0, an index further along
+/// the walk with its own number of steps, and an index from which a walk meets it.
 #[derive(Clone, Copy)]
 pub(crate) struct Place {
     pub(crate) depth: u32,
     pub(crate) jump: u32,
     pub(crate) landing: u32,
+    pub(crate) head: u32,
 }
 
 /// The place of an index, where it has one.
@@ -47,6 +48,7 @@ pub(crate) fn first_places(alloc: Global, n: usize) -> Result<Vec<Option<Place>>
         depth: 0,
         jump: 0,
         landing: 0,
+        head: 0,
     });
     Ok(places)
 }

@@ -213,9 +213,9 @@ fn has_good_table(alloc: Global, object: &Object<'_>) -> Result<bool, AllocError
     }
 }
 
-/// Whether the hash table isn't good. It takes some 20 bytes a symbol while it runs, follows each
-/// chain word once, and looks an exported symbol up in some log n steps; its name is hashed only
-/// where not all walks meet it.
+/// Whether the hash table isn't good. It takes some 24 bytes a symbol while it runs, follows each
+/// chain word once, and looks an exported symbol up in one step on the walk that met it first, on
+/// others in some log n; its name is hashed only where not all walks meet it.
 #[tactic(auto, using(crate::proofs::Deciding::bad_test, crate::proofs::Deciding::words_test))]
 pub(crate) fn has_bad_hash_table(alloc: Global, object: &Object<'_>) -> Result<bool, AllocError>
     ensures ok { IfOk result (λ bad. bad ≡ has_bad_hash_table object.now) }

@@ -1,6 +1,6 @@
 // The walks of a hash table, each chain word followed once.
 
-ghost use Rattle.std.specs.Prelude.{◌≡◌, ◌<◌, ◌^◌, [], length, slice_index, IsTrue, IfOk};
+ghost use Rattle.std.specs.Prelude.{◌≡◌, ◌<◌, ◌^◌, [], length, IsTrue, IfOk};
 ghost use Rattle.std.specs.Prelude.{MatchBool};
 ghost use Rattle.hash_check.specs.Walk.{walk, Ends};
 ghost use Rattle.hash_check.specs.HashTable.{AreIndices};
@@ -41,24 +41,23 @@ fn climb(
     Ok(true)
 }
 
-/// Gives places to the indices of a path, the last one first.
-fn settle(places: &mut [Option<Place>], path: &mut Vec<u32>, chains: &Chains<'_, '_>)
+/// Gives places to the indices of the path from an index, the last one first.
+fn settle(places: &mut [Option<Place>], path: &mut Vec<u32>, chains: &Chains<'_, '_>, from: u32)
     requires words { AreIndices (length chains.now) chains.now }
     requires size { length places.old ≡ length chains.now }
     requires limit { length chains.now < 2 ^ 32 }
-    requires within { slice_index path.old.items 0 < length chains.now }
+    requires within { from < length chains.now }
     requires sound { Sound chains.now places.old }
-    requires path { IsPath chains.now (slice_index path.old.items 0) path.old.items }
-    requires known { let from = slice_index path.old.items 0 in
-        Known places.old (walk chains.now from (length path.old.items)) }
+    requires path { IsPath chains.now from path.old.items }
+    requires known { Known places.old (walk chains.now from (length path.old.items)) }
     ensures size { length places.new ≡ length places.old }
     ensures sound { Sound chains.now places.new }
     ensures keeps { Keeps places.old places.new }
-    ensures known { Known places.new (slice_index path.old.items 0) }
+    ensures known { Known places.new from }
     ensures path { path.new.items ≡ [] }
 {
     while let Some(i) = path.pop() {
-        places[i as usize] = Some(place_before(places, chains, chains.next(i)));
+        places[i as usize] = Some(place_before(places, chains, from, chains.next(i)));
     }
 }
 
@@ -86,7 +85,7 @@ pub(crate) fn follow(
 {
     let ends = climb(places, path, chains, from)?;
     if ends {
-        settle(places, path, chains);
+        settle(places, path, chains, from);
     }
     Ok(ends)
 }

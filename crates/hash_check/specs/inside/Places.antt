@@ -27,6 +27,7 @@ pub record Says (chains : List ℕ) (places : List (Option Place)) (i : ℕ) (p 
   pub ahead : 0 < p.depth → p.landing < p.depth
   pub jump : walk chains i (p.depth - p.landing) ≡ p.jump
   pub along : (k : ℕ) → k ≤ p.depth → Known places (walk chains i k)
+  pub head : i ≢ 0 → Meets chains p.head i
 
 pub record Sound (chains : List ℕ) (places : List (Option Place)) : Type 0 where
   pub says : (i : ℕ) (p : Place) → place_at places i ≡ Some p → Says chains places i p
@@ -35,8 +36,9 @@ pub record Sound (chains : List ℕ) (places : List (Option Place)) : Type 0 whe
 pub record Keeps (old new : List (Option Place)) : Type 0 where
   pub known : (i : ℕ) → Known old i → Known new i
 
--- the place of an index whose next one has the place p
-pub record IsBefore (chains : List ℕ) (next : ℕ) (p new : Place) : Type 0 where
+-- the place of an index on the walk from a head, whose next one has the place p
+pub record IsBefore (chains : List ℕ) (head next : ℕ) (p new : Place) : Type 0 where
+  pub begins : new.head ≡ head
   pub depth : new.depth ≡ p.depth + 1
   pub landing : new.landing ≤ p.depth
   pub jump : walk chains next (p.depth - new.landing) ≡ new.jump
@@ -48,7 +50,7 @@ pub record IsPath (chains : List ℕ) (from : ℕ) (path : List ℕ) : Type 0 wh
 
 -- the places of n indices before any walk
 unfoldable pub none_but_zero : ℕ → List (Option Place)
-none_but_zero n = set (replicate n None) 0 (Some (record { depth = 0; jump = 0; landing = 0 }))
+none_but_zero n = set (replicate n None) 0 (Some (record { depth = 0; jump = 0; landing = 0; head = 0 }))
 
 -- the walks from all buckets were followed
 pub record Placed (buckets chains : List ℕ) (places : List (Option Place)) : Type 0 where

@@ -36,12 +36,12 @@ overflow_add-result-else-place-far c = omega (
 pub returns-then-place-far : goal.returns-then-place-far
 returns-then-place-far c p at =
     let same : c.known_place-place.result ≡ p = let e : Some c.known_place-place.result ≡ Some p = sym c.known_place-place.ensures ∙ at in cc in
-    let new : Place = record { depth = c.known_place-place.result.depth + 1; jump = c.known_place-far.result.jump; landing = c.known_place-far.result.landing } in
-    subst (λ q. IsBefore c.args.chains.now c.args.next q new) same
-    (joined c.args.chains.now c.args.places.now c.args.next c.known_place-place.result c.known_place-far.result c.requires.sound c.known_place-place.ensures c.known_place-far.ensures)
+    let new : Place = record { depth = c.known_place-place.result.depth + 1; jump = c.known_place-far.result.jump; landing = c.known_place-far.result.landing; head = c.args.head } in
+    subst (λ q. IsBefore c.args.chains.now c.args.head c.args.next q new) same
+    (joined c.args.chains.now c.args.places.now c.args.head c.args.next c.known_place-place.result c.known_place-far.result c.requires.sound c.known_place-place.ensures c.known_place-far.ensures)
 
 pub returns-else-place-far : goal.returns-else-place-far
 returns-else-place-far c p at =
     let same : c.known_place-place.result ≡ p = let e : Some c.known_place-place.result ≡ Some p = sym c.known_place-place.ensures ∙ at in cc in
-    let new : Place = record { depth = c.known_place-place.result.depth + 1; jump = c.args.next; landing = c.known_place-place.result.depth } in
-    subst (λ q. IsBefore c.args.chains.now c.args.next q new) same (single c.args.chains.now c.args.next c.known_place-place.result)
+    let new : Place = record { depth = c.known_place-place.result.depth + 1; jump = c.args.next; landing = c.known_place-place.result.depth; head = c.args.head } in
+    subst (λ q. IsBefore c.args.chains.now c.args.head c.args.next q new) same (single c.args.chains.now c.args.head c.args.next c.known_place-place.result)

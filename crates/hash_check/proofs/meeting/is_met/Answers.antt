@@ -5,8 +5,8 @@ use Rattle.hash_check.specs.inside.Places.{Depth, place_at}
 use Rattle.hash_check.proofs.StepsLeft.{meets-from-depth, depth-from-meets, known-from-meets}
 use Rattle.hash_check.proofs.meeting.is_met.Goals as goal
 
-pub returns-in-Some : goal.returns-in-Some
-returns-in-Some c =
+pub returns-else-place-from : goal.returns-else-place-from
+returns-else-place-from c =
     let chains = c.args.chains.now in
     let top : Depth chains c.args.from c.requires.known.place.depth = (c.requires.sound.says c.args.from c.requires.known.place c.requires.known.is).depth in
     let low : Depth chains c.args.index c.in-Some.place.depth = (c.requires.sound.says c.args.index c.in-Some.place (sym c.in-Some.ensures)).depth in

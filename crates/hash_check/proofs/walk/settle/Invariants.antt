@@ -1,4 +1,4 @@
-use Rattle.std.proofs.Common.{◌≡◌, length, slice_index}
+use Rattle.std.proofs.Common.{◌≡◌, length}
 use Rattle.hash_check.specs.Walk.{walk}
 use Rattle.hash_check.specs.inside.Places.{IsPath, Sound, Keeps, Known}
 use Rattle.hash_check.proofs.walk.settle.Given as goal
@@ -6,8 +6,8 @@ use Rattle.hash_check.proofs.walk.settle.Given as goal
 abbrev pub invariant-loop-i : goal.invariant-loop-i
 invariant-loop-i l = record {
   size : length l.places ≡ length l.chains;
-  path : IsPath l.chains (slice_index l.fn.path.items 0) l.path.items;
-  known : Known l.places (walk l.chains (slice_index l.fn.path.items 0) (length l.path.items));
+  path : IsPath l.chains l.from l.path.items;
+  known : Known l.places (walk l.chains l.from (length l.path.items));
   sound : Sound l.chains l.places;
   keeps : Keeps l.fn.places l.places;
 }
