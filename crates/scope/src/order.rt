@@ -26,8 +26,8 @@ pub fn program_name<'a>() -> &'a [u8]
 }
 
 /// A program and the libraries that are bound with it, in load order: the program is the first and
-/// goes by the name `/program`. Contracts see the names and the files' bytes. Where that is worth its
-/// cost, it keeps what is found for each symbol.
+/// goes by the name `/program`. Contracts see the names and the files' bytes. Where walks may cost
+/// more, it keeps what is found for each symbol.
 #[derive(Drop)]
 pub struct Order<'a> {
     objects: Vec<LoadedObject<'a>>,
@@ -48,8 +48,8 @@ impl<'a> Model for Order<'a> {
 }
 
 impl<'a> Order<'a> {
-    /// An order of these objects. It takes memory for what is found for each symbol where this is
-    /// worth it, and goes without where that memory is refused.
+    /// An order of these objects. It takes memory for what is found for each symbol where walks may
+    /// cost more, and goes without where that memory is refused.
     pub(crate) fn new(alloc: Global, objects: Vec<LoadedObject<'a>>) -> Order<'a>
         requires { IsOrder objects.items }
         ensures { result ≡ objects.entry.items }
