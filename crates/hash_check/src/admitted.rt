@@ -1,6 +1,7 @@
 // An admitted object.
 
-ghost use Rattle.std.specs.Prelude.{◌≡◌, ◌<◌, length, Some, None, true, false, IfOk, IfErr, OnOk, OnErr};
+ghost use Rattle.std.specs.Prelude.{◌≡◌, ◌<◌, length, Some, None, true, false};
+ghost use Rattle.std.specs.Prelude.{IfOk, IfErr, OnOk, OnErr};
 ghost use Rattle.elf_dynamic.specs.Refusal.{first_refusal};
 ghost use Rattle.elf_dynamic.specs.Strings.{name_of, soname};
 ghost use Rattle.elf_file.specs.declared.refusal.ObjectRefusal.TheVariants.{BadSoname};

@@ -7,8 +7,9 @@ ghost use Rattle.hash_check.specs.inside.Places.{Known, Sound, IsBefore, place_a
 use crate::chains::Chains;
 use crate::place::{Place, known_place};
 
-/// The place of an index on the walk from a head, from that of the next one. The jump joins two jumps of the
-/// same length and is else a single step, so a walk of n steps is climbed by some log n jumps.
+/// The place of an index on the walk from a head, from that of the next one. The jump joins two
+/// jumps of the same length and is else a single step, so a walk of n steps is climbed by some
+/// log n jumps.
 pub(crate) fn place_before(
     places: &[Option<Place>],
     chains: &Chains<'_, '_>,
@@ -21,7 +22,8 @@ pub(crate) fn place_before(
     requires within { next < length chains.now }
     requires sound { Sound chains.now places.now }
     requires known { Known places.now next }
-    ensures { (p : Place) → place_at places.now next ≡ Some p → IsBefore chains.now head next p result }
+    ensures { (p : Place) → place_at places.now next ≡ Some p
+        → IsBefore chains.now head next p result }
 {
     let place = known_place(places, next);
     let far = known_place(places, place.jump);

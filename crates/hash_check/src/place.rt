@@ -6,8 +6,8 @@ ghost use Rattle.hash_check.specs.inside.Places.{Known, place_at, none_but_zero}
 
 use std::alloc::{AllocError, Global};
 
-/// Where an index stands on its walk: how many chain steps lead from it to 0, an index further along
-/// the walk with its own number of steps, and an index from which a walk meets it.
+/// Where an index stands on its walk: how many chain steps lead from it to 0, an index further
+/// along the walk with its own number of steps, and an index from which a walk meets it.
 #[derive(Clone, Copy)]
 pub(crate) struct Place {
     pub(crate) depth: u32,

@@ -17,11 +17,13 @@ pub(crate) struct Installed<'a> {
 }
 
 impl<'a> Model for Installed<'a> {
-    ghost use Rattle.std.specs.Prelude.{List, ℕ, map};
+    ghost use Rattle.std.specs.Prelude.{List, ℕ, ◌<◌, ◌^◌, length, map};
 
     ghost Value = { List (List ℕ) };
 
     ghost view = { λ t. map (λ n. n.now) t.names.keys };
+
+    ghost invariant = { λ t. length t.names.keys < 2 ^ 64 };
 }
 
 impl<'a> Installed<'a> {
@@ -45,7 +47,6 @@ impl<'a> Installed<'a> {
         ensures place { result ≡ place_of self.now name.now }
         ensures within { IfSome result (λ place. place ≤ length self.now) }
     {
-        let _count = self.names.len();
         match self.names.get_index_of(name) {
             Some(i) => Some(i + 1),
             None => None,

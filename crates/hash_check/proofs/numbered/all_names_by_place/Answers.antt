@@ -55,7 +55,8 @@ loop-place-preserved c =
     c.in_ok-add_endings.ensures ∙ ap (λ (l : List Ending). c.loop-place.all.items ++ map (behind c.len.result) l) c.deref-in-loop-place-2.ensures.value
     ∙ ap (λ n. c.loop-place.all.items ++ map (behind n) new) before in
     let moved : IsPermutation (all_symbols file) own =
-    moved-symbols file c.in_ok-symbols.symbols.items c.sort_unstable_by_key.new.self.items own c.in_ok-symbols.ensures c.sort_unstable_by_key.ensures.permutation c.deref-in-loop-place-3.ensures.value in
+    moved-symbols file c.in_ok-symbols.symbols.items c.sort_unstable_by_key.new.self.items own c.in_ok-symbols.ensures c.sort_unstable_by_key.ensures.permutation
+    c.deref-in-loop-place-3.ensures.value in
     record {
       gathered = gathered-on files c.loop-place.place c.loop-place.gathered.symbols.items c.add_symbols.new.gathered.symbols.items names c.add_symbols.new.gathered.names.items file own e
           c.loop-place.invariant.gathered moved c.in_ok-add_symbols.ensures.symbols more;
