@@ -102,14 +102,17 @@ struct Outcome {
     agrees: bool,
 }
 
-/// Whether each name is found as a plain search finds it.
+/// Whether each name is found as a plain search finds it, and symbols and the library have their
+/// names.
 fn finds_plainly(admitted: &Admitted<'_>) -> bool {
     for name in [b"f".as_slice(), b"g", b"u", b"", b"fg", b"f\0g"] {
         if admitted.find(name) != find_plainly(admitted.object(), name) {
             return false;
         }
     }
-    admitted.library_name() == Ok(b"q".as_slice())
+    admitted.name_at(2) == b"g".as_slice()
+        && admitted.name_at(4).is_empty()
+        && admitted.library_name() == Ok(b"q".as_slice())
 }
 
 /// Compares admission and search on one table with the plain programs.
