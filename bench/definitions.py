@@ -89,7 +89,7 @@ PLAIN = {
     'registry/Flying: Flies': 'the binder is on this flight: it holds, in the registry as it is now, the libraries of the state that it was begun at',
     'registry/Flying: IsStep': 'what a step may be answered: Going, one step further; the answer, after exactly as many steps; or S1, S2, S11',
     'registry/Flying: IsLastStep': 'the same of a step',
-    'registry/Versions: AreVersions': 'each held version has one row and some holder, and counts as listed exactly where the state lists it',
+    'store/HeldVersions: AreVersions': 'each held version has one row and some holder, and counts as listed exactly where the state lists it',
     'binders/Events: happening_of': 'what an event asks',
     'binders/EventsRan: exchanges': 'what events and their replies are to the state',
     'binders/Stepped: SteppedIn': 'the flights after a step: one step further, over with the answer of the bind, or where it was',

@@ -6,11 +6,10 @@ use Rattle.std.proofs.lemmas.List.Elements.{All-contains, All-cons, All-head, Al
 use Rattle.std.proofs.lemmas.List.Kept.{AllPairs-cons}
 use Rattle.std.proofs.lemmas.List.Sums.{sum_by-cons}
 use Rattle.scope.proofs.LoadOrderLemmas.{contains-here, contains-later}
-use Rattle.store.specs.Held.{HaveOwnRows, IsHeldBy, lone_sectors}
+use Rattle.store.specs.HeldVersions.{HaveOwnRows, IsHeldBy, lone_sectors, AreVersions}
 use Rattle.store.specs.Stands.{sectors_of}
-use Rattle.store.specs.declared.holding.Holding.{Holding}
+use Rattle.store.specs.declared.held_versions.HeldRow.{HeldRow}
 use Rattle.store.specs.declared.placed_entry.PlacedEntry.{PlacedEntry}
-use Rattle.registry.specs.Versions.{AreVersions}
 use Rattle.binders.specs.Counted.{CountsOnce, IsLone}
 use Rattle.binders.specs.Slotted.{HoldAlone, Slotted}
 
@@ -20,7 +19,7 @@ add true placed later = later
 add false placed later = placed ∷ later
 
 -- the versions that the state lists no longer, row by row
-abbrev lone_versions : List Holding → List PlacedEntry
+abbrev lone_versions : List HeldRow → List PlacedEntry
 lone_versions [] = []
 lone_versions (row ∷ rows) = add row.listed row.placed (lone_versions rows)
 
@@ -33,7 +32,7 @@ add_size : (listed : Bool) (placed : PlacedEntry) (later : List PlacedEntry)
 add_size true placed later = omega arith
 add_size false placed later = sym (sum_by-cons size placed later)
 
-lone_size : (held : List Holding) → length (lone_sectors held) ≡ sum_by size (lone_versions held)
+lone_size : (held : List HeldRow) → length (lone_sectors held) ≡ sum_by size (lone_versions held)
 lone_size [] = refl
 lone_size (row ∷ rows) =
     length-append (if row.listed then [] else sectors_of row.placed) (lone_sectors rows)
@@ -45,10 +44,10 @@ add_all : (P : PlacedEntry → Type 0) (listed : Bool) (placed : PlacedEntry) (l
 add_all P true placed later here there = there
 add_all P false placed later here there = All-cons P placed later (here refl) there
 
-lone_all : (P : PlacedEntry → Type 0) (held : List Holding) → All (λ row. row.listed ≡ false → P row.placed) held → All P (lone_versions held)
+lone_all : (P : PlacedEntry → Type 0) (held : List HeldRow) → All (λ row. row.listed ≡ false → P row.placed) held → All P (lone_versions held)
 lone_all P [] all = All-nil P
 lone_all P (row ∷ rows) all =
-    let Q : Holding → Type 0 = λ h. h.listed ≡ false → P h.placed in
+    let Q : HeldRow → Type 0 = λ h. h.listed ≡ false → P h.placed in
     add_all P row.listed row.placed (lone_versions rows) (All-head Q row rows all) (lone_all P rows (All-tail Q row rows all))
 
 -- each of these entries is one of them
@@ -60,10 +59,10 @@ first_in : (listed : Bool) (placed : PlacedEntry) (later : List PlacedEntry) →
 first_in true placed later e = absurd cc
 first_in false placed later e = contains-here placed later
 
-lone_each : (held : List Holding) → All (λ row. row.listed ≡ false → Contains (lone_versions held) row.placed) held
+lone_each : (held : List HeldRow) → All (λ row. row.listed ≡ false → Contains (lone_versions held) row.placed) held
 lone_each [] = All-nil (λ row. row.listed ≡ false → Contains (lone_versions []) row.placed)
 lone_each (row ∷ rows) =
-    let Within : Holding → Type 0 = λ h. h.listed ≡ false → Contains (lone_versions (row ∷ rows)) h.placed in
+    let Within : HeldRow → Type 0 = λ h. h.listed ≡ false → Contains (lone_versions (row ∷ rows)) h.placed in
     let later : All Within rows = λ k d lt unlisted. later_in row.listed row.placed (get_or rows k d).placed (lone_versions rows) (lone_each rows k d lt unlisted) in
     All-cons Within row rows (first_in row.listed row.placed (lone_versions rows)) later
 
@@ -75,7 +74,7 @@ once_more : (listed : Bool) (placed : PlacedEntry) (later : List PlacedEntry) �
 once_more true placed later others rest = rest
 once_more false placed later others rest = AllPairs-cons Apart placed later others rest
 
-lone_once : (held : List Holding) → HaveOwnRows held → AllPairs Apart (lone_versions held)
+lone_once : (held : List HeldRow) → HaveOwnRows held → AllPairs Apart (lone_versions held)
 lone_once [] own = λ i j d before inside. absurd (omega (arith, inside))
 lone_once (row ∷ rows) own =
     once_more row.listed row.placed (lone_versions rows)
@@ -102,11 +101,11 @@ counts_once {D} binders are alone = record {
   sectors = lone_size held;
 }
   where
-    held : List Holding
+    held : List HeldRow
     held = binders.registry.held
 
-    by : (k : ℕ) (d : Holding) → k < length held → IsHeldBy held (get_or held k d).placed.at (get_or held k d).placed
-    by k d lt = record { place = k; inside = lt; is = λ e. ap (λ (h : Holding). h.placed) (get_or_default held k e d lt); its = refl }
+    by : (k : ℕ) (d : HeldRow) → k < length held → IsHeldBy held (get_or held k d).placed.at (get_or held k d).placed
+    by k d lt = record { place = k; inside = lt; is = λ e. ap (λ (h : HeldRow). h.placed) (get_or_default held k e d lt); its = refl }
 
     each : All (λ row. row.listed ≡ false → IsLone binders row.placed) held
     each k d lt unlisted =
@@ -120,7 +119,7 @@ counts_once {D} binders are alone = record {
     among : (placed : PlacedEntry) → IsLone binders placed → Contains (lone_versions held) placed
     among placed is =
         let k : ℕ = is.version.place in
-        let d : Holding = record { placed = placed; holders = 0; listed = false } in
+        let d : HeldRow = record { placed = placed; holders = 0; listed = false } in
         let same : ◌≡◌ {A = PlacedEntry} (get_or held k d).placed placed = is.version.is d in
         let unlisted : (get_or held k d).listed ≡ false = untrue (get_or held k d).listed
         (λ listed. is.unlisted (subst (Contains binders.registry.entries) same ((are.flags k d is.version.inside).0 listed))) in

@@ -1,5 +1,5 @@
 pub mod Counting
 pub mod Happening
-pub mod Holding
+pub mod HeldBy
 pub mod OnFlights
 pub mod Stepping

@@ -6,7 +6,7 @@ use Rattle.std.proofs.lemmas.List.{set-get_or}
 use Rattle.sector_disk.specs.Disk.{DiskFacts, Mixture, IsUnchanged, LeavesOnly, AreCalls}
 use Rattle.sector_disk.proofs.Moments.{at_rest, no_calls}
 use Rattle.snapshots.specs.Snapshot.{times}
-use Rattle.store.specs.Held.{holders_of}
+use Rattle.store.specs.HeldVersions.{holders_of}
 use Rattle.store.specs.Opened.{Opened}
 use Rattle.requests.specs.declared.refusal.Refusal.{Refusal}
 use Rattle.requests.specs.declared.refusal.Refusal.TheVariants.{Reopen, NoSlot, NoSuchBinder, OutOfMemory}
@@ -19,7 +19,7 @@ use Rattle.registry.specs.declared.binder.Step.TheVariants.{Going, Final}
 use Rattle.registry.specs.inside.Binding.{Binding}
 use Rattle.binders.specs.Slotted.{AreOn, HoldAlone, IsHeld, Slotted, held_by, held_in, lowest_free}
 use Rattle.binders.specs.Stepped.{AdvancesIn, BeginsIn, CancelsIn, StaysAt}
-use Rattle.binders.proofs.Holding.{free_slot, held_set, held_within, times_there}
+use Rattle.binders.proofs.HeldBy.{free_slot, held_set, held_within, times_there}
 use Rattle.binders.proofs.OnFlights.{are_on_left, are_on_moved, are_on_set, binder_on, no_flight_on, there_is, with_slots}
 
 module _ {D : Type 0} (facts : D → DiskFacts) (old new : Opened D) (slots : List (Option Binding)) (program : List ℕ) (base : ℕ) where

@@ -1,6 +1,6 @@
 -- Which sectors aren't free since binders live (own).
 use Rattle.std.specs.Prelude.{◌≡◌, ◌≢◌, ◌↔◌, ◌<◌, List, length, sum_by, AllPairs, Contains}
-use Rattle.store.specs.Held.{IsHeldBy, lone_sectors}
+use Rattle.store.specs.HeldVersions.{IsHeldBy, lone_sectors}
 use Rattle.store.specs.Stands.{sectors_of}
 use Rattle.store.specs.declared.placed_entry.PlacedEntry.{PlacedEntry}
 use Rattle.binders.specs.Slotted.{Slotted, held_by}

@@ -6,7 +6,7 @@ use Rattle.requests.specs.Runs.{Steps, last_of}
 use Rattle.registry.specs.Acknowledged.{Exchange}
 use Rattle.registry.specs.Opened.{IsAt}
 use Rattle.registry.specs.Ran.{RunsThrough}
-use Rattle.registry.specs.Versions.{AreVersions}
+use Rattle.store.specs.HeldVersions.{AreVersions}
 use Rattle.binders.specs.Events.{Happening, Happens, apply}
 use Rattle.binders.specs.Slotted.{Slotted}
 use Rattle.binders.specs.declared.event.EventReply.{EventReply}

@@ -2,7 +2,7 @@
 use Rattle.std.specs.Prelude.{◌≡◌, ◌≤◌, ◌<◌, ℕ, List, length, position, is_none, slice_index_or, sum_by, Option, Some, None}
 use Rattle.sector_disk.specs.Disk.{DiskFacts}
 use Rattle.snapshots.specs.Snapshot.{times}
-use Rattle.store.specs.Held.{holders_of}
+use Rattle.store.specs.HeldVersions.{holders_of}
 use Rattle.store.specs.Opened.{Opened}
 use Rattle.registry.specs.Flight.{Flight}
 use Rattle.registry.specs.Flying.{Flies, handles_of}

@@ -3,7 +3,7 @@ use Rattle.std.specs.Prelude.{◌≡◌, ◌≢◌, ◌↔◌, ◌⊎◌, ◌<�
 use Rattle.std.specs.Prelude.{slice_set, Option, Some, None, Result, Ok, Err, IfOk, IfErr, OnErr, IsTrue, IsFalse}
 use Rattle.sector_disk.specs.Disk.{DiskFacts, Mixture, IsUnchanged, LeavesOnly, AreCalls, AreCallsAtMost, AreCallsExactly}
 use Rattle.states.specs.State.{State}
-use Rattle.store.specs.Held.{holders_of}
+use Rattle.store.specs.HeldVersions.{holders_of}
 use Rattle.requests.specs.declared.refusal.Refusal.{Refusal}
 use Rattle.requests.specs.declared.refusal.Refusal.TheVariants.{Reopen, NoSlot, NoSuchBinder, OutOfMemory}
 use Rattle.requests.specs.declared.reply.Reply.{Reply}

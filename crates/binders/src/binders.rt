@@ -33,7 +33,7 @@ impl<D: Disk> Binders<D> {
     ghost use Rattle.registry.specs.Applied.{Applies};
     ghost use Rattle.registry.specs.Calls.{IfAccepted, calls_of};
     ghost use Rattle.registry.specs.Opened.{IsAt};
-    ghost use Rattle.registry.specs.Versions.{AreVersions};
+    ghost use Rattle.store.specs.HeldVersions.{AreVersions};
     ghost use Rattle.binders.specs.Counted.{CountsOnce};
     ghost use Rattle.binders.specs.Slotted.{AreOn, HoldAlone};
     ghost use Rattle.binders.specs.Stepped.{AdvancesIn, BeginsIn, CancelsIn, FlyOn};
@@ -55,14 +55,18 @@ impl<D: Disk> Binders<D> {
     /// until the disk is opened again.
     pub fn has_failed(&self) -> bool
         ensures value { result ≡ self.now.registry.failed }
+    {
+        self.registry.has_failed()
+    }
 
-        // On any disk, after any event: what is held has one row and some holder for each version,
-        // and without a binder nothing is, where nobody else holds anything.
+    /// Does nothing: it tells proofs that on any disk, after any event, what is held is a version
+    /// each, and that without a binder nothing is, where nobody else holds anything.
+    pub fn versions_are_sound(&self)
         ensures versions { AreVersions self.now.registry }
         ensures empty { HoldAlone self.now → All (λ slot. slot ≡ None) self.now.slots
             → self.now.registry.held ≡ [] }
     {
-        self.registry.has_failed()
+        self.registry.versions_are_sound();
     }
 
     /// The registry. Binders that live are gone, and what they hold stays held until the disk is
@@ -96,8 +100,7 @@ impl<D: Disk> Binders<D> {
         // binders hold, once.
         ensures counted { HoldAlone self.old → CountsOnce self.old }
     {
-        // What is held has one row a version, as this call says.
-        let _failed = self.registry.has_failed();
+        self.registry.versions_are_sound();
         self.registry.apply(command)
     }
 

@@ -15,10 +15,9 @@ impl<D: Disk> Binders<D> {
     pub fn happen(&mut self, event: &Event<'_>) -> EventReply
         ensures { EventStep D.facts self.old (happening_of event.now) result self.new }
     {
-        // What is held is a version each, before and after, as these calls say.
-        let _failed = self.has_failed();
+        self.versions_are_sound();
         let reply = self.reply_to(event);
-        let _failed = self.has_failed();
+        self.versions_are_sound();
         reply
     }
 

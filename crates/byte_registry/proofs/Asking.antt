@@ -11,11 +11,11 @@ use Rattle.byte_disk.specs.Plan.{IsMixtureAfter, writes_in, SectorWrite}
 use Rattle.byte_disk.specs.inside.Laws.{byte_holds}
 use Rattle.byte_disk.proofs.Plans.{is_plan, same_given, plan_leaves, plan_ends}
 use Rattle.states.specs.State.{State}
-use Rattle.store.specs.Held.{lone_sectors}
+use Rattle.store.specs.HeldVersions.{lone_sectors}
 use Rattle.store.specs.Opened.{Opened, IsAt}
 use Rattle.store.specs.Stands as sectors
 use Rattle.store.specs.Step.{longest_free}
-use Rattle.store.specs.declared.holding.Holding.{Holding}
+use Rattle.store.specs.declared.held_versions.HeldRow.{HeldRow}
 use Rattle.requests.specs.Phase.{Phase}
 use Rattle.requests.specs.Request.{Request, install, replace, remove, set_preloads, bind, list}
 use Rattle.requests.specs.Step as registry
@@ -88,7 +88,7 @@ module _ (bytes : List ℕ) (old : ByteDisk) (is : IsDiskOf bytes old) (opened :
   same_sectors : (byte_facts opened.disk).sectors ≡ length start
   same_sectors = quiet.past.sectors ∙ is.starts.sectors
 
-  abbrev phase_by : ℕ → List Holding → Phase
+  abbrev phase_by : ℕ → List HeldRow → Phase
   phase_by sectors held = record {
     sectors = sectors;
     lone = length (lone_sectors held);

@@ -7,7 +7,8 @@ use Rattle.extents.specs.Layout.{free_count}
 use Rattle.extents.specs.Runs.{free_runs}
 use Rattle.states.specs.State.{State}
 use Rattle.store.specs.Names.{IsFileSize}
-use Rattle.store.specs.Opened.{Opened, IsAt, layout_in_use}
+use Rattle.store.specs.Opened.{Opened, IsAt}
+use Rattle.store.specs.HeldVersions.{layout_in_use}
 use Rattle.store.specs.Step.{longest_free, refusal_of_new}
 use Rattle.store.specs.declared.refusal.StoreRefusal.{StoreRefusal}
 use Rattle.requests.specs.declared.refusal.Refusal.{Refusal}

@@ -28,7 +28,8 @@ impl<D: Disk> Contents<D> {
     ghost use Rattle.roots.specs.declared.version.Version.TheVariants.{Two};
     ghost use Rattle.states.specs.State.{State};
     ghost use Rattle.store.specs.Names.{IsFileSize};
-    ghost use Rattle.store.specs.Opened.{IsAt, layout_in_use};
+    ghost use Rattle.store.specs.Opened.{IsAt};
+    ghost use Rattle.store.specs.HeldVersions.{layout_in_use};
     ghost use Rattle.store.specs.Step.{longest_free, refusal_of_new};
     ghost use Rattle.contents.specs.Info.{IsInfo};
 

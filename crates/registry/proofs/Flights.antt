@@ -24,10 +24,9 @@ use Rattle.image.specs.declared.refusal.BindRefusal.TheVariants as binding
 use Rattle.snapshots.specs.Snapshot.{IsSnapshotOf, IsTakenOf, AreHeldAs, LetsAllGo, Taken, Takes}
 use Rattle.snapshots.proofs.Kept.{snapshot_beside, snapshot_kept, snapshot_left}
 use Rattle.states.specs.State.{Library, State}
-use Rattle.store.specs.Held.{holders_of}
+use Rattle.store.specs.HeldVersions.{holders_of, AreFlagged, KeepsHeld}
 use Rattle.store.specs.Opened as stored
 use Rattle.store.specs.Opened.{Opened}
-use Rattle.store.specs.Holders.{AreFlagged, KeepsHeld}
 use Rattle.store.specs.Stands.{HaveOwnNames, TellLengths, no_library}
 use Rattle.store.specs.declared.refusal.StoreRefusal.{StoreRefusal}
 use Rattle.store.specs.declared.refusal.StoreRefusal.TheVariants as reading

@@ -2,9 +2,9 @@
 use Rattle.std.proofs.Common.{List, [], ◌∷◌, IsTrue, refl, sym, subst, ◌∙◌}
 use Rattle.sector_disk.specs.Disk.{DiskFacts, Mixture, AreCalls}
 use Rattle.sector_disk.proofs.Moments.{left_now}
-use Rattle.store.specs.Holders.{KeepsHeld, KeepsHolders}
+use Rattle.store.specs.HeldVersions.{KeepsHeld, KeepsHolders}
 use Rattle.store.specs.Opened.{Opened}
-use Rattle.store.proofs.Holders.{keeps_reads, keeps_same}
+use Rattle.store.proofs.KeepsHolders.{keeps_reads, keeps_same}
 use Rattle.requests.specs.Request.{Request}
 use Rattle.requests.specs.declared.reply.Reply.{Reply}
 use Rattle.registry.specs.Answered.{AreAnswered}

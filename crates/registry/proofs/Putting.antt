@@ -8,8 +8,8 @@ use Rattle.hash_check.specs.FileRefusal.{ReadNeedsMemory}
 use Rattle.hash_check.specs.declared.file_refusal.FileRefusal.{FileRefusal}
 use Rattle.sector_disk.specs.Disk.{DiskFacts, LeavesOnly}
 use Rattle.states.specs.Changes.{with_new, with_bytes}
-use Rattle.store.specs.Held.{lone_sectors}
-use Rattle.store.specs.Opened.{Opened, IsAt, room_of}
+use Rattle.store.specs.HeldVersions.{lone_sectors, room_of}
+use Rattle.store.specs.Opened.{Opened, IsAt}
 use Rattle.store.specs.Stands as sectors
 use Rattle.store.specs.Stands.{no_library}
 use Rattle.store.specs.Step.{longest_free, refusal_of_new, refusal_of_put, IsAnswer, IsExactAnswer, IsRefusalOfPutOver, IsRefusalOfPutNew}

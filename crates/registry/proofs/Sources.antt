@@ -9,9 +9,9 @@ use Rattle.sector_disk.proofs.Moments.{exactly_none, exactly_sum}
 use Rattle.roots.specs.Root.{listed_preloads}
 use Rattle.roots.specs.declared.root.Root.{Root}
 use Rattle.states.specs.State.{Library, State}
-use Rattle.store.specs.declared.holding.Holding.{Holding}
+use Rattle.store.specs.declared.held_versions.HeldRow.{HeldRow}
 use Rattle.store.specs.declared.placed_entry.PlacedEntry.{PlacedEntry}
-use Rattle.store.specs.Holders.{HeldIs}
+use Rattle.store.specs.HeldVersions.{HeldIs}
 use Rattle.store.specs.Opened.{Opened}
 use Rattle.store.specs.Stands.{HaveOwnNames, name_of, no_library}
 use Rattle.snapshots.specs.Snapshot.{IsTakenOf, AreHeldAs}
@@ -50,7 +50,7 @@ module _ {D : Type 0} (facts : D → DiskFacts) where
     -- its entries,
     pub entries_read : (source : Source) (entries : List PlacedEntry) → HasEntries source old entries → HasEntries source new entries
     entries_read Current entries has = read.entries ∙ has
-    entries_read (Held snapshot) entries has = subst (λ (held : List Holding). IsTakenOf held snapshot.now entries) (sym read.held) has
+    entries_read (Held snapshot) entries has = subst (λ (held : List HeldRow). IsTakenOf held snapshot.now entries) (sym read.held) has
 
     -- its preloads,
     pub preloads_read : (source : Source) → offered_preloads source new ≡ offered_preloads source old

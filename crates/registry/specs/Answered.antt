@@ -1,7 +1,7 @@
 -- What an answer says on any disk, also on one that lies (own).
 use Rattle.std.specs.Prelude.{◌≡◌, ◌≢◌, ◌<◌, ◌↔◌, IsTrue, IsFalse, List, [], ◌∷◌, None}
 use Rattle.sector_disk.specs.Disk.{DiskFacts, AreCalls}
-use Rattle.store.specs.Holders.{KeepsHeld}
+use Rattle.store.specs.HeldVersions.{KeepsHeld, AreVersions}
 use Rattle.store.specs.Opened.{Opened}
 use Rattle.image.specs.Refusal.{program_refusal}
 use Rattle.image.specs.declared.refusal.BindRefusal.TheVariants as binding
@@ -11,7 +11,6 @@ use Rattle.requests.specs.declared.refusal.Refusal.TheVariants.{Object, AlreadyI
 use Rattle.requests.specs.declared.refusal.Refusal.TheVariants.{Bind, Device, Reopen, Damaged, Full, Fragmented, TooMany, GenerationEnd, OutOfMemory}
 use Rattle.requests.specs.declared.reply.Reply.{Reply}
 use Rattle.requests.specs.declared.reply.Reply.TheVariants.{Done, Listing, Bound, Refused}
-use Rattle.registry.specs.Versions.{AreVersions}
 
 -- what any change may be refused with
 abbrev pub IsChangeRefusal : Refusal → Type 0

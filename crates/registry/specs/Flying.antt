@@ -6,8 +6,7 @@ use Rattle.image.specs.declared.refusal.BindRefusal.TheVariants as binding
 use Rattle.snapshots.specs.Snapshot.{IsSnapshotOf, LetsAllGo, times}
 use Rattle.store.specs.declared.placed_entry.PlacedEntry.{PlacedEntry}
 use Rattle.states.specs.State.{Library, State}
-use Rattle.store.specs.Held.{IsHeldBy, holders_of}
-use Rattle.store.specs.Holders.{AreFlagged, HeldIs, KeepsHeld}
+use Rattle.store.specs.HeldVersions.{IsHeldBy, holders_of, AreFlagged, HeldIs, KeepsHeld}
 use Rattle.store.specs.Opened.{Opened}
 use Rattle.store.specs.Stands.{HaveOwnNames, TellLengths}
 use Rattle.requests.specs.declared.refusal.Refusal.{Refusal}

@@ -14,5 +14,4 @@ pub mod Rounds
 pub mod Refusals
 pub mod Untested
 pub mod Upgraded
-pub mod Versions
 pub mod inside

@@ -1,7 +1,7 @@
 -- A registry on a disk between two commands, in the words of the step table (own).
 use Rattle.std.specs.Prelude.{length}
 use Rattle.sector_disk.specs.Disk.{DiskFacts}
-use Rattle.store.specs.Held.{lone_sectors}
+use Rattle.store.specs.HeldVersions.{lone_sectors}
 use Rattle.store.specs.Opened.{Opened}
 use Rattle.store.specs.Step.{longest_free}
 use Rattle.states.specs.State.{State}

@@ -29,7 +29,7 @@ impl<D: Disk> Registry<D> {
     ghost use Rattle.registry.specs.Opened.{IsAt};
     ghost use Rattle.registry.specs.Ran.{RunsOver};
     ghost use Rattle.registry.specs.Untested.{AppliesUntested};
-    ghost use Rattle.registry.specs.Versions.{AreVersions};
+    ghost use Rattle.store.specs.HeldVersions.{AreVersions};
 
     // The reply to a command, by what it asks.
     fn reply_to(&mut self, command: &Command<'_>) -> Reply
@@ -39,7 +39,7 @@ impl<D: Disk> Registry<D> {
             (AreCallsExactly (calls_of s (request_of command.now))
             (D.facts self.old.disk) (D.facts self.new.disk)) }
 
-        // That what is held is a version each is told by `has_failed`.
+        // That what is held is a version each is told by `versions_are_sound`.
         ensures on_any_disk { AreVersions self.old → AreVersions self.new
             → Answered D.facts self.old self.new (request_of command.now) result }
     {
@@ -72,10 +72,9 @@ impl<D: Disk> Registry<D> {
 
         ensures on_any_disk { Answered D.facts self.old self.new (request_of command.now) result }
     {
-        // What is held is a version each, before and after, as these calls say.
-        let _failed = self.has_failed();
+        self.versions_are_sound();
         let reply = self.reply_to(command);
-        let _failed = self.has_failed();
+        self.versions_are_sound();
         reply
     }
 

@@ -129,11 +129,21 @@ fn unread(refusal: StoreRefusal) -> Result<Step, Refusal>
 }
 
 impl Binder {
-    ghost use Rattle.std.specs.Prelude.{◌≡◌, ◌<◌, ◌+◌, None, IfOk, IfErr, length};
+    ghost use Rattle.std.specs.Prelude.{◌≡◌, ◌<◌, ◌+◌, None, All, IfOk, IfErr, length, nat_eq};
+    ghost use Rattle.std.specs.List.{IsDistinct};
     ghost use Rattle.registry.specs.Flight.{Flight};
     ghost use Rattle.registry.specs.Flying.{Flies, IsLastStep, IsStep, IsStepRefusal};
     ghost use Rattle.registry.specs.inside.Binding.{Stays};
     ghost use Rattle.store.specs.IsRead.{IsRead};
+
+    // Does nothing: it tells proofs that no preload is there twice, and that each is a library.
+    fn preloads_are_apart(&self)
+        ensures inside { All (λ p. p < length self.now.snapshot.handles)
+            self.now.snapshot.preloads }
+        ensures once { IsDistinct nat_eq self.now.snapshot.preloads }
+    {
+        let _ = self.snapshot.preloads();
+    }
 
     /// The first step.
     fn first<D: Disk>(&mut self, alloc: Global, store: &Store<D>) -> Result<Step, Refusal>
@@ -193,9 +203,9 @@ impl<D: Disk> Registry<D> {
     pub fn begin(&mut self, program: &[u8], base: u64) -> Result<Binder, Refusal>
         ensures { Begins D.facts self.old self.new program.now base result }
     {
-        // No two libraries have one name, as this call says, and what is held counts as listed
-        // where it is.
-        let _count = self.store.count();
+        // No two libraries have one name, and what is held counts as listed where it is.
+        self.store.entries_are_sound();
+        self.store.versions_are_sound();
         if self.store.has_failed() {
             return Err(Refusal::Reopen);
         }
@@ -218,9 +228,8 @@ impl<D: Disk> Registry<D> {
     pub fn advance(&mut self, binder: &mut Binder) -> Result<Step, Refusal>
         ensures { Advances D.facts self.old self.new binder.old binder.new result }
     {
-        // No preload is there twice, and each is a library, as this call says: so no library is
-        // read twice.
-        let _preloads = binder.snapshot.preloads();
+        // So no library is read twice.
+        binder.preloads_are_apart();
         if self.store.has_failed() {
             return Err(Refusal::Reopen);
         }

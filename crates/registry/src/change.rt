@@ -20,7 +20,7 @@ impl<D: Disk> Registry<D> {
     ghost use Rattle.store.specs.Names.{HasName, IsNoPreload};
     ghost use Rattle.requests.specs.Phase.{table_of};
     ghost use Rattle.store.specs.Changed.{Changed};
-    ghost use Rattle.store.specs.Holders.{KeepsHeld};
+    ghost use Rattle.store.specs.HeldVersions.{KeepsHeld};
     ghost use Rattle.store.specs.Opened.{IsAt};
     ghost use Rattle.requests.specs.Request.{remove, set_preloads};
     ghost use Rattle.states.specs.State.{State};

@@ -45,8 +45,8 @@ pub(crate) fn read_needed<D: Disk>(
         (sum_by (λ file. data_sectors file.bytes) walk.files.items)
         (D.facts store.old.disk) (D.facts store.new.disk)) }
 {
-    // No two files have one name, as this call says.
-    let _count = store.count();
+    // No two files have one name.
+    store.entries_are_sound();
     let source = Source::Current;
     let mut walk = Walk::start(alloc, store, source, program)?;
     while walk.has_next() {

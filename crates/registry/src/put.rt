@@ -10,7 +10,7 @@ impl<D: Disk> Registry<D> {
     ghost use Rattle.sector_disk.specs.Disk.{sector_bytes};
     ghost use Rattle.states.specs.Cost.{catalogues_for};
     ghost use Rattle.store.specs.Changed.{Changed};
-    ghost use Rattle.store.specs.Holders.{KeepsHeld};
+    ghost use Rattle.store.specs.HeldVersions.{KeepsHeld};
     ghost use Rattle.store.specs.Opened.{IsAt};
     ghost use Rattle.requests.specs.Request.{install, replace};
     ghost use Rattle.states.specs.State.{State};

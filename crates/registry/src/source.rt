@@ -62,6 +62,7 @@ pub(crate) fn preload_numbers<D: Disk>(
 /// The position of the file of this name. It halves the order of the names.
 fn position_of<D: Disk>(store: &Store<D>, source: Source<'_>, name: &[u8]) -> Option<usize>
     ensures within { IfSome result (λ i. i < offered source.entry store.now) }
+    ensures few { offered source.entry store.now ≤ 2048 }
     ensures found { (entries : List PlacedEntry) → HasEntries source.entry store.now entries
         → IsFound entries name.now result }
 {
@@ -77,8 +78,6 @@ pub(crate) fn place_of<D: Disk>(store: &Store<D>, source: Source<'_>, name: &[u8
         → HaveOwnNames entries → result ≡ place_of (entry_names entries) name.now }
     ensures within { IfSome result (λ place. place ≤ offered source.entry store.now) }
 {
-    // There are 2,048 files at most, as this call says: one more is a place.
-    let _count = count(store, source);
     match position_of(store, source, name) {
         Some(position) => Some(position + 1),
         None => None,

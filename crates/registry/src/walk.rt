@@ -71,6 +71,13 @@ impl Walk {
         self.files.len() + 1 < self.needs.places.count()
     }
 
+    // Does nothing: it tells proofs that no place is there twice.
+    fn places_are_apart(&self)
+        ensures { AreApart self.now.needs.places.limit self.now.needs.places.places }
+    {
+        let _ = self.needs.places.count();
+    }
+
     /// The position of the file that is to be read next.
     fn next_position(&self) -> usize
         requires next { length self.now.files.items + 1 < length self.now.needs.places.places }
@@ -80,8 +87,8 @@ impl Walk {
         ensures above { 0 < next_place self.now.needs self.now.files.items }
         ensures apart { AreApart self.now.needs.places.limit self.now.needs.places.places }
     {
-        // No place is there twice, as this call says: so only the first one is the program's.
-        let _count = self.needs.places.count();
+        // Only the first place is the program's.
+        self.places_are_apart();
         self.needs.places.at(self.files.len() + 1) - 1
     }
 

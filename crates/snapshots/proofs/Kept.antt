@@ -4,8 +4,7 @@ use Rattle.sector_disk.specs.Disk.{DiskFacts}
 use Rattle.states.specs.State.{Library}
 use Rattle.store.specs.declared.placed_entry.PlacedEntry.{PlacedEntry}
 use Rattle.store.specs.declared.refusal.StoreRefusal.{StoreRefusal}
-use Rattle.store.specs.Held.{IsHeldBy, holders_of}
-use Rattle.store.specs.Holders.{HeldIs, KeepsHeld}
+use Rattle.store.specs.HeldVersions.{IsHeldBy, holders_of, HeldIs, KeepsHeld}
 use Rattle.store.specs.Opened.{Opened}
 use Rattle.store.specs.Stands.{no_library}
 use Rattle.snapshots.specs.Snapshot.{AreHeldAs, IsSnapshotOf, LetsAllGo, Taken, Takes}

@@ -1,3 +1,3 @@
-pub mod Holdings
+pub mod HoldsAll
 pub mod Kept
 pub mod Releases

@@ -2,12 +2,9 @@
 use Rattle.std.proofs.Common.{◌≡◌, ℕ, ◌+◌, ◌<◌, ◌==◌, if◌then◌else◌, List, [], ◌∷◌, refl, ◌∙◌, arith}
 use Rattle.std.proofs.lemmas.List.Sums.{sum_by-cons}
 use Rattle.sector_disk.specs.Disk.{DiskFacts}
-use Rattle.store.specs.Held.{holders_of}
-use Rattle.store.specs.Holders.{AreFlagged}
-use Rattle.store.specs.Holding.{LetsGo}
+use Rattle.store.specs.HeldVersions.{AreVersions, LetsVersionGo, holders_of}
 use Rattle.store.specs.Opened.{Opened}
 use Rattle.snapshots.specs.Snapshot.{LetsAllGo, times}
-use Rattle.snapshots.specs.inside.Holding.{AreSome}
 
 -- one handle more is as often among handles, and once more for its own sector
 pub times-cons : (sector handle : ℕ) (handles : List ℕ) → times sector (handle ∷ handles) ≡ (if handle == sector then 1 else 0) + times sector handles
@@ -15,18 +12,18 @@ times-cons sector handle handles = sum_by-cons (λ h. if h == sector then 1 else
 
 module _ {D : Type 0} (facts : D → DiskFacts) {old : Opened D} where
   -- where no handle is let go, nothing changes,
-  pub none_gone : AreSome old → AreFlagged old → LetsAllGo facts old old []
-  none_gone some flags = record {
+  pub none_gone : AreVersions old → LetsAllGo facts old old []
+  none_gone sound = record {
     holders = λ sector. omega arith;
     others = λ sector library still is. is;
-    versions = λ sector placed. (λ by. (by, some sector placed by), λ both. both.0);
-    flags = flags;
+    versions = λ sector placed. (λ by. (by, sound.holders sector placed by), λ both. both.0);
+    flags = sound.flags;
     kept = (refl, refl, refl, refl);
     same = λ s at. at;
   }
 
   -- and one more goes
-  pub one_gone : {between new : Opened D} (handle : ℕ) (gone : List ℕ) → LetsAllGo facts old between gone → LetsGo facts between new handle → LetsAllGo facts old new (handle ∷ gone)
+  pub one_gone : {between new : Opened D} (handle : ℕ) (gone : List ℕ) → LetsAllGo facts old between gone → LetsVersionGo facts between new handle → LetsAllGo facts old new (handle ∷ gone)
   one_gone {between = between} {new = new} handle gone before now = record {
     holders = λ sector. omega (arith, now.holders sector, before.holders sector, times-cons sector handle gone);
     others = λ sector library still is. now.others sector library still (before.others sector library (more sector still) is);

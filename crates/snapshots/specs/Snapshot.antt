@@ -5,12 +5,11 @@ use Rattle.std.specs.List.{count_by}
 use Rattle.sector_disk.specs.Disk.{DiskFacts}
 use Rattle.roots.specs.Root.{listed_preloads}
 use Rattle.states.specs.State.{Library, State}
-use Rattle.store.specs.declared.holding.Holding.{Holding}
+use Rattle.store.specs.declared.held_versions.HeldRow.{HeldRow}
 use Rattle.store.specs.declared.placed_entry.PlacedEntry.{PlacedEntry}
 use Rattle.store.specs.declared.refusal.StoreRefusal.{StoreRefusal}
 use Rattle.store.specs.declared.refusal.StoreRefusal.TheVariants.{Reopen, OutOfMemory}
-use Rattle.store.specs.Held.{IsHeldBy, holders_of}
-use Rattle.store.specs.Holders.{AreFlagged, HeldIs, KeepsHeld}
+use Rattle.store.specs.HeldVersions.{IsHeldBy, holders_of, AreFlagged, HeldIs, KeepsHeld}
 use Rattle.store.specs.NameOrder.{IsOrderOf, entry_names}
 use Rattle.store.specs.Opened.{Opened, IsAt}
 use Rattle.store.specs.Stands.{no_library}
@@ -27,12 +26,12 @@ abbrev pub times : ℕ → List ℕ → ℕ
 times sector handles = count_by (λ handle. handle == sector) handles
 
 -- each of these entries is held by the handle at its place
-pub record AreHeldBy (held : List Holding) (handles : List ℕ) (entries : List PlacedEntry) : Type 0 where
+pub record AreHeldBy (held : List HeldRow) (handles : List ℕ) (entries : List PlacedEntry) : Type 0 where
   pub count : length handles ≡ length entries
   pub each : (i : ℕ) (d : PlacedEntry) → i < length entries → IsHeldBy held (slice_index_or handles i 0) (slice_index_or entries i d)
 
 -- The snapshot has these entries: it holds each, and their names have its order.
-pub record IsTakenOf (table : List Holding) (snapshot : Taken) (entries : List PlacedEntry) : Type 0 where
+pub record IsTakenOf (table : List HeldRow) (snapshot : Taken) (entries : List PlacedEntry) : Type 0 where
   pub held : AreHeldBy table snapshot.handles entries
   pub order : IsOrderOf (entry_names entries) snapshot.order
 

@@ -1,3 +1,3 @@
 -- What the code keeps as it goes. No public clause cites it, and nobody has to believe it.
-pub mod Holding
+pub mod HoldsAll
 pub mod Places

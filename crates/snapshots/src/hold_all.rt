@@ -1,33 +1,35 @@
 // Holding all byte strings of a store.
 ghost use Rattle.std.specs.Prelude.{◌≡◌, ◌≤◌, [], IsFalse, length, vec_capacity};
-ghost use Rattle.snapshots.specs.inside.Holding.{HoldsAll};
+ghost use Rattle.snapshots.specs.inside.HoldsAll.{HoldsAll};
+ghost use Rattle.store.specs.HeldVersions.{AreVersions};
 
 use crate::release::release;
 use sector_disk::Disk;
-use store::{Held, Store, StoreRefusal};
+use store::{HeldVersion, Store, StoreRefusal};
 
 /// Holds each byte string of a store, in the order of the positions. The handles go into the room
 /// that is given; where one is refused, those that there are let go.
 pub(crate) fn hold_all<D: Disk>(
     store: &mut Store<D>,
-    room: Vec<Held>,
-) -> Result<Vec<Held>, StoreRefusal>
+    room: Vec<HeldVersion>,
+) -> Result<Vec<HeldVersion>, StoreRefusal>
     requires empty { room.items ≡ [] }
     requires room { length store.old.entries ≤ vec_capacity room }
     requires usable { IsFalse store.old.failed }
+    requires sound { AreVersions store.old }
     ensures { HoldsAll D.facts store.old store.new result }
 {
     let mut handles = room;
     for position in 0..store.count() {
-        match store.hold(position) {
+        match store.hold_version(position) {
             Ok(held) => match handles.push(held) {
                 Ok(()) => {}
                 Err(_) => unreachable!(),
             },
             Err(refusal) => {
                 release(store, handles);
-                // On any disk: what is held has one row, so it is what was held before.
-                let _ = store.count();
+                // What is held has one row, so it is what was held before.
+                store.versions_are_sound();
                 return Err(refusal);
             }
         }

@@ -1,16 +1,16 @@
-use crate::find::{find, held_name};
+use crate::find::{find, version_name};
 use crate::hold_all::hold_all;
 use crate::release::release;
 use sector_disk::Disk;
 use std::alloc::Global;
 use std::marker::Model;
-use store::{Held, Store, StoreRefusal};
+use store::{HeldVersion, Store, StoreRefusal};
 
 /// All byte strings of a store as they were when it was taken, held one by one. It is good for its
 /// own store alone, as each handle is, until it is given to `let_go`.
 #[derive(Drop)]
 pub struct Snapshot {
-    handles: Vec<Held>,
+    handles: Vec<HeldVersion>,
     // Positions in the order of the names, and those of the preloads.
     order: Vec<u16>,
     preloads: Vec<u16>,
@@ -37,8 +37,7 @@ impl Snapshot {
     ghost use Rattle.std.specs.List.{IsDistinct};
     ghost use Rattle.snapshots.specs.Snapshot.{Takes, LetsAllGo, IsTakenOf};
     ghost use Rattle.store.specs.declared.placed_entry.PlacedEntry.{PlacedEntry};
-    ghost use Rattle.store.specs.Held.{IsHeldBy};
-    ghost use Rattle.store.specs.Holding.{ReadsHeld};
+    ghost use Rattle.store.specs.HeldVersions.{IsHeldBy, ReadsVersion};
     ghost use Rattle.store.specs.Stands.{name_of};
 
     /// Holds all byte strings of a store as they are now. It makes no call of the disk, and copies
@@ -46,6 +45,8 @@ impl Snapshot {
     pub fn take<D: Disk>(alloc: Global, store: &mut Store<D>) -> Result<Snapshot, StoreRefusal>
         ensures { Takes D.facts store.old store.new result }
     {
+        // Also after a refusal what is held counts as listed just where it is.
+        store.versions_are_sound();
         let count = store.count();
         if store.has_failed() {
             return Err(StoreRefusal::Reopen);
@@ -88,13 +89,14 @@ impl Snapshot {
             → IsHeldBy store.now.held (slice_index_or self.now.handles position 0) placed
             → result.now ≡ name_of placed.entry }
     {
-        held_name(store, &self.handles[position])
+        version_name(store, &self.handles[position])
     }
 
     /// The position of the byte string of this name. It halves the order of the names: 13
     /// comparisons at most, each with a look into the store's table of held versions.
     pub fn position<D: Disk>(&self, store: &Store<D>, name: &[u8]) -> Option<usize>
         ensures within { IfSome result (λ i. i < length self.now.handles) }
+        ensures few { length self.now.handles ≤ 2048 }
         ensures none { (entries : List PlacedEntry) → IsTakenOf store.now.held self.now entries
             → IsNone result → All (λ placed. name_of placed.entry ≢ name.now) entries }
         ensures some { (entries : List PlacedEntry) → IsTakenOf store.now.held self.now entries
@@ -113,10 +115,10 @@ impl Snapshot {
         position: usize,
     ) -> Result<Vec<u8>, StoreRefusal>
         requires { position < length self.now.handles }
-        ensures { ReadsHeld D.facts store.old store.new (slice_index_or self.now.handles position 0)
-            result }
+        ensures { ReadsVersion D.facts store.old store.new
+            (slice_index_or self.now.handles position 0) result }
     {
-        store.read_held(alloc, &self.handles[position])
+        store.read_version(alloc, &self.handles[position])
     }
 
     /// Lets all of it go. It takes no memory and makes no call of the disk, also after S2.

@@ -10,17 +10,17 @@ use Rattle.extents.specs.Used.{ClaimsJust}
 use Rattle.extents.proofs.UsedLemmas.{claims-same_elements}
 use Rattle.roots.specs.declared.root.Root.{Root}
 use Rattle.store.specs.declared.placed_entry.PlacedEntry.{PlacedEntry}
-use Rattle.store.specs.declared.holding.Holding.{Holding}
-use Rattle.store.specs.Held.{in_use, lone_sectors}
+use Rattle.store.specs.declared.held_versions.HeldRow.{HeldRow}
+use Rattle.store.specs.HeldVersions.{in_use, lone_sectors}
 use Rattle.store.specs.Stands.{UsesApart, extents_of, sectors_of, used}
 use Rattle.store.specs.inside.Claimed.{IsUsable, IsClaimedBeside}
 use Rattle.store.specs.inside.Kept.{AreClaimed, IsKept}
-use Rattle.store.specs.inside.Room.{AreHeld, IsReleased}
+use Rattle.store.specs.inside.Room.{AreClaimedOnce, IsReleased}
 use Rattle.store.proofs.Claiming.{all-part, distinct-parts}
 use Rattle.store.proofs.Counts.{one, occurs, occurs-append, contains_occurs, occurs_contains, distinct_occurs, occurs_distinct}
 
 -- all that is kept can be used
-pub all_usable : {root : Root} {entries : List PlacedEntry} {held : List Holding} {layout : List Bool} → (kept : IsKept root entries held layout)
+pub all_usable : {root : Root} {entries : List PlacedEntry} {held : List HeldRow} {layout : List Bool} → (kept : IsKept root entries held layout)
     → All (IsUsable root.sectors) (in_use root entries held)
 all_usable {root = root} {entries = entries} {held = held} kept = All-append (IsUsable root.sectors) (used root entries) (lone_sectors held) kept.apart.inside kept.claimed.inside
 
@@ -71,7 +71,7 @@ released_nothing mid = record { size = refl; each = λ kept just once. subst (Cl
 pub record IsMoved (before more after gone : List ℕ) : Type 0 where
   pub parts : (k : ℕ) → occurs k after + occurs k gone ≡ occurs k (before ++ more)
 
-module _ {root : Root} {entries : List PlacedEntry} {held : List Holding} {layout mid : List Bool} {more : List ℕ}
+module _ {root : Root} {entries : List PlacedEntry} {held : List HeldRow} {layout mid : List Bool} {more : List ℕ}
     (kept : IsKept root entries held layout) (claimed : IsClaimedBeside layout mid more) where
   abbrev before : List ℕ
   before = in_use root entries held
@@ -110,7 +110,7 @@ module _ {root : Root} {entries : List PlacedEntry} {held : List Holding} {layou
   moved_size new released = released.size ∙ size
 
   -- it can be given back, and then all is kept as it was
-  pub more_held : AreHeld mid more
+  pub more_held : AreClaimedOnce mid more
   more_held = (before, claims, once, subst (λ n. All (IsUsable n) more) (sym size) more_inside)
 
   pub back_kept : (new : List Bool) → IsReleased mid new more → IsKept root entries held new
@@ -157,7 +157,7 @@ module _ {root : Root} {entries : List PlacedEntry} {held : List Holding} {layou
       once = occurs_distinct (used next others) (λ k. omega (arith, counts k, occurs-append k after gone, occurs-append k (used next others) (lone_sectors held), distinct_occurs k all once));
     }
 
-    pub moved_held : AreHeld mid gone
+    pub moved_held : AreClaimedOnce mid gone
     moved_held = (
       after,
       claims_as mid all (after ++ gone) counts claims,
@@ -201,7 +201,7 @@ module _ {root : Root} {entries : List PlacedEntry} {held : List Holding} {layou
       }
 
       -- what holders keep needn't be released for the rest to be
-      pub freed_held : AreHeld mid (freed ++ catalogues)
+      pub freed_held : AreClaimedOnce mid (freed ++ catalogues)
       freed_held = (
         left,
         claims_as mid all (left ++ (freed ++ catalogues)) left_counts claims,

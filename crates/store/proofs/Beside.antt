@@ -7,10 +7,10 @@ use Rattle.roots.specs.declared.root.Root.{Root}
 use Rattle.roots.specs.declared.entry_list.EntryList.{EntryList}
 use Rattle.roots.specs.declared.entry_list.EntryList.TheVariants.{InRoot, InCatalogues}
 use Rattle.store.specs.declared.placed_entry.PlacedEntry.{PlacedEntry}
-use Rattle.store.specs.declared.holding.Holding.{Holding}
-use Rattle.store.specs.Held.{in_use}
+use Rattle.store.specs.declared.held_versions.HeldRow.{HeldRow}
+use Rattle.store.specs.HeldVersions.{in_use}
 use Rattle.store.specs.Stands.{HasRoom, used}
-use Rattle.store.specs.inside.Holdings.{AreHoldings}
+use Rattle.store.specs.inside.HeldRows.{AreHeldRows}
 use Rattle.store.specs.inside.Kept.{AreClaimed}
 
 pub none_beside : {sectors : ℕ} {layout : List Bool} (used : List ℕ) → AreDistinct used → ClaimsJust layout used → AreClaimed sectors layout used []
@@ -21,7 +21,7 @@ none_beside {layout = layout} used once claims = record {
 }
 
 -- what is in use then is what the state uses,
-pub in_use_alone : (root : Root) (entries : List PlacedEntry) (held : List Holding) → held ≡ [] → in_use root entries held ≡ used root entries
+pub in_use_alone : (root : Root) (entries : List PlacedEntry) (held : List HeldRow) → held ≡ [] → in_use root entries held ≡ used root entries
 in_use_alone root entries held unheld = ap (in_use root entries) unheld ∙ append-nil (used root entries)
 
 -- and there is as much room
@@ -29,7 +29,7 @@ pub room_more : (few many : ℕ) (list : EntryList) (entries : List PlacedEntry)
 room_more few many (InRoot listed) entries more room = tt
 room_more few many (InCatalogues count listed) entries more room = omega (arith, more, room)
 
-pub no_rows : (entries : List PlacedEntry) → AreHoldings entries []
+pub no_rows : (entries : List PlacedEntry) → AreHeldRows entries []
 no_rows entries = record {
   each = λ k d lt. absurd (omega (arith, lt));
   own = λ i j d lt fits. absurd (omega (arith, fits));

@@ -16,8 +16,8 @@ use Rattle.store.specs.declared.refusal.StoreRefusal.TheVariants.{Device, Reopen
 use Rattle.store.specs.Opened.{IsAtBy, Opened}
 use Rattle.store.specs.Reads.{ReadsBlob}
 use Rattle.store.specs.Stands.{library_of}
-use Rattle.store.proofs.Handles.{err_is}
-use Rattle.store.proofs.Holders.{keeps_reads}
+use Rattle.store.proofs.HeldVersions.{err_is}
+use Rattle.store.proofs.KeepsHolders.{keeps_reads}
 use Rattle.store.proofs.Queries.{library_is}
 
 module _ (version : Version) {D : Type 0} (facts : D → DiskFacts) (store : Opened D) where

@@ -16,9 +16,9 @@ use Rattle.store.specs.declared.placed_entry.PlacedEntry.{PlacedEntry}
 use Rattle.states.specs.State.{State}
 use Rattle.store.specs.Stands.{AreListed, AreCatalogued, UsesApart, HasRoom, StandsBy, entry_sectors, catalogues_of, sectors_of, used, library_of, names_at}
 use Rattle.store.specs.inside.Claimed.{IsUsable}
-use Rattle.store.specs.declared.holding.Holding.{Holding}
-use Rattle.store.specs.Held.{lone_sectors}
-use Rattle.store.specs.inside.Holdings.{AreHoldings}
+use Rattle.store.specs.declared.held_versions.HeldRow.{HeldRow}
+use Rattle.store.specs.HeldVersions.{lone_sectors}
+use Rattle.store.specs.inside.HeldRows.{AreHeldRows}
 use Rattle.store.specs.inside.Kept.{AreClaimed, IsKept}
 use Rattle.store.specs.inside.Next.{IsNext}
 use Rattle.store.proofs.Claiming.{distinct-first}
@@ -64,8 +64,8 @@ module _ {root : Root} {others : List PlacedEntry} {catalogues preloads : List �
   }))
 
   -- with a layout that claims just what is in use then all is kept,
-  pub following_kept : (held : List Holding) (new : List Bool) → length new ≡ root.sectors
-      → HasRoom (root.sectors - length (lone_sectors held)) next.list others → AreHoldings others held
+  pub following_kept : (held : List HeldRow) (new : List Bool) → length new ≡ root.sectors
+      → HasRoom (root.sectors - length (lone_sectors held)) next.list others → AreHeldRows others held
       → AreClaimed root.sectors new (used next others) (lone_sectors held) → IsKept next others held new
   following_kept held new size room rows claimed = record {
     root_fits = following_fits;

@@ -10,7 +10,8 @@ use Rattle.states.specs.Limits.{most_libraries, last_generation}
 use Rattle.states.specs.Cost.{catalogues_for, catalogue_cost, cost, free}
 use Rattle.states.specs.State.{State}
 use Rattle.store.specs.Names.{IsFileSize}
-use Rattle.store.specs.Opened.{Opened, room_of}
+use Rattle.store.specs.Opened.{Opened}
+use Rattle.store.specs.HeldVersions.{room_of}
 use Rattle.store.specs.Step.{longest_free, refusal_of_bytes, refusal_of_new}
 use Rattle.store.proofs.Frees.{IsCounted, bytes_full, bytes_fragmented, bytes_accepted, new_as_put}
 

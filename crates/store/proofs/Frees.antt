@@ -29,9 +29,9 @@ use Rattle.states.specs.State.{Library, State}
 use Rattle.store.specs.declared.placed_entry.PlacedEntry.{PlacedEntry}
 use Rattle.store.specs.declared.refusal.StoreRefusal.{StoreRefusal}
 use Rattle.store.specs.declared.refusal.StoreRefusal.TheVariants.{Device, Full, Fragmented, GenerationEnd}
-use Rattle.store.specs.declared.holding.Holding.{Holding}
-use Rattle.store.specs.Held.{in_use, lone_sectors}
-use Rattle.store.specs.Opened.{Opened, IsAtBy, room_of}
+use Rattle.store.specs.declared.held_versions.HeldRow.{HeldRow}
+use Rattle.store.specs.HeldVersions.{in_use, lone_sectors, room_of}
+use Rattle.store.specs.Opened.{Opened, IsAtBy}
 use Rattle.store.specs.Stands.{StandsBy, catalogues_of, entries_cost, extents_of, library_of, sectors_of, used}
 use Rattle.store.specs.Step.{longest_free, refusal_of_bytes, refusal_of_put, refusal_of_new, refusal_of_upgrade, refusal_of_take, refusal_of_change, IsAnswer, IsExactAnswer}
 use Rattle.store.specs.inside.Kept.{HaveSpellings, IsKept}
@@ -68,7 +68,7 @@ taken_is version m root entries s fit whole by =
     let costs = costs_are m entries whole fit inside in
     ap taken_by by.is ∙ omega (arith, costs, length-libraries m entries)
 
-module _ (root : Root) (entries : List PlacedEntry) (held : List Holding) (layout : List Bool) (kept : IsKept root entries held layout) where
+module _ (root : Root) (entries : List PlacedEntry) (held : List HeldRow) (layout : List Bool) (kept : IsKept root entries held layout) where
   -- a root of version 2 lists as many catalogues as its byte strings take
   pub catalogues_enough : version_of root ≡ Two → length (catalogues_of root) ≡ catalogues_for (length entries)
   catalogues_enough two = enough_in root.library_count root.sectors root.list two kept.root_fits.list ∙ ap catalogues_for (sym kept.counted)
@@ -199,7 +199,7 @@ module _ (sectors : ℕ) (s : State) where
       ∙ if_no (nat_lt sectors (root_sectors + taken_by s)) _ _ (λ is. omega (arith, ltb-true sectors (root_sectors + taken_by s) is, room))
 
 -- What is known of the state before a change of version 2, by what the store keeps.
-pub record IsCounted (root : Root) (entries : List PlacedEntry) (held : List Holding) (layout : List Bool) (s : State) : Type 0 where
+pub record IsCounted (root : Root) (entries : List PlacedEntry) (held : List HeldRow) (layout : List Bool) (s : State) : Type 0 where
   pub generation : s.generation ≡ root.generation
   pub count : length s.libraries ≡ length entries
   pub room : free (root.sectors - length (lone_sectors held)) s + catalogues_for (length entries) ≡ free_count layout

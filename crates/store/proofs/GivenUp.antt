@@ -11,21 +11,20 @@ use Rattle.sector_disk.specs.Disk.{Sector, DiskFacts, Mixture, IsMixtureBut}
 use Rattle.extents.specs.Extent.{AreDistinct}
 use Rattle.roots.specs.declared.root.Root.{Root}
 use Rattle.store.specs.declared.placed_entry.PlacedEntry.{PlacedEntry}
-use Rattle.store.specs.declared.holding.Holding.{Holding}
-use Rattle.store.specs.Held.{lone_sectors, own_sectors}
-use Rattle.store.specs.Holders.{KeepsHolders}
+use Rattle.store.specs.declared.held_versions.HeldRow.{HeldRow}
+use Rattle.store.specs.HeldVersions.{lone_sectors, own_sectors, KeepsHolders}
 use Rattle.store.specs.Stands.{catalogues_of, sectors_of, used}
 use Rattle.store.specs.inside.Claimed.{IsClaimedBeside}
-use Rattle.store.specs.inside.Holdings.{IsAtPlace, IsHolding, IsLeft, AreHoldings}
+use Rattle.store.specs.inside.HeldRows.{IsAtPlace, IsHeldRow, IsLeft, AreHeldRows}
 use Rattle.store.specs.inside.Kept.{AreClaimed, IsKept}
 use Rattle.store.specs.inside.NameIndex.{closed_up}
 use Rattle.store.specs.inside.Room.{IsGivenUp, IsRootOr}
 use Rattle.store.proofs.Anew.{IsMoved, left_claimed, moved_claimed, moved_size, more_free}
 use Rattle.store.proofs.Claiming.{distinct-parts}
 use Rattle.store.proofs.Counts.{occurs, occurs-append, occurs-flat_map, contains_occurs, occurs_contains, distinct_occurs, occurs_distinct}
-use Rattle.store.proofs.Holders.{keeps_left, keeps_table, listed_used}
-use Rattle.store.proofs.HeldRows.{no_holding}
-use Rattle.store.proofs.Holdings.{held_left, held_unheld, left_length, left_occurs}
+use Rattle.store.proofs.KeepsHolders.{keeps_left, keeps_table, listed_used}
+use Rattle.store.proofs.KeyedRows.{no_row}
+use Rattle.store.proofs.HeldRows.{held_left, held_unheld, left_length, left_occurs}
 use Rattle.store.proofs.Removed.{at_closed, closed_inside}
 use Rattle.store.proofs.UsedAlone.{among_entries, no_entry, own_used}
 
@@ -54,31 +53,31 @@ same_place (e ∷ entries) once (suc i) (suc j) d lt lt' same =
     )) in
     ap suc (same_place entries rest i j d (omega (arith, lt)) (omega (arith, lt')) same)
 
-module _ {root : Root} {entries : List PlacedEntry} {held : List Holding} {layout : List Bool} (kept : IsKept root entries held layout) where
+module _ {root : Root} {entries : List PlacedEntry} {held : List HeldRow} {layout : List Bool} (kept : IsKept root entries held layout) where
   -- the entries' sectors lie apart
   entries_once : AreDistinct (flat_map sectors_of entries)
   entries_once = occurs_distinct (flat_map sectors_of entries)
       (λ k. omega (arith, distinct_occurs k (used root entries) kept.apart.once, occurs-append k (catalogues_of root) (flat_map sectors_of entries)))
 
   -- A held version whose sector the state uses is one that it lists,
-  pub row_listed : {at place : ℕ} {holding : Holding} → IsAtPlace held at place holding → Contains (used root entries) at → holding.listed ≡ true
-  row_listed {at = at} {place = place} {holding = holding} row found = ⊎_elim
+  pub row_listed : {at place : ℕ} {version : HeldRow} → IsAtPlace held at place version → Contains (used root entries) at → version.listed ≡ true
+  row_listed {at = at} {place = place} {version = version} row found = ⊎_elim
       (λ is. is)
       (λ isnt.
-      let its : occurs at (own_sectors (get_or held place no_holding)) ≡ occurs at (sectors_of holding.placed) =
-      ap (λ h. occurs at (own_sectors h)) (row.is no_holding) ∙ ap (λ b. occurs at (if b then [] else sectors_of holding.placed)) isnt in
+      let its : occurs at (own_sectors (get_or held place no_row)) ≡ occurs at (sectors_of version.placed) =
+      ap (λ h. occurs at (own_sectors h)) (row.is no_row) ∙ ap (λ b. occurs at (if b then [] else sectors_of version.placed)) isnt in
       let lone : Contains (lone_sectors held) at = occurs_contains at (lone_sectors held) (omega (
         arith,
         its,
-        contains_occurs at (sectors_of holding.placed) (0, omega arith, row.its),
+        contains_occurs at (sectors_of version.placed) (0, omega arith, row.its),
         occurs-flat_map at own_sectors held,
-        get_or-le-sum_by (λ (h : Holding). occurs at (own_sectors h)) held place no_holding row.inside,
+        get_or-le-sum_by (λ (h : HeldRow). occurs at (own_sectors h)) held place no_row row.inside,
       )) in
       absurd (distinct-parts (used root entries) (lone_sectors held) at kept.claimed.once found lone))
-      (cases_Bool holding.listed)
+      (cases_Bool version.listed)
 
   -- so each counts as listed exactly where it is one of the state's,
-  pub flags : All (λ holding. (holding.listed ≡ true) ↔ Contains entries holding.placed) held
+  pub flags : All (λ version. (version.listed ≡ true) ↔ Contains entries version.placed) held
   flags i d lt =
       let row = get_or held i d in (
         (kept.rows.each i d lt).listed,
@@ -90,17 +89,17 @@ module _ {root : Root} {entries : List PlacedEntry} {held : List Holding} {layou
     old = get_or entries gone no_entry
 
     -- and has its entry.
-    pub row_is : {place : ℕ} {holding : Holding} → IsAtPlace held old.at place holding → holding.placed ≡ old
-    row_is {place = place} {holding = holding} row =
+    pub row_is : {place : ℕ} {version : HeldRow} → IsAtPlace held old.at place version → version.placed ≡ old
+    row_is {place = place} {version = version} row =
         let listed = row_listed row (own_used root entries gone no_entry lt) in
-        let rows = subst (IsHolding entries) (row.is no_holding) (kept.rows.each place no_holding row.inside) in
+        let rows = subst (IsHeldRow entries) (row.is no_row) (kept.rows.each place no_row row.inside) in
         let among = rows.listed listed in
-        let there : get_or entries among.0 no_entry ≡ holding.placed = get_or_default entries among.0 no_entry holding.placed among.1 ∙ among.2 in
+        let there : get_or entries among.0 no_entry ≡ version.placed = get_or_default entries among.0 no_entry version.placed among.1 ∙ among.2 in
         let here : among.0 ≡ gone = same_place entries entries_once among.0 gone no_entry among.1 lt (ap (λ (p : PlacedEntry). p.at) there ∙ row.its) in
         sym there ∙ ap (λ i. get_or entries i no_entry) here
 
     -- Where it is held, its sectors are in use by its holders alone from then on.
-    module _ {left : List Holding} (is : IsLeft held left old.at) where
+    module _ {left : List HeldRow} (is : IsLeft held left old.at) where
       lone_parts : (k : ℕ) → occurs k (lone_sectors left) + occurs k [] ≡ occurs k (lone_sectors held) + occurs k (sectors_of old)
       lone_parts k = omega (
         arith,
@@ -111,11 +110,11 @@ module _ {root : Root} {entries : List PlacedEntry} {held : List Holding} {layou
       lone_count : length (lone_sectors left) ≡ length (lone_sectors held) + length (sectors_of old)
       lone_count = left_length is (row_listed is.at (own_used root entries gone no_entry lt)) ∙ ap (λ (p : PlacedEntry). length (lone_sectors held) + length (sectors_of p)) (row_is is.at)
 
-    module _ {mid new : List Bool} {left : List Holding} {catalogues : List ℕ} (given : IsGivenUp held left mid new old catalogues) where
-      pub given_rows : (others : List PlacedEntry) → ((holding : Holding) → IsHolding entries holding → holding.placed.at ≢ old.at → IsHolding others holding) → AreHoldings others left
+    module _ {mid new : List Bool} {left : List HeldRow} {catalogues : List ℕ} (given : IsGivenUp held left mid new old catalogues) where
+      pub given_rows : (others : List PlacedEntry) → ((version : HeldRow) → IsHeldRow entries version → version.placed.at ≢ old.at → IsHeldRow others version) → AreHeldRows others left
       given_rows others moves = ⊎_elim
           (λ both. held_left kept.rows both.0 moves)
-          (λ all. subst (AreHoldings others) (sym all.1) (held_unheld kept.rows all.0 moves))
+          (λ all. subst (AreHeldRows others) (sym all.1) (held_unheld kept.rows all.0 moves))
           given
 
       pub given_few : length (lone_sectors left) ≤ length (lone_sectors held) + length (sectors_of old)
@@ -147,34 +146,34 @@ module _ (entries : List PlacedEntry) (place : ℕ) (lt : place < length entries
   elsewhere : (placed : PlacedEntry) (found : Contains entries placed) → placed.at ≢ (get_or entries place no_entry).at → found.0 ≢ place
   elsewhere placed found other same = other (ap (λ (p : PlacedEntry). p.at) (sym found.2 ∙ ap (λ i. get_or entries i placed) same ∙ get_or_default entries place placed no_entry lt))
 
-  pub still_removed : (holding : Holding) → IsHolding entries holding → holding.placed.at ≢ (get_or entries place no_entry).at → IsHolding (remove entries place) holding
-  still_removed holding row other = record {
+  pub still_removed : (version : HeldRow) → IsHeldRow entries version → version.placed.at ≢ (get_or entries place no_entry).at → IsHeldRow (remove entries place) version
+  still_removed version row other = record {
     fits = row.fits;
     some = row.some;
     listed = λ is.
         let found = row.listed is in
-        let apart = elsewhere holding.placed found other in
+        let apart = elsewhere version.placed found other in
         let fewer = length-remove entries place lt in (
           closed_up place found.0,
           closed_inside place (length (remove entries place)) found.0 apart (omega (arith, found.1, fewer)) (omega (arith, lt, fewer)),
-          at_closed entries place found.0 holding.placed apart lt ∙ found.2,
+          at_closed entries place found.0 version.placed apart lt ∙ found.2,
         );
   }
 
-  pub still_set : (put : PlacedEntry) → (holding : Holding) → IsHolding entries holding → holding.placed.at ≢ (get_or entries place no_entry).at → IsHolding (set entries place put) holding
-  still_set put holding row other = record {
+  pub still_set : (put : PlacedEntry) → (version : HeldRow) → IsHeldRow entries version → version.placed.at ≢ (get_or entries place no_entry).at → IsHeldRow (set entries place put) version
+  still_set put version row other = record {
     fits = row.fits;
     some = row.some;
     listed = λ is.
         let found = row.listed is in (
           found.0,
           omega (arith, found.1, length-set entries place put),
-          get_or-set_other entries place found.0 put holding.placed (elsewhere holding.placed found other) ∙ found.2,
+          get_or-set_other entries place found.0 put version.placed (elsewhere version.placed found other) ∙ found.2,
         );
   }
 
 -- and behind all others stands one more.
-pub rows_more : {entries : List PlacedEntry} {held : List Holding} (put : PlacedEntry) → AreHoldings entries held → AreHoldings (entries ++ put ∷ []) held
+pub rows_more : {entries : List PlacedEntry} {held : List HeldRow} (put : PlacedEntry) → AreHeldRows entries held → AreHeldRows (entries ++ put ∷ []) held
 rows_more {entries = entries} put rows = record {
   each = λ k d lt. let row = rows.each k d lt in record {
     fits = row.fits;

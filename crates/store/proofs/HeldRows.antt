@@ -1,128 +1,420 @@
--- The rows of the table of held versions, as the map keeps them under the sectors of their entries.
-use Rattle.std.proofs.Common.{◌≡◌, ◌≢◌, ⊎_elim, ℕ, zero, suc, ◌<◌, nat_eq, nat_lt, cond, is_some, false, None, Some, List, [], ◌∷◌, ◌++◌, length}
-use Rattle.std.proofs.Common.{get_or, set, map, position, slice_get, if◌then◌else◌, refl, sym, ap, subst, ◌∙◌, arith}
-use Rattle.std.specs.Prelude.{All, swap_remove}
-use Rattle.std.specs.List.{position_or_len}
-use Rattle.std.specs.Option.{option_map}
-use Rattle.std.specs.Map.{keys_of, values_of}
+-- The rows of held versions: what each change of them keeps.
+use Rattle.std.proofs.Common.{◌≡◌, ◌≢◌, ⊎_elim, ℕ, zero, suc, ◌+◌, ◌-◌, ◌<◌, ◌≤◌, ◌==◌, nat_eq, Bool, true, false, if◌then◌else◌, sum_by, List, []}
+use Rattle.std.proofs.Common.{◌∷◌, ◌++◌, length, get_or, set, refl, sym, ap, subst, ◌∙◌, arith}
+use Rattle.std.specs.Prelude.{Contains}
+use Rattle.std.specs.List.{flat_map}
+use Rattle.std.proofs.Math.ListN.{get_or-map}
 use Rattle.std.proofs.Math.Seq.{map-set_same}
-use Rattle.std.proofs.lemmas.Bool.{cases_Bool, eqb-true, eq-eqb, ne_eqb, false≢true, ltb-false}
-use Rattle.std.proofs.lemmas.List.{get_or_default, get_or-map, length-map, map-append}
-use Rattle.std.proofs.lemmas.List.Elements.{All-map}
-use Rattle.std.proofs.lemmas.List.Quantifiers.{position-Some}
-use Rattle.std.proofs.lemmas.List.Sums.{fails_before_first}
-use Rattle.std.proofs.lemmas.Option.{get_or_from_slice_get, none-some, slice_get-get_or, slice_get-map}
-use Rattle.indexmap.specs.IndexMap.{IndexMap, keys, values, insert_entry, set_value_at, with_value_at}
-use Rattle.indexmap.proofs.CallerLemmas.{keys-with_value_at}
-use Rattle.indexmap.proofs.SetLemmas.{map-swap_remove}
-use Rattle.indexmap.proofs.MapLemmas.{swap_remove-default}
-use Rattle.store.specs.declared.holding.Holding.{Holding}
-use Rattle.store.specs.inside.Holdings.{IsUnheld, IsAtPlace}
-use Rattle.store.proofs.UsedAlone.{no_entry}
+use Rattle.std.proofs.lemmas.Bool.{cases_Bool, cases_lt, eq-eqb, eqb-true, eqb-false, ne_eqb, false≢true}
+use Rattle.std.proofs.lemmas.Grind.{flat_map-append, get_or-set_at}
+use Rattle.std.proofs.lemmas.List.{append-nil, get_or-set_other, get_or_append_left, get_or_default, length-append, length-set}
+use Rattle.std.proofs.lemmas.List.Concat.{length-flat_map}
+use Rattle.std.proofs.lemmas.List.Elements.{All-push, All-set, Contains-push}
+use Rattle.std.proofs.lemmas.List.Quantifiers.{all_pairs_push}
+use Rattle.std.proofs.lemmas.List.Sums.{get_or-le-sum_by, sum_by-append, sum_by-cons, sum_by-set}
+use Rattle.roots.specs.Entry.{EntryHasSpelling}
+use Rattle.store.specs.declared.placed_entry.PlacedEntry.{PlacedEntry}
+use Rattle.store.specs.declared.held_versions.HeldRow.{HeldRow}
+use Rattle.store.specs.HeldVersions.{HaveOwnRows, own_sectors, lone_sectors, holders_of, IsHeldBy}
+use Rattle.store.specs.Stands.{sectors_of}
+use Rattle.store.specs.inside.HeldRows.{IsUnheld, IsAtPlace, IsHeldOnce, IsHeldMore, IsLeft, IsHeldLess, IsLetGo, IsHeldRow, AreHeldRows, with_holders, unlisted, first_row}
+use Rattle.store.proofs.Counts.{occurs, occurs-flat_map}
+use Rattle.store.proofs.KeyedRows.{no_row}
+use Rattle.store.proofs.SwapRemoves.{All-swap_remove, AllPairs-swap_remove, length-swap_remove, sum_by-swap_removed, swap_remove_cases}
 
--- no row, where a list needs some element
-abbrev pub no_holding : Holding
-no_holding = record { placed = no_entry; holders = 0; listed = false }
+-- two places with one sector are one place
+pub same_place : (held : List HeldRow) (i j : ℕ) (d : HeldRow) → HaveOwnRows held → i < length held → j < length held → (get_or held i d).placed.at ≡ (get_or held j d).placed.at → i ≡ j
+same_place held i j d own first second same = ⊎_elim
+    (λ less. absurd (own i j d less second same))
+    (λ from. ⊎_elim
+    (λ more. absurd (own j i d more first (sym same)))
+    (λ upto. omega (arith, from, upto))
+    (cases_lt j i))
+    (cases_lt i j)
 
--- the sectors of the rows' entries
-abbrev pub row_sectors : List Holding → List ℕ
-row_sectors rows = map (λ h. h.placed.at) rows
+-- rows say the same of something once one stands in a place that does
+pub field_set : {A : Type 0} (f : HeldRow → A) (held : List HeldRow) (place : ℕ) (row : HeldRow) → ((d : HeldRow) → f row ≡ f (get_or held place d))
+    → (k : ℕ) (d : HeldRow) → f (get_or (set held place row) k d) ≡ f (get_or held k d)
+field_set f held place row same k d =
+    sym (get_or-map f (set held place row) k d) ∙ ap (λ l. get_or l k (f d)) (map-set_same f held place row d (same d)) ∙ get_or-map f held k d
 
-row_sector : (rows : List Holding) (k e : ℕ) (d : Holding) → k < length rows → get_or (row_sectors rows) k e ≡ (get_or rows k d).placed.at
-row_sector rows k e d lt = get_or-map (λ (h : Holding). h.placed.at) rows k d e lt
+own_set : (held : List HeldRow) (place : ℕ) (row : HeldRow) → ((d : HeldRow) → row.placed.at ≡ (get_or held place d).placed.at) → HaveOwnRows held → HaveOwnRows (set held place row)
+own_set held place row same own i j d less fits = λ equal.
+    let sector = λ (h : HeldRow). h.placed.at in
+    own i j d less (omega (arith, fits, length-set held place row)) (sym (field_set sector held place row same i d) ∙ equal ∙ field_set sector held place row same j d)
 
--- the row whose sector is found
-pub row_found : (rows : List Holding) (sector place : ℕ) → position (nat_eq sector) (row_sectors rows) ≡ Some place → IsAtPlace rows sector place (get_or rows place no_holding)
-row_found rows sector place found =
-    let at = position-Some (nat_eq sector) (row_sectors rows) place sector found in
-    let inside : place < length rows = omega (arith, at.0, length-map rows (λ (h : Holding). h.placed.at)) in record {
-      inside = inside;
-      is = λ d. get_or_default rows place d no_holding inside;
-      its = sym (row_sector rows place sector no_holding inside) ∙ sym (eqb-true sector (get_or (row_sectors rows) place sector) at.1);
+-- The rows of a store.
+module _ {entries : List PlacedEntry} {old : List HeldRow} (are : AreHeldRows entries old) where
+  -- the row of a sector
+  pub row_of : {sector place : ℕ} {version : HeldRow} → IsAtPlace old sector place version → IsHeldRow entries version
+  row_of {place = place} at = subst (IsHeldRow entries) (at.is no_row) (are.each place no_row at.inside)
+
+  -- a listed version is held for the first time
+  pub held_once : {new : List HeldRow} → {placed : PlacedEntry} → IsHeldOnce old new placed → EntryHasSpelling placed.entry → Contains entries placed → AreHeldRows entries new
+  held_once {placed = placed} once fits listed =
+      let row = first_row placed in
+      subst (AreHeldRows entries) (sym once.is) (record {
+        each = All-push (IsHeldRow entries) old row are.each (record { fits = fits; some = omega arith; listed = λ _. listed });
+        own = all_pairs_push (λ (a b : HeldRow). a.placed.at ≢ b.placed.at) old row are.own once.absent;
+      })
+
+  -- the same version with another count
+  counted : {sector place : ℕ} {version : HeldRow} (holders : ℕ) → 0 < holders → IsAtPlace old sector place version → AreHeldRows entries (set old place (with_holders holders version))
+  counted {place = place} {version = version} holders some at =
+      let was = row_of at in
+      let row = with_holders holders version in record {
+        each = All-set (IsHeldRow entries) old place row (record { fits = was.fits; some = some; listed = was.listed }) are.each;
+        own = own_set old place row (λ d. ap (λ (h : HeldRow). h.placed.at) (sym (at.is d))) are.own;
+      }
+
+  pub held_more : {new : List HeldRow} → {sector : ℕ} → IsHeldMore old new sector → AreHeldRows entries new
+  held_more more = subst (AreHeldRows entries) (sym more.is) (counted (more.version.holders + 1) (omega arith) more.at)
+
+  pub held_less : {new : List HeldRow} → {sector : ℕ} → IsHeldLess old new sector → AreHeldRows entries new
+  held_less less = subst (AreHeldRows entries) (sym less.is) (counted less.holders less.some less.at)
+
+  -- the last holder lets a version go
+  pub held_gone : {new : List HeldRow} → {sector : ℕ} {version : HeldRow} → IsLetGo old new sector version → AreHeldRows entries new
+  held_gone {version = version} gone = subst (AreHeldRows entries) (sym gone.is) (record {
+    each = All-swap_remove old gone.place version gone.at.inside (IsHeldRow entries) are.each;
+    own = AllPairs-swap_remove old gone.place version gone.at.inside (λ (a b : HeldRow). a.placed.at ≢ b.placed.at) (λ a b apart same. apart (sym same)) are.own;
+  })
+
+  -- The state lists other entries, where the rows of all sectors but one hold for these,
+  module _ {others : List PlacedEntry} where
+    -- which is left,
+    pub held_left : {new : List HeldRow} → {at : ℕ} → IsLeft old new at → ((h : HeldRow) → IsHeldRow entries h → h.placed.at ≢ at → IsHeldRow others h) → AreHeldRows others new
+    held_left left moves =
+        let was = row_of left.at in
+        let row = unlisted left.version in
+        let sector = λ (h : HeldRow). h.placed.at in
+        subst (AreHeldRows others) (sym left.is) (record {
+          each = λ k d lt.
+              let fits : k < length old = omega (arith, lt, length-set old left.place row) in
+              ⊎_elim
+              (λ is. subst (IsHeldRow others) (sym (get_or-set_at old left.place k row d (eqb-true k left.place is) left.at.inside))
+              (record { fits = was.fits; some = was.some; listed = λ lists. absurd (false≢true lists) }))
+              (λ isnt.
+              let other : k ≢ left.place = eqb-false k left.place isnt in
+              subst (IsHeldRow others) (sym (get_or-set_other old left.place k row d other))
+              (moves (get_or old k d) (are.each k d fits) (λ same. other (same_place old k left.place d are.own fits left.at.inside (same ∙ sym (ap sector (left.at.is d) ∙ left.at.its))))))
+              (cases_Bool (nat_eq k left.place));
+          own = own_set old left.place row (λ d. ap sector (sym (left.at.is d))) are.own;
+        })
+
+    -- or not held.
+    pub held_unheld : {at : ℕ} → IsUnheld old at → ((h : HeldRow) → IsHeldRow entries h → h.placed.at ≢ at → IsHeldRow others h) → AreHeldRows others old
+    held_unheld absent moves = record {
+      each = λ k d lt. moves (get_or old k d) (are.each k d lt) (absent k d lt);
+      own = are.own;
     }
 
--- and where none is found there is none
-pub none_found : (rows : List Holding) (sector : ℕ) → position (nat_eq sector) (row_sectors rows) ≡ None → IsUnheld rows sector
-none_found rows sector none k d lt = λ same.
-    let sectors = row_sectors rows in
-    let inside : k < length sectors = omega (arith, lt, length-map rows (λ (h : Holding). h.placed.at)) in
-    let first = position_or_len (nat_eq sector) sectors in
+-- A sum over the rows: one more row,
+sum_once : (f : HeldRow → ℕ) {old new : List HeldRow} {placed : PlacedEntry} → IsHeldOnce old new placed → sum_by f new ≡ sum_by f old + f (first_row placed)
+sum_once f {old = old} {placed = placed} once =
+    let row = first_row placed in
+    omega (arith, ap (sum_by f) once.is, sum_by-append f old (row ∷ []), sum_by-cons f row [])
+
+-- another row in a place,
+sum_set : (f : HeldRow → ℕ) {old : List HeldRow} {sector place : ℕ} {version : HeldRow} → IsAtPlace old sector place version → (row : HeldRow)
+    → sum_by f (set old place row) + f version ≡ sum_by f old + f row
+sum_set f {old = old} {place = place} at row = omega (arith, ap f (at.is no_row), sum_by-set f old place row no_row at.inside)
+
+-- and one row less.
+sum_gone : (f : HeldRow → ℕ) {old new : List HeldRow} {sector : ℕ} {version : HeldRow} → IsLetGo old new sector version → sum_by f new + f version ≡ sum_by f old
+sum_gone f {old = old} {version = version} gone = omega (arith, ap (sum_by f) gone.is, sum_by-swap_removed old gone.place version gone.at.inside f gone.at.is)
+
+-- a row keeps all sectors of its version where the state doesn't list it, and else none
+own_all : (version : HeldRow) → version.listed ≡ false → own_sectors version ≡ sectors_of version.placed
+own_all version is = ap (λ b. if b then [] else sectors_of version.placed) is
+
+own_none : (version : HeldRow) → version.listed ≡ true → own_sectors version ≡ []
+own_none version is = ap (λ b. if b then [] else sectors_of version.placed) is
+
+flat_map-set_same : {X : Type 0} (f : X → List ℕ) (xs : List X) (i : ℕ) (x d : X) → f x ≡ f (get_or xs i d) → flat_map f (set xs i x) ≡ flat_map f xs
+flat_map-set_same f [] i x d same = refl
+flat_map-set_same f (y ∷ xs) zero x d same = ap (λ l. l ++ flat_map f xs) same
+flat_map-set_same f (y ∷ xs) (suc i) x d same = ap (λ l. f y ++ l) (flat_map-set_same f xs i x d same)
+
+-- The first holder of a version keeps no sectors, since the state lists it,
+pub lone_once : {old new : List HeldRow} {placed : PlacedEntry} → IsHeldOnce old new placed → lone_sectors new ≡ lone_sectors old
+lone_once {old = old} {placed = placed} once = ap lone_sectors once.is ∙ flat_map-append own_sectors old (first_row placed ∷ []) ∙ append-nil (lone_sectors old)
+
+-- and how many hold it changes none.
+lone_counted : {old : List HeldRow} {sector place : ℕ} {version : HeldRow} (holders : ℕ) → IsAtPlace old sector place version
+    → lone_sectors (set old place (with_holders holders version)) ≡ lone_sectors old
+lone_counted {old = old} {place = place} {version = version} holders at = flat_map-set_same own_sectors old place (with_holders holders version) no_row (ap own_sectors (sym (at.is no_row)))
+
+pub lone_more : {old new : List HeldRow} {sector : ℕ} → IsHeldMore old new sector → lone_sectors new ≡ lone_sectors old
+lone_more more = ap lone_sectors more.is ∙ lone_counted (more.version.holders + 1) more.at
+
+pub lone_less : {old new : List HeldRow} {sector : ℕ} → IsHeldLess old new sector → lone_sectors new ≡ lone_sectors old
+lone_less less = ap lone_sectors less.is ∙ lone_counted less.holders less.at
+
+-- What counts sectors, one by one:
+module _ (f : List ℕ → ℕ) (none : f [] ≡ 0) (adds : (held : List HeldRow) → f (lone_sectors held) ≡ sum_by (λ version. f (own_sectors version)) held) where
+  left_adds : {old new : List HeldRow} {sector : ℕ} (left : IsLeft old new sector) → left.version.listed ≡ true → f (lone_sectors new) ≡ f (lone_sectors old) + f (sectors_of left.version.placed)
+  left_adds {old = old} {new = new} left listed =
+      let g = λ (version : HeldRow). f (own_sectors version) in
+      omega (arith, none, adds old, adds new, ap (sum_by g) left.is, sum_set g left.at (unlisted left.version), ap f (own_none left.version listed))
+
+  gone_takes : {old new : List HeldRow} {sector : ℕ} {version : HeldRow} → IsLetGo old new sector version → version.listed ≡ false
+      → f (lone_sectors new) + f (sectors_of version.placed) ≡ f (lone_sectors old)
+  gone_takes {old = old} {new = new} {version = version} gone listed =
+      omega (arith, adds old, adds new, sum_gone (λ (row : HeldRow). f (own_sectors row)) gone, ap f (own_all version listed))
+
+  gone_leaves : {old new : List HeldRow} {sector : ℕ} {version : HeldRow} → IsLetGo old new sector version → version.listed ≡ true → f (lone_sectors new) ≡ f (lone_sectors old)
+  gone_leaves {old = old} {new = new} {version = version} gone listed =
+      omega (arith, none, adds old, adds new, sum_gone (λ (row : HeldRow). f (own_sectors row)) gone, ap f (own_none version listed))
+
+-- once the state lists a version no longer, its holders keep its sectors,
+pub left_occurs : {old new : List HeldRow} {sector : ℕ} (left : IsLeft old new sector) → left.version.listed ≡ true → (k : ℕ)
+    → occurs k (lone_sectors new) ≡ occurs k (lone_sectors old) + occurs k (sectors_of left.version.placed)
+left_occurs left listed k = left_adds (occurs k) refl (occurs-flat_map k own_sectors) left listed
+
+pub left_length : {old new : List HeldRow} {sector : ℕ} (left : IsLeft old new sector) → left.version.listed ≡ true
+    → length (lone_sectors new) ≡ length (lone_sectors old) + length (sectors_of left.version.placed)
+left_length left listed = left_adds length refl (length-flat_map own_sectors) left listed
+
+-- until the last of them lets it go.
+pub gone_occurs : {old new : List HeldRow} {sector : ℕ} {version : HeldRow} → IsLetGo old new sector version → version.listed ≡ false → (k : ℕ)
+    → occurs k (lone_sectors new) + occurs k (sectors_of version.placed) ≡ occurs k (lone_sectors old)
+gone_occurs gone listed k = gone_takes (occurs k) refl (occurs-flat_map k own_sectors) gone listed
+
+pub gone_length : {old new : List HeldRow} {sector : ℕ} {version : HeldRow} → IsLetGo old new sector version → version.listed ≡ false
+    → length (lone_sectors new) + length (sectors_of version.placed) ≡ length (lone_sectors old)
+gone_length gone listed = gone_takes length refl (length-flat_map own_sectors) gone listed
+
+-- One that the state lists goes with no sector.
+pub gone_listed_occurs : {old new : List HeldRow} {sector : ℕ} {version : HeldRow} → IsLetGo old new sector version → version.listed ≡ true → (k : ℕ)
+    → occurs k (lone_sectors new) ≡ occurs k (lone_sectors old)
+gone_listed_occurs gone listed k = gone_leaves (occurs k) refl (occurs-flat_map k own_sectors) gone listed
+
+pub gone_listed_length : {old new : List HeldRow} {sector : ℕ} {version : HeldRow} → IsLetGo old new sector version → version.listed ≡ true → length (lone_sectors new) ≡ length (lone_sectors old)
+gone_listed_length gone listed = gone_leaves length refl (length-flat_map own_sectors) gone listed
+
+-- by a row alone, how many hold the version with this entry sector
+abbrev holders_at : ℕ → HeldRow → ℕ
+holders_at sector version = if version.placed.at == sector then version.holders else 0
+
+one_more : (b : Bool) (n : ℕ) → (if b then n + 1 else 0) ≡ (if b then n else 0) + (if b then 1 else 0)
+one_more true n = refl
+one_more false n = refl
+
+-- How many hold a version: one more where it is held once more,
+pub holders_once : {old new : List HeldRow} {placed : PlacedEntry} → IsHeldOnce old new placed → (sector : ℕ) → holders_of new sector ≡ holders_of old sector + (if placed.at == sector then 1 else 0)
+holders_once once sector = sum_once (holders_at sector) once
+
+pub holders_more : {old new : List HeldRow} {at : ℕ} → IsHeldMore old new at → (sector : ℕ) → holders_of new sector ≡ holders_of old sector + (if at == sector then 1 else 0)
+holders_more {old = old} {at = at} more sector =
+    let row = more.version in
+    omega (
+      arith,
+      ap (λ l. holders_of l sector) more.is,
+      sum_set (holders_at sector) more.at (with_holders (row.holders + 1) row),
+      one_more (row.placed.at == sector) row.holders,
+      ap {B = ℕ} (λ k. if k == sector then 1 else 0) more.at.its,
+    )
+
+-- as many once the state lists it no longer,
+pub holders_left : {old new : List HeldRow} {at : ℕ} → IsLeft old new at → (sector : ℕ) → holders_of new sector ≡ holders_of old sector
+holders_left left sector =
+    omega (arith, ap (λ l. holders_of l sector) left.is, sum_set (holders_at sector) left.at (unlisted left.version))
+
+-- one less where one lets it go,
+pub holders_less : {old new : List HeldRow} {at : ℕ} → IsHeldLess old new at → (sector : ℕ) → holders_of old sector ≡ holders_of new sector + (if at == sector then 1 else 0)
+holders_less less sector =
+    let row = less.version in
+    omega (
+      arith,
+      ap (λ l. holders_of l sector) less.is,
+      sum_set (holders_at sector) less.at (with_holders less.holders row),
+      ap (λ n. if row.placed.at == sector then n else 0) less.was,
+      one_more (row.placed.at == sector) less.holders,
+      ap {B = ℕ} (λ k. if k == sector then 1 else 0) less.at.its,
+    )
+
+-- also where it is the last,
+pub holders_gone : {entries : List PlacedEntry} {old new : List HeldRow} {at : ℕ} {version : HeldRow} → AreHeldRows entries old
+    → IsLetGo old new at version → (sector : ℕ) → holders_of old sector ≡ holders_of new sector + (if at == sector then 1 else 0)
+holders_gone {version = version} are gone sector =
+    let one : version.holders ≡ 1 = omega (arith, gone.last, (row_of are gone.at).some) in
+    omega (
+      arith,
+      sum_gone (holders_at sector) gone,
+      ap (λ n. if version.placed.at == sector then n else 0) one,
+      ap {B = ℕ} (λ k. if k == sector then 1 else 0) gone.at.its,
+    )
+
+-- and none where it isn't held.
+pub holders_unheld : (held : List HeldRow) (sector : ℕ) → IsUnheld held sector → holders_of held sector ≡ 0
+holders_unheld [] sector absent = refl
+holders_unheld (row ∷ held) sector absent =
+    let other : (row.placed.at == sector) ≡ false = ne_eqb row.placed.at sector (absent 0 row (omega arith)) in
+    omega (
+      arith,
+      sum_by-cons (holders_at sector) row held,
+      ap (λ b. if b then row.holders else 0) other,
+      holders_unheld held sector (λ k d lt. absent (suc k) d (omega (arith, lt))),
+    )
+
+-- The entry of a held version stands in its row,
+pub by_place : {held : List HeldRow} {sector place : ℕ} {version : HeldRow} → IsAtPlace held sector place version → IsHeldBy held sector version.placed
+by_place {place = place} at = record { place = place; inside = at.inside; is = λ d. ap (λ (h : HeldRow). h.placed) (at.is d); its = at.its }
+
+pub by_first : {old new : List HeldRow} {placed : PlacedEntry} → IsHeldOnce old new placed → IsHeldBy new placed.at placed
+by_first {old = old} {placed = placed} once =
+    let row = first_row placed in
+    let found = Contains-push old row in
+    subst (λ l. IsHeldBy l placed.at placed) (sym once.is) (record {
+      place = found.0;
+      inside = found.1;
+      is = λ d. ap (λ (h : HeldRow). h.placed) (get_or_default (old ++ row ∷ []) found.0 d row found.1 ∙ found.2);
+      its = refl;
+    })
+
+-- and it has one row.
+pub by_one : {held : List HeldRow} {sector : ℕ} {p q : PlacedEntry} → HaveOwnRows held → IsHeldBy held sector p → IsHeldBy held sector q → p ≡ q
+by_one {held = held} own first second =
+    let sector = λ (placed : PlacedEntry). placed.at in
+    let same = ap sector (first.is no_row) ∙ first.its ∙ sym (ap sector (second.is no_row) ∙ second.its) in
+    let is : first.place ≡ second.place = same_place held first.place second.place no_row own first.inside second.inside same in
+    sym (first.is no_row) ∙ ap (λ k. (get_or held k no_row).placed) is ∙ second.is no_row
+
+-- It stands there once another version is held,
+pub by_once : {old new : List HeldRow} {sector : ℕ} {p placed : PlacedEntry} → IsHeldOnce old new placed → IsHeldBy old sector p → IsHeldBy new sector p
+by_once {old = old} {sector = sector} {p = p} {placed = placed} once by =
+    let row = first_row placed in
+    subst (λ l. IsHeldBy l sector p) (sym once.is) (record {
+      place = by.place;
+      inside = omega (arith, by.inside, length-append old (row ∷ []));
+      is = λ d. ap (λ (h : HeldRow). h.placed) (get_or_append_left old (row ∷ []) d by.place by.inside) ∙ by.is d;
+      its = by.its;
+    })
+
+-- or the row of one is written,
+by_set : {old : List HeldRow} {sector at place : ℕ} {p : PlacedEntry} {version : HeldRow} → IsAtPlace old at place version → (row : HeldRow)
+    → row.placed ≡ version.placed → IsHeldBy old sector p → IsHeldBy (set old place row) sector p
+by_set {old = old} {place = place} at row same by =
+    let entry = λ (h : HeldRow). h.placed in record {
+      place = by.place;
+      inside = omega (arith, by.inside, length-set old place row);
+      is = λ d. field_set entry old place row (λ e. same ∙ ap entry (sym (at.is e))) by.place d ∙ by.is d;
+      its = by.its;
+    }
+
+pub by_more : {old new : List HeldRow} {sector at : ℕ} {p : PlacedEntry} → IsHeldMore old new at → IsHeldBy old sector p → IsHeldBy new sector p
+by_more {sector = sector} {p = p} more by = subst (λ l. IsHeldBy l sector p) (sym more.is) (by_set more.at (with_holders (more.version.holders + 1) more.version) refl by)
+
+pub by_left : {old new : List HeldRow} {sector at : ℕ} {p : PlacedEntry} → IsLeft old new at → IsHeldBy old sector p → IsHeldBy new sector p
+by_left {sector = sector} {p = p} left by = subst (λ l. IsHeldBy l sector p) (sym left.is) (by_set left.at (unlisted left.version) refl by)
+
+pub by_less : {old new : List HeldRow} {sector at : ℕ} {p : PlacedEntry} → IsHeldLess old new at → IsHeldBy old sector p → IsHeldBy new sector p
+by_less {sector = sector} {p = p} less by = subst (λ l. IsHeldBy l sector p) (sym less.is) (by_set less.at (with_holders less.holders less.version) refl by)
+
+-- or that of another one goes.
+below : (a b : ℕ) → a ≢ b → a ≤ b → a < b
+below a b apart le = ⊎_elim (λ lt. lt) (λ ge. absurd (apart (omega (arith, le, ge)))) (cases_lt a b)
+
+pub by_gone_other : {old new : List HeldRow} {sector at : ℕ} {p : PlacedEntry} {version : HeldRow} → IsLetGo old new at version → sector ≢ at → IsHeldBy old sector p → IsHeldBy new sector p
+by_gone_other {old = old} {new = new} {sector = sector} {at = at} {p = p} {version = version} gone apart by =
+    let entry = λ (h : HeldRow). h.placed in
+    let last = length old - 1 in
+    let count = length-swap_remove old gone.place version gone.at.inside in
+    let other : by.place ≢ gone.place = (λ same.
+    let is : p ≡ version.placed = sym (by.is no_row) ∙ ap (λ k. (get_or old k no_row).placed) same ∙ ap entry (gone.at.is no_row) in
+    apart (sym by.its ∙ ap (λ (placed : PlacedEntry). placed.at) is ∙ gone.at.its)) in
+    subst (λ l. IsHeldBy l sector p) (sym gone.is) (⊎_elim
+    (λ is_last.
+    let at_last : by.place ≡ last = eqb-true by.place last is_last in
+    let before : gone.place + 1 < length old = omega (arith, below gone.place last (λ same. other (at_last ∙ sym same)) (omega (arith, gone.at.inside))) in record {
+      place = gone.place;
+      inside = omega (arith, count, before);
+      is = λ d. swap_remove_cases old gone.place version gone.at.inside (λ (h : HeldRow). h.placed ≡ p) gone.place d before
+          (λ _. ap (λ k. (get_or old k d).placed) (sym at_last) ∙ by.is d)
+          (λ elsewhere. absurd (elsewhere refl));
+      its = by.its;
+    })
+    (λ isnt.
+    let before : by.place + 1 < length old = omega (arith, below by.place last (eqb-false by.place last isnt) (omega (arith, by.inside))) in record {
+      place = by.place;
+      inside = omega (arith, count, before);
+      is = λ d. swap_remove_cases old gone.place version gone.at.inside (λ (h : HeldRow). h.placed ≡ p) by.place d before
+          (λ here. absurd (other here))
+          (λ _. by.is d);
+      its = by.its;
+    })
+    (cases_Bool (nat_eq by.place last)))
+
+-- Where a row goes there is none of its sector,
+pub gone_unheld : {old new : List HeldRow} {at : ℕ} {version : HeldRow} → HaveOwnRows old → IsLetGo old new at version → IsUnheld new at
+gone_unheld {old = old} {at = at} {version = version} own gone =
+    let sector = λ (h : HeldRow). h.placed.at in
+    let last = length old - 1 in
+    subst (λ l. IsUnheld l at) (sym gone.is) (λ k d lt.
+    let before : k + 1 < length old = omega (arith, lt, length-swap_remove old gone.place version gone.at.inside) in
+    let only : (i : ℕ) → i < length old → (get_or old i d).placed.at ≡ at → i ≡ gone.place =
+    λ i fits same. same_place old i gone.place d own fits gone.at.inside (same ∙ sym (ap sector (gone.at.is d) ∙ gone.at.its)) in
+    swap_remove_cases old gone.place version gone.at.inside (λ (h : HeldRow). h.placed.at ≢ at) k d before
+    (λ here same. absurd (omega (arith, here, before, only last (omega (arith, before)) same)))
+    (λ other same. other (only k (omega (arith, before)) same)))
+
+-- so a version that somebody holds still has its row.
+pub by_gone : {old new : List HeldRow} {sector at : ℕ} {p : PlacedEntry} {version : HeldRow} → HaveOwnRows old → IsLetGo old new at version
+    → 0 < holders_of new sector → IsHeldBy old sector p → IsHeldBy new sector p
+by_gone {new = new} {sector = sector} {at = at} own gone some by =
+    by_gone_other gone (λ same. absurd (omega (arith, some, ap (holders_of new) same, holders_unheld new at (gone_unheld own gone)))) by
+
+-- What stands in a row afterwards stood in one before.
+by_set_back : {old : List HeldRow} {sector at place : ℕ} {p : PlacedEntry} {version : HeldRow} → IsAtPlace old at place version → (row : HeldRow)
+    → row.placed ≡ version.placed → IsHeldBy (set old place row) sector p → IsHeldBy old sector p
+by_set_back {old = old} {place = place} at row same by =
+    let entry = λ (h : HeldRow). h.placed in record {
+      place = by.place;
+      inside = omega (arith, by.inside, length-set old place row);
+      is = λ d. sym (field_set entry old place row (λ e. same ∙ ap entry (sym (at.is e))) by.place d) ∙ by.is d;
+      its = by.its;
+    }
+
+pub by_left_back : {old new : List HeldRow} {sector at : ℕ} {p : PlacedEntry} → IsLeft old new at → IsHeldBy new sector p → IsHeldBy old sector p
+by_left_back {sector = sector} {p = p} left by = by_set_back left.at (unlisted left.version) refl (subst (λ l. IsHeldBy l sector p) left.is by)
+
+pub by_less_back : {old new : List HeldRow} {sector at : ℕ} {p : PlacedEntry} → IsHeldLess old new at → IsHeldBy new sector p → IsHeldBy old sector p
+by_less_back {sector = sector} {p = p} less by = by_set_back less.at (with_holders less.holders less.version) refl (subst (λ l. IsHeldBy l sector p) less.is by)
+
+pub by_gone_back : {old new : List HeldRow} {sector at : ℕ} {p : PlacedEntry} {version : HeldRow} → IsLetGo old new at version → IsHeldBy new sector p → IsHeldBy old sector p
+by_gone_back {old = old} {sector = sector} {p = p} {version = version} gone by_new =
+    let by = subst (λ l. IsHeldBy l sector p) gone.is by_new in
+    let last = length old - 1 in
+    let count = length-swap_remove old gone.place version gone.at.inside in
+    let before : by.place + 1 < length old = omega (arith, by.inside, count) in
+    let stood = λ (d : HeldRow). swap_remove_cases old gone.place version gone.at.inside
+    (λ (h : HeldRow). (by.place ≡ gone.place → h ≡ get_or old last d) × (by.place ≢ gone.place → h ≡ get_or old by.place d)) by.place d before
+    (λ here. (λ _. refl, λ other. absurd (other here)))
+    (λ other. (λ here. absurd (other here), λ _. refl)) in
     ⊎_elim
-    (λ some. absurd (false≢true (sym (ap is_some none) ∙ ap is_some (ap (λ b. cond b (Some first) None) some))))
-    (λ past.
-    let fails : nat_eq sector (get_or sectors k 0) ≡ false = fails_before_first (nat_eq sector) sectors k 0 (omega (arith, inside, ltb-false first (length sectors) past)) in
-    absurd (false≢true (sym fails ∙ eq-eqb sector (get_or sectors k 0) (sym (row_sector rows k 0 d lt ∙ same)))))
-    (cases_Bool (nat_lt first (length sectors)))
+    (λ here. record {
+      place = last;
+      inside = omega (arith, before);
+      is = λ d. ap (λ (h : HeldRow). h.placed) (sym ((stood d).0 (eqb-true by.place gone.place here))) ∙ by.is d;
+      its = by.its;
+    })
+    (λ other. record {
+      place = by.place;
+      inside = omega (arith, before);
+      is = λ d. ap (λ (h : HeldRow). h.placed) (sym ((stood d).1 (eqb-false by.place gone.place other))) ∙ by.is d;
+      its = by.its;
+    })
+    (cases_Bool (nat_eq by.place gone.place))
 
--- a row that was read where a sector's row stands is that row
-pub row_read : (rows : List Holding) (sector place : ℕ) (row read : Holding) → IsAtPlace rows sector place row → slice_get rows place ≡ Some read → IsAtPlace rows sector place read
-row_read rows sector place row read at is = subst (IsAtPlace rows sector place) (sym (at.is read) ∙ get_or_from_slice_get rows place read read is) at
-
--- so two reads of it are one row
-pub same_read : (rows : List Holding) (place : ℕ) (first second : Holding) → slice_get rows place ≡ Some first → slice_get rows place ≡ Some second → first ≡ second
-same_read rows place first second one two = sym (get_or_from_slice_get rows place first second one) ∙ get_or_from_slice_get rows place second second two
-
--- the rows once one is written by its place in the map,
-values-set : (es : List (ℕ × Holding)) (place : ℕ) (row : Holding) → values_of (set_value_at es place row) ≡ set (values_of es) place row
-values-set [] place row = refl
-values-set (e ∷ es) zero row = refl
-values-set (e ∷ es) (suc place) row = ap (λ l. e.1 ∷ l) (values-set es place row)
-
-module _ {S : Type 0} (rows : IndexMap ℕ Holding S) (old : List Holding) (is : values rows ≡ old) where
-  pub rows_written : (place : ℕ) (row : Holding) → values (with_value_at rows place row) ≡ set old place row
-  rows_written place row = values-set rows.entries place row ∙ ap (λ l. set l place row) is
-
-  -- and the sectors that they stand under
-  pub keys_written : (sector place : ℕ) (was row : Holding) → keys rows ≡ row_sectors (values rows) → IsAtPlace old sector place was
-      → row.placed.at ≡ sector → keys (with_value_at rows place row) ≡ row_sectors (values (with_value_at rows place row))
-  keys_written sector place was row own at its =
-      let same : row.placed.at ≡ (get_or old place row).placed.at = its ∙ sym at.its ∙ ap (λ (h : Holding). h.placed.at) (sym (at.is row)) in
-      keys-with_value_at rows place row ∙ own ∙ ap row_sectors is ∙ sym (map-set_same (λ (h : Holding). h.placed.at) old place row row same) ∙ ap row_sectors (sym (rows_written place row))
-
-  -- what the map has at a row's place
-  pub pair_there : (place : ℕ) → place < length old → slice_get rows.entries place ≡ None → ⊥
-  pair_there place inside none =
-      let within : place < length rows.entries = omega (arith, inside, ap length is, length-map rows.entries (λ (e : ℕ × Holding). e.1)) in
-      none-some (get_or rows.entries place (0, no_holding)) (sym none ∙ slice_get-get_or rows.entries place (0, no_holding) within)
-
-  pub pair_read : (place sector : ℕ) (row : Holding) → slice_get rows.entries place ≡ Some (sector, row) → slice_get old place ≡ Some row
-  pair_read place sector row read = ap (λ l. slice_get l place) (sym is) ∙ slice_get-map (λ (e : ℕ × Holding). e.1) rows.entries place ∙ ap (option_map (λ (e : ℕ × Holding). e.1)) read
-
--- the rows once one goes and the last takes its place, and their sectors
-module _ {S : Type 0} (rows : IndexMap ℕ Holding S) (old : List Holding) (is : values rows ≡ old) (place sector : ℕ) (row : Holding)
-    (some : place < length old) (left : List (ℕ × Holding)) (left_is : left ≡ swap_remove rows.entries place (sector, row)) where
-  entries_some : 0 < length rows.entries
-  entries_some = omega (arith, some, ap length is, length-map rows.entries (λ (e : ℕ × Holding). e.1))
-
-  pub rows_left : values_of left ≡ swap_remove old place row
-  rows_left = ap values_of left_is ∙ map-swap_remove (λ (e : ℕ × Holding). e.1) rows.entries place (sector, row) entries_some ∙ ap (λ l. swap_remove l place row) is
-
-  pub keys_left : keys rows ≡ row_sectors (values rows) → keys_of left ≡ row_sectors (values_of left)
-  keys_left own =
-      let f = λ (h : Holding). h.placed.at in
-      let some_rows : 0 < length old = omega (arith, some) in
-      let some_sectors : 0 < length (row_sectors old) = omega (arith, some, length-map old f) in
-      ap keys_of left_is ∙ map-swap_remove (λ (e : ℕ × Holding). e.0) rows.entries place (sector, row) entries_some ∙ ap (λ l. swap_remove l place sector) (own ∙ ap row_sectors is)
-      ∙ swap_remove-default (row_sectors old) place sector row.placed.at some_sectors ∙ sym (map-swap_remove f old place row some_rows) ∙ ap row_sectors (sym rows_left)
-
--- the rows with one under a new sector, which goes last, and their sectors
-inserted-last : (es : List (ℕ × Holding)) (sector : ℕ) (row : Holding) → All (λ k. k ≢ sector) (keys_of es) → insert_entry nat_eq es sector row ≡ es ++ (sector, row) ∷ []
-inserted-last [] sector row absent = refl
-inserted-last (e ∷ es) sector row absent =
-    let other : nat_eq sector e.0 ≡ false = ne_eqb sector e.0 (λ same. absent 0 0 (omega arith) (sym same)) in
-    ap (λ b. if b then (e.0, row) ∷ es else e ∷ insert_entry nat_eq es sector row) other
-    ∙ ap (λ l. e ∷ l) (inserted-last es sector row (λ k d lt. absent (suc k) d (omega (arith, lt))))
-
-module _ {S : Type 0} (rows : IndexMap ℕ Holding S) (old : List Holding) (is : values rows ≡ old) (own : keys rows ≡ row_sectors (values rows))
-    (sector : ℕ) (row : Holding) (absent : IsUnheld old sector) (new : List (ℕ × Holding))
-    (new_is : new ≡ insert_entry nat_eq rows.entries sector row) where
-  added-last : new ≡ rows.entries ++ (sector, row) ∷ []
-  added-last = new_is ∙ inserted-last rows.entries sector row (subst (All (λ k. k ≢ sector)) (sym (own ∙ ap row_sectors is)) (All-map (λ k. k ≢ sector) (λ (h : Holding). h.placed.at) old absent))
-
-  pub rows_added : values_of new ≡ old ++ row ∷ []
-  rows_added = ap values_of added-last ∙ map-append (λ (e : ℕ × Holding). e.1) rows.entries ((sector, row) ∷ []) ∙ ap (λ l. l ++ row ∷ []) is
-
-  pub keys_added : row.placed.at ≡ sector → keys_of new ≡ row_sectors (values_of new)
-  keys_added its =
-      ap keys_of added-last ∙ map-append (λ (e : ℕ × Holding). e.0) rows.entries ((sector, row) ∷ []) ∙ ap (λ l. l ++ sector ∷ []) (own ∙ ap row_sectors is)
-      ∙ ap (λ k. row_sectors old ++ k ∷ []) (sym its) ∙ sym (map-append (λ (h : Holding). h.placed.at) old (row ∷ [])) ∙ ap row_sectors (sym rows_added)
+-- Somebody holds what has a row.
+pub by_some : {entries : List PlacedEntry} {held : List HeldRow} {sector : ℕ} {p : PlacedEntry} → AreHeldRows entries held → IsHeldBy held sector p → 0 < holders_of held sector
+by_some {held = held} {sector = sector} are by =
+    let row = get_or held by.place no_row in
+    let its : (row.placed.at == sector) ≡ true = eq-eqb row.placed.at sector (ap (λ (placed : PlacedEntry). placed.at) (by.is no_row) ∙ by.its) in
+    omega (
+      arith,
+      (are.each by.place no_row by.inside).some,
+      ap (λ b. if b then row.holders else 0) its,
+      get_or-le-sum_by (holders_at sector) held by.place no_row by.inside,
+    )

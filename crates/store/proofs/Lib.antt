@@ -17,11 +17,11 @@ pub mod FreeSpaces
 pub mod Frees
 pub mod Given
 pub mod GivenUp
-pub mod Handles
 pub mod HeldRows
-pub mod Holders
-pub mod Holdings
+pub mod HeldVersions
 pub mod IsReadLemmas
+pub mod KeepsHolders
+pub mod KeyedRows
 pub mod Libraries
 pub mod Listings
 pub mod NameIndex

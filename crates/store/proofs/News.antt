@@ -26,8 +26,8 @@ use Rattle.states.specs.State.{Library, State}
 use Rattle.store.specs.declared.placed_entry.PlacedEntry.{PlacedEntry}
 use Rattle.store.specs.Stands.{HasRoom, HaveOwnNames, catalogues_of, entry_sectors, name_of, extents_of, sectors_of, used, library_of, no_library, names_at}
 use Rattle.store.specs.inside.Claimed.{IsClaimedBeside, IsUsable}
-use Rattle.store.specs.declared.holding.Holding.{Holding}
-use Rattle.store.specs.Held.{lone_sectors}
+use Rattle.store.specs.declared.held_versions.HeldRow.{HeldRow}
+use Rattle.store.specs.HeldVersions.{lone_sectors}
 use Rattle.store.specs.inside.Kept.{IsKept}
 use Rattle.store.specs.declared.change.Staged.TheVariants.{Put}
 use Rattle.store.specs.inside.Change.{IsFollowed}
@@ -42,7 +42,7 @@ use Rattle.store.proofs.Rooms.{kept_sectors}
 use Rattle.store.proofs.Written.{written_bytes}
 
 -- One more entry, in room that was claimed for it and for the catalogues of the list with it, and the root that follows.
-pub record IsNew (root : Root) (entries : List PlacedEntry) (held : List Holding) (old new : List Bool) (catalogues : List ℕ) (put : PlacedEntry) (next : Root) : Type 0 where
+pub record IsNew (root : Root) (entries : List PlacedEntry) (held : List HeldRow) (old new : List Bool) (catalogues : List ℕ) (put : PlacedEntry) (next : Root) : Type 0 where
   pub kept : IsKept root entries held old
   pub claimed : IsClaimedBeside old new (sectors_of put ++ catalogues)
   pub fits : EntryHasSpelling put.entry
@@ -58,7 +58,7 @@ pub free_room : {T : Type 0} {x : T} {free needed : ℕ} → (◌≡◌ {A = Res
 free_room {free = free} {needed = needed} full = ⊎_elim (λ few. absurd (ok_or_err (full.1 few))) (λ enough. enough) (cases_lt free needed)
 
 -- An entry and catalogues in room that was claimed for them have their places.
-pub room_place : {root : Root} {entries : List PlacedEntry} {held : List Holding} {layout new : List Bool} {catalogues : List ℕ} {put : PlacedEntry}
+pub room_place : {root : Root} {entries : List PlacedEntry} {held : List HeldRow} {layout new : List Bool} {catalogues : List ℕ} {put : PlacedEntry}
     {extents : List Extent} {n : ℕ} → IsKept root entries held layout → IsClaimedBeside layout new (sectors_of put ++ catalogues)
     → EntryHasSpelling put.entry
     → extents_of put.entry ≡ extents → All (IsOnDisk (length layout)) extents → AllPairs IsApart extents → n ≡ root.sectors → HasPlace n put catalogues
@@ -97,7 +97,7 @@ names_at_more libraries library (p ∷ positions) inside =
     let there = names_at_more libraries library positions (λ k d lt. inside (suc k) d (omega (arith, lt))) in
     λ i. (here i).name ∷ there i
 
-module _ {root : Root} {entries : List PlacedEntry} {held : List Holding} {layout new : List Bool} {catalogues : List ℕ} {put : PlacedEntry}
+module _ {root : Root} {entries : List PlacedEntry} {held : List HeldRow} {layout new : List Bool} {catalogues : List ℕ} {put : PlacedEntry}
     {next : Root} (is_new : IsNew root entries held layout new catalogues put next) where
   kept : IsKept root entries held layout
   kept = is_new.kept

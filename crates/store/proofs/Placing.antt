@@ -12,8 +12,8 @@ use Rattle.roots.specs.declared.root.Root.{Root}
 use Rattle.roots.specs.Entry.{IsDataExtent}
 use Rattle.store.specs.declared.placed_entry.PlacedEntry.{PlacedEntry}
 use Rattle.store.specs.Taken.{AreTaken, IsTaken}
-use Rattle.store.specs.declared.holding.Holding.{Holding}
-use Rattle.store.specs.Held.{in_use}
+use Rattle.store.specs.declared.held_versions.HeldRow.{HeldRow}
+use Rattle.store.specs.HeldVersions.{in_use}
 use Rattle.store.specs.inside.Kept.{IsKept}
 use Rattle.store.proofs.Anew.{all_usable}
 
@@ -48,7 +48,7 @@ singles_same (k ∷ ks) a b same taken = (
   singles_same ks (with_flag true (one_sector k) a) (with_flag true (one_sector k) b) (same_more a b k same taken.0.0) taken.1,
 )
 
-module _ (root : Root) (entries : List PlacedEntry) (held : List Holding) (layout : List Bool) (kept : IsKept root entries held layout) where
+module _ (root : Root) (entries : List PlacedEntry) (held : List HeldRow) (layout : List Bool) (kept : IsKept root entries held layout) where
   abbrev sectors_in_use : List ℕ
   sectors_in_use = in_use root entries held
 

@@ -18,8 +18,8 @@ use Rattle.store.specs.Stands.{HasRoom, catalogues_in, catalogues_of, entry_sect
 use Rattle.store.specs.Taken.{AreTaken}
 use Rattle.store.specs.Upgraded.{upgraded}
 use Rattle.store.specs.inside.Claimed.{IsClaimedBeside}
-use Rattle.store.specs.declared.holding.Holding.{Holding}
-use Rattle.store.specs.Held.{in_use, lone_sectors}
+use Rattle.store.specs.declared.held_versions.HeldRow.{HeldRow}
+use Rattle.store.specs.HeldVersions.{in_use, lone_sectors}
 use Rattle.store.specs.inside.Kept.{IsKept}
 use Rattle.store.specs.declared.change.Staged.TheVariants.{Catalogues}
 use Rattle.store.specs.inside.Change.{IsFollowed}
@@ -41,7 +41,7 @@ few_old libraries disk (InRoot sectors) is fits = fits.listed.room
 few_old libraries disk (InCatalogues count listed) is fits = absurd (cc is)
 
 -- Catalogues were claimed for the entries that a root of version 1 lists, and the next root lists these.
-pub record IsRelist (root : Root) (entries : List PlacedEntry) (held : List Holding) (layout mid : List Bool) (catalogues : List ℕ) (next : Root) : Type 0 where
+pub record IsRelist (root : Root) (entries : List PlacedEntry) (held : List HeldRow) (layout mid : List Bool) (catalogues : List ℕ) (next : Root) : Type 0 where
   pub kept : IsKept root entries held layout
   pub one : version_of root ≡ One
   pub claimed : IsClaimedBeside layout mid catalogues
@@ -50,7 +50,7 @@ pub record IsRelist (root : Root) (entries : List PlacedEntry) (held : List Hold
   pub later : root.generation + 1 < 2 ^ 64
   pub is_next : next ≡ next_root root (length entries) catalogues (listed_preloads root)
 
-module _ {root : Root} {entries : List PlacedEntry} {held : List Holding} {layout mid : List Bool} {catalogues : List ℕ} {next : Root}
+module _ {root : Root} {entries : List PlacedEntry} {held : List HeldRow} {layout mid : List Bool} {catalogues : List ℕ} {next : Root}
     (is : IsRelist root entries held layout mid catalogues next) where
   none : catalogues_of root ≡ []
   none = none_in root.list is.one

@@ -23,8 +23,8 @@ use Rattle.states.specs.Changes.{libraries_without, without}
 use Rattle.store.specs.declared.placed_entry.PlacedEntry.{PlacedEntry}
 use Rattle.store.specs.Stands.{HasRoom, catalogues_of, entry_sectors, name_of, sectors_of, used, library_of, no_library, names_at}
 use Rattle.store.specs.inside.Claimed.{IsClaimedBeside}
-use Rattle.store.specs.declared.holding.Holding.{Holding}
-use Rattle.store.specs.Held.{lone_sectors}
+use Rattle.store.specs.declared.held_versions.HeldRow.{HeldRow}
+use Rattle.store.specs.HeldVersions.{lone_sectors}
 use Rattle.store.specs.inside.Kept.{IsKept}
 use Rattle.store.specs.inside.NameIndex.{closed_up}
 use Rattle.store.specs.declared.change.Staged.TheVariants.{Catalogues}
@@ -63,7 +63,7 @@ names_closed libraries gone (p ∷ positions) fits others =
     λ i. (here i).name ∷ there i
 
 -- A store of version 2 has room for the catalogues of the next change, and for those of fewer byte strings.
-pub catalogues_fit : (root : Root) (entries : List PlacedEntry) (held : List Holding) (layout : List Bool) → IsKept root entries held layout
+pub catalogues_fit : (root : Root) (entries : List PlacedEntry) (held : List HeldRow) (layout : List Bool) → IsKept root entries held layout
     → version_of root ≡ Two → catalogues_for (length entries) ≤ free_count layout
 catalogues_fit root entries held layout kept two = omega (
   arith,
@@ -74,7 +74,7 @@ catalogues_fit root entries held layout kept two = omega (
 )
 
 -- The entry of a name goes, which is no preload's, and the next root lists the others by catalogues that were claimed.
-pub record IsRemoval (root : Root) (entries : List PlacedEntry) (held : List Holding) (layout mid : List Bool) (name : List ℕ) (gone : ℕ) (catalogues : List ℕ) (next : Root) : Type 0 where
+pub record IsRemoval (root : Root) (entries : List PlacedEntry) (held : List HeldRow) (layout mid : List Bool) (name : List ℕ) (gone : ℕ) (catalogues : List ℕ) (next : Root) : Type 0 where
   pub kept : IsKept root entries held layout
   pub two : version_of root ≡ Two
   pub claimed : IsClaimedBeside layout mid catalogues
@@ -85,7 +85,7 @@ pub record IsRemoval (root : Root) (entries : List PlacedEntry) (held : List Hol
   pub enough : length catalogues ≡ catalogues_for (length entries - 1)
   pub is_next : next ≡ next_root root (length entries - 1) catalogues (map (closed_up gone) (listed_preloads root))
 
-module _ {root : Root} {entries : List PlacedEntry} {held : List Holding} {layout mid : List Bool} {name : List ℕ} {gone : ℕ} {catalogues : List ℕ}
+module _ {root : Root} {entries : List PlacedEntry} {held : List HeldRow} {layout mid : List Bool} {name : List ℕ} {gone : ℕ} {catalogues : List ℕ}
     {next : Root} (removal : IsRemoval root entries held layout mid name gone catalogues next) where
   kept : IsKept root entries held layout
   kept = removal.kept

@@ -23,8 +23,8 @@ use Rattle.states.specs.State.{Library, State}
 use Rattle.store.specs.declared.placed_entry.PlacedEntry.{PlacedEntry}
 use Rattle.store.specs.Stands.{HasRoom, HaveOwnNames, catalogues_of, entry_sectors, name_of, extents_of, sectors_of, used, library_of, no_library, names_at}
 use Rattle.store.specs.inside.Claimed.{IsClaimedBeside}
-use Rattle.store.specs.declared.holding.Holding.{Holding}
-use Rattle.store.specs.Held.{lone_sectors}
+use Rattle.store.specs.declared.held_versions.HeldRow.{HeldRow}
+use Rattle.store.specs.HeldVersions.{lone_sectors}
 use Rattle.store.specs.inside.Kept.{IsKept}
 use Rattle.store.specs.declared.change.Staged.TheVariants.{Put}
 use Rattle.store.specs.inside.Change.{IsFollowed}
@@ -96,7 +96,7 @@ libraries_with_is m name bytes (e ∷ entries) (suc place) entry fits before at 
     ∙ ap (λ l. library_of m e ∷ l) (libraries_with_is m name bytes entries place entry (omega (arith, fits)) (λ k d lt. before (suc k) d (omega (arith, lt))) at is)
 
 -- The entry of a name gives its place to another of the name, in room that was claimed for it and for the catalogues of the list.
-pub record IsReplacement (root : Root) (entries : List PlacedEntry) (held : List Holding) (layout mid : List Bool) (name : List ℕ) (place : ℕ)
+pub record IsReplacement (root : Root) (entries : List PlacedEntry) (held : List HeldRow) (layout mid : List Bool) (name : List ℕ) (place : ℕ)
     (catalogues : List ℕ) (put : PlacedEntry) (next : Root) : Type 0 where
   pub kept : IsKept root entries held layout
   pub two : version_of root ≡ Two
@@ -110,7 +110,7 @@ pub record IsReplacement (root : Root) (entries : List PlacedEntry) (held : List
   pub room : cost put.entry.file_length + length catalogues ≤ free_count layout
   pub is_next : next ≡ next_root root (length entries) catalogues (listed_preloads root)
 
-module _ {root : Root} {entries : List PlacedEntry} {held : List Holding} {layout mid : List Bool} {name : List ℕ} {place : ℕ} {catalogues : List ℕ}
+module _ {root : Root} {entries : List PlacedEntry} {held : List HeldRow} {layout mid : List Bool} {name : List ℕ} {place : ℕ} {catalogues : List ℕ}
     {put : PlacedEntry} {next : Root} (is : IsReplacement root entries held layout mid name place catalogues put next) where
   kept : IsKept root entries held layout
   kept = is.kept

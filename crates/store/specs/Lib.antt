@@ -1,9 +1,7 @@
 pub mod Stands
 pub mod NameOrder
-pub mod Held
 pub mod Opened
-pub mod Holders
-pub mod Holding
+pub mod HeldVersions
 pub mod Opening
 pub mod Opens
 pub mod Looked

@@ -1,5 +1,5 @@
 -- A store in memory, and when it is at a state.
-use Rattle.std.specs.Prelude.{Bool, ℕ, ◌-◌, List, length, IsTrue, IsFalse, Result, Ok, Err}
+use Rattle.std.specs.Prelude.{Bool, List, IsTrue, IsFalse, Result, Ok, Err}
 use Rattle.sector_disk.specs.Disk.{Sector, DiskFacts, Mixture}
 use Rattle.roots.specs.declared.root.Root.{Root}
 use Rattle.roots.specs.declared.version.Version.{Version}
@@ -7,10 +7,8 @@ use Rattle.roots.specs.declared.version.Version.TheVariants.{One, Two}
 use Rattle.store.specs.declared.placed_entry.PlacedEntry.{PlacedEntry}
 use Rattle.store.specs.declared.refusal.StoreRefusal.{StoreRefusal}
 use Rattle.states.specs.State.{State}
-use Rattle.extents.specs.Used.{layout_of}
-use Rattle.store.specs.declared.holding.Holding.{Holding}
+use Rattle.store.specs.declared.held_versions.HeldRow.{HeldRow}
 use Rattle.store.specs.Stands.{StandsBy}
-use Rattle.store.specs.Held.{in_use, lone_sectors}
 
 -- what a store keeps: its disk, the current root, its entries with their sectors, what is held,
 -- and whether a write or a sync failed
@@ -18,16 +16,8 @@ pub record Opened (D : Type 0) : Type 0 where
   pub disk : D
   pub root : Root
   pub entries : List PlacedEntry
-  pub held : List Holding
+  pub held : List HeldRow
   pub failed : Bool
-
--- the layout of its disk, in which exactly the sectors in use are claimed
-abbrev pub layout_in_use : {D : Type 0} → Opened D → List Bool
-layout_in_use store = layout_of store.root.sectors (in_use store.root store.entries store.held)
-
--- how many sectors there are for the state: all but those that holders alone use
-abbrev pub room_of : {D : Type 0} → Opened D → ℕ
-room_of store = store.root.sectors - length (lone_sectors store.held)
 
 -- The store is at a state by a root of this version: every mixture of its disk holds it.
 pub record IsAtBy (version : Version) {D : Type 0} (facts : D → DiskFacts) (store : Opened D) (s : State) : Type 0 where

@@ -11,7 +11,8 @@ use Rattle.extents.specs.declared.refusal.TakeRefusal.{TakeRefusal}
 use Rattle.extents.specs.declared.refusal.TakeRefusal.TheVariants as take
 use Rattle.states.specs.State.{State}
 use Rattle.states.specs.Cost.{cost, catalogue_cost, free, taken_by}
-use Rattle.store.specs.Opened.{Opened, layout_in_use}
+use Rattle.store.specs.Opened.{Opened}
+use Rattle.store.specs.HeldVersions.{layout_in_use}
 
 -- how many sectors the 32 longest free runs have: as many runs as a byte string may have extents
 abbrev pub longest_free : {D : Type 0} → Opened D → ℕ

@@ -11,7 +11,8 @@ use Rattle.extents.specs.Taken.{taken}
 use Rattle.extents.specs.Used.{layout_of}
 use Rattle.passes.specs.Bytes.{bytes_at, padded}
 use Rattle.store.specs.declared.placed_entry.PlacedEntry.{PlacedEntry}
-use Rattle.store.specs.Opened.{Opened, layout_in_use}
+use Rattle.store.specs.Opened.{Opened}
+use Rattle.store.specs.HeldVersions.{layout_in_use}
 use Rattle.store.specs.Stands.{name_of, extents_of, catalogues_of, used}
 
 -- single sectors of this layout are taken: each in its turn is the lowest free one

@@ -4,7 +4,7 @@ pub mod Change
 pub mod Claimed
 pub mod First
 pub mod Found
-pub mod Holdings
+pub mod HeldRows
 pub mod Kept
 pub mod NameIndex
 pub mod Next

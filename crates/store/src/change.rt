@@ -12,7 +12,7 @@ ghost use Rattle.store.specs.declared.placed_entry.PlacedEntry.{PlacedEntry};
 ghost use Rattle.store.specs.Stands.{StandsBy, StandsAs, Stands};
 ghost use Rattle.store.specs.inside.Change.{CanBeStaged, HasBytes, HasSpelling, IsFollowed};
 ghost use Rattle.store.specs.inside.Change.{IsStaged, staged_calls, staged_sectors};
-ghost use Rattle.store.specs.inside.Room.{AreHeld, IsReleased, IsRootOr};
+ghost use Rattle.store.specs.inside.Room.{AreClaimedOnce, IsReleased, IsRootOr};
 
 use crate::catalogues::Singles;
 use crate::placed_entry::PlacedEntry;
@@ -126,7 +126,7 @@ impl Change {
     /// Frees the sectors that it took.
     pub(crate) fn give_back(&self, layout: &mut Layout)
         requires fits { HasSpelling self.now.staged }
-        requires held { AreHeld layout.old (staged_sectors self.now.staged) }
+        requires held { AreClaimedOnce layout.old (staged_sectors self.now.staged) }
         ensures { IsReleased layout.old layout.new (staged_sectors self.now.staged) }
     {
         match &self.staged {

@@ -50,7 +50,8 @@ impl<D: Disk> Store<D> {
     ghost use Rattle.states.specs.Cost.{catalogues_for, free};
     ghost use Rattle.states.specs.State.{State};
     ghost use Rattle.store.specs.Names.{IsFileSize};
-    ghost use Rattle.store.specs.Opened.{IsAt, layout_in_use, room_of};
+    ghost use Rattle.store.specs.Opened.{IsAt};
+    ghost use Rattle.store.specs.HeldVersions.{layout_in_use, room_of};
     ghost use Rattle.store.specs.Step.{longest_free, refusal_of_new};
 
     /// The greatest length in bytes of a byte string that a put under a new name would take now,

@@ -1,30 +1,38 @@
 // The table of the versions that somebody holds.
 ghost use Rattle.std.specs.Prelude.{◌≡◌, ◌⊎◌, [], IsTrue, IsFalse, IsNone};
 ghost use Rattle.std.specs.Prelude.{IfSome, IfErr, OnOk, OnErr};
-ghost use Rattle.store.specs.declared.holding.Holding.{Holding};
-ghost use Rattle.store.specs.Held.{IsHeldBy};
-ghost use Rattle.store.specs.inside.Holdings.{IsUnheld, IsAtPlace, IsHeldOnce, IsHeldMore};
-ghost use Rattle.store.specs.inside.Holdings.{IsLeft, IsHeldLess, IsLetGo};
+ghost use Rattle.store.specs.declared.held_versions.HeldRow.{HeldRow};
+ghost use Rattle.store.specs.HeldVersions.{IsHeldBy};
+ghost use Rattle.store.specs.inside.HeldRows.{IsUnheld, IsAtPlace, IsHeldOnce, IsHeldMore};
+ghost use Rattle.store.specs.inside.HeldRows.{IsLeft, IsHeldLess, IsLetGo};
 
-use crate::holding::Holding;
 use crate::placed_entry::PlacedEntry;
 use crate::refusal::StoreRefusal;
 use indexmap::IndexMap;
 use std::alloc::Global;
 use std::marker::Model;
 
+/// A version of a byte string that somebody holds: its entry, how many hold it, and whether the
+/// state lists it.
+#[derive(Clone, Copy)]
+pub struct HeldRow {
+    pub placed: PlacedEntry,
+    pub holders: u64,
+    pub listed: bool,
+}
+
 /// The versions that somebody holds, one row each, found by the sector of their entry.
 #[derive(Drop)]
 pub(crate) struct HeldVersions {
-    rows: IndexMap<u32, Holding>,
+    rows: IndexMap<u32, HeldRow>,
 }
 
 impl Model for HeldVersions {
     ghost use Rattle.std.specs.Prelude.{◌≡◌, List, map};
     ghost use Rattle.indexmap.specs.IndexMap.{keys, values};
-    ghost use Rattle.store.specs.declared.holding.Holding.{Holding};
+    ghost use Rattle.store.specs.declared.held_versions.HeldRow.{HeldRow};
 
-    ghost Value = { List Holding };
+    ghost Value = { List HeldRow };
 
     ghost view = { λ held. values held.rows };
 
@@ -44,8 +52,8 @@ impl HeldVersions {
     /// The place of the row with this entry sector.
     fn place_of(&self, sector: u32) -> Option<usize>
         ensures none { IsNone result → IsUnheld self.now sector }
-        ensures some { IfSome result (λ place. (holding : Holding)
-            × IsAtPlace self.now sector place holding) }
+        ensures some { IfSome result (λ place. (version : HeldRow)
+            × IsAtPlace self.now sector place version) }
     {
         self.rows.get_index_of(&sector)
     }
@@ -66,7 +74,7 @@ impl HeldVersions {
         ensures err { OnErr result (self.new ≡ self.old) }
         ensures refusals { IfErr result (λ e. e ≡ StoreRefusal.OutOfMemory) }
     {
-        let first = Holding {
+        let first = HeldRow {
             placed: *placed,
             holders: 1,
             listed: true,
@@ -110,7 +118,7 @@ impl HeldVersions {
 
     /// One less holds the version with this entry sector. The version, where nobody does now. It
     /// takes no memory, and moves one row at most.
-    pub(crate) fn let_go(&mut self, sector: u32) -> Option<Holding>
+    pub(crate) fn let_go(&mut self, sector: u32) -> Option<HeldRow>
         ensures none { IsNone result → (IsHeldLess self.old self.new sector)
             ⊎ ((IsUnheld self.old sector) × (self.new ≡ self.old)) }
         ensures some { IfSome result (IsLetGo self.old self.new sector) }
@@ -120,7 +128,7 @@ impl HeldVersions {
             self.rows[place].holders -= 1;
             return None;
         }
-        let (_, holding) = self.rows.swap_remove_index(place)?;
-        Some(holding)
+        let (_, version) = self.rows.swap_remove_index(place)?;
+        Some(version)
     }
 }

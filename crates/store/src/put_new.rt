@@ -15,9 +15,9 @@ impl<D: Disk> Store<D> {
     ghost use Rattle.sector_disk.specs.Disk.{sector_bytes, LeavesOnly};
     ghost use Rattle.states.specs.Cost.{catalogues_for};
     ghost use Rattle.store.specs.Changed.{Changed};
-    ghost use Rattle.store.specs.Holders.{KeepsHeld};
+    ghost use Rattle.store.specs.HeldVersions.{KeepsHeld, room_of};
     ghost use Rattle.store.specs.Names.{IsName, IsFileSize, LacksName};
-    ghost use Rattle.store.specs.Opened.{IsAt, room_of};
+    ghost use Rattle.store.specs.Opened.{IsAt};
     ghost use Rattle.store.specs.Taken.{IsPutBehind};
     ghost use Rattle.store.specs.Stands.{Stands};
     ghost use Rattle.states.specs.State.{State};

@@ -5,12 +5,16 @@ use crate::sectors::copy;
 use crate::seen::given;
 use sector_disk::{Fuse, Memory};
 use std::process::Abort;
-use store::{Held, Store, StoreRefusal};
+use store::{HeldVersion, Store, StoreRefusal};
 
 // Holds the byte string at a position.
-fn hold(rt: &(impl Abort + AllocGlobal), store: &mut Store<Memory>, position: usize) -> Held {
+fn hold(
+    rt: &(impl Abort + AllocGlobal),
+    store: &mut Store<Memory>,
+    position: usize,
+) -> HeldVersion {
     assert!(rt; position < store.count());
-    store.hold(position).expect(rt, "what is held")
+    store.hold_version(position).expect(rt, "what is held")
 }
 
 // The store on 8 sectors with a byte string of 344 ones, whose sixth call fails: the first one
@@ -24,18 +28,18 @@ fn failing(rt: &(impl Abort + AllocGlobal)) -> Store<Fuse<Memory>> {
 fn hold_first(
     rt: &(impl Abort + AllocGlobal),
     store: &mut Store<Fuse<Memory>>,
-) -> Result<Held, StoreRefusal> {
+) -> Result<HeldVersion, StoreRefusal> {
     assert!(rt; store.count() == 1);
-    store.hold(0)
+    store.hold_version(0)
 }
 
 #[test]
 fn a_read_that_fails_is_made_again(rt: HostRuntime) {
     let mut store = failing(&rt);
     let held = hold_first(&rt, &mut store).expect(&rt, "what is held");
-    let failed = given(store.read_held(rt.alloc(), &held));
-    let read = given(store.read_held(rt.alloc(), &held));
-    store.let_go(held);
+    let failed = given(store.read_version(rt.alloc(), &held));
+    let read = given(store.read_version(rt.alloc(), &held));
+    store.let_version_go(held);
     let _ = store.into_disk();
     assert!(rt; failed == Err(StoreRefusal::Device) && read == Ok((344, Some(1))));
 }
@@ -56,10 +60,10 @@ fn after_a_failed_change_nothing_is_read(rt: HostRuntime) {
     let failed = make(&rt, &mut store, Put(0, 2, 344));
     let refusals = [
         read_first(&rt, &mut store),
-        store.read_held(rt.alloc(), &held).err(),
+        store.read_version(rt.alloc(), &held).err(),
         make(&rt, &mut store, ChooseNone),
     ];
-    store.let_go(held);
+    store.let_version_go(held);
     let _ = store.into_disk();
     assert!(rt; failed == Some(StoreRefusal::Device));
     assert!(rt; refusals == [Some(StoreRefusal::Reopen); 3]);
@@ -72,8 +76,8 @@ fn a_handle_of_another_store_reads_nothing(rt: HostRuntime) {
     let mut other = opened(&rt, copy(&rt, &disk));
     let mut store = opened(&rt, disk);
     let held = hold(&rt, &mut store, 0);
-    let read = given(other.read_held(rt.alloc(), &held));
-    other.let_go(held);
+    let read = given(other.read_version(rt.alloc(), &held));
+    other.let_version_go(held);
     let _ = other.into_disk();
     let _ = store.into_disk();
     assert!(rt; read == Err(StoreRefusal::Damaged));

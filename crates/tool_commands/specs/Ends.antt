@@ -7,7 +7,8 @@ use Rattle.requests.specs.Library.{IsLibrary}
 use Rattle.sector_disk.specs.Disk.{DiskFacts}
 use Rattle.states.specs.State.{State}
 use Rattle.store.specs.Names.{IsFileSize}
-use Rattle.store.specs.Opened.{IsAt, Opened, layout_in_use}
+use Rattle.store.specs.Opened.{IsAt, Opened}
+use Rattle.store.specs.HeldVersions.{layout_in_use}
 use Rattle.store.specs.Opening.{RefusesOpen}
 use Rattle.store.specs.Stands.{Stands, no_library}
 use Rattle.store.specs.Step.{longest_free, refusal_of_new}

@@ -6,11 +6,11 @@ use Rattle.roots.specs.declared.root.Root.{Root}
 use Rattle.roots.specs.Root.{RootHasSpelling}
 use Rattle.roots.specs.Entry.{EntryHasSpelling}
 use Rattle.store.specs.declared.placed_entry.PlacedEntry.{PlacedEntry}
-use Rattle.store.specs.declared.holding.Holding.{Holding}
-use Rattle.store.specs.Held.{lone_sectors}
+use Rattle.store.specs.declared.held_versions.HeldRow.{HeldRow}
+use Rattle.store.specs.HeldVersions.{lone_sectors}
 use Rattle.store.specs.Stands.{used, UsesApart, HasRoom, HaveOwnNames}
 use Rattle.store.specs.inside.Claimed.{IsUsable}
-use Rattle.store.specs.inside.Holdings.{AreHoldings}
+use Rattle.store.specs.inside.HeldRows.{AreHeldRows}
 
 -- each entry has a spelling
 abbrev pub HaveSpellings : List PlacedEntry → Type 0
@@ -23,7 +23,7 @@ pub record AreClaimed (sectors : ℕ) (layout : List Bool) (used lone : List ℕ
   pub once : AreDistinct (used ++ lone)
   pub claims : ClaimsJust layout (used ++ lone)
 
-pub record IsKept (root : Root) (entries : List PlacedEntry) (held : List Holding) (layout : List Bool) : Type 0 where
+pub record IsKept (root : Root) (entries : List PlacedEntry) (held : List HeldRow) (layout : List Bool) : Type 0 where
   pub root_fits : RootHasSpelling root
   pub size : length layout ≡ root.sectors
   pub counted : length entries ≡ root.library_count
@@ -32,5 +32,5 @@ pub record IsKept (root : Root) (entries : List PlacedEntry) (held : List Holdin
   -- beside the sectors that holders alone use there is room for the catalogues of the next change
   pub room : HasRoom (root.sectors - length (lone_sectors held)) root.list entries
   pub names : HaveOwnNames entries
-  pub rows : AreHoldings entries held
+  pub rows : AreHeldRows entries held
   pub claimed : AreClaimed root.sectors layout (used root entries) (lone_sectors held)

@@ -7,17 +7,17 @@ use Rattle.passes.specs.Bytes.{IsOnDisk}
 use Rattle.roots.specs.Entry.{EntryHasSpelling}
 use Rattle.store.specs.declared.placed_entry.PlacedEntry.{PlacedEntry}
 use Rattle.store.specs.Stands.{extents_of, sectors_of}
-use Rattle.store.specs.declared.holding.Holding.{Holding}
+use Rattle.store.specs.declared.held_versions.HeldRow.{HeldRow}
 use Rattle.store.specs.inside.Claimed.{IsUsable}
-use Rattle.store.specs.inside.Holdings.{IsLeft, IsUnheld}
+use Rattle.store.specs.inside.HeldRows.{IsLeft, IsUnheld}
 
 -- a root sector, or one of these
 abbrev pub IsRootOr : List ℕ → ℕ → Type 0
 IsRootOr places k = (k < root_sectors) ⊎ Contains places k
 
 -- these sectors are claimed, beside others, and each of them once
-abbrev pub AreHeld : List Bool → List ℕ → Type 0
-AreHeld layout gone = (kept : List ℕ) × ClaimsJust layout (kept ++ gone) × AreDistinct (kept ++ gone) × All (IsUsable (length layout)) gone
+abbrev pub AreClaimedOnce : List Bool → List ℕ → Type 0
+AreClaimedOnce layout gone = (kept : List ℕ) × ClaimsJust layout (kept ++ gone) × AreDistinct (kept ++ gone) × All (IsUsable (length layout)) gone
 
 -- These sectors are free now, and the others are claimed as they were.
 pub record IsReleased (old new : List Bool) (gone : List ℕ) : Type 0 where
@@ -26,7 +26,7 @@ pub record IsReleased (old new : List Bool) (gone : List ℕ) : Type 0 where
 
 -- The state uses an entry's sectors and those of catalogues no longer. They are free now, but for
 -- the entry's where somebody holds it.
-abbrev pub IsGivenUp : (held left : List Holding) (old new : List Bool) (placed : PlacedEntry) (catalogues : List ℕ) → Type 0
+abbrev pub IsGivenUp : (held left : List HeldRow) (old new : List Bool) (placed : PlacedEntry) (catalogues : List ℕ) → Type 0
 IsGivenUp held left old new placed catalogues =
     (IsLeft held left placed.at × IsReleased old new catalogues)
     ⊎ (IsUnheld held placed.at × (left ≡ held) × IsReleased old new (sectors_of placed ++ catalogues))

@@ -5,7 +5,7 @@ use Rattle.snapshots.proofs.Releases.{none_gone, one_gone}
 use Rattle.snapshots.proofs.release.release.Goals as goal
 
 pub loop-held-init : goal.loop-held-init
-loop-held-init g c = ([], append-nil c.args.handles.items, none_gone g.D.Disk.facts c.count.ensures.holders c.count.ensures.flags)
+loop-held-init g c = ([], append-nil c.args.handles.items, none_gone g.D.Disk.facts c.versions_are_sound.ensures)
 
 pub loop-held-preserved : goal.loop-held-preserved
 loop-held-preserved g c =
@@ -13,7 +13,7 @@ loop-held-preserved g c =
     let handle = c.in-Some.held in (
       handle ∷ gone,
       sym (append_assoc c.pop.new.self.items (handle ∷ []) gone) ∙ ap (λ l. l ++ gone) (sym c.in-Some.ensures.items) ∙ c.loop-held.invariant.1,
-      one_gone g.D.Disk.facts handle gone c.loop-held.invariant.2 c.let_go.ensures,
+      one_gone g.D.Disk.facts handle gone c.loop-held.invariant.2 c.let_version_go.ensures,
     )
 
 pub returns : goal.returns

@@ -2,7 +2,7 @@ use Rattle.std.proofs.Common.{◌∷◌, [], All, sym, subst}
 use Rattle.extents.specs.Extent.{places}
 use Rattle.store.specs.Stands.{extents_of, sectors_of}
 use Rattle.store.specs.inside.Claimed.{IsFilled}
-use Rattle.store.specs.inside.Room.{AreHeld, IsReleased}
+use Rattle.store.specs.inside.Room.{AreClaimedOnce, IsReleased}
 use Rattle.store.proofs.Releases.{held_some, held_rest, released_some, released_rest}
 use Rattle.store.proofs.room.give_back.Goals as goal
 
@@ -15,7 +15,7 @@ release_extents-requires-clause-held c =
     let mid = c.release_sectors.new.layout in
     let own = c.args.placed.now.at ∷ [] in
     let bytes = places (extents_of c.args.placed.now.entry) in
-    subst (λ l. AreHeld mid (places l)) (sym c.file_extents.ensures)
+    subst (λ l. AreClaimedOnce mid (places l)) (sym c.file_extents.ensures)
     (held_rest old mid (sectors_of c.args.placed.now) bytes c.requires.held (released_some old own bytes mid c.release_sectors.ensures))
 
 pub release_extents-requires-clause-filled : goal.release_extents-requires-clause-filled

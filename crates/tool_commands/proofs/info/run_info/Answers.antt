@@ -1,7 +1,7 @@
 use Rattle.std.proofs.Common.{◌≡◌, length, subst}
 use Rattle.extents.specs.Layout.{free_count}
 use Rattle.extents.specs.Runs.{free_runs}
-use Rattle.store.specs.Opened.{layout_in_use}
+use Rattle.store.specs.HeldVersions.{layout_in_use}
 use Rattle.program_parts.specs.declared.status.Status.TheVariants.{Done}
 use Rattle.program_parts.specs.Told.{IsTold}
 use Rattle.tool_commands.specs.Info.{info_text}

@@ -1,6 +1,6 @@
 use Rattle.std.proofs.Common.{◌≡◌, ◌≤◌, ◌↔◌, None, length, sym, ap, subst, arith}
-use Rattle.store.specs.Held.{lone_sectors}
-use Rattle.store.specs.Opened.{IsAt, room_of}
+use Rattle.store.specs.HeldVersions.{lone_sectors, room_of}
+use Rattle.store.specs.Opened.{IsAt}
 use Rattle.store.specs.Step.{longest_free, refusal_of_new}
 use Rattle.contents.proofs.contents.Contents.info.Goals as goal
 

@@ -1,10 +1,8 @@
-use Rattle.std.proofs.Common.{◌<◌, List, ℕ, IsTrue, IsFalse, Err, length, nat_eq, sym, subst, ◌∙◌}
-use Rattle.std.specs.Prelude.{All}
-use Rattle.std.specs.List.{IsDistinct}
+use Rattle.std.proofs.Common.{IsTrue, IsFalse, Err, sym, subst, ◌∙◌}
 use Rattle.requests.specs.declared.refusal.Refusal.TheVariants.{Reopen}
 use Rattle.registry.specs.Flight.{Flight}
 use Rattle.registry.specs.Flying.{Advances, Flies}
-use Rattle.registry.specs.inside.Binding.{Binding, found_of}
+use Rattle.registry.specs.inside.Binding.{Binding}
 use Rattle.registry.proofs.Bounds.{bounded}
 use Rattle.registry.proofs.Flights.{has_advanced, hasnt_advanced}
 use Rattle.registry.proofs.registry.Registry.advance.Goals as goal
@@ -12,12 +10,8 @@ use Rattle.registry.proofs.registry.Registry.advance.Goals as goal
 pub returns-then-has_failed : goal.returns-then-has_failed
 returns-then-has_failed g c =
     let failed : IsTrue c.self.inside.store.failed = sym c.has_failed.ensures.value ∙ c.if-has_failed.true in
-    let b : Binding = record { program = c.binder.inside.program.items; base = c.binder.inside.base; snapshot = c.binder.inside.snapshot; found = found_of c.binder.inside.walk } in
     let bounds = λ (flight : Flight) (flies : Flies g.D.Disk.facts c.self.inside.store c.args.binder.now flight).
-    let here : Flies g.D.Disk.facts c.self.inside.store b flight = subst (λ (k : Binding). Flies g.D.Disk.facts c.self.inside.store k flight) (sym c.binder.view_is) flies in
-    bounded g.D.Disk.facts c.self.inside.store b flight here (g.met.D.Disk.holds_now here.taken.disk)
-    (subst (λ (ps : List ℕ). All (λ p. p < length b.snapshot.handles) ps) c.preloads-preloads.ensures.value c.preloads-preloads.ensures.inside)
-    (subst (λ (ps : List ℕ). IsDistinct nat_eq ps) c.preloads-preloads.ensures.value c.preloads-preloads.ensures.once) in
+    bounded g.D.Disk.facts c.self.inside.store c.args.binder.now flight flies (g.met.D.Disk.holds_now flies.taken.disk) c.preloads_are_apart.ensures.inside c.preloads_are_apart.ensures.once in
     subst (λ k. Advances g.D.Disk.facts k k c.args.binder.now c.args.binder.now (Err Reopen)) c.self.view_is
     (hasnt_advanced g.D.Disk.facts c.self.inside.store c.args.binder.now failed bounds)
 
@@ -25,12 +19,8 @@ pub returns : goal.returns
 returns g c =
     let before : Binding = c.args.binder.now in
     let usable : IsFalse c.self.inside.store.failed = sym c.has_failed.ensures.value ∙ c.if-has_failed.false in
-    let b : Binding = record { program = c.binder.inside.program.items; base = c.binder.inside.base; snapshot = c.binder.inside.snapshot; found = found_of c.binder.inside.walk } in
     let bounds = λ (flight : Flight) (flies : Flies g.D.Disk.facts c.self.inside.store before flight).
-    let here : Flies g.D.Disk.facts c.self.inside.store b flight = subst (λ (k : Binding). Flies g.D.Disk.facts c.self.inside.store k flight) (sym c.binder.view_is) flies in
-    bounded g.D.Disk.facts c.self.inside.store b flight here (g.met.D.Disk.holds_now here.taken.disk)
-    (subst (λ (ps : List ℕ). All (λ p. p < length b.snapshot.handles) ps) c.preloads-preloads.ensures.value c.preloads-preloads.ensures.inside)
-    (subst (λ (ps : List ℕ). IsDistinct nat_eq ps) c.preloads-preloads.ensures.value c.preloads-preloads.ensures.once) in
+    bounded g.D.Disk.facts c.self.inside.store before flight flies (g.met.D.Disk.holds_now flies.taken.disk) c.preloads_are_apart.ensures.inside c.preloads_are_apart.ensures.once in
     subst (λ k. Advances g.D.Disk.facts k c.step.new.store before c.step.new.self c.step.result) c.self.view_is
     (has_advanced g.D.Disk.facts c.self.inside.store c.step.new.store before.program before.base before c.step.new.self c.step.result usable
     c.step.ensures.read c.step.ensures.stays c.step.ensures.step bounds c.step.ensures.refusals c.step.ensures.answers)

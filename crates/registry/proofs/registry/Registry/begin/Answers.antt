@@ -10,14 +10,14 @@ pub returns-then-has_failed : goal.returns-then-has_failed
 returns-then-has_failed g c =
     let failed : IsTrue c.self.inside.store.failed = sym c.has_failed.ensures.value ∙ c.if-has_failed.true in
     subst (λ k. Begins g.D.Disk.facts k k c.args.program.now c.args.base (Err Reopen)) c.self.view_is
-    (not_begun g.D.Disk.facts c.self.inside.store c.args.program.now c.args.base c.count-count.ensures.flags Reopen (λ is. failed, λ is. refl) (inl refl))
+    (not_begun g.D.Disk.facts c.self.inside.store c.args.program.now c.args.base c.versions_are_sound.ensures.flags Reopen (λ is. failed, λ is. refl) (inl refl))
 
 pub returns : goal.returns
 returns g c =
     subst (λ k. Begins g.D.Disk.facts k c.take.new.store c.args.program.now c.args.base c.match-take.result) c.self.view_is
     (elim c.match-take.branch [
       | in-Ok w ↦ rw w.result-is (is_begun g.D.Disk.facts c.self.inside.store c.take.new.store c.args.program.now c.args.base w.in-Ok.snapshot
-          c.count-count.ensures.own_names c.count-count.ensures.lengths
+          c.entries_are_sound.ensures.own_names c.entries_are_sound.ensures.lengths
           (subst (λ r. Takes g.D.Disk.facts c.self.inside.store c.take.new.store r) w.in-Ok.is c.take.ensures) c.in_ok-program.program.items
           (c.in_ok-program.ensures.items_if_clones_equal (λ x y is. is)))
       | in-Err w ↦ rw w.result-is (rw w.refusal_of_read.ensures (isnt_begun g.D.Disk.facts c.self.inside.store c.take.new.store c.args.program.now c.args.base w.in-Err.refusal

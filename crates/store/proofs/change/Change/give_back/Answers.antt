@@ -1,7 +1,7 @@
 use Rattle.std.proofs.Common.{◌++◌, sym, ap, subst}
 use Rattle.store.specs.Stands.{sectors_of}
 use Rattle.store.specs.inside.Change.{staged_sectors}
-use Rattle.store.specs.inside.Room.{AreHeld, IsReleased}
+use Rattle.store.specs.inside.Room.{AreClaimedOnce, IsReleased}
 use Rattle.store.proofs.Anew.{released_nothing}
 use Rattle.store.proofs.change.Change.give_back.Goals as goal
 
@@ -10,5 +10,5 @@ returns-in-Nothing c = subst (λ staged. IsReleased c.args.layout.now c.args.lay
 
 pub give_back_room-requires-clause-held : goal.give_back_room-requires-clause-held
 give_back_room-requires-clause-held c =
-    subst (AreHeld c.args.layout.now) (ap (λ l. sectors_of c.in-Put.put ++ l) (sym c.as_slice-in-Put.ensures.value))
-    (subst (λ staged. AreHeld c.args.layout.now (staged_sectors staged)) c.in-Put.is c.requires.held)
+    subst (AreClaimedOnce c.args.layout.now) (ap (λ l. sectors_of c.in-Put.put ++ l) (sym c.as_slice-in-Put.ensures.value))
+    (subst (λ staged. AreClaimedOnce c.args.layout.now (staged_sectors staged)) c.in-Put.is c.requires.held)

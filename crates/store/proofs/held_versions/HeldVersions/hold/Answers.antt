@@ -1,7 +1,7 @@
 use Rattle.std.proofs.Common.{◌≡◌, ◌∙◌, ◌+◌, inr, Some, slice_get, set, sym, ap}
-use Rattle.store.specs.declared.holding.Holding.{Holding}
-use Rattle.store.specs.inside.Holdings.{with_holders}
-use Rattle.store.proofs.HeldRows.{row_read, same_read, rows_written, keys_written}
+use Rattle.store.specs.declared.held_versions.HeldRow.{HeldRow}
+use Rattle.store.specs.inside.HeldRows.{with_holders}
+use Rattle.store.proofs.KeyedRows.{row_read, same_read, rows_written, keys_written}
 use Rattle.store.proofs.held_versions.HeldVersions.hold.Goals as goal
 
 pub invariant_of-self : goal.invariant_of-self
@@ -21,10 +21,10 @@ returns-clause-ok c =
     let read : slice_get old place ≡ Some row = ap (λ l. slice_get l place) (sym c.self.view_is) ∙ c.index_mut.ensures.value in
     let counted : slice_get old place ≡ Some c.index.result.now = ap (λ l. slice_get l place) (sym c.self.view_is) ∙ c.index.ensures in
     let same : c.index.result.now ≡ row = same_read old place c.index.result.now row counted read in
-    let holders : c.in-Some-checked_add.holders ≡ row.holders + 1 = c.in-Some-checked_add.ensures.1 ∙ ap (λ (h : Holding). h.holders + 1) same in
+    let holders : c.in-Some-checked_add.holders ≡ row.holders + 1 = c.in-Some-checked_add.ensures.1 ∙ ap (λ (h : HeldRow). h.holders + 1) same in
     inr (record {
       place = place;
-      holding = row;
+      version = row;
       at = row_read old c.args.placed.now.at place found.0 row found.1 read;
       is = rows_written c.self.inside.rows old c.self.view_is place (with_holders c.in-Some-checked_add.holders row) ∙ ap (λ n. set old place (with_holders n row)) holders;
     })

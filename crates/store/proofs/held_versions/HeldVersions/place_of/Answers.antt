@@ -1,15 +1,15 @@
 use Rattle.std.proofs.Common.{◌≡◌, ◌∙◌, ap, sym, Option, None, Some, IfSome, IsNone, List, ℕ, nat_eq, position, true≢false}
-use Rattle.store.specs.declared.holding.Holding.{Holding}
-use Rattle.store.specs.inside.Holdings.{IsUnheld, IsAtPlace}
-use Rattle.store.proofs.HeldRows.{row_sectors, row_found, none_found}
+use Rattle.store.specs.declared.held_versions.HeldRow.{HeldRow}
+use Rattle.store.specs.inside.HeldRows.{IsUnheld, IsAtPlace}
+use Rattle.store.proofs.KeyedRows.{row_sectors, row_found, none_found}
 use Rattle.store.proofs.held_versions.HeldVersions.place_of.Goals as goal
 
-by_none : (rows : List Holding) (sector : ℕ) (found : Option ℕ) → found ≡ position (nat_eq sector) (row_sectors rows) → IsNone found → IsUnheld rows sector
+by_none : (rows : List HeldRow) (sector : ℕ) (found : Option ℕ) → found ≡ position (nat_eq sector) (row_sectors rows) → IsNone found → IsUnheld rows sector
 by_none rows sector None is none = none_found rows sector (sym is)
 by_none rows sector (Some place) is none = absurd (true≢false none)
 
-by_some : (rows : List Holding) (sector : ℕ) (found : Option ℕ) → found ≡ position (nat_eq sector) (row_sectors rows)
-    → IfSome found (λ place. (holding : Holding) × IsAtPlace rows sector place holding)
+by_some : (rows : List HeldRow) (sector : ℕ) (found : Option ℕ) → found ≡ position (nat_eq sector) (row_sectors rows)
+    → IfSome found (λ place. (version : HeldRow) × IsAtPlace rows sector place version)
 by_some rows sector None is = tt
 by_some rows sector (Some place) is = (_, row_found rows sector place (sym is))
 

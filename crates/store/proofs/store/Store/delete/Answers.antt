@@ -10,7 +10,8 @@ use Rattle.states.specs.State.{State}
 use Rattle.states.specs.Changes.{without}
 use Rattle.store.specs.declared.placed_entry.PlacedEntry.{PlacedEntry}
 use Rattle.store.specs.Names.{HasName, IsNoPreload}
-use Rattle.store.specs.Opened.{IsAt, layout_in_use}
+use Rattle.store.specs.Opened.{IsAt}
+use Rattle.store.specs.HeldVersions.{layout_in_use, in_use, lone_sectors, KeepsHolders}
 use Rattle.store.specs.Stands.{Stands, StandsBy, catalogues_of, entry_sectors, name_of, sectors_of}
 use Rattle.store.specs.Taken.{AreTaken, IsNamedAt}
 use Rattle.store.specs.inside.Catalogues.{CanBeCatalogued}
@@ -22,14 +23,12 @@ use Rattle.store.specs.declared.change.Staged.TheVariants.{Catalogues}
 use Rattle.store.specs.declared.change.Change.{Change}
 use Rattle.store.specs.inside.Change.{IsFollowed}
 use Rattle.store.specs.inside.Next.{next_root}
-use Rattle.store.specs.Held.{in_use, lone_sectors}
-use Rattle.store.specs.Holders.{KeepsHolders}
-use Rattle.store.specs.inside.Room.{AreHeld, IsGivenUp}
+use Rattle.store.specs.inside.Room.{AreClaimedOnce, IsGivenUp}
 use Rattle.store.proofs.Anew.{more_free, more_inside, more_once, moved_held}
 use Rattle.store.proofs.CataloguedEntries.{can_be_catalogued}
 use Rattle.store.proofs.Following.{following_fits, following_kept, next_catalogues, next_version}
 use Rattle.store.proofs.GivenUp.{given_claimed, given_few, given_keeps, given_rows, given_size, still_removed}
-use Rattle.store.proofs.Holders.{keeps_table}
+use Rattle.store.proofs.KeepsHolders.{keeps_table}
 use Rattle.store.proofs.Placing.{singles_in_use}
 use Rattle.store.proofs.Removals.{IsRemoval, catalogues_fit, removal_next, removal_moved, removal_followed, removal_room}
 use Rattle.store.proofs.Removed.{map_remove}
@@ -145,7 +144,7 @@ pub give_up-requires-clause-held : goal.give_up-requires-clause-held
 give_up-requires-clause-held g c =
     let before = (goal.at.give_up-requires-clause-held g c).After-root_without-root in
     let removal = removing g before in
-    subst (AreHeld c.take_catalogues-taken.new.layout) (sym (gone_are g (goal.at.give_up-requires-clause-held g c).After-catalogues))
+    subst (AreClaimedOnce c.take_catalogues-taken.new.layout) (sym (gone_are g (goal.at.give_up-requires-clause-held g c).After-catalogues))
     (moved_held removal.kept removal.claimed c.root_without-root.result (remove c.self.inside.entries.items c.in-Some.position) (removal_moved removal))
 
 -- what is given up is what stood there

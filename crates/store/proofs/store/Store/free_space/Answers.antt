@@ -4,8 +4,7 @@ use Rattle.extents.specs.Runs.{free_runs}
 use Rattle.extents.specs.Used.{layout_of}
 use Rattle.extents.proofs.UsedLemmas.{free_count-same, free_runs-same}
 use Rattle.states.specs.Cost.{catalogues_for, free}
-use Rattle.store.specs.Held.{in_use}
-use Rattle.store.specs.Opened.{layout_in_use, room_of}
+use Rattle.store.specs.HeldVersions.{in_use, layout_in_use, room_of}
 use Rattle.store.proofs.Frees.{facts_of, same_layout}
 use Rattle.store.proofs.store.Store.free_space.Goals as goal
 

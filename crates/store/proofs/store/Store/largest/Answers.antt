@@ -3,7 +3,7 @@ use Rattle.extents.specs.Extent.{sector_count}
 use Rattle.extents.specs.Layout.{free_count}
 use Rattle.extents.specs.Longest.{longest_runs}
 use Rattle.states.specs.Cost.{catalogues_for}
-use Rattle.store.specs.Opened.{room_of}
+use Rattle.store.specs.HeldVersions.{room_of}
 use Rattle.store.specs.Step.{longest_free, refusal_of_new}
 use Rattle.store.proofs.Frees.{catalogues_enough, facts_of}
 use Rattle.store.proofs.FreeSpaces.{largest_iff}

@@ -13,10 +13,9 @@ use Rattle.store.specs.declared.change.Change.{Change}
 use Rattle.store.specs.declared.placed_entry.PlacedEntry.{PlacedEntry}
 use Rattle.states.specs.State.{State}
 use Rattle.states.specs.Changes.{with_new}
-use Rattle.store.specs.Held.{lone_sectors}
-use Rattle.store.specs.Holders.{KeepsHolders}
+use Rattle.store.specs.HeldVersions.{lone_sectors, KeepsHolders, layout_in_use}
 use Rattle.store.specs.Names.{LacksName}
-use Rattle.store.specs.Opened.{IsAt, layout_in_use}
+use Rattle.store.specs.Opened.{IsAt}
 use Rattle.store.specs.Stands.{Stands, StandsBy, catalogues_of, entry_sectors, extents_of, name_of, sectors_of}
 use Rattle.store.specs.Taken.{IsTaken}
 use Rattle.store.specs.inside.Catalogues.{CanBeCatalogued}
@@ -25,13 +24,13 @@ use Rattle.store.specs.NameOrder.{IsOrderOf, entry_names}
 use Rattle.store.specs.declared.change.Staged.TheVariants.{Put}
 use Rattle.store.specs.inside.Change.{IsFollowed}
 use Rattle.store.specs.inside.Next.{next_root}
-use Rattle.store.specs.inside.Room.{AreHeld, IsReleased}
+use Rattle.store.specs.inside.Room.{AreClaimedOnce, IsReleased}
 use Rattle.store.proofs.Anew.{put_claimed, more_free, more_held, back_kept, moved_held, moved_size, moved_claimed}
 use Rattle.store.proofs.CataloguedEntries.{can_be_catalogued}
 use Rattle.store.proofs.Following.{following_fits, following_kept, next_catalogues, next_version}
 use Rattle.store.proofs.Frees.{IsCounted, facts_of, catalogues_enough, new_refused, new_taken, answers_refused, answers_failed, answers_done}
 use Rattle.store.proofs.GivenUp.{rows_more}
-use Rattle.store.proofs.Holders.{keeps_same, keeps_table}
+use Rattle.store.proofs.KeepsHolders.{keeps_same, keeps_table}
 use Rattle.store.proofs.News.{IsNew, free_room, room_place, new_next, new_moved, new_put, new_room}
 use Rattle.store.proofs.Placing.{taken_so}
 use Rattle.store.proofs.Untouched.{untouched}
@@ -184,7 +183,7 @@ pub release_sectors-requires : goal.release_sectors-requires
 release_sectors-requires g c =
     let is_new = newly g (goal.at.release_sectors-requires g c).After-next_root-root in
     let others = c.self.inside.entries.items ++ c.new_entry-put.result ∷ [] in
-    subst (AreHeld c.take_room.new.layout) (sym c.catalogues-2.ensures) (moved_held is_new.kept is_new.claimed c.next_root-root.result others (new_moved is_new))
+    subst (AreClaimedOnce c.take_room.new.layout) (sym c.catalogues-2.ensures) (moved_held is_new.kept is_new.claimed c.next_root-root.result others (new_moved is_new))
 
 pub invariant_of-self-2 : goal.invariant_of-self-2
 invariant_of-self-2 g c =

@@ -12,10 +12,9 @@ use Rattle.store.specs.declared.change.Change.{Change}
 use Rattle.store.specs.declared.placed_entry.PlacedEntry.{PlacedEntry}
 use Rattle.states.specs.State.{State}
 use Rattle.states.specs.Changes.{with_bytes}
-use Rattle.store.specs.Held.{lone_sectors}
-use Rattle.store.specs.Holders.{KeepsHolders}
+use Rattle.store.specs.HeldVersions.{lone_sectors, KeepsHolders, layout_in_use, room_of}
 use Rattle.store.specs.Names.{HasName, IsName}
-use Rattle.store.specs.Opened.{IsAt, layout_in_use, room_of}
+use Rattle.store.specs.Opened.{IsAt}
 use Rattle.store.specs.Stands.{Stands, catalogues_of, entry_sectors, extents_of, name_of, sectors_of}
 use Rattle.store.specs.Step.{longest_free, refusal_of_put}
 use Rattle.store.specs.Taken.{IsNamedAt, IsTaken}
@@ -23,13 +22,13 @@ use Rattle.store.specs.inside.Catalogues.{CanBeCatalogued}
 use Rattle.store.specs.declared.change.Staged.TheVariants.{Put}
 use Rattle.store.specs.inside.Change.{IsFollowed}
 use Rattle.store.specs.inside.Next.{next_root}
-use Rattle.store.specs.inside.Room.{AreHeld, IsGivenUp}
+use Rattle.store.specs.inside.Room.{AreClaimedOnce, IsGivenUp}
 use Rattle.store.proofs.Anew.{put_claimed, more_free, more_held, back_kept, moved_held}
 use Rattle.store.proofs.CataloguedEntries.{can_be_catalogued}
 use Rattle.store.proofs.Following.{following_fits, following_kept, next_catalogues, next_version}
 use Rattle.store.proofs.Frees.{facts_of, over_refused, over_taken, exactly_refused, exactly_failed, exactly_done}
 use Rattle.store.proofs.GivenUp.{given_claimed, given_few, given_keeps, given_rows, given_size, still_set}
-use Rattle.store.proofs.Holders.{keeps_same, keeps_table}
+use Rattle.store.proofs.KeepsHolders.{keeps_same, keeps_table}
 use Rattle.store.proofs.Libraries.{name_fits}
 use Rattle.store.proofs.NameIndex.{replaced}
 use Rattle.store.proofs.News.{free_room, room_place}
@@ -167,7 +166,7 @@ give_up-requires-clause-held g c =
     let before = goal.at.give_up-requires-clause-held g c in
     let is = replacing g before.After-next_root-root in
     let others = set c.self.inside.entries.items c.in-Some.position c.new_entry-put.result in
-    subst (AreHeld c.take_room.new.layout) (sym (gone_is g before.After-catalogues)) (moved_held is.kept is.claimed c.next_root-root.result others (replacement_moved is))
+    subst (AreClaimedOnce c.take_room.new.layout) (sym (gone_is g before.After-catalogues)) (moved_held is.kept is.claimed c.next_root-root.result others (replacement_moved is))
 
 -- what is given up is what stood there
 given_up : (g : given.Over) (c : After-give_up g)

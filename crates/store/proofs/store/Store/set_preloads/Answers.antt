@@ -9,8 +9,8 @@ use Rattle.states.specs.Changes.{with_preloads}
 use Rattle.store.specs.declared.change.Staged.TheVariants.{Nothing}
 use Rattle.store.specs.inside.Change.{IsFollowed}
 use Rattle.store.specs.inside.Next.{IsNext}
-use Rattle.store.specs.Holders.{KeepsHolders}
-use Rattle.store.proofs.Holders.{keeps_table}
+use Rattle.store.specs.HeldVersions.{KeepsHolders}
+use Rattle.store.proofs.KeepsHolders.{keeps_table}
 use Rattle.store.proofs.Following.{following_fits, following_kept, next_version}
 use Rattle.store.proofs.Preloads.{preloads_next, preloads_followed, preloads_room, same_catalogues, same_claimed}
 use Rattle.store.proofs.store.Store.set_preloads.Given as given

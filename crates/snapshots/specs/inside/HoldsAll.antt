@@ -6,8 +6,7 @@ use Rattle.states.specs.State.{Library, State}
 use Rattle.store.specs.declared.placed_entry.PlacedEntry.{PlacedEntry}
 use Rattle.store.specs.declared.refusal.StoreRefusal.{StoreRefusal}
 use Rattle.store.specs.declared.refusal.StoreRefusal.TheVariants.{OutOfMemory}
-use Rattle.store.specs.Held.{IsHeldBy, holders_of}
-use Rattle.store.specs.Holders.{AreFlagged, HeldIs, KeepsHeld}
+use Rattle.store.specs.HeldVersions.{IsHeldBy, holders_of, AreFlagged, HeldIs, KeepsHeld}
 use Rattle.store.specs.Opened.{Opened, IsAt}
 use Rattle.store.specs.Stands.{no_library}
 use Rattle.snapshots.specs.Snapshot.{times}
@@ -19,10 +18,6 @@ pub record StaysBeside {D : Type 0} (facts : D → DiskFacts) (old new : Opened 
   pub flags : AreFlagged new
   pub kept : (new.disk ≡ old.disk) × (new.root ≡ old.root) × (new.entries ≡ old.entries) × (new.failed ≡ old.failed)
   pub same : (s : State) → IsAt facts old s → IsAt facts new s
-
--- somebody holds each version of the table
-abbrev pub AreSome : {D : Type 0} → Opened D → Type 0
-AreSome store = (sector : ℕ) (placed : PlacedEntry) → IsHeldBy store.held sector placed → 0 < holders_of store.held sector
 
 -- Of the byte strings of a store the first so many are held by these handles.
 pub record HoldsFirst {D : Type 0} (facts : D → DiskFacts) (old new : Opened D) (count : ℕ) (handles : List ℕ) : Type 0 where

@@ -7,15 +7,13 @@ use Rattle.sector_disk.specs.Disk.{DiskFacts}
 use Rattle.store.specs.declared.placed_entry.PlacedEntry.{PlacedEntry}
 use Rattle.store.specs.declared.refusal.StoreRefusal.{StoreRefusal}
 use Rattle.store.specs.declared.refusal.StoreRefusal.TheVariants.{OutOfMemory}
-use Rattle.store.specs.declared.holding.Holding.{Holding}
-use Rattle.store.specs.Held.{HaveOwnRows, IsHeldBy, holders_of}
-use Rattle.store.specs.Holders.{AreFlagged, HeldIs, KeepsHeld}
-use Rattle.store.specs.Holding.{Holds}
+use Rattle.store.specs.declared.held_versions.HeldRow.{HeldRow}
+use Rattle.store.specs.HeldVersions.{AreFlagged, AreVersions, HeldIs, HoldsVersion, IsHeldBy, KeepsHeld, holders_of}
 use Rattle.store.specs.Opened.{Opened}
 use Rattle.store.specs.Stands.{no_library}
-use Rattle.store.proofs.Holdings.{by_one}
+use Rattle.store.proofs.HeldRows.{by_one}
 use Rattle.snapshots.specs.Snapshot.{LetsAllGo, times}
-use Rattle.snapshots.specs.inside.Holding.{AreSome, HoldsFirst, StaysBeside}
+use Rattle.snapshots.specs.inside.HoldsAll.{HoldsFirst, StaysBeside}
 
 -- one handle more is as often among handles, and once more for its own sector
 pub times-push : (sector handle : ℕ) (handles : List ℕ) → times sector (handles ++ handle ∷ []) ≡ times sector handles + (if handle == sector then 1 else 0)
@@ -24,18 +22,18 @@ times-push sector handle handles =
     omega (arith, sum_by-append one handles (handle ∷ []), sum_by-cons one handle [])
 
 -- a version that somebody holds has a row,
-some_row : (held : List Holding) (sector : ℕ) → 0 < holders_of held sector → (placed : PlacedEntry) × IsHeldBy held sector placed
+some_row : (held : List HeldRow) (sector : ℕ) → 0 < holders_of held sector → (placed : PlacedEntry) × IsHeldBy held sector placed
 some_row [] sector some = absurd (omega (arith, some))
 some_row (row ∷ rows) sector some = ⊎_elim
     (λ same. (row.placed, record { place = 0; inside = omega arith; is = λ d. refl; its = same }))
     (λ other.
     let none = cond-false (eqb row.placed.at sector) row.holders 0 (ne_eqb row.placed.at sector other) in
-    let later = some_row rows sector (omega (arith, some, none, sum_by-cons (λ (h : Holding). if h.placed.at == sector then h.holders else 0) row rows)) in
+    let later = some_row rows sector (omega (arith, some, none, sum_by-cons (λ (h : HeldRow). if h.placed.at == sector then h.holders else 0) row rows)) in
     (later.0, record { place = suc later.1.place; inside = omega (arith, later.1.inside); is = later.1.is; its = later.1.its }))
     (cases_eq row.placed.at sector)
 
 -- and where each row was there before, none is where none was
-none_after : (old new : List Holding) → ((sector : ℕ) (placed : PlacedEntry) → IsHeldBy new sector placed → IsHeldBy old sector placed) → old ≡ [] → new ≡ []
+none_after : (old new : List HeldRow) → ((sector : ℕ) (placed : PlacedEntry) → IsHeldBy new sector placed → IsHeldBy old sector placed) → old ≡ [] → new ≡ []
 none_after old [] back none = refl
 none_after old (row ∷ rows) back none =
     let was = back row.placed.at row.placed (record { place = 0; inside = omega arith; is = λ d. refl; its = refl }) in
@@ -63,7 +61,7 @@ module _ {D : Type 0} (facts : D → DiskFacts) {old : Opened D} where
   }
 
   -- and one more is
-  module _ {between new : Opened D} (count handle : ℕ) (handles : List ℕ) (before : HoldsFirst facts old between count handles) (now : Holds facts between new count (Ok handle)) where
+  module _ {between new : Opened D} (count handle : ℕ) (handles : List ℕ) (before : HoldsFirst facts old between count handles) (now : HoldsVersion facts between new count (Ok handle)) where
     abbrev more : List ℕ
     more = handles ++ handle ∷ []
 
@@ -103,12 +101,12 @@ module _ {D : Type 0} (facts : D → DiskFacts) {old : Opened D} where
     }
 
   -- Once the handles let their versions go again, as many hold each as before,
-  module _ {between new : Opened D} {count : ℕ} {handles : List ℕ} (some : AreSome old) (before : HoldsFirst facts old between count handles) (gone : LetsAllGo facts between new handles) where
+  module _ {between new : Opened D} {count : ℕ} {handles : List ℕ} (sound : AreVersions old) (before : HoldsFirst facts old between count handles) (gone : LetsAllGo facts between new handles) where
     pub undone : (sector : ℕ) → holders_of new.held sector ≡ holders_of old.held sector
     undone sector = omega (arith, gone.holders sector, before.holders sector)
 
     still : (sector : ℕ) (placed : PlacedEntry) → IsHeldBy old.held sector placed → 0 < holders_of new.held sector
-    still sector placed by = omega (arith, undone sector, some sector placed by)
+    still sector placed by = omega (arith, undone sector, sound.holders sector placed by)
 
     -- and all that was held is
     pub undone_beside : StaysBeside facts old new
@@ -121,11 +119,11 @@ module _ {D : Type 0} (facts : D → DiskFacts) {old : Opened D} where
     }
 
     -- and nothing else, since each version has one row.
-    module _ (own : HaveOwnRows new.held) where
+    module _ (own : AreVersions new) where
       undone_versions : (sector : ℕ) (placed : PlacedEntry) → IsHeldBy new.held sector placed → IsHeldBy old.held sector placed
       undone_versions sector placed by =
           let was = some_row old.held sector (omega (arith, undone sector, ((gone.versions sector placed).0 by).1)) in
-          subst (IsHeldBy old.held sector) (by_one own (undone_beside.versions sector was.0 was.1) by) was.1
+          subst (IsHeldBy old.held sector) (by_one own.rows (undone_beside.versions sector was.0 was.1) by) was.1
 
       pub undone_held : KeepsHeld facts old new
       undone_held = record {
@@ -137,7 +135,7 @@ module _ {D : Type 0} (facts : D → DiskFacts) {old : Opened D} where
 
 -- A refusal to hold in a store that hasn't failed is want of memory, and changes nothing.
 pub memory_refused : {D : Type 0} (facts : D → DiskFacts) {between new : Opened D} {position : ℕ} {e : StoreRefusal} → IsFalse between.failed
-    → Holds facts between new position (Err e) → e ≡ OutOfMemory
+    → HoldsVersion facts between new position (Err e) → e ≡ OutOfMemory
 memory_refused facts usable refused = ⊎_elim
     (λ reopen. absurd (false≢true (sym usable ∙ refused.reopen.0 (ap (λ e. Err e) reopen))))
     (λ memory. memory)

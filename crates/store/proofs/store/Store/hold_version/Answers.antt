@@ -2,16 +2,16 @@ use Rattle.std.proofs.Common.{◌≡◌, ◌<◌, ◌⊎◌, inl, inr, get_or, l
 use Rattle.std.proofs.lemmas.Bool.{false≢true}
 use Rattle.std.proofs.lemmas.List.{get_or_default}
 use Rattle.std.proofs.lemmas.Result.{err_from_is_err_and}
-use Rattle.store.specs.Holding.{Holds}
+use Rattle.store.specs.HeldVersions.{HoldsVersion}
 use Rattle.store.specs.Opened.{Opened}
 use Rattle.store.specs.declared.placed_entry.PlacedEntry.{PlacedEntry}
 use Rattle.store.specs.declared.refusal.StoreRefusal.TheVariants.{OutOfMemory, Reopen}
-use Rattle.store.specs.inside.Holdings.{IsHeldMore, IsHeldOnce}
-use Rattle.store.proofs.Handles.{hold_done, hold_refused, holding_lone, holding_rows, kept_held, with_held}
+use Rattle.store.specs.inside.HeldRows.{IsHeldMore, IsHeldOnce}
+use Rattle.store.proofs.HeldVersions.{hold_done, hold_refused, held_lone, held_rows, kept_held, with_held}
 use Rattle.store.proofs.UsedAlone.{no_entry}
-use Rattle.store.proofs.store.Store.hold.Given as given
-use Rattle.store.proofs.store.Store.hold.Goals.{In_ok-hold}
-use Rattle.store.proofs.store.Store.hold.Goals as goal
+use Rattle.store.proofs.store.Store.hold_version.Given as given
+use Rattle.store.proofs.store.Store.hold_version.Goals.{In_ok-hold}
+use Rattle.store.proofs.store.Store.hold_version.Goals as goal
 
 -- the store before
 abbrev before : (g : given.Over) (c : In_ok-hold g) → Opened g.row.D.Denot
@@ -19,7 +19,7 @@ before g c = record { disk = c.self.inside.disk; root = c.self.inside.root; entr
 
 pub returns-then-self : goal.returns-then-self
 returns-then-self g c =
-    subst (λ store. Holds g.D.Disk.facts store store c.args.position (Err Reopen)) c.self.view_is
+    subst (λ store. HoldsVersion g.D.Disk.facts store store c.args.position (Err Reopen)) c.self.view_is
     (hold_refused g.D.Disk.facts (record {
       disk = c.self.inside.disk;
       root = c.self.inside.root;
@@ -42,9 +42,9 @@ returns-in_err-hold g c =
     let refused = hold_refused g.D.Disk.facts store c.self.invariant.0 c.args.position OutOfMemory (λ is. absurd (cc is), λ failed. absurd (false≢true (sym c.if-self.false ∙ failed))) (inr refl) in
     let p = err_from_is_err_and c.from_residual.result c.from_residual.ensures.1 in
     let is : p.0 ≡ OutOfMemory = p.2 ∙ c.in_err-hold.ensures.refusals in
-    subst (λ result. Holds g.D.Disk.facts c.args.self.now (with_held store c.hold.new.self) c.args.position result) (sym (p.1 ∙ ap (λ e. Err e) is))
-    (subst (λ held. Holds g.D.Disk.facts c.args.self.now (with_held store held) c.args.position (Err OutOfMemory)) (sym c.in_err-hold.ensures.err)
-    (subst (λ old. Holds g.D.Disk.facts old store c.args.position (Err OutOfMemory)) c.self.view_is refused))
+    subst (λ result. HoldsVersion g.D.Disk.facts c.args.self.now (with_held store c.hold.new.self) c.args.position result) (sym (p.1 ∙ ap (λ e. Err e) is))
+    (subst (λ held. HoldsVersion g.D.Disk.facts c.args.self.now (with_held store held) c.args.position (Err OutOfMemory)) (sym c.in_err-hold.ensures.err)
+    (subst (λ old. HoldsVersion g.D.Disk.facts old store c.args.position (Err OutOfMemory)) c.self.view_is refused))
 
 its : (g : given.Over) (c : In_ok-hold g) → c.index-placed.result.now ≡ get_or c.self.inside.entries.items c.args.position no_entry
 its g c =
@@ -60,8 +60,8 @@ pub invariant_of-self-2 : goal.invariant_of-self-2
 invariant_of-self-2 g c =
     let lt = subst (λ store. c.args.position < length store.entries) (sym c.self.view_is) c.requires in
     let all = either g c in (
-      kept_held c.self.invariant.0 (holding_rows g.D.Disk.facts (before g c) c.self.invariant.0 c.args.position lt c.if-self.false all)
-          (holding_lone g.D.Disk.facts (before g c) c.self.invariant.0 c.args.position lt c.if-self.false all),
+      kept_held c.self.invariant.0 (held_rows g.D.Disk.facts (before g c) c.self.invariant.0 c.args.position lt c.if-self.false all)
+          (held_lone g.D.Disk.facts (before g c) c.self.invariant.0 c.args.position lt c.if-self.false all),
       c.self.invariant.1,
       c.self.invariant.2,
       c.self.invariant.3,
@@ -71,6 +71,6 @@ invariant_of-self-2 g c =
 pub returns : goal.returns
 returns g c =
     let lt = subst (λ store. c.args.position < length store.entries) (sym c.self.view_is) c.requires in
-    subst (λ at. Holds g.D.Disk.facts c.args.self.now (with_held (before g c) c.hold.new.self) c.args.position (Ok at)) (ap (λ (p : PlacedEntry). p.at) (sym (its g c)))
-    (subst (λ old. Holds g.D.Disk.facts old (with_held (before g c) c.hold.new.self) c.args.position (Ok (get_or c.self.inside.entries.items c.args.position no_entry).at)) c.self.view_is
+    subst (λ at. HoldsVersion g.D.Disk.facts c.args.self.now (with_held (before g c) c.hold.new.self) c.args.position (Ok at)) (ap (λ (p : PlacedEntry). p.at) (sym (its g c)))
+    (subst (λ old. HoldsVersion g.D.Disk.facts old (with_held (before g c) c.hold.new.self) c.args.position (Ok (get_or c.self.inside.entries.items c.args.position no_entry).at)) c.self.view_is
     (hold_done g.D.Disk.facts (before g c) c.self.invariant.0 c.args.position lt c.if-self.false (either g c)))

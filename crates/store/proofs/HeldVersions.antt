@@ -17,27 +17,26 @@ use Rattle.roots.specs.declared.root.Root.{Root}
 use Rattle.roots.specs.Entry.{EntryHasSpelling}
 use Rattle.states.specs.State.{Library, State}
 use Rattle.store.specs.declared.placed_entry.PlacedEntry.{PlacedEntry}
-use Rattle.store.specs.declared.holding.Holding.{Holding}
+use Rattle.store.specs.declared.held_versions.HeldRow.{HeldRow}
 use Rattle.store.specs.declared.refusal.StoreRefusal.{StoreRefusal}
 use Rattle.store.specs.declared.refusal.StoreRefusal.TheVariants.{Device, Reopen, Damaged, OutOfMemory}
 use Rattle.store.specs.Stands.{HasRoom, extents_of, library_of, no_library, sectors_of, used}
-use Rattle.store.specs.Held.{holders_of, in_use, lone_sectors, IsHeldBy}
-use Rattle.store.specs.Holding.{Holds, LetsGo, ReadsHeld}
+use Rattle.store.specs.HeldVersions.{holders_of, in_use, lone_sectors, IsHeldBy, HoldsVersion, LetsVersionGo, ReadsVersion}
 use Rattle.store.specs.Opened.{IsAt, Opened}
 use Rattle.store.specs.inside.Claimed.{IsUsable}
-use Rattle.store.specs.inside.Holdings.{AreHoldings, IsHeldLess, IsHeldMore, IsHeldOnce, IsLetGo, IsUnheld}
+use Rattle.store.specs.inside.HeldRows.{AreHeldRows, IsHeldLess, IsHeldMore, IsHeldOnce, IsLetGo, IsUnheld}
 use Rattle.store.specs.inside.Kept.{AreClaimed, IsKept}
-use Rattle.store.specs.inside.Room.{AreHeld, IsReleased}
+use Rattle.store.specs.inside.Room.{AreClaimedOnce, IsReleased}
 use Rattle.store.proofs.Anew.{all_usable, claims_as, distinct_as, released_nothing}
 use Rattle.store.proofs.Beside.{room_more}
 use Rattle.store.proofs.Claiming.{all-part}
 use Rattle.store.proofs.Counts.{occurs, occurs-append, contains_occurs, occurs_contains, distinct_occurs, occurs_distinct}
 use Rattle.store.proofs.GivenUp.{flags, row_is}
-use Rattle.store.proofs.HeldRows.{no_holding}
-use Rattle.store.proofs.Holders.{held_in_use, keeps_reads}
-use Rattle.store.proofs.Holdings.{by_first, by_gone, by_gone_back, by_less, by_less_back, by_more, by_once, by_one, by_place, by_some, gone_length}
-use Rattle.store.proofs.Holdings.{gone_listed_length, gone_listed_occurs, gone_occurs, held_gone, held_less, held_more, held_once, holders_gone}
-use Rattle.store.proofs.Holdings.{holders_less, holders_more, holders_once, holders_unheld, lone_less, lone_more, lone_once}
+use Rattle.store.proofs.KeyedRows.{no_row}
+use Rattle.store.proofs.KeepsHolders.{held_in_use, keeps_reads}
+use Rattle.store.proofs.HeldRows.{by_first, by_gone, by_gone_back, by_less, by_less_back, by_more, by_once, by_one, by_place, by_some, gone_length}
+use Rattle.store.proofs.HeldRows.{gone_listed_length, gone_listed_occurs, gone_occurs, held_gone, held_less, held_more, held_once, holders_gone}
+use Rattle.store.proofs.HeldRows.{holders_less, holders_more, holders_once, holders_unheld, lone_less, lone_more, lone_once}
 use Rattle.store.proofs.UsedAlone.{no_entry}
 
 -- a refusal of another kind
@@ -45,13 +44,13 @@ pub err_is : {T E : Type 0} {e other : E} → ◌≡◌ {A = Result T E} (Err e)
 err_is {e = e} is = subst (λ r. IfErr r (λ y. e ≡ y)) is refl
 
 -- a store with another table of held versions
-abbrev pub with_held : {D : Type 0} → Opened D → List Holding → Opened D
+abbrev pub with_held : {D : Type 0} → Opened D → List HeldRow → Opened D
 with_held store held = record { disk = store.disk; root = store.root; entries = store.entries; held = held; failed = store.failed }
 
-module _ {root : Root} {entries : List PlacedEntry} {held : List Holding} {layout : List Bool} (kept : IsKept root entries held layout) where
+module _ {root : Root} {entries : List PlacedEntry} {held : List HeldRow} {layout : List Bool} (kept : IsKept root entries held layout) where
   -- The entry of a held version has a spelling, and its extents end on the disk.
   pub held_fits : {at : ℕ} {placed : PlacedEntry} → IsHeldBy held at placed → EntryHasSpelling placed.entry
-  held_fits by = subst (λ (p : PlacedEntry). EntryHasSpelling p.entry) (by.is no_holding) (kept.rows.each by.place no_holding by.inside).fits
+  held_fits by = subst (λ (p : PlacedEntry). EntryHasSpelling p.entry) (by.is no_row) (kept.rows.each by.place no_row by.inside).fits
 
   pub held_on_disk : {at : ℕ} {placed : PlacedEntry} → IsHeldBy held at placed → All (IsOnDisk root.sectors) (extents_of placed.entry)
   held_on_disk {placed = placed} by j e in_extents =
@@ -64,7 +63,7 @@ module _ {root : Root} {entries : List PlacedEntry} {held : List Holding} {layou
       omega (arith, usable.1, filled)
 
   -- A version that the state lists is held once more: no sector more is in use.
-  pub kept_held : {new : List Holding} → AreHoldings entries new → lone_sectors new ≡ lone_sectors held → IsKept root entries new layout
+  pub kept_held : {new : List HeldRow} → AreHeldRows entries new → lone_sectors new ≡ lone_sectors held → IsKept root entries new layout
   kept_held rows lone = record {
     root_fits = kept.root_fits;
     size = kept.size;
@@ -78,7 +77,7 @@ module _ {root : Root} {entries : List PlacedEntry} {held : List Holding} {layou
   }
 
   -- Of the sectors that holders alone use some are in use no longer: these can be given back, and then all is kept.
-  module _ (new : List Holding) (freed : List ℕ) (parts : (k : ℕ) → occurs k (lone_sectors new) + occurs k freed ≡ occurs k (lone_sectors held)) where
+  module _ (new : List HeldRow) (freed : List ℕ) (parts : (k : ℕ) → occurs k (lone_sectors new) + occurs k freed ≡ occurs k (lone_sectors held)) where
     abbrev all : List ℕ
     all = in_use root entries held
 
@@ -94,7 +93,7 @@ module _ {root : Root} {entries : List PlacedEntry} {held : List Holding} {layou
       occurs-append k after freed,
     )
 
-    pub fewer_held : AreHeld layout freed
+    pub fewer_held : AreClaimedOnce layout freed
     fewer_held = (
       after,
       claims_as layout all (after ++ freed) counts kept.claimed.claims,
@@ -103,7 +102,7 @@ module _ {root : Root} {entries : List PlacedEntry} {held : List Holding} {layou
           (all-part (IsUsable root.sectors) freed all (λ s found. occurs_contains s all (omega (arith, counts s, occurs-append s after freed, contains_occurs s freed found))) (all_usable kept)),
     )
 
-    pub fewer_kept : (left : List Bool) → AreHoldings entries new → length (lone_sectors new) ≤ length (lone_sectors held) → IsReleased layout left freed → IsKept root entries new left
+    pub fewer_kept : (left : List Bool) → AreHeldRows entries new → length (lone_sectors new) ≤ length (lone_sectors held) → IsReleased layout left freed → IsKept root entries new left
     fewer_kept left rows fewer released = record {
       root_fits = kept.root_fits;
       size = released.size ∙ kept.size;
@@ -130,7 +129,7 @@ module _ {root : Root} {entries : List PlacedEntry} {held : List Holding} {layou
 
 module _ {D : Type 0} (facts : D → DiskFacts) (store : Opened D) {layout : List Bool} (kept : IsKept store.root store.entries store.held layout) where
   -- What a refusal to hold leaves.
-  pub hold_refused : (position : ℕ) (e : StoreRefusal) → ((e ≡ Reopen) ↔ IsTrue store.failed) → (e ≡ Reopen) ⊎ (e ≡ OutOfMemory) → Holds facts store store position (Err e)
+  pub hold_refused : (position : ℕ) (e : StoreRefusal) → ((e ≡ Reopen) ↔ IsTrue store.failed) → (e ≡ Reopen) ⊎ (e ≡ OutOfMemory) → HoldsVersion facts store store position (Err e)
   hold_refused position e reopen which = record {
     ok = λ s at. tt;
     same = λ s at. at;
@@ -147,20 +146,20 @@ module _ {D : Type 0} (facts : D → DiskFacts) (store : Opened D) {layout : Lis
   }
 
   -- The version at a position is held.
-  module _ (position : ℕ) (lt : position < length store.entries) (usable : IsFalse store.failed) {new : List Holding}
+  module _ (position : ℕ) (lt : position < length store.entries) (usable : IsFalse store.failed) {new : List HeldRow}
       (either : IsHeldOnce store.held new (get_or store.entries position no_entry)
       ⊎ IsHeldMore store.held new (get_or store.entries position no_entry).at) where
     abbrev placed : PlacedEntry
     placed = get_or store.entries position no_entry
 
-    pub holding_rows : AreHoldings store.entries new
-    holding_rows = ⊎_elim
+    pub held_rows : AreHeldRows store.entries new
+    held_rows = ⊎_elim
         (λ once. held_once kept.rows once (kept.entries_fit position no_entry lt) (position, lt, get_or_default store.entries position placed no_entry lt))
         (λ more. held_more kept.rows more)
         either
 
-    pub holding_lone : lone_sectors new ≡ lone_sectors store.held
-    holding_lone = ⊎_elim (λ once. lone_once once) (λ more. lone_more more) either
+    pub held_lone : lone_sectors new ≡ lone_sectors store.held
+    held_lone = ⊎_elim (λ once. lone_once once) (λ more. lone_more more) either
 
     held_now : IsHeldBy new placed.at placed
     held_now = ⊎_elim
@@ -168,7 +167,7 @@ module _ {D : Type 0} (facts : D → DiskFacts) (store : Opened D) {layout : Lis
         (λ more. subst (IsHeldBy new placed.at) (row_is kept position lt more.at) (by_more more (by_place more.at)))
         either
 
-    pub hold_done : Holds facts store (with_held store new) position (Ok placed.at)
+    pub hold_done : HoldsVersion facts store (with_held store new) position (Ok placed.at)
     hold_done = record {
       ok = λ s at. record {
         placed = placed;
@@ -184,8 +183,8 @@ module _ {D : Type 0} (facts : D → DiskFacts) (store : Opened D) {layout : Lis
         stands = is.stands;
       };
       versions = λ sector placed by. ⊎_elim (λ once. by_once once by) (λ more. by_more more by) either;
-      lone = holding_lone;
-      flags = flags (kept_held kept holding_rows holding_lone);
+      lone = held_lone;
+      flags = flags (kept_held kept held_rows held_lone);
       kept = (refl, refl, refl, refl);
       reopen = (λ is. absurd (cc is), λ failed. absurd (false≢true (sym usable ∙ failed)));
       err = tt;
@@ -195,7 +194,7 @@ module _ {D : Type 0} (facts : D → DiskFacts) (store : Opened D) {layout : Lis
   -- What a read that makes no call leaves.
   pub read_refused : (held : ℕ) (e : StoreRefusal) → ((e ≡ Reopen) ↔ IsTrue store.failed)
       → ((e ≡ Damaged) ↔ (IsFalse store.failed × (holders_of store.held held ≡ 0))) → (e ≡ Reopen) ⊎ (e ≡ Damaged) ⊎ (e ≡ OutOfMemory)
-      → ReadsHeld facts store store held (Err e)
+      → ReadsVersion facts store store held (Err e)
   read_refused held e reopen unknown which = record {
     any_moment = λ honest. (no_reads (facts store.disk)).leaves;
     ok = λ honest library is. tt;
@@ -241,7 +240,7 @@ module _ {D : Type 0} (facts : D → DiskFacts) (store : Opened D) {layout : Lis
         → (IsTrue (facts store.disk).honest → IfOk result (λ bytes. bytes.items ≡ (library_of (facts store.disk).now placed).bytes))
         → IfOk result (λ bytes. length bytes.items ≡ placed.entry.file_length)
         → IfErr result (λ e. ((e ≡ Device) × ((facts store.disk).failures < (facts after).failures)) ⊎ ((e ≡ OutOfMemory) × (after ≡ store.disk)))
-        → ReadsHeld facts store now held result
+        → ReadsVersion facts store now held result
     read_done (Ok bytes) all_calls read size refused = record {
       any_moment = λ honest. (reads honest).leaves;
       ok = λ honest library is. read honest ∙ ap (λ (p : PlacedEntry). (library_of (facts store.disk).now p).bytes) (by_one kept.rows.own by is.by)
@@ -286,7 +285,7 @@ module _ {D : Type 0} (facts : D → DiskFacts) (store : Opened D) {layout : Lis
         other_than y device memory is = ⊎_elim (λ both. device (sym is ∙ both.0)) (λ both. memory (sym is ∙ both.0)) refused
 
   -- What letting go of a version that nobody holds leaves.
-  pub none_done : {at : ℕ} → IsUnheld store.held at → LetsGo facts store store at
+  pub none_done : {at : ℕ} → IsUnheld store.held at → LetsVersionGo facts store store at
   none_done {at = at} absent = record {
     holders = λ sector. none_less sector;
     others = λ sector library some is. is;
@@ -303,8 +302,8 @@ module _ {D : Type 0} (facts : D → DiskFacts) (store : Opened D) {layout : Lis
           (cases_Bool (at == sector))
 
   -- A version that others hold still is let go, or its last holder lets it go.
-  module _ {at : ℕ} {new : List Holding} where
-    pub less_done : IsHeldLess store.held new at → LetsGo facts store (with_held store new) at
+  module _ {at : ℕ} {new : List HeldRow} where
+    pub less_done : IsHeldLess store.held new at → LetsVersionGo facts store (with_held store new) at
     less_done less =
         let rows = held_less kept.rows less in record {
           holders = λ sector. omega (arith, holders_less less sector);
@@ -315,7 +314,7 @@ module _ {D : Type 0} (facts : D → DiskFacts) (store : Opened D) {layout : Lis
           same = λ s is_at. record { honest = is_at.honest; usable = is_at.usable; stands = is_at.stands };
         }
 
-    pub gone_done : {holding : Holding} {left : List Bool} → IsLetGo store.held new at holding → IsKept store.root store.entries new left → LetsGo facts store (with_held store new) at
+    pub gone_done : {version : HeldRow} {left : List Bool} → IsLetGo store.held new at version → IsKept store.root store.entries new left → LetsVersionGo facts store (with_held store new) at
     gone_done gone new_kept = record {
       holders = λ sector. omega (arith, holders_gone kept.rows gone sector);
       others = λ sector library some is. record { placed = is.placed; by = by_gone kept.rows.own gone some is.by; stands = is.stands };
@@ -326,15 +325,15 @@ module _ {D : Type 0} (facts : D → DiskFacts) (store : Opened D) {layout : Lis
     }
 
 -- What is kept once the last holder of a version lets it go, whether the state lists it or not.
-module _ {root : Root} {entries : List PlacedEntry} {held new : List Holding} {layout : List Bool} {at : ℕ} {holding : Holding}
-    (kept : IsKept root entries held layout) (gone : IsLetGo held new at holding) where
-  pub gone_listed : holding.listed ≡ true → IsKept root entries new layout
+module _ {root : Root} {entries : List PlacedEntry} {held new : List HeldRow} {layout : List Bool} {at : ℕ} {version : HeldRow}
+    (kept : IsKept root entries held layout) (gone : IsLetGo held new at version) where
+  pub gone_listed : version.listed ≡ true → IsKept root entries new layout
   gone_listed listed = fewer_kept kept new [] (λ k. omega (arith, gone_listed_occurs gone listed k)) layout (held_gone kept.rows gone)
       (omega (arith, gone_listed_length gone listed)) (released_nothing layout)
 
-  module _ (unlisted : holding.listed ≡ false) where
-    pub gone_held : AreHeld layout (sectors_of holding.placed)
-    gone_held = fewer_held kept new (sectors_of holding.placed) (gone_occurs gone unlisted)
+  module _ (unlisted : version.listed ≡ false) where
+    pub gone_held : AreClaimedOnce layout (sectors_of version.placed)
+    gone_held = fewer_held kept new (sectors_of version.placed) (gone_occurs gone unlisted)
 
-    pub gone_freed : (left : List Bool) → IsReleased layout left (sectors_of holding.placed) → IsKept root entries new left
-    gone_freed left released = fewer_kept kept new (sectors_of holding.placed) (gone_occurs gone unlisted) left (held_gone kept.rows gone) (omega (arith, gone_length gone unlisted)) released
+    pub gone_freed : (left : List Bool) → IsReleased layout left (sectors_of version.placed) → IsKept root entries new left
+    gone_freed left released = fewer_kept kept new (sectors_of version.placed) (gone_occurs gone unlisted) left (held_gone kept.rows gone) (omega (arith, gone_length gone unlisted)) released

@@ -7,8 +7,8 @@ use Rattle.std.proofs.lemmas.List.Quantifiers.{position-Some}
 use Rattle.std.proofs.lemmas.List.Elements.{All-head, All-tail}
 use Rattle.std.proofs.lemmas.List.Sums.{get_or-le-sum_by, sum_by-cons, sum_by-set}
 use Rattle.snapshots.specs.Snapshot.{times}
-use Rattle.store.specs.Held.{IsHeldBy, holders_of}
-use Rattle.store.specs.declared.holding.Holding.{Holding}
+use Rattle.store.specs.HeldVersions.{IsHeldBy, holders_of}
+use Rattle.store.specs.declared.held_versions.HeldRow.{HeldRow}
 use Rattle.store.specs.declared.placed_entry.PlacedEntry.{PlacedEntry}
 use Rattle.registry.specs.inside.Binding.{Binding}
 use Rattle.binders.specs.Slotted.{held_by, held_in, lowest_free}
@@ -34,7 +34,7 @@ held_nobody (slot ∷ slots) none sector =
     omega (arith, sum_by-cons (held_in sector) slot slots, first, later)
 
 -- Where each row has some holder, and nobody holds anything, there is no row.
-pub held_empty : (held : List Holding) → ((sector : ℕ) (placed : PlacedEntry) → IsHeldBy held sector placed → 0 < holders_of held sector) → ((sector : ℕ) → holders_of held sector ≡ 0) → held ≡ []
+pub held_empty : (held : List HeldRow) → ((sector : ℕ) (placed : PlacedEntry) → IsHeldBy held sector placed → 0 < holders_of held sector) → ((sector : ℕ) → holders_of held sector ≡ 0) → held ≡ []
 held_empty [] some none = refl
 held_empty (row ∷ rows) some none =
     let by : IsHeldBy (row ∷ rows) row.placed.at row.placed = record { place = 0; inside = omega arith; is = λ d. refl; its = refl } in

@@ -8,15 +8,15 @@ use std::alloc::Global;
 use std::marker::Model;
 
 /// A holder's right to read a version of a byte string, until it gives the handle to
-/// `Store::let_go`. It can't be made or copied. The sectors of a version whose handle is dropped
-/// stay in use until the store is opened again.
+/// `Store::let_version_go`. It can't be made or copied. The sectors of a version whose handle is
+/// dropped stay in use until the store is opened again.
 #[derive(Drop)]
-pub struct Held {
+pub struct HeldVersion {
     // The sector of the version's entry.
     pub(crate) at: u32,
 }
 
-impl Model for Held {
+impl Model for HeldVersion {
     ghost use Rattle.std.specs.Prelude.{ℕ};
 
     ghost Value = { ℕ };
@@ -27,28 +27,28 @@ impl Model for Held {
 impl<D: Disk> Store<D> {
     ghost use Rattle.std.specs.Prelude.{◌≡◌, ◌<◌, ◌↔◌, IsNone, IfSome, length};
     ghost use Rattle.store.specs.declared.placed_entry.PlacedEntry.{PlacedEntry};
-    ghost use Rattle.store.specs.Held.{IsHeldBy, holders_of};
-    ghost use Rattle.store.specs.Holding.{Holds, LetsGo, ReadsHeld};
+    ghost use Rattle.store.specs.HeldVersions.{IsHeldBy, holders_of};
+    ghost use Rattle.store.specs.HeldVersions.{HoldsVersion, ReadsVersion, LetsVersionGo};
     ghost use Rattle.store.specs.Stands.{name_of};
 
     /// Holds the byte string at this position as it is now. It makes no call of the disk, and
     /// copies none of its bytes. The first holder of a version takes memory, for all that follows
     /// of it.
-    pub fn hold(&mut self, position: usize) -> Result<Held, StoreRefusal>
+    pub fn hold_version(&mut self, position: usize) -> Result<HeldVersion, StoreRefusal>
         requires { position < length self.old.entries }
-        ensures { Holds D.facts self.old self.new position result }
+        ensures { HoldsVersion D.facts self.old self.new position result }
     {
         if self.failed {
             return Err(StoreRefusal::Reopen);
         }
         let placed = &self.entries[position];
         self.held.hold(placed)?;
-        Ok(Held { at: placed.at })
+        Ok(HeldVersion { at: placed.at })
     }
 
     /// The name of the version that is held, found by hashing; None where nobody holds it here. It
     /// makes no call of the disk.
-    pub fn held_name(&self, held: &Held) -> Option<&[u8]>
+    pub fn version_name(&self, held: &HeldVersion) -> Option<&[u8]>
         ensures none { IsNone result ↔ (holders_of self.now.held held.now ≡ 0) }
         ensures some { IfSome result (λ name. (placed : PlacedEntry)
             → IsHeldBy self.now.held held.now placed → name.now ≡ name_of placed.entry) }
@@ -61,8 +61,12 @@ impl<D: Disk> Store<D> {
     /// Damaged, without a call of the disk, where nobody holds it here: the handle is another
     /// store's, or from before the same disk was opened again. A handle is the sector of its entry:
     /// where somebody holds a version here whose entry has the same sector, that one is read.
-    pub fn read_held(&mut self, alloc: Global, held: &Held) -> Result<Vec<u8>, StoreRefusal>
-        ensures { ReadsHeld D.facts self.old self.new held.now result }
+    pub fn read_version(
+        &mut self,
+        alloc: Global,
+        held: &HeldVersion,
+    ) -> Result<Vec<u8>, StoreRefusal>
+        ensures { ReadsVersion D.facts self.old self.new held.now result }
     {
         if self.failed {
             return Err(StoreRefusal::Reopen);
@@ -76,11 +80,11 @@ impl<D: Disk> Store<D> {
     /// Lets a version go. Where this was its last holder and the state lists it no longer, its
     /// sectors are free. It makes no call of the disk and takes no memory, also after S2; and it
     /// does nothing where nobody holds the version here. A handle of another store, or from before
-    /// the disk was opened again, is taken as `read_held` takes it.
-    pub fn let_go(&mut self, held: Held)
-        ensures { LetsGo D.facts self.old self.new held }
+    /// the disk was opened again, is taken as `read_version` takes it.
+    pub fn let_version_go(&mut self, held: HeldVersion)
+        ensures { LetsVersionGo D.facts self.old self.new held }
     {
-        let Held { at } = held;
+        let HeldVersion { at } = held;
         if let Some(version) = self.held.let_go(at) {
             if !version.listed {
                 give_back(&mut self.layout, &version.placed);

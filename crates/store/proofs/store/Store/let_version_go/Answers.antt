@@ -1,22 +1,23 @@
 use Rattle.std.proofs.Common.{rules, ◌≡◌, ⊎_elim, true, false, refl, sym, subst}
-use Rattle.store.specs.Holding.{LetsGo}
+use Rattle.store.specs.HeldVersions.{LetsVersionGo}
 use Rattle.store.specs.Opened.{Opened}
 use Rattle.store.specs.inside.Kept.{IsKept}
-use Rattle.store.proofs.Handles.{gone_done, gone_freed, gone_held, gone_listed, held_fits, kept_held, less_done, none_done, with_held}
-use Rattle.store.proofs.Holdings.{by_place, held_less, lone_less}
-use Rattle.store.proofs.store.Store.let_go.Given as given
-use Rattle.store.proofs.store.Store.let_go.Goals.{After-let_go}
-use Rattle.store.proofs.store.Store.let_go.Goals as goal
+use Rattle.store.proofs.HeldVersions.{gone_done, gone_freed, gone_held, gone_listed, held_fits, kept_held, less_done, none_done, with_held}
+use Rattle.store.proofs.HeldRows.{by_place, held_less, lone_less}
+use Rattle.store.proofs.store.Store.let_version_go.Given as given
+use Rattle.store.proofs.store.Store.let_version_go.Goals.{After-let_go}
+use Rattle.store.proofs.store.Store.let_version_go.Goals as goal
 
 -- the store before
 abbrev before : (g : given.Over) (c : After-let_go g) → Opened g.row.D.Denot
 before g c = record { disk = c.self.inside.disk; root = c.self.inside.root; entries = c.self.inside.entries.items; held = c.self.inside.held; failed = c.self.inside.failed }
 
 -- by the caller's words for the store and the handle
-said : (g : given.Over) (c : After-let_go g) (after : Opened g.row.D.Denot) → LetsGo g.D.Disk.facts (before g c) after c.held.inside.at → LetsGo g.D.Disk.facts c.args.self.now after c.args.held
+said : (g : given.Over) (c : After-let_go g) (after : Opened g.row.D.Denot) → LetsVersionGo g.D.Disk.facts (before g c) after c.held.inside.at
+    → LetsVersionGo g.D.Disk.facts c.args.self.now after c.args.held
 said g c after done =
-    subst (λ store. LetsGo g.D.Disk.facts store after c.args.held) c.self.view_is
-    (subst (λ at. LetsGo g.D.Disk.facts (before g c) after at) c.held.view_is done)
+    subst (λ store. LetsVersionGo g.D.Disk.facts store after c.args.held) c.self.view_is
+    (subst (λ at. LetsVersionGo g.D.Disk.facts (before g c) after at) c.held.view_is done)
 
 pub give_back-requires-clause-fits : goal.give_back-requires-clause-fits
 give_back-requires-clause-fits g c = held_fits c.self.invariant.0 (by_place c.in-Some.ensures.some.at)
@@ -68,5 +69,5 @@ returns-in_default g c =
     said g here (with_held (before g here) c.let_go.new.self)
     (⊎_elim
     (λ less. less_done g.D.Disk.facts (before g here) c.self.invariant.0 less)
-    (λ same. subst (λ l. LetsGo g.D.Disk.facts (before g here) (with_held (before g here) l) c.held.inside.at) (sym same.1) (none_done g.D.Disk.facts (before g here) c.self.invariant.0 same.0))
+    (λ same. subst (λ l. LetsVersionGo g.D.Disk.facts (before g here) (with_held (before g here) l) c.held.inside.at) (sym same.1) (none_done g.D.Disk.facts (before g here) c.self.invariant.0 same.0))
     (c.in_default.ensures.none refl))

@@ -10,19 +10,18 @@ use Rattle.passes.proofs.Runs.{bytes_at_same}
 use Rattle.roots.specs.declared.root.Root.{Root}
 use Rattle.states.specs.State.{Library}
 use Rattle.store.specs.declared.placed_entry.PlacedEntry.{PlacedEntry}
-use Rattle.store.specs.declared.holding.Holding.{Holding}
+use Rattle.store.specs.declared.held_versions.HeldRow.{HeldRow}
 use Rattle.store.specs.Stands.{extents_of, library_of, name_of, sectors_of, used}
-use Rattle.store.specs.Held.{in_use, lone_sectors, own_sectors, IsHeldBy}
-use Rattle.store.specs.Holders.{KeepsHolders}
+use Rattle.store.specs.HeldVersions.{in_use, lone_sectors, own_sectors, IsHeldBy, KeepsHolders}
 use Rattle.store.specs.Opened.{Opened}
 use Rattle.store.specs.inside.Claimed.{IsUsable}
-use Rattle.store.specs.inside.Holdings.{IsLeft}
+use Rattle.store.specs.inside.HeldRows.{IsLeft}
 use Rattle.store.specs.inside.Kept.{IsKept}
 use Rattle.store.specs.inside.Room.{IsRootOr}
 use Rattle.store.proofs.Anew.{all_usable}
 use Rattle.store.proofs.Counts.{occurs, occurs-flat_map, occurs_contains, contains_occurs}
-use Rattle.store.proofs.HeldRows.{no_holding}
-use Rattle.store.proofs.Holdings.{by_left, by_left_back, holders_left}
+use Rattle.store.proofs.KeyedRows.{no_row}
+use Rattle.store.proofs.HeldRows.{by_left, by_left_back, holders_left}
 use Rattle.store.proofs.UsedAlone.{among_used}
 
 -- the sectors of an entry that the state lists are in use by it
@@ -30,7 +29,7 @@ pub listed_used : (root : Root) (entries : List PlacedEntry) (placed : PlacedEnt
 listed_used root entries placed found k its = among_used root entries found.0 placed found.1 k (subst (λ p. Contains (sectors_of p) k) (sym found.2) its)
 
 -- a change of root sectors and of sectors that aren't in use leaves out all that is in use
-pub apart_from : {root : Root} {entries : List PlacedEntry} {held : List Holding} {layout : List Bool} → (kept : IsKept root entries held layout)
+pub apart_from : {root : Root} {entries : List PlacedEntry} {held : List HeldRow} {layout : List Bool} → (kept : IsKept root entries held layout)
     → (changed : List ℕ) → ((k : ℕ) → Contains changed k → Contains (in_use root entries held) k → ⊥) → (k : ℕ)
     → Contains (in_use root entries held) k → IsRootOr changed k → ⊥
 apart_from {root = root} {entries = entries} {held = held} kept changed apart k found either = ⊎_elim
@@ -38,24 +37,24 @@ apart_from {root = root} {entries = entries} {held = held} kept changed apart k 
     (λ here. apart k here found)
     either
 
-module _ {root : Root} {entries : List PlacedEntry} {held : List Holding} {layout : List Bool} (kept : IsKept root entries held layout) where
+module _ {root : Root} {entries : List PlacedEntry} {held : List HeldRow} {layout : List Bool} (kept : IsKept root entries held layout) where
   -- The sectors of a held version are in use, by the state or by its holders.
   pub held_in_use : {at : ℕ} {placed : PlacedEntry} → IsHeldBy held at placed → (k : ℕ) → Contains (sectors_of placed) k → Contains (in_use root entries held) k
   held_in_use {placed = placed} by k found = ⊎_elim
       (λ listed.
-      let among : Contains entries placed = subst (Contains entries) (by.is no_holding) ((kept.rows.each by.place no_holding by.inside).listed listed) in
+      let among : Contains entries placed = subst (Contains entries) (by.is no_row) ((kept.rows.each by.place no_row by.inside).listed listed) in
       Contains-append_left (used root entries) (lone_sectors held) k (listed_used root entries placed among k found))
       (λ isnt.
-      let row = get_or held by.place no_holding in
-      let its : occurs k (own_sectors row) ≡ occurs k (sectors_of placed) = ap (λ b. occurs k (if b then [] else sectors_of row.placed)) isnt ∙ ap (λ p. occurs k (sectors_of p)) (by.is no_holding) in
+      let row = get_or held by.place no_row in
+      let its : occurs k (own_sectors row) ≡ occurs k (sectors_of placed) = ap (λ b. occurs k (if b then [] else sectors_of row.placed)) isnt ∙ ap (λ p. occurs k (sectors_of p)) (by.is no_row) in
       Contains-append_right (used root entries) (lone_sectors held) k (occurs_contains k (lone_sectors held) (omega (
         arith,
         its,
         contains_occurs k (sectors_of placed) found,
         occurs-flat_map k own_sectors held,
-        get_or-le-sum_by (λ (h : Holding). occurs k (own_sectors h)) held by.place no_holding by.inside,
+        get_or-le-sum_by (λ (h : HeldRow). occurs k (own_sectors h)) held by.place no_row by.inside,
       ))))
-      (cases_Bool (get_or held by.place no_holding).listed)
+      (cases_Bool (get_or held by.place no_row).listed)
 
   module _ {before after : DiskFacts} (changed : List ℕ) (apart : (k : ℕ) → Contains changed k → Contains (in_use root entries held) k → ⊥)
       (others : IsTrue before.honest → (m : List Sector) → Mixture after m → IsMixtureBut (IsRootOr changed) before m) where
@@ -78,7 +77,7 @@ module _ {root : Root} {entries : List PlacedEntry} {held : List Holding} {layou
     }
 
     -- and so does one after which the state lists a version no longer.
-    pub keeps_left : {new : List Holding} → {at : ℕ} → IsLeft held new at → KeepsHolders before after held new
+    pub keeps_left : {new : List HeldRow} → {at : ℕ} → IsLeft held new at → KeepsHolders before after held new
     keeps_left {new = new} left = record {
       holders = holders_left left;
       bytes = λ honest at library is. record { placed = is.placed; by = by_left left is.by; stands = held_bytes honest is.by library is.stands };
@@ -87,7 +86,7 @@ module _ {root : Root} {entries : List PlacedEntry} {held : List Holding} {layou
     }
 
 -- Reads keep all that is held.
-pub keeps_reads : {before after : DiskFacts} (held : List Holding) → (IsTrue before.honest → (m : List Sector) → Mixture after m → Mixture before m) → KeepsHolders before after held held
+pub keeps_reads : {before after : DiskFacts} (held : List HeldRow) → (IsTrue before.honest → (m : List Sector) → Mixture after m → Mixture before m) → KeepsHolders before after held held
 keeps_reads held still = record {
   holders = λ sector. refl;
   bytes = λ honest sector library is. record { placed = is.placed; by = is.by; stands = λ m mixture. is.stands m (still honest m mixture) };
