@@ -3,6 +3,7 @@ ghost use Rattle.std.specs.Prelude.{◌<◌};
 
 use crate::every_line::{LINES, are_answers, script};
 use crate::harms::{OLD_ROWS, ROWS, Row, Wanted};
+use crate::scripts::summary;
 use crate::sectors::{Sectors, harmed, one_library};
 use binders::Binders;
 use commands::{ScriptFault, Summary, run_script_on_disk};
@@ -53,13 +54,7 @@ fn is_answered_so(alloc: Global, registry: Registry<Liar>, script: &[u8], wanted
     let mut output = Vec::new(alloc);
     let ended = run(alloc, registry, script, &mut output);
     match wanted {
-        Ok((first, refused)) => {
-            let summary = Summary {
-                lines: LINES,
-                refused,
-            };
-            ended == Ok(summary) && are_answers(&output, first)
-        }
+        Ok((first, refused)) => ended == Ok(summary(LINES, refused)) && are_answers(&output, first),
         Err(_) => false,
     }
 }

@@ -68,6 +68,11 @@ impl Read for Texts<'_> {
 /// What a script ends with.
 type Ended = Result<Summary, ScriptFault>;
 
+/// So many lines, of which so many were refused.
+pub(crate) fn summary(lines: u64, refused: u64) -> Summary {
+    Summary { lines, refused }
+}
+
 /// What a script does over a reader of these texts: what it ends with, the letters of its events,
 /// and what it writes.
 fn run_texts(alloc: Global, texts: &[&str], last: Option<ErrorKind>) -> (Ended, Vec<u8>, Vec<u8>) {
@@ -97,41 +102,27 @@ fn each_form_of_line_asks_its_command(rt: HostRuntime) {
     let (ended, letters, output) = run_texts(rt.alloc(), &texts, None);
     let wanted = b"ok\nok\nok\nok\nok\nok\nok\nok\nok\nok\n\
         refused L1 BadLine\nrefused L1 BadLine\nrefused L2 CutLine\n";
-    let summary = Summary {
-        lines: 13,
-        refused: 3,
-    };
     let is_asked = letters.as_slice() == b"irdppblgac".as_slice();
     let is_written = output.as_slice() == wanted.as_slice();
-    assert!(rt; (ended, is_asked, is_written) == (Ok(summary), true, true));
+    assert!(rt; (ended, is_asked, is_written) == (Ok(summary(13, 3)), true, true));
 }
+
+const OTHER: ErrorKind = ErrorKind::Other;
+
+const READ: ScriptFault = ScriptFault::Read;
+
+const MEMORY: ScriptFault = ScriptFault::OutOfMemory;
 
 /// What a reader gives before it fails, how it fails, the letters of the events that happened, each
 /// of which is answered `ok`, and what the script ends with.
 static CUT: [(&[&str], ErrorKind, &str, ScriptFault); 6] = [
     // At once, in the middle of a line, and between lines.
-    (&[], ErrorKind::Other, "", ScriptFault::Read),
-    (&["li"], ErrorKind::Other, "", ScriptFault::Read),
-    (&["list\npreload"], ErrorKind::Other, "l", ScriptFault::Read),
-    (
-        &["list\npre", "load\n"],
-        ErrorKind::Other,
-        "lp",
-        ScriptFault::Read,
-    ),
-    (
-        &["list\n", "list\nlist"],
-        ErrorKind::Other,
-        "ll",
-        ScriptFault::Read,
-    ),
-    // For want of memory.
-    (
-        &["list\n"],
-        ErrorKind::OutOfMemory,
-        "l",
-        ScriptFault::OutOfMemory,
-    ),
+    (&[], OTHER, "", READ),
+    (&["li"], OTHER, "", READ),
+    (&["list\npreload"], OTHER, "l", READ),
+    (&["list\npre", "load\n"], OTHER, "lp", READ),
+    (&["list\n", "list\nlist"], OTHER, "ll", READ),
+    (&["list\n"], ErrorKind::OutOfMemory, "l", MEMORY),
 ];
 
 /// Whether a script is cut off so.
@@ -163,10 +154,7 @@ const UNWRITTEN: Ended = Err(ScriptFault::Write);
 
 #[test]
 fn a_writer_fails_at_each_write(rt: HostRuntime) {
-    let done = Summary {
-        lines: 7,
-        refused: 2,
-    };
+    let done = summary(7, 2);
     for (room, events, wanted) in [
         // The first change was made, and its answer is behind the three before it.
         (0, 3, UNWRITTEN),
@@ -239,12 +227,8 @@ fn a_writer_fails_within_an_image(rt: HostRuntime) -> Result<(), Fail> {
     // A line, two pieces of the image, a line; and the same where no write takes more than 8 KiB.
     let at_once = takes_writes(alloc, script.as_bytes(), &whole, (4, usize::MAX))?;
     let in_pieces = takes_writes(alloc, script.as_bytes(), &whole, (11, 8192))?;
-    let done = Summary {
-        lines: 3,
-        refused: 0,
-    };
     let is_long = whole.1.len() > 72_000;
-    assert!(rt; (whole.0, is_long, at_once, in_pieces) == (Ok(done), true, true, true));
+    assert!(rt; (whole.0, is_long, at_once, in_pieces) == (Ok(summary(3, 0)), true, true, true));
     Ok(())
 }
 
@@ -258,10 +242,6 @@ fn a_line_of_33_mib_is_read_once(rt: HostRuntime) -> Result<(), Fail> {
     let mut output = Vec::new(rt.alloc());
     let ended = run_script(rt.alloc(), &mut text.as_slice(), &mut output, &mut asked);
     let is_written = output.as_slice() == b"refused L1 BadLine\nok\n".as_slice();
-    let summary = Summary {
-        lines: 2,
-        refused: 1,
-    };
-    assert!(rt; (ended, is_written) == (Ok(summary), true));
+    assert!(rt; (ended, is_written) == (Ok(summary(2, 1)), true));
     Ok(())
 }

@@ -2,6 +2,7 @@
 
 ghost use Rattle.std.specs.Prelude.{⊤};
 
+use crate::scripts::summary;
 use binders::{Event, EventReply};
 use commands::{ScriptFault, Summary, TakesEvents, run_script};
 use requests::{Command, Refusal, Reply};
@@ -124,10 +125,7 @@ fn watched(alloc: Global, answered: &Cell<usize>) -> (Result<Summary, ScriptFaul
 fn no_answer_is_missing_when_more_is_read_or_a_change_was_made(rt: HostRuntime) {
     let answered = Cell::new(0usize);
     let found = watched(rt.alloc(), &answered);
-    let wanted = Summary {
-        lines: 14,
-        refused: 5,
-    };
+    let wanted = summary(14, 5);
     // The line without a newline is answered by itself, since the reader was asked for its end.
     assert!(rt; (found, answered.get()) == ((Ok(wanted), 6, false), 14));
 }

@@ -86,10 +86,8 @@ fn round<'b>(alloc: Global, turn: &Turn, events: &'b [Rc<Event>]) -> Result<Roun
 fn outcome(alloc: Global, course: &Course, cut: Cut) -> Result<(Told, Plain)> {
     let mut plain = course.plain(alloc, true)?;
     if cut.is_in_opening() {
-        let _ = plain.run(
-            course.run.events.get(..1).unwrap_or(&course.run.events),
-            cut,
-        )?;
+        let first = course.run.events.get(..1).unwrap_or(&course.run.events);
+        let _ = plain.run(first, cut)?;
         return Ok((Err(StoreRefusal::Device), plain));
     }
     let answers = plain.run(&course.run.events, cut)?;
