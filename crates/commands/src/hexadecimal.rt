@@ -56,8 +56,8 @@ fn values_of(digits: &[u8; DIGITS]) -> Option<[u8; DIGITS]>
     }
 }
 
-/// The byte of the values of two digits. One number in place of two lets the compiler make all bytes
-/// of a piece at once.
+/// The byte of the values of two digits. One number in place of two lets the compiler make all
+/// bytes of a piece at once.
 fn byte_of(values: [u8; 2]) -> u8
     requires high { slice_index values 0 < 16 }
     requires low { slice_index values 1 < 16 }
