@@ -1,5 +1,4 @@
 // A bind.
-ghost use Rattle.std.specs.Prelude.{◌≡◌};
 ghost use Rattle.requests.specs.Request.{request_of};
 ghost use Rattle.c_answers.specs.Answers.{IsBindAnswered, IsBindTold};
 

@@ -1,5 +1,4 @@
 // Changes of the libraries: plans.
-ghost use Rattle.std.specs.Prelude.{◌≡◌};
 ghost use Rattle.requests.specs.Request.{request_of};
 ghost use Rattle.byte_registry.specs.Plans.{synced_plan};
 ghost use Rattle.c_answers.specs.Answers.{IsChangeAnswered, IsChangeTold, IsLeft};

@@ -1,5 +1,4 @@
 // Making an empty registry: a plan.
-ghost use Rattle.std.specs.Prelude.{◌≡◌};
 ghost use Rattle.c_answers.specs.Answers.{IsFormatAnswered, IsLeft};
 
 use crate::answer::Answer;

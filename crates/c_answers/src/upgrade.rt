@@ -1,5 +1,4 @@
 // Making a disk of version 1 one of version 2: a plan.
-ghost use Rattle.std.specs.Prelude.{◌≡◌};
 ghost use Rattle.c_answers.specs.Answers.{IsLeft, IsUpgradeAnswered};
 
 use crate::answer::Answer;
