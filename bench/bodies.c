@@ -3,7 +3,7 @@
 
    right         lets the cache go as it has to be, after the first sync of a descriptor (for a program that doesn't)
    none          the cache isn't let go
-   once          it is let go once, and not twice
+   small         its first page alone is let go
    before        it is let go before the sync
    after_read    it is let go after the first read
    second_page   it is let go from the second page on
@@ -45,19 +45,25 @@ static bool is(const char *body) {
 
 /* Whether the body is one that lets the cache go at another place than the program does. */
 static bool moves_the_cache(void) {
-    return is("right") || is("none") || is("once") || is("before") || is("after_read") || is("second_page");
+    return is("right") || is("none") || is("small") || is("before") || is("after_read") || is("second_page");
 }
 
 #define NEXT(answer, name, ...) ((answer (*)(__VA_ARGS__))dlsym(RTLD_NEXT, name))
 
 static void let_go(int descriptor) {
-    off_t from = is("second_page") ? PAGE : 0;
-    for (int times = is("once") ? 1 : 2; times > 0; times--)
-        NEXT(int, "posix_fadvise", int, off_t, off_t, int)(descriptor, from, LET_GO - from, POSIX_FADV_DONTNEED);
+    off_t from = is("second_page") ? PAGE : 0, most = is("small") ? PAGE : LET_GO;
+    for (off_t size = PAGE; size <= most; size *= 2)
+        NEXT(int, "posix_fadvise", int, off_t, off_t, int)(descriptor, from, size, POSIX_FADV_DONTNEED);
 }
 
 int posix_fadvise(int descriptor, off_t from, off_t size, int advice) {
     return moves_the_cache() ? 0 : NEXT(int, "posix_fadvise", int, off_t, off_t, int)(descriptor, from, size, advice);
+}
+
+int mincore(void *from, size_t size, unsigned char *is_kept) {
+    if (!moves_the_cache()) return NEXT(int, "mincore", void *, size_t, unsigned char *)(from, size, is_kept);
+    *is_kept = 1;
+    return 0;
 }
 
 static bool is_folder(int descriptor) {
@@ -86,7 +92,7 @@ static int sync_file(int descriptor) {
     if (number == 2 && is("lock_let_go")) NEXT(int, "flock", int, int)(descriptor, LOCK_UN);
     int answer = NEXT(int, "fsync", int)(descriptor);
     if (answer && ((is("einval") && errno == EINVAL) || (is("erofs") && errno == EROFS))) answer = 0;
-    if (number == 1 && !answer && (is("right") || is("once") || is("second_page"))) let_go(descriptor);
+    if (number == 1 && !answer && (is("right") || is("small") || is("second_page"))) let_go(descriptor);
     return answer;
 }
 

@@ -5,7 +5,8 @@ partitions of them. Wants root and what makes such media; what the machine hasn'
     python3 bench/media.py PROGRAM FOLDER [--run RLIBREG_RUN] [--clib TOOL]
 
 The images are made by mksquashfs, mkfs.erofs, genisoimage and mkfs.ext4, and mounted read-only: what only reads works as
-on an ordinary file, a change is answered S1 or that the disk can't be read. On a device each command does what it does on
+on an ordinary file, a change is answered S1 or that the disk can't be read. On ext4, xfs and btrfs the roots of a file are
+exchanged under what the system keeps of it. On a device each command does what it does on
 a file of as many bytes; one that is mounted, swapped to or under device mapper, or whose disk or partition is, is read and
 not changed. RLIBREG_RUN is the loader, which starts a program from each medium; TOOL is the program of c/tests/tool.c.
 """
@@ -13,6 +14,7 @@ not changed. RLIBREG_RUN is the loader, which starts a program from each medium;
 import argparse
 import contextlib
 import fcntl
+import mmap
 import os
 import shutil
 import stat
@@ -43,6 +45,8 @@ MEDIA = {
     'iso9660': ['genisoimage', '-quiet', '-R', '-o', 'image', 'content'],
     'ext4': ['mkfs.ext4', '-q', '-F', '-d', 'content', 'image', '16M'],
 }
+# File systems on which a disk is a file, with the options of their mounts: btrfs without its checksums.
+FILE_SYSTEMS = {'ext4': ('loop', 'mkfs.ext4', '-q', '-F'), 'xfs': ('loop', 'mkfs.xfs', '-q', '-f'), 'btrfs': ('loop,nodatasum', 'mkfs.btrfs', '-q', '-f')}
 
 
 class NotHere(Exception):
@@ -457,6 +461,55 @@ class Media:
                 ends = [self.by.end(it).output for it in lists]
                 self.want(kind, all(output == wanted for output in ends), turn, ends, 'and not', wanted)
 
+    def under_a_file(self):
+        """The medium has older roots of a file than the system keeps, in pages or larger pieces: an opening reads the medium."""
+        for name, (options, *make) in FILE_SYSTEMS.items():
+            kind = f'a file on {name} whose roots have changed on the medium'
+            try:
+                system(*make, zeros(self.image, 1 << 20))
+                with mounted(self.image, self.place, '-t', name, '-o', options):
+                    self.with_older_roots(kind, self.place / 'disk')
+            except NotHere as why:
+                self.checks.skip(f'{self.by.name}: {kind}', why)
+
+    def with_older_roots(self, kind, disk):
+        self.make(disk, 8192, 'a.so', 'b.so', 'large.so')
+        for in_pieces, change in (False, ('remove', 'b')), (True, ('install', 'b.so')):
+            if in_pieces:
+                self.in_pieces(disk)
+            wanted, older = self.answers(disk), self.roots(disk)
+            self.by.done(change[0], str(disk), change[1])
+            os.sync()
+            later, newer = self.answers(disk), self.roots(disk)
+            place = self.place_of(newer)
+            self.write_at(self.image, place, older)
+            self.want(kind, self.answers(disk) == wanted != later, self.answers(disk)[0], 'and not', wanted[0])
+            self.write_at(self.image, place, newer)
+            self.want(kind, self.answers(disk) == later, self.answers(disk)[0], 'and not', later[0])
+
+    def in_pieces(self, disk):
+        """Has the system keep the file in larger pieces than pages, as what is written in one call."""
+        content = disk.read_bytes()
+        os.sync()
+        with open(disk, 'rb') as file:
+            os.posix_fadvise(file.fileno(), 0, 0, os.POSIX_FADV_DONTNEED)
+        self.write_at(disk, 0, content)
+
+    def roots(self, disk):
+        return disk.read_bytes()[:2 * SECTOR]
+
+    def place_of(self, content):
+        """Where some bytes of the image stand, once."""
+        with open(self.image, 'rb') as image, mmap.mmap(image.fileno(), 0, prot=mmap.PROT_READ) as medium:
+            at = medium.find(content)
+            assert at >= 0 and medium.find(content, at + 1) < 0, f'the roots stand at {at}, and once more'
+            return at
+
+    def write_at(self, path, place, content):
+        with open(path, 'r+b', buffering=0) as file:
+            file.seek(place)
+            assert file.write(content) == len(content)
+
     def shorter(self):
         """A device that becomes shorter, before a command and within a script."""
         kind = 'a device that became shorter'
@@ -530,7 +583,7 @@ class Media:
 
     def run(self):
         for part in (self.read_only_media, self.another_user, self.devices, self.odd_sizes, self.partitions, self.in_use, self.two_nodes,
-                     self.locks, self.under_the_cache, self.eight_at_once, self.full_medium, self.shorter, self.read_only_device):
+                     self.locks, self.under_the_cache, self.eight_at_once, self.under_a_file, self.full_medium, self.shorter, self.read_only_device):
             try:
                 part()
             except NotHere as why:

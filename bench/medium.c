@@ -2,8 +2,9 @@
 
    The file is the page cache. What is written to it marks pages of 4,096 bytes dirty, and a sync brings these to the medium. A sync
    that is to fail answers EIO: the dirty pages are then taken for clean, whether the medium has them or not, and the file goes on
-   showing them, to later processes too, until posix_fadvise(POSIX_FADV_DONTNEED) lets go the clean pages that lie whole in its range:
-   they then show what the medium has. Names are the medium's once the folder is synced or, as where a file system has a
+   showing them, to later processes too, until posix_fadvise(POSIX_FADV_DONTNEED) lets them go: they then show what the medium has. The
+   cache is in pieces of four pages, and a piece is let go if it is clean and lies whole in the range; mincore says that the first page is
+   kept until that was let go. Names are the medium's once the folder is synced or, as where a file system has a
    journal, the file itself. Writes through mappings aren't seen.
 
        gcc -std=c11 -O2 -U_FORTIFY_SOURCE -shared -fPIC -o medium.so medium.c
@@ -35,7 +36,7 @@
 #include <sys/uio.h>
 #include <unistd.h>
 
-enum { PAGE = 4096, PAGES = 1024, DESCRIPTORS = 1024, HIGH = 500, CUT_STATUS = 86 };
+enum { PAGE = 4096, PAGES = 1024, PIECE = 4, DESCRIPTORS = 1024, HIGH = 500, CUT_STATUS = 86 };
 enum name { OTHER, THE_DISK, THE_NEW, THE_FOLDER };
 
 struct kept {
@@ -48,6 +49,7 @@ static enum name names[DESCRIPTORS];
 static char disk[PATH_MAX], new_name[PATH_MAX], folder[PATH_MAX];
 static int medium = -1, log_file = -1;
 static int steps, syncs, cut;
+static bool front_is_gone;
 
 static int in_folder(const char *name, int flags) {
     char path[PATH_MAX + 16];
@@ -205,13 +207,22 @@ static int sync_it(int descriptor) {
     return answer;
 }
 
-/* Lets go the clean pages that lie whole in the range, the last one of the file also where its end is the range's. */
+static bool is_clean(off_t first) {
+    for (off_t page = first; page < first + PIECE; page++) {
+        if (kept->dirty[page]) return false;
+    }
+    return true;
+}
+
+/* Lets go the clean pieces that lie whole in the range, the last one of the file also where its end is the range's. */
 static void let_go(int descriptor, off_t from, off_t size) {
     int file = file_again(descriptor);
     off_t end = length_of(file), stop = size ? from + size : end;
-    for (off_t page = (from + PAGE - 1) / PAGE; page < PAGES && page * PAGE < end; page++) {
-        bool whole = (page + 1) * PAGE <= stop || stop == end;
-        if (whole && page * PAGE < stop && !kept->dirty[page]) copy_page(medium, file, page, PAGE, end);
+    for (off_t first = 0; first < PAGES && first * PAGE < end; first += PIECE) {
+        bool whole = (first + PIECE) * PAGE <= stop || stop >= end;
+        if (first * PAGE < from || !whole || !is_clean(first)) continue;
+        for (off_t page = first; page < first + PIECE; page++) copy_page(medium, file, page, PAGE, end);
+        if (!first) front_is_gone = true;
     }
     syscall(SYS_close, file);
 }
@@ -299,6 +310,7 @@ int dup(int descriptor) {
 }
 
 static ssize_t was_read(int descriptor, off_t from, ssize_t answer) {
+    if (is_file(descriptor)) front_is_gone = false;
     if (is_file(descriptor)) note("read %d %lld %zd\n", descriptor, (long long)from, answer);
     return answer;
 }
@@ -387,6 +399,13 @@ int posix_fadvise(int descriptor, off_t from, off_t size, int advice) {
         note("letgo %d %lld %lld\n", descriptor, (long long)from, (long long)size);
         let_go(descriptor, from, size);
     }
+    return 0;
+}
+
+int mincore(void *from, size_t size, unsigned char *is_kept) {
+    (void)from, (void)size;
+    *is_kept = !front_is_gone;
+    note("asked %s\n", front_is_gone ? "gone" : "kept");
     return 0;
 }
 

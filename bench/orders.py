@@ -1,17 +1,20 @@
-"""The order of the calls that the program `rlibreg` makes, as `medium.c` logs them, for `syncs.py`: lock, sync, the
-cache let go twice, the first read; all writes before the sync, and that before the reply and before a name is given; the
-lock until the last sync."""
+"""The order of the calls that the program `rlibreg` makes, as `medium.c` logs them, for `syncs.py`: lock, sync, more and
+more of the front let go until that is gone, the first read; all writes before the sync, and that before the reply and before
+a name is given; the lock until the last sync."""
 
 from machines import has_failed
 
-LET_GO = ['0', str(2 << 20)]
+# How much of the front is let go first, and at most.
+PAGE, FRONT = 4096, 2 << 20
 
 
 class OpenFile:
     """What was done with an open file so far, by all its descriptors."""
 
     def __init__(self):
-        self.descriptors, self.lock, self.synced, self.let_go, self.read, self.written = 1, '', False, 0, False, False
+        self.descriptors, self.lock, self.synced, self.read, self.written = 1, '', False, False, False
+        # How much was let go last, and whether the front was gone then.
+        self.let_go, self.is_gone = 0, False
 
 
 class Order:
@@ -19,6 +22,7 @@ class Order:
         self.log, self.shared, self.files, self.faults = log, shared, {}, set()
         # Whether a write waits for its sync, and a name for that of the folder.
         self.waiting = self.unnamed = False
+        self.letting_go = None
         self.last_sync = max([at for at, line in enumerate(log) if line[0] == 'sync'], default=-1)
 
     def run(self):
@@ -63,12 +67,17 @@ class Order:
     def read(self, file, _):
         if not file.read:
             self.fault_if(not self.is_locked(file), 'it is read without its lock')
-            self.fault_if(not file.synced or file.let_go < 2, 'it is read before the sync, or before the cache is let go twice')
+            forgotten = file.is_gone or file.let_go == FRONT
+            self.fault_if(not file.synced or not forgotten, 'it is read before the sync, or before its front is gone')
         file.read = True
 
     def letgo(self, file, words):
-        self.fault_if(not file.synced or file.read or words[1:] != LET_GO, 'the cache is let go at another time or place')
-        file.let_go += 1
+        size = 2 * file.let_go or PAGE
+        self.fault_if(not file.synced or file.read or words[1:] != ['0', str(size)], 'the cache is let go at another time or place')
+        file.let_go, self.letting_go = size, file
+
+    def asked(self, _, words):
+        self.letting_go.is_gone = words == ['gone']
 
     def write(self, file, _):
         self.fault_if(file.lock != 'exclusive', 'it is written without its lock')

@@ -29,7 +29,7 @@ fi
 cp "$RLIBREG_C" "$folder/proved.a"
 
 # The C over them, and what gives the proved calls their memory.
-parts='file disk_file new_disk status'
+parts='file disk_file new_disk front status'
 for part in $parts; do
     gcc $flags -c -o "$folder/rlibreg_$part.o" "c/rlibreg_$part.c"
 done
@@ -62,7 +62,7 @@ program() {
         object=crates/$crate/out/$crate.o
     fi
     gcc $flags -pie -Wl,--gc-sections,--wrap=fsync -o "$folder/$name" c/rlibreg_forget.c \
-        "$object" "$kit/c/libos_c.a" "$kit/c/liblibc_c.a" -lm
+        c/rlibreg_front.c "$object" "$kit/c/libos_c.a" "$kit/c/liblibc_c.a" -lm
 }
 program rlibreg "${RLIBREG_O:-}" rlibreg image data/minimal.so 0x10000
 program rlibreg-tool "${RLIBREG_TOOL_O:-}" rlibreg_tool info data/disk

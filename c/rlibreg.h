@@ -34,9 +34,9 @@
  *   it. Over NFS it may do nothing. A child of fork has it too, until the process that opened the
  *   disk closes it, or, where that ends without doing so, as long as the child keeps the file open.
  * - After a sync that failed Linux takes the pages for written, and gives them to whoever reads.
- *   So an opening syncs the file, and has the system forget what it keeps of the first 2 MiB, where
- *   the registry's two roots stand: what is read then is what the medium has. Pages that a process
- *   has mapped aren't forgotten, so nobody maps the disk who hasn't its lock.
+ *   So an opening syncs the file, and has the system forget what it keeps of the front, where the
+ *   registry's two roots stand: what is read then is what the medium has. Pages that a process has
+ *   mapped aren't forgotten, so nobody maps the disk who hasn't its lock.
  * - The two roots stand in one block of 4,096 bytes. A medium that ruins a block of that size which
  *   it was writing can lose both.
  * - There is no checksum: a byte that changed on the medium within a library's code isn't seen, by

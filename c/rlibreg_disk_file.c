@@ -12,10 +12,6 @@
 #include <time.h>
 #include <unistd.h>
 
-/* How much of a file the system is made to forget: the roots stand in the first 1,024 bytes, and
- * what the system keeps of a file is in pieces of at most as many bytes as this. */
-enum { FRONT = 2 << 20 };
-
 /* How often the lock of a device is tried, ten milliseconds apart. */
 enum { DEVICE_TRIES = 200 };
 
@@ -155,21 +151,14 @@ static int sync_file(int fd, unsigned flags) {
     return !(flags & RLIBREG_CHANGES) && errno == EINVAL ? 0 : -1;
 }
 
-/* Has the system forget what it keeps of the front of a file. After a sync that failed it takes
- * what it keeps for written; what the medium has is known only once it is read from there. It is
- * asked twice, since it passes over a piece that another call is using. */
-static void forget_front(int fd) {
-    for (int i = 0; i < 2; i++) posix_fadvise(fd, 0, FRONT, POSIX_FADV_DONTNEED);
-}
-
 uint32_t rlibreg_disk_file_map(struct disk_file *it, unsigned flags) {
     if (sync_file(it->fd, flags)) return RLIBREG_SYSTEM;
-    forget_front(it->fd);
     off_t length = lseek(it->fd, 0, SEEK_END); /* what fstat says of a device isn't its length */
     if (length < 0) return RLIBREG_SYSTEM;
     if (!length) return RLIBREG_DONE; /* a disk without bytes: each call is answered S6 */
     void *map = mmap(NULL, (size_t)length, PROT_READ, MAP_SHARED, it->fd, 0);
     if (map == MAP_FAILED) return RLIBREG_SYSTEM;
+    rlibreg_forget_front(it->fd, map);
     it->bytes = map;
     it->length = (size_t)length;
     return RLIBREG_DONE;

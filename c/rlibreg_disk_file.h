@@ -34,6 +34,13 @@ uint32_t rlibreg_disk_file_open(struct disk_file *it, const char *path, unsigned
 /* Maps what the medium has of a file that is open and locked. */
 uint32_t rlibreg_disk_file_map(struct disk_file *it, unsigned flags);
 
+/* Has the system forget what it keeps of the front of a file that is synced (rlibreg_front.c). After
+ * a sync that failed it takes that for written: what the medium has is known only once it is read
+ * from there. More and more is to be forgotten, until the first page is gone, as a map of the file
+ * shows; without one, 2 MiB. What a process has read through a map isn't forgotten, nor what another
+ * call is using just then. */
+void rlibreg_forget_front(int fd, void *map);
+
 /* Puts a file that is to be locked into the list of the locks of this process. RLIBREG_HELD: one of
  * them excludes it, which nobody could wait for. */
 uint32_t rlibreg_disk_file_enlist(struct disk_file *it, const struct stat *found, unsigned flags);

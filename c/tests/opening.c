@@ -51,7 +51,7 @@ static uint64_t generation_of(const char *path, unsigned flags) {
 /* ---- The order of the calls */
 
 static void try_order(void) {
-    const char *behind = "sync forget forget map unlock ";
+    const char *behind = "sync map forget asked unlock ";
     const struct {
         unsigned flags;
         const char *lock;
@@ -65,6 +65,19 @@ static void try_order(void) {
         watch();
         WANT(!opens("disk", all[i].flags));
         WANT(!strcmp(watched.log, wanted));
+        unwatch();
+    }
+}
+
+/* More and more of the front is forgotten, until the system says that it is gone. */
+static void try_front(void) {
+    const int often[] = { 0, 1, 9, 10 };
+    for (size_t i = 0; i < sizeof often / sizeof *often; i++) {
+        watch();
+        watched.keeps = often[i];
+        WANT(!opens("disk", 0) && made("map forget asked"));
+        WANT(watched.forgotten == (often[i] < 10 ? 4096 << often[i] : 2 << 20));
+        WANT(watched.keeps == (often[i] < 10 ? -1 : 0));
         unwatch();
     }
 }
@@ -191,7 +204,7 @@ static void try_syncs(void) {
         watched.refused = "sync";
         watched.because = kinds[i];
         uint32_t status = opens("disk", 0);
-        WANT(has_none ? !status && strstr(made("sync"), "forget forget map")
+        WANT(has_none ? !status && strstr(made("sync"), "map forget asked")
                       : fails_by(status, kinds[i]) && !made("map"));
         WANT(fails_by(opens("disk", CHANGES), kinds[i]));
         unwatch();
@@ -257,10 +270,10 @@ static void try_devices(void) {
     uint64_t generation = generation_of("disk", 0);
     watch_device();
     WANT(generation_of("disk", 0) == generation);
-    WANT(!strcmp(watched.log, "open lock-shared sync forget forget map unlock "));
+    WANT(!strcmp(watched.log, "open lock-shared sync map forget asked unlock "));
     watch_device();
     WANT(generation_of("disk", CHANGES) == generation);
-    WANT(!strcmp(watched.log, "open lock-alone open-alone sync forget forget map unlock "));
+    WANT(!strcmp(watched.log, "open lock-alone open-alone sync map forget asked unlock "));
     watch_device();
     watched.refused = "open-alone";
     watched.because = EBUSY;
@@ -313,6 +326,7 @@ int main(int argc, char **argv) {
     alarm(60); /* who waits for himself doesn't wait for ever */
     format("disk");
     try_order();
+    try_front();
     try_faults(0);
     try_faults(CHANGES);
     try_locks();

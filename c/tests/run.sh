@@ -27,11 +27,11 @@ compiled() {
     mkdir -p "$objects/$1"
     (cd "$objects/$1" && gcc $2 -c "${@:3}")
 }
-library=$(printf "$here/../rlibreg_%s.c " file disk_file new_disk status)
+library=$(printf "$here/../rlibreg_%s.c " file disk_file new_disk front status)
 compiled library "$checked" $library
 beside="$objects/library/*.o $built/librlibreg.a"
 watched=$(printf ',--wrap=%s' open openat fstat stat fstatat lseek nanosleep flock fsync \
-    posix_fadvise mmap ftruncate pwrite linkat renameat2 renameat unlink unlinkat)
+    posix_fadvise mincore mmap ftruncate pwrite linkat renameat2 renameat unlink unlinkat)
 watched="-Wl$watched $objects/tests/watched.o"
 plain='tool calls cuts'
 over_watched='opening making forked contents findings'

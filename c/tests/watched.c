@@ -135,12 +135,23 @@ WRAPPED(int, fsync, int fd) {
 }
 
 WRAPPED(int, posix_fadvise, int fd, off_t from, off_t length, int advice) {
-    WANT(!watched.is_on || (from == 0 && length == 2 << 20 && advice == POSIX_FADV_DONTNEED));
+    off_t more = watched.forgotten ? 2 * watched.forgotten : 4096;
+    if (watched.is_on) WANT(from == 0 && length == more && advice == POSIX_FADV_DONTNEED);
+    watched.forgotten = length;
     return fails("forget", 0) ? errno : __real_posix_fadvise(fd, from, length, advice);
+}
+
+WRAPPED(int, mincore, void *from, size_t length, unsigned char *kept) {
+    if (fails("asked", 0)) return -1;
+    if (!watched.is_on) return __real_mincore(from, length, kept);
+    WANT(length == 1);
+    *kept = watched.keeps-- > 0;
+    return 0;
 }
 
 WRAPPED(void *, mmap, void *at, size_t length, int how, int kind, int fd, off_t from) {
     if (watched.is_on) WANT(kind == MAP_SHARED && how == PROT_READ && from == 0);
+    watched.forgotten = 0;
     return fails("map", 0) ? MAP_FAILED : __real_mmap(at, length, how, kind, fd, from);
 }
 

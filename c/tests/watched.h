@@ -34,6 +34,8 @@ struct watched {
     int because, because_too; /* how they do */
     long times;               /* so many of the first of these words */
     dev_t device;             /* a regular file is said to be this block device; or 0 */
+    int keeps;                /* so often the front of a file is said to be kept by the system */
+    off_t forgotten;          /* how much of it was to be forgotten last */
     int is_short;             /* whether each write does less than it is asked */
     int is_dirty;             /* whether a file was written or cut since the last sync */
 
