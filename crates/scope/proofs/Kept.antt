@@ -195,7 +195,9 @@ module _ (objects : List Named) (all : List NumberedSymbol) where
         sym (definition-absent file name (λ i is.
         let exported = exported-as (file_at objects place) name i is in
         let named = named-as (file_at objects place) name i is in
-        let h = numbered.are.every place i (omega (arith, lt, length-map objects (λ (o : Named). o.file))) (exported_some (file_at objects place) i exported) (exported_within (file_at objects place) i exported) in
+        let some = exported_some (file_at objects place) i exported in
+        let within = exported_within (file_at objects place) i exported in
+        let h = numbered.are.every place i (omega (arith, lt, length-map objects (λ (o : Named). o.file))) some within in
         none h.at h.within h.object
         (ap (λ o. is_exported (file_at objects o) (nth_symbol all h.at).symbol) h.object ∙ ap (is_exported (file_at objects place)) h.symbol ∙ exported)
         (ap (λ o. name_of (file_at objects o) (nth_symbol all h.at).symbol) h.object ∙ ap (name_of (file_at objects place)) h.symbol ∙ named)))

@@ -27,7 +27,8 @@ loop-position-preserved g c libraries lists =
     let name = name_listed g.D.Disk.facts store libraries lists c.from.result c.name.result.now kept c.name.ensures.value c.name.ensures.state in
     let named = subst (λ n. Appends before after (behind_space n)) name both in
     let placed = subst (λ k. Appends before after (spaced libraries k)) c.from.ensures named in
-    subst (Appends start after) (sym (text-more f positions i 0 c.loop-position-test.true)) (Appends-trans start before after front (f (get_or positions i 0)) (c.loop-position.invariant libraries lists) placed)
+    let begun = c.loop-position.invariant libraries lists in
+    subst (Appends start after) (sym (text-more f positions i 0 c.loop-position-test.true)) (Appends-trans start before after front (f (get_or positions i 0)) begun placed)
 
 pub returns : goal.returns
 returns g c libraries lists =
