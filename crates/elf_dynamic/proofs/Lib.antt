@@ -4,3 +4,4 @@ mod Misplaced
 mod SymbolNumbers
 mod StringEnds
 mod SignedSum
+pub mod NoneRefused

@@ -8,6 +8,7 @@ ghost use Rattle.elf_dynamic.specs.Symbol.{is_local, is_global, is_weak, is_defi
 ghost use Rattle.elf_dynamic.specs.Symbol.{is_function_or_object, is_visible, is_hidden};
 ghost use Rattle.elf_dynamic.specs.Symbol.{has_default_visibility};
 ghost use Rattle.elf_dynamic.specs.Symbol.{is_common, is_tls, is_ifunc, is_badly_bound};
+ghost use Rattle.elf_dynamic.specs.inside.Symbols.{is_refused};
 
 use elf_file::{SYMBOL_SIZE, u16_at, u32_at, u64_at};
 
@@ -188,6 +189,26 @@ fn is_badly_bound(symbol: Symbol) -> bool
     ensures { result ≡ is_badly_bound symbol }
 {
     !symbol.is_local() && !symbol.is_global() && !symbol.is_weak()
+}
+
+/// Whether one of the tests E24 to E27 refuses a symbol.
+#[tactic(auto, unfolding(crate::specs::inside::Symbols::is_refused))]
+fn is_refused(symbol: Symbol) -> bool
+    ensures { result ≡ is_refused symbol }
+{
+    is_common(symbol) || is_tls(symbol) || is_ifunc(symbol) || is_badly_bound(symbol)
+}
+
+/// Whether one of these tests refuses a symbol of a table, but for the first: one pass, where the
+/// tests make four.
+#[tactic(auto, unfolding(crate::specs::Symbol::symbols_in))]
+pub(crate) fn has_refused_in(table: &[u8]) -> bool
+    ensures { result ≡ list_any is_refused (drop 1 (symbols_in table.now)) }
+{
+    (0..table.len() / SYMBOL_SIZE as usize)
+        .map(|i| nth_symbol(table, i))
+        .skip(1)
+        .any(|s| is_refused(s))
 }
 
 /// Whether a symbol of a table, but for the first, is a common symbol.

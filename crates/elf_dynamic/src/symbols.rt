@@ -10,18 +10,22 @@ ghost use Rattle.elf_dynamic.specs.Refusal.{symbol_refusal};
 use crate::hash_table::word;
 use crate::strings::string_at;
 use crate::symbol::{
-    Symbol, has_badly_bound_in, has_common_in, has_ifunc_in, has_tls_in, nth_symbol,
+    Symbol, has_badly_bound_in, has_common_in, has_ifunc_in, has_refused_in, has_tls_in, nth_symbol,
 };
 use crate::tables::Tables;
 use elf_file::ObjectRefusal;
 
 impl<'a> Tables<'a> {
-    /// Tests the symbols.
+    /// Tests the symbols: one by one only where one of them is refused.
+    #[tactic(auto, using(crate::proofs::NoneRefused::none_refused))]
     pub(crate) fn test_symbols(&self) -> Result<(), ObjectRefusal>
         ensures { MatchResult result (λ _. symbol_refusal self.now ≡ None)
             (λ refusal. symbol_refusal self.now ≡ Some refusal) }
     {
         let table = self.parts().symbols;
+        if !has_refused_in(table) {
+            return Ok(());
+        }
         if has_common_in(table) {
             return Err(ObjectRefusal::CommonSymbol);
         }
