@@ -26,3 +26,5 @@ pub mod Definitions
 pub mod Deciding
 pub mod Fronts
 pub mod Reading
+mod Homes
+mod Exporting

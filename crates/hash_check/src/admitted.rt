@@ -14,7 +14,7 @@ ghost use Rattle.hash_check.specs.Admission.{admission_refusal, IsRefusedBy, Say
 ghost use Rattle.hash_check.specs.Search.{compared};
 ghost use Rattle.hash_check.specs.Soname.{has_bad_soname};
 
-use crate::duplicates::has_duplicate_definition;
+use crate::duplicates::unique_exports;
 use crate::export::is_exported;
 use crate::hash::elf_hash;
 use crate::names::name_at;
@@ -47,7 +47,7 @@ impl<'a> Model for Admitted<'a> {
 }
 
 impl<'a> Admitted<'a> {
-    /// Admits an object, or gives the refusal of the first test that applies. It takes some 40
+    /// Admits an object, or gives the refusal of the first test that applies. It takes some 52
     /// bytes a symbol, which it gives back. Every step is linear in the file up to a logarithm,
     /// but one: an exported name is hashed unless the walks from all buckets meet its symbol, so
     /// names that share bytes of the string table cost the sum of their lengths.
@@ -60,10 +60,10 @@ impl<'a> Admitted<'a> {
         ensures refused { IfErr result (IsRefusedBy object.entry) }
         ensures says { IfErr result (Says object.entry) }
     {
-        if has_duplicate_definition(alloc, &object)? {
+        let Some(exports) = unique_exports(alloc, &object)? else {
             return Err(AdmitRefusal::DuplicateDefinition);
-        }
-        if has_bad_hash_table(alloc, &object)? {
+        };
+        if has_bad_hash_table(alloc, &object, exports)? {
             return Err(AdmitRefusal::BadHashTable);
         }
         Ok(Admitted { object })

@@ -1,14 +1,17 @@
 // Whether a name is exported twice.
 
-ghost use Rattle.std.specs.Prelude.{◌≡◌, ◌≤◌, ◌↔◌, length, IsTrue, IfOk, IfSome, OnErr};
+ghost use Rattle.std.specs.Prelude.{◌≡◌, ◌≢◌, ◌≤◌, ◌↔◌, [], true, false, length, map};
+ghost use Rattle.std.specs.Prelude.{IsTrue, IfOk, IfSome, OnErr, MatchOption};
 ghost use Rattle.std.specs.List.{All};
 ghost use Rattle.hash_check.specs.Export.{exported_symbols};
 ghost use Rattle.hash_check.specs.Definition.{has_duplicate_definition};
-ghost use Rattle.hash_check.specs.inside.Names.{IsSymbol, AllDiffer};
+ghost use Rattle.hash_check.specs.inside.Names.{IsSymbol, AllDiffer, AreExports, IsWhole};
+ghost use Rattle.elf_dynamic.specs.Strings.{name_of};
 ghost use Rattle.hash_check.specs.Numbers.{AreOwn, Fall};
 
 use crate::endings::numbers_of_endings;
 use crate::export::{exported_count, exported_symbols};
+use crate::exports::Exports;
 use crate::name::Name;
 use crate::name_table::numbers_in_table;
 use crate::names::{names_of, offset_of, short_names};
@@ -28,22 +31,23 @@ fn are_own(numbers: &[u32]) -> bool
     true
 }
 
-/// Whether no two symbols share a name, by a table of their names in any order; none where that
-/// doesn't tell.
-fn differ_in_table(
+/// The names of symbols, and whether no two of them are the same, by a table of them in any order;
+/// none where that doesn't tell.
+fn names_in_table<'a>(
     alloc: Global,
-    object: &Object<'_>,
+    object: &Object<'a>,
     symbols: &[u32],
-) -> Result<Option<bool>, AllocError>
+) -> Result<Option<(Vec<Name<'a>>, bool)>, AllocError>
     requires { All (IsSymbol object.now) symbols.now }
-    ensures { IfOk result (λ found. IfSome found (λ differ.
-        IsTrue differ ↔ AllDiffer object.now symbols.now)) }
+    ensures { IfOk result (λ found. IfSome found (λ told.
+        (told.0.items ≡ map (name_of object.now) symbols.now)
+        × (IsTrue told.1 ↔ AllDiffer object.now symbols.now))) }
 {
     let Some(names) = short_names(alloc, object, symbols)? else {
         return Ok(None);
     };
     match numbers_in_table(alloc, &names)? {
-        Some(numbers) => Ok(Some(are_own(&numbers))),
+        Some(numbers) => Ok(Some((names, are_own(&numbers)))),
         None => Ok(None),
     }
 }
@@ -67,37 +71,69 @@ fn differ_in_strings(
     alloc: Global,
     object: &Object<'_>,
     symbols: &[u32],
+    names: &[Name<'_>],
 ) -> Result<bool, AllocError>
-    requires { All (IsSymbol object.now) symbols.now }
+    requires symbols { All (IsSymbol object.now) symbols.now }
+    requires names { names.now ≡ map (name_of object.now) symbols.now }
     ensures { IfOk result (λ differ. IsTrue differ ↔ AllDiffer object.now symbols.now) }
 {
-    let names = names_of(alloc, object, symbols)?;
-    if lengths_fall(&names) {
+    if lengths_fall(names) {
         return Ok(true);
     }
     let endings = endings_of(alloc, object, symbols)?;
-    let numbers = numbers_of_endings(alloc, &names, endings)?;
+    let numbers = numbers_of_endings(alloc, names, endings)?;
     Ok(are_own(&numbers))
 }
 
-/// Whether two exported symbols share a name. Where the table doesn't tell, as where many names are
-/// tails of others or a file was made to fill few cells, the strings that they are tails of do. It
-/// takes some 40 bytes an exported symbol while it runs.
-pub(crate) fn has_duplicate_definition(
-    alloc: Global,
-    object: &Object<'_>,
-) -> Result<bool, AllocError>
-    ensures ok { IfOk result (λ found. found ≡ has_duplicate_definition object.now) }
+/// None of the exported symbols, where fewer than two are exported, so that none share a name; else
+/// want of memory.
+fn few_exports<'a>(alloc: Global, object: &Object<'a>) -> Result<Option<Exports<'a>>, AllocError>
+    ensures ok { IfOk result (λ found. MatchOption found
+        (has_duplicate_definition object.now ≡ true)
+        (λ exports. (has_duplicate_definition object.now ≡ false)
+        × AreExports object.now exports.symbols.items exports.names.items
+        × (exports.symbols.items ≢ [] → IsWhole object.now exports.symbols.items))) }
     ensures err { OnErr result (2 ≤ length (exported_symbols object.now)) }
 {
     if exported_count(object) < 2 {
-        return Ok(false);
+        Ok(Some(Exports::none(alloc, object)))
+    } else {
+        Err(AllocError)
     }
-    let mut symbols = exported_symbols(alloc, object)?;
-    if let Some(differ) = differ_in_table(alloc, object, &symbols)? {
-        return Ok(!differ);
+}
+
+/// The exported symbols, unless two of them share a name; none of them where fewer than two are.
+/// Where the table doesn't tell, as where many names are tails of others or a file was made to fill
+/// few cells, the strings that they are tails of do. It takes some 40 bytes an exported symbol
+/// while it runs, of which some 28 are kept.
+pub(crate) fn unique_exports<'a>(
+    alloc: Global,
+    object: &Object<'a>,
+) -> Result<Option<Exports<'a>>, AllocError>
+    ensures ok { IfOk result (λ found. MatchOption found
+        (has_duplicate_definition object.now ≡ true)
+        (λ exports. (has_duplicate_definition object.now ≡ false)
+        × AreExports object.now exports.symbols.items exports.names.items
+        × (exports.symbols.items ≢ [] → IsWhole object.now exports.symbols.items))) }
+    ensures err { OnErr result (2 ≤ length (exported_symbols object.now)) }
+{
+    let Ok(mut symbols) = exported_symbols(alloc, object) else {
+        return few_exports(alloc, object);
+    };
+    if symbols.len() < 2 {
+        return Ok(Some(Exports::none(alloc, object)));
+    }
+    if let Some(told) = names_in_table(alloc, object, &symbols)? {
+        let (names, differ) = told;
+        if differ {
+            return Ok(Some(Exports { symbols, names }));
+        }
+        return Ok(None);
     }
     symbols.sort_unstable_by_key(|i| offset_of(object, *i));
-    let differ = differ_in_strings(alloc, object, &symbols)?;
-    Ok(!differ)
+    let names = names_of(alloc, object, &symbols)?;
+    if differ_in_strings(alloc, object, &symbols, &names)? {
+        return Ok(Some(Exports { symbols, names }));
+    }
+    Ok(None)
 }

@@ -14,6 +14,7 @@ mod chains;
 mod duplicates;
 mod endings;
 mod export;
+mod exports;
 mod file;
 mod file_refusal;
 mod hash;

@@ -13,14 +13,16 @@ const FARTHEST: usize = 128;
 
 /// The home of a key in a table of so many cells: the first of those in which a name of it may
 /// stand.
-#[tactic(auto, unfolding(crate::specs::inside::NameTable::home))]
+#[tactic(auto, using(crate::proofs::Homes::home_fits, crate::proofs::Homes::home_within), unfolding(crate::specs::inside::NameTable::home))]
 fn home(count: usize, key: u64) -> usize
-    requires { 128 < count }
+    requires many { 128 < count }
+    requires few { count ≤ 2 ^ 32 + 128 }
     ensures value { result ≡ home count key }
     ensures within { result + 128 < count }
 {
     let spread = key.wrapping_mul(0x9e37_79b9_7f4a_7c15) >> 32;
-    (spread % (count - FARTHEST) as u64) as usize
+    let cells = (count - FARTHEST) as u64;
+    (spread * cells >> 32) as usize
 }
 
 /// Puts a name into a table of those before it, unless the same one is there. Gives the number of
@@ -29,6 +31,7 @@ fn put(names: &[Name<'_>], cells: &mut [u32], number: usize) -> Option<u32>
     requires number { number < length names.now }
     requires many { length names.now < 2 ^ 32 }
     requires size { 128 < length cells.old }
+    requires room { length cells.old ≤ 2 ^ 32 + 128 }
     requires few { (k : ℕ) → slice_index cells.old k ≤ number }
     ensures { IfSome result (IsPut names.now cells.old cells.new number) }
 {
@@ -56,7 +59,7 @@ pub(crate) fn numbers_in_table(
 ) -> Result<Option<Vec<u32>>, AllocError>
     ensures { IfOk result (λ found. IfSome found (λ v. AreNumbers names.now v.items)) }
 {
-    if names.len() >= 1 << 32 {
+    if names.len() >= 1 << 31 {
         return Ok(None);
     }
     let mut cells = vec![in alloc; 0; 2 * names.len() + 1 + FARTHEST]?;

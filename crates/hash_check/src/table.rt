@@ -1,6 +1,6 @@
 // Whether a hash table is good.
 
-ghost use Rattle.std.specs.Prelude.{◌≡◌, ◌≢◌, ◌<◌, ◌≤◌, ◌↔◌, true, false, length, slice_index};
+ghost use Rattle.std.specs.Prelude.{◌≡◌, ◌≢◌, ◌<◌, ◌≤◌, ◌↔◌, true, false, [], length, slice_index};
 ghost use Rattle.std.specs.Prelude.{IsTrue, IfOk, OnErr};
 ghost use Rattle.std.specs.Prelude.{MatchOption};
 ghost use Rattle.std.specs.List.{All};
@@ -12,12 +12,13 @@ ghost use Rattle.hash_check.specs.HashTable.{AreIndices, bucket_of, HasBucket, H
 ghost use Rattle.hash_check.specs.HashTable.{MeetsExports, HasGoodTable};
 ghost use Rattle.hash_check.specs.Admission.{has_good_words, has_bad_hash_table};
 ghost use Rattle.hash_check.specs.inside.Places.{Placed, IsJoint};
-ghost use Rattle.hash_check.specs.inside.Names.{IsLengthOf};
+ghost use Rattle.elf_dynamic.specs.Strings.{name_of};
+ghost use Rattle.hash_check.specs.inside.Names.{IsLengthOf, AreExports, IsWhole};
 ghost use Rattle.hash_check.specs.inside.Lanes.{AreLanes, AllMet, IsMet};
 
 use crate::buckets::Buckets;
 use crate::chains::Chains;
-use crate::export::is_exported;
+use crate::exports::Exports;
 use crate::hash::elf_hash;
 use crate::hashes::LANES;
 use crate::joint::joint_of_all;
@@ -65,19 +66,17 @@ fn follow_all(
     Ok(Some(places))
 }
 
-/// Whether a symbol is exported, and not all walks meet it: whether the one that does hangs on the
-/// hash of its name.
-fn hangs_on_its_hash(object: &Object<'_>, places: &[Option<Place>], joint: u32, i: u32) -> bool
+/// Whether an exported symbol is met on all walks, so that the one that has to meet it doesn't hang
+/// on the hash of its name.
+fn is_met_by_all(object: &Object<'_>, places: &[Option<Place>], joint: u32, i: u32) -> bool
     requires some { HasBucket object.now }
     requires words { HasIndexWords object.now }
     requires places { Placed (buckets object.now) (chains object.now) places.now }
     requires joint { IsJoint (buckets object.now) (chains object.now) places.now joint }
-    requires index { i < length (symbols object.now) }
-    requires nonzero { 1 ≤ i }
-    ensures exported { IsTrue result → is_exported object.now i ≡ true }
-    ensures met { result ≡ false → is_exported object.now i ≡ true → IsMet object.now i }
+    requires exported { is_exported object.now i ≡ true }
+    ensures { IsTrue result → IsMet object.now i }
 {
-    is_exported(object, i) && !is_met(places, &Chains::new(object), joint, i)
+    is_met(places, &Chains::new(object), joint, i)
 }
 
 /// Whether a symbol is met on the walk from the bucket of a hash.
@@ -140,21 +139,25 @@ fn take_in(
 
 /// Tests an exported symbol by its name's hash: at once where the name is short, and else when its
 /// hash is made. Answers whether each symbol that was tested is met on the walk from its bucket.
-fn test_by_name(object: &Object<'_>, places: &[Option<Place>], lanes: &mut Lanes, i: u32) -> bool
+fn test_by_name(
+    object: &Object<'_>,
+    places: &[Option<Place>],
+    lanes: &mut Lanes,
+    i: u32,
+    name: &[u8],
+) -> bool
     requires some { HasBucket object.now }
     requires words { HasIndexWords object.now }
     requires places { Placed (buckets object.now) (chains object.now) places.now }
     requires lanes { AreLanes object.now lanes.old }
-    requires index { i < length (symbols object.now) }
-    requires nonzero { 1 ≤ i }
     requires exported { is_exported object.now i ≡ true }
+    requires name { name.now ≡ name_of object.now i }
     ensures lanes { AreLanes object.now lanes.new }
     ensures others { IsTrue result → AllMet object.now lanes.new.symbols
         → AllMet object.now lanes.old.symbols }
     ensures taken { IsTrue result → AllMet object.now lanes.new.symbols → IsMet object.now i }
     ensures missed { result ≡ false → ¬ MeetsExports object.now }
 {
-    let name = object.name_of(i);
     if name.len() < LONG {
         is_met_by_hash(object, places, elf_hash(name), i)
     } else {
@@ -178,19 +181,22 @@ fn are_met(object: &Object<'_>, places: &[Option<Place>], lanes: &Lanes) -> bool
     true
 }
 
-/// Whether each exported symbol is met on the walk from the bucket of its name's hash. Long names
-/// are hashed several at a time.
-fn meets_exports(object: &Object<'_>, places: &[Option<Place>]) -> bool
+/// Whether each exported symbol is met on the walk from the bucket of its name's hash: where not
+/// all walks meet it, its name is hashed. Long names are hashed several at a time.
+fn meets_exports(object: &Object<'_>, places: &[Option<Place>], exports: &Exports<'_>) -> bool
     requires some { HasBucket object.now }
     requires words { HasIndexWords object.now }
     requires places { Placed (buckets object.now) (chains object.now) places.now }
+    requires exports { AreExports object.now exports.now.symbols.items exports.now.names.items }
+    requires whole { IsWhole object.now exports.now.symbols.items }
     ensures { IsTrue result ↔ MeetsExports object.now }
 {
     let joint = joint_of_all(places, &Buckets::new(object), &Chains::new(object));
     let mut lanes = Lanes::new();
-    for i in 1..object.symbol_count() {
-        if hangs_on_its_hash(object, places, joint, i)
-            && !test_by_name(object, places, &mut lanes, i)
+    for k in 0..exports.symbols.len() {
+        let i = exports.symbols[k];
+        if !is_met_by_all(object, places, joint, i)
+            && !test_by_name(object, places, &mut lanes, i, exports.names[k].bytes())
         {
             return false;
         }
@@ -199,7 +205,13 @@ fn meets_exports(object: &Object<'_>, places: &[Option<Place>]) -> bool
 }
 
 /// Whether the hash table is good.
-fn has_good_table(alloc: Global, object: &Object<'_>) -> Result<bool, AllocError>
+fn has_good_table<'a>(
+    alloc: Global,
+    object: &Object<'a>,
+    exports: Exports<'a>,
+) -> Result<bool, AllocError>
+    requires exports { AreExports object.now exports.symbols.items exports.names.items }
+    requires whole { exports.symbols.items ≢ [] → IsWhole object.now exports.symbols.items }
     ensures ok { IfOk result (λ good. IsTrue good ↔ HasGoodTable object.now) }
     // The memory is for the walks: the words are tested before.
     ensures err { OnErr result (HasBucket object.now × HasIndexWords object.now) }
@@ -207,8 +219,9 @@ fn has_good_table(alloc: Global, object: &Object<'_>) -> Result<bool, AllocError
     if !has_index_words(object) {
         return Ok(false);
     }
+    let all = exports.whole(alloc, object)?;
     match follow_all(alloc, &Buckets::new(object), &Chains::new(object))? {
-        Some(places) => Ok(meets_exports(object, &places)),
+        Some(places) => Ok(meets_exports(object, &places, &all)),
         None => Ok(false),
     }
 }
@@ -217,10 +230,16 @@ fn has_good_table(alloc: Global, object: &Object<'_>) -> Result<bool, AllocError
 /// chain word once, and looks an exported symbol up in one step on the walk that met it first, on
 /// others in some log n; its name is hashed only where not all walks meet it.
 #[tactic(auto, using(crate::proofs::Deciding::bad_test, crate::proofs::Deciding::words_test))]
-pub(crate) fn has_bad_hash_table(alloc: Global, object: &Object<'_>) -> Result<bool, AllocError>
+pub(crate) fn has_bad_hash_table<'a>(
+    alloc: Global,
+    object: &Object<'a>,
+    exports: Exports<'a>,
+) -> Result<bool, AllocError>
+    requires exports { AreExports object.now exports.symbols.items exports.names.items }
+    requires whole { exports.symbols.items ≢ [] → IsWhole object.now exports.symbols.items }
     ensures ok { IfOk result (λ bad. bad ≡ has_bad_hash_table object.now) }
     ensures err { OnErr result (has_good_words object.now ≡ true) }
 {
-    let good = has_good_table(alloc, object)?;
+    let good = has_good_table(alloc, object, exports)?;
     Ok(!good)
 }

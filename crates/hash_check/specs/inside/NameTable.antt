@@ -6,7 +6,7 @@ use Rattle.hash_check.specs.Numbers.{nth_text}
 
 -- the first cell in which a name of a key may stand, of a table of some size
 unfoldable pub home : ℕ → ℕ → ℕ
-home size key = (key * 0x9e3779b97f4a7c15) % 2 ^ 64 / 2 ^ 32 % (size - 128)
+home size key = (key * 0x9e3779b97f4a7c15) % 2 ^ 64 / 2 ^ 32 * (size - 128) / 2 ^ 32
 
 -- what a cell has is the number of a name other than this one
 pub record IsOther (text : ℕ → List ℕ) (name : List ℕ) (cell : ℕ) : Type 0 where

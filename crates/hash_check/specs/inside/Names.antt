@@ -1,10 +1,11 @@
 -- The names of symbols, and the strings of the string table that they are tails of.
-use Rattle.std.specs.Prelude.{ℕ, List, ◌≡◌, ◌≢◌, ◌<◌, ◌≤◌, ◌+◌, ◌-◌, length, take, drop, reverse, slice_index, slice_get}
-use Rattle.std.specs.List.{range_with_len}
+use Rattle.std.specs.Prelude.{ℕ, List, true, map, ◌≡◌, ◌≢◌, ◌<◌, ◌≤◌, ◌+◌, ◌-◌, length, take, drop, reverse, slice_index, slice_get}
+use Rattle.std.specs.List.{All, range_with_len}
 use Rattle.std.specs.Option.{option_map_or}
 use Rattle.elf_dynamic.specs.Symbol.{symbols}
 use Rattle.elf_dynamic.specs.Strings.{name_of}
 use Rattle.elf_dynamic.specs.Strings.{string_table, string_at}
+use Rattle.hash_check.specs.Export.{is_exported}
 use Rattle.hash_check.specs.declared.strings.Stretch.{Stretch}
 
 -- a symbol other than number 0
@@ -43,3 +44,12 @@ IsLengthOf file i n = n ≡ length (name_of file i)
 -- no two of the symbols have the same name
 pub record AllDiffer (file numbers : List ℕ) : Type 0 where
   pub differ : (i j : ℕ) → i < j → j < length numbers → name_of file (slice_index numbers i) ≢ name_of file (slice_index numbers j)
+
+-- exported symbols with their names
+pub record AreExports (file symbols : List ℕ) (names : List (List ℕ)) : Type 0 where
+  pub exported : All (λ i. is_exported file i ≡ true) symbols
+  pub named : names ≡ map (name_of file) symbols
+
+-- each exported symbol stands in a list
+pub record IsWhole (file symbols : List ℕ) : Type 0 where
+  pub stands : (i : ℕ) → is_exported file i ≡ true → (k : ℕ) × (k < length symbols) × (slice_index symbols k ≡ i)
