@@ -6,7 +6,8 @@ use Rattle.std.proofs.lemmas.List.Folds.{Any-from_list_any, list_any_at}
 use Rattle.elf_file.specs.FirstOf.{◌when◌, first_of}
 use Rattle.elf_file.specs.declared.refusal.ObjectRefusal.TheVariants.{CommonSymbol, TlsSymbol, IfuncSymbol, BadBinding}
 use Rattle.elf_dynamic.specs.Refusal.{symbol_refusal}
-use Rattle.elf_dynamic.specs.Symbol.{symbols, symbols_in, symbol_table, tested_symbols, is_common, is_tls, is_ifunc, is_badly_bound, has_common_symbol, has_tls_symbol, has_ifunc_symbol, has_bad_binding}
+use Rattle.elf_dynamic.specs.Symbol.{symbols, symbols_in, symbol_table, tested_symbols, is_common, is_tls, is_ifunc, is_badly_bound}
+use Rattle.elf_dynamic.specs.Symbol.{has_common_symbol, has_tls_symbol, has_ifunc_symbol, has_bad_binding}
 use Rattle.elf_dynamic.specs.inside.Symbols.{is_refused}
 use Rattle.elf_dynamic.specs.declared.symbol.Symbol.{Symbol}
 
@@ -47,4 +48,5 @@ none_refused file table is none =
     (part is_common (λ s e. first-is (is_common s) (is_tls s || (is_ifunc s || is_badly_bound s)) e))
     (part is_tls (λ s e. second-is (is_common s) (is_tls s || (is_ifunc s || is_badly_bound s)) (first-is (is_tls s) (is_ifunc s || is_badly_bound s) e)))
     (part is_ifunc (λ s e. second-is (is_common s) (is_tls s || (is_ifunc s || is_badly_bound s)) (second-is (is_tls s) (is_ifunc s || is_badly_bound s) (first-is (is_ifunc s) (is_badly_bound s) e))))
-    (part is_badly_bound (λ s e. second-is (is_common s) (is_tls s || (is_ifunc s || is_badly_bound s)) (second-is (is_tls s) (is_ifunc s || is_badly_bound s) (second-is (is_ifunc s) (is_badly_bound s) e))))
+    (part is_badly_bound (λ s e. second-is (is_common s) (is_tls s || (is_ifunc s || is_badly_bound s))
+    (second-is (is_tls s) (is_ifunc s || is_badly_bound s) (second-is (is_ifunc s) (is_badly_bound s) e))))

@@ -13,7 +13,7 @@ const FARTHEST: usize = 128;
 
 /// The home of a key in a table of so many cells: the first of those in which a name of it may
 /// stand.
-#[tactic(auto, using(crate::proofs::Homes::home_fits, crate::proofs::Homes::home_within), unfolding(crate::specs::inside::NameTable::home))]
+#[tactic(auto, using(crate::proofs::Homes::near), unfolding(crate::specs::inside::NameTable::home))]
 fn home(count: usize, key: u64) -> usize
     requires many { 128 < count }
     requires few { count ≤ 2 ^ 32 + 128 }
