@@ -1,4 +1,5 @@
-// The names of entries in their order, so that one is found by halving.
+// The names of entries in their order, so that one is found by halving, and guesses where each
+// stands, so that most are found at once.
 ghost use Rattle.std.specs.Prelude.{◌≡◌, ◌≢◌, ◌<◌, ◌≤◌, ◌^◌, ◌↔◌, [], ◌∷◌, ◌++◌, All, IsNone};
 ghost use Rattle.std.specs.Prelude.{IsTrue, IfOk, IfSome, OnOk, OnErr, length, map, slice_index_or};
 ghost use Rattle.std.specs.List.{range_with_len, remove};
@@ -15,10 +16,16 @@ use std::alloc::{AllocError, Global};
 use std::cmp::Ordering;
 use std::marker::Model;
 
+/// How many guesses are kept: twice as many as there are entries at most.
+const GUESSES: usize = 4096;
+
 /// The positions of entries in the order of their names.
 #[derive(Drop)]
 pub(crate) struct NameIndex {
     positions: Vec<u16>,
+    // For the sum of a name the position where it was put last. Nothing is claimed of them: each
+    // is compared before it is an answer, and none is mended once an entry before it is gone.
+    guesses: Vec<u16>,
 }
 
 impl Model for NameIndex {
@@ -58,6 +65,40 @@ fn precedes(entries: &[PlacedEntry], position: u16, name: &[u8]) -> bool
     ensures { result ≡ is_lt (order_to (entry_names entries.now) name.now position) }
 {
     name_at(entries, position).cmp(name).is_lt()
+}
+
+/// A sum over the bytes of a name: where its guess is. Eight bytes at a time, since names that
+/// are needed are as many and as long as a file says.
+fn guess_place(name: &[u8]) -> usize {
+    let (words, rest) = name.as_chunks::<8>();
+    let mut sum = 0u64;
+    for word in words {
+        sum = (sum ^ u64::from_le_bytes(*word)).wrapping_mul(0x9e37_79b9_7f4a_7c15);
+    }
+    for byte in rest {
+        sum = (sum ^ u64::from(*byte)).wrapping_mul(0x9e37_79b9_7f4a_7c15);
+    }
+    (sum >> 52) as usize
+}
+
+/// Guesses that a name stands at a position.
+fn note_guess(guesses: &mut Vec<u16>, name: &[u8], position: u16) {
+    if let Some(guess) = guesses.get_mut(guess_place(name)) {
+        *guess = position;
+    }
+}
+
+/// A guess for each of these entries.
+fn guesses_for(alloc: Global, entries: &[PlacedEntry]) -> Result<Vec<u16>, AllocError>
+    requires spellings { HaveSpellings entries.now }
+    requires few { length entries.now < 2 ^ 16 }
+{
+    let mut guesses = Vec::with_capacity(alloc, GUESSES)?;
+    guesses.resize(GUESSES, 0)?;
+    for (position, placed) in entries.iter().enumerate() {
+        note_guess(&mut guesses, placed.entry.name_bytes(), position as u16);
+    }
+    Ok(guesses)
 }
 
 /// All positions of so many entries.
@@ -124,6 +165,7 @@ impl NameIndex {
     {
         NameIndex {
             positions: Vec::new(alloc),
+            guesses: Vec::new(alloc),
         }
     }
 
@@ -140,7 +182,8 @@ impl NameIndex {
     {
         let positions = sorted_positions(alloc, entries)?;
         if rise(entries, &positions) {
-            Ok(Some(NameIndex { positions }))
+            let guesses = guesses_for(alloc, entries)?;
+            Ok(Some(NameIndex { positions, guesses }))
         } else {
             Ok(None)
         }
@@ -163,8 +206,22 @@ impl NameIndex {
             .partition_point(|position| precedes(entries, *position, name))
     }
 
-    /// The position of the entry with this name. It halves: 12 comparisons at most, and
-    /// one with the name that it ends at.
+    /// The position that is guessed for a name, where it is right.
+    fn guessed(&self, entries: &[PlacedEntry], name: &[u8]) -> Option<usize>
+        requires spellings { HaveSpellings entries.now }
+        ensures some { IfSome result (λ i. (i < length entries.now)
+            × ((d : PlacedEntry) → name_of (slice_index_or entries.now i d).entry ≡ name.now)) }
+    {
+        let position = *self.guesses.get(guess_place(name))?;
+        if usize::from(position) < entries.len() && name_at(entries, position) == name {
+            Some(usize::from(position))
+        } else {
+            None
+        }
+    }
+
+    /// The position of the entry with this name. Where the guess is wrong it halves: 12
+    /// comparisons at most, and one with the name that it ends at.
     pub(crate) fn position_of(&self, entries: &[PlacedEntry], name: &[u8]) -> Option<usize>
         requires index { IsIndex entries.now self.now }
         requires spellings { HaveSpellings entries.now }
@@ -172,6 +229,9 @@ impl NameIndex {
         ensures some { IfSome result (λ i. (i < length entries.now)
             × ((d : PlacedEntry) → name_of (slice_index_or entries.now i d).entry ≡ name.now)) }
     {
+        if let Some(position) = self.guessed(entries, name) {
+            return Some(position);
+        }
         let place = self.place_of(entries, name);
         if place == self.positions.len() {
             return None;
@@ -204,6 +264,7 @@ impl NameIndex {
             → IsIndex (entries.now ++ put ∷ []) self.new }
     {
         let place = self.place_of(entries, name);
+        note_guess(&mut self.guesses, name, entries.len() as u16);
         match self.positions.insert(place, entries.len() as u16) {
             Ok(()) => {}
             Err(_) => unreachable!(),

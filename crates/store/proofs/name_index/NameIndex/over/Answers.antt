@@ -6,8 +6,8 @@ use Rattle.store.proofs.NameOrder.{order_from_rises, rises_from_own}
 use Rattle.store.proofs.NameIndex.{own_from_order, names_from_own}
 use Rattle.store.proofs.name_index.NameIndex.over.Goals as goal
 
-pub returns-then-rise-clause-own : goal.returns-then-rise-clause-own
-returns-then-rise-clause-own c =
+pub returns-in_ok-guesses-clause-own : goal.returns-in_ok-guesses-clause-own
+returns-in_ok-guesses-clause-own c =
     let rises = subst (Rises (entry_names c.args.entries.now)) c.deref.ensures.value (c.rise.ensures.0 c.if-rise.true) in
     let index = order_from_rises (entry_names c.args.entries.now) c.in_ok-positions.positions.items c.in_ok-positions.ensures rises in
     (index, own_from_order c.args.entries.now c.in_ok-positions.positions.items index)
