@@ -1,5 +1,6 @@
 ghost use Rattle.std.specs.Prelude.{◌≡◌, ◌+◌, ◌-◌, ◌<◌, ◌≤◌, ◌^◌, ◌∷◌, ◌++◌, min, length};
 ghost use Rattle.std.specs.Prelude.{take, drop, slice_index_or, vec_len, vec_capacity, IfOk};
+ghost use Rattle.std.specs.Prelude.{List, IfSome, nat_lt, if◌then◌else◌};
 ghost use Rattle.std.specs.List.{AllWithin};
 ghost use Rattle.std.specs.Vec.{vec_ptr};
 ghost use Rattle.extents.specs.Limits.{most_extents, root_sectors};
@@ -155,6 +156,28 @@ pub(crate) fn join(runs: &mut Vec<Extent>, place: usize, extent: Extent, left: u
     if right > 0 {
         runs.remove(place);
     }
+}
+
+/// The longer of two runs; the first where neither is.
+fn longer(first: Extent, run: Extent) -> Extent
+    ensures { result ≡ (if nat_lt first.count run.count then run else first) }
+{
+    if first.count < run.count { run } else { first }
+}
+
+/// The first of the longest runs. One pass over the runs.
+pub(crate) fn longest_run(runs: &[Extent]) -> Option<Extent>
+    ensures { IfSome result (λ run. (others : List Extent)
+        × (longest_first runs.now ≡ run ∷ others)) }
+{
+    let Some((first, rest)) = runs.split_first() else {
+        return None;
+    };
+    let mut longest = *first;
+    for run in rest {
+        longest = longer(longest, *run);
+    }
+    Some(longest)
 }
 
 /// As many of the longest runs as a file may have extents, longest first. One pass over the runs;

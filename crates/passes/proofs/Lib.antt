@@ -2,6 +2,7 @@ pub mod Commits
 pub mod Extents
 pub mod Files
 pub mod Padding
+pub mod Parts
 pub mod Readings
 pub mod Rows
 pub mod Runs

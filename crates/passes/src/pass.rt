@@ -1,4 +1,4 @@
-ghost use Rattle.std.specs.Prelude.{◌≡◌, ◌+◌, ◌*◌, ◌<◌, ◌^◌, ◌++◌, length, set, All, AllPairs};
+ghost use Rattle.std.specs.Prelude.{◌≡◌, ◌+◌, ◌*◌, ◌<◌, ◌≤◌, ◌^◌, ◌++◌, length, set, All, AllPairs};
 ghost use Rattle.std.specs.Prelude.{OnOk, IsTrue};
 ghost use Rattle.std.specs.List.{Contains};
 ghost use Rattle.extents.specs.Extent.{IsApart, AreDistinct, sector_count, places};
@@ -13,8 +13,22 @@ use crate::write::write_bytes;
 use extents::Extent;
 use sector_disk::{Disk, DiskFault, SECTOR_BYTES};
 
-/// The first pass of a commit: writes a file's bytes into its extents and then each single sector,
-/// in their order, and syncs.
+/// How many of the single sectors, from the first on, lie in front of a file's extents.
+fn count_before(extents: &[Extent], singles: &[SingleSector]) -> usize
+    ensures { result ≤ length singles.now }
+{
+    match extents.first() {
+        Some(first) => singles
+            .iter()
+            .take_while(|single| single.at < first.start)
+            .count(),
+        None => 0,
+    }
+}
+
+/// The first pass of a commit: writes a file's bytes into its extents and each single sector, and
+/// syncs. The single sectors are written in their order, the first of them before the bytes as far
+/// as they lie in front of these: so neighbours are written one after the other.
 pub fn stage<D: Disk>(
     disk: &mut D,
     extents: &[Extent],
@@ -43,8 +57,10 @@ pub fn stage<D: Disk>(
         → OnOk result (HoldsSingles (D.facts disk.new).now singles.now) }
     ensures synced { IsTrue (D.facts disk.old).honest → OnOk result (IsSynced (D.facts disk.new)) }
 {
+    let (front, back) = singles.split_at(count_before(extents, singles));
+    write_singles(disk, front)?;
     write_bytes(disk, extents, bytes)?;
-    write_singles(disk, singles)?;
+    write_singles(disk, back)?;
     disk.sync()
 }
 

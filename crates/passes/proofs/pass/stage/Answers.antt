@@ -10,56 +10,101 @@ use Rattle.passes.specs.Bytes.{bytes_at}
 use Rattle.passes.specs.Singles.{single_places, HoldsSingles}
 use Rattle.passes.proofs.Commits.{wider_leaves}
 use Rattle.passes.proofs.Files.{more_leaves}
+use Rattle.passes.proofs.Parts.{parts_of, front_among, back_among, front_once, back_once, parts_apart, whole_held, still_held}
 use Rattle.passes.proofs.Runs.{bytes_at_same}
 use Rattle.passes.proofs.pass.stage.Goals as goal
 
-pub returns-in_err-write_bytes-clause-any_moment : goal.returns-in_err-write_bytes-clause-any_moment
-returns-in_err-write_bytes-clause-any_moment g c honest =
-    let ks = places c.args.extents.now in
-    let at = single_places c.args.singles.now in
-    wider_leaves (Contains ks) (Contains (at ++ ks)) (Contains-append_right at ks) (c.write_bytes.ensures.any_moment honest)
+pub write_singles-requires-clause-once : goal.write_singles-requires-clause-once
+write_singles-requires-clause-once g c =
+    front_once (parts_of c.count_before.result c.args.singles.now _ _ c.split_at.ensures.front c.split_at.ensures.back) c.requires.once
+
+pub write_singles-requires-2-clause-once : goal.write_singles-requires-2-clause-once
+write_singles-requires-2-clause-once g c =
+    back_once (parts_of c.count_before.result c.args.singles.now _ _ c.split_at.ensures.front c.split_at.ensures.back) c.requires.once
 
 pub returns-in_err-write_singles-clause-any_moment : goal.returns-in_err-write_singles-clause-any_moment
 returns-in_err-write_singles-clause-any_moment g c honest =
+    let parts = parts_of c.count_before.result c.args.singles.now _ _ c.split_at.ensures.front c.split_at.ensures.back in
     let ks = places c.args.extents.now in
     let at = single_places c.args.singles.now in
-    let honest_then = subst IsTrue (sym c.write_bytes.ensures.calls.honest) honest in
-    more_leaves (Contains at) (Contains (at ++ ks)) (Contains-append_left at ks)
-    (wider_leaves (Contains ks) (Contains (at ++ ks)) (Contains-append_right at ks) (c.write_bytes.ensures.any_moment honest))
-    (c.write_singles.ensures.any_moment honest_then)
+    let f = single_places c.split_at.result.0.now in
+    wider_leaves (Contains f) (Contains (at ++ ks)) (λ k found. Contains-append_left at ks k (front_among parts k found)) (c.write_singles.ensures.any_moment honest)
+
+pub returns-in_err-write_bytes-clause-any_moment : goal.returns-in_err-write_bytes-clause-any_moment
+returns-in_err-write_bytes-clause-any_moment g c honest =
+    let parts = parts_of c.count_before.result c.args.singles.now _ _ c.split_at.ensures.front c.split_at.ensures.back in
+    let ks = places c.args.extents.now in
+    let at = single_places c.args.singles.now in
+    let f = single_places c.split_at.result.0.now in
+    let honest_then = subst IsTrue (sym c.write_singles.ensures.calls.honest) honest in
+    more_leaves (Contains ks) (Contains (at ++ ks)) (Contains-append_right at ks)
+    (wider_leaves (Contains f) (Contains (at ++ ks)) (λ k found. Contains-append_left at ks k (front_among parts k found)) (c.write_singles.ensures.any_moment honest))
+    (c.write_bytes.ensures.any_moment honest_then)
+
+pub returns-in_err-write_singles-2-clause-any_moment : goal.returns-in_err-write_singles-2-clause-any_moment
+returns-in_err-write_singles-2-clause-any_moment g c honest =
+    let parts = parts_of c.count_before.result c.args.singles.now _ _ c.split_at.ensures.front c.split_at.ensures.back in
+    let ks = places c.args.extents.now in
+    let at = single_places c.args.singles.now in
+    let f = single_places c.split_at.result.0.now in
+    let b = single_places c.split_at.result.1.now in
+    let honest_then = subst IsTrue (sym c.write_singles.ensures.calls.honest) honest in
+    let honest_after = subst IsTrue (sym c.write_bytes.ensures.calls.honest) honest_then in
+    more_leaves (Contains b) (Contains (at ++ ks)) (λ k found. Contains-append_left at ks k (back_among parts k found))
+    (more_leaves (Contains ks) (Contains (at ++ ks)) (Contains-append_right at ks)
+    (wider_leaves (Contains f) (Contains (at ++ ks)) (λ k found. Contains-append_left at ks k (front_among parts k found)) (c.write_singles.ensures.any_moment honest))
+    (c.write_bytes.ensures.any_moment honest_then))
+    (c.write_singles-2.ensures.any_moment honest_after)
 
 pub returns-clause-any_moment : goal.returns-clause-any_moment
 returns-clause-any_moment g c honest =
+    let parts = parts_of c.count_before.result c.args.singles.now _ _ c.split_at.ensures.front c.split_at.ensures.back in
     let ks = places c.args.extents.now in
     let at = single_places c.args.singles.now in
-    let honest_then = subst IsTrue (sym c.write_bytes.ensures.calls.honest) honest in
-    let honest_after = subst IsTrue (sym c.write_singles.ensures.calls.honest) honest_then in
-    sync_leaves c.sync.ensures.calls (IsMixtureBut (Contains (at ++ ks)) (g.D.Disk.facts c.args.disk.now)) (c.sync.ensures.honest honest_after)
-    (more_leaves (Contains at) (Contains (at ++ ks)) (Contains-append_left at ks)
-    (wider_leaves (Contains ks) (Contains (at ++ ks)) (Contains-append_right at ks) (c.write_bytes.ensures.any_moment honest))
-    (c.write_singles.ensures.any_moment honest_then))
+    let f = single_places c.split_at.result.0.now in
+    let b = single_places c.split_at.result.1.now in
+    let honest_then = subst IsTrue (sym c.write_singles.ensures.calls.honest) honest in
+    let honest_after = subst IsTrue (sym c.write_bytes.ensures.calls.honest) honest_then in
+    let honest_last = subst IsTrue (sym c.write_singles-2.ensures.calls.honest) honest_after in
+    sync_leaves c.sync.ensures.calls (IsMixtureBut (Contains (at ++ ks)) (g.D.Disk.facts c.args.disk.now)) (c.sync.ensures.honest honest_last)
+    (more_leaves (Contains b) (Contains (at ++ ks)) (λ k found. Contains-append_left at ks k (back_among parts k found))
+    (more_leaves (Contains ks) (Contains (at ++ ks)) (Contains-append_right at ks)
+    (wider_leaves (Contains f) (Contains (at ++ ks)) (λ k found. Contains-append_left at ks k (front_among parts k found)) (c.write_singles.ensures.any_moment honest))
+    (c.write_bytes.ensures.any_moment honest_then))
+    (c.write_singles-2.ensures.any_moment honest_after))
 
 pub returns-clause-synced : goal.returns-clause-synced
 returns-clause-synced g c honest =
-    let honest_then = subst IsTrue (sym c.write_bytes.ensures.calls.honest) honest in
-    let honest_after = subst IsTrue (sym c.write_singles.ensures.calls.honest) honest_then in
-    let honest_now = subst IsTrue (sym c.sync.ensures.calls.honest) honest_after in
-    synced_at_ok (g.met.D.Disk.holds_now _ honest_now) (c.sync.ensures.honest honest_after)
+    let honest_then = subst IsTrue (sym c.write_singles.ensures.calls.honest) honest in
+    let honest_after = subst IsTrue (sym c.write_bytes.ensures.calls.honest) honest_then in
+    let honest_last = subst IsTrue (sym c.write_singles-2.ensures.calls.honest) honest_after in
+    let honest_now = subst IsTrue (sym c.sync.ensures.calls.honest) honest_last in
+    synced_at_ok (g.met.D.Disk.holds_now _ honest_now) (c.sync.ensures.honest honest_last)
 
 pub returns-clause-written : goal.returns-clause-written
 returns-clause-written g c honest =
+    let parts = parts_of c.count_before.result c.args.singles.now _ _ c.split_at.ensures.front c.split_at.ensures.back in
     let ks = places c.args.extents.now in
-    let honest_then = subst IsTrue (sym c.write_bytes.ensures.calls.honest) honest in
-    let honest_after = subst IsTrue (sym c.write_singles.ensures.calls.honest) honest_then in
-    let sync = c.sync.ensures.honest honest_after in
-    let same = c.in_ok-write_singles.ensures.now honest_then in
-    let written = bytes_at_same _ _ ks (λ k found. same.others k (λ here. c.requires.elsewhere k here found)) ∙ c.in_ok-write_bytes.ensures.written honest in
+    let honest_then = subst IsTrue (sym c.write_singles.ensures.calls.honest) honest in
+    let honest_after = subst IsTrue (sym c.write_bytes.ensures.calls.honest) honest_then in
+    let honest_last = subst IsTrue (sym c.write_singles-2.ensures.calls.honest) honest_after in
+    let sync = c.sync.ensures.honest honest_last in
+    let same = c.in_ok-write_singles-2.ensures.now honest_after in
+    let written = bytes_at_same _ _ ks (λ k found. same.others k (λ here. c.requires.elsewhere k (back_among parts k here) found)) ∙ c.in_ok-write_bytes.ensures.written honest_then in
     on_ok_weaker c.sync.result (λ _. ap (λ m. bytes_at m ks) sync.now ∙ written) sync.stop_ok
 
 pub returns-clause-singles : goal.returns-clause-singles
 returns-clause-singles g c honest =
-    let honest_then = subst IsTrue (sym c.write_bytes.ensures.calls.honest) honest in
-    let honest_after = subst IsTrue (sym c.write_singles.ensures.calls.honest) honest_then in
-    let sync = c.sync.ensures.honest honest_after in
-    let held = c.in_ok-write_singles.ensures.written honest_then in
+    let parts = parts_of c.count_before.result c.args.singles.now _ _ c.split_at.ensures.front c.split_at.ensures.back in
+    let ks = places c.args.extents.now in
+    let front = c.split_at.result.0.now in
+    let b = single_places c.split_at.result.1.now in
+    let honest_then = subst IsTrue (sym c.write_singles.ensures.calls.honest) honest in
+    let honest_after = subst IsTrue (sym c.write_bytes.ensures.calls.honest) honest_then in
+    let honest_last = subst IsTrue (sym c.write_singles-2.ensures.calls.honest) honest_after in
+    let sync = c.sync.ensures.honest honest_last in
+    let beside = still_held (Contains ks) _ _ front (c.in_ok-write_bytes.ensures.now honest_then)
+    (λ k found here. c.requires.elsewhere k (front_among parts k found) here) (c.in_ok-write_singles.ensures.written honest) in
+    let first = still_held (Contains b) _ _ front (c.in_ok-write_singles-2.ensures.now honest_after) (parts_apart parts c.requires.once) beside in
+    let held = whole_held parts _ first (c.in_ok-write_singles-2.ensures.written honest_after) in
     on_ok_weaker c.sync.result (λ _. subst (λ m. HoldsSingles m c.args.singles.now) (sym sync.now) held) sync.stop_ok
