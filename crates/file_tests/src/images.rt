@@ -135,11 +135,6 @@ fn text_of(alloc: Global, image: &Image) -> Result<Vec<u8>, Fail> {
     Ok(text)
 }
 
-/// How many bytes the text of an image has.
-fn text_length(alloc: Global, image: &Image) -> Result<usize, Fail> {
-    Ok(text_of(alloc, image)?.len())
-}
-
 /// The first byte of the first of the many segments of an image, the last one of the last, and what
 /// is behind it.
 fn bytes_of_many(image: &Image) -> [Option<u8>; 3] {
@@ -226,7 +221,7 @@ fn first_fitting(alloc: Global, image: &Image) -> Result<Option<usize>, AllocErr
 /// How long that text is, and the first of the rooms in which it has a place.
 fn length_and_fitting(alloc: Global) -> Result<(usize, Option<usize>), Fail> {
     let image = image_of_size(alloc, 0x10190)?;
-    let length = text_length(alloc, &image)?;
+    let length = text_of(alloc, &image)?.len();
     Ok((length, first_fitting(alloc, &image)?))
 }
 

@@ -95,13 +95,6 @@ fn find_plainly(object: &Object<'_>, name: &[u8]) -> Option<u32> {
     None
 }
 
-/// Whether a table is admitted, and whether that and each search are as the plain programs say.
-#[derive(Clone, Copy)]
-struct Outcome {
-    admitted: bool,
-    agrees: bool,
-}
-
 /// Whether each name is found as a plain search finds it, and symbols and the library have their
 /// names.
 fn finds_plainly(admitted: &Admitted<'_>) -> bool {
@@ -115,24 +108,15 @@ fn finds_plainly(admitted: &Admitted<'_>) -> bool {
         && admitted.library_name() == Ok(b"q".as_slice())
 }
 
-/// Compares admission and search on one table with the plain programs.
-fn compare(alloc: Global, file: &[u8]) -> Outcome {
+/// Whether a table is admitted, and whether that and each search are as the plain programs say.
+fn compare(alloc: Global, file: &[u8]) -> (bool, bool) {
     let Ok(object) = Object::read(file) else {
-        return Outcome {
-            admitted: false,
-            agrees: false,
-        };
+        return (false, false);
     };
     let good = is_plainly_good(&object);
     match Admitted::admit(alloc, object) {
-        Ok(admitted) => Outcome {
-            admitted: true,
-            agrees: good && finds_plainly(&admitted),
-        },
-        Err(refusal) => Outcome {
-            admitted: false,
-            agrees: !good && refusal == AdmitRefusal::BadHashTable,
-        },
+        Ok(admitted) => (true, good && finds_plainly(&admitted)),
+        Err(refusal) => (false, !good && refusal == AdmitRefusal::BadHashTable),
     }
 }
 
@@ -142,9 +126,9 @@ fn finds_as_a_plain_search_does(rt: HostRuntime) {
     let mut admitted = 0;
     for n in 0..15_625 {
         put_words(&mut file, n);
-        let outcome = compare(rt.alloc(), &file);
-        assert!(rt; outcome.agrees, "table {n}");
-        admitted = u32::from(outcome.admitted).saturating_add(admitted);
+        let (is_admitted, agrees) = compare(rt.alloc(), &file);
+        assert!(rt; agrees, "table {n}");
+        admitted = u32::from(is_admitted).saturating_add(admitted);
     }
     assert!(rt; admitted == 180);
 }
