@@ -10,8 +10,8 @@ use Rattle.passes.specs.declared.single.SingleSector.{SingleSector}
 use Rattle.passes.proofs.Singles.{no_single, place_among}
 
 -- numbers that stand in both parts of a list stand twice in it
-pub distinct_parts : (xs ys : List ℕ) (s : ℕ) → AreDistinct (xs ++ ys) → Contains xs s → Contains ys s → ⊥
-distinct_parts xs ys s distinct (i, in_xs, at_i) (j, in_ys, at_j) =
+pub distinct-parts : (xs ys : List ℕ) (s : ℕ) → AreDistinct (xs ++ ys) → Contains xs s → Contains ys s → ⊥
+distinct-parts xs ys s distinct (i, in_xs, at_i) (j, in_ys, at_j) =
     let lt : i < length xs + j = omega (arith, in_xs) in
     let fits : length xs + j < length (xs ++ ys) = omega (arith, in_ys, length-append xs ys) in
     let front = get_or_append_left xs ys s i in_xs in
@@ -20,12 +20,12 @@ distinct_parts xs ys s distinct (i, in_xs, at_i) (j, in_ys, at_j) =
     distinct i (length xs + j) s lt fits (front ∙ at_i ∙ sym (back ∙ at_j))
 
 -- the parts of a list without repetition have none
-pub distinct_first : (xs ys : List ℕ) → AreDistinct (xs ++ ys) → AreDistinct xs
-distinct_first xs ys distinct i j d lt fits = λ same.
+pub distinct-first : (xs ys : List ℕ) → AreDistinct (xs ++ ys) → AreDistinct xs
+distinct-first xs ys distinct i j d lt fits = λ same.
     distinct i j d lt (omega (arith, fits, length-append xs ys)) (get_or_append_left xs ys d i (omega (arith, lt, fits)) ∙ same ∙ sym (get_or_append_left xs ys d j fits))
 
-pub distinct_last : (xs ys : List ℕ) → AreDistinct (xs ++ ys) → AreDistinct ys
-distinct_last xs ys distinct i j d lt fits = λ same.
+pub distinct-last : (xs ys : List ℕ) → AreDistinct (xs ++ ys) → AreDistinct ys
+distinct-last xs ys distinct i j d lt fits = λ same.
     distinct (length xs + i) (length xs + j) d (omega (arith, lt)) (omega (arith, fits, length-append xs ys)) (at i ∙ same ∙ sym (at j))
   where
     at : (k : ℕ) → get_or (xs ++ ys) (length xs + k) d ≡ get_or ys k d
@@ -52,13 +52,13 @@ module _ {singles front back : List SingleSector} (parts : AreParts singles fron
   back_among k found = subst (λ l. Contains l k) places_whole (Contains-append_right (single_places front) (single_places back) k found)
 
   pub front_once : AreDistinct (single_places singles) → AreDistinct (single_places front)
-  front_once once = distinct_first (single_places front) (single_places back) (subst AreDistinct (sym places_whole) once)
+  front_once once = distinct-first (single_places front) (single_places back) (subst AreDistinct (sym places_whole) once)
 
   pub back_once : AreDistinct (single_places singles) → AreDistinct (single_places back)
-  back_once once = distinct_last (single_places front) (single_places back) (subst AreDistinct (sym places_whole) once)
+  back_once once = distinct-last (single_places front) (single_places back) (subst AreDistinct (sym places_whole) once)
 
   pub parts_apart : AreDistinct (single_places singles) → (k : ℕ) → Contains (single_places front) k → Contains (single_places back) k → ⊥
-  parts_apart once k = distinct_parts (single_places front) (single_places back) k (subst AreDistinct (sym places_whole) once)
+  parts_apart once k = distinct-parts (single_places front) (single_places back) k (subst AreDistinct (sym places_whole) once)
 
   pub whole_held : (m : List Sector) → HoldsSingles m front → HoldsSingles m back → HoldsSingles m singles
   whole_held m first last = subst (HoldsSingles m) parts.whole (All-append (λ (s : SingleSector). sector m s.at ≡ s.content) front back first last)

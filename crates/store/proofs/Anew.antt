@@ -16,7 +16,8 @@ use Rattle.store.specs.Stands.{UsesApart, extents_of, sectors_of, used}
 use Rattle.store.specs.inside.Claimed.{IsUsable, IsClaimedBeside}
 use Rattle.store.specs.inside.Kept.{AreClaimed, IsKept}
 use Rattle.store.specs.inside.Room.{AreClaimedOnce, IsReleased}
-use Rattle.store.proofs.Claiming.{all-part, distinct-parts}
+use Rattle.passes.proofs.Parts.{distinct-parts}
+use Rattle.store.proofs.Claiming.{all-part}
 use Rattle.store.proofs.Counts.{one, occurs, occurs-append, contains_occurs, occurs_contains, distinct_occurs, occurs_distinct}
 
 -- all that is kept can be used

@@ -21,7 +21,7 @@ use Rattle.store.specs.HeldVersions.{lone_sectors}
 use Rattle.store.specs.inside.HeldRows.{AreHeldRows}
 use Rattle.store.specs.inside.Kept.{AreClaimed, IsKept}
 use Rattle.store.specs.inside.Next.{IsNext}
-use Rattle.store.proofs.Claiming.{distinct-first}
+use Rattle.passes.proofs.Parts.{distinct-first}
 use Rattle.store.proofs.Puts.{next_stands}
 
 module _ {root : Root} {others : List PlacedEntry} {catalogues preloads : List ℕ} {next : Root} (is : IsNext root others catalogues preloads next) (fits : RootHasSpelling root) where

@@ -20,7 +20,7 @@ use Rattle.store.specs.inside.Kept.{AreClaimed, IsKept}
 use Rattle.store.specs.inside.NameIndex.{closed_up}
 use Rattle.store.specs.inside.Room.{IsGivenUp, IsRootOr}
 use Rattle.store.proofs.Anew.{IsMoved, left_claimed, moved_claimed, moved_size, more_free}
-use Rattle.store.proofs.Claiming.{distinct-parts}
+use Rattle.passes.proofs.Parts.{distinct-parts}
 use Rattle.store.proofs.Counts.{occurs, occurs-append, occurs-flat_map, contains_occurs, occurs_contains, distinct_occurs, occurs_distinct}
 use Rattle.store.proofs.KeepsHolders.{keeps_left, keeps_table, listed_used}
 use Rattle.store.proofs.KeyedRows.{no_row}
