@@ -4,7 +4,7 @@ use Rattle.std.specs.Prelude.{◌||◌}
 use Rattle.std.specs.Int.{next_multiple_of}
 use Rattle.std.specs.List.{All}
 use Rattle.std.proofs.lemmas.Bool.Decides.{nat_tests}
-use Rattle.std.proofs.lemmas.List.{drop_more, drop_all, get_or-map}
+use Rattle.std.proofs.lemmas.List.{drop_more, drop_all, get_or-map, length-map}
 use Rattle.scope.specs.Objects.{Named, IsTaken, IsOrder}
 use Rattle.scope.specs.Objects as order
 use Rattle.image.specs.Constant.{MEMORY_LIMIT}
@@ -73,6 +73,13 @@ length-after end (o ∷ os) = ap suc (length-after (next_multiple_of end (unit o
 length-place : (base : ℕ) (os : List Named) → length (bases_of (place base os)) ≡ length os
 length-place base [] = refl
 length-place base (o ∷ os) = ap suc (length-after (base + reach o.file) os)
+
+-- how many there are, and the file of each
+pub length-placed : (base : ℕ) (os : List Named) → length (place base os) ≡ length os
+length-placed base os = sym (length-map (place base os) (λ (p : Placed). p.base)) ∙ length-place base os
+
+pub file-placed : (base : ℕ) (os : List Named) (i : ℕ) → file_at (place base os) i ≡ order.file_at os i
+file-placed base os i = ap (λ (ps : List Placed). file_at ps i) (sym (with-place base os)) ∙ file-kept os (bases_of (place base os)) i (length-place base os)
 
 left : (a b : Bool) → (a || b) ≡ false → a ≡ false
 left true b h = cc

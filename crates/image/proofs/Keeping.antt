@@ -1,43 +1,35 @@
 -- Values of symbols that are kept.
-use Rattle.std.proofs.Common.{◌≡◌, ℕ, List, [], ◌∷◌, length, set, replicate, Option, Some, None, sym, ap, ◌∙◌, subst, suc, zero}
-use Rattle.std.specs.Prelude.{slice_get}
-use Rattle.std.proofs.lemmas.List.{length-replicate}
-use Rattle.std.proofs.Math.ListN.{length-set}
+use Rattle.std.proofs.Common.{◌≡◌, ℕ, ◌-◌, ◌<◌, List, [], ◌∷◌, ◌++◌, length, get_or, replicate, refl, ap, ◌∙◌, suc, zero, arith, sym, subst, inl, inr}
+use Rattle.std.proofs.Math.ListN.{get_or-append}
+use Rattle.std.proofs.lemmas.Bool.{cases_lt}
+use Rattle.std.proofs.lemmas.List.{length-append, length-replicate, get_or-append_right}
 use Rattle.elf_dynamic.specs.Symbol.{symbols}
 use Rattle.image.specs.Placement.{Placed}
-use Rattle.image.specs.Relocating.{file_at, symbol_value}
-use Rattle.image.specs.inside.Layout.{Keeps}
+use Rattle.image.specs.Relocating.{file_at}
+use Rattle.image.specs.inside.Bound.{AreValues, Bound, FirstBound, IsBound, UNKNOWN}
 
-abbrev nothing : ℕ → List (Option ℕ)
-nothing n = replicate n None
-
-none-kept : (n k v : ℕ) → slice_get (nothing n) k ≡ Some (Some v) → ⊥
-none-kept zero k v h = cc
-none-kept (suc n) zero v h = cc
-none-kept (suc n) (suc k) v h = none-kept n k v h
+none-known : (n k u : ℕ) → k < n → get_or (replicate n u) k 0 ≡ u
+none-known zero k u h = absurd (omega (arith, h))
+none-known (suc n) zero u h = refl
+none-known (suc n) (suc k) u h = none-known n k u (omega (arith, h))
 
 -- none at first
-pub keeps-nothing : (objects : List Placed) (own n : ℕ) (kept : List (Option ℕ)) → kept ≡ replicate n None → n ≡ length (symbols (file_at objects own)) → Keeps objects own kept
-keeps-nothing objects own n kept is count =
+pub values-unknown : (objects : List Placed) (own n : ℕ) (values : List ℕ) → values ≡ replicate n UNKNOWN → n ≡ length (symbols (file_at objects own)) → AreValues objects own values
+values-unknown objects own n values is count =
+    let counted : length values ≡ n = ap length is ∙ length-replicate n UNKNOWN in
     record {
-      counted = ap length is ∙ length-replicate n None ∙ count;
-      values = λ k v h. absurd (none-kept n k v (sym (ap (λ l. slice_get l k) is) ∙ h));
+      counted = counted ∙ count;
+      known = λ k within other. absurd (other (ap (λ l. get_or l k 0) is ∙ none-known n k UNKNOWN (omega (arith, within, counted))));
     }
 
-set-other : (kept : List (Option ℕ)) (i k v w : ℕ) (P : ℕ → ℕ → Type 0) → ((k v : ℕ) → slice_get kept k ≡ Some (Some v) → P k v) → P i w
-    → slice_get (set kept i (Some w)) k ≡ Some (Some v) → P k v
-set-other [] i k v w P old new h = cc
-set-other (x ∷ kept) zero zero v w P old new h = let e : w ≡ v = cc in subst (P zero) e new
-set-other (x ∷ kept) zero (suc k) v w P old new h = old (suc k) v h
-set-other (x ∷ kept) (suc i) zero v w P old new h = old zero v h
-set-other (x ∷ kept) (suc i) (suc k) v w P old new h =
-    set-other kept i k v w (λ k v. P (suc k) v) (λ k v g. old (suc k) v g) new h
-
--- one more
-pub keeps-more : (objects : List Placed) (own i w : ℕ) (kept : List (Option ℕ)) → Keeps objects own kept → symbol_value objects own i ≡ Some w
-    → Keeps objects own (set kept i (Some w))
-keeps-more objects own i w kept h is =
-    record {
-      counted = length-set kept i (Some w) ∙ h.counted;
-      values = λ k v g. set-other kept i k v w (λ k v. symbol_value objects own k ≡ Some v) h.values is g;
-    }
+-- one object more whose values are known
+pub first-more : (objects : List Placed) (all : List Bound) (b : Bound) → FirstBound objects all → IsBound objects (length all) b → FirstBound objects (all ++ b ∷ [])
+first-more objects all b before is own d h =
+    elim (cases_lt own (length all)) [
+      | inl l ↦ subst (IsBound objects own) (sym (get_or-append all (b ∷ []) d own l)) (before own d l)
+      | inr l ↦
+          let e : own ≡ length all = omega (arith, l, h, length-append all (b ∷ [])) in
+          let none : own - length all ≡ 0 = omega (arith, e) in
+          subst (IsBound objects own) (sym (get_or-append_right all (b ∷ []) (length all) own d refl l ∙ ap (λ n. get_or (b ∷ []) n d) none))
+          (subst (λ n. IsBound objects n b) (sym e) is)
+    ]

@@ -1,5 +1,5 @@
 -- Where the relocations of accepted files write, and which symbols they name.
-use Rattle.std.proofs.Common.{◌≡◌, ℕ, ◌+◌, ◌<◌, Bool, true, false, cond, List, length, Option, Some, None, refl, ap, ◌∙◌, subst, arith}
+use Rattle.std.proofs.Common.{◌≡◌, ℕ, ◌+◌, ◌<◌, ◌≤◌, Bool, true, false, cond, List, length, map, Option, Some, None, refl, ap, ◌∙◌, subst, arith}
 use Rattle.std.specs.Prelude.{slice_get, ◌||◌, ◌&&◌, ◌==◌, ◌%◌, ◌^◌, IfSome, is_none, nat_le}
 use Rattle.std.specs.Option.{option_map}
 use Rattle.std.specs.List.{list_any}
@@ -8,6 +8,7 @@ use Rattle.std.proofs.lemmas.List.Folds.{list_any_at}
 use Rattle.std.proofs.lemmas.List.FromFn.{length-map-range_with_len}
 use Rattle.std.proofs.lemmas.Option.{get_or_from_slice_get, slice_get_within}
 use Rattle.elf_file.specs.Address.{is_in_memory}
+use Rattle.elf_file.specs.Segment.{loads}
 use Rattle.elf_file.specs.declared.refusal.ObjectRefusal.TheVariants.{RelocationSymbol}
 use Rattle.elf_file.proofs.FirstOf.{none_at, when_none}
 use Rattle.elf_dynamic.specs.Constant.{R_X86_64_64, R_X86_64_RELATIVE}
@@ -17,11 +18,12 @@ use Rattle.elf_dynamic.specs.Refusal.{refusals, first_refusal, relocation_tests,
 use Rattle.elf_dynamic.specs.declared.relocation.Relocation.{Relocation}
 use Rattle.elf_dynamic.proofs.Accepted.{places}
 use Rattle.image.specs.Heading.{Heading}
-use Rattle.image.specs.Placement.{Placed}
-use Rattle.image.specs.Relocating.{Write, base_at, file_at, relocations_of, symbol_value, value_of, write_of, is_undefined}
-use Rattle.image.specs.inside.Layout.{AllAccepted, Stacked, Lands, room_in}
-use Rattle.image.proofs.Placing.{placed-any, place-reached}
-use Rattle.image.proofs.Stacking.{headings_of, low-at, accepted-at, room-at}
+use Rattle.image.specs.Constant.{MEMORY_LIMIT}
+use Rattle.image.specs.Loading.{heading_at}
+use Rattle.image.specs.Placement.{Placed, reach}
+use Rattle.image.specs.Relocating.{Write, base_at, symbol_value, value_with, write_with, is_undefined}
+use Rattle.image.specs.inside.Layout.{Lands, room_in}
+use Rattle.image.proofs.Placing.{placed-any, place-reached, rooms-shift}
 
 refuses_none : (file : List ℕ) → first_refusal file ≡ None → relocation_refusal file ≡ None
 unfolding first_refusal
@@ -63,9 +65,9 @@ writes-by kind w p q false true b3 e1 e2 e3 h = grind (arith, nat_tests)
 writes-by kind w p q false false true e1 e2 e3 h = ap (λ b. b || (kind == R_X86_64_RELATIVE)) e3
 writes-by kind w p q false false false e1 e2 e3 h = cc
 
-writes : (objects : List Placed) (own : ℕ) (r : Relocation) → is_none (value_of objects own r) ≡ false → is_writing r.kind ≡ true
-writes objects own r h =
-    writes-by r.kind ((base_at objects own + r.addend) % 2 ^ 64) (option_map (λ value. (value + r.addend) % 2 ^ 64) (symbol_value objects own r.symbol)) (symbol_value objects own r.symbol)
+writes : (base : ℕ) (values : ℕ → Option ℕ) (r : Relocation) → is_none (value_with base values r) ≡ false → is_writing r.kind ≡ true
+writes base values r h =
+    writes-by r.kind ((base + r.addend) % 2 ^ 64) (option_map (λ value. (value + r.addend) % 2 ^ 64) (values r.symbol)) (values r.symbol)
     (r.kind == R_X86_64_RELATIVE) (r.kind == R_X86_64_64) (uses_symbol r.kind) refl refl refl h
 
 lands-by : (hs : List Heading) (place : ℕ) (o : Option ℕ) → (is_none o ≡ false → (place < 2 ^ 64) × (list_any (room_in place) hs ≡ true))
@@ -73,20 +75,17 @@ lands-by : (hs : List Heading) (place : ℕ) (o : Option ℕ) → (is_none o ≡
 lands-by hs place None h = tt
 lands-by hs place (Some v) h = h refl
 
--- what a relocation writes lands in memory
-pub relocation-lands : (objects : List Placed) (own i : ℕ) (r : Relocation) → own < length objects → Stacked 0 objects → AllAccepted objects
-    → slice_get (relocations_of objects own) i ≡ Some r → IfSome (write_of objects own r) (Lands (headings_of objects))
-relocation-lands objects own i r within stacked all at =
-    let file = file_at objects own in
-    let accepted = accepted-at objects own all within in
-    let low = low-at 0 objects own stacked within in
+-- what a relocation writes lands in the memory of its object
+pub relocation-lands : (base : ℕ) (file : List ℕ) (values : ℕ → Option ℕ) (i : ℕ) (r : Relocation) → base + reach file ≤ MEMORY_LIMIT → first_refusal file ≡ None
+    → slice_get (relocations file) i ≡ Some r → IfSome (write_with base values r) (Lands (map (heading_at base) (loads file)))
+relocation-lands base file values i r low accepted at =
     let fits : is_writing r.kind ≡ true → is_in_memory file r.offset 8 ≡ true =
     subst (λ (x : Relocation). is_writing x.kind ≡ true → is_in_memory file x.offset 8 ≡ true) (get_or_from_slice_get (relocations file) i r r at)
     (places file accepted i r (slice_get_within (relocations file) i r at)) in
-    lands-by (headings_of objects) (base_at objects own + r.offset) (value_of objects own r)
+    lands-by (map (heading_at base) (loads file)) (base + r.offset) (value_with base values r)
     (λ h.
-    let any = placed-any file r.offset (fits (writes objects own r h)) in
-    (omega (arith, low, place-reached file r.offset any), room-at objects own r.offset within any))
+    let any = placed-any file r.offset (fits (writes base values r h)) in
+    (omega (arith, low, place-reached file r.offset any), rooms-shift base r.offset (loads file) ∙ any))
 
 and-left : (a b : Bool) → (a && b) ≡ true → a ≡ true
 and-left true b h = refl

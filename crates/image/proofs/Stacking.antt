@@ -1,21 +1,19 @@
 -- The PT_LOADs of all objects, one object above the other.
-use Rattle.std.proofs.Common.{◌≡◌, ℕ, ◌+◌, ◌<◌, ◌≤◌, Bool, true, false, List, [], ◌∷◌, ◌++◌, length, map, take, get_or, None, refl, sym, ap, append-nil, ◌∙◌, arith, suc, zero, subst}
-use Rattle.std.specs.Prelude.{◌||◌}
-use Rattle.std.specs.List.{All, list_any}
+use Rattle.std.proofs.Common.{◌≡◌, ℕ, ◌+◌, ◌<◌, ◌≤◌, List, [], ◌∷◌, ◌++◌, length, map, take, get_or, None, refl, sym, ap, append-nil, ◌∙◌, arith, suc, zero, subst}
+use Rattle.std.specs.List.{All}
+use Rattle.std.proofs.lemmas.List.Elements.{All-append}
 use Rattle.std.proofs.lemmas.List.{map-append, take_more}
 use Rattle.std.proofs.lemmas.List.Concat.{flat_map-append}
-use Rattle.std.proofs.lemmas.List.Folds.{list_any-append}
 use Rattle.std.proofs.lemmas.Simd.{map-map}
 use Rattle.elf_file.specs.Segment.{loads}
-use Rattle.elf_file.specs.Address.{is_in_memory_part}
 use Rattle.elf_dynamic.specs.Refusal.{first_refusal}
 use Rattle.image.specs.Constant.{MEMORY_LIMIT}
 use Rattle.image.specs.Heading.{Heading}
 use Rattle.image.specs.Loading.{Loaded, heading_at, loaded_at, loaded_of, all_loaded}
 use Rattle.image.specs.Placement.{Placed, reach, end_of}
 use Rattle.image.specs.Relocating.{base_at, file_at, name_at}
-use Rattle.image.specs.inside.Layout.{AllAccepted, Rising, Stacked, room_in}
-use Rattle.image.proofs.Placing.{loads-rising, loads-end, rooms-shift}
+use Rattle.image.specs.inside.Layout.{AllAccepted, Rising, Stacked}
+use Rattle.image.proofs.Placing.{loads-rising, loads-end}
 
 -- where the PT_LOADs of all objects lie
 abbrev pub headings_of : List Placed → List Heading
@@ -28,11 +26,12 @@ headings-cons : (p : Placed) (ps : List Placed) → headings_of (p ∷ ps) ≡ m
 headings-cons p ps =
     map-append (λ (l : Loaded). l.heading) (loaded_of p) (all_loaded ps) ∙ ap (λ hs. hs ++ headings_of ps) (headings-loaded p)
 
-rising-weaken : (from m : ℕ) (hs : List Heading) → from ≤ m → Rising m hs → Rising from hs
+pub rising-weaken : (from m : ℕ) (hs : List Heading) → from ≤ m → Rising m hs → Rising from hs
 rising-weaken from m [] l r = tt
 rising-weaken from m (h ∷ hs) l r = (omega (arith, r.0, l), r.1)
 
-rising-append : (from m : ℕ) (hs ks : List Heading) → Rising from hs → from ≤ m → All (λ h. h.address + h.size ≤ m) hs → Rising m ks → Rising from (hs ++ ks)
+-- segments and others above them rise
+pub rising-append : (from m : ℕ) (hs ks : List Heading) → Rising from hs → from ≤ m → All (λ h. h.address + h.size ≤ m) hs → Rising m ks → Rising from (hs ++ ks)
 rising-append from m [] ks r l e k = rising-weaken from m ks l k
 rising-append from m (h ∷ hs) ks r l e k =
     (r.0, rising-append (h.address + h.size) m hs ks r.1 (e 0 h (omega arith)) (λ i d j. e (suc i) d (omega (arith, j))) k)
@@ -67,24 +66,21 @@ get-placed [] i d h = absurd (omega (arith, h))
 get-placed (p ∷ ps) zero d h = refl
 get-placed (p ∷ ps) (suc i) d h = get-placed ps i d (omega (arith, h))
 
-or-true : (b : Bool) → (b || true) ≡ true
-or-true true = refl
-or-true false = refl
+base-above : (from : ℕ) (objects : List Placed) (i : ℕ) → Stacked from objects → i < length objects → from ≤ base_at objects i
+base-above from [] i s h = absurd (omega (arith, h))
+base-above from (p ∷ ps) zero s h = s.0
+base-above from (p ∷ ps) (suc i) s h = omega (arith, s.0, base-above (end_of p) ps i s.2 (omega (arith, h)))
 
--- eight bytes that lie in a PT_LOAD of the object at a place
-pub room-at : (objects : List Placed) (i place : ℕ) → i < length objects → list_any (is_in_memory_part place 8) (loads (file_at objects i)) ≡ true
-    → list_any (room_in (base_at objects i + place)) (headings_of objects) ≡ true
-room-at [] i place h any = absurd (omega (arith, h))
-room-at (p ∷ ps) zero place h any =
-    let q = room_in (p.base + place) in
-    let hs = map (heading_at p.base) (loads p.file) in
-    ap (list_any q) (headings-cons p ps) ∙ list_any-append q hs (headings_of ps)
-    ∙ ap (λ b. b || list_any q (headings_of ps)) (rooms-shift p.base place (loads p.file) ∙ any)
-room-at (p ∷ ps) (suc i) place h any =
-    let q = room_in (base_at ps i + place) in
-    let hs = map (heading_at p.base) (loads p.file) in
-    ap (list_any q) (headings-cons p ps) ∙ list_any-append q hs (headings_of ps)
-    ∙ ap (λ b. list_any q hs || b) (room-at ps i place (omega (arith, h)) any) ∙ or-true (list_any q hs)
+-- the PT_LOADs of all objects before a place end at or below the base of the object there
+pub stack-ends : (from : ℕ) (objects : List Placed) (i : ℕ) → Stacked from objects → i < length objects → All (λ h. h.address + h.size ≤ base_at objects i) (headings_of (take i objects))
+stack-ends from [] i s h = absurd (omega (arith, h))
+stack-ends from (p ∷ ps) zero s h = λ k d l. absurd (omega (arith, l))
+stack-ends from (p ∷ ps) (suc i) s h =
+    let high : end_of p ≤ base_at ps i = base-above (end_of p) ps i s.2 (omega (arith, h)) in
+    let ends = λ (g : Heading). g.address + g.size ≤ base_at ps i in
+    subst (All ends) (sym (headings-cons p (take i ps)))
+    (All-append ends (map (heading_at p.base) (loads p.file)) (headings_of (take i ps))
+    (λ k d l. omega (arith, loads-end p.base p.file k d l, high)) (stack-ends (end_of p) ps i s.2 (omega (arith, h))))
 
 -- so many of the objects, and the next one
 pub loaded-more : (objects : List Placed) (i : ℕ) → i < length objects → all_loaded (take (i + 1) objects) ≡ all_loaded (take i objects) ++ loaded_of (placed_of objects i)

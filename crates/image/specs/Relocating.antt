@@ -51,12 +51,17 @@ target_value objects (At object symbol) = own_address objects object symbol
 unfoldable pub symbol_value : List Placed → ℕ → ℕ → Option ℕ
 symbol_value objects own symbol = option_map (target_value objects) (target (map named objects) own symbol)
 
--- the value that a relocation writes; none where its symbol is undefined or its type writes nothing
+-- the value that a relocation of an object at a base writes, with the values of symbols by number;
+-- none where its symbol is undefined or its type writes nothing
+abbrev pub value_with : ℕ → (ℕ → Option ℕ) → Relocation → Option ℕ
+value_with base values r =
+    if r.kind == R_X86_64_RELATIVE then Some ((base + r.addend) % 2 ^ 64)
+    else (if r.kind == R_X86_64_64 then option_map (λ value. (value + r.addend) % 2 ^ 64) (values r.symbol)
+    else (if uses_symbol r.kind then values r.symbol else None))
+
+-- the value that a relocation of the object at a place writes
 abbrev pub value_of : List Placed → ℕ → Relocation → Option ℕ
-value_of objects own r =
-    if r.kind == R_X86_64_RELATIVE then Some ((base_at objects own + r.addend) % 2 ^ 64)
-    else (if r.kind == R_X86_64_64 then option_map (λ value. (value + r.addend) % 2 ^ 64) (symbol_value objects own r.symbol)
-    else (if uses_symbol r.kind then symbol_value objects own r.symbol else None))
+value_of objects own r = value_with (base_at objects own) (symbol_value objects own) r
 
 -- a relocation of a type that writes, whose value is undefined
 abbrev pub is_undefined : List Placed → ℕ → Relocation → Bool
@@ -71,14 +76,13 @@ pub record Write : Type 0 where
   pub place : ℕ
   pub value : ℕ
 
--- what a relocation of the object at a place writes
-abbrev pub write_of : List Placed → ℕ → Relocation → Option Write
-write_of objects own r =
-    option_map (λ value. record { place = base_at objects own + r.offset; value = value }) (value_of objects own r)
+-- what a relocation of an object at a base writes, with the values of symbols by number
+abbrev pub write_with : ℕ → (ℕ → Option ℕ) → Relocation → Option Write
+write_with base values r = option_map (λ value. record { place = base + r.offset; value = value }) (value_with base values r)
 
 -- what the relocations of the object at a place write, in their order
 abbrev pub writes_of : List Placed → ℕ → List Write
-writes_of objects own = filter_map (write_of objects own) (relocations_of objects own)
+writes_of objects own = filter_map (write_with (base_at objects own) (symbol_value objects own)) (relocations_of objects own)
 
 -- what all relocations write, in load order
 abbrev pub all_writes : List Placed → List Write

@@ -1,77 +1,17 @@
 // Binding objects in load order.
 
-ghost use Rattle.std.specs.Prelude.{◌≡◌, ℕ, map, true, false, None, IfOk, IfErr, OnOk};
+ghost use Rattle.std.specs.Prelude.{◌≡◌, ℕ, true, None, IfOk, IfErr, OnOk};
 ghost use Rattle.scope.specs.Objects.{file_at};
 ghost use Rattle.image.specs.Byte.{byte_of};
-ghost use Rattle.image.specs.Image.{heading, image_byte, image_of, object_of, segments_byte};
-ghost use Rattle.image.specs.Loading.{all_loaded};
+ghost use Rattle.image.specs.Image.{image_byte, image_of};
 ghost use Rattle.image.specs.Placement.{is_good_base, place};
-ghost use Rattle.image.specs.Refusal.{placed_refusal, undefined_refusal};
-ghost use Rattle.image.specs.Refusal.{IsFirstOrWantsMemory, IsPlacedAnswer};
-ghost use Rattle.image.specs.inside.Layout.{Rising};
+ghost use Rattle.image.specs.Refusal.{placed_refusal, IsPlacedAnswer};
 
+use crate::bound::bound_objects;
 use crate::image::Image;
-use crate::load::load;
-use crate::object::ImageObject;
-use crate::placed::PlacedOrder;
-use crate::placement::place;
 use crate::refusal::BindRefusal;
-use crate::relocate::relocate;
-use crate::segment::Segment;
-use names::Name;
 use scope::Order;
-use std::alloc::{AllocError, Global};
-
-/// The objects of an image.
-fn image_objects(alloc: Global, objects: &PlacedOrder<'_>) -> Result<Vec<ImageObject>, AllocError>
-    ensures { IfOk result (λ v. v.items ≡ map object_of objects.now) }
-{
-    let count = objects.count();
-    let mut named = Vec::with_capacity(alloc, count)?;
-    for i in 0..count {
-        let name = Name::copy_of(alloc, objects.name(i))?;
-        let base = objects.base(i);
-        let object = objects.object(i);
-        let segment_count = object.segment_count();
-        let addresses = object.addresses();
-        named.push(ImageObject {
-            name,
-            base,
-            segment_count,
-            addresses,
-        })?;
-    }
-    Ok(named)
-}
-
-/// The segments of objects with their relocations written into them, or the refusal of the first
-/// relocation that is undefined.
-fn bound_segments(alloc: Global, objects: &PlacedOrder<'_>) -> Result<Vec<Segment>, BindRefusal>
-    ensures headings { IfOk result (λ v. map heading v.items
-        ≡ map (λ s. s.heading) (all_loaded objects.now)) }
-    ensures rising { IfOk result (λ v. Rising 0 (map heading v.items)) }
-    ensures ok { OnOk result (undefined_refusal objects.now ≡ None) }
-    ensures bytes { IfOk result (λ v.
-        (a : ℕ) → segments_byte v.items a ≡ byte_of objects.now a) }
-    ensures refused { IfErr result (IsFirstOrWantsMemory (undefined_refusal objects.now)) }
-{
-    let mut segments = load(alloc, objects)?;
-    relocate(alloc, &mut segments, objects)?;
-    Ok(segments)
-}
-
-/// The image of objects at their bases, or the refusal of the first relocation that is undefined.
-fn image_at(alloc: Global, objects: &PlacedOrder<'_>) -> Result<Image, BindRefusal>
-    ensures accepted { OnOk result (undefined_refusal objects.now ≡ None) }
-    ensures ok { IfOk result (λ image. image ≡ image_of objects.now) }
-    ensures bytes { IfOk result (λ image.
-        (a : ℕ) → image_byte image a ≡ byte_of objects.now a) }
-    ensures refused { IfErr result (IsFirstOrWantsMemory (undefined_refusal objects.now)) }
-{
-    let segments = bound_segments(alloc, objects)?;
-    let named = image_objects(alloc, objects)?;
-    Ok(Image::new(named, segments))
-}
+use std::alloc::Global;
 
 /// Binds a program and its libraries in load order, the program at a good base: their image, or the
 /// first of these refusals: memory would end above 2^47 - 4,096 (B4), a relocation's symbol is
@@ -92,7 +32,10 @@ pub fn bind(alloc: Global, order: &Order<'_>, base: u64) -> Result<Image, BindRe
     ensures bytes { IfOk result (λ image.
         (a : ℕ) → image_byte image a ≡ byte_of (place base order.now) a) }
 {
-    let bases = place(alloc, order, base)?;
-    let objects = PlacedOrder::new(order, bases);
-    image_at(alloc, &objects)
+    let objects = bound_objects(alloc, order, base)?;
+    let mut image = Image::empty(alloc);
+    for i in 0..order.count() {
+        image = image.with(alloc, &objects[i], order.object(i).object())?;
+    }
+    Ok(image)
 }

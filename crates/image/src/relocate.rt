@@ -1,102 +1,89 @@
-// Writing relocations into segments.
+// Writing relocations into the segments of an object.
 
-ghost use Rattle.std.specs.Prelude.{◌≡◌, ◌<◌, ℕ, length, map, true, false, None, IfSome};
-ghost use Rattle.std.specs.Prelude.{IfErr, OnErr, OnOk};
-ghost use Rattle.elf_dynamic.specs.Relocation.{uses_symbol};
-ghost use Rattle.elf_dynamic.specs.Symbol.{symbols};
+ghost use Rattle.std.specs.Prelude.{◌≡◌, ◌+◌, ◌≤◌, ℕ, map, None, IfOk, IfSome, OnOk};
+ghost use Rattle.std.specs.List.{filter_map};
+ghost use Rattle.elf_dynamic.specs.Refusal.{first_refusal};
+ghost use Rattle.elf_dynamic.specs.Relocation.{relocations};
+ghost use Rattle.elf_file.specs.Segment.{loads};
+ghost use Rattle.image.specs.Byte.{byte_after};
+ghost use Rattle.image.specs.Constant.{MEMORY_LIMIT};
 ghost use Rattle.image.specs.Image.{heading, segments_byte};
-ghost use Rattle.image.specs.Loading.{all_loaded};
-ghost use Rattle.image.specs.Placement.{named};
-ghost use Rattle.image.specs.Refusal.{undefined_in, undefined_refusal, IsFirstOrWantsMemory};
-ghost use Rattle.image.specs.Relocating.{file_at, is_undefined, write_of, writes_of, all_writes};
-ghost use Rattle.image.specs.Relocating.{last_write_at, value_of, written_or};
-ghost use Rattle.image.specs.inside.Layout.{Rising, after, Lands, Keeps};
+ghost use Rattle.image.specs.Loading.{heading_at, loaded_at};
+ghost use Rattle.image.specs.Placement.{reach};
+ghost use Rattle.image.specs.Relocating.{last_write_at, write_with, written_or};
+ghost use Rattle.image.specs.inside.Bound.{value_in};
+ghost use Rattle.image.specs.inside.Layout.{Lands, Rising, after};
 
+use crate::load::load;
 use crate::patch::patch;
-use crate::placed::PlacedOrder;
-use crate::refusal::BindRefusal;
 use crate::segment::Segment;
-use crate::value::{nothing_kept, value_of};
-use elf_dynamic::Relocation;
+use crate::value::written_value;
+use elf_dynamic::{Object, Relocation};
 use std::alloc::{AllocError, Global};
 
-/// Writes the value of a relocation of the object at a place in load order, where it writes one,
-/// and gives the segment that was found last.
-fn write_value(
+/// Writes the value of a relocation of an object at a base, where it writes one, and gives the
+/// segment that was found last.
+fn relocate_one(
     segments: &mut [Segment],
     near: usize,
-    objects: &PlacedOrder<'_>,
-    own: usize,
+    base: u64,
+    values: &[u64],
     relocation: Relocation,
-    value: Option<u64>,
 ) -> Result<usize, AllocError>
-    requires own { own < length objects.now }
-    requires value { value ≡ value_of objects.now own relocation }
     requires rising { Rising 0 (map heading segments.old) }
-    requires lands { IfSome (write_of objects.now own relocation)
+    requires lands { IfSome (write_with base (value_in values.now) relocation)
         (Lands (map heading segments.old)) }
     ensures headings { map heading segments.new ≡ map heading segments.old }
     ensures bytes { OnOk result ((a : ℕ) → segments_byte segments.new a
-        ≡ after (write_of objects.now own relocation) (segments_byte segments.old a) a) }
+        ≡ after (write_with base (value_in values.now) relocation)
+        (segments_byte segments.old a) a) }
 {
-    match value {
-        Some(value) => {
-            let place = objects.base(own) + relocation.offset;
-            patch(segments, near, place, value)
-        }
+    match written_value(base, values, relocation) {
+        Some(value) => patch(segments, near, base + relocation.offset, value),
         None => Ok(near),
     }
 }
 
-/// Writes what the relocations of the object at a place in load order write, in their order, or
-/// gives the refusal of the first one that is undefined. One that goes where the one before it went
-/// takes constant time, any other a halving over the segments. Each symbol is looked up once: it
-/// takes 16 bytes a symbol, which it gives back.
-fn relocate_object(
-    alloc: Global,
+/// Writes what the relocations of an object at a base write, in their order, into its segments.
+/// One that goes where the one before it went takes constant time, any other a halving over the
+/// segments.
+fn relocate(
     segments: &mut [Segment],
-    objects: &PlacedOrder<'_>,
-    own: usize,
-) -> Result<(), BindRefusal>
-    requires own { own < length objects.now }
-    requires headings { map heading segments.old ≡ map (λ s. s.heading) (all_loaded objects.now) }
+    object: &Object<'_>,
+    base: u64,
+    values: &[u64],
+) -> Result<(), AllocError>
+    requires fits { base + reach object.now ≤ MEMORY_LIMIT }
+    requires headings { map heading segments.old ≡ map (heading_at base) (loads object.now) }
     ensures headings { map heading segments.new ≡ map heading segments.old }
-    ensures ok { OnOk result (undefined_in objects.now own ≡ None) }
     ensures bytes { OnOk result ((a : ℕ) → segments_byte segments.new a
-        ≡ written_or (last_write_at (writes_of objects.now own) a)
-        (segments_byte segments.old a) a) }
-    ensures refused { IfErr result (IsFirstOrWantsMemory (undefined_in objects.now own)) }
+        ≡ written_or (last_write_at (filter_map (write_with base (value_in values.now))
+        (relocations object.now)) a) (segments_byte segments.old a) a) }
 {
-    let object = objects.object(own);
-    let mut kept = nothing_kept(alloc, object.symbol_count())?;
     let mut near = 0;
     for i in 0..object.rela_count() {
         let relocation = object.rela(i);
-        let Ok(value) = value_of(objects, own, &mut kept, relocation) else {
-            let symbol = object.name_of(relocation.symbol);
-            return Err(BindRefusal::undefined(alloc, objects.name(own), symbol));
-        };
-        near = write_value(segments, near, objects, own, relocation, value)?;
+        near = relocate_one(segments, near, base, values, relocation)?;
     }
     Ok(())
 }
 
-/// Writes what the relocations of all objects write, in load order, or gives the refusal of the
-/// first one that is undefined.
-pub(crate) fn relocate(
+/// The segments of an object at a base, with its relocations written into them.
+pub(crate) fn relocated(
     alloc: Global,
-    segments: &mut [Segment],
-    objects: &PlacedOrder<'_>,
-) -> Result<(), BindRefusal>
-    requires { map heading segments.old ≡ map (λ s. s.heading) (all_loaded objects.now) }
-    ensures headings { map heading segments.new ≡ map heading segments.old }
-    ensures ok { OnOk result (undefined_refusal objects.now ≡ None) }
-    ensures bytes { OnOk result ((a : ℕ) → segments_byte segments.new a
-        ≡ written_or (last_write_at (all_writes objects.now) a) (segments_byte segments.old a) a) }
-    ensures refused { IfErr result (IsFirstOrWantsMemory (undefined_refusal objects.now)) }
+    object: &Object<'_>,
+    base: u64,
+    values: &[u64],
+) -> Result<Vec<Segment>, AllocError>
+    requires { base + reach object.now ≤ MEMORY_LIMIT }
+    ensures accepted { first_refusal object.now ≡ None }
+    ensures headings { IfOk result (λ v. map heading v.items
+        ≡ map (heading_at base) (loads object.now)) }
+    ensures bytes { IfOk result (λ v. (a : ℕ) → segments_byte v.items a
+        ≡ byte_after (map (loaded_at base object.now) (loads object.now))
+        (filter_map (write_with base (value_in values.now)) (relocations object.now)) a) }
 {
-    for own in 0..objects.count() {
-        relocate_object(alloc, segments, objects, own)?;
-    }
-    Ok(())
+    let mut segments = load(alloc, object, base)?;
+    relocate(&mut segments, object, base, values)?;
+    Ok(segments)
 }

@@ -1,79 +1,100 @@
 // The values that relocations write.
 
-ghost use Rattle.std.specs.Prelude.{◌≡◌, ◌<◌, length, Some, None, true, false};
+ghost use Rattle.std.specs.Prelude.{◌≡◌, ◌<◌, ℕ, length, slice_index, true, false, None};
 ghost use Rattle.std.specs.Prelude.{IfOk, MatchResult, replicate};
 ghost use Rattle.elf_dynamic.specs.Relocation.{uses_symbol};
 ghost use Rattle.elf_dynamic.specs.Symbol.{symbols};
-ghost use Rattle.image.specs.Relocating.{file_at, symbol_value, value_of, is_undefined};
-ghost use Rattle.image.specs.inside.Layout.{Keeps};
+ghost use Rattle.image.specs.Relocating.{file_at, is_undefined, symbol_value, value_with};
+ghost use Rattle.image.specs.inside.Bound.{AreValues, IsKnown, IsReady, UNKNOWN, value_in};
 
 use crate::placed::PlacedOrder;
 use elf_dynamic::{
-    R_X86_64_64, R_X86_64_GLOB_DAT, R_X86_64_JUMP_SLOT, R_X86_64_RELATIVE, Relocation,
+    R_X86_64_64, R_X86_64_GLOB_DAT, R_X86_64_JUMP_SLOT, R_X86_64_RELATIVE, Relocation, uses_symbol,
 };
 use scope::Undefined;
 use std::alloc::{AllocError, Global};
 
-/// Room for the values of so many symbols, none of which is kept.
-pub(crate) fn nothing_kept(alloc: Global, count: u32) -> Result<Vec<Option<u64>>, AllocError>
-    ensures { IfOk result (λ v. v.items ≡ replicate count None) }
+/// What stands for a value that isn't known. A symbol that has it is looked up each time.
+const UNKNOWN: u64 = u64::MAX;
+
+/// Room for the values of so many symbols, none of which is known.
+pub(crate) fn unknown_values(alloc: Global, count: u32) -> Result<Vec<u64>, AllocError>
+    ensures { IfOk result (λ v. v.items ≡ replicate count UNKNOWN) }
 {
-    let mut kept = Vec::with_capacity(alloc, count as usize)?;
-    kept.resize(count as usize, None)?;
-    Ok(kept)
+    let mut values = Vec::with_capacity(alloc, count as usize)?;
+    values.resize(count as usize, UNKNOWN)?;
+    Ok(values)
 }
 
-/// The value of the symbol of a number of the object at a place. It is looked up the first time,
-/// and kept.
-fn kept_value(
+/// Finds the value of the symbol of a number of the object at a place, unless it is undefined. It
+/// is looked up the first time, and kept.
+fn find_value(
     objects: &PlacedOrder<'_>,
     own: usize,
-    kept: &mut Vec<Option<u64>>,
+    values: &mut Vec<u64>,
     symbol: u32,
-) -> Result<u64, Undefined>
+) -> Result<(), Undefined>
     requires own { own < length objects.now }
     requires symbol { symbol < length (symbols (file_at objects.now own)) }
-    requires kept { Keeps objects.now own kept.old.items }
-    ensures kept { Keeps objects.now own kept.new.items }
-    ensures value { MatchResult result (λ value. symbol_value objects.now own symbol ≡ Some value)
+    requires kept { AreValues objects.now own values.old.items }
+    ensures kept { AreValues objects.now own values.new.items }
+    ensures stays { (k : ℕ) → IsKnown objects.now own values.old.items k
+        → IsKnown objects.now own values.new.items k }
+    ensures found { MatchResult result (λ _. IsKnown objects.now own values.new.items symbol)
         (λ _. symbol_value objects.now own symbol ≡ None) }
 {
-    if let Some(value) = kept[symbol as usize] {
-        return Ok(value);
+    if values[symbol as usize] == UNKNOWN {
+        values[symbol as usize] = objects.symbol_value(own, symbol)?;
     }
-    let value = objects.symbol_value(own, symbol)?;
-    kept[symbol as usize] = Some(value);
-    Ok(value)
+    Ok(())
 }
 
-/// The value that a relocation of the object at a place writes, where its type writes one, unless
-/// its symbol is undefined.
-pub(crate) fn value_of(
+/// Finds the value of the symbol that a relocation of the object at a place names, where its type
+/// uses one, unless that is undefined.
+pub(crate) fn find_value_of(
     objects: &PlacedOrder<'_>,
     own: usize,
-    kept: &mut Vec<Option<u64>>,
+    values: &mut Vec<u64>,
     relocation: Relocation,
-) -> Result<Option<u64>, Undefined>
+) -> Result<(), Undefined>
     requires own { own < length objects.now }
     requires symbol { uses_symbol relocation.kind ≡ true
         → relocation.symbol < length (symbols (file_at objects.now own)) }
-    requires kept { Keeps objects.now own kept.old.items }
-    ensures kept { Keeps objects.now own kept.new.items }
-    ensures value { MatchResult result
-        (λ value. (value ≡ value_of objects.now own relocation)
+    requires kept { AreValues objects.now own values.old.items }
+    ensures kept { AreValues objects.now own values.new.items }
+    ensures stays { (k : ℕ) → IsKnown objects.now own values.old.items k
+        → IsKnown objects.now own values.new.items k }
+    ensures found { MatchResult result
+        (λ _. IsReady objects.now own values.new.items relocation
         × (is_undefined objects.now own relocation ≡ false))
         (λ _. is_undefined objects.now own relocation ≡ true) }
 {
+    if uses_symbol(relocation.kind) {
+        find_value(objects, own, values, relocation.symbol)
+    } else {
+        Ok(())
+    }
+}
+
+/// The value of the symbol of a number, among values by number.
+fn value_in(values: &[u64], symbol: u32) -> u64
+    ensures { result ≡ slice_index values.now symbol }
+{
+    match values.get(symbol as usize) {
+        Some(value) => *value,
+        None => 0,
+    }
+}
+
+/// The value that a relocation of an object at a base writes, where its type writes one, with the
+/// values of the object's symbols.
+pub(crate) fn written_value(base: u64, values: &[u64], relocation: Relocation) -> Option<u64>
+    ensures { result ≡ value_with base (value_in values.now) relocation }
+{
     match relocation.kind {
-        R_X86_64_RELATIVE => Ok(Some(relocation.plus_addend(objects.base(own)))),
-        R_X86_64_64 => {
-            let value = kept_value(objects, own, kept, relocation.symbol)?;
-            Ok(Some(relocation.plus_addend(value)))
-        }
-        R_X86_64_GLOB_DAT | R_X86_64_JUMP_SLOT => {
-            let value = kept_value(objects, own, kept, relocation.symbol)?;
-            Ok(Some(value))
-        }
-        _ => Ok(None),
+        R_X86_64_RELATIVE => Some(relocation.plus_addend(base)),
+        R_X86_64_64 => Some(relocation.plus_addend(value_in(values, relocation.symbol))),
+        R_X86_64_GLOB_DAT | R_X86_64_JUMP_SLOT => Some(value_in(values, relocation.symbol)),
+        _ => None,
     }
 }

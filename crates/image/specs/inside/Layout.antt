@@ -1,18 +1,17 @@
 -- Where segments lie, and what loading and relocating do to them. Nobody has to believe these.
 use Rattle.std.specs.Prelude.{ℕ, ◌≡◌, ◌+◌, ◌-◌, ◌^◌, ◌<◌, ◌≤◌, Bool, ◌&&◌, true, nat_le, if◌then◌else◌}
-use Rattle.std.specs.Prelude.{List, [], ◌∷◌, ◌++◌, length, map, take, drop, replicate, slice_get, sum_by, Option, Some, None}
+use Rattle.std.specs.Prelude.{List, [], ◌∷◌, ◌++◌, length, map, take, drop, replicate, sum_by, Option, Some, None}
 use Rattle.std.specs.Int.{byte_at}
 use Rattle.std.specs.List.{All, list_any}
 use Rattle.byteorder.specs.Endian.{little_bytes}
 use Rattle.elf_dynamic.specs.Refusal.{first_refusal}
-use Rattle.elf_dynamic.specs.Symbol.{symbols}
 use Rattle.scope.specs.Objects.{Named}
 use Rattle.image.specs.Constant.{MEMORY_LIMIT}
 use Rattle.image.specs.Heading.{Heading, within}
 use Rattle.image.specs.Image.{ImageSegment, heading}
 use Rattle.image.specs.Loading.{Loaded}
 use Rattle.image.specs.Placement.{Placed, placed_at, end_of}
-use Rattle.image.specs.Relocating.{Write, file_at, symbol_value}
+use Rattle.image.specs.Relocating.{Write}
 use Rattle.image.specs.declared.object.ImageObject.{ImageObject}
 
 -- bytes with zeros behind them, so many together
@@ -84,8 +83,3 @@ pub record IsPlaced (order : List Named) (bases : List ℕ) : Type 0 where
   pub counted : length bases ≡ length order
   pub stacked : Stacked 0 (with_bases order bases)
   pub accepted : AllAccepted (with_bases order bases)
-
--- the values that are kept are those of the symbols of their numbers, of the object at a place
-pub record Keeps (objects : List Placed) (own : ℕ) (kept : List (Option ℕ)) : Type 0 where
-  pub counted : length kept ≡ length (symbols (file_at objects own))
-  pub values : (k v : ℕ) → slice_get kept k ≡ Some (Some v) → symbol_value objects own k ≡ Some v

@@ -1,34 +1,69 @@
-use Rattle.std.proofs.Common.{◌<◌, ◌++◌, List, length, map, take, ap, ◌∙◌, sym, arith}
-use Rattle.std.proofs.lemmas.List.{map-append, take_all}
-use Rattle.elf_file.specs.Segment.{loads}
+use Rattle.std.proofs.Common.{◌≡◌, ◌+◌, ◌++◌, [], ◌∷◌, List, Some, length, map, ap, ◌∙◌, refl, sym, arith}
+use Rattle.std.specs.Prelude.{slice_get}
+use Rattle.std.proofs.lemmas.Iterator.Consumers.{YieldsList-from_first, YieldsList-turn, YieldsList-end}
+use Rattle.std.proofs.lemmas.List.{map_push, map-id}
+use Rattle.std.proofs.lemmas.Option.{slice_get_read}
+use Rattle.elf_file.specs.Segment.{loads, contents}
+use Rattle.elf_file.specs.declared.segment.ProgramHeader.{ProgramHeader}
 use Rattle.image.specs.Image.{ImageSegment}
-use Rattle.image.specs.Loading.{all_loaded, loaded_at, loaded_of}
-use Rattle.image.specs.Placement.{Placed, reach}
-use Rattle.image.specs.Relocating.{base_at}
-use Rattle.image.specs.inside.Layout.{fresh}
-use Rattle.image.proofs.Stacking.{low-at, loaded-more, placed_of}
+use Rattle.image.specs.Loading.{loaded_at}
+use Rattle.image.specs.inside.Layout.{fresh, padded}
+use Rattle.image.proofs.Placing.{contents-fit, memory-small, reach-bounds}
 use Rattle.image.proofs.load.load.Goals as goal
 
-pub load_object-requires : goal.load_object-requires
-load_object-requires c =
-    let objects = c.args.objects.now in
-    let within : c.loop-i.i < length objects = omega (arith, c.count-count.ensures.count) in
-    omega (arith, low-at 0 objects c.loop-i.i c.count-count.ensures.stacked within, c.base-base.ensures, ap reach c.object-object.ensures.file)
+pub overflow_cast-size : goal.overflow_cast-size
+overflow_cast-size c =
+    let file = c.args.object.now in
+    let h : ProgramHeader = c.in-Some.header in
+    let road = YieldsList-from_first (λ (x : ProgramHeader). x) (λ (hs : List ProgramHeader). hs) (loads file)
+    (c.into_iter-header-iterator.ensures.into_iter_gives ∙ c.segments-header-items.ensures.segments) in
+    let turn = YieldsList-turn road c.loop-header.yielded _ c.loop-header.yielded_by _ _ h c.in-Some.is c.next.ensures.steps in
+    let at : slice_get (loads file) (length c.loop-header.yielded) ≡ Some h = slice_get_read (loads file) (length (loads file)) (length c.loop-header.yielded) h refl turn.0 turn.1 in
+    omega (arith, memory-small file (length c.loop-header.yielded) h c.contents_of.ensures.accepted at)
 
-pub loop-i-preserved : goal.loop-i-preserved
-loop-i-preserved c =
-    let objects = c.args.objects.now in
-    let i = c.loop-i.i in
-    let within : i < length objects = omega (arith, c.count-count.ensures.count) in
-    let done = all_loaded (take i objects) in
-    c.in_ok-load_object.ensures
-    ∙ ap (λ (l : List ImageSegment). l ++ map fresh (map (loaded_at c.base-base.result c.object-object.result.now) (loads c.object-object.result.now))) c.loop-i.invariant
-    ∙ ap (λ b. map fresh done ++ map fresh (map (loaded_at b c.object-object.result.now) (loads c.object-object.result.now))) c.base-base.ensures
-    ∙ ap (λ f. map fresh done ++ map fresh (map (loaded_at (base_at objects i) f) (loads f))) c.object-object.ensures.file
-    ∙ sym (map-append fresh done (loaded_of (placed_of objects i)))
-    ∙ ap (map fresh) (sym (loaded-more objects i within))
+pub new-requires : goal.new-requires
+new-requires c =
+    let file = c.args.object.now in
+    let h : ProgramHeader = c.in-Some.header in
+    let road = YieldsList-from_first (λ (x : ProgramHeader). x) (λ (hs : List ProgramHeader). hs) (loads file)
+    (c.into_iter-header-iterator.ensures.into_iter_gives ∙ c.segments-header-items.ensures.segments) in
+    let turn = YieldsList-turn road c.loop-header.yielded _ c.loop-header.yielded_by _ _ h c.in-Some.is c.next.ensures.steps in
+    let at : slice_get (loads file) (length c.loop-header.yielded) ≡ Some h = slice_get_read (loads file) (length (loads file)) (length c.loop-header.yielded) h refl turn.0 turn.1 in
+    omega (arith, ap length c.in_ok-front.ensures, ap length c.contents_of.ensures.contents, contents-fit file (length c.loop-header.yielded) h c.contents_of.ensures.accepted at)
+
+pub overflow_add-base : goal.overflow_add-base
+overflow_add-base c =
+    let file = c.args.object.now in
+    let h : ProgramHeader = c.in-Some.header in
+    let road = YieldsList-from_first (λ (x : ProgramHeader). x) (λ (hs : List ProgramHeader). hs) (loads file)
+    (c.into_iter-header-iterator.ensures.into_iter_gives ∙ c.segments-header-items.ensures.segments) in
+    let turn = YieldsList-turn road c.loop-header.yielded _ c.loop-header.yielded_by _ _ h c.in-Some.is c.next.ensures.steps in
+    let at : slice_get (loads file) (length c.loop-header.yielded) ≡ Some h = slice_get_read (loads file) (length (loads file)) (length c.loop-header.yielded) h refl turn.0 turn.1 in
+    omega (arith, reach-bounds file (length c.loop-header.yielded) h at, c.requires)
+
+pub loop-header-preserved : goal.loop-header-preserved
+loop-header-preserved c =
+    let file = c.args.object.now in
+    let base = c.args.base in
+    let h : ProgramHeader = c.in-Some.header in
+    let done : List ProgramHeader = c.loop-header.yielded in
+    let bytes : c.in_ok-front.front.items ≡ contents file h = c.in_ok-front.ensures ∙ c.contents_of.ensures.contents in
+    let new : ImageSegment = c.new.result in
+    let view : new ≡ fresh (loaded_at base file h) =
+    c.new.ensures
+    ∙ ap (λ p. let s : ImageSegment = record { address = base + h.address; permissions = p; bytes = padded c.in_ok-front.front.items h.memory_size } in s) c.of_flags-permissions.ensures
+    ∙ ap (λ bs. let s : ImageSegment = record (fresh (loaded_at base file h)) { bytes = padded bs h.memory_size } in s) bytes in
+    c.in_ok-push.ensures.items
+    ∙ ap (λ l. l ++ new ∷ []) c.loop-header.invariant
+    ∙ ap (λ s. map fresh (map (loaded_at base file) done) ++ s ∷ []) view
+    ∙ sym (map_push fresh (map (loaded_at base file) done) (loaded_at base file h)) ∙ sym (ap (map fresh) (map_push (loaded_at base file) done h))
 
 pub returns-clause-ok : goal.returns-clause-ok
 returns-clause-ok c =
-    c.loop-i.invariant
-    ∙ ap (λ (ps : List Placed). map fresh (all_loaded ps)) (take_all c.loop-i.i c.args.objects.now (omega (arith, c.count-count.ensures.count)))
+    let file = c.args.object.now in
+    let base = c.args.base in
+    let road = YieldsList-from_first (λ (x : ProgramHeader). x) (λ (hs : List ProgramHeader). hs) (loads file)
+    (c.into_iter-header-iterator.ensures.into_iter_gives ∙ c.segments-header-items.ensures.segments) in
+    let end = YieldsList-end road c.loop-header.yielded _ c.loop-header.yielded_by _ _ c.in-None.is c.next.ensures.steps in
+    c.loop-header.invariant
+    ∙ ap (λ (hs : List ProgramHeader). map fresh (map (loaded_at base file) hs)) (sym (map-id c.loop-header.yielded) ∙ end.0)
