@@ -1,6 +1,6 @@
 -- What is kept of definitions by numbers is what a search finds.
 use Rattle.std.proofs.Common.{◌≡◌, ◌≢◌, ℕ, ◌<◌, ◌≤◌, ◌+◌, true, false, cond, List, [], ◌∷◌, ◌++◌, length, map, arith, refl, sym, ap, ◌∙◌, subst, get_or, set, Option, Some, None, inl, inr}
-use Rattle.std.specs.Prelude.{is_none}
+use Rattle.std.specs.Prelude.{is_none, is_some}
 use Rattle.std.specs.List.{All}
 use Rattle.std.specs.Option.{option_map}
 use Rattle.std.proofs.lemmas.Bool.{cases_lt, cases_eq, false≢true, eq-eqb, ne_eqb}
@@ -52,6 +52,15 @@ unfolding lookup
 found-own objects object name x symbolic own =
     sym (ap (λ b. first_of (map (definition_at objects name) (cond b (object ∷ all_places objects) (all_places objects)))) symbolic
     ∙ ap (λ (o : Option Target). first_of (o ∷ map (definition_at objects name) (all_places objects))) own)
+
+pub found-some : (objects : List Named) (object : ℕ) (name : List ℕ) (o : Option Target) → is_some o ≡ true → is_symbolic (file_at objects object) ≡ true
+    → definition_at objects name object ≡ o → o ≡ lookup objects object name
+found-some objects object name None is symbolic own = absurd (false≢true is)
+found-some objects object name (Some x) is symbolic own = found-own objects object name x symbolic own
+
+pub is-none : (o : Option Target) → is_some o ≡ false → o ≡ None
+is-none None is = refl
+is-none (Some x) is = absurd (false≢true (sym is))
 
 pub found-plain : (objects : List Named) (object : ℕ) (name : List ℕ) → is_symbolic (file_at objects object) ≡ false
     → first_of (map (definition_at objects name) (all_places objects)) ≡ lookup objects object name

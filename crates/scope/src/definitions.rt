@@ -1,6 +1,7 @@
 // The definitions of names that are told by numbers.
 
-ghost use Rattle.std.specs.Prelude.{◌≡◌, ◌<◌, ◌≤◌, ◌+◌, ℕ, length, map, None, IfOk, replicate};
+ghost use Rattle.std.specs.Prelude.{◌≡◌, ◌<◌, ◌≤◌, ◌+◌, ◌^◌, ℕ, length, map, None, IfOk};
+ghost use Rattle.std.specs.Prelude.{replicate};
 ghost use Rattle.elf_dynamic.specs.Symbol.{symbols};
 ghost use Rattle.hash_check.specs.Export.{is_exported};
 ghost use Rattle.hash_check.specs.Numbered.{nth_symbol, AreNumbered};
@@ -8,17 +9,20 @@ ghost use Rattle.scope.specs.Objects.{IsTaken, file_at};
 ghost use Rattle.std.specs.List.{All};
 ghost use Rattle.scope.specs.inside.Definitions.{AreFirst, AreLast, AreUpTo, own_of, AreOwn};
 
+use crate::definition::Definition;
 use crate::loaded::LoadedObject;
 use crate::target::Target;
 use hash_check::NumberedSymbol;
 use std::alloc::{AllocError, Global};
 
 /// Room for so many definitions, of which none is there.
-pub(crate) fn no_definitions(alloc: Global, count: usize) -> Result<Vec<Option<Target>>, AllocError>
+pub(crate) fn no_definitions(alloc: Global, count: usize) -> Result<Vec<Definition>, AllocError>
     ensures { IfOk result (λ v. v.items ≡ replicate count None) }
 {
     let mut kept = Vec::with_capacity(alloc, count)?;
-    kept.resize(count, None)?;
+    for number in 0..count {
+        kept.push(Definition::none())?;
+    }
     Ok(kept)
 }
 
@@ -36,8 +40,9 @@ fn keep_first(
     objects: &[LoadedObject<'_>],
     symbols: &[NumberedSymbol],
     at: usize,
-    first: &mut [Option<Target>],
+    first: &mut [Definition],
 )
+    requires few { length objects.now < 2 ^ 32 }
     requires numbered { AreNumbered (map (λ o. o.file) objects.now) symbols.now }
     requires at { at < length symbols.now }
     requires first { AreFirst objects.now symbols.now at first.old }
@@ -45,11 +50,8 @@ fn keep_first(
 {
     let symbol = symbols[at];
     let number = symbol.number as usize;
-    if first[number].is_none() && is_exported(objects, symbol) {
-        first[number] = Some(Target::At {
-            object: symbol.object,
-            symbol: symbol.symbol,
-        });
+    if first[number].target().is_none() && is_exported(objects, symbol) {
+        first[number] = Definition::at(symbol.object as u32, symbol.symbol);
     }
 }
 
@@ -58,8 +60,9 @@ pub(crate) fn first_definitions(
     alloc: Global,
     objects: &[LoadedObject<'_>],
     symbols: &[NumberedSymbol],
-) -> Result<Vec<Option<Target>>, AllocError>
-    requires { AreNumbered (map (λ o. o.file) objects.now) symbols.now }
+) -> Result<Vec<Definition>, AllocError>
+    requires few { length objects.now < 2 ^ 32 }
+    requires numbered { AreNumbered (map (λ o. o.file) objects.now) symbols.now }
     ensures { IfOk result (λ v.
         AreFirst objects.now symbols.now (length symbols.now) v.items) }
 {
@@ -75,8 +78,9 @@ fn keep_last(
     objects: &[LoadedObject<'_>],
     symbols: &[NumberedSymbol],
     at: usize,
-    last: &mut [Option<Target>],
+    last: &mut [Definition],
 )
+    requires few { length objects.now < 2 ^ 32 }
     requires numbered { AreNumbered (map (λ o. o.file) objects.now) symbols.now }
     requires at { at < length symbols.now }
     requires last { AreLast objects.now symbols.now at last.old }
@@ -84,10 +88,7 @@ fn keep_last(
 {
     let symbol = symbols[at];
     if is_exported(objects, symbol) {
-        last[symbol.number as usize] = Some(Target::At {
-            object: symbol.object,
-            symbol: symbol.symbol,
-        });
+        last[symbol.number as usize] = Definition::at(symbol.object as u32, symbol.symbol);
     }
 }
 
@@ -98,8 +99,9 @@ fn keep_up_to(
     symbols: &[NumberedSymbol],
     kept: usize,
     place: usize,
-    last: &mut [Option<Target>],
+    last: &mut [Definition],
 ) -> usize
+    requires few { length objects.now < 2 ^ 32 }
     requires numbered { AreNumbered (map (λ o. o.file) objects.now) symbols.now }
     requires last { AreLast objects.now symbols.now kept last.old }
     requires within { kept ≤ length symbols.now }
@@ -117,18 +119,12 @@ fn keep_up_to(
 
 /// A definition, if it is one of the object at a place.
 #[tactic(auto, unfolding(crate::specs::inside::Definitions::own_of))]
-fn own_one(found: Option<Target>, place: usize) -> Option<Target>
-    ensures { result ≡ own_of place found }
+fn own_one(found: &Definition, place: usize) -> Definition
+    ensures { result ≡ own_of place found.now }
 {
-    match found {
-        Some(Target::At { object, symbol }) => {
-            if object == place {
-                Some(Target::At { object, symbol })
-            } else {
-                None
-            }
-        }
-        _ => None,
+    match found.target() {
+        Some(Target::At { object, symbol: _ }) if object == place => found.copied(),
+        _ => Definition::none(),
     }
 }
 
@@ -137,7 +133,8 @@ pub(crate) fn own_definitions(
     alloc: Global,
     objects: &[LoadedObject<'_>],
     symbols: &[NumberedSymbol],
-) -> Result<Vec<Option<Target>>, AllocError>
+) -> Result<Vec<Definition>, AllocError>
+    requires few { length objects.now < 2 ^ 32 }
     requires numbered { AreNumbered (map (λ o. o.file) objects.now) symbols.now }
     requires taken { All (λ o. IsTaken o.file) objects.now }
     ensures { IfOk result (λ v. AreOwn objects.now symbols.now v.items) }
@@ -148,7 +145,7 @@ pub(crate) fn own_definitions(
     for at in 0..symbols.len() {
         let place = symbols[at].object;
         kept = keep_up_to(objects, symbols, kept, place, &mut last);
-        own.push(own_one(last[symbols[at].number as usize], place))?;
+        own.push(own_one(&last[symbols[at].number as usize], place))?;
     }
     Ok(own)
 }

@@ -1,6 +1,6 @@
 // What is found for all symbols of an order.
 
-ghost use Rattle.std.specs.Prelude.{◌≡◌, ◌<◌, ◌≤◌, ◌+◌, ◌↔◌, ℕ, [], length, map, false};
+ghost use Rattle.std.specs.Prelude.{◌≡◌, ◌<◌, ◌≤◌, ◌+◌, ◌^◌, ◌↔◌, ℕ, [], length, map, false};
 ghost use Rattle.std.specs.Prelude.{IsTrue, IfOk, slice_index_or};
 ghost use Rattle.std.specs.List.{All};
 ghost use Rattle.elf_file.specs.Dynamic.{is_symbolic};
@@ -10,6 +10,7 @@ ghost use Rattle.scope.specs.Lookup.{lookup};
 ghost use Rattle.scope.specs.inside.Definitions.{nth_target, nth_found, AreFirst, AreOwn};
 ghost use Rattle.scope.specs.inside.Definitions.{HaveRoom, IsPutAt, IsFound};
 
+use crate::definition::Definition;
 use crate::definitions::{first_definitions, no_definitions, own_definitions};
 use crate::loaded::LoadedObject;
 use crate::target::Target;
@@ -19,7 +20,7 @@ use std::alloc::{AllocError, Global};
 /// For each symbol of each object the definition of its name that is found for this object.
 #[derive(Drop)]
 pub(crate) struct Found {
-    rows: Vec<Vec<Option<Target>>>,
+    rows: Vec<Vec<Definition>>,
 }
 
 /// The objects.
@@ -37,10 +38,7 @@ fn admitted<'a>(
 }
 
 /// Room for what is found for the symbols of objects.
-fn no_rows(
-    alloc: Global,
-    objects: &[LoadedObject<'_>],
-) -> Result<Vec<Vec<Option<Target>>>, AllocError>
+fn no_rows(alloc: Global, objects: &[LoadedObject<'_>]) -> Result<Vec<Vec<Definition>>, AllocError>
     ensures { IfOk result (λ v. HaveRoom objects.now (map (λ r. r.items) v.items)) }
 {
     let mut rows = Vec::with_capacity(alloc, objects.len())?;
@@ -70,7 +68,8 @@ fn own_where_symbolic(
     alloc: Global,
     objects: &[LoadedObject<'_>],
     symbols: &[NumberedSymbol],
-) -> Result<Vec<Option<Target>>, AllocError>
+) -> Result<Vec<Definition>, AllocError>
+    requires few { length objects.now < 2 ^ 32 }
     requires numbered { AreNumbered (map (λ o. o.file) objects.now) symbols.now }
     requires taken { All (λ o. IsTaken o.file) objects.now }
     ensures { IfOk result (λ v. AreOwn objects.now symbols.now v.items) }
@@ -83,20 +82,24 @@ fn own_where_symbolic(
 }
 
 /// A definition of a list; none behind its end.
-fn target_at(kept: &[Option<Target>], at: usize) -> Option<Target>
+fn definition_at(kept: &[Definition], at: usize) -> Definition
     ensures { result ≡ nth_target kept.now at }
 {
-    if at < kept.len() { kept[at] } else { None }
+    if at < kept.len() {
+        kept[at].copied()
+    } else {
+        Definition::none()
+    }
 }
 
 /// What is found for a symbol.
 fn found_for(
     objects: &[LoadedObject<'_>],
     symbols: &[NumberedSymbol],
-    first: &[Option<Target>],
-    own: &[Option<Target>],
+    first: &[Definition],
+    own: &[Definition],
     at: usize,
-) -> Option<Target>
+) -> Definition
     requires numbered { AreNumbered (map (λ o. o.file) objects.now) symbols.now }
     requires taken { All (λ o. IsTaken o.file) objects.now }
     requires first { AreFirst objects.now symbols.now (length symbols.now) first.now }
@@ -107,15 +110,16 @@ fn found_for(
 {
     let symbol = symbols[at];
     if objects[symbol.object].is_symbolic() {
-        if let Some(own) = target_at(own, at) {
-            return Some(own);
+        let own = definition_at(own, at);
+        if own.target().is_some() {
+            return own;
         }
     }
-    target_at(first, symbol.number as usize)
+    definition_at(first, symbol.number as usize)
 }
 
 /// Puts what is found for a symbol of the object at a place into its row.
-fn put(rows: &mut [Vec<Option<Target>>], place: usize, symbol: u32, found: Option<Target>)
+fn put(rows: &mut [Vec<Definition>], place: usize, symbol: u32, found: Definition)
     requires place { place < length rows.old }
     requires symbol { symbol
         < length (slice_index_or (map (λ r. r.items) rows.old) place []) }
@@ -126,12 +130,15 @@ fn put(rows: &mut [Vec<Option<Target>>], place: usize, symbol: u32, found: Optio
 }
 
 impl Found {
-    /// What is found for all symbols of objects. It takes some 24 bytes a symbol, and some 60 more
-    /// while it is made.
+    /// What is found for all symbols of objects. It takes some 8 bytes a symbol, and some 60 more
+    /// while it is made; of 2^32 objects and more there are too many for it.
     pub(crate) fn new(alloc: Global, objects: &[LoadedObject<'_>]) -> Result<Found, AllocError>
         requires { All (λ o. IsTaken o.file) objects.now }
         ensures { IfOk result (λ f. IsFound objects.now (map (λ r. r.items) f.rows.items)) }
     {
+        if objects.len() >= 1 << 32 {
+            return Err(AllocError);
+        }
         let admitted = admitted(alloc, objects)?;
         let symbols = numbered_symbols(alloc, &admitted)?;
         let first = first_definitions(alloc, objects, &symbols)?;
@@ -151,6 +158,6 @@ impl Found {
             < length (slice_index_or (map (λ r. r.items) self.now.rows.items) place []) }
         ensures { result ≡ nth_found (map (λ r. r.items) self.now.rows.items) place symbol }
     {
-        self.rows[place][symbol as usize]
+        self.rows[place][symbol as usize].target()
     }
 }

@@ -6,6 +6,7 @@
 //! undefined.
 #![tactic(auto)]
 
+mod definition;
 mod definitions;
 mod found;
 mod installed;

@@ -17,6 +17,10 @@ files_of objects = map (λ o. o.file) objects
 abbrev pub IsExported : List Named → NumberedSymbol → Type 0
 IsExported objects s = is_exported (file_at objects s.object) s.symbol ≡ true
 
+-- the target of a definition that is kept: none has symbol number 0
+unfoldable pub kept_target : ℕ → ℕ → Option Target
+kept_target object symbol = if symbol == 0 then None else Some (At object symbol)
+
 abbrev pub nth_target : List (Option Target) → ℕ → Option Target
 nth_target kept n = slice_index_or kept n None
 

@@ -1,5 +1,8 @@
-use Rattle.std.proofs.Common.{◌≡◌, ◌+◌, ◌∙◌, List, length, sym, arith}
+use Rattle.std.proofs.Common.{◌≡◌, ◌+◌, ◌∙◌, List, length, sym, arith, subst, set, Option}
+use Rattle.hash_check.specs.Numbered.{nth_symbol}
 use Rattle.hash_check.specs.declared.numbered.NumberedSymbol.{NumberedSymbol}
+use Rattle.scope.specs.declared.target.Target.{Target}
+use Rattle.scope.specs.inside.Definitions.{AreLast}
 use Rattle.scope.proofs.Kept.{last-new}
 use Rattle.scope.proofs.definitions.keep_last.Goals as goal
 
@@ -8,4 +11,5 @@ returns-then-is_exported c =
     let all : List NumberedSymbol = c.args.symbols.now in
     let few = c.requires.numbered.few c.args.at c.requires.at in
     let size : length c.args.last.now ≡ length c.args.symbols.now + 1 = c.requires.last.size in
-    last-new c.args.objects.now all c.args.last.now c.args.at c.requires.at c.requires.last (sym c.is_exported.ensures ∙ c.if-is_exported.true) (omega (arith, few, size))
+    subst (λ (x : Option Target). AreLast c.args.objects.now all (c.args.at + 1) (set c.args.last.now (nth_symbol all c.args.at).number x)) (sym c.at.ensures)
+    (last-new c.args.objects.now all c.args.last.now c.args.at c.requires.at c.requires.last (sym c.is_exported.ensures ∙ c.if-is_exported.true) (omega (arith, few, size)))

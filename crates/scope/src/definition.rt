@@ -1,0 +1,71 @@
+// A definition that is kept for a name.
+
+ghost use Rattle.std.specs.Prelude.{◌≡◌, ◌≤◌, None, Some};
+ghost use Rattle.scope.specs.declared.target.Target.TheVariants.{At};
+
+use crate::target::Target;
+use std::marker::Model;
+
+/// A definition in load order, or none, in eight bytes: one is kept for each symbol. No definition
+/// is of symbol number 0. Contracts see the target that it is.
+#[derive(Clone, Drop)]
+pub(crate) struct Definition {
+    object: u32,
+    symbol: u32,
+}
+
+impl Model for Definition {
+    ghost use Rattle.std.specs.Prelude.{Option};
+    ghost use Rattle.scope.specs.declared.target.Target.{Target};
+    ghost use Rattle.scope.specs.inside.Definitions.{kept_target};
+
+    ghost Value = { Option Target };
+
+    ghost view = { λ d. kept_target d.object d.symbol };
+}
+
+impl Definition {
+    /// None.
+    #[tactic(auto, unfolding(crate::specs::inside::Definitions::kept_target))]
+    pub(crate) fn none() -> Definition
+        ensures { result ≡ None }
+    {
+        Definition {
+            object: 0,
+            symbol: 0,
+        }
+    }
+
+    /// The symbol of a number of the object at a place.
+    #[tactic(auto, unfolding(crate::specs::inside::Definitions::kept_target))]
+    pub(crate) fn at(object: u32, symbol: u32) -> Definition
+        requires { 1 ≤ symbol }
+        ensures { result ≡ Some (At object symbol) }
+    {
+        Definition { object, symbol }
+    }
+
+    /// The same once more.
+    pub(crate) fn copied(&self) -> Definition
+        ensures { result ≡ self.now }
+    {
+        Definition {
+            object: self.object,
+            symbol: self.symbol,
+        }
+    }
+
+    /// Its target.
+    #[tactic(auto, unfolding(crate::specs::inside::Definitions::kept_target))]
+    pub(crate) fn target(&self) -> Option<Target>
+        ensures { result ≡ self.now }
+    {
+        if self.symbol == 0 {
+            return None;
+        }
+        Some(Target::At {
+            object: self.object as usize,
+            symbol: self.symbol,
+        })
+    }
+}
