@@ -21,7 +21,8 @@ returns-then-is_exported c =
     let size : length c.args.first.now ≡ length c.args.symbols.now + 1 = c.requires.first.size in
     let room : (nth_symbol all c.args.at).number < length c.args.first.now = omega (arith, few, size) in
     let none : nth_target c.args.first.now (nth_symbol all c.args.at).number ≡ None =
-    sym (get_or_default c.args.first.now (nth_symbol all c.args.at).number c.index-first-number.result None room) ∙ sym c.target.ensures ∙ none-is c.target.result c.is_none.result c.is_none.ensures c.if-is_none.true in
+    sym (get_or_default c.args.first.now (nth_symbol all c.args.at).number c.index-first-number.result None room) ∙ sym c.target.ensures
+    ∙ none-is c.target.result c.is_none.result c.is_none.ensures c.if-is_none.true in
     subst (λ (x : Option Target). AreFirst c.args.objects.now all (c.args.at + 1) (set c.args.first.now (nth_symbol all c.args.at).number x)) (sym c.at.ensures)
     (first-new c.args.objects.now all c.args.first.now c.args.at c.requires.at c.requires.first
     (sym c.is_exported.ensures ∙ c.if-is_exported.true) room none)
