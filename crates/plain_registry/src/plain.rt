@@ -100,9 +100,32 @@ impl PlainRegistry {
 
     // The place of the library of a name.
     fn place(&self, name: &[u8]) -> Option<usize> {
-        self.files
-            .iter()
-            .position(|file| file.name.as_slice() == name)
+        for (place, file) in self.files.iter().enumerate() {
+            if file.name.as_slice() == name {
+                return Some(place);
+            }
+        }
+        None
+    }
+
+    // Whether a preload has this name.
+    fn is_preload(&self, name: &[u8]) -> bool {
+        for preload in &self.preloads {
+            if preload.as_slice() == name {
+                return true;
+            }
+        }
+        false
+    }
+
+    // Whether each of these names is that of a library.
+    fn has_all(&self, names: &[&[u8]]) -> bool {
+        for name in names {
+            if self.place(name).is_none() {
+                return false;
+            }
+        }
+        true
     }
 
     // Whether there is room for a file beside all others, two sectors for the roots, and the
@@ -157,11 +180,7 @@ impl PlainRegistry {
 
     fn remove(&mut self, name: &[u8]) -> Result<(), Refusal> {
         let place = self.place(name).ok_or(Refusal::NotInstalled)?;
-        if self
-            .preloads
-            .iter()
-            .any(|preload| preload.as_slice() == name)
-        {
+        if self.is_preload(name) {
             return Err(Refusal::InPreloads);
         }
         if place < self.files.len() {
@@ -174,7 +193,7 @@ impl PlainRegistry {
         if has_twice(names) {
             return Err(Refusal::RepeatedPreload);
         }
-        if names.iter().any(|name| self.place(name).is_none()) {
+        if !self.has_all(names) {
             return Err(Refusal::NotInstalled);
         }
         self.preloads = copies(self.alloc, names)?;
