@@ -25,7 +25,10 @@ fn with_entry(mut file: [u8; SIZE], entry: u64) -> [u8; SIZE] {
 
 /// The image of a program without libraries.
 fn alone(alloc: Global, file: &[u8]) -> Result<Image, Fail> {
-    bind_alone(alloc, file, 0x20000).map_err(|_| Fail::from("refused"))
+    match bind_alone(alloc, file, 0x20000) {
+        Ok(image) => Ok(image),
+        Err(_) => Err(Fail::from("refused")),
+    }
 }
 
 /// The bytes of a file.
@@ -68,12 +71,14 @@ fn a_library_with_initializers(rt: HostRuntime) -> Result<(), Fail> {
     let alloc = rt.alloc();
     let mut own = library(b'a', 1);
     put(&mut own, TAG_AT, &[12]);
-    let object = Admitted::read(alloc, &own).map_err(|_| Fail::from("refused"))?;
+    let Ok(object) = Admitted::read(alloc, &own) else {
+        return Err(Fail::from("refused"));
+    };
     let libraries = [Library { name: b"a", object }];
     let file = with_entry(program(b'a'), 0x40);
-    let image = bind_program(alloc, &file, 0x20000, &libraries, &[]).map_err(|_| Fail::from(
-        "refused",
-    ))?;
+    let Ok(image) = bind_program(alloc, &file, 0x20000, &libraries, &[]) else {
+        return Err(Fail::from("refused"));
+    };
     let name = Name::copy_of(alloc, b"a")?;
     let refusal = ExecutableRefusal::Initializers { name };
     assert!(rt; executable_of(alloc, &image).err() == Some(refusal));
