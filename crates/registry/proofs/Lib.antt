@@ -25,3 +25,4 @@ pub mod Bindings
 pub mod Bounds
 pub mod Untested
 pub mod Upgrades
+pub mod Owned

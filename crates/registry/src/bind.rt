@@ -2,7 +2,7 @@
 ghost use Rattle.std.specs.Prelude.{◌≡◌};
 ghost use Rattle.registry.specs.inside.Reading.{refusal_of_read};
 
-use crate::bound::bind_walked;
+use crate::bound::bind_found;
 use crate::needed::read_needed;
 use crate::registry::Registry;
 use hash_check::Admitted;
@@ -57,7 +57,7 @@ impl<D: Disk> Registry<D> {
             Ok(walk) => walk,
             Err(refusal) => return Err(refusal_of_read(refusal)),
         };
-        let image = bind_walked(self.alloc, program, base, &walk)?;
+        let image = bind_found(self.alloc, program, base, walk)?;
         Ok(image)
     }
 

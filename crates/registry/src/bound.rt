@@ -4,13 +4,14 @@ ghost use Rattle.image.specs.Byte.{byte_of};
 ghost use Rattle.image.specs.Image.{image_byte, image_of};
 ghost use Rattle.image.specs.Placement.{is_good_base};
 ghost use Rattle.image.specs.Refusal.{missing_by, placed_refusal, IsFirstOrWantsMemory};
+ghost use Rattle.image.specs.inside.Bound.{AreBound};
 ghost use Rattle.requests.specs.Binding.{object_of};
 ghost use Rattle.registry.specs.inside.Walked.{walked_objects, walked_refusal};
 
 use crate::library_file::LibraryFile;
 use crate::walk::Walk;
 use hash_check::Admitted;
-use image::{BindRefusal, Image, bind};
+use image::{BindRefusal, BoundObject, Image, bind, bound_objects};
 use scope::{Library, NeededName, Order};
 use std::alloc::{AllocError, Global};
 
@@ -47,6 +48,53 @@ fn bind_files(
     bind(alloc, &order, base)
 }
 
+/// The program and files at their bases, with the values of their symbols.
+fn bound_files(
+    alloc: Global,
+    program: &Admitted<'_>,
+    base: u64,
+    files: &[LibraryFile],
+) -> Result<Vec<BoundObject>, BindRefusal>
+    requires { is_good_base program.now base ≡ true }
+    ensures accepted { OnOk result
+        (placed_refusal (walked_objects program.now base files.now) ≡ None) }
+    ensures refused { IfErr result (IsFirstOrWantsMemory
+        (placed_refusal (walked_objects program.now base files.now))) }
+    ensures bound { IfOk result (λ all.
+        AreBound (walked_objects program.now base files.now) all.items) }
+{
+    let libraries = libraries_of(alloc, files)?;
+    let order = Order::of(alloc, program, &libraries)?;
+    bound_objects(alloc, &order, base)
+}
+
+/// Binds a program as `bind_files` does, and lets each file go when its segments are filled.
+fn bind_owned(
+    alloc: Global,
+    program: &Admitted<'_>,
+    base: u64,
+    files: Vec<LibraryFile>,
+) -> Result<Image, BindRefusal>
+    requires { is_good_base program.now base ≡ true }
+    ensures accepted { OnOk result
+        (placed_refusal (walked_objects program.now base files.items) ≡ None) }
+    ensures refused { IfErr result (IsFirstOrWantsMemory
+        (placed_refusal (walked_objects program.now base files.items))) }
+    ensures ok { IfOk result (λ image. image
+        ≡ image_of (walked_objects program.now base files.items)) }
+    ensures bytes { IfOk result (λ image. (a : ℕ) → image_byte image a
+        ≡ byte_of (walked_objects program.now base files.items) a) }
+{
+    let objects = bound_files(alloc, program, base, &files)?;
+    let mut image = Image::empty(alloc).with(alloc, &objects[0], program.object())?;
+    let mut place = 1;
+    for file in files {
+        image = image.with(alloc, &objects[place], &file.object())?;
+        place += 1;
+    }
+    Ok(image)
+}
+
 /// B3: a needed name that no file goes by, with its needer. Both names are copied.
 fn missing(alloc: Global, need: &NeededName) -> Result<BindRefusal, AllocError>
     ensures { IfOk result (λ refusal. refusal ≡ missing_by need.now) }
@@ -80,5 +128,29 @@ pub(crate) fn bind_walked(
     match &walk.needs.missing {
         Some(need) => Err(missing(alloc, need)?),
         None => bind_files(alloc, program, base, &walk.files),
+    }
+}
+
+/// Binds a program as `bind_walked` does, and lets each file go as soon as it can.
+pub(crate) fn bind_found(
+    alloc: Global,
+    program: &Admitted<'_>,
+    base: u64,
+    walk: Walk,
+) -> Result<Image, BindRefusal>
+    requires { is_good_base program.now base ≡ true }
+    ensures accepted { OnOk result
+        (walked_refusal program.now base walk.needs.missing walk.files.items ≡ None) }
+    ensures refused { IfErr result (IsFirstOrWantsMemory
+        (walked_refusal program.now base walk.needs.missing walk.files.items)) }
+    ensures ok { IfOk result (λ image. image
+        ≡ image_of (walked_objects program.now base walk.files.items)) }
+    ensures bytes { IfOk result (λ image. (a : ℕ) → image_byte image a
+        ≡ byte_of (walked_objects program.now base walk.files.items) a) }
+{
+    let Walk { needs, files } = walk;
+    match &needs.missing {
+        Some(need) => Err(missing(alloc, need)?),
+        None => bind_owned(alloc, program, base, files),
     }
 }

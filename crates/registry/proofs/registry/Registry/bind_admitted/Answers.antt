@@ -27,8 +27,8 @@ returns-in-Err-clause-step g c s at =
     (unread g.D.Disk.facts c.args.self.now c.read_needed.new.store s read at c.args.program.now c.args.base c.requires c.in-Err.refusal
     (subst (λ k. IsReadRefusal g.D.Disk.facts k c.read_needed.new.store c.in-Err.refusal) c.self.view_is c.in-Err.ensures.refusals) (c.in-Err.ensures.damaged s here))
 
-pub bind_walked-requires : goal.bind_walked-requires
-bind_walked-requires g c = program-based c.args.program.now c.args.base c.requires
+pub bind_found-requires : goal.bind_found-requires
+bind_found-requires g c = program-based c.args.program.now c.args.base c.requires
 
 pub returns-in_err-image-clause-step : goal.returns-in_err-image-clause-step
 returns-in_err-image-clause-step g c s at =
