@@ -1,25 +1,27 @@
 -- Values of symbols that are kept.
-use Rattle.std.proofs.Common.{◌≡◌, ℕ, ◌-◌, ◌<◌, List, [], ◌∷◌, ◌++◌, length, get_or, replicate, refl, ap, ◌∙◌, suc, zero, arith, sym, subst, inl, inr}
+use Rattle.std.proofs.Common.{◌≡◌, ℕ, ◌-◌, List, [], ◌∷◌, ◌++◌, Bool, true, false, Some, None, length, get_or, replicate, refl, ap, ◌∙◌, suc, zero, arith, sym, subst, inl, inr}
+use Rattle.std.specs.Prelude.{slice_get}
 use Rattle.std.proofs.Math.ListN.{get_or-append}
 use Rattle.std.proofs.lemmas.Bool.{cases_lt}
 use Rattle.std.proofs.lemmas.List.{length-append, length-replicate, get_or-append_right}
 use Rattle.elf_dynamic.specs.Symbol.{symbols}
 use Rattle.image.specs.Placement.{Placed}
 use Rattle.image.specs.Relocating.{file_at}
-use Rattle.image.specs.inside.Bound.{AreValues, Bound, FirstBound, IsBound, UNKNOWN}
+use Rattle.image.specs.inside.Bound.{AreValues, Bound, FirstBound, IsBound}
 
-none-known : (n k u : ℕ) → k < n → get_or (replicate n u) k 0 ≡ u
-none-known zero k u h = absurd (omega (arith, h))
-none-known (suc n) zero u h = refl
-none-known (suc n) (suc k) u h = none-known n k u (omega (arith, h))
+none-known : (n k : ℕ) → slice_get (replicate n false) k ≡ Some true → ⊥
+none-known zero k h = let wrong : None ≡ Some true = h in absurd (cc)
+none-known (suc n) zero h = let wrong : Some false ≡ Some true = h in absurd (cc)
+none-known (suc n) (suc k) h = none-known n k h
 
 -- none at first
-pub values-unknown : (objects : List Placed) (own n : ℕ) (values : List ℕ) → values ≡ replicate n UNKNOWN → n ≡ length (symbols (file_at objects own)) → AreValues objects own values
-values-unknown objects own n values is count =
-    let counted : length values ≡ n = ap length is ∙ length-replicate n UNKNOWN in
+pub values-unknown : (objects : List Placed) (own n : ℕ) (values : List ℕ) (known : List Bool) → values ≡ replicate n 0 → known ≡ replicate n false → n ≡ length (symbols (file_at objects own)) → AreValues objects own values known
+values-unknown objects own n values known is none count =
+    let counted : length values ≡ n = ap length is ∙ length-replicate n 0 in
     record {
       counted = counted ∙ count;
-      known = λ k within other. absurd (other (ap (λ l. get_or l k 0) is ∙ none-known n k UNKNOWN (omega (arith, within, counted))));
+      flags = ap length none ∙ length-replicate n false ∙ sym counted;
+      are = λ k there. absurd (none-known n k (sym (ap (λ l. slice_get l k) none) ∙ there));
     }
 
 -- one object more whose values are known

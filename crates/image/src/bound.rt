@@ -13,7 +13,7 @@ use crate::object::ImageObject;
 use crate::placed::PlacedOrder;
 use crate::placement::place;
 use crate::refusal::BindRefusal;
-use crate::value::{find_value_of, unknown_values};
+use crate::value::{Values, find_value_of};
 use elf_dynamic::Object;
 use names::Name;
 use scope::Order;
@@ -87,14 +87,15 @@ fn symbol_values(
     ensures refused { IfErr result (IsFirstOrWantsMemory (undefined_in objects.now own)) }
 {
     let object = objects.object(own);
-    let mut values = unknown_values(alloc, object.symbol_count())?;
+    let mut found = Values::unknown(alloc, object.symbol_count())?;
     for i in 0..object.rela_count() {
         let relocation = object.rela(i);
-        let Ok(()) = find_value_of(objects, own, &mut values, relocation) else {
+        let Ok(()) = find_value_of(objects, own, &mut found, relocation) else {
             let symbol = object.name_of(relocation.symbol);
             return Err(BindRefusal::undefined(alloc, objects.name(own), symbol));
         };
     }
+    let Values { values, known: _ } = found;
     Ok(values)
 }
 

@@ -5,7 +5,7 @@ ghost use Rattle.std.specs.Prelude.{IfOk, MatchResult, replicate};
 ghost use Rattle.elf_dynamic.specs.Relocation.{uses_symbol};
 ghost use Rattle.elf_dynamic.specs.Symbol.{symbols};
 ghost use Rattle.image.specs.Relocating.{file_at, is_undefined, symbol_value, value_with};
-ghost use Rattle.image.specs.inside.Bound.{AreValues, IsKnown, IsReady, UNKNOWN, value_in};
+ghost use Rattle.image.specs.inside.Bound.{AreValues, IsKnown, IsReady, value_in};
 
 use crate::placed::PlacedOrder;
 use elf_dynamic::{
@@ -14,16 +14,25 @@ use elf_dynamic::{
 use scope::Undefined;
 use std::alloc::{AllocError, Global};
 
-/// What stands for a value that isn't known. A symbol that has it is looked up each time.
-const UNKNOWN: u64 = u64::MAX;
+/// The values of an object's symbols by number, and which of them are known.
+#[derive(Drop)]
+pub(crate) struct Values {
+    pub(crate) values: Vec<u64>,
+    pub(crate) known: Vec<bool>,
+}
 
-/// Room for the values of so many symbols, none of which is known.
-pub(crate) fn unknown_values(alloc: Global, count: u32) -> Result<Vec<u64>, AllocError>
-    ensures { IfOk result (λ v. v.items ≡ replicate count UNKNOWN) }
-{
-    let mut values = Vec::with_capacity(alloc, count as usize)?;
-    values.resize(count as usize, UNKNOWN)?;
-    Ok(values)
+impl Values {
+    /// Room for so many, none of which is known.
+    pub(crate) fn unknown(alloc: Global, count: u32) -> Result<Values, AllocError>
+        ensures values { IfOk result (λ v. v.values.items ≡ replicate count 0) }
+        ensures known { IfOk result (λ v. v.known.items ≡ replicate count false) }
+    {
+        let mut values = Vec::with_capacity(alloc, count as usize)?;
+        values.resize(count as usize, 0)?;
+        let mut known = Vec::with_capacity(alloc, count as usize)?;
+        known.resize(count as usize, false)?;
+        Ok(Values { values, known })
+    }
 }
 
 /// Finds the value of the symbol of a number of the object at a place, unless it is undefined. It
@@ -31,20 +40,21 @@ pub(crate) fn unknown_values(alloc: Global, count: u32) -> Result<Vec<u64>, Allo
 fn find_value(
     objects: &PlacedOrder<'_>,
     own: usize,
-    values: &mut Vec<u64>,
+    found: &mut Values,
     symbol: u32,
 ) -> Result<(), Undefined>
     requires own { own < length objects.now }
     requires symbol { symbol < length (symbols (file_at objects.now own)) }
-    requires kept { AreValues objects.now own values.old.items }
-    ensures kept { AreValues objects.now own values.new.items }
-    ensures stays { (k : ℕ) → IsKnown objects.now own values.old.items k
-        → IsKnown objects.now own values.new.items k }
-    ensures found { MatchResult result (λ _. IsKnown objects.now own values.new.items symbol)
+    requires kept { AreValues objects.now own found.old.values.items found.old.known.items }
+    ensures kept { AreValues objects.now own found.new.values.items found.new.known.items }
+    ensures stays { (k : ℕ) → IsKnown objects.now own found.old.values.items k
+        → IsKnown objects.now own found.new.values.items k }
+    ensures found { MatchResult result (λ _. IsKnown objects.now own found.new.values.items symbol)
         (λ _. symbol_value objects.now own symbol ≡ None) }
 {
-    if values[symbol as usize] == UNKNOWN {
-        values[symbol as usize] = objects.symbol_value(own, symbol)?;
+    if !found.known[symbol as usize] {
+        found.values[symbol as usize] = objects.symbol_value(own, symbol)?;
+        found.known[symbol as usize] = true;
     }
     Ok(())
 }
@@ -54,23 +64,23 @@ fn find_value(
 pub(crate) fn find_value_of(
     objects: &PlacedOrder<'_>,
     own: usize,
-    values: &mut Vec<u64>,
+    found: &mut Values,
     relocation: Relocation,
 ) -> Result<(), Undefined>
     requires own { own < length objects.now }
     requires symbol { uses_symbol relocation.kind ≡ true
         → relocation.symbol < length (symbols (file_at objects.now own)) }
-    requires kept { AreValues objects.now own values.old.items }
-    ensures kept { AreValues objects.now own values.new.items }
-    ensures stays { (k : ℕ) → IsKnown objects.now own values.old.items k
-        → IsKnown objects.now own values.new.items k }
+    requires kept { AreValues objects.now own found.old.values.items found.old.known.items }
+    ensures kept { AreValues objects.now own found.new.values.items found.new.known.items }
+    ensures stays { (k : ℕ) → IsKnown objects.now own found.old.values.items k
+        → IsKnown objects.now own found.new.values.items k }
     ensures found { MatchResult result
-        (λ _. IsReady objects.now own values.new.items relocation
+        (λ _. IsReady objects.now own found.new.values.items relocation
         × (is_undefined objects.now own relocation ≡ false))
         (λ _. is_undefined objects.now own relocation ≡ true) }
 {
     if uses_symbol(relocation.kind) {
-        find_value(objects, own, values, relocation.symbol)
+        find_value(objects, own, found, relocation.symbol)
     } else {
         Ok(())
     }

@@ -1,5 +1,5 @@
 -- The values of symbols, which are found before segments are made, and images of the first objects.
-use Rattle.std.specs.Prelude.{ℕ, ◌≡◌, ◌≢◌, ◌-◌, ◌^◌, ◌<◌, List, length, map, take, get_or, slice_index, Option, Some, true}
+use Rattle.std.specs.Prelude.{ℕ, ◌≡◌, ◌<◌, Bool, List, length, map, take, get_or, slice_get, slice_index, Option, Some, true}
 use Rattle.std.specs.List.{All, filter_map, flat_map, range_with_len}
 use Rattle.elf_dynamic.specs.Relocation.{relocations, uses_symbol}
 use Rattle.elf_dynamic.specs.Symbol.{symbols}
@@ -11,10 +11,6 @@ use Rattle.image.specs.Placement.{Placed}
 use Rattle.image.specs.Relocating.{Write, base_at, file_at, name_at, relocations_of, symbol_value, write_with, writes_of}
 use Rattle.image.specs.inside.Layout.{AllAccepted, Stacked}
 
--- what stands among values for one that isn't known
-abbrev pub UNKNOWN : ℕ
-UNKNOWN = 2 ^ 64 - 1
-
 -- the value of the symbol of a number, among values by number
 abbrev pub value_in : List ℕ → ℕ → Option ℕ
 value_in values symbol = Some (slice_index values symbol)
@@ -23,10 +19,11 @@ value_in values symbol = Some (slice_index values symbol)
 abbrev pub IsKnown : List Placed → ℕ → List ℕ → ℕ → Type 0
 IsKnown objects own values symbol = symbol_value objects own symbol ≡ value_in values symbol
 
--- the values of its symbols by number: each is known, or stands as unknown
-pub record AreValues (objects : List Placed) (own : ℕ) (values : List ℕ) : Type 0 where
+-- the values of its symbols by number, and which of them are known
+pub record AreValues (objects : List Placed) (own : ℕ) (values : List ℕ) (known : List Bool) : Type 0 where
   pub counted : length values ≡ length (symbols (file_at objects own))
-  pub known : (k : ℕ) → k < length values → slice_index values k ≢ UNKNOWN → IsKnown objects own values k
+  pub flags : length known ≡ length values
+  pub are : (k : ℕ) → slice_get known k ≡ Some true → IsKnown objects own values k
 
 -- the value of the symbol that a relocation of it names is known
 abbrev pub IsReady : List Placed → ℕ → List ℕ → Relocation → Type 0

@@ -22,7 +22,7 @@ use Rattle.image.proofs.bound.symbol_values.Goals as goal
 pub loop-i-init : goal.loop-i-init
 loop-i-init c =
     record {
-      kept = values-unknown c.args.objects.now c.args.own c.symbol_count.result c.in_ok-values.values.items c.in_ok-values.ensures
+      kept = values-unknown c.args.objects.now c.args.own c.symbol_count.result c.in_ok-found.found.values.items c.in_ok-found.found.known.items c.in_ok-found.ensures.values c.in_ok-found.ensures.known
           (c.symbol_count.ensures.count ∙ ap (λ f. length (symbols f)) c.object-object.ensures.file);
       ready = λ k d h. absurd (omega (arith, h));
       first = refl;
@@ -48,7 +48,7 @@ loop-i-preserved c =
     let at : slice_get all i ≡ Some r = subst (λ (f : List ℕ). slice_get (relocations f) i ≡ Some r) c.object-object.ensures.file c.rela-relocation.ensures.relocation in
     let done : List Relocation = take i all in
     let more : take (i + 1) all ≡ done ++ r ∷ [] = take_next all i r at in
-    let values : List ℕ = c.find_value_of.new.values.items in
+    let values : List ℕ = c.find_value_of.new.found.values.items in
     let before : All (IsReady objects own values) done = λ k d h uses. c.find_value_of.ensures.stays _ (c.loop-i.invariant.ready k d h uses) in
     record {
       kept = c.find_value_of.ensures.kept;
@@ -92,4 +92,4 @@ returns-clause-ready c =
     let objects : List Placed = c.args.objects.now in
     let all : List Relocation = relocations_of objects c.args.own in
     let count = c.rela_count-i-end.ensures.count ∙ ap (λ f. length (relocations f)) c.object-object.ensures.file in
-    subst (All (IsReady objects c.args.own c.loop-i.values.items)) (take_all c.loop-i.i all (omega (arith, count))) c.loop-i.invariant.ready
+    subst (All (IsReady objects c.args.own c.loop-i.found.values.items)) (take_all c.loop-i.i all (omega (arith, count))) c.loop-i.invariant.ready
