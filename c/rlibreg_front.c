@@ -9,8 +9,8 @@
  * to 2 MiB, and it lets a piece go only where that lies whole in what is to go. */
 enum { PAGE = 4096, GREATEST_PIECE = 2 << 20 };
 
-/* Whether the system may keep the first page of a map. It says so of each page of a file that the
- * user neither owns nor may write. */
+/* Whether the system may keep the first page of a map. mincore says that it does, where the user
+ * neither owns the file nor may write it. */
 static int may_be_kept(void *map) {
     unsigned char kept;
     return !map || mincore(map, 1, &kept) || kept & 1;
