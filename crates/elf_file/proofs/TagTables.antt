@@ -1,7 +1,7 @@
 -- One pass over the entries gives the table of the tags.
 use Rattle.std.proofs.Common.{length, ◌≡◌, ◌≢◌, ℕ, ◌<◌, ◌≤◌, ◌+◌, ◌-◌, ◌/◌, Bool, true, false, cond, List, [], ◌∷◌, ◌++◌, arith, refl, ◌∙◌, sym, ap}
-use Rattle.std.proofs.Common.{map, get_or, zero-add, add-zero, suc, Option, Some, None}
-use Rattle.std.specs.Prelude.{not, ◌||◌, take_while, count_by}
+use Rattle.std.proofs.Common.{map, get_or, zero-add, add-zero, zero, suc, Option, Some, None}
+use Rattle.std.specs.Prelude.{not, ◌||◌, ◌==◌, nat_lt, take_while, count_by, unwrap_or, is_some}
 use Rattle.std.specs.Option.{option_map, option_or}
 use Rattle.std.specs.List.{list_any, range_with_len, find}
 use Rattle.std.proofs.lemmas.Bool.Decides.{nat_tests}
@@ -9,7 +9,7 @@ use Rattle.std.proofs.lemmas.List.FromFn.{length-map-range_with_len, map-range_w
 use Rattle.std.proofs.lemmas.List.Folds.{find-append, list_any-append}
 use Rattle.std.proofs.lemmas.List.Sums.{count_by-le-length, sum_by-append, sum_by-cons, take_while-cons}
 use Rattle.elf_file.specs.Constant.{DT_NULL, DYNAMIC_ENTRY_SIZE}
-use Rattle.elf_file.specs.Dynamic.{entry, is_null, has_tag, is_ended, whole_entries, entries_in}
+use Rattle.elf_file.specs.Dynamic.{entries, tag_count, is_present, find_entry, entry, is_null, has_tag, is_ended, whole_entries, entries_in}
 use Rattle.elf_file.specs.inside.Tags.{place_of, slot_of, slot_and, IsTable}
 use Rattle.elf_file.specs.declared.entry.Entry.{Entry}
 use Rattle.elf_file.specs.declared.tag_table.Slot.{Slot}
@@ -19,16 +19,42 @@ use Rattle.elf_file.proofs.LoadNumbers.{range-split, map-append}
 abbrev pub first_entries : List ℕ → ℕ → List Entry
 first_entries section i = map (entry section) (range_with_len 0 i)
 
-abbrev slot : ℕ → Option ℕ → Slot
-slot n o = record { count = n; value = o }
+abbrev slot : ℕ → ℕ → Slot
+slot n v = record { count = n; value = v }
 
-slot-step : (n : ℕ) (o : Option Entry) (e : Entry) (b : Bool)
-    → cond b (slot (n + 1) (option_or (option_map (λ e. e.value) o) (Some e.value))) (slot n (option_map (λ e. e.value) o))
-    ≡ slot (n + cond b 1 0) (option_map (λ e. e.value) (option_or o (cond b (Some e) None)))
-slot-step n (Some x) e true = refl
-slot-step n None e true = refl
-slot-step n (Some x) e false = ap (λ m. slot m (Some x.value)) (sym (add-zero n))
-slot-step n None e false = ap (λ m. slot m None) (sym (add-zero n))
+abbrev first_value : Option Entry → ℕ
+first_value o = unwrap_or (option_map (λ e. e.value) o) 0
+
+count-cons : {X : Type 0} (p : X → Bool) (x : X) (xs : List X) → nat_lt 0 (count_by p (x ∷ xs)) ≡ nat_lt 0 (cond (p x) 1 0 + count_by p xs)
+count-cons p x xs = ap (nat_lt 0) (sum_by-cons (λ y. cond (p y) 1 0) x xs)
+
+found-step : {X : Type 0} (x : X) (b : Bool) (n : ℕ) (o : Option X) → nat_lt 0 n ≡ is_some o → nat_lt 0 (cond b 1 0 + n) ≡ is_some (cond b (Some x) o)
+found-step x true n o h = grind (arith, nat_tests)
+found-step x false n o h = ap (nat_lt 0) (zero-add n) ∙ h
+
+-- one is found where the count isn't 0
+found-count : {X : Type 0} (p : X → Bool) (xs : List X) → nat_lt 0 (count_by p xs) ≡ is_some (find p xs)
+found-count p [] = refl
+found-count p (x ∷ xs) = count-cons p x xs ∙ found-step x (p x) (count_by p xs) (find p xs) (found-count p xs)
+
+-- a tag is present where it is present once or more
+pub present : (file : List ℕ) (tag : ℕ) → nat_lt 0 (tag_count file tag) ≡ is_present file tag
+unfolding tag_count find_entry
+present file tag = found-count (has_tag tag) (entries file)
+
+more-than-none : (n : ℕ) → (suc n == 0) ≡ false
+more-than-none n = grind (arith, nat_tests)
+
+-- the slot after one more entry, by whether that has the tag
+slot-step : (n : ℕ) (o : Option Entry) (e : Entry) (b : Bool) → nat_lt 0 n ≡ is_some o
+    → cond b (slot (n + 1) (cond (n == 0) e.value (first_value o))) (slot n (first_value o))
+    ≡ slot (n + cond b 1 0) (first_value (option_or o (cond b (Some e) None)))
+slot-step (suc n) (Some x) e true h = ap (λ b. slot (suc n + 1) (cond b e.value x.value)) (more-than-none n)
+slot-step zero (Some x) e b h = cc
+slot-step zero None e true h = refl
+slot-step (suc n) None e b h = grind (arith, nat_tests)
+slot-step n (Some x) e false h = ap (λ m. slot m x.value) (sym (add-zero n))
+slot-step n None e false h = ap (λ m. slot m 0) (sym (add-zero n))
 
 count-one : (tag : ℕ) (es : List Entry) (e : Entry) → count_by (has_tag tag) (es ++ e ∷ []) ≡ count_by (has_tag tag) es + cond (has_tag tag e) 1 0
 count-one tag es e =
@@ -38,9 +64,9 @@ count-one tag es e =
 -- what entries say of a tag, after one more entry
 slot-more : (es : List Entry) (e : Entry) (tag : ℕ) → slot_and tag e (slot_of es tag) ≡ slot_of (es ++ e ∷ []) tag
 slot-more es e tag =
-    slot-step (count_by (has_tag tag) es) (find (has_tag tag) es) e (has_tag tag e)
-    ∙ ap (λ n. slot n (option_map (λ e. e.value) (option_or (find (has_tag tag) es) (cond (has_tag tag e) (Some e) None)))) (sym (count-one tag es e))
-    ∙ ap (λ o. slot (count_by (has_tag tag) (es ++ e ∷ [])) (option_map (λ e. e.value) o)) (sym (find-append (has_tag tag) es (e ∷ [])))
+    slot-step (count_by (has_tag tag) es) (find (has_tag tag) es) e (has_tag tag e) (found-count (has_tag tag) es)
+    ∙ ap (λ n. slot n (first_value (option_or (find (has_tag tag) es) (cond (has_tag tag e) (Some e) None)))) (sym (count-one tag es e))
+    ∙ ap (λ o. slot (count_by (has_tag tag) (es ++ e ∷ [])) (first_value o)) (sym (find-append (has_tag tag) es (e ∷ [])))
 
 one-more : (section : List ℕ) (i : ℕ) → first_entries section (i + 1) ≡ first_entries section i ++ entry section i ∷ []
 one-more section i = map-range_with_len_more (entry section) 0 i i (zero-add i)

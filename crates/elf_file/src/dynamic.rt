@@ -173,11 +173,11 @@ impl<'a> Dynamic<'a> {
     }
 
     /// Whether a tag is present.
-    #[tactic(auto, unfolding(crate::specs::Dynamic::find_entry))]
+    #[tactic(auto, using(crate::proofs::TagTables::present))]
     pub fn is_present(&self, tag: Tag) -> bool
         ensures { result ≡ is_present self.now (number_of tag) }
     {
-        self.slot(tag).value.is_some()
+        self.tag_count(tag) > 0
     }
 
     /// The value of a tag, or 0 where it is absent.
@@ -185,7 +185,7 @@ impl<'a> Dynamic<'a> {
     pub fn tag_value(&self, tag: Tag) -> u64
         ensures { result ≡ tag_value self.now (number_of tag) }
     {
-        self.slot(tag).value.unwrap_or(0)
+        self.slot(tag).value
     }
 
     /// Whether one of these tags is present twice.

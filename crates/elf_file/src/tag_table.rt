@@ -16,18 +16,15 @@ const LOW_TAGS: usize = 37;
 const PLACES: usize = 40;
 
 /// What the dynamic section says of a tag: how often it is present, and the value of the first
-/// entry.
+/// entry, or 0 where it is absent.
 #[derive(Clone, Copy)]
 pub(crate) struct Slot {
     pub(crate) count: usize,
-    pub(crate) value: Option<u64>,
+    pub(crate) value: u64,
 }
 
 /// An absent tag.
-const NO_SLOT: Slot = Slot {
-    count: 0,
-    value: None,
-};
+const NO_SLOT: Slot = Slot { count: 0, value: 0 };
 
 /// What the dynamic section says of each tag that has a place.
 #[derive(Clone, Copy)]
@@ -70,7 +67,7 @@ impl Slot {
     {
         Slot {
             count: self.count + 1,
-            value: self.value.or(Some(value)),
+            value: if self.count == 0 { value } else { self.value },
         }
     }
 }

@@ -1,7 +1,7 @@
 -- What is kept of the entries of the dynamic section.
 use Rattle.std.specs.Prelude.{ℕ, ◌+◌, ◌/◌, ◌≤◌, ◌≡◌, map, length, List, Option, Some}
-use Rattle.std.specs.Prelude.{None, ◌==◌, nat_lt, count_by, slice_index_or, if◌then◌else◌}
-use Rattle.std.specs.Option.{option_map, option_or}
+use Rattle.std.specs.Prelude.{None, ◌==◌, nat_lt, count_by, slice_index_or, unwrap_or, if◌then◌else◌}
+use Rattle.std.specs.Option.{option_map}
 use Rattle.std.specs.List.{find, range_with_len}
 use Rattle.elf_file.specs.Constant.{DYNAMIC_ENTRY_SIZE}
 use Rattle.elf_file.specs.Dynamic.{has_tag, dynamic_section, entry, entries_in}
@@ -19,13 +19,13 @@ place_of number =
     if number == DT_VERDEF then Some (LOW_TAGS + 1) else
     if number == DT_VERNEED then Some (LOW_TAGS + 2) else None
 
--- what entries say of a tag: how often it is present, and the value of the first entry with it
+-- what entries say of a tag: how often it is present, and the value of the first entry with it, or 0
 abbrev pub slot_of : List Entry → ℕ → Slot
-slot_of es tag = record { count = count_by (has_tag tag) es; value = option_map (λ e. e.value) (find (has_tag tag) es) }
+slot_of es tag = record { count = count_by (has_tag tag) es; value = unwrap_or (option_map (λ e. e.value) (find (has_tag tag) es)) 0 }
 
 -- the same after one more entry with the tag
 abbrev pub slot_more : ℕ → Slot → Slot
-slot_more value slot = record { count = slot.count + 1; value = option_or slot.value (Some value) }
+slot_more value slot = record { count = slot.count + 1; value = if slot.count == 0 then value else slot.value }
 
 -- the same after one more entry
 abbrev pub slot_and : ℕ → Entry → Slot → Slot

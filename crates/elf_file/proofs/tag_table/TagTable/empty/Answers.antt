@@ -1,4 +1,4 @@
-use Rattle.std.proofs.Common.{◌≡◌, ℕ, ◌<◌, arith, Some, None}
+use Rattle.std.proofs.Common.{◌≡◌, ℕ, ◌<◌, arith, Some}
 use Rattle.std.proofs.lemmas.Bool.Decides.{nat_tests}
 use Rattle.std.proofs.lemmas.List.{get_or-replicate}
 use Rattle.elf_file.specs.inside.Tags.{place_of}
@@ -9,7 +9,7 @@ place-within : (n k : ℕ) → place_of n ≡ Some k → k < 40
 place-within n k at = grind (arith, nat_tests)
 
 absent : Slot
-absent = record { count = 0; value = None }
+absent = record { count = 0; value = 0 }
 
 pub returns : goal.returns
 unfolding absent
