@@ -74,7 +74,7 @@ impl<D: Disk> Store<D> {
         let Some(placed) = self.held.placed(held.at) else {
             return Err(StoreRefusal::Damaged);
         };
-        read_file(alloc, &mut self.disk, placed)
+        read_file(&mut self.disk, placed, Vec::new(alloc))
     }
 
     /// Lets a version go. Where this was its last holder and the state lists it no longer, its

@@ -16,11 +16,12 @@ use passes::read_bytes;
 use sector_disk::{Disk, SECTOR_BYTES};
 use std::alloc::Global;
 
-/// The byte string of an entry. Each of its sectors is read once, into the vector that is given.
+/// The byte string of an entry, in a vector that is given, whatever that holds. Each of the entry's
+/// sectors is read once.
 pub(crate) fn read_file<D: Disk>(
-    alloc: Global,
     disk: &mut D,
     placed: &PlacedEntry,
+    buffer: Vec<u8>,
 ) -> Result<Vec<u8>, StoreRefusal>
     requires spelling { EntryHasSpelling placed.now.entry }
     requires inside { All (IsOnDisk (D.facts disk.old).sectors) (extents_of placed.now.entry) }
@@ -39,8 +40,10 @@ pub(crate) fn read_file<D: Disk>(
         × ((D.facts disk.old).failures < (D.facts disk.new).failures))
         ⊎ ((e ≡ StoreRefusal.OutOfMemory) × (disk.new ≡ disk.old))) }
 {
-    let sectors = placed.entry.file_length.div_ceil(SECTOR_BYTES as u32) as usize;
-    let mut bytes = vec![in alloc; 0; SECTOR_BYTES * sectors]?;
+    let size = SECTOR_BYTES * placed.entry.file_length.div_ceil(SECTOR_BYTES as u32) as usize;
+    let mut bytes = buffer;
+    bytes.reserve_exact(size.saturating_sub(bytes.len()))?;
+    bytes.resize(size, 0)?;
     read_bytes(disk, placed.entry.file_extents(), &mut bytes)?;
     bytes.truncate(placed.entry.file_length as usize);
     Ok(bytes)
@@ -54,10 +57,24 @@ impl<D: Disk> Store<D> {
         requires { position < length self.old.entries }
         ensures { ReadsBlob Two D.facts self.old self.new position result }
     {
+        self.read_blob_into(position, Vec::new(alloc))
+    }
+
+    /// The same, in a vector that is given, whatever that holds: it grows only where it is too
+    /// small, so that byte strings which are read one after the other take the memory of the
+    /// largest once.
+    pub fn read_blob_into(
+        &mut self,
+        position: usize,
+        buffer: Vec<u8>,
+    ) -> Result<Vec<u8>, StoreRefusal>
+        requires { position < length self.old.entries }
+        ensures { ReadsBlob Two D.facts self.old self.new position result }
+    {
         if self.failed {
             return Err(StoreRefusal::Reopen);
         }
-        read_file(alloc, &mut self.disk, &self.entries[position])
+        read_file(&mut self.disk, &self.entries[position], buffer)
     }
 }
 
@@ -69,6 +86,10 @@ impl<D: Disk> OldStore<D> {
         requires { position < length self.old.entries }
         ensures { ReadsBlob One D.facts self.old self.new position result }
     {
-        read_file(alloc, &mut self.disk, &self.found.entries[position])
+        read_file(
+            &mut self.disk,
+            &self.found.entries[position],
+            Vec::new(alloc),
+        )
     }
 }

@@ -8,7 +8,7 @@ use Rattle.store.specs.Reads.{ReadsBlob}
 use Rattle.store.specs.Stands.{extents_of}
 use Rattle.store.proofs.BlobReads.{blob_read, blob_refused}
 use Rattle.store.proofs.Within.{entry_on_disk}
-use Rattle.store.proofs.store.Store.read_blob.Goals as goal
+use Rattle.store.proofs.store.Store.read_blob_into.Goals as goal
 
 pub read_file-requires-clause-inside : goal.read_file-requires-clause-inside
 read_file-requires-clause-inside g c =
