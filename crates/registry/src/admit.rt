@@ -1,6 +1,7 @@
 // The files that a store holds, admitted one after the other.
-ghost use Rattle.std.specs.Prelude.{◌≡◌, ◌⊎◌, ◌<◌, sum_by, true, false, All, IfOk, IfErr, OnOk};
+ghost use Rattle.std.specs.Prelude.{◌≡◌, ◌⊎◌, ◌<◌, sum_by, true, false, None, All, IfOk, IfErr, OnOk};
 ghost use Rattle.std.specs.Prelude.{length, slice_index_or};
+ghost use Rattle.hash_check.specs.FileRefusal.{first_file_refusal};
 ghost use Rattle.sector_disk.specs.Disk.{AreCallsExactly};
 ghost use Rattle.store.specs.declared.placed_entry.PlacedEntry.{PlacedEntry};
 ghost use Rattle.store.specs.Opened.{IsAt};
@@ -10,17 +11,18 @@ ghost use Rattle.requests.specs.Library.{IsLibrary};
 ghost use Rattle.store.specs.IsRead.{IsRead, file_sectors};
 ghost use Rattle.registry.specs.inside.Reading.{IsReadRefusal};
 
-use hash_check::{AdmittedFile, ReadRefusal};
+use hash_check::{Admitted, AdmittedFile, ReadRefusal};
 use sector_disk::Disk;
 use std::alloc::Global;
 use store::{Store, StoreRefusal};
 
-/// Whether an admitted file is a library of this name.
-fn is_library(file: &AdmittedFile, name: &[u8]) -> bool
-    ensures yes { result ≡ true → IsLibrary (record { name = name.now; bytes = file.now }) }
-    ensures no { result ≡ false → IsLibrary (record { name = name.now; bytes = file.now }) → ⊥ }
+/// Whether an admitted object is a library of this name.
+fn is_library(object: &Admitted<'_>, name: &[u8]) -> bool
+    requires { first_file_refusal object.now ≡ None }
+    ensures yes { result ≡ true → IsLibrary (record { name = name.now; bytes = object.now }) }
+    ensures no { result ≡ false → IsLibrary (record { name = name.now; bytes = object.now }) → ⊥ }
 {
-    match file.admitted().library_name() {
+    match object.library_name() {
         Ok(soname) => soname == name,
         Err(_) => false,
     }
@@ -41,7 +43,7 @@ pub(crate) fn admit_file(
 {
     match AdmittedFile::read(alloc, bytes) {
         Ok(file) => {
-            if is_library(&file, name) {
+            if is_library(&file.admitted(), name) {
                 Ok(file)
             } else {
                 Err(StoreRefusal::Damaged)
@@ -52,12 +54,35 @@ pub(crate) fn admit_file(
     }
 }
 
-/// Reads the file at this position, sees that it is a library of its name, and lets it go.
+/// Sees that bytes are a library of this name: S5 where they are none.
+pub(crate) fn see_library(alloc: Global, name: &[u8], bytes: &[u8]) -> Result<(), StoreRefusal>
+    ensures ok { OnOk result (IsLibrary (record { name = name.now; bytes = bytes.now })) }
+    ensures damaged { IfErr result (λ e. e ≡ StoreRefusal.Damaged
+        → IsLibrary (record { name = name.now; bytes = bytes.now }) → ⊥) }
+    ensures refusals { IfErr result (λ e. (e ≡ StoreRefusal.Damaged)
+        ⊎ (e ≡ StoreRefusal.OutOfMemory)) }
+{
+    match Admitted::read(alloc, bytes) {
+        Ok(object) => {
+            if is_library(&object, name) {
+                Ok(())
+            } else {
+                Err(StoreRefusal::Damaged)
+            }
+        }
+        Err(ReadRefusal::File(_)) => Err(StoreRefusal::Damaged),
+        Err(ReadRefusal::OutOfMemory) => Err(StoreRefusal::OutOfMemory),
+    }
+}
+
+/// Reads the file at this position into a buffer, sees that it is a library of its name, and gives
+/// the buffer back.
 fn admit_at<D: Disk>(
     alloc: Global,
     store: &mut Store<D>,
     position: usize,
-) -> Result<(), StoreRefusal>
+    buffer: Vec<u8>,
+) -> Result<Vec<u8>, StoreRefusal>
     requires { position < length store.old.entries }
     ensures read { IsRead D.facts store.old store.new }
     ensures ok { (s : State) → IsAt D.facts store.old s
@@ -70,12 +95,13 @@ fn admit_at<D: Disk>(
         (file_sectors (slice_index_or store.old.entries position d))
         (D.facts store.old.disk) (D.facts store.new.disk)) }
 {
-    let bytes = store.read_blob(alloc, position)?;
-    admit_file(alloc, store.name(position), bytes)?;
-    Ok(())
+    let bytes = store.read_blob_into(position, buffer)?;
+    see_library(alloc, store.name(position), &bytes)?;
+    Ok(bytes)
 }
 
-/// Reads each file once, sees that it is a library of its name, and lets it go before the next.
+/// Reads each file once, and sees that it is a library of its name, before the next one takes its
+/// memory.
 pub(crate) fn admit_files<D: Disk>(alloc: Global, store: &mut Store<D>) -> Result<(), StoreRefusal>
     ensures read { IsRead D.facts store.old store.new }
     ensures ok { (s : State) → IsAt D.facts store.old s
@@ -87,8 +113,9 @@ pub(crate) fn admit_files<D: Disk>(alloc: Global, store: &mut Store<D>) -> Resul
     ensures all_calls { OnOk result (AreCallsExactly (sum_by file_sectors store.old.entries)
         (D.facts store.old.disk) (D.facts store.new.disk)) }
 {
+    let mut buffer = Vec::new(alloc);
     for position in 0..store.count() {
-        admit_at(alloc, store, position)?;
+        buffer = admit_at(alloc, store, position, buffer)?;
     }
     Ok(())
 }

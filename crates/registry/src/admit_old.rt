@@ -17,7 +17,7 @@ ghost use Rattle.store.specs.IsRead.{IsReadBy, file_sectors};
 ghost use Rattle.registry.specs.Stands.{Stands, StandsOld};
 ghost use Rattle.registry.specs.inside.Reading.{IsReadRefusal};
 
-use crate::admit::admit_file;
+use crate::admit::see_library;
 use crate::registry::Registry;
 use sector_disk::Disk;
 use std::alloc::Global;
@@ -42,7 +42,7 @@ fn admit_old_at<D: Disk>(
         (D.facts store.old.disk) (D.facts store.new.disk)) }
 {
     let bytes = store.read_blob(alloc, position)?;
-    admit_file(alloc, store.name(position), bytes)?;
+    see_library(alloc, store.name(position), &bytes)?;
     Ok(())
 }
 

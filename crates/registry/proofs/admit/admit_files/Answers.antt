@@ -4,19 +4,19 @@ use Rattle.store.proofs.IsReadLemmas.{read_more}
 use Rattle.registry.proofs.Files.{one_admitted, one_refused, all_admitted}
 use Rattle.registry.proofs.admit.admit_files.Goals as goal
 
-pub returns-in_err-admit_at-clause-read : goal.returns-in_err-admit_at-clause-read
-returns-in_err-admit_at-clause-read g c = read_more c.loop-position.invariant.read c.admit_at.ensures.read
+pub returns-in_err-buffer-clause-read : goal.returns-in_err-buffer-clause-read
+returns-in_err-buffer-clause-read g c = read_more c.loop-position.invariant.read c.admit_at.ensures.read
 
-pub returns-in_err-admit_at-clause-damaged : goal.returns-in_err-admit_at-clause-damaged
-returns-in_err-admit_at-clause-damaged g c s at =
+pub returns-in_err-buffer-clause-damaged : goal.returns-in_err-buffer-clause-damaged
+returns-in_err-buffer-clause-damaged g c s at =
     let p = err_from_is_err_and c.from_residual.result c.from_residual.ensures.1 in
     let lt : c.loop-position.position < length s.libraries = omega (arith, c.loop-position-test.true, c.count-position-end.ensures.state s at) in
-    rw p.1 (λ is all. one_refused s c.loop-position.position lt (c.in_err-admit_at.ensures.damaged s (c.loop-position.invariant.read.same s at) (sym p.2 ∙ is)) all)
+    rw p.1 (λ is all. one_refused s c.loop-position.position lt (c.in_err-buffer.ensures.damaged s (c.loop-position.invariant.read.same s at) (sym p.2 ∙ is)) all)
 
 pub loop-position-preserved : goal.loop-position-preserved
 loop-position-preserved g c =
     let lt : c.loop-position.position < length c.args.store.now.entries = omega (arith, c.loop-position-test.true, c.count-position-end.ensures.value) in
-    one_admitted lt c.loop-position.invariant c.admit_at.ensures.read (λ s at. c.in_ok-admit_at.ensures.ok s at) (λ d. c.in_ok-admit_at.ensures.all_calls d)
+    one_admitted lt c.loop-position.invariant c.admit_at.ensures.read (λ s at. c.in_ok-buffer.ensures.ok s at) (λ d. c.in_ok-buffer.ensures.all_calls d)
 
 pub returns-clause-ok : goal.returns-clause-ok
 returns-clause-ok g c s at =

@@ -1,4 +1,4 @@
-use Rattle.std.proofs.Common.{◌≡◌, List, map, IfOk, IfErr, inl, inr, ap, subst, ◌∙◌, ⊎_elim}
+use Rattle.std.proofs.Common.{◌≡◌, List, map, IfErr, inl, inr, ap, subst, ◌∙◌, ⊎_elim}
 use Rattle.std.proofs.lemmas.Result.{IfErr-weaker}
 use Rattle.scope.specs.LoadOrder.{available}
 use Rattle.scope.specs.Objects.{Named}
