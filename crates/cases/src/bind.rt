@@ -4,68 +4,39 @@ use crate::file::changed_file;
 use crate::number::parse_number;
 use crate::preload::preloads_of;
 use crate::shelf::{libraries_of, read_libraries};
-use anyhow::{Context, Result, bail};
-use image::{BindRefusal, Image, bind_program};
+use anyhow::{Error, Result};
+use image::{Image, bind_program};
 use plain_registry::{are_preloads, have_distinct_names};
 use program_parts::write_refusal;
+use scope::Library;
 use std::alloc::Global;
 use std::io::Write;
 
-/// What a bind gives.
-type Bound = std::result::Result<Image, BindRefusal>;
-
-/// Binds the program `FILE BASE [preload NAME ..] [+ LIBRARY] ..`.
-fn bound(rt: &HostRuntime, words: &str) -> Result<Bound> {
-    let (front, rest) = words.split_once(" + ").unwrap_or((words, ""));
-    let (program, names) = front.split_once(" preload ").unwrap_or((front, ""));
-    let (file, base) = program.rsplit_once(' ').context("a bind without a base")?;
-    let bytes = changed_file(rt, file)?;
-    let files = read_libraries(rt, rest)?;
-    let libraries = libraries_of(rt.alloc(), &files)?;
-    let preloads = preloads_of(rt.alloc(), &libraries, names)?;
-    if !have_distinct_names(&libraries) {
-        bail!("two libraries of one name");
-    }
-    if !are_preloads(&preloads, libraries.len()) {
-        bail!("a preload twice");
-    }
-    let base = parse_number(base)?;
-    Ok(bind_program(rt.alloc(), &bytes, base, &libraries, &preloads))
+/// What is told of an image.
+#[derive(Clone, Copy)]
+pub(crate) enum Told {
+    /// Its whole text.
+    Text,
+    /// The bases and the names of its objects in one line.
+    Order,
+    /// The eight bytes that it has from an address on, as a number, or `none`.
+    Word(u64),
 }
 
-/// The text of an image, or of the refusal.
-fn text_of(alloc: Global, bound: &Bound) -> Result<Vec<u8>> {
-    let mut text = Vec::new(alloc);
-    match bound {
-        Ok(image) => image.write_text(&mut text)?,
-        Err(refusal) => write_refusal(&mut text, refusal)?,
-    }
-    Ok(text)
-}
-
-/// `bind FILE BASE ..`: the text of the image of a program with libraries, or of its refusal.
-pub(crate) fn bind_text(rt: &HostRuntime, words: &str) -> Result<Vec<u8>> {
-    text_of(rt.alloc(), &bound(rt, words)?)
-}
-
-/// `order FILE BASE ..`: the bases and the names of the objects of this image in one line, or the
-/// refusal.
-pub(crate) fn order_text(rt: &HostRuntime, words: &str) -> Result<Vec<u8>> {
-    let bound = bound(rt, words)?;
-    let whole = String::from_utf8(text_of(rt.alloc(), &bound)?)?;
-    let mut text = Vec::new(rt.alloc());
-    if bound.is_err() {
-        text.write_all(whole.as_bytes())?;
-        return Ok(text);
-    }
-    text.write_all(b"objects")?;
-    for line in whole.lines() {
-        if let Some(object) = line.strip_prefix("object") {
-            text.write_all(object.as_bytes())?;
+/// Puts what stands behind `object` in the lines of a text into one line.
+fn put_objects(text: &mut Vec<u8>, whole: &[u8]) -> Result<()> {
+    text.extend_from_slice(b"objects")?;
+    let mut start = 0;
+    for (end, byte) in whole.iter().enumerate() {
+        if *byte == b'\n' {
+            if let Some(object) = whole.get(start..end).unwrap_or(b"").strip_prefix(b"object") {
+                text.extend_from_slice(object)?;
+            }
+            start = end.saturating_add(1);
         }
     }
-    text.write_all(b"\n")?;
-    Ok(text)
+    text.extend_from_slice(b"\n")?;
+    Ok(())
 }
 
 /// The eight bytes at an address as a number, where there are eight.
@@ -77,19 +48,86 @@ fn word_at(image: &Image, address: u64) -> Option<u64> {
     Some(u64::from_le_bytes(word))
 }
 
+/// Puts the bases and the names of the objects of an image in one line.
+fn put_order(alloc: Global, text: &mut Vec<u8>, image: &Image) -> Result<()> {
+    let mut whole = Vec::new(alloc);
+    image.write_text(&mut whole)?;
+    put_objects(text, &whole)
+}
+
+/// Puts a number, or `none`.
+fn put_number(text: &mut Vec<u8>, word: Option<u64>) -> Result<()> {
+    match word {
+        Some(word) => writeln!(text, "{word:#x}")?,
+        None => text.extend_from_slice(b"none\n")?,
+    }
+    Ok(())
+}
+
+/// Puts what is told of an image.
+fn put_image(alloc: Global, text: &mut Vec<u8>, image: &Image, told: Told) -> Result<()> {
+    match told {
+        Told::Text => Ok(image.write_text(text)?),
+        Told::Order => put_order(alloc, text, image),
+        Told::Word(address) => put_number(text, word_at(image, address)),
+    }
+}
+
+/// Binds a program with libraries, and puts what is told of its image, or the refusal.
+fn put_bound(
+    alloc: Global,
+    text: &mut Vec<u8>,
+    program: (&[u8], u64),
+    libraries: &[Library<'_>],
+    preloads: &[usize],
+    told: Told,
+) -> Result<()> {
+    if !have_distinct_names(libraries) {
+        return Err(Error::msg("two libraries of one name"));
+    }
+    if !are_preloads(preloads, libraries.len()) {
+        return Err(Error::msg("a preload twice"));
+    }
+    let (bytes, base) = program;
+    match bind_program(alloc, bytes, base, libraries, preloads) {
+        Ok(image) => put_image(alloc, text, &image, told),
+        Err(refusal) => Ok(write_refusal(text, &refusal)?),
+    }
+}
+
+/// Binds the program `FILE BASE [preload NAME ..] [+ LIBRARY] ..`, and puts what is told of its
+/// image, or the refusal.
+pub(crate) fn put_bind(
+    rt: &HostRuntime,
+    text: &mut Vec<u8>,
+    words: &str,
+    told: Told,
+) -> Result<()> {
+    let (front, rest) = words.split_once(" + ").unwrap_or((words, ""));
+    let (program, names) = front.split_once(" preload ").unwrap_or((front, ""));
+    let Some((file, base)) = program.rsplit_once(' ') else {
+        return Err(Error::msg("a bind without a base"));
+    };
+    let base = parse_number(base)?;
+    let bytes = changed_file(rt, file)?;
+    let files = read_libraries(rt, rest)?;
+    let libraries = libraries_of(rt.alloc(), &files)?;
+    let preloads = preloads_of(rt.alloc(), &libraries, names)?;
+    put_bound(
+        rt.alloc(),
+        text,
+        (&bytes, base),
+        &libraries,
+        &preloads,
+        told,
+    )
+}
+
 /// `word ADDRESS FILE BASE ..`: the eight bytes that this image has from an address on, as a
 /// number, or `none`, or the refusal.
-pub(crate) fn word_text(rt: &HostRuntime, words: &str) -> Result<Vec<u8>> {
-    let (address, words) = words.split_once(' ').context("a word of no program")?;
-    let address = parse_number(address)?;
-    let image = match bound(rt, words)? {
-        Ok(image) => image,
-        Err(refusal) => return text_of(rt.alloc(), &Err(refusal)),
-    };
-    let mut text = Vec::new(rt.alloc());
-    match word_at(&image, address) {
-        Some(word) => writeln!(text, "{word:#x}")?,
-        None => writeln!(text, "none")?,
+pub(crate) fn put_word(rt: &HostRuntime, text: &mut Vec<u8>, words: &str) -> Result<()> {
+    match words.split_once(' ') {
+        Some((address, words)) => put_bind(rt, text, words, Told::Word(parse_number(address)?)),
+        None => Err(Error::msg("a word of no program")),
     }
-    Ok(text)
 }

@@ -1,60 +1,80 @@
 // A case: a call, and its answer.
 
 use crate::answer::is_wanted;
-use crate::bind::{bind_text, order_text, word_text};
+use crate::bind::{Told, put_bind, put_word};
 use crate::disk::leaves_so;
+use crate::fault::fault;
 use crate::file::changed_file;
-use crate::library::{admit_text, find_text, hash_text, library_text};
+use crate::library::{Seen, put_file, put_find, put_hash};
 use crate::number::parse_number;
 use crate::script::runs_so;
-use crate::view::view_text;
 use crate::words::ends_so;
-use anyhow::{Context, Result, bail};
+use anyhow::{Error, Result};
 use commands::run_image;
 use image::bind_alone;
+use std::alloc::Global;
 use std::io::Write;
 
 /// `image FILE BASE`: the text of the image of a file, or of its refusal.
-fn image_text(rt: &HostRuntime, words: &str) -> Result<Vec<u8>> {
-    let (file, base) = words.rsplit_once(' ').context("an image without a base")?;
-    let bytes = changed_file(rt, file)?;
-    let mut text = Vec::new(rt.alloc());
-    run_image(rt.alloc(), &bytes, parse_number(base)?, &mut text)?;
-    Ok(text)
+fn put_image(rt: &HostRuntime, text: &mut Vec<u8>, words: &str) -> Result<()> {
+    let Some((file, base)) = words.rsplit_once(' ') else {
+        return Err(Error::msg("an image without a base"));
+    };
+    let base = parse_number(base)?;
+    match run_image(rt.alloc(), &changed_file(rt, file)?, base, text) {
+        Ok(_) => Ok(()),
+        Err(fault) => Err(fault.into()),
+    }
+}
+
+/// The byte that the image of a file has at an address.
+fn byte_of(alloc: Global, bytes: &[u8], base: u64, address: u64) -> Result<Option<u8>> {
+    match bind_alone(alloc, bytes, base) {
+        Ok(image) => Ok(image.byte(address)),
+        Err(_) => Err(Error::msg("no image")),
+    }
+}
+
+/// Puts a byte in two digits, or `none`.
+fn put_digits(text: &mut Vec<u8>, byte: Option<u8>) -> Result<()> {
+    match byte {
+        Some(byte) => writeln!(text, "{byte:02x}")?,
+        None => text.extend_from_slice(b"none\n")?,
+    }
+    Ok(())
 }
 
 /// `byte FILE BASE ADDRESS`: the byte that the image of a file has at an address, in two digits, or
 /// `none`.
-fn byte_text(rt: &HostRuntime, words: &str) -> Result<Vec<u8>> {
-    let (place, address) = words.rsplit_once(' ').context("a byte without an address")?;
-    let (file, base) = place.rsplit_once(' ').context("a byte without a base")?;
-    let bytes = changed_file(rt, file)?;
-    let Ok(image) = bind_alone(rt.alloc(), &bytes, parse_number(base)?) else {
-        bail!("no image");
+fn put_byte(rt: &HostRuntime, text: &mut Vec<u8>, words: &str) -> Result<()> {
+    let Some((place, address)) = words.rsplit_once(' ') else {
+        return Err(Error::msg("a byte without an address"));
     };
-    let mut text = Vec::new(rt.alloc());
-    match image.byte(parse_number(address)?) {
-        Some(byte) => writeln!(text, "{byte:02x}")?,
-        None => writeln!(text, "none")?,
-    }
-    Ok(text)
+    let Some((file, base)) = place.rsplit_once(' ') else {
+        return Err(Error::msg("a byte without a base"));
+    };
+    let (base, address) = (parse_number(base)?, parse_number(address)?);
+    let byte = byte_of(rt.alloc(), &changed_file(rt, file)?, base, address)?;
+    put_digits(text, byte)
 }
 
-/// What a call gives, which is a name with words behind it.
-fn answer(rt: &HostRuntime, call: &str) -> Result<Vec<u8>> {
-    let (name, words) = call.split_once(' ').context("a call without words")?;
+/// Puts what a call gives, which is a name with words behind it.
+fn put_answer(rt: &HostRuntime, text: &mut Vec<u8>, call: &str) -> Result<()> {
+    let Some((name, words)) = call.split_once(' ') else {
+        return Err(Error::msg("a call without words"));
+    };
     match name {
-        "image" => image_text(rt, words),
-        "byte" => byte_text(rt, words),
-        "bind" => bind_text(rt, words),
-        "order" => order_text(rt, words),
-        "word" => word_text(rt, words),
-        "admit" => admit_text(rt, words),
-        "library" => library_text(rt, words),
-        "view" => view_text(rt, words),
-        "find" => find_text(rt, words),
-        "hash" => hash_text(rt.alloc(), words),
-        _ => bail!("the call {call}"),
+        "image" => put_image(rt, text, words),
+        "byte" => put_byte(rt, text, words),
+        "bind" => put_bind(rt, text, words, Told::Text),
+        "order" => put_bind(rt, text, words, Told::Order),
+        "word" => put_word(rt, text, words),
+        "admit" => put_file(rt, text, words, Seen::Admission),
+        "library" => put_file(rt, text, words, Seen::Name),
+        "view" => put_file(rt, text, words, Seen::View),
+        "find" => put_find(rt, text, words),
+        "hash" => put_hash(rt.alloc(), text, words),
+        _ => Err(fault("the call", call)),
     }
 }
 
@@ -66,10 +86,12 @@ fn gives(rt: &HostRuntime, call: &str, wanted: &str) -> Result<bool> {
     if let Some(words) = call.strip_prefix("on ") {
         return leaves_so(rt, words, wanted);
     }
-    match call.strip_prefix("words") {
-        Some(words) => ends_so(rt, words, &[], wanted),
-        None => is_wanted(rt, &answer(rt, call)?, wanted),
+    if let Some(words) = call.strip_prefix("words") {
+        return ends_so(rt, words, &[], wanted);
     }
+    let mut text = Vec::new(rt.alloc());
+    put_answer(rt, &mut text, call)?;
+    is_wanted(rt, &text, wanted)
 }
 
 /// Whether a case stands: `CALL => ANSWER`, or `CALL =/> ANSWER` where the call gives another
@@ -78,6 +100,8 @@ pub(crate) fn stands(rt: &HostRuntime, case: &str) -> Result<bool> {
     if let Some((call, wanted)) = case.split_once(" => ") {
         return gives(rt, call, wanted);
     }
-    let (call, other) = case.split_once(" =/> ").context("a case without =>")?;
-    Ok(!gives(rt, call, other)?)
+    match case.split_once(" =/> ") {
+        Some((call, other)) => Ok(!gives(rt, call, other)?),
+        None => Err(Error::msg("a case without =>")),
+    }
 }

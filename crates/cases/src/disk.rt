@@ -2,7 +2,7 @@
 
 use crate::file::changed_file;
 use crate::words::ends_so;
-use anyhow::{Context, Result};
+use anyhow::{Error, Result};
 use std::fs;
 
 /// The file that is the disk.
@@ -37,29 +37,36 @@ fn put_disk(rt: &HostRuntime, words: &str) -> Result<()> {
 
 /// Whether `WORD .. [< INPUT]` ends as it is wanted. Without INPUT the input is empty.
 fn runs_to(rt: &HostRuntime, words: &str, wanted: &str) -> Result<bool> {
-    let Some((words, file)) = words.split_once(" < ") else {
-        return ends_so(rt, words, &[], wanted);
-    };
-    let input = changed_file(rt, file)?;
-    ends_so(rt, words, &input, wanted)
+    match words.split_once(" < ") {
+        Some((words, file)) => ends_so(rt, words, &changed_file(rt, file)?, wanted),
+        None => ends_so(rt, words, &[], wanted),
+    }
 }
 
-/// Takes the disk away, and tells whether it was this one: `same` is the one before, with the
-/// changes behind it.
+/// The disk that is wanted: `same` is the one before, with the changes behind it.
+fn wanted_disk(rt: &HostRuntime, before: &str, after: &str) -> Result<Option<Vec<u8>>> {
+    match after.strip_prefix("same") {
+        Some(changes) => disk_of(rt, &format!(in rt.alloc(); "{before}{changes}")?),
+        None => disk_of(rt, after),
+    }
+}
+
+/// Takes the disk away, and tells whether it was the one that is wanted.
 fn is_left(rt: &HostRuntime, before: &str, after: &str) -> Result<bool> {
     let left = take_disk(rt)?;
-    let wanted = match after.strip_prefix("same") {
-        Some(changes) => disk_of(rt, &format!(in rt.alloc(); "{before}{changes}")?)?,
-        None => disk_of(rt, after)?,
-    };
+    let wanted = wanted_disk(rt, before, after)?;
     Ok(left == wanted)
 }
 
 /// Whether a command line ends as it is wanted and leaves the disk so: `BEFORE run WORD ..
 /// [< INPUT]`, wanted as `STATUS ANSWER then AFTER`. The file `disk` is the disk.
 pub(crate) fn leaves_so(rt: &HostRuntime, words: &str, wanted: &str) -> Result<bool> {
-    let (before, words) = words.split_once(" run").context("a disk without words")?;
-    let (ending, after) = wanted.rsplit_once(" then ").context("no disk after it")?;
+    let Some((before, words)) = words.split_once(" run") else {
+        return Err(Error::msg("a disk without words"));
+    };
+    let Some((ending, after)) = wanted.rsplit_once(" then ") else {
+        return Err(Error::msg("no disk after it"));
+    };
     put_disk(rt, before)?;
     let ends = runs_to(rt, words, ending)?;
     let left = is_left(rt, before, after)?;

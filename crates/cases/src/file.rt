@@ -1,13 +1,42 @@
 // The file of a case: one of the folder, spelt, or made as a text says, with what is changed in it.
 
+use crate::fault::{error_of, fault};
 use crate::number::parse_number;
-use anyhow::{Context, Result};
+use anyhow::{Error, Result};
+use std::alloc::Global;
 use std::fs;
+
+/// The bytes that digits spell.
+pub(crate) fn spelt(alloc: Global, digits: &str) -> Result<Vec<u8>> {
+    match hex::decode(alloc, digits) {
+        Ok(bytes) => Ok(bytes),
+        Err(error) => Err(error.into()),
+    }
+}
+
+/// The bytes of a file of the folder.
+fn file_bytes(rt: &HostRuntime, name: &str) -> Result<Vec<u8>> {
+    match fs::read(rt, name) {
+        Ok(bytes) => Ok(bytes),
+        Err(error) => Err(error_of(error.into(), "the file", name)),
+    }
+}
+
+/// The text of a file of the folder; it is said what the file is, where it can't be read.
+pub(crate) fn text_of_file(rt: &HostRuntime, what: &str, name: &str) -> Result<String> {
+    match fs::read_to_string(rt, name) {
+        Ok(text) => Ok(text),
+        Err(error) => Err(error_of(error.into(), what, name)),
+    }
+}
 
 /// Writes bytes over those of a file.
 fn put(bytes: &mut [u8], at: usize, new: &[u8]) -> Result<()> {
     for (i, byte) in new.iter().enumerate() {
-        *bytes.get_mut(at.saturating_add(i)).context("past the end")? = *byte;
+        match bytes.get_mut(at.saturating_add(i)) {
+            Some(place) => *place = *byte,
+            None => return Err(Error::msg("past the end")),
+        }
     }
     Ok(())
 }
@@ -15,8 +44,8 @@ fn put(bytes: &mut [u8], at: usize, new: &[u8]) -> Result<()> {
 /// Bytes that are spelt, or behind `@` those of a file of the folder.
 fn new_bytes(rt: &HostRuntime, value: &str) -> Result<Vec<u8>> {
     match value.strip_prefix('@') {
-        Some(name) => fs::read(rt, name).context(format_args!("the file {name}")),
-        None => Ok(hex::decode(rt.alloc(), value)?),
+        Some(name) => file_bytes(rt, name),
+        None => spelt(rt.alloc(), value),
     }
 }
 
@@ -33,30 +62,31 @@ fn change(rt: &HostRuntime, bytes: &mut Vec<u8>, what: &str, value: &str) -> Res
 /// A file of the folder, or the bytes that `bytes=BYTES` spells.
 fn plain_bytes(rt: &HostRuntime, name: &str) -> Result<Vec<u8>> {
     match name.strip_prefix("bytes=") {
-        Some(digits) => Ok(hex::decode(rt.alloc(), digits)?),
-        None => fs::read(rt, name).context(format_args!("the file {name}")),
+        Some(digits) => spelt(rt.alloc(), digits),
+        None => file_bytes(rt, name),
     }
 }
 
-/// Makes the changes that words say, from left to right.
-fn make_changes(rt: &HostRuntime, bytes: &mut Vec<u8>, changes: &str) -> Result<()> {
+/// Bytes with the changes that words say, from left to right.
+fn with_changes(rt: &HostRuntime, bytes: Vec<u8>, changes: &str) -> Result<Vec<u8>> {
+    let mut bytes = bytes;
     for word in changes.split_whitespace() {
-        let (what, value) = word
-            .split_once('=')
-            .context(format_args!("the change {word}"))?;
-        change(rt, bytes, what, value)?;
+        match word.split_once('=') {
+            Some((what, value)) => change(rt, &mut bytes, what, value)?,
+            None => return Err(fault("the change", word)),
+        }
     }
-    Ok(())
+    Ok(bytes)
 }
 
 /// The bytes that a text says: its first line is a file of the folder or spelt, with changes, and
 /// each other line has changes.
 fn made_bytes(rt: &HostRuntime, name: &str) -> Result<Vec<u8>> {
-    let text = fs::read_to_string(rt, name).context(format_args!("the text {name}"))?;
-    let (first, changes) = text.split_once(' ').context("a text without changes")?;
-    let mut bytes = plain_bytes(rt, first)?;
-    make_changes(rt, &mut bytes, changes)?;
-    Ok(bytes)
+    let text = text_of_file(rt, "the text", name)?;
+    match text.split_once(' ') {
+        Some((first, changes)) => with_changes(rt, plain_bytes(rt, first)?, changes),
+        None => Err(Error::msg("a text without changes")),
+    }
 }
 
 /// The bytes of a file before its changes: those that the text NAME of `made=NAME` says, or those
@@ -71,7 +101,5 @@ fn first_bytes(rt: &HostRuntime, name: &str) -> Result<Vec<u8>> {
 /// The bytes of a file after the changes that the words say.
 pub(crate) fn changed_file(rt: &HostRuntime, words: &str) -> Result<Vec<u8>> {
     let (name, changes) = words.split_once(' ').unwrap_or((words, ""));
-    let mut bytes = first_bytes(rt, name)?;
-    make_changes(rt, &mut bytes, changes)?;
-    Ok(bytes)
+    with_changes(rt, first_bytes(rt, name)?, changes)
 }

@@ -1,9 +1,9 @@
 // Lists of cases.
 
 use crate::case::stands;
+use crate::file::text_of_file;
 use crate::number::parse_number;
-use anyhow::{Context, Result};
-use std::fs;
+use anyhow::{Error, Result};
 
 /// How many cases were run, and how many of them differ.
 #[derive(Default, Drop)]
@@ -15,20 +15,31 @@ pub(crate) struct Tally {
 /// Runs a case, and prints it where it differs.
 fn run_case(rt: &HostRuntime, list: &str, case: &str, tally: &mut Tally) -> Result<()> {
     tally.count = tally.count.saturating_add(1);
-    if !stands(rt, case).context(format_args!("{list}: {case}"))? {
-        tally.differ = tally.differ.saturating_add(1);
-        println!(rt; "{list} differs: {case}")?;
+    match stands(rt, case) {
+        Ok(true) => Ok(()),
+        Ok(false) => {
+            tally.differ = tally.differ.saturating_add(1);
+            println!(rt; "{list} differs: {case}")?;
+            Ok(())
+        }
+        Err(error) => Err(error.context(format_args!("{list}: {case}"))),
     }
-    Ok(())
 }
 
-/// Runs the case of a line, or where it has `cut=FIRST..LAST` one for each length.
-fn run_line(rt: &HostRuntime, list: &str, line: &str, tally: &mut Tally) -> Result<()> {
-    let Some((front, rest)) = line.split_once("..") else {
-        return run_case(rt, list, line, tally);
+/// Runs one case for each length of a cut: `CALL cut=FIRST` and, behind two dots, `LAST ANSWER`.
+fn run_cuts(
+    rt: &HostRuntime,
+    list: &str,
+    front: &str,
+    rest: &str,
+    tally: &mut Tally,
+) -> Result<()> {
+    let Some((call, first)) = front.rsplit_once("cut=") else {
+        return Err(Error::msg("a range of no cut"));
     };
-    let (call, first) = front.rsplit_once("cut=").context("a range of no cut")?;
-    let (last, answer) = rest.split_once(' ').context("a range without a base")?;
+    let Some((last, answer)) = rest.split_once(' ') else {
+        return Err(Error::msg("a range without a base"));
+    };
     for length in parse_number(first)?..=parse_number(last)? {
         let case = format!(in rt.alloc(); "{call}cut={length} {answer}")?;
         run_case(rt, list, &case, tally)?;
@@ -36,9 +47,17 @@ fn run_line(rt: &HostRuntime, list: &str, line: &str, tally: &mut Tally) -> Resu
     Ok(())
 }
 
+/// Runs the case of a line, or where it has `cut=FIRST..LAST` one for each length.
+fn run_line(rt: &HostRuntime, list: &str, line: &str, tally: &mut Tally) -> Result<()> {
+    match line.split_once("..") {
+        Some((front, rest)) => run_cuts(rt, list, front, rest, tally),
+        None => run_case(rt, list, line, tally),
+    }
+}
+
 /// Runs the cases of a list, one a line. Empty lines and those that begin with # are none.
 pub(crate) fn run_list(rt: &HostRuntime, name: &str, tally: &mut Tally) -> Result<()> {
-    let text = fs::read_to_string(rt, name).context(format_args!("the list {name}"))?;
+    let text = text_of_file(rt, "the list", name)?;
     for line in text.lines() {
         if !line.is_empty() && !line.starts_with('#') {
             run_line(rt, name, line, tally)?;

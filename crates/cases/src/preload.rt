@@ -1,14 +1,18 @@
 // The preloads of a case.
 
-use anyhow::{Result, bail};
+use crate::fault::fault;
+use anyhow::Result;
 use scope::Library;
 use std::alloc::Global;
 
 /// The number of the library that goes by a name.
 fn number_of(libraries: &[Library<'_>], name: &str) -> Option<usize> {
-    libraries
-        .iter()
-        .position(|library| library.name() == name.as_bytes())
+    for (number, library) in libraries.iter().enumerate() {
+        if library.name() == name.as_bytes() {
+            return Some(number);
+        }
+    }
+    None
 }
 
 /// The numbers of the libraries of these names, between which a space stands.
@@ -19,10 +23,10 @@ pub(crate) fn preloads_of(
 ) -> Result<Vec<usize>> {
     let mut numbers = Vec::new(alloc);
     for name in names.split_whitespace() {
-        let Some(number) = number_of(libraries, name) else {
-            bail!("no library {name}");
-        };
-        numbers.push(number)?;
+        match number_of(libraries, name) {
+            Some(number) => numbers.push(number)?,
+            None => return Err(fault("no library", name)),
+        }
     }
     Ok(numbers)
 }

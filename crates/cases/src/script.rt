@@ -3,7 +3,7 @@
 use crate::answer::is_wanted;
 use crate::file::changed_file;
 use crate::number::parse_number;
-use anyhow::{Context, Result, bail};
+use anyhow::{Error, Result};
 use binders::Binders;
 use commands::{ScriptFault, Summary, run_script};
 use registry::Registry;
@@ -25,23 +25,49 @@ fn ran(
             let _ = binders.into_registry().into_disk();
             Ok(ended)
         }
-        Err(_) => bail!("no registry"),
+        Err(_) => Err(Error::msg("no registry")),
     }
+}
+
+/// What a script gives on a disk of so many sectors.
+fn summary_of(alloc: Global, sectors: u64, script: &[u8], output: &mut Vec<u8>) -> Result<Summary> {
+    let disk = Memory::new(alloc, u32::try_from(sectors)?)?;
+    match ran(alloc, disk, script, output)? {
+        Ok(summary) => Ok(summary),
+        Err(fault) => Err(fault.into()),
+    }
+}
+
+/// Whether a script gave what is wanted.
+fn is_ended(
+    rt: &HostRuntime,
+    lines: u64,
+    refused: u64,
+    output: &[u8],
+    wanted: &str,
+) -> Result<bool> {
+    let Some((wanted_lines, rest)) = wanted.split_once(' ') else {
+        return Err(Error::msg("lines alone"));
+    };
+    let Some((wanted_refused, answer)) = rest.split_once(' ') else {
+        return Err(Error::msg("two numbers alone"));
+    };
+    Ok(
+        parse_number(wanted_lines)? == lines
+            && parse_number(wanted_refused)? == refused
+            && is_wanted(rt, output, answer)?,
+    )
 }
 
 /// Whether a script ends as it is wanted: `SECTORS FILE` on an empty registry on a disk of so many
 /// sectors, wanted as `LINES REFUSED ANSWER`.
 pub(crate) fn runs_so(rt: &HostRuntime, words: &str, wanted: &str) -> Result<bool> {
-    let (sectors, file) = words.split_once(' ').context("a script without a file")?;
+    let Some((sectors, file)) = words.split_once(' ') else {
+        return Err(Error::msg("a script without a file"));
+    };
+    let sectors = parse_number(sectors)?;
     let text = changed_file(rt, file)?;
-    let disk = Memory::new(rt.alloc(), u32::try_from(parse_number(sectors)?)?)?;
     let mut output = Vec::new(rt.alloc());
-    let summary = ran(rt.alloc(), disk, &text, &mut output)??;
-    let (lines, rest) = wanted.split_once(' ').context("lines alone")?;
-    let (refused, answer) = rest.split_once(' ').context("two numbers alone")?;
-    Ok(
-        parse_number(lines)? == summary.lines
-            && parse_number(refused)? == summary.refused
-            && is_wanted(rt, &output, answer)?,
-    )
+    let summary = summary_of(rt.alloc(), sectors, &text, &mut output)?;
+    is_ended(rt, summary.lines, summary.refused, &output, wanted)
 }

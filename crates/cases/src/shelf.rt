@@ -1,8 +1,9 @@
 // The libraries of a case.
 
 use crate::file::changed_file;
-use crate::library::{admitted, name_bytes};
-use anyhow::{Result, bail};
+use crate::library::name_bytes;
+use anyhow::{Error, Result};
+use hash_check::{Admitted, ReadRefusal};
 use scope::Library;
 use std::alloc::Global;
 
@@ -36,14 +37,16 @@ pub(crate) fn read_libraries(rt: &HostRuntime, words: &str) -> Result<Vec<Librar
 
 /// A file as a library.
 fn library_of<'a>(alloc: Global, file: &'a LibraryFile) -> Result<Library<'a>> {
-    let Ok(object) = admitted(alloc, &file.bytes)? else {
-        bail!("a library that is refused");
+    let object = match Admitted::read(alloc, &file.bytes) {
+        Ok(object) => object,
+        Err(ReadRefusal::File(_)) => return Err(Error::msg("a library that is refused")),
+        Err(ReadRefusal::OutOfMemory) => return Err(Error::msg("out of memory")),
     };
     let name = match &file.name {
         Some(name) => name.as_slice(),
         None => match object.library_name() {
             Ok(name) => name,
-            Err(_) => bail!("a library without a name"),
+            Err(_) => return Err(Error::msg("a library without a name")),
         },
     };
     Ok(Library { name, object })

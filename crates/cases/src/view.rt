@@ -1,31 +1,35 @@
 // What a reader sees of an admitted file: its names and its symbols.
 
-use crate::file::changed_file;
-use crate::library::admitted;
 use anyhow::Result;
 use elf_dynamic::{Object, Symbol};
 use hash_check::Admitted;
 use std::io::Write;
 use text_output::write_name;
 
-/// The line of the SONAME, and those of the needed libraries.
+/// Puts the line of the SONAME, and those of the needed libraries.
 fn put_names(text: &mut Vec<u8>, object: &Object) -> Result<()> {
     match object.soname() {
         Some(name) => {
-            text.write_all(b"soname ")?;
+            text.extend_from_slice(b"soname ")?;
             write_name(text, name)?;
         }
-        None => text.write_all(b"no soname")?,
+        None => text.extend_from_slice(b"no soname")?,
     }
     for i in 0..object.needed_count() {
-        text.write_all(b"\nneeded ")?;
+        text.extend_from_slice(b"\nneeded ")?;
         write_name(text, object.needed(i))?;
     }
-    text.write_all(b"\n")?;
+    text.extend_from_slice(b"\n")?;
     Ok(())
 }
 
-/// The line of a symbol, and the number of the one that is exported under its name.
+/// Puts a number behind a space.
+fn put_number(text: &mut Vec<u8>, number: u64) -> Result<()> {
+    write!(text, " {number}")?;
+    Ok(())
+}
+
+/// Puts the line of a symbol, and the number of the one that is exported under its name.
 fn put_symbol(
     text: &mut Vec<u8>,
     i: u32,
@@ -33,45 +37,31 @@ fn put_symbol(
     name: &[u8],
     found: Option<u32>,
 ) -> Result<()> {
-    let Symbol {
-        value,
-        size,
-        section,
-        ..
-    } = symbol;
-    let (kind, binding, visibility) = (symbol.kind(), symbol.binding(), symbol.visibility());
-    write!(
-        text,
-        "symbol {i} 0x{value:016x} {size} {kind} {binding} {visibility} {section} "
-    )?;
+    let value = symbol.value;
+    write!(text, "symbol {i} 0x{value:016x}")?;
+    put_number(text, symbol.size)?;
+    for number in [symbol.kind(), symbol.binding(), symbol.visibility()] {
+        put_number(text, u64::from(number))?;
+    }
+    put_number(text, u64::from(symbol.section))?;
+    text.extend_from_slice(b" ")?;
     write_name(text, name)?;
     match found {
-        Some(found) => writeln!(text, " {found}")?,
-        None => writeln!(text, " none")?,
+        Some(found) => put_number(text, u64::from(found))?,
+        None => text.extend_from_slice(b" none")?,
     }
+    text.extend_from_slice(b"\n")?;
     Ok(())
 }
 
-/// The lines of all symbols, that of index 0 too.
-fn put_symbols(text: &mut Vec<u8>, admitted: &Admitted) -> Result<()> {
+/// Puts the SONAME, the needed names, and the lines of all symbols, that of index 0 too.
+pub(crate) fn put_view(text: &mut Vec<u8>, admitted: &Admitted) -> Result<()> {
     let object = admitted.object();
+    put_names(text, object)?;
     for i in 0..object.symbol_count() {
         let name = object.name_of(i);
         put_symbol(text, i, object.symbol(i), name, admitted.find(name))?;
     }
+    text.extend_from_slice(b"end\n")?;
     Ok(())
-}
-
-/// `view FILE`: the SONAME, the needed names and the symbols, or the refusal.
-pub(crate) fn view_text(rt: &HostRuntime, words: &str) -> Result<Vec<u8>> {
-    let bytes = changed_file(rt, words)?;
-    let object = match admitted(rt.alloc(), &bytes)? {
-        Ok(object) => object,
-        Err(refusal) => return Ok(refusal),
-    };
-    let mut text = Vec::new(rt.alloc());
-    put_names(&mut text, object.object())?;
-    put_symbols(&mut text, &object)?;
-    text.write_all(b"end\n")?;
-    Ok(text)
 }

@@ -2,7 +2,7 @@
 
 use crate::answer::is_wanted;
 use crate::number::parse_number;
-use anyhow::{Context, Result};
+use anyhow::{Error, Result};
 use commands::run_words;
 use std::alloc::Global;
 
@@ -15,6 +15,26 @@ fn listed(alloc: Global, words: &str) -> Result<Vec<String>> {
     Ok(list)
 }
 
+/// Whether a status and what was written are those that are wanted.
+fn is_ended(
+    rt: &HostRuntime,
+    status: u8,
+    output: &[u8],
+    errors: &[u8],
+    wanted: &str,
+) -> Result<bool> {
+    let Some((number, answer)) = wanted.split_once(' ') else {
+        return Err(Error::msg("a status alone"));
+    };
+    if parse_number(number)? != u64::from(status) {
+        return Ok(false);
+    }
+    match answer.strip_prefix("error ") {
+        Some(line) => Ok(output.is_empty() && is_wanted(rt, errors, line)?),
+        None => Ok(errors.is_empty() && is_wanted(rt, output, answer)?),
+    }
+}
+
 /// Whether a command line ends over an input as it is wanted: `STATUS ANSWER` where ANSWER goes to
 /// the output and nothing to standard error, `STATUS error ANSWER` where it goes to standard error
 /// alone.
@@ -24,12 +44,5 @@ pub(crate) fn ends_so(rt: &HostRuntime, words: &str, input: &[u8], wanted: &str)
     let mut output = Vec::new(rt.alloc());
     let mut errors = Vec::new(rt.alloc());
     let status = run_words(rt, rt.alloc(), &list, &mut input, &mut output, &mut errors);
-    let (number, answer) = wanted.split_once(' ').context("a status alone")?;
-    if parse_number(number)? != u64::from(status) {
-        return Ok(false);
-    }
-    match answer.strip_prefix("error ") {
-        Some(line) => Ok(output.is_empty() && is_wanted(rt, &errors, line)?),
-        None => Ok(errors.is_empty() && is_wanted(rt, &output, answer)?),
-    }
+    is_ended(rt, status, &output, &errors, wanted)
 }
