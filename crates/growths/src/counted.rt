@@ -21,21 +21,26 @@ pub(crate) fn calls(disk: &mut Fuse<Memory>) -> u64 {
     0
 }
 
+// So many calls as the place in the list says, each in a word.
+const CALLS: [&str; 12] = [
+    "no call of the disk,",
+    "1 call of the disk,",
+    "2 calls of the disk,",
+    "3 calls of the disk,",
+    "4 calls of the disk,",
+    "5 calls of the disk,",
+    "6 calls of the disk,",
+    "7 calls of the disk,",
+    "8 calls of the disk,",
+    "9 calls of the disk,",
+    "10 calls of the disk,",
+    "11 calls of the disk,",
+];
+
 /// So many calls, in a word.
 pub(crate) fn calls_word(calls: u64) -> &'static str {
-    match calls {
-        0 => "no call of the disk,",
-        1 => "1 call of the disk,",
-        2 => "2 calls of the disk,",
-        3 => "3 calls of the disk,",
-        4 => "4 calls of the disk,",
-        5 => "5 calls of the disk,",
-        6 => "6 calls of the disk,",
-        7 => "7 calls of the disk,",
-        8 => "8 calls of the disk,",
-        9 => "9 calls of the disk,",
-        10 => "10 calls of the disk,",
-        11 => "11 calls of the disk,",
-        _ => "more calls of the disk,",
+    match CALLS.get(calls as usize) {
+        Some(word) => word,
+        None => "more calls of the disk,",
     }
 }

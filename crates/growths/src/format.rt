@@ -1,7 +1,8 @@
 // Making a registry.
 
 use crate::counted::{calls, calls_word, counted};
-use crate::run::{Went, Words};
+use crate::run::Went;
+use crate::words::Words;
 use registry::Registry;
 use sector_disk::{Fuse, Memory};
 use std::alloc::{AllocError, Global};
@@ -37,21 +38,20 @@ fn again(alloc: Global, disk: Memory) -> &'static str {
 }
 
 // What is told of a format that was refused.
-fn refused(alloc: Global, refusal: StoreRefusal, disk: Fuse<Memory>) -> Result<Words, AllocError> {
+fn refused(alloc: Global, refusal: StoreRefusal, disk: Fuse<Memory>) -> Words {
     let mut disk = disk;
-    let mut words = Vec::new(alloc);
-    words.push("format:")?;
-    words.push(refusal_word(refusal))?;
-    words.push(calls_word(calls(&mut disk)))?;
-    words.push("again:")?;
-    words.push(again(alloc, disk.into_inner()))?;
-    Ok(words)
+    let mut words = Words::of("format:");
+    words.push(refusal_word(refusal));
+    words.push(calls_word(calls(&mut disk)));
+    words.push("again:");
+    words.push(again(alloc, disk.into_inner()));
+    words
 }
 
 /// Makes a registry.
 pub(crate) fn format(alloc: Global) -> Result<Went, AllocError> {
     match Registry::format(alloc, counted(zeros(alloc)?)) {
         Ok(registry) => Ok(Went::On(registry.into_disk().into_inner())),
-        Err((refusal, disk)) => Ok(Went::Otherwise(refused(alloc, refusal, disk)?)),
+        Err((refusal, disk)) => Ok(Went::Otherwise(refused(alloc, refusal, disk))),
     }
 }

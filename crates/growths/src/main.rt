@@ -15,6 +15,7 @@ mod seen;
 mod steps;
 mod texts;
 mod upgrades;
+mod words;
 
 use std::io;
 
@@ -22,7 +23,7 @@ fn main(rt: HostRuntime) -> io::Result<()> {
     match run::run(rt.alloc()) {
         Ok(None) => println!(rt; "as where no growth is refused")?,
         Ok(Some(words)) => {
-            for (at, word) in words.iter().enumerate() {
+            for (at, word) in words.told().iter().enumerate() {
                 let space = if at == 0 { "" } else { " " };
                 print!(rt; "{space}{word}")?;
             }

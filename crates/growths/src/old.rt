@@ -36,15 +36,9 @@ fn entry(name: u8, at: u8) -> Sector {
 fn root(generation: u8, preloads: u8) -> Sector {
     let mut sector = [0; SECTOR_BYTES];
     put(&mut sector, 0, b"RLIBREG1");
-    for (place, byte) in [
-        (8, generation),
-        (16, 16),
-        (20, 2),
-        (22, preloads),
-        (24, preloads),
-    ] {
-        put(&mut sector, place, &[byte]);
-    }
+    put(&mut sector, 8, &[generation]);
+    put(&mut sector, 16, b"\x10\0\0\0\x02\0");
+    put(&mut sector, 22, &[preloads, 0, preloads]);
     put(&mut sector, 64, b"\x03\0\0\0\x05");
     sector
 }
@@ -61,11 +55,18 @@ fn write(disk: &mut Memory, at: u32, content: &Sector) -> Result<(), AllocError>
 /// the preload.
 pub(crate) fn old_disk(alloc: Global) -> Result<Memory, AllocError> {
     let mut disk = zeros(alloc)?;
-    write(&mut disk, 0, &root(2, 0))?;
-    write(&mut disk, 1, &root(3, 1))?;
-    for (at, name, version) in [(2_u8, b'a', 1), (4, b'b', 0)] {
-        write(&mut disk, u32::from(at), &file(name, version))?;
-        write(&mut disk, u32::from(at).wrapping_add(1), &entry(name, at))?;
+    let sectors = [
+        root(2, 0),
+        root(3, 1),
+        file(b'a', 1),
+        entry(b'a', 2),
+        file(b'b', 0),
+        entry(b'b', 4),
+    ];
+    let mut at = 0_u32;
+    for content in &sectors {
+        write(&mut disk, at, content)?;
+        at = at.wrapping_add(1);
     }
     match disk.sync() {
         Ok(()) => Ok(disk),

@@ -38,11 +38,16 @@ pub(crate) fn reply_word(reply: &[u8]) -> &'static str {
     }
 }
 
+/// Whether a byte ends a line.
+pub(crate) fn ends_line(byte: &u8) -> bool {
+    *byte == b'\n'
+}
+
 /// The replies of a text. A listing and an image end with their line `end`.
 pub(crate) fn replies(alloc: Global, text: &[u8]) -> Result<Vec<Vec<u8>>, AllocError> {
     let mut all = Vec::new(alloc);
     let mut reply = Vec::new(alloc);
-    for line in text.split_inclusive(|byte| *byte == b'\n') {
+    for line in text.split_inclusive(ends_line) {
         reply.extend_from_slice(line)?;
         if line == b"end\n".as_slice() || line_word(line).is_some() {
             all.push(reply)?;

@@ -2,7 +2,8 @@
 
 use crate::asked::{Asked, BASE, ask, word};
 use crate::format::refusal_word;
-use crate::run::{Words, opened};
+use crate::run::opened;
+use crate::words::Words;
 use registry::{Round, RoundReplies, run_rounds};
 use requests::Command;
 use samples::{library, program};
@@ -37,9 +38,8 @@ fn all_rounds<'a>(
     Ok(all)
 }
 
-// What the rounds are told, after these words: the number of each reply, or why there are none.
-fn tell(words: Words, all: &[RoundReplies]) -> Result<Words, AllocError> {
-    let mut words = words;
+// Tells what the rounds are told: the number of each reply, or why there are none.
+fn tell(words: &mut Vec<&'static str>, all: &[RoundReplies]) -> Result<(), AllocError> {
     for told in all {
         match told {
             RoundReplies::Ran(replies) => {
@@ -54,7 +54,7 @@ fn tell(words: Words, all: &[RoundReplies]) -> Result<Words, AllocError> {
         }
         words.push("|")?;
     }
-    Ok(words)
+    Ok(())
 }
 
 // What is told where no growth is refused.
@@ -94,13 +94,12 @@ fn otherwise(
     words: &[&'static str],
     disk: Memory,
 ) -> Result<Words, AllocError> {
-    let mut said = Vec::new(alloc);
-    said.push(title)?;
+    let mut said = Words::of(title);
     for word in words {
-        said.push(*word)?;
+        said.push(word);
     }
-    said.push("at the end")?;
-    said.push(left(alloc, disk)?)?;
+    said.push("at the end");
+    said.push(left(alloc, disk)?);
     Ok(said)
 }
 
@@ -110,14 +109,15 @@ pub(crate) fn rounds(alloc: Global, disk: Memory) -> Result<Option<Words>, Alloc
     let file = library(b'c', 0);
     let needing = program(b'a');
     let all = all_rounds(alloc, &file, b"c", &needing)?;
-    let words = Vec::with_capacity(alloc, 32)?;
-    let (words, disk, ran) = match run_rounds(alloc, disk, all) {
-        Ok((replies, disk)) => (tell(words, &replies)?, disk, true),
-        Err((_, disk)) => (words, disk, false),
-    };
-    if ran && is_whole(&words) {
-        return Ok(None);
+    let mut words = Vec::with_capacity(alloc, 32)?;
+    match run_rounds(alloc, disk, all) {
+        Ok((replies, disk)) => {
+            tell(&mut words, &replies)?;
+            if is_whole(&words) {
+                return Ok(None);
+            }
+            Ok(Some(otherwise(alloc, "rounds:", &words, disk)?))
+        }
+        Err((_, disk)) => Ok(Some(otherwise(alloc, "rounds: none", &words, disk)?)),
     }
-    let title = if ran { "rounds:" } else { "rounds: none" };
-    Ok(Some(otherwise(alloc, title, &words, disk)?))
 }

@@ -9,13 +9,11 @@ use crate::seen::{before, is_as_before};
 use crate::steps::{STEPS, Step};
 use crate::texts::text;
 use crate::upgrades::upgrade;
+use crate::words::Words;
 use registry::Registry;
 use sector_disk::{Fuse, Memory};
 use std::alloc::{AllocError, Global};
 use store::StoreRefusal;
-
-/// What is told.
-pub(crate) type Words = Vec<&'static str>;
 
 /// How a part went: on, with the disk after it; or otherwise than where no growth is refused, and
 /// then how.
@@ -42,7 +40,10 @@ fn opening_calls(alloc: Global, at: usize) -> Result<u64, AllocError> {
 // What the command at a place of the list is answered by the registry that a disk holds.
 fn again(alloc: Global, disk: Memory, at: usize) -> Result<&'static str, AllocError> {
     let mut registry = opened(alloc, disk)?;
-    let asked = STEPS.get(at).map_or(Asked::List, |step| step.1);
+    let asked = match STEPS.get(at) {
+        Some((_, asked, _)) => *asked,
+        None => Asked::List,
+    };
     let answer = ask(&mut registry, asked);
     let _ = registry.into_disk();
     Ok(answer)
@@ -61,10 +62,10 @@ fn tell(
     let mut disk = disk;
     let made = calls(&mut disk).saturating_sub(opened_calls);
     let disk = disk.into_inner();
-    words.push(calls_word(made))?;
-    words.push(is_as_before(alloc, disk.copy()?, at)?)?;
-    words.push("again:")?;
-    words.push(again(alloc, disk, at)?)?;
+    words.push(calls_word(made));
+    words.push(is_as_before(alloc, disk.copy()?, at)?);
+    words.push("again:");
+    words.push(again(alloc, disk, at)?);
     Ok(words)
 }
 
@@ -78,19 +79,13 @@ fn otherwise(
 ) -> Result<Words, AllocError> {
     let (name, asked, _) = step;
     let mut registry = registry;
-    let second = if answer == "S1" {
-        ask(&mut registry, asked)
-    } else {
-        ""
-    };
-    let disk = registry.into_disk();
-    let mut words = Vec::new(alloc);
-    words.push(name)?;
-    words.push(answer)?;
+    let mut words = Words::of(name);
+    words.push(answer);
     if answer == "S1" {
-        words.push("then")?;
-        words.push(second)?;
+        words.push("then");
+        words.push(ask(&mut registry, asked));
     }
+    let disk = registry.into_disk();
     tell(alloc, words, at, disk, opening_calls(alloc, at)?)
 }
 
@@ -102,15 +97,14 @@ fn not_opened(
     step: Step,
     at: usize,
 ) -> Result<Words, AllocError> {
-    let mut words = Vec::new(alloc);
-    words.push("open before")?;
-    words.push(step.0)?;
-    words.push(refusal_word(refusal))?;
+    let mut words = Words::of("open before");
+    words.push(step.0);
+    words.push(refusal_word(refusal));
     tell(alloc, words, at, disk, 0)
 }
 
 // Opens a copy of the disk, so that its next write grows, and gives a command.
-fn go(alloc: Global, disk: Memory, step: Step, at: usize) -> Result<Went, AllocError> {
+fn go(alloc: Global, disk: &Memory, step: Step, at: usize) -> Result<Went, AllocError> {
     match Registry::open(alloc, counted(disk.copy()?)) {
         Ok(mut registry) => {
             let (_, asked, wanted) = step;
@@ -128,7 +122,7 @@ fn go(alloc: Global, disk: Memory, step: Step, at: usize) -> Result<Went, AllocE
 fn steps(alloc: Global, disk: Memory) -> Result<Went, AllocError> {
     let mut disk = disk;
     for (at, step) in STEPS.iter().enumerate() {
-        match go(alloc, disk, *step, at)? {
+        match go(alloc, &disk, *step, at)? {
             Went::On(next) => disk = next,
             Went::Otherwise(words) => return Ok(Went::Otherwise(words)),
         }

@@ -1,9 +1,10 @@
 // A script with every form of line.
 
-use crate::replies::{is_not_done, replies, reply_word};
-use crate::run::{Words, opened};
+use crate::replies::{ends_line, is_not_done, replies, reply_word};
+use crate::run::opened;
 use crate::seen::{before, seen};
 use crate::steps::STEPS;
+use crate::words::Words;
 use binders::Binders;
 use commands::{ScriptFault, run_script_on_disk};
 use samples::{library, program};
@@ -82,7 +83,7 @@ fn run(alloc: Global, disk: Memory, lines: &[u8]) -> Result<Ran, AllocError> {
 // The lines that were done, by their replies.
 fn done_lines(alloc: Global, lines: &[u8], told: &[Vec<u8>]) -> Result<Vec<u8>, AllocError> {
     let mut done = Vec::new(alloc);
-    for (line, reply) in lines.split_inclusive(|byte| *byte == b'\n').zip(told) {
+    for (line, reply) in lines.split_inclusive(ends_line).zip(told) {
         if !is_not_done(reply) {
             done.extend_from_slice(line)?;
         }
@@ -136,6 +137,27 @@ fn end_word(fault: Option<ScriptFault>) -> &'static str {
     }
 }
 
+// What is told of a script that was answered otherwise.
+fn otherwise(
+    alloc: Global,
+    lines: &[u8],
+    told: &[Vec<u8>],
+    fault: Option<ScriptFault>,
+    disk: Memory,
+) -> Result<Words, AllocError> {
+    let mut words = Words::of("script:");
+    for reply in told {
+        words.push(reply_word(reply));
+    }
+    words.push(end_word(fault));
+    words.push(if is_as_without(alloc, lines, told, disk)? {
+        "all else as without these lines"
+    } else {
+        "ALL ELSE OTHERWISE"
+    });
+    Ok(words)
+}
+
 /// Runs the script.
 pub(crate) fn script(alloc: Global, disk: Memory) -> Result<Option<Words>, AllocError> {
     let lines = script_lines(alloc)?;
@@ -144,17 +166,5 @@ pub(crate) fn script(alloc: Global, disk: Memory) -> Result<Option<Words>, Alloc
     if is_whole(&ran, &told) {
         return Ok(None);
     }
-    let mut words = Vec::new(alloc);
-    words.push("script:")?;
-    for reply in &told {
-        words.push(reply_word(reply))?;
-    }
-    words.push(end_word(ran.fault))?;
-    let same = is_as_without(alloc, &lines, &told, ran.disk)?;
-    words.push(if same {
-        "all else as without these lines"
-    } else {
-        "ALL ELSE OTHERWISE"
-    })?;
-    Ok(Some(words))
+    Ok(Some(otherwise(alloc, &lines, &told, ran.fault, ran.disk)?))
 }

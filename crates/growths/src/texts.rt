@@ -1,7 +1,8 @@
 // The text of an image, to a writer that grows.
 
 use crate::asked::{Asked, give};
-use crate::run::{Words, opened};
+use crate::run::opened;
+use crate::words::Words;
 use requests::Reply;
 use sector_disk::Memory;
 use std::alloc::{AllocError, Global};
@@ -19,10 +20,9 @@ pub(crate) fn text(alloc: Global, disk: Memory) -> Result<Option<Words>, AllocEr
     if image.write_text(&mut out).is_ok() {
         return Ok(None);
     }
-    let mut words = Vec::new(alloc);
-    words.push("write_text: the writer's own growth, a fault; again:")?;
+    let mut words = Words::of("write_text: the writer's own growth, a fault; again:");
     let mut whole = Vec::new(alloc);
     let written = image.write_text(&mut whole).is_ok() && whole.starts_with(&out);
-    words.push(if written { "ok" } else { "A FAULT" })?;
+    words.push(if written { "ok" } else { "A FAULT" });
     Ok(Some(words))
 }

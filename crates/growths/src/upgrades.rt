@@ -3,9 +3,9 @@
 use crate::counted::{calls, calls_word, counted};
 use crate::format::refusal_word;
 use crate::old::old_disk;
-use crate::run::Words;
 use crate::seen::{before, seen};
 use crate::steps::STEPS;
+use crate::words::Words;
 use registry::Registry;
 use sector_disk::{Disk, Fuse, Memory, SECTOR_BYTES};
 use std::alloc::{AllocError, Global};
@@ -50,17 +50,16 @@ fn refused(
     old: Memory,
 ) -> Result<Words, AllocError> {
     let (mut disk, mut old) = (disk, old);
-    let mut words = Vec::new(alloc);
-    words.push("upgrade:")?;
-    words.push(refusal_word(refusal))?;
-    words.push(calls_word(calls(&mut disk)))?;
+    let mut words = Words::of("upgrade:");
+    words.push(refusal_word(refusal));
+    words.push(calls_word(calls(&mut disk)));
     let mut disk = disk.into_inner();
     words.push(if are_same(&mut disk, &mut old) {
         "all sectors as before, again:"
     } else {
         "SECTORS OTHERWISE, again:"
-    })?;
-    words.push(again(alloc, disk)?)?;
+    });
+    words.push(again(alloc, disk)?);
     Ok(words)
 }
 
