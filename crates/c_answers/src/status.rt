@@ -1,4 +1,4 @@
-// Statuses: 0, four of the library's own, and refusals by their numbers.
+// Statuses: 0, two of the library's own, and refusals by their numbers.
 ghost use Rattle.std.specs.Prelude.{◌≡◌};
 ghost use Rattle.c_answers.specs.Numbers.{store_number, bind_number, refusal_number};
 ghost use Rattle.c_answers.specs.Numbers.{object_number, file_number, file_number_of};
