@@ -9,7 +9,6 @@
 mod hash_table;
 mod names;
 mod object;
-mod object_file;
 mod parts;
 mod place;
 mod relocation;
@@ -21,7 +20,6 @@ mod tables;
 
 pub use elf_file::{LoadSegments, ObjectRefusal, ProgramHeader};
 pub use object::Object;
-pub use object_file::ObjectFile;
 pub use relocation::{
     R_X86_64_64, R_X86_64_GLOB_DAT, R_X86_64_JUMP_SLOT, R_X86_64_NONE, R_X86_64_RELATIVE,
     Relocation, uses_symbol,

@@ -56,7 +56,7 @@ impl<'a> Object<'a> {
     /// The object that a file is which no test refuses: none of them is made again. A few passes
     /// over the program headers, and one over the dynamic section.
     #[tactic(auto, using(crate::proofs::Accepted::accepted_parts))]
-    pub(crate) fn of_accepted(file: &'a [u8]) -> Object<'a>
+    pub fn of_accepted(file: &'a [u8]) -> Object<'a>
         requires { first_refusal file.now ≡ None }
         ensures { result ≡ file.now }
     {

@@ -76,13 +76,32 @@ good-words : (file : List ℕ) → has_bad_hash_table file ≡ false → has_goo
 unfolding has_bad_hash_table
 good-words file h = good (has_good_words file) (has_ending_walks file && meets_exports file) h
 
--- a file isn't taken without memory
-pub taken_with_memory : (file : List ℕ) → first_file_refusal file ≡ None → ReadNeedsMemory file
+-- a file that is taken is refused by no test of its object,
+pub object_taken : (file : List ℕ) → first_file_refusal file ≡ None → first_refusal file ≡ None
 unfolding first_file_refusal
-taken_with_memory file h = (
-  unrefused (first_refusal file) (none_at (file_tests file) 0 h),
-  inr (good-words file (when_none BadHashTable (has_bad_hash_table file) (none_at (file_tests file) 2 h))),
-)
+object_taken file h = unrefused (first_refusal file) (none_at (file_tests file) 0 h)
+
+table-good : (file : List ℕ) → first_file_refusal file ≡ None → has_bad_hash_table file ≡ false
+unfolding first_file_refusal
+table-good file h = when_none BadHashTable (has_bad_hash_table file) (none_at (file_tests file) 2 h)
+
+admitted-by : (d b : Bool) → d ≡ false → b ≡ false → first_of ((admit.DuplicateDefinition when d) ∷ (admit.BadHashTable when b) ∷ []) ≡ None
+admitted-by false false one two = refl
+admitted-by true b one two = cc
+admitted-by false true one two = cc
+
+-- and by none of admission,
+pub admission_taken : (file : List ℕ) → first_file_refusal file ≡ None → admission_refusal file ≡ None
+unfolding first_file_refusal admission_refusal
+admission_taken file h =
+    let unique = when_none DuplicateDefinition (has_duplicate_definition file) (none_at (file_tests file) 1 h) in
+    admitted-by (has_duplicate_definition file) (has_bad_hash_table file) unique (table-good file h)
+
+pub ruleset accepted_tests = (object_taken, admission_taken)
+
+-- and it isn't taken without memory
+pub taken_with_memory : (file : List ℕ) → first_file_refusal file ≡ None → ReadNeedsMemory file
+taken_with_memory file h = (object_taken file h, inr (good-words file (table-good file h)))
 
 -- for each answer of reading a file
 pub ruleset first_refusals = (taken, of_object, of_names, of_table)

@@ -11,6 +11,7 @@ ghost use Rattle.hash_check.specs.Hash.{elf_hash};
 ghost use Rattle.hash_check.specs.Definition.{definition_of, HasUniqueNames};
 ghost use Rattle.hash_check.specs.HashTable.{HasGoodTable};
 ghost use Rattle.hash_check.specs.Admission.{admission_refusal, IsRefusedBy, Says};
+ghost use Rattle.hash_check.specs.FileRefusal.{first_file_refusal};
 ghost use Rattle.hash_check.specs.Search.{compared};
 ghost use Rattle.hash_check.specs.Soname.{has_bad_soname};
 
@@ -69,12 +70,16 @@ impl<'a> Admitted<'a> {
         Ok(Admitted { object })
     }
 
-    /// The admitted object that an object is which no test of admission refuses.
-    pub(crate) fn of_admitted(object: Object<'a>) -> Admitted<'a>
-        requires { admission_refusal object ≡ None }
-        ensures { result ≡ object.entry }
+    /// The admitted object that a file is which no test refuses: none of them is made again. It
+    /// costs what `Object::of_accepted` costs.
+    #[tactic(auto, using(crate::proofs::Reading::accepted_tests))]
+    pub fn of_accepted(file: &'a [u8]) -> Admitted<'a>
+        requires { first_file_refusal file.now ≡ None }
+        ensures { result ≡ file.now }
     {
-        Admitted { object }
+        Admitted {
+            object: Object::of_accepted(file),
+        }
     }
 
     /// The object.

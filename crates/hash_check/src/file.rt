@@ -1,7 +1,6 @@
 // A file read as an admitted object.
 
 ghost use Rattle.std.specs.Prelude.{◌≡◌, None, IfOk, IfErr, OnOk};
-ghost use Rattle.hash_check.specs.Admission.{admission_refusal};
 ghost use Rattle.hash_check.specs.FileRefusal.{first_file_refusal, IsReadRefusal};
 
 use crate::admitted::Admitted;
@@ -21,18 +20,7 @@ impl<'a> Admitted<'a> {
         // Want of memory is answered only where admission takes memory.
         ensures refused { IfErr result (IsReadRefusal file.now) }
     {
-        Admitted::of_object(alloc, Object::read(file)?)
-    }
-
-    /// Admits an object, with the refusals of reading a file.
-    #[tactic(auto, using(crate::proofs::Reading::first_refusals))]
-    pub(crate) fn of_object(alloc: Global, object: Object<'a>) -> Result<Admitted<'a>, ReadRefusal>
-        ensures ok { OnOk result (first_file_refusal object.entry ≡ None) }
-        ensures admitted { OnOk result (admission_refusal object.entry ≡ None) }
-        ensures same { IfOk result (λ admitted. admitted ≡ object.entry) }
-        ensures refused { IfErr result (IsReadRefusal object.entry) }
-    {
-        match Admitted::admit(alloc, object) {
+        match Admitted::admit(alloc, Object::read(file)?) {
             Ok(admitted) => Ok(admitted),
             Err(AdmitRefusal::DuplicateDefinition) => {
                 Err(ReadRefusal::File(FileRefusal::DuplicateDefinition))

@@ -7,7 +7,6 @@
 #![tactic(auto)]
 
 mod admitted;
-mod admitted_file;
 mod agreement;
 mod buckets;
 mod chains;
@@ -38,7 +37,6 @@ mod table;
 mod walk;
 
 pub use admitted::Admitted;
-pub use admitted_file::AdmittedFile;
 pub use file_refusal::{FileRefusal, ReadRefusal};
 pub use hash::elf_hash;
 pub use numbered::{NumberedSymbol, numbered_symbols};

@@ -3,7 +3,7 @@ use Rattle.std.proofs.Common.{◌≡◌, ◌≤◌, ℕ, Bool, true, false, List
 use Rattle.std.specs.Prelude.{◌&&◌, not, nat_le}
 use Rattle.std.specs.Int.{IsInRange}
 use Rattle.std.specs.List.{list_all}
-use Rattle.std.specs.Option.{option_map, option_map_or}
+use Rattle.std.specs.Option.{option_map_or}
 use Rattle.std.proofs.lemmas.Bool.{false≢true}
 use Rattle.std.proofs.lemmas.Bool.Decides.{nat_tests}
 use Rattle.std.proofs.lemmas.List.Sums.{AllPass-from_list_all}
@@ -14,22 +14,14 @@ use Rattle.elf_file.specs.declared.refusal.ObjectRefusal.TheVariants.{TooShort, 
 use Rattle.elf_file.proofs.FirstOf.{none_at, when_none}
 use Rattle.elf_dynamic.specs.Refusal.{refusals, first_refusal}
 use Rattle.elf_dynamic.specs.Strings.{soname}
-use Rattle.hash_check.specs.FileRefusal.{first_file_refusal, file_tests}
 use Rattle.hash_check.specs.Soname.{has_bad_soname, is_library_name, is_name_byte}
+use Rattle.hash_check.proofs.Reading.{object_taken}
 use Rattle.hash_check.specs.declared.file_refusal.FileRefusal.TheVariants.{Object}
 use Rattle.roots.specs.Entry.{IsNameByte}
 use Rattle.store.specs.Names.{IsName, IsFileSize}
 use Rattle.requests.specs.Library.{IsLibrary, library_tests, library_refusal}
 use Rattle.states.specs.State.{Library}
 use Rattle.requests.proofs.Sonames.{file_taken, short_file}
-
-map_none : {A B : Type 0} (f : A → B) (o : Option A) → option_map f o ≡ None → o ≡ None
-map_none f None h = refl
-map_none f (Some a) h = cc
-
-object_taken : (file : List ℕ) → first_file_refusal file ≡ None → first_refusal file ≡ None
-unfolding first_file_refusal
-object_taken file h = map_none Object (first_refusal file) (none_at (file_tests file) 0 h)
 
 headers_taken : (file : List ℕ) → first_refusal file ≡ None → header_refusal file ≡ None
 unfolding first_refusal file_refusal

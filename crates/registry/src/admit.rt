@@ -11,7 +11,7 @@ ghost use Rattle.requests.specs.Library.{IsLibrary};
 ghost use Rattle.store.specs.IsRead.{IsRead, file_sectors};
 ghost use Rattle.registry.specs.inside.Reading.{IsReadRefusal};
 
-use hash_check::{Admitted, AdmittedFile, ReadRefusal};
+use hash_check::{Admitted, ReadRefusal};
 use sector_disk::Disk;
 use std::alloc::Global;
 use store::{Store, StoreRefusal};
@@ -25,32 +25,6 @@ fn is_library(object: &Admitted<'_>, name: &[u8]) -> bool
     match object.library_name() {
         Ok(soname) => soname == name,
         Err(_) => false,
-    }
-}
-
-/// Admits a file as a library of this name: S5 where it is none.
-pub(crate) fn admit_file(
-    alloc: Global,
-    name: &[u8],
-    bytes: Vec<u8>,
-) -> Result<AdmittedFile, StoreRefusal>
-    ensures ok { OnOk result (IsLibrary (record { name = name.now; bytes = bytes.items })) }
-    ensures same { IfOk result (λ file. file ≡ bytes.items) }
-    ensures damaged { IfErr result (λ e. e ≡ StoreRefusal.Damaged
-        → IsLibrary (record { name = name.now; bytes = bytes.items }) → ⊥) }
-    ensures refusals { IfErr result (λ e. (e ≡ StoreRefusal.Damaged)
-        ⊎ (e ≡ StoreRefusal.OutOfMemory)) }
-{
-    match AdmittedFile::read(alloc, bytes) {
-        Ok(file) => {
-            if is_library(&file.admitted(), name) {
-                Ok(file)
-            } else {
-                Err(StoreRefusal::Damaged)
-            }
-        }
-        Err(ReadRefusal::File(_)) => Err(StoreRefusal::Damaged),
-        Err(ReadRefusal::OutOfMemory) => Err(StoreRefusal::OutOfMemory),
     }
 }
 

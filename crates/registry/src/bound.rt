@@ -89,7 +89,7 @@ fn bind_owned(
     let mut image = Image::empty(alloc).with(alloc, &objects[0], program.object())?;
     let mut place = 1;
     for file in files {
-        image = image.with(alloc, &objects[place], &file.object())?;
+        image = image.with(alloc, &objects[place], file.admitted().object())?;
         place += 1;
     }
     Ok(image)

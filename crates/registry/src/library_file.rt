@@ -3,9 +3,8 @@ ghost use Rattle.std.specs.Prelude.{◌≡◌, ◌⊎◌, IfOk, IfErr};
 ghost use Rattle.requests.specs.Binding.{object_of};
 ghost use Rattle.requests.specs.Library.{IsLibrary};
 
-use crate::admit::admit_file;
-use elf_dynamic::Object;
-use hash_check::AdmittedFile;
+use crate::admit::see_library;
+use hash_check::Admitted;
 use names::Name;
 use scope::Library;
 use std::alloc::Global;
@@ -17,7 +16,7 @@ use store::StoreRefusal;
 #[derive(Drop)]
 pub(crate) struct LibraryFile {
     name: Name,
-    file: AdmittedFile,
+    bytes: Vec<u8>,
 }
 
 impl Model for LibraryFile {
@@ -26,9 +25,9 @@ impl Model for LibraryFile {
 
     ghost Value = { Library };
 
-    ghost view = { λ f. record { name = f.name; bytes = f.file } };
+    ghost view = { λ f. record { name = f.name; bytes = f.bytes.items } };
 
-    ghost invariant = { λ f. IsLibrary (record { name = f.name; bytes = f.file }) };
+    ghost invariant = { λ f. IsLibrary (record { name = f.name; bytes = f.bytes.items }) };
 }
 
 impl LibraryFile {
@@ -46,9 +45,9 @@ impl LibraryFile {
         ensures refusals { IfErr result (λ e. (e ≡ StoreRefusal.Damaged)
             ⊎ (e ≡ StoreRefusal.OutOfMemory)) }
     {
-        let file = admit_file(alloc, name, bytes)?;
+        see_library(alloc, name, &bytes)?;
         let name = Name::copy_of(alloc, name)?;
-        Ok(LibraryFile { name, file })
+        Ok(LibraryFile { name, bytes })
     }
 
     /// Its name.
@@ -58,20 +57,20 @@ impl LibraryFile {
         self.name.as_bytes()
     }
 
-    /// The object that it is. It costs what `ObjectFile::object` costs.
-    pub(crate) fn object(&self) -> Object<'_>
+    /// The admitted object that it is. It costs what `Object::of_accepted` costs.
+    pub(crate) fn admitted(&self) -> Admitted<'_>
         ensures { result ≡ self.now.bytes }
     {
-        self.file.object()
+        Admitted::of_accepted(&self.bytes)
     }
 
-    /// The library that it is. It costs what `ObjectFile::object` costs.
+    /// The library that it is. It costs what `Object::of_accepted` costs.
     pub(crate) fn library(&self) -> Library<'_>
         ensures { result ≡ object_of self.now }
     {
         Library {
             name: self.name.as_bytes(),
-            object: self.file.admitted(),
+            object: self.admitted(),
         }
     }
 }

@@ -138,8 +138,7 @@ impl Walk {
         let position = self.next_position();
         let file = read_library(alloc, store, source, position)?;
         self.files.reserve(1)?;
-        self.needs
-            .add_needed(alloc, store, source, file.name(), &file.object())?;
+        self.needs.add_needed(alloc, store, source, file.name(), file.admitted().object())?;
         match self.files.push(file) {
             Ok(()) => Ok(()),
             Err(_) => unreachable!(),

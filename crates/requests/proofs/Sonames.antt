@@ -1,7 +1,7 @@
 -- What holds of a library's file.
-use Rattle.std.proofs.Common.{◌≡◌, ◌≤◌, ℕ, Bool, true, false, List, [], ◌∷◌, length, Some, None, Option, refl, sym, ap, arith, inr}
-use Rattle.std.specs.Prelude.{◌&&◌, ◌||◌, not, nat_lt, unwrap_or}
-use Rattle.std.specs.Option.{option_map, option_map_or}
+use Rattle.std.proofs.Common.{◌≡◌, ◌≤◌, ℕ, Bool, true, false, List, [], ◌∷◌, length, Some, None, Option, refl, sym, ap, arith}
+use Rattle.std.specs.Prelude.{◌||◌, not, nat_lt, unwrap_or}
+use Rattle.std.specs.Option.{option_map_or}
 use Rattle.std.proofs.lemmas.Bool.Decides.{nat_tests}
 use Rattle.elf_file.specs.Constant.{LARGEST_FILE}
 use Rattle.elf_file.specs.FirstOf.{◌when◌, first_of}
@@ -11,17 +11,13 @@ use Rattle.elf_file.specs.declared.refusal.ObjectRefusal.TheVariants.{BadSoname,
 use Rattle.elf_file.proofs.FirstOf.{none_at, when_none}
 use Rattle.elf_dynamic.specs.Refusal.{refusals, first_refusal}
 use Rattle.elf_dynamic.specs.Strings.{soname}
-use Rattle.hash_check.specs.Admission.{has_bad_hash_table, has_good_words, has_ending_walks, meets_exports}
-use Rattle.hash_check.specs.FileRefusal.{first_file_refusal, file_tests, ReadNeedsMemory}
+use Rattle.hash_check.specs.FileRefusal.{first_file_refusal, ReadNeedsMemory}
 use Rattle.hash_check.specs.Soname.{has_bad_soname, is_library_name}
+use Rattle.hash_check.proofs.Reading.{object_taken, taken_with_memory}
 use Rattle.hash_check.specs.declared.file_refusal.FileRefusal.{FileRefusal}
-use Rattle.hash_check.specs.declared.file_refusal.FileRefusal.TheVariants.{Object, BadHashTable}
+use Rattle.hash_check.specs.declared.file_refusal.FileRefusal.TheVariants.{Object}
 use Rattle.requests.specs.Library.{IsLibrary, library_tests, library_refusal, name_of}
 use Rattle.states.specs.State.{Library}
-
-map_none : {A B : Type 0} (f : A → B) (o : Option A) → option_map f o ≡ None → o ≡ None
-map_none f None h = refl
-map_none f (Some a) h = cc
 
 pub file_taken : (file : List ℕ) → library_refusal file ≡ None → first_file_refusal file ≡ None
 unfolding library_refusal
@@ -37,27 +33,9 @@ badly_named file h bad =
     let fine = soname_fine file h in
     cc
 
-object_taken : (file : List ℕ) → first_file_refusal file ≡ None → first_refusal file ≡ None
-unfolding first_file_refusal
-object_taken file h = map_none Object (first_refusal file) (none_at (file_tests file) 0 h)
-
-table_fine : (file : List ℕ) → first_file_refusal file ≡ None → has_bad_hash_table file ≡ false
-unfolding first_file_refusal
-table_fine file h = when_none BadHashTable (has_bad_hash_table file) (none_at (file_tests file) 2 h)
-
-words_good : (file : List ℕ) → has_bad_hash_table file ≡ false → has_good_words file ≡ true
-unfolding has_bad_hash_table
-words_good file h = by (has_good_words file) (has_ending_walks file && meets_exports file) h
-  where
-    by : (a b : Bool) → not (a && b) ≡ false → a ≡ true
-    by true b h = refl
-    by false b h = cc
-
 -- a file that is taken was admitted, and that takes memory
 pub taken_memory : (file : List ℕ) → library_refusal file ≡ None → ReadNeedsMemory file
-taken_memory file h =
-    let taken = file_taken file h in
-    (object_taken file taken, inr (words_good file (table_fine file taken)))
+taken_memory file h = taken_with_memory file (file_taken file h)
 
 -- a library has its SONAME
 pub named_so : (file : List ℕ) → library_refusal file ≡ None → soname file ≡ Some (name_of file)

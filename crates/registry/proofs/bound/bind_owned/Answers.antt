@@ -61,8 +61,8 @@ with-requires-in-loop-file-clause-fits c =
     let inside : place < length objects = omega (arith, turn.0, c.loop-file.invariant.place, count-walked program c.args.base files) in
     let among : place < length all = omega (arith, are.counted, inside) in
     let bound : IsBound objects place b = subst (IsBound objects place) (sym c.index-in-loop-file.ensures) (are.each place b among) in
-    let same = c.object-in-loop-file.ensures ∙ file-walked program c.args.base files (length c.loop-file.yielded) f turn.0 turn.1 ∙ ap (file_at objects) (sym c.loop-file.invariant.place) in
-    next-fits objects place b c.object-in-loop-file.result inside are.stacked bound same
+    let same = c.object-in-loop-file.ensures.same ∙ c.admitted.ensures ∙ file-walked program c.args.base files (length c.loop-file.yielded) f turn.0 turn.1 ∙ ap (file_at objects) (sym c.loop-file.invariant.place) in
+    next-fits objects place b c.object-in-loop-file.result.now inside are.stacked bound same
 
 pub with-requires-in-loop-file-clause-above : goal.with-requires-in-loop-file-clause-above
 with-requires-in-loop-file-clause-above c =
@@ -82,8 +82,8 @@ with-requires-in-loop-file-clause-above c =
     let inside : place < length objects = omega (arith, turn.0, c.loop-file.invariant.place, count-walked program c.args.base files) in
     let among : place < length all = omega (arith, are.counted, inside) in
     let bound : IsBound objects place b = subst (IsBound objects place) (sym c.index-in-loop-file.ensures) (are.each place b among) in
-    let same = c.object-in-loop-file.ensures ∙ file-walked program c.args.base files (length c.loop-file.yielded) f turn.0 turn.1 ∙ ap (file_at objects) (sym c.loop-file.invariant.place) in
-    next-above objects place b c.object-in-loop-file.result inside are.stacked bound same c.loop-file.image c.loop-file.invariant.filled
+    let same = c.object-in-loop-file.ensures.same ∙ c.admitted.ensures ∙ file-walked program c.args.base files (length c.loop-file.yielded) f turn.0 turn.1 ∙ ap (file_at objects) (sym c.loop-file.invariant.place) in
+    next-above objects place b c.object-in-loop-file.result.now inside are.stacked bound same c.loop-file.image c.loop-file.invariant.filled
 
 pub loop-file-preserved : goal.loop-file-preserved
 loop-file-preserved c =
@@ -104,11 +104,11 @@ loop-file-preserved c =
     let inside : place < length objects = omega (arith, turn.0, c.loop-file.invariant.place, count-walked program c.args.base files) in
     let among : place < length all = omega (arith, are.counted, inside) in
     let bound : IsBound objects place b = subst (IsBound objects place) (sym c.index-in-loop-file.ensures) (are.each place b among) in
-    let same = c.object-in-loop-file.ensures ∙ file-walked program c.args.base files (length c.loop-file.yielded) f turn.0 turn.1 ∙ ap (file_at objects) (sym c.loop-file.invariant.place) in
+    let same = c.object-in-loop-file.ensures.same ∙ c.admitted.ensures ∙ file-walked program c.args.base files (length c.loop-file.yielded) f turn.0 turn.1 ∙ ap (file_at objects) (sym c.loop-file.invariant.place) in
     let e = c.in_ok-image-2.ensures in
     record {
       place = omega (arith, c.loop-file.invariant.place, length-append done (f ∷ []));
-      filled = filled-more objects place b c.object-in-loop-file.result inside are.stacked bound same c.loop-file.image c.in_ok-image-2.image c.loop-file.invariant.filled e.objects e.headings e.bytes;
+      filled = filled-more objects place b c.object-in-loop-file.result.now inside are.stacked bound same c.loop-file.image c.in_ok-image-2.image c.loop-file.invariant.filled e.objects e.headings e.bytes;
     }
 
 pub returns-clause-ok : goal.returns-clause-ok

@@ -38,5 +38,5 @@ returns-clause-walked g c program taken offers so_far =
     (λ t at. c.in_ok-file.ensures.ok t (offers.files t at) ∙ ap (λ (k : ℕ). get_or t.libraries k no_library) c.next_position-position.ensures.next)
     c.add_needed.new.self
     (c.in_ok-add_needed.ensures.ok taken.entries has offers.own
-    ∙ ap (λ (m : List ℕ). more_needs (entry_names taken.entries) before m (needed c.object.result)) c.name.ensures
-    ∙ ap (λ (b : List ℕ). more_needs (entry_names taken.entries) before f.name (needed b)) c.object.ensures))
+    ∙ ap (λ (m : List ℕ). more_needs (entry_names taken.entries) before m (needed c.object.result.now)) c.name.ensures
+    ∙ ap (λ (b : List ℕ). more_needs (entry_names taken.entries) before f.name (needed b)) (c.object.ensures.same ∙ c.admitted.ensures)))
