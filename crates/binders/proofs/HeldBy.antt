@@ -1,8 +1,7 @@
 -- How often binders in slots hold each version.
 use Rattle.std.proofs.Common.{◌≡◌, ℕ, ◌+◌, ◌<◌, ◌≤◌, ◌==◌, List, [], ◌∷◌, length, get_or, set, Option, Some, None, if◌then◌else◌, Bool, true, refl, ap, arith}
-use Rattle.std.specs.Prelude.{All, is_none, replicate}
+use Rattle.std.specs.Prelude.{All, is_none}
 use Rattle.std.proofs.lemmas.Bool.Decides.{Decides-eqb}
-use Rattle.std.proofs.lemmas.List.Folds.{sum_by-replicate}
 use Rattle.std.proofs.lemmas.List.Quantifiers.{position-Some}
 use Rattle.std.proofs.lemmas.List.Elements.{All-head, All-tail}
 use Rattle.std.proofs.lemmas.List.Sums.{get_or-le-sum_by, sum_by-cons, sum_by-set}
@@ -21,10 +20,6 @@ held_set slots slot o sector lt = sum_by-set (held_in sector) slots slot o None 
 -- the binder in a slot holds no more than all do
 pub held_within : (slots : List (Option Binding)) (slot : ℕ) (sector : ℕ) → slot < length slots → held_in sector (get_or slots slot None) ≤ held_by slots sector
 held_within slots slot sector lt = get_or-le-sum_by (held_in sector) slots slot None lt
-
--- without a binder nothing is held
-pub held_none : (count sector : ℕ) → held_by (replicate count None) sector ≡ 0
-held_none count sector = omega (arith, sum_by-replicate (held_in sector) count None)
 
 pub held_nobody : (slots : List (Option Binding)) → All (λ slot. slot ≡ None) slots → (sector : ℕ) → held_by slots sector ≡ 0
 held_nobody [] none sector = refl

@@ -99,35 +99,6 @@ pub stays_at : {D : Type 0} (facts : D → DiskFacts) (b : Slotted D) → StaysA
 stays_at facts b = record { same = λ s at. at; kept = (refl, refl, refl); holders = λ sector. refl; alone = λ alone. alone }
 
 module _ {D : Type 0} (facts : D → DiskFacts) (b : Slotted D) (program : List ℕ) (base : ℕ) where
-  -- after a failed write or sync,
-  pub failed_in : IsTrue b.registry.failed → BeginsIn facts b b program base (Err Reopen)
-  failed_in failed = record {
-    ok = λ s flights at on. on;
-    stays = stays_at facts b;
-    slots = tt;
-    err = (refl, λ flights on. on);
-    failed = λ failed. refl;
-    full = λ full. refl;
-    disk = refl;
-    reopen = (λ is. failed, λ is. refl);
-    no_slot = (λ is. absurd cc, λ both. absurd (false≢true (sym both.0 ∙ failed)));
-    refusals = inl refl;
-  }
-
-  -- and where a binder lives in each slot
-  pub full_in : IsFalse b.registry.failed → lowest_free b.slots ≡ None → BeginsIn facts b b program base (Err NoSlot)
-  full_in usable full = record {
-    ok = λ s flights at on. on;
-    stays = stays_at facts b;
-    slots = tt;
-    err = (refl, λ flights on. on);
-    failed = λ failed. refl;
-    full = λ full. refl;
-    disk = refl;
-    reopen = (λ is. absurd cc, λ failed. absurd (false≢true (sym usable ∙ failed)));
-    no_slot = (λ is. (usable, full), λ both. refl);
-    refusals = inr (inl refl);
-  }
 
 module _ {D : Type 0} (facts : D → DiskFacts) (old : Opened D) (slots : List (Option Binding)) (slot : ℕ) where
   abbrev before : Slotted D
@@ -309,9 +280,6 @@ module _ {D : Type 0} (facts : D → DiskFacts) (old : Opened D) (slots : List (
       mid_held : IsHeld mid slots
       mid_held sector = omega (arith, held sector, ap (λ table. holders_of table sector) advances.kept.2)
 
-      pub over_held : IsHeld new (set slots slot None)
-      over_held = left_held mid new c advances.handles ends mid_held
-
       disk_is : new.disk ≡ mid.disk
       disk_is = ends.let_go.kept.0
 
@@ -344,8 +312,6 @@ module _ {D : Type 0} (facts : D → DiskFacts) (old : Opened D) (slots : List (
 
     -- where it is cancelled
     module _ (new : Opened D) (held : IsHeld old slots) (ends : Ends facts old new b) where
-      pub cancelled_held : IsHeld new (set slots slot None)
-      cancelled_held = left_held old new b refl ends held
 
       pub cancelled_in : CancelsIn facts before (with_slots new (set slots slot None)) slot Done
       cancelled_in = record {

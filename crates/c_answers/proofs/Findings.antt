@@ -1,6 +1,6 @@
 -- What is found of libraries, of which one more is put behind others.
-use Rattle.std.proofs.Common.{◌≡◌, ◌≢◌, ◌⊎◌, inl, inr, ℕ, ◌+◌, ◌<◌, ◌≤◌, List, [], ◌∷◌, ◌++◌, length, get_or, set, take}
-use Rattle.std.proofs.Common.{refl, sym, ◌∙◌, ap, subst, arith, below_more, get_or-set_other, get_or-set_same}
+use Rattle.std.proofs.Common.{◌≡◌, ◌≢◌, inl, inr, ℕ, ◌+◌, ◌<◌, ◌≤◌, List, [], ◌∷◌, ◌++◌, length, get_or, set, take}
+use Rattle.std.proofs.Common.{sym, ◌∙◌, ap, subst, arith, below_more, get_or-set_other, get_or-set_same}
 use Rattle.std.proofs.lemmas.List.{length-append}
 use Rattle.states.specs.State.{Library, State}
 use Rattle.store.specs.Stands.{no_library}
@@ -21,9 +21,6 @@ pub record TellFirst (libraries : List Library) (count : ℕ) (findings : List F
       → IsFoundAt (name_start libraries k) (get_or libraries k no_library) (get_or findings k d)
   pub at : end ≡ name_start libraries count
   pub names : take end bytes ≡ library_names (take count libraries)
-
-pub tell_none : (libraries : List Library) (findings : List FindingPlace) (names : List ℕ) → TellFirst libraries 0 findings names 0
-tell_none libraries findings names = record { each = λ k lt. absurd (omega (arith, lt)); at = refl; names = refl }
 
 -- One library more: how many bytes the names take then, and what is told.
 module _ (libraries : List Library) (i : ℕ) where

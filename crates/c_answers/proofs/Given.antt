@@ -147,9 +147,6 @@ no_listing l e = cc
 pub no_image : (image : MemoryImage) → reply.Bound image ≡ reply.Done → ⊥
 no_image image e = cc
 
-pub no_refusal : (why : Refusal) → reply.Refused why ≡ reply.Done → ⊥
-no_refusal why e = cc
-
 -- A registry that was made has its plan, where the status is 0,
 pub format_given : (bytes plan text : List ℕ) (answer : Answer) (status : ℕ) → status ≡ 0 → IsFormatAnswered bytes plan text answer status → IsFormatPlan bytes plan answer
 format_given bytes plan text answer status zero (inl made) = record { steps = made.0; formatted = made.1; plan = planned_done made.0 plan text answer status zero made.2 }

@@ -17,7 +17,7 @@ use requests::{Refusal, library_name};
 use sector_disk::Disk;
 use std::alloc::{AllocError, Global};
 
-/// What is found of a file under this name.
+/// What is found of a file under this name. It fails for want of memory alone.
 pub fn finding_of(alloc: Global, name: &[u8], file: &[u8]) -> Result<Finding, AllocError>
     ensures finding { IfOk result (IsFinding (record { name = name.now; bytes = file.now })) }
     ensures read { IfOk result (λ finding. finding ≢ Finding.Unreadable) }
@@ -35,6 +35,7 @@ pub fn finding_of(alloc: Global, name: &[u8], file: &[u8]) -> Result<Finding, Al
 
 impl<D: Disk> Contents<D> {
     /// Reads the library at this position, each of its sectors once, and tells what is found of it.
+    /// It fails for want of memory alone.
     pub fn check_at(&mut self, alloc: Global, position: usize) -> Result<Finding, AllocError>
         requires { position < length self.old.entries }
         ensures read { IsRead D.facts self.old self.new }

@@ -74,10 +74,6 @@ loads_before_most file (suc k) =
     let m : cond (is_load (program_header file k)) 1 0 ≤ 1 = elim (is_load (program_header file k)) as (λ b. cond b 1 0 ≤ 1) [ true ↦ omega arith | false ↦ omega arith ] in
     omega (arith, loads_before_more file k, loads_before_most file k, ap (loads_before file) e, m)
 
--- where there is a PT_LOAD there is a program header
-pub some_header : (file : List ℕ) (i : ℕ) → i < length (loads file) → 0 < header_count file
-some_header file i lt = omega (arith, lt, loads_before_all file, loads_before_most file (header_count file))
-
 -- more program headers have no fewer PT_LOADs before them
 pub loads_before_rises : (file : List ℕ) (i d : ℕ) → loads_before file i ≤ loads_before file (i + d)
 loads_before_rises file i zero = omega (arith, ap (loads_before file) (add-zero i))

@@ -32,9 +32,6 @@ length-tables (h ∷ rest) =
     let ih = length-tables rest in
     omega (arith, l, length-header_bytes h, ih)
 
-pub length-file_header : (entry count : ℕ) → length (file_header entry count) ≡ 64
-length-file_header entry count = refl
-
 pub length-front_of : (entry : ℕ) (table : List ProgramHeader) → length (front_of entry table) ≡ headers_size (length table)
 unfolding front_of
 length-front_of entry table =

@@ -68,16 +68,6 @@ all-before file symbols n first s endings e o made k lt = elim (cases_lt k first
   | inr late ↦ Any-push (IsIn k) endings e (omega (arith, late, made.first_is), omega (arith, lt, made.past_is))
 ]
 
--- before the first name
-pub open-none : (file symbols : List ℕ) (s : Stretch) → IsStretch file s → IsOpen file symbols 0 0 s []
-open-none file symbols s h = record {
-  stretch = h;
-  order = omega arith;
-  begin = λ k low lt. absurd (omega (arith, lt));
-  each = λ k d lt. absurd (omega (arith, lt));
-  before = λ k lt. absurd (omega (arith, lt));
-}
-
 -- one more name in the same stretch
 pub open-on : (file symbols : List ℕ) (n first : ℕ) (s next : Stretch) (endings : List Ending) → IsOpen file symbols n first s endings
     → IsStretch file next → BeginsIn file (get_or symbols n 0) next → s.from ≡ next.from → IsOpen file symbols (n + 1) first next endings
@@ -111,10 +101,4 @@ pub gathered : (file symbols : List ℕ) (n first : ℕ) (s : Stretch) (endings 
 gathered file symbols n first s endings e valid all o made = record {
   each = All-push (IsEnding (texts file symbols)) endings e o.each (closed file symbols n first s endings e valid (omega arith) o made);
   all = λ k lt. all-before file symbols n first s endings e o made k (omega (arith, lt, all, length-map symbols (name_of file)));
-}
-
-pub none-gathered : (file symbols : List ℕ) → length symbols ≡ 0 → AreEndings (texts file symbols) []
-none-gathered file symbols none = record {
-  each = λ k d lt. absurd (omega (arith, lt));
-  all = λ k lt. absurd (omega (arith, lt, none, length-map symbols (name_of file)));
 }

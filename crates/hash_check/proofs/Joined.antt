@@ -9,9 +9,6 @@ use Rattle.hash_check.specs.inside.Endings.{back, string_back, IsIn, IsEnding, A
 use Rattle.hash_check.specs.inside.Numbered.{behind}
 use Rattle.hash_check.specs.declared.endings.Ending.{Ending}
 
-pub endings-none : AreEndings [] []
-endings-none = record { each = λ k d lt. absurd (omega (arith, lt)); all = λ k lt. absurd (omega (arith, lt)) }
-
 module _ (names own : List (List ℕ)) where
   back-front : (k : ℕ) → k < length names → back (names ++ own) k ≡ back names k
   unfolding back

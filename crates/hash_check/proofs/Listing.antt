@@ -1,5 +1,5 @@
 -- The symbols of several objects and their names while they are gathered.
-use Rattle.std.proofs.Common.{◌≡◌, ℕ, ◌<◌, ◌≤◌, ◌+◌, ◌-◌, List, [], ◌++◌, length, map, arith, refl, ◌∙◌, sym, ap, inl, inr, subst, get_or}
+use Rattle.std.proofs.Common.{◌≡◌, ℕ, ◌<◌, ◌≤◌, ◌+◌, ◌-◌, List, [], ◌++◌, length, map, arith, ◌∙◌, sym, ap, inl, inr, subst, get_or}
 use Rattle.std.specs.List.{All}
 use Rattle.std.specs.List.Sorted.{IsPermutation}
 use Rattle.std.proofs.Math.ListN.{get_or-append}
@@ -37,16 +37,6 @@ has-all file own moved = λ i low high.
     let at : get_or (all_symbols file) (i - 1) 0 ≡ 1 + (i - 1) = get_or-range_with_len 1 n (i - 1) 0 room in
     let same : 1 + (i - 1) ≡ i = omega arith in
     subst (λ (j : ℕ). (k : ℕ) × (k < length own) × (get_or own k 0 ≡ j)) (at ∙ same) (there (i - 1) 0 (omega (arith, room, length-range_with_len 1 (length (symbols file) - 1))))
-
-pub gathered-none : (files : List (List ℕ)) → AreGathered files 0 [] []
-gathered-none files = record {
-  are = record {
-    each = λ k lt. absurd (omega (arith, lt));
-    every = λ place i lt low high. absurd (omega (arith, lt));
-    rising = λ j k le lt. absurd (omega (arith, lt));
-  };
-  names_are = refl;
-}
 
 module _ (n : ℕ) (all : List NumberedSymbol) (own : List ℕ) where
   abbrev both : List NumberedSymbol

@@ -1,10 +1,10 @@
 -- How a table of names is filled, and what the numbers of its cells tell.
-use Rattle.std.proofs.Common.{◌≡◌, ◌≢◌, ℕ, ◌<◌, ◌≤◌, ◌+◌, ◌-◌, List, [], ◌∷◌, ◌++◌, length, arith, ◌∙◌, sym, ap, get_or, subst, inl, inr}
+use Rattle.std.proofs.Common.{◌≡◌, ℕ, ◌<◌, ◌+◌, ◌-◌, List, [], ◌∷◌, ◌++◌, length, arith, ◌∙◌, sym, ap, get_or, subst, inl, inr}
 use Rattle.std.proofs.lemmas.List.{get_or_append_left}
 use Rattle.std.proofs.lemmas.Bool.{cases_lt}
 use Rattle.std.proofs.Math.Seq.{get_or-append_seam}
 use Rattle.hash_check.specs.inside.Key.{key_of}
-use Rattle.hash_check.specs.Numbers.{nth_text, AreNumbers}
+use Rattle.hash_check.specs.Numbers.{nth_text}
 use Rattle.hash_check.specs.inside.NameTable.{home, home_of, Reaches, Stands, IsPut}
 use Rattle.hash_check.proofs.Cells.{one-place}
 
@@ -26,14 +26,3 @@ module _ (names : List (List ℕ)) (cells : List ℕ) where
       let moved : Reaches (nth_text names) cells (nth_text names k) (home_of names cells k) s.place =
       subst (λ x. Reaches (nth_text names) cells x (home (length cells) (key_of x)) s.place) same s.is in
       sym s.cell ∙ ap (λ p. get_or cells p 0) (one-place (nth_text names) cells (nth_text names k) (home_of names cells k) t.place s.place t.is moved) ∙ t.cell
-
-  -- the numbers of the cells in which all names stand
-  pub numbers-from-table : (numbers : List ℕ) → length numbers ≡ length names → ((k : ℕ) → get_or cells k 0 ≤ length names)
-      → ((k : ℕ) → k < length names → Stands names cells k (get_or numbers k 0)) → AreNumbers names numbers
-  numbers-from-table numbers size few stand = record {
-    size = size;
-    some = λ k lt. let s = stand k lt in let taken : get_or cells s.place 0 ≢ 0 = s.is.taken in let cell : get_or cells s.place 0 ≡ get_or numbers k 0 = s.cell in omega (arith, taken, cell);
-    within = λ k lt. let s = stand k lt in let cell : get_or cells s.place 0 ≡ get_or numbers k 0 = s.cell in omega (arith, cell, few s.place);
-    same = λ k lt. let s = stand k lt in ap (λ c. nth_text names (c - 1)) (sym s.cell) ∙ s.is.same;
-    one = λ j k lj lk same. stand-together j k (get_or numbers j 0) (get_or numbers k 0) same (stand j lj) (stand k lk);
-  }

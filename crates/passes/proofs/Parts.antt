@@ -42,9 +42,6 @@ module _ {singles front back : List SingleSector} (parts : AreParts singles fron
   pub places_whole : single_places front ++ single_places back ≡ single_places singles
   places_whole = sym (map-append (λ (s : SingleSector). s.at) front back) ∙ ap single_places parts.whole
 
-  pub count_whole : length front + length back ≡ length singles
-  count_whole = sym (length-append front back) ∙ ap length parts.whole
-
   pub front_among : (k : ℕ) → Contains (single_places front) k → Contains (single_places singles) k
   front_among k found = subst (λ l. Contains l k) places_whole (Contains-append_left (single_places front) (single_places back) k found)
 

@@ -4,7 +4,7 @@ use Rattle.std.specs.List.{Contains}
 use Rattle.std.specs.Prelude.{Result}
 use Rattle.std.proofs.lemmas.Bool.{cases_lt}
 use Rattle.std.proofs.lemmas.List.{get_or-map, length-map, get_or-set_same, get_or-set_other}
-use Rattle.std.proofs.lemmas.List.Elements.{Contains-get_or, All-get_or, All-from_get_or}
+use Rattle.std.proofs.lemmas.List.Elements.{Contains-get_or, All-get_or}
 use Rattle.sector_disk.specs.Disk.{Sector, sector, DiskFacts, HoldsNow, IsCall, IsWrite, LeavesOnly, SameBut, IsMixtureBut}
 use Rattle.sector_disk.proofs.Writes.{write_leaves, write_others}
 use Rattle.extents.specs.Extent.{AreDistinct}
@@ -37,13 +37,6 @@ pub record Progress (first current : DiskFacts) (singles : List SingleSector) (d
   pub leaves : IsTrue first.honest → LeavesOnly first current (IsMixtureBut (Contains (single_places singles)) first)
   pub others : IsTrue first.honest → SameBut (Contains (single_places singles)) first.now current.now
   pub holds : IsTrue first.honest → (i : ℕ) → i < done → sector current.now (get_or singles i no_single).at ≡ (get_or singles i no_single).content
-
--- once all are written, each holds its content
-pub all_hold : {first current : DiskFacts} {singles : List SingleSector} {done : ℕ} → Progress first current singles done → length singles ≤ done
-    → IsTrue first.honest → HoldsSingles current.now singles
-all_hold {current = current} {singles = singles} so_far le honest =
-    All-from_get_or (λ (s : SingleSector). sector current.now s.at ≡ s.content) singles no_single
-    (λ i lt. so_far.holds honest i (omega (arith, lt, le)))
 
 module _ {first old new : DiskFacts} {singles : List SingleSector} {done : ℕ} {T E : Type 0} {result : Result T E}
     (so_far : Progress first old singles done) (lt : done < length singles) (call : IsCall old new result) where

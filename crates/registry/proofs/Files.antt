@@ -3,8 +3,8 @@ use Rattle.std.proofs.Common.{◌≡◌, ◌<◌, ◌≤◌, ℕ, ◌+◌, List,
 use Rattle.std.proofs.lemmas.List.{get_or_default}
 use Rattle.std.proofs.lemmas.List.Sums.{sum_by_more}
 use Rattle.std.proofs.lemmas.Bool.{cases_lt}
-use Rattle.sector_disk.specs.Disk.{DiskFacts, Mixture, LeavesOnly, AreCallsExactly}
-use Rattle.sector_disk.proofs.Moments.{goes_on, weaken, left_now, exactly_none, exactly_sum}
+use Rattle.sector_disk.specs.Disk.{DiskFacts, AreCallsExactly}
+use Rattle.sector_disk.proofs.Moments.{exactly_sum}
 use Rattle.store.specs.declared.placed_entry.PlacedEntry.{PlacedEntry}
 use Rattle.states.specs.State.{Library, State}
 use Rattle.store.specs.Stands.{no_library}
@@ -12,7 +12,7 @@ use Rattle.roots.specs.declared.version.Version.{Version}
 use Rattle.store.specs.Opened.{Opened, IsAtBy}
 use Rattle.store.specs.declared.refusal.StoreRefusal.{StoreRefusal}
 use Rattle.store.specs.declared.refusal.StoreRefusal.TheVariants as refusal
-use Rattle.store.proofs.IsReadLemmas.{read_more, read_none}
+use Rattle.store.proofs.IsReadLemmas.{read_more}
 use Rattle.store.proofs.UsedAlone.{no_entry}
 use Rattle.requests.specs.Library.{IsLibrary}
 use Rattle.store.specs.IsRead.{IsReadBy, file_sectors}
@@ -51,13 +51,6 @@ module _ {version : Version} {D : Type 0} {facts : D → DiskFacts} where
   refused_more new refusal.GenerationEnd first is = is
   refused_more new refusal.OldFormat first is = is
 
-  pub none_admitted : (start : Opened D) → AdmittedSoFar version facts start start 0
-  none_admitted start = record {
-    read = read_none start;
-    each = λ s at k lt. absurd (omega (arith, lt));
-    calls = exactly_none (facts start.disk);
-  }
-
   -- one file more
   pub one_admitted : {start mid new : Opened D} {position : ℕ} → position < length start.entries → AdmittedSoFar version facts start mid position → IsReadBy version facts mid new
       → ((s : State) → IsAtBy version facts mid s → IsLibrary (get_or s.libraries position no_library))
@@ -79,9 +72,3 @@ module _ {version : Version} {D : Type 0} {facts : D → DiskFacts} where
       → IsAtBy version facts start s → length s.libraries ≤ position → All IsLibrary s.libraries
   all_admitted so_far s at le k d lt =
       subst IsLibrary (get_or_default s.libraries k no_library d lt) (so_far.each s at k (omega (arith, lt, le)))
-
-  -- a reading behind calls that keep what a stop may leave
-  pub leaves_after : {start : DiskFacts} {old new : Opened D} → IsTrue start.honest → (facts old.disk).honest ≡ start.honest
-      → LeavesOnly start (facts old.disk) (Mixture start) → IsReadBy version facts old new → LeavesOnly start (facts new.disk) (Mixture start)
-  leaves_after {start = start} {old = old} honest same so_far read =
-      goes_on (Mixture start) so_far (weaken (Mixture (facts old.disk)) (Mixture start) (left_now (Mixture start) so_far) (read.leaves (subst IsTrue (sym same) honest)))

@@ -13,7 +13,6 @@ pub mod Puts
 pub mod RanSoFar
 pub mod Running
 pub mod Rounding
-pub mod RunExamples
 pub mod Answering
 pub mod States
 pub mod Tested

@@ -1,19 +1,17 @@
 -- What a walk finds its files in, as files are read.
-use Rattle.std.proofs.Common.{◌≡◌, ℕ, ◌+◌, List, [], ◌∷◌, ◌++◌, length, sum_by, get_or, IsTrue, Result, Ok, Err, refl, sym, ap, subst, ◌∙◌, arith}
+use Rattle.std.proofs.Common.{◌≡◌, ℕ, ◌+◌, List, ◌∷◌, ◌++◌, length, sum_by, get_or, IsTrue, Result, Ok, Err, refl, sym, ap, subst, ◌∙◌, arith}
 use Rattle.std.specs.Prelude.{All, IfOk, OnOk}
 use Rattle.std.specs.Global.{Vec}
-use Rattle.std.proofs.lemmas.List.Elements.{All-nil}
 use Rattle.std.proofs.lemmas.List.Sums.{sum_by-append, sum_by-cons}
-use Rattle.sector_disk.specs.Disk.{DiskFacts, HoldsNow, AreCallsExactly}
-use Rattle.sector_disk.proofs.Moments.{exactly_none, exactly_sum}
+use Rattle.sector_disk.specs.Disk.{DiskFacts, AreCallsExactly}
+use Rattle.sector_disk.proofs.Moments.{exactly_sum}
 use Rattle.roots.specs.Root.{listed_preloads}
 use Rattle.roots.specs.declared.root.Root.{Root}
 use Rattle.states.specs.State.{Library, State}
 use Rattle.store.specs.declared.held_versions.HeldRow.{HeldRow}
 use Rattle.store.specs.declared.placed_entry.PlacedEntry.{PlacedEntry}
-use Rattle.store.specs.HeldVersions.{HeldIs}
 use Rattle.store.specs.Opened.{Opened}
-use Rattle.store.specs.Stands.{HaveOwnNames, name_of, no_library}
+use Rattle.store.specs.Stands.{HaveOwnNames, no_library}
 use Rattle.snapshots.specs.Snapshot.{IsTakenOf, AreHeldAs}
 use Rattle.requests.specs.Library.{IsLibrary}
 use Rattle.registry.specs.Binding.{data_sectors}
@@ -23,7 +21,7 @@ use Rattle.registry.specs.declared.source.Source.TheVariants.{Current, Held}
 use Rattle.store.specs.IsRead.{IsRead}
 use Rattle.registry.specs.inside.Source.{HasEntries, HasFiles, Offers, offered, offered_preloads}
 use Rattle.registry.specs.inside.Walked.{IsWalked}
-use Rattle.store.proofs.IsReadLemmas.{read_more, read_none}
+use Rattle.store.proofs.IsReadLemmas.{read_more}
 use Rattle.registry.proofs.Keeping.{keeps_held_read}
 
 -- it offers as many files as it has entries
@@ -71,11 +69,6 @@ module _ {D : Type 0} (facts : D → DiskFacts) where
       files = λ s at. files_read source s (offers.files s at);
     }
 
--- in every mixture a held version has the name of what it is
-pub held_named : {D : Type 0} (facts : D → DiskFacts) (store : Opened D) → (IsTrue (facts store.disk).honest → HoldsNow (facts store.disk)) → IsTrue (facts store.disk).honest
-    → (sector : ℕ) (library : Library) (is : HeldIs facts store sector library) → name_of is.placed.entry ≡ library.name
-held_named facts store holds honest sector library is = ap (λ (l : Library). l.name) (is.stands (facts store.disk).now (holds honest))
-
 -- How far a bind's walk through the files of a store has come.
 pub record HasCome {D : Type 0} (facts : D → DiskFacts) (program : List ℕ) (start now : Opened D) (needs : Needs) (files : List Library) : Type 0 where
   pub walked : IsWalked facts program start needs files
@@ -85,8 +78,6 @@ pub record HasCome {D : Type 0} (facts : D → DiskFacts) (program : List ℕ) (
   pub calls : AreCallsExactly (sum_by (λ file. data_sectors file.bytes) files) (facts start.disk) (facts now.disk)
 
 module _ {D : Type 0} (facts : D → DiskFacts) {program : List ℕ} {start : Opened D} where
-  pub come_none : {needs : Needs} → HaveOwnNames start.entries → IsWalked facts program start needs [] → HasCome facts program start start needs []
-  come_none own walked = record { walked = walked; libraries = All-nil IsLibrary; own = own; read = read_none start; calls = exactly_none (facts start.disk) }
 
   pub come_offers : {now : Opened D} {needs : Needs} {files : List Library} → HasCome facts program start now needs files → Offers facts Current start now
   come_offers {now = now} come = offers_read facts start now come.read Current start (offers_current facts start come.own)

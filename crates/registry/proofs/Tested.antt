@@ -1,5 +1,5 @@
 -- The tests of a command by what each of them found.
-use Rattle.std.proofs.Common.{◌≡◌, ℕ, ◌==◌, Bool, true, false, cond, List, [], ◌∷◌, length, Option, Some, None, refl, ap, ◌∙◌}
+use Rattle.std.proofs.Common.{◌≡◌, ℕ, ◌==◌, Bool, true, false, cond, List, ◌∷◌, length, Option, Some, None, refl, ap, ◌∙◌}
 use Rattle.std.specs.Prelude.{not, nat_lt}
 use Rattle.std.specs.List.{list_any}
 use Rattle.std.specs.Option.{option_map}
@@ -41,12 +41,6 @@ module _ (p : Phase) (names : List (List ℕ)) where
 
   abbrev lacks : Bool
   lacks = list_any (λ name. not (is_installed (table_of p) name)) names
-
-  pub preloads_many : nat_lt most_preloads (length names) ≡ true → refusal_at p (set_preloads names) ≡ Some TooManyPreloads
-  preloads_many many = ap (λ b. preloads_by b (has_repeat names) lacks) many
-
-  pub preloads_repeat : nat_lt most_preloads (length names) ≡ false → has_repeat names ≡ true → refusal_at p (set_preloads names) ≡ Some RepeatedPreload
-  preloads_repeat few repeat = (λ i. preloads_by (few i) (repeat i) lacks)
 
   pub preloads_lacking : nat_lt most_preloads (length names) ≡ false → has_repeat names ≡ false
       → list_any (λ name. not (is_installed (table_of p) name)) names ≡ true → refusal_at p (set_preloads names) ≡ Some NotInstalled

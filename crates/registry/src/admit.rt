@@ -74,8 +74,7 @@ fn admit_at<D: Disk>(
     Ok(bytes)
 }
 
-/// Reads each file once, and sees that it is a library of its name, before the next one takes its
-/// memory.
+/// Reads each file once, all into one buffer, and sees that it is a library of its name.
 pub(crate) fn admit_files<D: Disk>(alloc: Global, store: &mut Store<D>) -> Result<(), StoreRefusal>
     ensures read { IsRead D.facts store.old store.new }
     ensures ok { (s : State) → IsAt D.facts store.old s

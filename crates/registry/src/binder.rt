@@ -169,7 +169,7 @@ impl Binder {
         }
     }
 
-    /// A step after the first: the next file is read, or the program is bound.
+    /// A step: the program is looked at, the next file is read, or the program is bound.
     fn step<D: Disk>(&mut self, alloc: Global, store: &mut Store<D>) -> Result<Step, Refusal>
         ensures step { (flight : Flight) → Flies D.facts store.old self.old flight
             → IsStep D.facts store.old store.new flight self.new result }

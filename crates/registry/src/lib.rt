@@ -2,8 +2,8 @@
 //!
 //! A disk is made a registry by `Registry::format`, and opened again by `Registry::open`: a stop at
 //! any moment leaves sectors that hold the state from before or the one after.
-//! `Registry::upgrade` makes a disk of version 1 one of version 2. No byte of a file is kept in
-//! memory after a call has ended.
+//! `Registry::upgrade` makes a disk of version 1 one of version 2. Of a library's file nothing is
+//! kept in memory between calls, but by a binder of what it has read.
 //! Which state sectors hold is defined in specs/Stands.antt.
 #![tactic(auto)]
 

@@ -18,10 +18,10 @@ impl<D: Disk> Registry<D> {
     ghost use Rattle.registry.specs.Stands.{Stands};
 
     /// Opens the registry that a disk holds, after a stop too. It writes nothing: it syncs, and
-    /// reads the two root sectors, each catalogue, one sector an entry, and each file once, which
-    /// it admits and lets go before the next. It refuses with S6, S3, S12, S5, S1 or S11, and hands
-    /// the disk back: S12 is told of a disk of version 1, which `upgrade` takes, and S5 also where
-    /// a file isn't a library of its entry's name.
+    /// reads the two root sectors, each catalogue, one sector an entry, and each file once, into
+    /// one buffer, and admits it before it reads the next. It refuses with S6, S3, S12, S5, S1 or
+    /// S11, and hands the disk back: S12 is told of a disk of version 1, which `upgrade` takes, and
+    /// S5 also where a file isn't a library of its entry's name.
     pub fn open(alloc: Global, disk: D) -> Result<Registry<D>, (StoreRefusal, D)>
         ensures { EndsOpening D.facts disk result }
     {

@@ -6,7 +6,7 @@ ghost use Rattle.registry.specs.Refusals.{refusal_of};
 use requests::Refusal;
 use store::StoreRefusal;
 
-/// What a change or a reading of the store refuses, in the registry's word for it.
+/// Why the store refuses a change, in the registry's word for it.
 pub(crate) fn refusal_of(refusal: StoreRefusal) -> Refusal
     requires { IsRefusalOfPutNew refusal }
     ensures { result ≡ refusal_of refusal }

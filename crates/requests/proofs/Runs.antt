@@ -1,6 +1,6 @@
 -- Runs grow by a step.
-use Rattle.std.proofs.Common.{◌≡◌, ℕ, take, ap, ◌∙◌, List, [], ◌∷◌, ◌++◌, refl, sym, subst, suc, zero}
-use Rattle.requests.specs.Runs.{last_of, after, Steps, Run}
+use Rattle.std.proofs.Common.{◌≡◌, ℕ, take, List, [], ◌∷◌, ◌++◌, refl, sym, subst, suc, zero}
+use Rattle.requests.specs.Runs.{last_of, Steps, Run}
 
 pub last_more : {S : Type 0} (s u : S) (ts : List S) → last_of s (ts ++ u ∷ []) ≡ u
 last_more s u [] = refl
@@ -37,17 +37,6 @@ module _ {S Q R : Type 0} (Step : S → Q → R → S → Type 0) where
   steps_first (suc k) s [] (y ∷ rs) ts h = absurd h
   steps_first (suc k) s (x ∷ qs) [] ts h = absurd h
   steps_first (suc k) s (x ∷ qs) (y ∷ rs) [] h = absurd h
-
-  pub run_first : (k : ℕ) (s : S) (qs : List Q) (rs : List R) (ts : List S) → Steps Step s qs rs ts → Run Step s (take k qs) (take k rs) (after s ts k)
-  run_first k s qs rs ts h = (take k ts, steps_first k s qs rs ts h, refl)
-
-  -- a run, and then another
-  pub run_append : (s t u : S) (qs qs' : List Q) (rs rs' : List R) → Run Step s qs rs t → Run Step t qs' rs' u → Run Step s (qs ++ qs') (rs ++ rs') u
-  run_append s t u qs qs' rs rs' run more = (
-    run.0 ++ more.0,
-    steps_append s qs rs run.0 qs' rs' more.0 run.1 (subst (λ x. Steps Step x qs' rs' more.0) run.2 more.1),
-    more.2 ∙ ap (λ x. last_of x more.0) run.2 ∙ sym (last_append s run.0 more.0),
-  )
 
   -- one more step
   pub run_more : (s t u : S) (q : Q) (r : R) (qs : List Q) (rs : List R) → Run Step s qs rs t → Step t q r u → Run Step s (qs ++ q ∷ []) (rs ++ r ∷ []) u

@@ -4,7 +4,7 @@ use hash_check::FileRefusal;
 use image::BindRefusal;
 use std::alloc::AllocError;
 
-/// Why a command was refused, or a registry wasn't made.
+/// Why a command was refused.
 #[derive(Debug, Drop, PartialEq, Eq)]
 pub enum Refusal {
     /// C1: the file is no library.
@@ -29,7 +29,8 @@ pub enum Refusal {
     Device,
     /// S2: a write or a sync failed before.
     Reopen,
-    /// S5: what was read is no library of its name, which an honest disk never gives.
+    /// S5: what was read is no library of its name. A registry whose opening tested its files meets
+    /// none on an honest disk.
     Damaged,
     /// S6: there are fewer than 8 or more than 4,194,304 sectors.
     BadGeometry,

@@ -9,6 +9,5 @@ pub mod CatalogueLemmas
 pub mod Catalogues
 pub mod ChoiceLemmas
 pub mod Entries
-pub mod EntryLemmas
 pub mod RootLemmas
 pub mod Roots

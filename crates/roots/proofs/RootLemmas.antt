@@ -12,12 +12,8 @@ use Rattle.roots.specs.Limits.{most_root_entries, most_catalogues}
 use Rattle.states.specs.Cost.{catalogues_for}
 use Rattle.roots.specs.Fields.{zeros}
 use Rattle.roots.proofs.Placed.{uses_first, lists_sectors}
-use Rattle.roots.specs.Root.{root_with, root_over_entries, root_over_catalogues, version_of, version_of_list, used_places, listed_sectors}
-use Rattle.roots.specs.Root.{listed_preloads, ListFits, PreloadsFit, ListsFit, CataloguesFit, RootHasSpelling}
-
--- They list what they were made of,
-pub listed_sectors-root_over_entries : (generation sectors : ℕ) (entries preloads : List ℕ) → listed_sectors (root_over_entries generation sectors entries preloads) ≡ entries
-listed_sectors-root_over_entries generation sectors entries preloads = take_at entries (zeros (most_root_entries - length entries)) (length entries) refl
+use Rattle.roots.specs.Root.{root_with, root_over_catalogues, version_of, version_of_list, used_places, listed_sectors}
+use Rattle.roots.specs.Root.{listed_preloads, ListFits, PreloadsFit, CataloguesFit, RootHasSpelling}
 
 pub listed_sectors-root_over_catalogues : (generation sectors libraries : ℕ) (catalogues preloads : List ℕ)
     → listed_sectors (root_over_catalogues generation sectors libraries catalogues preloads) ≡ catalogues
@@ -25,9 +21,6 @@ listed_sectors-root_over_catalogues generation sectors libraries catalogues prel
 
 pub listed_preloads-root_with : (generation sectors libraries : ℕ) (list : EntryList) (preloads : List ℕ) → listed_preloads (root_with generation sectors libraries list preloads) ≡ preloads
 listed_preloads-root_with generation sectors libraries list preloads = take_at preloads (zeros (most_preloads - length preloads)) (length preloads) refl
-
-pub listed_preloads-root_over_entries : (generation sectors : ℕ) (entries preloads : List ℕ) → listed_preloads (root_over_entries generation sectors entries preloads) ≡ preloads
-listed_preloads-root_over_entries generation sectors entries preloads = take_at preloads (zeros (most_preloads - length preloads)) (length preloads) refl
 
 pub listed_preloads-root_over_catalogues : (generation sectors libraries : ℕ) (catalogues preloads : List ℕ)
     → listed_preloads (root_over_catalogues generation sectors libraries catalogues preloads) ≡ preloads
@@ -38,16 +31,6 @@ preloads_fit : (generation sectors libraries : ℕ) (list : EntryList) (preloads
 preloads_fit generation sectors libraries list preloads few inside distinct = record {
   listed = uses_first most_preloads preloads 0 (λ position. position < libraries) few inside;
   distinct = subst AreDistinct (sym (listed_preloads-root_with generation sectors libraries list preloads)) distinct;
-}
-
--- and have a spelling where that fits.
-pub root_over_entries-has_spelling : (generation sectors : ℕ) (entries preloads : List ℕ) → ListsFit generation sectors entries preloads
-    → RootHasSpelling (root_over_entries generation sectors entries preloads)
-root_over_entries-has_spelling generation sectors entries preloads fit = record {
-  generation = fit.generation_fits;
-  sectors = fit.sectors_fit;
-  preloads = preloads_fit generation sectors (length entries) _ preloads fit.few_preloads fit.preloads_inside fit.preloads_distinct;
-  list = lists_sectors most_root_entries sectors entries fit.few_entries fit.entries_inside fit.entries_distinct;
 }
 
 pub root_over_catalogues-has_spelling : (generation sectors libraries : ℕ) (catalogues preloads : List ℕ)
@@ -68,12 +51,6 @@ root_over_catalogues-has_spelling generation sectors libraries catalogues preloa
 places_1 : (libraries disk : ℕ) (list : EntryList) → ListFits libraries disk list → version_of_list list ≡ One → (length (used_places libraries list) ≡ libraries) × (libraries ≤ most_root_entries)
 places_1 libraries disk (InRoot sectors) fits is = (length-take-le libraries sectors (omega (arith, fits.listed.size, fits.listed.room)), fits.listed.room)
 places_1 libraries disk (InCatalogues count sectors) fits is = absurd cc
-
-pub length-listed_1 : (root : Root) → RootHasSpelling root → version_of root ≡ One → length (listed_sectors root) ≡ root.library_count
-length-listed_1 root fits is = (places_1 root.library_count root.sectors root.list fits.list is).0
-
-pub few_1 : (root : Root) → RootHasSpelling root → version_of root ≡ One → root.library_count ≤ most_root_entries
-few_1 root fits is = (places_1 root.library_count root.sectors root.list fits.list is).1
 
 -- and one of version 2 as many catalogues as list them.
 places_2 : (libraries disk : ℕ) (list : EntryList) → ListFits libraries disk list → version_of_list list ≡ Two

@@ -1,5 +1,5 @@
 -- An entry: which entries have a spelling, and the sector that spells one.
-use Rattle.std.specs.Prelude.{◌≡◌, ◌≢◌, ℕ, ◌+◌, ◌-◌, ◌≤◌, List, ◌++◌, length, take, replicate, codes, sum_by, All}
+use Rattle.std.specs.Prelude.{◌≡◌, ◌≢◌, ℕ, ◌+◌, ◌-◌, ◌≤◌, List, ◌++◌, length, take, replicate, codes, sum_by}
 use Rattle.std.specs.List.{flat_map}
 use Rattle.std.specs.Int.{w16, w32, to_le_bytes, IsInRange, div_ceil}
 use Rattle.extents.specs.declared.extent.Extent.{Extent}
@@ -77,14 +77,3 @@ entry_of_file name file_length extents = record {
   name = name ++ zeros (most_name_bytes - length name);
   extents = extents ++ replicate (most_extents - length extents) no_extent;
 }
-
--- What a file's name, length and extents have to keep to, so that its entry has a spelling.
-pub record FileFits (name : List ℕ) (file_length : ℕ) (extents : List Extent) : Type 0 where
-  pub length_fits : IsInRange least_file_bytes most_file_bytes file_length
-  pub some_name : 1 ≤ length name
-  pub short_name : length name ≤ most_name_bytes
-  pub name_fits : All IsNameByte name
-  pub some_extents : 1 ≤ length extents
-  pub few_extents : length extents ≤ most_extents
-  pub extents_fit : All IsDataExtent extents
-  pub sectors : sum_by (λ extent. extent.count) extents ≡ div_ceil file_length sector_bytes

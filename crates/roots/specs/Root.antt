@@ -133,17 +133,6 @@ abbrev pub root_over_catalogues : ℕ → ℕ → ℕ → List ℕ → List ℕ 
 root_over_catalogues generation sectors libraries catalogues preloads =
     root_with generation sectors libraries (InCatalogues (length catalogues) (catalogues ++ zeros (most_catalogues - length catalogues))) preloads
 
--- What the lists of a root of version 1 have to keep to, so that the root has a spelling.
-pub record ListsFit (generation sectors : ℕ) (entries preloads : List ℕ) : Type 0 where
-  pub generation_fits : generation < 2 ^ 64
-  pub sectors_fit : IsInRange least_sectors most_sectors sectors
-  pub few_entries : length entries ≤ most_root_entries
-  pub few_preloads : length preloads ≤ most_preloads
-  pub entries_inside : All (λ sector. (root_sectors ≤ sector) × (sector < sectors)) entries
-  pub entries_distinct : AreDistinct entries
-  pub preloads_inside : All (λ position. position < length entries) preloads
-  pub preloads_distinct : AreDistinct preloads
-
 -- What those of a root of version 2 have to keep to.
 pub record CataloguesFit (generation sectors libraries : ℕ) (catalogues preloads : List ℕ) : Type 0 where
   pub generation_fits : generation < 2 ^ 64

@@ -117,26 +117,6 @@ module _ (objects : List Named) (all : List NumberedSymbol) where
   pub first-none : (kept : List (Option Target)) → length kept ≡ length all + 1 → ((n : ℕ) → nth_target kept n ≡ None) → AreFirst objects all 0 kept
   first-none kept size none = record { size = size; each = λ n. inl (none n); known = λ k lt. absurd (omega (arith, lt)) }
 
-  pub last-none : (kept : List (Option Target)) → length kept ≡ length all + 1 → ((n : ℕ) → nth_target kept n ≡ None) → AreLast objects all 0 kept
-  last-none kept size none = record { size = size; each = λ n. inl (none n); known = λ k lt. absurd (omega (arith, lt)) }
-
-  -- a symbol that isn't kept, since it isn't exported or another one is kept
-  pub first-on : (kept : List (Option Target)) (k : ℕ) → AreFirst objects all k kept
-      → (IsExported objects (nth_symbol all k) → nth_target kept (nth_symbol all k).number ≡ None → ⊥) → AreFirst objects all (k + 1) kept
-  first-on kept k first not = record {
-    size = first.size;
-    each = λ n. one-more kept k n (first.each n);
-    known = λ j lt exported. elim (cases_lt j k) [
-      | inl before ↦ first.known j before exported
-      | inr at ↦
-          let same : k ≡ j = omega (arith, at, lt) in
-          elim (first.each (nth_symbol all j).number) [
-            | inl none ↦ absurd (subst (λ i. IsExported objects (nth_symbol all i) → nth_target kept (nth_symbol all i).number ≡ None → ⊥) same not exported none)
-            | inr is ↦ (is.0, omega (arith, is.1, same), is.2)
-          ]
-    ];
-  }
-
   -- a symbol that is kept, since none was
   pub first-new : (kept : List (Option Target)) (k : ℕ) → k < length all → AreFirst objects all k kept → IsExported objects (nth_symbol all k) → (nth_symbol all k).number < length kept
       → nth_target kept (nth_symbol all k).number ≡ None
@@ -158,19 +138,6 @@ module _ (objects : List Named) (all : List NumberedSymbol) where
               (k, omega (arith, same), subst (λ i. IsKept objects all (set kept told x) (nth_symbol all i).number k) same (kept-here kept k lt exported room))
         ];
       }
-
-  -- a symbol that isn't exported
-  pub last-on : (kept : List (Option Target)) (k : ℕ) → AreLast objects all k kept → (IsExported objects (nth_symbol all k) → ⊥) → AreLast objects all (k + 1) kept
-  last-on kept k last not = record {
-    size = last.size;
-    each = λ n. one-more kept k n (last.each n);
-    known = λ j lt exported. elim (cases_lt j k) [
-      | inl before ↦ last.known j before exported
-      | inr at ↦
-          let same : k ≡ j = omega (arith, at, lt) in
-          absurd (subst (λ i. IsExported objects (nth_symbol all i) → ⊥) same not exported)
-    ];
-  }
 
   -- one that is
   pub last-new : (kept : List (Option Target)) (k : ℕ) → k < length all → AreLast objects all k kept → IsExported objects (nth_symbol all k) → (nth_symbol all k).number < length kept

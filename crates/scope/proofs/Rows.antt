@@ -72,9 +72,6 @@ found-more objects all at rows new found are is put =
     before : (k : ℕ) → k < at + 1 → (k ≡ at → ⊥) → k < at
     before k lt other = elim (cases_lt k at) [ inl less ↦ less | inr more ↦ absurd (other (omega (arith, lt, more))) ]
 
-pub found-none : (objects : List Named) (all : List NumberedSymbol) (rows : List (List (Option Target))) → HaveRoom objects rows → AreFound objects all 0 rows
-found-none objects all rows room = record { room = room; known = λ k lt. absurd (omega (arith, lt)) }
-
 -- all symbols
 pub found-all : (objects : List Named) (all : List NumberedSymbol) (rows : List (List (Option Target))) → AreNumbered (files_of objects) all → AreFound objects all (length all) rows
     → IsFound objects rows

@@ -59,7 +59,8 @@ impl<'a> Order<'a> {
     }
 
     /// The order of a program and of libraries that are in load order already, for callers that
-    /// have found it themselves. It takes some 30 bytes a library.
+    /// have found it themselves. It takes some 30 bytes a library, and more for each symbol where
+    /// walks may cost more than one look at all of them.
     pub fn of(
         alloc: Global,
         program: &'a Admitted<'a>,

@@ -1,16 +1,12 @@
 -- What one call does to the mixtures.
-use Rattle.std.proofs.Common.{◌≡◌, ◌↔◌, All, ◌≤◌, inl, inr, ⊎_elim, ℕ, ◌<◌, List, [], length, set, Result, OnOk, refl, sym, ◌∙◌, ap, subst}
+use Rattle.std.proofs.Common.{◌≡◌, ◌↔◌, All, ◌≤◌, inl, inr, ⊎_elim, ℕ, ◌<◌, List, [], length, set, Result, OnOk, sym, ◌∙◌, ap, subst}
 use Rattle.std.proofs.lemmas.Bool.{cases_eq}
 use Rattle.std.proofs.lemmas.List.{length-set, get_or-set_same, get_or-set_other, set-get_or, set-set, ext_get_or}
 use Rattle.std.proofs.lemmas.List.Elements.{All-from_get_or}
 use Rattle.std.proofs.lemmas.Result.{on_ok_weaker}
 use Rattle.sector_disk.specs.Disk.{Sector, sector, IsWhole, DiskFacts, MixtureAt, Mixture, HoldsNow, HasWholeSectors, IsUnchanged, IsRead, IsWrite}
-use Rattle.sector_disk.specs.Disk.{IsSync, LeavesNowAlone, IsSynced, SameBut, IsMixtureBut, IsMixtureOrSet, IsOldOrSet, IsSameDisk, IsCopy}
+use Rattle.sector_disk.specs.Disk.{IsSync, LeavesNowAlone, IsSynced, SameBut, IsMixtureBut, IsMixtureOrSet, IsOldOrSet, IsSameDisk}
 use Rattle.sector_disk.specs.Disk.{StartsWith}
-
--- the same in all sectors is the same but for some
-pub same_itself : (places : ℕ → Type 0) (l : List Sector) → SameBut places l l
-same_itself places l = record { size = refl; others = λ k not. refl }
 
 -- the same but for some sectors, and again the same but for some
 pub same_more : {places more : ℕ → Type 0} {old mid new : List Sector} → ((k : ℕ) → places k → more k) → SameBut more old mid → SameBut places mid new → SameBut more old new
@@ -19,10 +15,6 @@ same_more among first second = record { size = second.size ∙ first.size; other
 -- a sector is written, and the others stay
 pub same_set : (l : List Sector) (at : ℕ) (content : Sector) → SameBut (λ k. k ≡ at) l (set l at content)
 same_set l at content = record { size = length-set l at content; others = λ k other. get_or-set_other l at k content [] other }
-
--- any mixture is one but for some sectors
-pub mixture_itself : {disk : DiskFacts} (places : ℕ → Type 0) (m : List Sector) → Mixture disk m → IsMixtureBut places disk m
-mixture_itself places m mixture = (m, mixture, same_itself places m)
 
 -- a mixture but for some sectors, of a disk whose mixtures are those of an older one but for more sectors
 pub mixture_but : {first old : DiskFacts} (places more : ℕ → Type 0) → ((k : ℕ) → places k → more k)
@@ -97,27 +89,9 @@ unchanged_mixture sectors same m = (
 pub after_read : {old new : DiskFacts} {at : ℕ} {content : Sector} {T E : Type 0} {result : Result T E} → IsRead old new at content result → (m : List Sector) → Mixture new m → Mixture old m
 after_read read m = (unchanged_mixture read.past.sectors read.same m).0
 
--- and it loses none
-pub before_read : {old new : DiskFacts} {at : ℕ} {content : Sector} {T E : Type 0} {result : Result T E} → IsRead old new at content result → (m : List Sector) → Mixture old m → Mixture new m
-before_read read m = (unchanged_mixture read.past.sectors read.same m).1
-
 -- The same disk by another clock has the same mixtures at this moment; of other moments nothing is said.
 pub same_disk_mixture : {old new : DiskFacts} → IsSameDisk old new → (m : List Sector) → Mixture new m ↔ Mixture old m
 same_disk_mixture same = unchanged_mixture same.sectors same.same
-
--- and so it is synced exactly where the other is
-pub same_disk_synced : {old new : DiskFacts} → IsSameDisk old new → IsSynced new ↔ IsSynced old
-same_disk_synced same = (
-  λ is_synced. record { each = λ m mixture. is_synced.each m ((same_disk_mixture same m).1 mixture) ∙ same.same.now },
-  λ is_synced. record { each = λ m mixture. is_synced.each m ((same_disk_mixture same m).0 mixture) ∙ sym same.same.now },
-)
-
--- a copy has the same mixtures at every moment
-pub copy_mixture : {old new : DiskFacts} → IsCopy old new → (u : ℕ) (m : List Sector) → MixtureAt new u m ↔ MixtureAt old u m
-copy_mixture copy u m = (
-  λ mixture. record { size = mixture.size ∙ copy.sectors; each = λ k lt. (copy.past u k (sector m k)).0 (mixture.each k (subst (λ n. k < n) (sym copy.sectors) lt)) },
-  λ mixture. record { size = mixture.size ∙ sym copy.sectors; each = λ k lt. (copy.past u k (sector m k)).1 (mixture.each k (subst (λ n. k < n) copy.sectors lt)) },
-)
 
 -- each sector of a mixture has the bytes of a sector
 pub whole_mixture : {disk : DiskFacts} → HasWholeSectors disk → (u : ℕ) → u ≤ disk.time → (m : List Sector) → MixtureAt disk u m → All IsWhole m

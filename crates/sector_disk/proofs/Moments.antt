@@ -1,5 +1,5 @@
 -- How what a stop leaves goes on from call to call.
-use Rattle.std.proofs.Common.{◌≡◌, ⊎_elim, ℕ, ◌+◌, ◌<◌, ◌≤◌, List, [], ◌++◌, Result, OnOk, OnErr, Ok, Err, refl, sym, ◌∙◌, ap, subst, arith}
+use Rattle.std.proofs.Common.{◌≡◌, ⊎_elim, ℕ, ◌+◌, ◌<◌, ◌≤◌, List, ◌++◌, Result, refl, sym, ◌∙◌, ap, subst, arith}
 use Rattle.std.proofs.lemmas.Bool.{cases_lt}
 use Rattle.std.proofs.lemmas.List.{length-append, append-nil, append_assoc}
 use Rattle.sector_disk.specs.Disk.{Sector, DiskFacts, Logged, LogGrows, MixtureAt, Mixture, KeepsPast, IsCall, AreCalls, AreCallsExactly, AreCallsAtMost, LeavesOnly}
@@ -77,23 +77,6 @@ log_at_most grows le = record { more = grows.more; few = omega (arith, grows.few
 pub no_calls : (disk : DiskFacts) → AreCalls disk disk
 no_calls disk = record { honest = refl; sectors = refl; plans = refl; log = same_log refl; later = omega arith; failures = omega arith; few_failures = omega arith }
 
--- and so is one
-pub a_call : {old new : DiskFacts} {T E : Type 0} {result : Result T E} → IsCall old new result → AreCalls old new
-a_call {old = old} {new = new} {result = result} call = record {
-  honest = call.honest;
-  sectors = call.sectors;
-  plans = call.plans;
-  log = log_at_most call.log (omega (arith, call.time));
-  later = omega (arith, call.time);
-  failures = omega (arith, counted result call.ok call.err);
-  few_failures = omega (arith, call.time, counted result call.ok call.err);
-}
-  where
-    counted : {T E : Type 0} → (result : Result T E) → OnOk result (new.failures ≡ old.failures) → OnErr result (new.failures ≡ old.failures + 1)
-        → (old.failures ≤ new.failures) × (new.failures ≤ old.failures + 1)
-    counted (Ok x) ok err = (omega (arith, ok), omega (arith, ok))
-    counted (Err e) ok err = (omega (arith, err), omega (arith, err))
-
 -- some calls, and then more
 pub more_calls : {old mid new : DiskFacts} → AreCalls old mid → AreCalls mid new → AreCalls old new
 more_calls first second = record {
@@ -110,10 +93,6 @@ more_calls first second = record {
 pub exactly_none : (disk : DiskFacts) → AreCallsExactly 0 disk disk
 exactly_none disk = record { some = no_calls disk; time = omega arith }
 
--- a call is one
-pub exactly_one : {old new : DiskFacts} {T E : Type 0} {result : Result T E} → IsCall old new result → AreCallsExactly 1 old new
-exactly_one call = record { some = a_call call; time = call.time }
-
 -- so many calls, and then so many more, are their sum
 pub exactly_sum : {calls more total : ℕ} {old mid new : DiskFacts} → AreCallsExactly calls old mid → AreCallsExactly more mid new → calls + more ≡ total → AreCallsExactly total old new
 exactly_sum first second sum = record { some = more_calls first.some second.some; time = omega (arith, first.time, second.time, sum) }
@@ -125,10 +104,6 @@ exactly_logged exactly = log_at_most exactly.some.log (omega (arith, exactly.tim
 -- exactly so many calls are at most so many, and at most more
 pub exactly_at_most : {calls most : ℕ} {old new : DiskFacts} → AreCallsExactly calls old new → calls ≤ most → AreCallsAtMost most old new
 exactly_at_most exactly le = record { some = exactly.some; time = omega (arith, exactly.time, le) }
-
--- a higher bound
-pub at_most_weaker : {calls most : ℕ} {old new : DiskFacts} → AreCallsAtMost calls old new → calls ≤ most → AreCallsAtMost most old new
-at_most_weaker bounded le = record { some = bounded.some; time = omega (arith, bounded.time, le) }
 
 -- at most so many calls, and then at most so many more, are at most their sum
 pub at_most_sum : {calls more most : ℕ} {old mid new : DiskFacts} → AreCallsAtMost calls old mid → AreCallsAtMost more mid new → calls + more ≤ most → AreCallsAtMost most old new

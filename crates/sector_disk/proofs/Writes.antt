@@ -1,6 +1,6 @@
 -- Calls of an honest disk in a row: what a stop leaves since the first, and what reads give.
-use Rattle.std.proofs.Common.{◌≡◌, inl, ⊎_elim, ℕ, ◌<◌, List, set, Result, sym, subst}
-use Rattle.sector_disk.specs.Disk.{Sector, DiskFacts, Mixture, HoldsNow, IsCall, IsRead, IsWrite, IsSync, IsSynced, LeavesOnly, SameBut, IsMixtureBut, IsMixtureOrSet, IsOldOrSet}
+use Rattle.std.proofs.Common.{◌≡◌, inl, ℕ, ◌<◌, List, set, Result, sym, subst}
+use Rattle.sector_disk.specs.Disk.{Sector, DiskFacts, HoldsNow, IsCall, IsRead, IsWrite, IsSync, IsSynced, LeavesOnly, SameBut, IsMixtureBut, IsMixtureOrSet, IsOldOrSet}
 use Rattle.sector_disk.proofs.Moments.{one_call, goes_on, left_now}
 use Rattle.sector_disk.proofs.Mixtures.{same_more, same_set, mixture_but, after_write, any_write, one_write, after_sync, after_read}
 
@@ -24,18 +24,6 @@ module _ {first old new : DiskFacts} {T E : Type 0} {result : Result T E} (call 
   read_leaves P read so_far =
       let before = left_now P so_far in
       goes_on P so_far (one_call P call read.past before (λ m mixture. before m (after_read read m mixture)))
-
--- One write more, into any sector: what a stop leaves has P where each mixture from before has it, and has it with the new content too. No sync need come before it.
-pub any_write_leaves : {first old new : DiskFacts} {T E : Type 0} {result : Result T E} {at : ℕ} {content : Sector} (P : List Sector → Type 0)
-    → IsCall old new result → at < old.sectors → HoldsNow old → IsWrite old new at content result → LeavesOnly first old P
-    → ((m : List Sector) → Mixture old m → P (set m at content)) → LeavesOnly first new P
-any_write_leaves P call in_old holds write so_far newer =
-    let before = left_now P so_far in
-    goes_on P so_far (one_call P call write.past before
-    (λ m mixture. ⊎_elim
-    (λ was. before m was)
-    (λ is. subst P (sym is.2) (newer is.0 is.1))
-    (any_write holds write m mixture in_old)))
 
 -- one write leaves mixtures from before it, or such with this content in its sector
 pub one_write_leaves : {old new : DiskFacts} {T E : Type 0} {result : Result T E} {at : ℕ} {content : Sector} → IsCall old new result

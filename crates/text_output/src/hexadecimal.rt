@@ -92,8 +92,8 @@ impl<const SIZE: usize> OutputBuffer<SIZE> {
         self.put_short_line(out, rest)
     }
 
-    /// Puts bytes in hexadecimal behind what waits, sixteen a line. Lines of zeros at the end,
-    /// but for the last few, are made once.
+    /// Puts bytes in hexadecimal behind what waits, sixteen a line. Where over 2,048
+    /// lines of zeros end them, these are made once.
     pub fn put_hex_lines<W: Write>(&mut self, out: &mut W, bytes: &[u8]) -> Result<(), WriteFault>
         ensures ok { OnOk result (Sends (W.contents out.old) self.old (W.contents out.new) self.new
             (hex_lines bytes.now)) }
