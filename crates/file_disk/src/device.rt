@@ -14,19 +14,43 @@ const MOUNTS: &str = "/proc/self/mountinfo";
 /// What is swapped to, one a line behind the first, each with its path in front (proc(5)).
 const SWAPS: &str = "/proc/swaps";
 
-/// A block device by its numbers, as the system writes them: `8:1`.
-#[derive(Drop)]
-struct Device {
-    numbers: String,
-    /// The numbers of the disk that it is a partition of.
-    whole: Option<String>,
+/// The numbers of a block device.
+#[derive(Clone, Copy, PartialEq, Eq)]
+struct Numbers {
+    major: u64,
+    minor: u64,
 }
 
-/// The numbers of a device, of which Linux makes one.
-fn numbers_of(alloc: Global, rdev: u64) -> io::Result<String> {
-    let major = (rdev >> 8 & 0xfff) | (rdev >> 32 & 0xffff_f000);
-    let minor = (rdev & 0xff) | (rdev >> 12 & 0xffff_ff00);
-    Ok(format!(in alloc; "{major}:{minor}")?)
+impl Numbers {
+    /// Those of which Linux makes one number (makedev(3)).
+    fn new(rdev: u64) -> Numbers {
+        Numbers {
+            major: (rdev >> 8 & 0xfff) | (rdev >> 32 & 0xffff_f000),
+            minor: (rdev & 0xff) | (rdev >> 12 & 0xffff_ff00),
+        }
+    }
+
+    /// Those that a text spells as the system does: `8:1`.
+    fn parse(text: &str) -> Option<Numbers> {
+        let (major, minor) = text.split_once(':')?;
+        Some(Numbers {
+            major: major.parse().ok()?,
+            minor: minor.parse().ok()?,
+        })
+    }
+
+    /// The device's folder of sysfs.
+    fn folder(self, alloc: Global) -> io::Result<String> {
+        Ok(format!(in alloc; "/sys/dev/block/{}:{}", self.major, self.minor)?)
+    }
+}
+
+/// A block device.
+#[derive(Clone, Copy)]
+struct Device {
+    numbers: Numbers,
+    /// The numbers of the disk that it is a partition of.
+    whole: Option<Numbers>,
 }
 
 /// The text of a file, with a mark in the place of bytes that are no UTF-8: a mount point may have
@@ -36,10 +60,10 @@ fn read_text<R: Files>(rt: &R, alloc: Global, path: &str) -> io::Result<String> 
     Ok(String::from_utf8_lossy(alloc, &bytes)?)
 }
 
-/// The text of a file, or nothing where there is none.
-fn text_of<R: Files>(rt: &R, alloc: Global, path: &str) -> io::Result<Option<String>> {
+/// The numbers that a file has, where there is one.
+fn numbers_in<R: Files>(rt: &R, alloc: Global, path: &str) -> io::Result<Option<Numbers>> {
     match read_text(rt, alloc, path) {
-        Ok(text) => Ok(Some(text)),
+        Ok(text) => Ok(Numbers::parse(text.trim_end())),
         Err(fault) if fault.kind() == ErrorKind::NotFound => Ok(None),
         Err(fault) => Err(fault),
     }
@@ -52,46 +76,43 @@ fn is_partition<R: Files>(rt: &R, alloc: Global, folder: &str) -> io::Result<boo
 }
 
 /// The numbers of the disk that a device is a partition of.
-fn whole_of<R: Files>(rt: &R, alloc: Global, numbers: &str) -> io::Result<Option<String>> {
-    let folder = format!(in alloc; "/sys/dev/block/{numbers}")?;
+fn whole_of<R: Files>(rt: &R, alloc: Global, numbers: Numbers) -> io::Result<Option<Numbers>> {
+    let folder = numbers.folder(alloc)?;
     if !is_partition(rt, alloc, &folder)? {
         return Ok(None);
     }
     let disk = format!(in alloc; "{folder}/../dev")?;
-    match text_of(rt, alloc, &disk)? {
-        Some(text) => Ok(Some(format!(in alloc; "{}", text.trim_end())?)),
-        None => Ok(None),
-    }
+    numbers_in(rt, alloc, &disk)
 }
 
 impl Device {
     fn new<R: Files>(rt: &R, alloc: Global, rdev: u64) -> io::Result<Device> {
-        let numbers = numbers_of(alloc, rdev)?;
-        let whole = whole_of(rt, alloc, &numbers)?;
+        let numbers = Numbers::new(rdev);
+        let whole = whole_of(rt, alloc, numbers)?;
         Ok(Device { numbers, whole })
     }
 
     /// Whether it shares sectors with another: it is the same, or one is a partition of the other.
-    fn meets<R: Files>(&self, rt: &R, alloc: Global, other: &str) -> io::Result<bool> {
-        if other == self.numbers.as_str() || is_text(&self.whole, other) {
+    fn meets<R: Files>(self, rt: &R, alloc: Global, other: Numbers) -> io::Result<bool> {
+        if other == self.numbers || self.whole == Some(other) {
             return Ok(true);
         }
-        Ok(is_text(&whole_of(rt, alloc, other)?, &self.numbers))
+        Ok(whole_of(rt, alloc, other)? == Some(self.numbers))
     }
 
     /// Whether it shares sectors with the block device that a path leads to.
-    fn meets_path<R: Files>(&self, rt: &R, alloc: Global, path: &str) -> io::Result<bool> {
+    fn meets_path<R: Files>(self, rt: &R, alloc: Global, path: &str) -> io::Result<bool> {
         match fs::metadata(rt, path) {
             Ok(found) if path.starts_with('/') && found.file_type().is_block_device() => {
-                self.meets(rt, alloc, &numbers_of(alloc, found.rdev())?)
+                self.meets(rt, alloc, Numbers::new(found.rdev()))
             }
             _ => Ok(false),
         }
     }
 
     /// Whether a line of the mounted file systems names it.
-    fn is_mounted_by<R: Files>(&self, rt: &R, alloc: Global, line: &str) -> io::Result<bool> {
-        if let Some(numbers) = line.split(' ').nth(2) {
+    fn is_mounted_by<R: Files>(self, rt: &R, alloc: Global, line: &str) -> io::Result<bool> {
+        if let Some(numbers) = line.split(' ').nth(2).and_then(Numbers::parse) {
             if self.meets(rt, alloc, numbers)? {
                 return Ok(true);
             }
@@ -105,8 +126,8 @@ impl Device {
         }
     }
 
-    fn is_mounted<R: Files>(&self, rt: &R, alloc: Global) -> io::Result<bool> {
-        let mounts = read_text(rt, alloc, MOUNTS)?;
+    /// Whether one of these file systems is on it.
+    fn has_mounted<R: Files>(self, rt: &R, alloc: Global, mounts: &str) -> io::Result<bool> {
         for line in mounts.lines() {
             if self.is_mounted_by(rt, alloc, line)? {
                 return Ok(true);
@@ -115,10 +136,13 @@ impl Device {
         Ok(false)
     }
 
-    fn is_swapped_to<R: Files>(&self, rt: &R, alloc: Global) -> io::Result<bool> {
-        let Some(swaps) = text_of(rt, alloc, SWAPS)? else {
-            return Ok(false);
-        };
+    fn is_mounted<R: Files>(self, rt: &R, alloc: Global) -> io::Result<bool> {
+        let mounts = read_text(rt, alloc, MOUNTS)?;
+        self.has_mounted(rt, alloc, &mounts)
+    }
+
+    /// Whether one of the lines begins with a path that leads to it.
+    fn has_swap<R: Files>(self, rt: &R, alloc: Global, swaps: &str) -> io::Result<bool> {
         for line in swaps.lines() {
             if let Some(path) = line.split(' ').next() {
                 if self.meets_path(rt, alloc, path)? {
@@ -129,9 +153,17 @@ impl Device {
         Ok(false)
     }
 
+    fn is_swapped_to<R: Files>(self, rt: &R, alloc: Global) -> io::Result<bool> {
+        match read_text(rt, alloc, SWAPS) {
+            Ok(swaps) => self.has_swap(rt, alloc, &swaps),
+            Err(fault) if fault.kind() == ErrorKind::NotFound => Ok(false),
+            Err(fault) => Err(fault),
+        }
+    }
+
     /// Whether other devices stand on it, on its disk or on its partitions.
-    fn is_held<R: Files>(&self, rt: &R, alloc: Global) -> io::Result<bool> {
-        let folder = format!(in alloc; "/sys/dev/block/{}", self.numbers)?;
+    fn is_held<R: Files>(self, rt: &R, alloc: Global) -> io::Result<bool> {
+        let folder = self.numbers.folder(alloc)?;
         if has_holders(rt, alloc, &folder)? {
             return Ok(true);
         }
@@ -139,21 +171,7 @@ impl Device {
             let disk = format!(in alloc; "{folder}/..")?;
             return has_holders(rt, alloc, &disk);
         }
-        let names = names_in(rt, alloc, &folder)?;
-        for name in names.split(|byte| *byte == 0) {
-            if is_held_partition(rt, alloc, &folder, name)? {
-                return Ok(true);
-            }
-        }
-        Ok(false)
-    }
-}
-
-/// Whether there is a text, and it is this one.
-fn is_text(text: &Option<String>, wanted: &str) -> bool {
-    match text {
-        Some(text) => text.as_str() == wanted,
-        None => false,
+        has_held_partition(rt, alloc, &folder, &names_in(rt, alloc, &folder)?)
     }
 }
 
@@ -189,6 +207,22 @@ fn is_held_partition<R: Files>(
     };
     let inside = format!(in alloc; "{folder}/{name}")?;
     Ok(is_partition(rt, alloc, &inside)? && has_holders(rt, alloc, &inside)?)
+}
+
+/// Whether one of the names in the folder of a disk, each ended by a byte 0, is that of a partition
+/// on which other devices stand.
+fn has_held_partition<R: Files>(
+    rt: &R,
+    alloc: Global,
+    folder: &str,
+    names: &[u8],
+) -> io::Result<bool> {
+    for name in names.split(|byte| *byte == 0) {
+        if is_held_partition(rt, alloc, folder, name)? {
+            return Ok(true);
+        }
+    }
+    Ok(false)
 }
 
 /// Whether a block device is mounted, swapped to or held by another device; or its disk is, or one
