@@ -21,7 +21,7 @@ returns-in-Some-clause-some c =
     let run = c.in-Some.run' in
     let others = take 31 c.in-Some.ensures.0 in
     c.front_of.ensures
-    ∙ sym (first_sectors-front c.args.need run others (omega (arith, c.if-need-gt0.true)) (omega (arith, c.if-need-run.true)))
+    ∙ sym (first_sectors-front c.args.need run others (omega (arith, c.is_roomy.ensures)) (omega (arith, c.if-need-run.true)))
     ∙ ap (first_sectors c.args.need) (sym is)
 
 pub returns-in-Some-clause-none : goal.returns-in-Some-clause-none
