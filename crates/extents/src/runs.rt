@@ -1,8 +1,7 @@
 ghost use Rattle.std.specs.Prelude.{◌≡◌, ◌+◌, ◌-◌, ◌<◌, ◌≤◌, ◌^◌, ◌∷◌, ◌++◌, min, length};
-ghost use Rattle.std.specs.Prelude.{take, drop, slice_index_or, vec_len, vec_capacity, IfOk};
+ghost use Rattle.std.specs.Prelude.{take, drop, slice_index_or, IfOk};
 ghost use Rattle.std.specs.Prelude.{List, IfSome, nat_lt, if◌then◌else◌};
 ghost use Rattle.std.specs.List.{AllWithin};
-ghost use Rattle.std.specs.Vec.{vec_ptr};
 ghost use Rattle.extents.specs.Limits.{most_extents, root_sectors};
 ghost use Rattle.extents.specs.Longest.{longest_first};
 ghost use Rattle.extents.specs.inside.Kept.{IsRising, some_of};
@@ -10,24 +9,26 @@ ghost use Rattle.extents.specs.inside.Kept.{IsRising, some_of};
 use crate::extent::Extent;
 use crate::extents::Extents;
 use crate::limits::ROOT_SECTORS;
+use crate::run_list::RunList;
 use std::alloc::{AllocError, Global};
 
 /// The runs of a disk of this many sectors, none of which is claimed: one, where there is a sector
 /// behind the roots. There is room for as many runs as the disk can have.
-pub(crate) fn one_run(alloc: Global, sectors: u32) -> Result<Vec<Extent>, AllocError>
+pub(crate) fn one_run(alloc: Global, sectors: u32) -> Result<RunList, AllocError>
     ensures items { IfOk result (λ runs.
         runs.items ≡ some_of root_sectors (sectors - root_sectors)) }
     ensures room { IfOk result (λ runs.
-        sectors ≤ vec_capacity runs + vec_capacity runs + 2) }
+        sectors ≤ runs.capacity + runs.capacity + 2) }
 {
     let most = sectors.saturating_sub(1) / 2;
-    let mut runs = Vec::with_capacity(alloc, most as usize)?;
+    let mut runs = RunList::with_capacity(alloc, most as usize)?;
     let count = sectors.saturating_sub(ROOT_SECTORS);
     if count > 0 {
-        runs.push(Extent {
+        let all = Extent {
             start: ROOT_SECTORS,
             count,
-        })?;
+        };
+        runs.insert(0, all);
     }
     Ok(runs)
 }
@@ -45,8 +46,8 @@ pub(crate) fn place_of(runs: &[Extent], sector: u32) -> usize
 
 /// Takes an extent out of the run at `place`, which has all of it: the run goes, or what is left
 /// of it before the extent or behind it stays, or both.
-pub(crate) fn cut(runs: &mut Vec<Extent>, place: usize, extent: Extent)
-    requires within { place < vec_len runs.old }
+pub(crate) fn cut(runs: &mut RunList, place: usize, extent: Extent)
+    requires within { place < length runs.old.items }
     requires front { (slice_index_or runs.old.items place extent).start ≤ extent.start }
     requires back { let run = slice_index_or runs.old.items place extent in
         extent.start + extent.count ≤ run.start + run.count }
@@ -54,17 +55,17 @@ pub(crate) fn cut(runs: &mut Vec<Extent>, place: usize, extent: Extent)
         run.start + run.count < 2 ^ 32 }
     requires room { let run = slice_index_or runs.old.items place extent in
         run.start < extent.start → extent.start + extent.count < run.start + run.count
-        → vec_len runs.old < vec_capacity runs.old }
+        → length runs.old.items < runs.old.capacity }
     ensures items { let run = slice_index_or runs.old.items place extent in
         let end = extent.start + extent.count in
         runs.new.items ≡ take place runs.old.items
         ++ (some_of run.start (extent.start - run.start)
         ++ some_of end (run.start + run.count - end))
         ++ drop (place + 1) runs.old.items }
-    ensures capacity { vec_capacity runs.new ≡ vec_capacity runs.old }
-    ensures in_place { vec_ptr runs.new ≡ vec_ptr runs.old }
+    ensures capacity { runs.new.capacity ≡ runs.old.capacity }
+    ensures in_place { runs.new.memory ≡ runs.old.memory }
 {
-    let run = runs[place];
+    let mut run = runs.as_slice()[place];
     let end = extent.start + extent.count;
     let front = extent.start - run.start;
     let back = run.start + run.count - end;
@@ -77,15 +78,13 @@ pub(crate) fn cut(runs: &mut Vec<Extent>, place: usize, extent: Extent)
         return;
     }
     if front == 0 {
-        runs[place] = rest;
+        runs.set(place, rest);
         return;
     }
-    runs[place] = Extent {
-        start: run.start,
-        count: front,
-    };
+    run.count = front;
+    runs.set(place, run);
     if back > 0 {
-        runs.insert(place + 1, rest).unwrap();
+        runs.insert(place + 1, rest);
     }
 }
 
@@ -128,31 +127,31 @@ pub(crate) fn count_behind(runs: &[Extent], place: usize, sector: u32) -> u32
 
 /// Puts an extent among the runs at `place`, joined to the one before it, which has `left`
 /// sectors, and the one behind it, which has `right`; to neither where that is 0.
-pub(crate) fn join(runs: &mut Vec<Extent>, place: usize, extent: Extent, left: u32, right: u32)
+pub(crate) fn join(runs: &mut RunList, place: usize, extent: Extent, left: u32, right: u32)
     requires before { min left 1 ≤ place }
-    requires behind { place + min right 1 ≤ vec_len runs.old }
+    requires behind { place + min right 1 ≤ length runs.old.items }
     requires start { left ≤ extent.start }
     requires fits { left + extent.count + right < 2 ^ 32 }
-    requires room { left ≡ 0 → right ≡ 0 → vec_len runs.old < vec_capacity runs.old }
+    requires room { left ≡ 0 → right ≡ 0 → length runs.old.items < runs.old.capacity }
     ensures items { runs.new.items ≡ take (place - min left 1) runs.old.items
         ++ record { start = extent.start - left; count = left + extent.count + right }
         ∷ drop (place + min right 1) runs.old.items }
-    ensures capacity { vec_capacity runs.new ≡ vec_capacity runs.old }
-    ensures in_place { vec_ptr runs.new ≡ vec_ptr runs.old }
+    ensures capacity { runs.new.capacity ≡ runs.old.capacity }
+    ensures in_place { runs.new.memory ≡ runs.old.memory }
 {
     let run = Extent {
         start: extent.start - left,
         count: left + extent.count + right,
     };
     if left == 0 && right == 0 {
-        runs.insert(place, run).unwrap();
+        runs.insert(place, run);
         return;
     }
     if left == 0 {
-        runs[place] = run;
+        runs.set(place, run);
         return;
     }
-    runs[place - 1] = run;
+    runs.set(place - 1, run);
     if right > 0 {
         runs.remove(place);
     }

@@ -1,13 +1,9 @@
 use Rattle.std.proofs.Common.{◌≡◌, ◌+◌, ◌∷◌, drop, get_or, sym, ap, ◌∙◌, arith}
 use Rattle.std.proofs.lemmas.List.{at_drop_more, drop_all}
-use Rattle.extents.specs.declared.extent.Extent.{Extent}
 use Rattle.extents.specs.Longest.{longest_first}
+use Rattle.extents.proofs.Edits.{nothing}
 use Rattle.extents.proofs.runs.longest_run.Goals as goal
 use Rattle.extents.proofs.Sorting.{longest_by, longest_by-end, longest_by-more, longest_by-first}
-
--- what a read past the end gives
-abbrev nothing : Extent
-nothing = record { start = 0; count = 0 }
 
 pub loop-run-preserved : goal.loop-run-preserved
 loop-run-preserved c =

@@ -11,7 +11,7 @@ use Rattle.extents.proofs.layout.Layout.first_of_longest.Goals.{After-front_of}
 -- the run is the first of the longest
 first_is : (c : After-front_of) → longest_runs c.args.self.now ≡ c.in-Some.run' ∷ take 31 c.in-Some.ensures.0
 first_is c =
-    sym (ap (λ runs. take 32 (longest_first runs)) (c.deref.ensures.value ∙ sym (free_runs-flags_of c.self.inside.sectors c.self.inside.runs.items c.self.invariant.apart))
+    sym (ap (λ runs. take 32 (longest_first runs)) (c.as_slice.ensures ∙ sym (free_runs-flags_of c.self.inside.sectors c.self.inside.runs.items c.self.invariant.apart))
     ∙ ap longest_runs c.self.view_is)
     ∙ ap (take 32) c.in-Some.ensures.1
 
@@ -21,7 +21,7 @@ returns-in-Some-clause-some c =
     let run = c.in-Some.run' in
     let others = take 31 c.in-Some.ensures.0 in
     c.front_of.ensures
-    ∙ sym (first_sectors-front c.args.need run others (omega (arith, c.is_roomy.ensures)) (omega (arith, c.if-need-run.true)))
+    ∙ sym (first_sectors-front c.args.need run others (omega arith) (omega (arith, c.if-need-run.true)))
     ∙ ap (first_sectors c.args.need) (sym is)
 
 pub returns-in-Some-clause-none : goal.returns-in-Some-clause-none

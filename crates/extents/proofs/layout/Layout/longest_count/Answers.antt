@@ -11,7 +11,7 @@ sector_count-requires c =
     let runs = c.self.inside.runs.items in
     omega (
       arith,
-      ap sector_count (c.longest_of.ensures ∙ ap (λ l. take 32 (longest_first l)) c.deref.ensures.value),
+      ap sector_count (c.longest_of.ensures ∙ ap (λ l. take 32 (longest_first l)) c.as_slice.ensures),
       longest-few runs,
       count_few c.self.inside.sectors runs c.self.invariant.apart,
       c.self.invariant.fits,
@@ -22,5 +22,5 @@ returns c =
     c.sector_count.ensures
     ∙ ap sector_count (
     c.longest_of.ensures
-    ∙ ap (λ l. take 32 (longest_first l)) (c.deref.ensures.value ∙ sym (free_runs-flags_of c.self.inside.sectors c.self.inside.runs.items c.self.invariant.apart))
+    ∙ ap (λ l. take 32 (longest_first l)) (c.as_slice.ensures ∙ sym (free_runs-flags_of c.self.inside.sectors c.self.inside.runs.items c.self.invariant.apart))
     ∙ ap longest_runs c.self.view_is)

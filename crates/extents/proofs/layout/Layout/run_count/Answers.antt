@@ -6,6 +6,7 @@ use Rattle.extents.proofs.FreeFlags.{free_runs-flags_of}
 pub returns : goal.returns
 returns c = omega (
   arith,
+  ap length c.as_slice.ensures,
   ap length (free_runs-flags_of c.self.inside.sectors c.self.inside.runs.items c.self.invariant.apart),
   ap (λ flags. length (free_runs flags)) c.self.view_is,
 )
