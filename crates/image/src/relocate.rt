@@ -15,6 +15,7 @@ ghost use Rattle.image.specs.inside.Bound.{value_in};
 ghost use Rattle.image.specs.inside.Layout.{Lands, Rising, after};
 
 use crate::load::load;
+use crate::parts::Parts;
 use crate::patch::patch;
 use crate::segment::Segment;
 use crate::value::written_value;
@@ -25,6 +26,7 @@ use std::alloc::{AllocError, Global};
 /// segment that was found last.
 fn relocate_one(
     segments: &mut [Segment],
+    parts: &Parts,
     near: usize,
     base: u64,
     values: &[u64],
@@ -39,16 +41,17 @@ fn relocate_one(
         (segments_byte segments.old a) a) }
 {
     match written_value(base, values, relocation) {
-        Some(value) => patch(segments, near, base + relocation.offset, value),
+        Some(value) => patch(segments, parts, near, base + relocation.offset, value),
         None => Ok(near),
     }
 }
 
 /// Writes what the relocations of an object at a base write, in their order, into its segments.
-/// One that goes where the one before it went takes constant time, any other a halving over the
-/// segments.
+/// One that goes where the one before it went takes constant time, any other a halving over few
+/// segments or over those that begin in one part of many.
 fn relocate(
     segments: &mut [Segment],
+    parts: &Parts,
     object: &Object<'_>,
     base: u64,
     values: &[u64],
@@ -63,7 +66,7 @@ fn relocate(
     let mut near = 0;
     for i in 0..object.rela_count() {
         let relocation = object.rela(i);
-        near = relocate_one(segments, near, base, values, relocation)?;
+        near = relocate_one(segments, parts, near, base, values, relocation)?;
     }
     Ok(())
 }
@@ -84,6 +87,7 @@ pub(crate) fn relocated(
         (filter_map (write_with base (value_in values.now)) (relocations object.now)) a) }
 {
     let mut segments = load(alloc, object, base)?;
-    relocate(&mut segments, object, base, values)?;
+    let parts = Parts::of(alloc, &segments)?;
+    relocate(&mut segments, &parts, object, base, values)?;
     Ok(segments)
 }
