@@ -12,7 +12,6 @@ use Rattle.elf_file.specs.Refusal.{segment_tests, segment_refusal, file_refusals
 use Rattle.elf_dynamic.specs.Relocation.{is_writing, is_misplaced, has_bad_place, relocations}
 use Rattle.elf_dynamic.specs.Table.{has_bad_range}
 use Rattle.elf_dynamic.specs.Refusal.{table_tests, table_refusal, relocation_tests, relocation_refusal, refusals, first_refusal}
-use Rattle.elf_file.specs.declared.refusal.ObjectRefusal.{ObjectRefusal}
 use Rattle.elf_file.specs.declared.refusal.ObjectRefusal.TheVariants.{BadRange, BadSegment, TooLarge, SegmentOrder, RelocationPlace}
 use Rattle.elf_file.specs.declared.segment.ProgramHeader.{ProgramHeader}
 use Rattle.elf_file.proofs.FirstOf.{none_at, when_none}
@@ -26,7 +25,8 @@ or-false_right : (a b : Bool) → (a || b) ≡ false → b ≡ false
 or-false_right true b h = cc
 or-false_right false b h = h
 
-file_refuses_none : (file : List ℕ) → first_refusal file ≡ None → file_refusal file ≡ None
+-- its headers, segments and tags aren't refused
+pub file_refuses_none : (file : List ℕ) → first_refusal file ≡ None → file_refusal file ≡ None
 unfolding first_refusal
 file_refuses_none file h = none_at (refusals file) 0 h
 
@@ -152,12 +152,6 @@ load_fits file i h accepted at =
     let fits = loads_fit file accepted i h (slice_get_within (loads file) i h at) in
     rw (get_or_from_slice_get (loads file) i h h at) at fits
 
--- so are as many of a PT_LOAD that was given by its number
-pub contents_whole : (file : List ℕ) (i : ℕ) (h : ProgramHeader) → first_refusal file ≡ None → slice_get (loads file) i ≡ Some h → length (contents file h) ≡ h.file_size
-contents_whole file i h accepted at =
-    let all = contents_length file accepted i h (slice_get_within (loads file) i h at) in
-    rw (get_or_from_slice_get (loads file) i h h at) at all
-
 tables_refuse_none : (file : List ℕ) → first_refusal file ≡ None → table_refusal file ≡ None
 unfolding first_refusal
 tables_refuse_none file h = none_at (refusals file) 1 h
@@ -166,17 +160,11 @@ ranges_fine_by : (file : List ℕ) → table_refusal file ≡ None → has_bad_r
 unfolding table_refusal
 ranges_fine_by file h = when_none BadRange (has_bad_range file) (none_at (table_tests file) 0 h)
 
--- its tags are read
-pub tags_read : (file : List ℕ) (r : ObjectRefusal) → first_refusal file ≡ None → file_refusal file ≡ Some r → ⊥
-tags_read file r h e =
-    let none = file_refuses_none file h in
-    cc
-
 -- its tables are found
 pub tables_found : (file : List ℕ) → first_refusal file ≡ None → has_bad_range file ≡ true → ⊥
 tables_found file h e =
     let fine = ranges_fine_by file (tables_refuse_none file h) in
     cc
 
--- what reading it again can't answer
-pub ruleset accepted_parts = (tags_read, tables_found)
+-- for finding its tables again
+pub ruleset accepted_parts = (file_refuses_none, tables_found)

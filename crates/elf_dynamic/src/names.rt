@@ -5,7 +5,6 @@ ghost use Rattle.elf_dynamic.specs.Strings.{string_table, needed, soname};
 
 use crate::strings::{NeededNames, string_at};
 use crate::tables::Tables;
-use elf_file::Tag;
 
 impl<'a> Tables<'a> {
     /// The string table.
@@ -20,7 +19,7 @@ impl<'a> Tables<'a> {
     pub(crate) fn needed_count(&self) -> usize
         ensures { result ≡ length (needed self.now) }
     {
-        self.dynamic().needed_count()
+        self.parts().needed_count
     }
 
     /// The names of the needed libraries in their order.
@@ -28,7 +27,7 @@ impl<'a> Tables<'a> {
     pub(crate) fn needed_names(&self) -> NeededNames<'a>
         ensures { result ≡ needed self.now }
     {
-        NeededNames::new(self.string_table(), self.dynamic().needed_offsets())
+        NeededNames::new(self.string_table(), self.needed_offsets())
     }
 
     /// The name of the needed library number `i`.
@@ -37,10 +36,14 @@ impl<'a> Tables<'a> {
         requires { i < length (needed self.now) }
         ensures { slice_get (needed self.now) i ≡ Some result.now }
     {
-        string_at(
-            self.string_table(),
-            self.dynamic().needed_offset(i) as usize,
-        )
+        let mut left = i;
+        for offset in self.needed_offsets() {
+            if left == 0 {
+                return string_at(self.string_table(), offset as usize);
+            }
+            left -= 1;
+        }
+        unreachable!()
     }
 
     /// The object's own name.
@@ -49,11 +52,9 @@ impl<'a> Tables<'a> {
         ensures { MatchOption result (soname self.now ≡ None)
             (λ name. soname self.now ≡ Some name.now) }
     {
-        let dynamic = self.dynamic();
-        if !dynamic.is_present(Tag::SoName) {
-            return None;
+        match self.parts().soname {
+            Some(offset) => Some(string_at(self.string_table(), offset as usize)),
+            None => None,
         }
-        let offset = dynamic.tag_value(Tag::SoName) as usize;
-        Some(string_at(self.string_table(), offset))
     }
 }

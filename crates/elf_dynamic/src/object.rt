@@ -38,8 +38,8 @@ impl<'a> Model for Object<'a> {
 
 impl<'a> Object<'a> {
     /// Reads a file, or gives the refusal of the first test that applies. A few passes over the
-    /// program headers and the relocations, and one over the dynamic section; it takes no memory
-    /// and copies nothing.
+    /// program headers and the relocations, and two over the dynamic section and the symbols; it
+    /// takes no memory and copies nothing.
     #[tactic(auto, unfolding(crate::specs::Refusal::first_refusal))]
     pub fn read(file: &'a [u8]) -> Result<Object<'a>, ObjectRefusal>
         ensures { MatchResult result
@@ -47,31 +47,30 @@ impl<'a> Object<'a> {
             (λ refusal. first_refusal file.now ≡ Some refusal) }
     {
         let dynamic = Dynamic::read(file)?;
-        let tables = Tables::read(dynamic)?;
+        let tables = Tables::read(&dynamic)?;
         tables.test_symbols()?;
         tables.test_relocations()?;
         Ok(Object { tables })
     }
 
-    /// The object that a file is which no test refuses: none of them is made again. A few passes
-    /// over the program headers, and one over the dynamic section.
+    /// The object that a file is which no test refuses: of these only that of the ranges of its
+    /// tables (E22) is made again, since it finds them. A few passes over the program headers, and
+    /// one over the dynamic section.
     #[tactic(auto, using(crate::proofs::Accepted::accepted_parts))]
     pub fn of_accepted(file: &'a [u8]) -> Object<'a>
         requires { first_refusal file.now ≡ None }
         ensures { result ≡ file.now }
     {
-        let Ok(dynamic) = Dynamic::read(file) else {
-            unreachable!()
-        };
+        let dynamic = Dynamic::of_accepted(file);
         let Some(parts) = Parts::find(&dynamic) else {
             unreachable!()
         };
         Object {
-            tables: Tables::new(dynamic, parts),
+            tables: Tables::new(&dynamic, parts),
         }
     }
 
-    /// How many PT_LOADs there are.
+    /// How many PT_LOADs there are: one pass over the program headers.
     pub fn segment_count(&self) -> usize
         ensures count { result ≡ length (loads self.now) }
 
@@ -82,7 +81,7 @@ impl<'a> Object<'a> {
     }
 
     /// The PT_LOAD number `i`, in the order of the program headers, which is that of their
-    /// addresses. A halving; where all are wanted, `segments` gives them in one pass.
+    /// addresses. A pass over these up to it; where all are wanted, `segments` gives them in one.
     pub fn segment(&self, i: usize) -> ProgramHeader
         requires { i < length (loads self.now) }
         ensures segment { slice_get (loads self.now) i ≡ Some result }
@@ -97,22 +96,6 @@ impl<'a> Object<'a> {
         ensures accepted { first_refusal self.now ≡ None }
     {
         self.tables.segments().iter()
-    }
-
-    /// The bytes of the file that are loaded to the front of the PT_LOAD number `i`: `p_filesz` of
-    /// them, from `p_offset` on. A halving; where all are wanted, `contents_of` gives those of each
-    /// that `segments` gives.
-    pub fn contents(&self, i: usize) -> &'a [u8]
-        requires { i < length (loads self.now) }
-        ensures contents { IfSome (slice_get (loads self.now) i)
-            (λ segment. result.now ≡ contents self.now segment) }
-
-        // The file has all of them.
-        ensures whole { IfSome (slice_get (loads self.now) i)
-            (λ segment. length result.now ≡ segment.file_size) }
-        ensures accepted { first_refusal self.now ≡ None }
-    {
-        self.contents_of(self.segment(i))
     }
 
     /// The bytes of the file that are loaded to the front of a PT_LOAD, in constant time. Of
@@ -194,7 +177,7 @@ impl<'a> Object<'a> {
         ensures symbolic { result ≡ is_symbolic self.now }
         ensures accepted { first_refusal self.now ≡ None }
     {
-        self.tables.dynamic().is_symbolic()
+        self.tables.parts().symbolic
     }
 
     /// The string table, in which the names of symbols stand at their offsets.

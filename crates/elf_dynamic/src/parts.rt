@@ -8,12 +8,14 @@ ghost use Rattle.elf_dynamic.specs.Strings.{string_bytes};
 ghost use Rattle.elf_dynamic.specs.Symbol.{symbol_bytes};
 ghost use Rattle.elf_dynamic.specs.Relocation.{table_bytes};
 ghost use Rattle.elf_dynamic.specs.Table.{has_bad_range};
-ghost use Rattle.elf_dynamic.specs.inside.Tables.{HasParts};
+ghost use Rattle.elf_dynamic.specs.inside.Tables.{HasParts, soname_offset};
 
 use crate::hash_table::HashTable;
 use elf_file::{Dynamic, SYMBOL_SIZE, Tag};
 
-/// The tables of a file: parts of its bytes.
+/// The tables of a file, which are parts of its bytes, and what else is kept of its tags: how many
+/// libraries it needs, where its own name stands in the string table, where it has one, and whether
+/// it is looked in first for its own references.
 #[derive(Clone, Copy)]
 pub(crate) struct Parts<'a> {
     pub(crate) strings: &'a [u8],
@@ -21,6 +23,9 @@ pub(crate) struct Parts<'a> {
     pub(crate) symbols: &'a [u8],
     pub(crate) rela: &'a [u8],
     pub(crate) jmprel: &'a [u8],
+    pub(crate) needed_count: usize,
+    pub(crate) soname: Option<u64>,
+    pub(crate) symbolic: bool,
 }
 
 /// The string table, if it can be read.
@@ -63,6 +68,17 @@ fn table_bytes<'a>(dynamic: &Dynamic<'a>, place: Tag, size: Tag) -> Option<&'a [
         .bytes_at(dynamic.tag_value(place), dynamic.tag_value(size))
 }
 
+/// Where the object's own name stands in the string table, where it has one.
+fn soname_offset(dynamic: &Dynamic<'_>) -> Option<u64>
+    ensures { result ≡ soname_offset dynamic.now }
+{
+    if dynamic.is_present(Tag::SoName) {
+        Some(dynamic.tag_value(Tag::SoName))
+    } else {
+        None
+    }
+}
+
 impl<'a> Parts<'a> {
     /// The tables of a file, if they can be read.
     pub(crate) fn find(dynamic: &Dynamic<'a>) -> Option<Parts<'a>>
@@ -90,6 +106,9 @@ impl<'a> Parts<'a> {
             symbols,
             rela,
             jmprel,
+            needed_count: dynamic.needed_count(),
+            soname: soname_offset(dynamic),
+            symbolic: dynamic.is_symbolic(),
         })
     }
 }

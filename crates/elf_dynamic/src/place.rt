@@ -6,7 +6,7 @@ ghost use Rattle.elf_file.specs.Address.{IsLoadOf};
 ghost use Rattle.elf_dynamic.specs.Relocation.{is_misplaced, relocations_in};
 
 use crate::relocation::{Relocation, is_writing, nth_relocation, relocation_count};
-use elf_file::{ProgramHeader, Segments, is_in_memory_part};
+use elf_file::{IndexedSegments, ProgramHeader, is_in_memory_part};
 
 /// How many bytes a relocation writes.
 const WRITTEN: u64 = 8;
@@ -15,7 +15,7 @@ const WRITTEN: u64 = 8;
 /// before needed: it is tried first, and then the index of all of them.
 #[tactic(auto, using(crate::proofs::Misplaced::of_one))]
 fn is_misplaced(
-    segments: &Segments<'_>,
+    segments: &IndexedSegments<'_>,
     last: &mut Option<ProgramHeader>,
     relocation: Relocation,
 ) -> bool
@@ -42,7 +42,7 @@ fn is_misplaced(
 
 /// Whether a relocation of a table writes where no PT_LOAD has memory.
 #[tactic(auto, using(crate::proofs::Misplaced::of_a_table))]
-pub(crate) fn has_misplaced_in(segments: &Segments<'_>, table: &[u8]) -> bool
+pub(crate) fn has_misplaced_in(segments: &IndexedSegments<'_>, table: &[u8]) -> bool
     ensures { result ≡ list_any (is_misplaced segments.now) (relocations_in table.now) }
 {
     let mut last = None;

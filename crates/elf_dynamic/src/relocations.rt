@@ -75,8 +75,8 @@ impl<'a> Tables<'a> {
     fn has_bad_place(&self) -> bool
         ensures { result ≡ has_bad_place self.now }
     {
-        has_misplaced_in(self.segments(), self.rela())
-            || has_misplaced_in(self.segments(), self.jmprel())
+        let segments = self.segments().indexed();
+        has_misplaced_in(&segments, self.rela()) || has_misplaced_in(&segments, self.jmprel())
     }
 
     /// Tests the relocations.

@@ -1,6 +1,8 @@
 // A file whose tables have been tested.
 
-ghost use Rattle.std.specs.Prelude.{◌≡◌, None, Some, MatchResult};
+ghost use Rattle.std.specs.Prelude.{◌≡◌, None, Some, MatchResult, nat_le};
+ghost use Rattle.std.specs.List.{list_any};
+ghost use Rattle.elf_file.specs.Dynamic.{needed_offsets, tag_value};
 ghost use Rattle.elf_dynamic.specs.Strings.{is_unended, has_bad_needed, has_bad_string};
 ghost use Rattle.elf_dynamic.specs.Strings.{has_bad_soname_offset, has_bad_symbol_name};
 ghost use Rattle.elf_dynamic.specs.Refusal.{table_refusal};
@@ -8,45 +10,57 @@ ghost use Rattle.elf_dynamic.specs.inside.Tables.{HasParts};
 
 use crate::parts::Parts;
 use crate::symbol::has_name_from;
-use elf_file::{Dynamic, ObjectRefusal, Segments, Tag};
+use elf_file::{Dynamic, NeededOffsets, ObjectRefusal, Segments};
 use std::marker::Model;
+
+/// Whether an offset is at or above a limit.
+fn has_offset_from(mut offsets: NeededOffsets<'_>, limit: u64) -> bool
+    ensures { result ≡ list_any (nat_le limit) offsets.entry }
+{
+    offsets.any(|offset| offset >= limit)
+}
 
 /// A file that none of the tests E1 to E22 refuses, and from `read` on none of E1 to E23: its
 /// tables can be read. Contracts see its bytes.
 #[derive(Drop)]
 pub(crate) struct Tables<'a> {
-    dynamic: Dynamic<'a>,
+    segments: Segments<'a>,
+    needed: NeededOffsets<'a>,
     parts: Parts<'a>,
 }
 
 impl<'a> Model for Tables<'a> {
     ghost use Rattle.std.specs.Prelude.{List, ℕ};
-    ghost use Rattle.elf_dynamic.specs.inside.Tables.{HasParts};
+    ghost use Rattle.elf_dynamic.specs.inside.Tables.{HasTables};
 
     ghost Value = { List ℕ };
 
-    ghost view = { λ t. t.dynamic };
+    ghost view = { λ t. t.segments };
 
-    ghost invariant = { λ t. HasParts t.dynamic t.parts };
+    ghost invariant = { λ t. HasTables t.segments t.needed t.parts };
 }
 
 impl<'a> Tables<'a> {
     /// The tables of a file, which were found.
-    pub(crate) fn new(dynamic: Dynamic<'a>, parts: Parts<'a>) -> Tables<'a>
-        requires { HasParts dynamic parts }
-        ensures { result ≡ dynamic.entry }
+    pub(crate) fn new(dynamic: &Dynamic<'a>, parts: Parts<'a>) -> Tables<'a>
+        requires { HasParts dynamic.now parts }
+        ensures { result ≡ dynamic.now }
     {
-        Tables { dynamic, parts }
+        Tables {
+            segments: dynamic.segments().again(),
+            needed: dynamic.needed_offsets(),
+            parts,
+        }
     }
 
     /// Finds the tables, and tests the strings.
     #[tactic(auto, unfolding(crate::specs::Refusal::table_refusal))]
-    pub(crate) fn read(dynamic: Dynamic<'a>) -> Result<Tables<'a>, ObjectRefusal>
+    pub(crate) fn read(dynamic: &Dynamic<'a>) -> Result<Tables<'a>, ObjectRefusal>
         ensures { MatchResult result
-            (λ tables. (table_refusal dynamic.entry ≡ None) × (tables ≡ dynamic.entry))
-            (λ refusal. table_refusal dynamic.entry ≡ Some refusal) }
+            (λ tables. (table_refusal dynamic.now ≡ None) × (tables ≡ dynamic.now))
+            (λ refusal. table_refusal dynamic.now ≡ Some refusal) }
     {
-        let Some(parts) = Parts::find(&dynamic) else {
+        let Some(parts) = Parts::find(dynamic) else {
             return Err(ObjectRefusal::BadRange);
         };
         let tables = Tables::new(dynamic, parts);
@@ -56,25 +70,25 @@ impl<'a> Tables<'a> {
         Ok(tables)
     }
 
-    /// The dynamic section.
-    pub(crate) fn dynamic(&self) -> &Dynamic<'a>
-        ensures { result.now ≡ self.now }
+    /// The offsets of the needed libraries' names.
+    pub(crate) fn needed_offsets(&self) -> NeededOffsets<'a>
+        ensures { result ≡ needed_offsets self.now }
     {
-        &self.dynamic
+        self.needed.again()
     }
 
     /// The segments.
     pub(crate) fn segments(&self) -> &Segments<'a>
         ensures { result.now ≡ self.now }
     {
-        self.dynamic.segments()
+        &self.segments
     }
 
     /// The file.
     pub(crate) fn file(&self) -> &'a [u8]
         ensures { result.now ≡ self.now }
     {
-        self.dynamic.segments().headers().file()
+        self.segments.headers().file()
     }
 
     /// The tables.
@@ -82,6 +96,13 @@ impl<'a> Tables<'a> {
         ensures { HasParts self.now result }
     {
         self.parts
+    }
+
+    /// How many bytes the string table has.
+    fn limit(&self) -> u64
+        ensures { result ≡ tag_value self.now 10 }
+    {
+        self.parts().strings.len() as u64
     }
 
     /// Whether the string table is empty, or its last byte isn't zero.
@@ -97,25 +118,24 @@ impl<'a> Tables<'a> {
     fn has_bad_needed(&self) -> bool
         ensures { result ≡ has_bad_needed self.now }
     {
-        let limit = self.dynamic().tag_value(Tag::StrSize);
-        self.dynamic().has_needed_from(limit)
+        has_offset_from(self.needed_offsets(), self.limit())
     }
 
     /// Whether the object's own name isn't in the string table.
     fn has_bad_soname_offset(&self) -> bool
         ensures { result ≡ has_bad_soname_offset self.now }
     {
-        let dynamic = self.dynamic();
-        dynamic.is_present(Tag::SoName)
-            && dynamic.tag_value(Tag::SoName) >= dynamic.tag_value(Tag::StrSize)
+        match self.parts().soname {
+            Some(offset) => offset >= self.limit(),
+            None => false,
+        }
     }
 
     /// Whether a symbol's name isn't in the string table.
     fn has_bad_symbol_name(&self) -> bool
         ensures { result ≡ has_bad_symbol_name self.now }
     {
-        let limit = self.dynamic().tag_value(Tag::StrSize);
-        has_name_from(self.parts().symbols, limit)
+        has_name_from(self.parts().symbols, self.limit())
     }
 
     fn has_bad_string(&self) -> bool

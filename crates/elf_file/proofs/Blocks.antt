@@ -1,14 +1,14 @@
 -- The PT_LOADs in blocks.
-use Rattle.std.proofs.Common.{◌≡◌, ℕ, ◌<◌, ◌≤◌, ◌+◌, ◌-◌, ◌*◌, Bool, true, false, cond, List, length, arith, sym, ap, ◌∙◌, inl, inr, get_or, set, add-zero, subst, get_or-set_same, get_or-set_other}
+use Rattle.std.proofs.Common.{◌≡◌, ℕ, ◌<◌, ◌≤◌, ◌+◌, ◌-◌, ◌*◌, true, false, List, length, arith, sym, ap, ◌∙◌, inl, inr, get_or, set, subst, get_or-set_same, get_or-set_other}
 use Rattle.std.proofs.lemmas.Bool.Decides.{nat_tests}
 use Rattle.std.proofs.Math.ListN.{length-set}
 use Rattle.std.proofs.lemmas.Bool.{cases_lt}
 use Rattle.elf_file.specs.Header.{header_count}
-use Rattle.elf_file.specs.Segment.{program_header, is_load, loads, has_bad_order}
-use Rattle.elf_file.specs.inside.Index.{loads_before, is_spanned, with_block, InBlock, Indexes, AllAbove, IsBlockAt, BeginsBy}
+use Rattle.elf_file.specs.Segment.{program_header, is_load, has_bad_order}
+use Rattle.elf_file.specs.inside.Index.{is_spanned, with_block, InBlock, Indexes, AllAbove, IsBlockAt, BeginsBy}
 use Rattle.elf_file.specs.declared.load_index.LoadIndex.{LoadIndex}
 use Rattle.elf_file.specs.declared.load_index.TheConstants.{BLOCK, BLOCKS}
-use Rattle.elf_file.proofs.LoadNumbers.{loads_before_more, loads_before_most, loads_before_all, loads_apart, loads_rise}
+use Rattle.elf_file.proofs.LoadNumbers.{loads_apart, loads_rise}
 
 -- the header number of a block's first PT_LOAD
 abbrev pub first_of_block : LoadIndex → ℕ → ℕ
@@ -65,17 +65,6 @@ block_fits file index i has most free =
       | inr none ↦ omega (arith, none)
     ]
 
--- as many PT_LOADs as program headers at most
-pub count_fits : (file : List ℕ) (index : LoadIndex) (i : ℕ) → Indexes file i index → index.count ≤ i
-count_fits file index i has = omega (arith, has.count, loads_before_most file i)
-
-pub counted : (file : List ℕ) (i n : ℕ) (b : Bool) → is_load (program_header file i) ≡ b → n ≡ loads_before file i → n + cond b 1 0 ≡ loads_before file (i + 1)
-counted file i n b is e = ap (λ m. m + cond b 1 0) e ∙ sym (loads_before_more file i ∙ ap (λ c. loads_before file i + cond c 1 0) is)
-
--- no PT_LOAD more
-pub uncounted : (file : List ℕ) (i n : ℕ) → is_load (program_header file i) ≡ false → n ≡ loads_before file i → n ≡ loads_before file (i + 1)
-uncounted file i n is e = sym (add-zero n) ∙ counted file i n false is e
-
 in-next : (file : List ℕ) (i : ℕ) (index : LoadIndex) → Indexes file i index → (is_load (program_header file i) ≡ true → InBlock index i)
     → (j : ℕ) → j < i + 1 → is_load (program_header file j) ≡ true → InBlock index j
 in-next file i index has here j lt is =
@@ -88,41 +77,27 @@ in-next file i index has here j lt is =
 pub index_other : (file : List ℕ) (i : ℕ) (index : LoadIndex) → Indexes file i index → is_load (program_header file i) ≡ false → Indexes file (i + 1) index
 index_other file i index has is = record {
   first_size = has.first_size;
-  before_size = has.before_size;
   fits = has.fits;
-  count = sym (add-zero index.count) ∙ counted file i index.count false is has.count;
-  some = has.some;
-  front = has.front;
   load = has.load;
   within = λ b lt. omega (arith, has.within b lt);
   room = has.room;
-  before = has.before;
   apart = has.apart;
   all = in-next file i index has (λ t. let f = sym is ∙ t in cc);
 }
 
--- the index with one more PT_LOAD counted
-abbrev pub counting : LoadIndex → LoadIndex
-counting index = record index { count = index.count + 1 }
-
 -- another PT_LOAD, which the last block spans
 pub index_spanned : (file : List ℕ) (i : ℕ) (index : LoadIndex) → Indexes file i index → is_load (program_header file i) ≡ true → is_spanned index i ≡ true
-    → Indexes file (i + 1) (counting index)
+    → Indexes file (i + 1) index
 index_spanned file i index has is spanned =
     let some : 0 < index.blocks = grind (arith, nat_tests) in
     let to : i < first_of_block index (index.blocks - 1) + BLOCK = grind (arith, nat_tests) in
     let last : index.blocks - 1 < index.blocks = omega (arith, some) in
     record {
       first_size = has.first_size;
-      before_size = has.before_size;
       fits = has.fits;
-      count = counted file i index.count true is has.count;
-      some = λ none. absurd (omega (arith, none, some));
-      front = has.front;
       load = has.load;
       within = λ b lt. omega (arith, has.within b lt);
       room = has.room;
-      before = has.before;
       apart = has.apart;
       all = λ j lt load.
           let at = in-next file i index has (λ t. record { block = index.blocks - 1; stands = last; from = omega (arith, has.within (index.blocks - 1) last); to = to }) j lt load in
@@ -148,25 +123,15 @@ far file i index a has free lt =
 
 -- another PT_LOAD, which begins a block
 pub index_block : (file : List ℕ) (i : ℕ) (index : LoadIndex) → Indexes file i index → is_load (program_header file i) ≡ true → is_spanned index i ≡ false → index.blocks < BLOCKS
-    → Indexes file (i + 1) (counting (with_block index i))
+    → Indexes file (i + 1) (with_block index i)
 index_block file i index has is free room =
     let n : ℕ = index.blocks in
     let in1 : n < length index.first = omega (arith, room, has.first_size) in
-    let in2 : n < length index.before = omega (arith, room, has.before_size) in
     let first = λ (b : ℕ) (lt : b < n). get_or-set_other index.first n b i 0 (omega (arith, lt)) in
     let here : get_or (set index.first n i) n 0 ≡ i = get_or-set_same index.first n i 0 in1 in
     record {
       first_size = length-set index.first n i ∙ has.first_size;
-      before_size = length-set index.before n index.count ∙ has.before_size;
       fits = omega (arith, room);
-      count = counted file i index.count true is has.count;
-      some = λ none. absurd (omega (arith, none));
-      front = elim (cases_lt 0 n) [
-        | inl some ↦ get_or-set_other index.before n 0 index.count 0 (omega (arith, some)) ∙ has.front
-        | inr none ↦
-            let e : n ≡ 0 = omega (arith, none) in
-            ap (λ k. get_or (set index.before n index.count) k 0) (sym e) ∙ get_or-set_same index.before n index.count 0 in2 ∙ has.some e
-      ];
       load = set-facts index.first n i (λ b f. is_load (program_header file f) ≡ true) in1 has.load is;
       within = set-facts index.first n i (λ b f. f < i + 1) in1 (λ b lt. omega (arith, has.within b lt)) (omega arith);
       room = set-facts index.first n i (λ b f. BLOCK * b ≤ f) in1 has.room
@@ -176,9 +141,6 @@ index_block file i index has is free room =
                 omega (arith, has.room (n - 1) last, far file i index (n - 1) has free last)
             | inr none ↦ omega (arith, none)
           ]);
-      before = set-facts index.before n index.count (λ b m. m ≡ loads_before file (get_or (set index.first n i) b 0)) in2
-          (λ b lt. has.before b lt ∙ ap (loads_before file) (sym (first b lt)))
-          (has.count ∙ ap (loads_before file) (sym here));
       apart = λ a b less lt.
           set-facts index.first n i (λ k f. a < k → get_or (set index.first n i) a 0 + BLOCK ≤ f) in1
           (λ k low under. omega (arith, has.apart a k under low, first a (omega (arith, under, low))))
@@ -204,11 +166,3 @@ block_later file address low next order block le begins = (
   (λ j lt is. omega (arith, loads_apart file j next order lt begins.0 is begins.1, begins.2)),
   (λ j ge lt is. block.2 j (omega (arith, le, ge)) lt is),
 )
-
--- where there is a PT_LOAD there is a block
-pub some_block : (file : List ℕ) (index : LoadIndex) (i : ℕ) → Indexes file (header_count file) index → i < length (loads file) → 0 < index.blocks
-some_block file index i has lt =
-    elim (cases_lt 0 index.blocks) [
-      | inl some ↦ some
-      | inr none ↦ absurd (omega (arith, lt, has.count, loads_before_all file, has.some (omega (arith, none))))
-    ]

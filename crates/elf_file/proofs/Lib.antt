@@ -1,4 +1,5 @@
 pub mod FirstOf
+mod Accepted
 mod Spans
 pub mod Order
 mod LoadNumbers

@@ -28,11 +28,6 @@ middle : {X : Type 0} (xs ys : List X) (y : X) → slice_get (xs ++ y ∷ ys) (l
 middle [] ys y = refl
 middle (x ∷ xs) ys y = middle xs ys y
 
--- no PT_LOAD stands before the first program header
-pub loads_before_zero : (file : List ℕ) → loads_before file 0 ≡ 0
-unfolding loads_before
-loads_before_zero file = refl
-
 length-cond : {X : Type 0} (b : Bool) (x : X) → length (cond b (x ∷ []) []) ≡ cond b 1 0
 length-cond true x = refl
 length-cond false x = refl
@@ -44,11 +39,6 @@ loads_before_more file k =
     ap length (filter_of_map_range_with_len_more is_load (program_header file) 0 k k (zero-add k))
     ∙ length-append (filter is_load (map (program_header file) (range_with_len 0 k))) (cond (is_load (program_header file k)) (program_header file k ∷ []) [])
     ∙ ap (λ n. length (filter is_load (map (program_header file) (range_with_len 0 k))) + n) (length-cond (is_load (program_header file k)) (program_header file k))
-
--- all PT_LOADs stand before the end of the program headers
-pub loads_before_all : (file : List ℕ) → loads_before file (header_count file) ≡ length (loads file)
-unfolding loads_before loads
-loads_before_all file = refl
 
 -- a PT_LOAD has the number of those before it
 pub load_at : (file : List ℕ) (j : ℕ) → j < header_count file → is_load (program_header file j) ≡ true
@@ -65,14 +55,6 @@ load_at file j lt is =
     ∙ ap (filter is_load) (map-append (program_header file) (range_with_len 0 j) (range_with_len j (suc n)))
     ∙ filter-append is_load (map (program_header file) (range_with_len 0 j)) (map (program_header file) (range_with_len j (suc n))) in
     ap (λ l. slice_get l (length front)) (split ∙ ap (λ b. front ++ cond b (program_header file j ∷ back) back) is) ∙ middle front back (program_header file j)
-
--- no more PT_LOADs than program headers stand before a program header
-pub loads_before_most : (file : List ℕ) (k : ℕ) → loads_before file k ≤ k
-loads_before_most file zero = omega (arith, loads_before_zero file)
-loads_before_most file (suc k) =
-    let e : suc k ≡ k + 1 = omega arith in
-    let m : cond (is_load (program_header file k)) 1 0 ≤ 1 = elim (is_load (program_header file k)) as (λ b. cond b 1 0 ≤ 1) [ true ↦ omega arith | false ↦ omega arith ] in
-    omega (arith, loads_before_more file k, loads_before_most file k, ap (loads_before file) e, m)
 
 -- more program headers have no fewer PT_LOADs before them
 pub loads_before_rises : (file : List ℕ) (i d : ℕ) → loads_before file i ≤ loads_before file (i + d)

@@ -1,7 +1,6 @@
 -- The entries that name needed libraries, from one on.
 use Rattle.std.proofs.Common.{◌≡◌, ℕ, ◌<◌, ◌≤◌, ◌+◌, ◌-◌, Bool, true, false, cond, List, [], ◌∷◌, length, arith, ◌∙◌, sym, ap, filter, map, suc, zero, add-zero, refl, subst}
-use Rattle.std.specs.Prelude.{nat_le}
-use Rattle.std.specs.List.{list_any, range_with_len}
+use Rattle.std.specs.List.{range_with_len}
 use Rattle.std.proofs.lemmas.List.Sums.{length-filter}
 use Rattle.std.proofs.lemmas.List.{length-map}
 use Rattle.elf_file.specs.Constant.{DT_NEEDED}
@@ -70,11 +69,3 @@ pub needed_counted : (file : List ℕ) → tag_count file DT_NEEDED ≡ length (
 unfolding tag_count needed_offsets
 needed_counted file =
     sym (length-map (filter (has_tag DT_NEEDED) (entries file)) (λ (x : Entry). x.value) ∙ length-filter (has_tag DT_NEEDED) (entries file))
-
--- a search of the values with DT_NEEDED in a file's section
-pub searched : (file section : List ℕ) (count limit : ℕ) → section ≡ dynamic_section file → entries file ≡ map (entry (dynamic_section file)) (range_with_len 0 count)
-    → list_any (nat_le limit) (map (λ (x : Entry). x.value) (filter (has_tag DT_NEEDED) (map (entry section) (range_with_len 0 count)))) ≡ list_any (nat_le limit) (needed_offsets file)
-unfolding needed_offsets
-searched file section count limit same all =
-    ap (λ s. list_any (nat_le limit) (map (λ (x : Entry). x.value) (filter (has_tag DT_NEEDED) (map (entry s) (range_with_len 0 count))))) same
-    ∙ ap (λ es. list_any (nat_le limit) (map (λ (x : Entry). x.value) (filter (has_tag DT_NEEDED) es))) (sym all)

@@ -1,7 +1,7 @@
 // The dynamic section and the tests of its entries (gABI chapter 5).
 
 ghost use Rattle.std.specs.Prelude.{◌≡◌, false, true, Some, None, MatchResult, MatchOption};
-ghost use Rattle.std.specs.Prelude.{◌≤◌, ◌<◌, ◌/◌, length, map, nat_lt, nat_le, slice_get};
+ghost use Rattle.std.specs.Prelude.{◌≤◌, ◌/◌, length, map, nat_lt};
 ghost use Rattle.std.specs.List.{list_any, range_with_len};
 ghost use Rattle.elf_file.specs.Dynamic.{has_dynamic, dynamic_section, has_bad_dynamic};
 ghost use Rattle.elf_file.specs.Dynamic.{entry, entries, tag_count, is_present, tag_value, is_part};
@@ -16,7 +16,7 @@ ghost use Rattle.elf_file.specs.Refusal.{tag_refusal, file_refusal};
 use crate::ObjectRefusal;
 use crate::address::part;
 use crate::headers::Headers;
-use crate::needed::{NeededOffsets, has_needed_in};
+use crate::needed::NeededOffsets;
 use crate::segments::Segments;
 use crate::tag::{DF_SYMBOLIC, DT_RELA, RELOCATION_SIZE, SYMBOL_SIZE, Tag};
 use crate::tag_table::{Slot, Tags, place, read_tags};
@@ -98,6 +98,19 @@ impl<'a> Dynamic<'a> {
         let headers = Headers::read(file)?;
         let segments = Segments::read(headers)?;
         Dynamic::test(segments)
+    }
+
+    /// The view of a file that none of the tests E1 to E21 refuses: none of them is made again. Two
+    /// passes over the program headers, and one over the dynamic section.
+    pub fn of_accepted(file: &'a [u8]) -> Dynamic<'a>
+        requires { file_refusal file.now ≡ None }
+        ensures { result ≡ file.now }
+    {
+        let segments = Segments::of_accepted(file);
+        match Dynamic::find(segments) {
+            Some(dynamic) => dynamic,
+            None => unreachable!(),
+        }
     }
 
     /// Finds the dynamic section, and reads it.
@@ -306,27 +319,5 @@ impl<'a> Dynamic<'a> {
         ensures { result ≡ needed_offsets self.now }
     {
         NeededOffsets::new(self.section(), self.entry_count())
-    }
-
-    /// The offset of the name of the needed library number `i`: a pass over the section up to it.
-    pub fn needed_offset(&self, i: usize) -> u64
-        requires { i < length (needed_offsets self.now) }
-        ensures { slice_get (needed_offsets self.now) i ≡ Some result }
-    {
-        let mut left = i;
-        for offset in self.needed_offsets() {
-            if left == 0 {
-                return offset;
-            }
-            left -= 1;
-        }
-        unreachable!()
-    }
-
-    /// Whether the offset of a needed library's name is at or above a limit.
-    pub fn has_needed_from(&self, limit: u64) -> bool
-        ensures { result ≡ list_any (nat_le limit) (needed_offsets self.now) }
-    {
-        has_needed_in(self.section(), self.entry_count(), limit)
     }
 }

@@ -56,6 +56,14 @@ impl<'a> Headers<'a> {
         Ok(Headers { file })
     }
 
+    /// The headers of a file that none of the tests E1 to E10 refuses: none of them is made again.
+    pub(crate) fn of_accepted(file: &'a [u8]) -> Headers<'a>
+        requires { header_refusal file.now ≡ None }
+        ensures { result ≡ file.now }
+    {
+        Headers { file }
+    }
+
     /// The same view once more.
     pub(crate) fn again(&self) -> Headers<'a>
         ensures { result ≡ self.now }

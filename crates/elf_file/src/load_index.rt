@@ -1,15 +1,14 @@
 // An index of the PT_LOADs, without memory of its own.
 
-ghost use Rattle.std.specs.Prelude.{◌≡◌, ◌≤◌, ◌<◌, ◌+◌, ℕ, List, true, false, length, Some};
-ghost use Rattle.std.specs.Prelude.{MatchOption, slice_get};
+ghost use Rattle.std.specs.Prelude.{◌≡◌, ◌≤◌, ◌<◌, ◌+◌, ℕ, List, true, false, MatchOption};
 ghost use Rattle.elf_file.specs.Header.{header_count};
-ghost use Rattle.elf_file.specs.Segment.{loads, has_bad_order};
-ghost use Rattle.elf_file.specs.inside.Index.{loads_before, is_spanned, with_block, Indexes};
+ghost use Rattle.elf_file.specs.Segment.{has_bad_order};
+ghost use Rattle.elf_file.specs.inside.Index.{is_spanned, with_block, Indexes};
 ghost use Rattle.elf_file.specs.inside.Index.{AllAbove, IsBlockAt, BeginsBy};
 
 use crate::headers::Headers;
+use crate::indexed_segments::IndexedSegments;
 use crate::segment::ProgramHeader;
-use crate::segments::Segments;
 
 /// How many program headers a block spans.
 pub(crate) const BLOCK: usize = 1024;
@@ -17,24 +16,13 @@ pub(crate) const BLOCK: usize = 1024;
 const BLOCKS: usize = 64;
 
 /// The PT_LOADs in blocks. Each block begins with a PT_LOAD and has those of the 1,024 program
-/// headers from there on. Kept is the header number of each block's first PT_LOAD, and how many
-/// PT_LOADs stand before it. So a PT_LOAD is found by one halving over the blocks and, by its
-/// number, by one pass over a block, also where other headers stand between; by an address a
-/// halving over the block comes before that pass (`narrowed`). It is small, since each view of a
-/// file has its own.
+/// headers from there on. Kept is the header number of each block's first PT_LOAD. So a PT_LOAD is
+/// found by an address by one halving over the blocks, one over a block (`narrowed`), and a pass
+/// over what that leaves, where other headers stand between.
 #[derive(Clone, Copy)]
 pub(crate) struct LoadIndex {
-    pub(crate) count: usize,
     pub(crate) blocks: usize,
     pub(crate) first: [u16; BLOCKS],
-    pub(crate) before: [u16; BLOCKS],
-}
-
-/// The first PT_LOAD of a block: its header number, and how many PT_LOADs stand before it.
-#[derive(Clone, Copy)]
-struct Start {
-    header: usize,
-    before: usize,
 }
 
 impl LoadIndex {
@@ -43,10 +31,8 @@ impl LoadIndex {
         ensures { (file : List ℕ) → Indexes file 0 result }
     {
         LoadIndex {
-            count: 0,
             blocks: 0,
             first: [0; BLOCKS],
-            before: [0; BLOCKS],
         }
     }
 
@@ -73,16 +59,14 @@ impl LoadIndex {
     fn begin_block(&mut self, i: usize)
         requires room { self.old.blocks < BLOCKS }
         requires header { i < 65536 }
-        requires count { self.old.count < 65536 }
         ensures { self.new ≡ with_block self.old i }
     {
         self.first[self.blocks] = i as u16;
-        self.before[self.blocks] = self.count as u16;
         self.blocks += 1;
     }
 
-    /// Counts the program header number `i`, and begins a block with it where the last one doesn't
-    /// span it.
+    /// Begins a block with the program header number `i` where it is a PT_LOAD that the last one
+    /// doesn't span.
     fn add(&mut self, headers: &Headers<'_>, i: usize)
         requires within { i < header_count headers.now }
         requires number { i < 65536 }
@@ -95,53 +79,10 @@ impl LoadIndex {
         if !self.spans(i) {
             self.begin_block(i);
         }
-        self.count += 1;
     }
 }
 
-impl Segments<'_> {
-    /// The start of the last block before which at most so many PT_LOADs stand, by halving.
-    fn start_of(&self, i: usize) -> Start
-        requires { i < length (loads self.now) }
-        ensures header { result.header < header_count self.now }
-        ensures before { result.before ≡ loads_before self.now result.header }
-        ensures most { result.before ≤ i }
-    {
-        let index = self.index();
-        let mut low = 0;
-        let mut high = index.blocks;
-        while high - low > 1 {
-            let middle = low + (high - low) / 2;
-            if usize::from(index.before[middle]) <= i {
-                low = middle;
-            } else {
-                high = middle;
-            }
-        }
-        Start {
-            header: usize::from(index.first[low]),
-            before: usize::from(index.before[low]),
-        }
-    }
-
-    /// The PT_LOAD number `i`.
-    pub fn nth(&self, i: usize) -> ProgramHeader
-        requires { i < length (loads self.now) }
-        ensures { slice_get (loads self.now) i ≡ Some result }
-    {
-        let start = self.start_of(i);
-        let mut before = start.before;
-        for j in start.header..self.header_count() {
-            if self.headers().is_load(j) {
-                if before == i {
-                    return self.header(j);
-                }
-                before += 1;
-            }
-        }
-        unreachable!()
-    }
-
+impl IndexedSegments<'_> {
     /// The header number of the first PT_LOAD of the last block that begins at or below an address,
     /// by halving. Each PT_LOAD before it ends there, and each behind its block begins above.
     pub(crate) fn block_at(&self, address: u64) -> Option<usize>

@@ -3,9 +3,9 @@
 ghost use Rattle.std.specs.Prelude.{◌≡◌, ◌<◌, true, false, MatchOption};
 ghost use Rattle.elf_file.specs.Address.{is_in_memory_part, is_in_memory, IsLoadOf};
 
+use crate::indexed_segments::IndexedSegments;
 use crate::load_index::BLOCK;
 use crate::segment::ProgramHeader;
-use crate::segments::Segments;
 
 /// Whether so many bytes at an address lie in the memory part of this PT_LOAD.
 pub fn is_in_memory_part(address: u64, size: u64, h: ProgramHeader) -> bool
@@ -16,7 +16,7 @@ pub fn is_in_memory_part(address: u64, size: u64, h: ProgramHeader) -> bool
             <= u128::from(h.address) + u128::from(h.memory_size)
 }
 
-impl Segments<'_> {
+impl IndexedSegments<'_> {
     /// The PT_LOAD that has so many bytes at an address in its memory part. Since PT_LOADs follow
     /// each other, only one of the last block that begins at or below the address can: a halving
     /// over the blocks, one over the headers of a block, and a pass over what that leaves.

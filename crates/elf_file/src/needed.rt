@@ -1,10 +1,7 @@
 // The entries that name needed libraries, one after the other (gABI chapter 5, `DT_NEEDED`).
 
-ghost use Rattle.std.specs.Prelude.{◌≡◌, ◌≤◌, ◌<◌, ◌/◌, ℕ, length, map, filter, true, false};
-ghost use Rattle.std.specs.Prelude.{nat_le};
+ghost use Rattle.std.specs.Prelude.{◌≡◌, ◌≤◌, ◌<◌, ◌/◌, ℕ, length, true, false};
 ghost use Rattle.std.specs.Iterator.{YieldsFirst, item_count};
-ghost use Rattle.std.specs.List.{list_any, range_with_len};
-ghost use Rattle.elf_file.specs.Dynamic.{entry, has_tag};
 ghost use Rattle.elf_file.specs.inside.Needed.{is_needed, values_from};
 
 use crate::entry::nth_entry;
@@ -48,19 +45,6 @@ fn next_needed(bytes: &[u8], count: usize, from: usize) -> usize
     count
 }
 
-/// Whether a value of an entry with DT_NEEDED is at or above a limit.
-pub(crate) fn has_needed_in(section: &[u8], count: usize, limit: u64) -> bool
-    requires { count ≤ length section.now / 16 }
-    ensures { result ≡ list_any (nat_le limit) (map (λ e. e.value) (filter (has_tag 1)
-        (map (entry section.now) (range_with_len 0 count)))) }
-{
-    (0..count)
-        .map(|i| nth_entry(section, i))
-        .filter(|e| e.tag == DT_NEEDED)
-        .map(|e| e.value)
-        .any(|value| value >= limit)
-}
-
 impl<'a> NeededOffsets<'a> {
     /// Those of all entries of a section.
     pub(crate) fn new(section: &'a [u8], count: usize) -> NeededOffsets<'a>
@@ -71,6 +55,17 @@ impl<'a> NeededOffsets<'a> {
             section,
             count,
             next: 0,
+        }
+    }
+
+    /// The same ones once more.
+    pub fn again(&self) -> NeededOffsets<'a>
+        ensures { result ≡ self.now }
+    {
+        NeededOffsets {
+            section: self.section,
+            count: self.count,
+            next: self.next,
         }
     }
 }

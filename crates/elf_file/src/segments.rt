@@ -1,18 +1,17 @@
 // A file whose segments have been tested.
 
-ghost use Rattle.std.specs.Prelude.{◌≡◌, ◌<◌, length, false, Some, None, MatchResult};
+ghost use Rattle.std.specs.Prelude.{◌≡◌, ◌<◌, length, false, Some, None, MatchResult, slice_get};
 ghost use Rattle.elf_file.specs.Segment.{program_header, loads};
 ghost use Rattle.elf_file.specs.Segment.{has_bad_load, is_too_large, has_bad_order};
 ghost use Rattle.elf_file.specs.Header.{header_count};
-ghost use Rattle.elf_file.specs.inside.Index.{Indexes};
-ghost use Rattle.elf_file.specs.Refusal.{segment_refusal};
+ghost use Rattle.elf_file.specs.Refusal.{header_refusal, segment_refusal};
 
 use crate::ObjectRefusal;
 use crate::first_refusal::test_segments;
 use crate::headers::Headers;
-use crate::load_index::LoadIndex;
+use crate::indexed_segments::IndexedSegments;
 use crate::load_segments::LoadSegments;
-use crate::segment::ProgramHeader;
+use crate::segment::{PT_LOAD, ProgramHeader};
 use std::marker::Model;
 
 /// A file that none of the tests E1 to E14 refuses: its PT_LOADs follow the rules and each other.
@@ -20,7 +19,6 @@ use std::marker::Model;
 #[derive(Drop)]
 pub struct Segments<'a> {
     headers: Headers<'a>,
-    index: LoadIndex,
 }
 
 impl<'a> Model for Segments<'a> {
@@ -31,7 +29,7 @@ impl<'a> Model for Segments<'a> {
 
     ghost view = { λ s. s.headers };
 
-    ghost invariant = { λ s. HasSegments s.headers s.index };
+    ghost invariant = { λ s. HasSegments s.headers };
 }
 
 impl<'a> Segments<'a> {
@@ -42,8 +40,27 @@ impl<'a> Segments<'a> {
             (λ refusal. segment_refusal headers.entry ≡ Some refusal) }
     {
         test_segments(&headers)?;
-        let index = LoadIndex::new(&headers);
-        Ok(Segments { headers, index })
+        Ok(Segments { headers })
+    }
+
+    /// The segments of a file that none of the tests E1 to E14 refuses: none of them is made again.
+    pub(crate) fn of_accepted(file: &'a [u8]) -> Segments<'a>
+        requires headers { header_refusal file.now ≡ None }
+        requires segments { segment_refusal file.now ≡ None }
+        ensures { result ≡ file.now }
+    {
+        Segments {
+            headers: Headers::of_accepted(file),
+        }
+    }
+
+    /// The same view once more.
+    pub fn again(&self) -> Segments<'a>
+        ensures { result ≡ self.now }
+    {
+        Segments {
+            headers: self.headers.again(),
+        }
     }
 
     /// The headers, and what has been tested of the PT_LOADs.
@@ -56,12 +73,30 @@ impl<'a> Segments<'a> {
         &self.headers
     }
 
-    /// How many PT_LOADs there are.
-    #[tactic(auto, using(crate::proofs::LoadNumbers::loads_before_all))]
+    /// How many PT_LOADs there are: one pass over the program headers.
+    #[tactic(auto, unfolding(crate::specs::Segment::loads))]
     pub fn count(&self) -> usize
         ensures { result ≡ length (loads self.now) }
     {
-        self.index.count
+        (0..self.header_count())
+            .map(|i| self.header(i))
+            .filter(|h| h.kind == PT_LOAD)
+            .count()
+    }
+
+    /// The PT_LOAD number `i`: a pass over the program headers up to it.
+    pub fn nth(&self, i: usize) -> ProgramHeader
+        requires { i < length (loads self.now) }
+        ensures { slice_get (loads self.now) i ≡ Some result }
+    {
+        let mut left = i;
+        for segment in self.iter() {
+            if left == 0 {
+                return segment;
+            }
+            left -= 1;
+        }
+        unreachable!()
     }
 
     /// The PT_LOADs in their order: one pass over the program headers.
@@ -87,11 +122,11 @@ impl<'a> Segments<'a> {
         self.headers.nth(i)
     }
 
-    /// The index of the PT_LOADs.
-    pub(crate) fn index(&self) -> &LoadIndex
-        ensures indexes { Indexes self.now (header_count self.now) result.now }
-        ensures order { has_bad_order self.now ≡ false }
+    /// The PT_LOADs with an index, by which the one at an address is found. One pass over the
+    /// program headers.
+    pub fn indexed(&self) -> IndexedSegments<'a>
+        ensures { result ≡ self.now }
     {
-        &self.index
+        IndexedSegments::new(self.headers.again())
     }
 }

@@ -8,37 +8,37 @@ pub(crate) const DT_NULL: u64 = 0;
 /// A library that the object needs: the offset of its name in the string table.
 pub(crate) const DT_NEEDED: u64 = 1;
 /// How many bytes the relocations at `DT_JMPREL` take.
-const DT_PLTRELSZ: u64 = 2;
+pub(crate) const DT_PLTRELSZ: u64 = 2;
 /// The address of the hash table.
-const DT_HASH: u64 = 4;
+pub(crate) const DT_HASH: u64 = 4;
 /// The address of the string table.
-const DT_STRTAB: u64 = 5;
+pub(crate) const DT_STRTAB: u64 = 5;
 /// The address of the symbol table.
-const DT_SYMTAB: u64 = 6;
+pub(crate) const DT_SYMTAB: u64 = 6;
 /// The address of the relocations.
 pub(crate) const DT_RELA: u64 = 7;
 /// How many bytes the relocations at `DT_RELA` take.
-const DT_RELASZ: u64 = 8;
+pub(crate) const DT_RELASZ: u64 = 8;
 /// How many bytes one relocation takes.
-const DT_RELAENT: u64 = 9;
+pub(crate) const DT_RELAENT: u64 = 9;
 /// How many bytes the string table takes.
-const DT_STRSZ: u64 = 10;
+pub(crate) const DT_STRSZ: u64 = 10;
 /// How many bytes one symbol takes.
-const DT_SYMENT: u64 = 11;
+pub(crate) const DT_SYMENT: u64 = 11;
 /// The object's own name: its offset in the string table.
-const DT_SONAME: u64 = 14;
+pub(crate) const DT_SONAME: u64 = 14;
 /// The object itself is looked in first.
-const DT_SYMBOLIC: u64 = 16;
+pub(crate) const DT_SYMBOLIC: u64 = 16;
 /// The address of relocations without addends.
-const DT_REL: u64 = 17;
+pub(crate) const DT_REL: u64 = 17;
 /// Of which kind the relocations at `DT_JMPREL` are.
-const DT_PLTREL: u64 = 20;
+pub(crate) const DT_PLTREL: u64 = 20;
 /// The address of the relocations of the procedure linkage table.
-const DT_JMPREL: u64 = 23;
+pub(crate) const DT_JMPREL: u64 = 23;
 /// Flags.
-const DT_FLAGS: u64 = 30;
+pub(crate) const DT_FLAGS: u64 = 30;
 /// The address of relocations in short form.
-const DT_RELR: u64 = 36;
+pub(crate) const DT_RELR: u64 = 36;
 /// The versions of the symbols.
 pub(crate) const DT_VERSYM: u64 = 0x6fff_fff0;
 /// The versions that the object defines.

@@ -8,12 +8,14 @@ ghost use Rattle.elf_file.specs.inside.Tags.{place_of, slot_more, slot_and, IsTa
 ghost use Rattle.elf_file.specs.declared.tag_table.Slot.{Slot};
 
 use crate::entry::{DYNAMIC_ENTRY_SIZE, Entry, nth_entry};
-use crate::tag::{DT_NULL, DT_VERDEF, DT_VERNEED, DT_VERSYM, Tag};
+use crate::tag::{
+    DT_FLAGS, DT_HASH, DT_JMPREL, DT_NEEDED, DT_NULL, DT_PLTREL, DT_PLTRELSZ, DT_REL, DT_RELA,
+    DT_RELAENT, DT_RELASZ, DT_RELR, DT_SONAME, DT_STRSZ, DT_STRTAB, DT_SYMBOLIC, DT_SYMENT,
+    DT_SYMTAB, DT_VERDEF, DT_VERNEED, DT_VERSYM, Tag,
+};
 
-/// The tags below this number have the place of their number.
-const LOW_TAGS: usize = 37;
-/// How many places there are: one for each low tag, and three for those of symbol versions.
-const PLACES: usize = 40;
+/// How many places there are: one for each tag that is read.
+const PLACES: usize = 20;
 
 /// What the dynamic section says of a tag: how often it is present, and the value of the first
 /// entry, or 0 where it is absent.
@@ -37,13 +39,27 @@ fn place_of(number: u64) -> Option<usize>
     ensures ok { result ≡ place_of number }
     ensures within { IfSome result (λ k. k < PLACES) }
 {
-    if number < LOW_TAGS as u64 {
-        return Some(number as usize);
-    }
     match number {
-        DT_VERSYM => Some(LOW_TAGS),
-        DT_VERDEF => Some(LOW_TAGS + 1),
-        DT_VERNEED => Some(LOW_TAGS + 2),
+        DT_NEEDED => Some(0),
+        DT_PLTRELSZ => Some(1),
+        DT_HASH => Some(2),
+        DT_STRTAB => Some(3),
+        DT_SYMTAB => Some(4),
+        DT_RELA => Some(5),
+        DT_RELASZ => Some(6),
+        DT_RELAENT => Some(7),
+        DT_STRSZ => Some(8),
+        DT_SYMENT => Some(9),
+        DT_SONAME => Some(10),
+        DT_SYMBOLIC => Some(11),
+        DT_REL => Some(12),
+        DT_PLTREL => Some(13),
+        DT_JMPREL => Some(14),
+        DT_FLAGS => Some(15),
+        DT_RELR => Some(16),
+        DT_VERSYM => Some(17),
+        DT_VERDEF => Some(18),
+        DT_VERNEED => Some(19),
         _ => None,
     }
 }
@@ -53,10 +69,7 @@ pub(crate) fn place(tag: Tag) -> usize
     ensures ok { place_of (number_of tag) ≡ Some result }
     ensures within { result < PLACES }
 {
-    match place_of(tag.number()) {
-        Some(k) => k,
-        None => unreachable!(),
-    }
+    tag as usize
 }
 
 impl Slot {

@@ -70,7 +70,7 @@ impl<'a> Admitted<'a> {
         Ok(Admitted { object })
     }
 
-    /// The admitted object that a file is which no test refuses: none of them is made again. It
+    /// The admitted object that a file is which no test refuses: of these only E22 is made again. It
     /// costs what `Object::of_accepted` costs.
     #[tactic(auto, using(crate::proofs::Reading::accepted_tests))]
     pub fn of_accepted(file: &'a [u8]) -> Admitted<'a>

@@ -1,7 +1,8 @@
 -- The tables of a file that the code keeps.
 use Rattle.std.specs.Prelude.{ℕ, ◌+◌, ◌*◌, ◌≡◌, List, length}
-use Rattle.elf_file.specs.Constant.{DT_STRSZ, SYMBOL_SIZE}
-use Rattle.elf_file.specs.Dynamic.{tag_value}
+use Rattle.std.specs.Prelude.{Option, Some, None, if◌then◌else◌}
+use Rattle.elf_file.specs.Constant.{DT_SONAME, DT_STRSZ, SYMBOL_SIZE}
+use Rattle.elf_file.specs.Dynamic.{is_present, is_symbolic, needed_offsets, tag_value}
 use Rattle.elf_dynamic.specs.Constant.{WORD_SIZE}
 use Rattle.elf_dynamic.specs.HashTable.{bucket_count, chain_count, hash_table}
 use Rattle.elf_dynamic.specs.Strings.{string_table}
@@ -17,7 +18,11 @@ pub record IsHashTable (file : List ℕ) (table : HashTable) : Type 0 where
   pub buckets : table.bucket_count ≡ bucket_count file
   pub chains : table.chain_count ≡ chain_count file
 
--- the tables of a file
+-- where the object's own name stands in the string table, where it has one
+abbrev pub soname_offset : List ℕ → Option ℕ
+soname_offset file = if is_present file DT_SONAME then Some (tag_value file DT_SONAME) else None
+
+-- the tables of a file, and what else is kept of its tags
 pub record HasParts (file : List ℕ) (parts : Parts) : Type 0 where
   pub strings : parts.strings.now ≡ string_table file
   pub strings_size : length parts.strings.now ≡ tag_value file DT_STRSZ
@@ -26,3 +31,11 @@ pub record HasParts (file : List ℕ) (parts : Parts) : Type 0 where
   pub symbols_size : length parts.symbols.now ≡ SYMBOL_SIZE * chain_count file
   pub rela : parts.rela.now ≡ rela_table file
   pub jmprel : parts.jmprel.now ≡ jmprel_table file
+  pub needed_count : parts.needed_count ≡ length (needed_offsets file)
+  pub soname : parts.soname ≡ soname_offset file
+  pub symbolic : parts.symbolic ≡ is_symbolic file
+
+-- what is kept of a file: its tables, and the offsets of the needed libraries' names
+pub record HasTables (file offsets : List ℕ) (parts : Parts) : Type 0 where
+  pub needed : offsets ≡ needed_offsets file
+  pub has : HasParts file parts

@@ -22,22 +22,21 @@ pub record InBlock (index : LoadIndex) (j : ℕ) : Type 0 where
 -- the index of n program headers: its blocks begin with a PT_LOAD, hold all, and don't overlap
 pub record Indexes (file : List ℕ) (n : ℕ) (index : LoadIndex) : Type 0 where
   pub first_size : length index.first ≡ BLOCKS
-  pub before_size : length index.before ≡ BLOCKS
   pub fits : index.blocks ≤ BLOCKS
-  pub count : index.count ≡ loads_before file n
-  pub some : index.blocks ≡ 0 → index.count ≡ 0
-  pub front : slice_index index.before 0 ≡ 0
   pub load : (b : ℕ) → b < index.blocks → is_load (program_header file (slice_index index.first b)) ≡ true
   pub within : (b : ℕ) → b < index.blocks → slice_index index.first b < n
   pub room : (b : ℕ) → b < index.blocks → BLOCK * b ≤ slice_index index.first b
-  pub before : (b : ℕ) → b < index.blocks → slice_index index.before b ≡ loads_before file (slice_index index.first b)
   pub apart : (a b : ℕ) → a < b → b < index.blocks → slice_index index.first a + BLOCK ≤ slice_index index.first b
   pub all : (j : ℕ) → j < n → is_load (program_header file j) ≡ true → InBlock index j
 
--- the PT_LOADs follow the rules and each other, and the index is theirs
-pub record HasSegments (file : List ℕ) (index : LoadIndex) : Type 0 where
+-- the PT_LOADs follow the rules and each other
+pub record HasSegments (file : List ℕ) : Type 0 where
   pub loads_fit : has_bad_load file ≡ false
   pub low : is_too_large file ≡ false
+  pub in_order : has_bad_order file ≡ false
+
+-- PT_LOADs that follow each other, and the index is theirs
+pub record IsIndexed (file : List ℕ) (index : LoadIndex) : Type 0 where
   pub in_order : has_bad_order file ≡ false
   pub indexes : Indexes file (header_count file) index
 
@@ -67,11 +66,10 @@ IsBlockAt file address k = (k < header_count file) × AllBelow file address k ×
 abbrev pub BeginsBy : List ℕ → ℕ → ℕ → Type 0
 BeginsBy file address k = (k < header_count file) × (is_load (program_header file k) ≡ true) × ((program_header file k).address ≤ address)
 
--- the index with one more block, of a PT_LOAD that isn't counted yet
+-- the index with one more block
 abbrev pub with_block : LoadIndex → ℕ → LoadIndex
 with_block index i =
     record index {
       blocks = index.blocks + 1;
       first = slice_set index.first index.blocks i;
-      before = slice_set index.before index.blocks index.count;
     }

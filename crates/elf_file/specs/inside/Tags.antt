@@ -1,23 +1,39 @@
 -- What is kept of the entries of the dynamic section.
 use Rattle.std.specs.Prelude.{ℕ, ◌+◌, ◌/◌, ◌≤◌, ◌≡◌, map, length, List, Option, Some}
-use Rattle.std.specs.Prelude.{None, ◌==◌, nat_lt, count_by, slice_index_or, unwrap_or, if◌then◌else◌}
+use Rattle.std.specs.Prelude.{None, ◌==◌, count_by, slice_index_or, unwrap_or, if◌then◌else◌}
 use Rattle.std.specs.Option.{option_map}
 use Rattle.std.specs.List.{find, range_with_len}
-use Rattle.elf_file.specs.Constant.{DYNAMIC_ENTRY_SIZE}
+use Rattle.elf_file.specs.Constant.{DYNAMIC_ENTRY_SIZE, DT_NEEDED, DT_PLTRELSZ, DT_HASH, DT_STRTAB, DT_SYMTAB, DT_RELA, DT_RELASZ, DT_RELAENT, DT_STRSZ, DT_SYMENT}
+use Rattle.elf_file.specs.Constant.{DT_SONAME, DT_SYMBOLIC, DT_REL, DT_PLTREL, DT_JMPREL, DT_FLAGS, DT_RELR, DT_VERSYM, DT_VERDEF, DT_VERNEED}
 use Rattle.elf_file.specs.Dynamic.{has_tag, dynamic_section, entry, entries_in}
-use Rattle.elf_file.specs.declared.tag.TheConstants.{DT_VERSYM, DT_VERDEF, DT_VERNEED}
 use Rattle.elf_file.specs.declared.entry.Entry.{Entry}
 use Rattle.elf_file.specs.declared.tag_table.Slot.{Slot}
 use Rattle.elf_file.specs.declared.tag_table.Tags.{Tags}
-use Rattle.elf_file.specs.declared.tag_table.TheConstants.{LOW_TAGS}
 
 -- the place of a tag's number in the table, where it has one
 abbrev pub place_of : ℕ → Option ℕ
 place_of number =
-    if nat_lt number LOW_TAGS then Some number else
-    if number == DT_VERSYM then Some LOW_TAGS else
-    if number == DT_VERDEF then Some (LOW_TAGS + 1) else
-    if number == DT_VERNEED then Some (LOW_TAGS + 2) else None
+    if number == DT_NEEDED then Some 0 else
+    if number == DT_PLTRELSZ then Some 1 else
+    if number == DT_HASH then Some 2 else
+    if number == DT_STRTAB then Some 3 else
+    if number == DT_SYMTAB then Some 4 else
+    if number == DT_RELA then Some 5 else
+    if number == DT_RELASZ then Some 6 else
+    if number == DT_RELAENT then Some 7 else
+    if number == DT_STRSZ then Some 8 else
+    if number == DT_SYMENT then Some 9 else
+    if number == DT_SONAME then Some 10 else
+    if number == DT_SYMBOLIC then Some 11 else
+    if number == DT_REL then Some 12 else
+    if number == DT_PLTREL then Some 13 else
+    if number == DT_JMPREL then Some 14 else
+    if number == DT_FLAGS then Some 15 else
+    if number == DT_RELR then Some 16 else
+    if number == DT_VERSYM then Some 17 else
+    if number == DT_VERDEF then Some 18 else
+    if number == DT_VERNEED then Some 19 else
+    None
 
 -- what entries say of a tag: how often it is present, and the value of the first entry with it, or 0
 abbrev pub slot_of : List Entry → ℕ → Slot

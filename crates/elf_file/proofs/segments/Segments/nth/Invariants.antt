@@ -1,9 +1,7 @@
-use Rattle.std.proofs.Common.{◌≡◌, ◌≤◌}
-use Rattle.elf_file.specs.inside.Index.{loads_before}
+use Rattle.std.proofs.Common.{◌≡◌}
+use Rattle.std.specs.Prelude.{slice_get}
+use Rattle.elf_file.specs.Segment.{loads}
 use Rattle.elf_file.proofs.segments.Segments.nth.Given as goal
 
-abbrev pub invariant-loop-j : goal.invariant-loop-j
-invariant-loop-j l = record {
-  before : l.before ≡ loads_before l.self l.j;
-  low : l.before ≤ l.i;
-}
+abbrev pub invariant-loop-segment : goal.invariant-loop-segment
+invariant-loop-segment l = slice_get l.segment-iterator l.left ≡ slice_get (loads l.self) l.i

@@ -1,6 +1,6 @@
 use Rattle.std.proofs.Common.{◌≤◌}
 use Rattle.elf_file.specs.inside.Index.{IsBlockAt}
-use Rattle.elf_file.proofs.segments.Segments.narrowed.Given as goal
+use Rattle.elf_file.proofs.indexed_segments.IndexedSegments.narrowed.Given as goal
 
 abbrev pub invariant-loop-step : goal.invariant-loop-step
 invariant-loop-step l = record {

@@ -1,6 +1,6 @@
 use Rattle.std.proofs.Common.{◌≤◌, ◌<◌, ◌-◌}
 use Rattle.elf_file.proofs.Blocks.{block_address}
-use Rattle.elf_file.proofs.segments.Segments.block_at.Given as goal
+use Rattle.elf_file.proofs.indexed_segments.IndexedSegments.block_at.Given as goal
 
 abbrev pub invariant-loop-low : goal.invariant-loop-low
 invariant-loop-low l = record {

@@ -1,5 +1,5 @@
 use Rattle.elf_file.proofs.Blocks.{block_later}
-use Rattle.elf_file.proofs.segments.Segments.later.Goals as goal
+use Rattle.elf_file.proofs.indexed_segments.IndexedSegments.later.Goals as goal
 
 pub returns-then-begins_by : goal.returns-then-begins_by
 returns-then-begins_by c =

@@ -3,7 +3,7 @@ use Rattle.elf_file.specs.Segment.{is_load, program_header}
 use Rattle.elf_file.specs.inside.Index.{loads_before}
 use Rattle.elf_file.proofs.LoadNumbers.{load_at}
 use Rattle.elf_file.proofs.InMemory.{none_above, none_in_block}
-use Rattle.elf_file.proofs.segments.Segments.load_at.Goals as goal
+use Rattle.elf_file.proofs.indexed_segments.IndexedSegments.load_at.Goals as goal
 
 pub returns-in_default : goal.returns-in_default
 returns-in_default c = none_above c.args.self.now c.args.address c.args.size c.in_default.ensures

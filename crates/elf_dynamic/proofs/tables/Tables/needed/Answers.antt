@@ -1,7 +1,8 @@
-use Rattle.std.proofs.Common.{◌≡◌, ℕ, ◌<◌, ◌-◌, ◌∷◌, List, [], length, arith, ap, sym, ◌∙◌, suc, zero, None}
+use Rattle.std.proofs.Common.{◌≡◌, ℕ, ◌<◌, ◌-◌, ◌∷◌, List, [], length, arith, ap, sym, ◌∙◌, suc, zero, None, Some}
 use Rattle.std.specs.Prelude.{slice_get}
 use Rattle.elf_file.specs.Dynamic.{needed_offsets}
-use Rattle.elf_file.proofs.dynamic.Dynamic.needed_offset.Goals as goal
+use Rattle.elf_dynamic.proofs.SymbolNumbers.{needed_counted, needed_numbered}
+use Rattle.elf_dynamic.proofs.tables.Tables.needed.Goals as goal
 
 absent : (xs : List ℕ) (i : ℕ) → i < length xs → None ≡ slice_get xs i → ⊥
 absent [] i lt h = absurd (omega (arith, lt))
@@ -10,8 +11,11 @@ absent (x ∷ xs) (suc i) lt h = absent xs i (omega (arith, lt)) h
 
 pub returns-then-left-eq0 : goal.returns-then-left-eq0
 returns-then-left-eq0 c =
+    let file : List ℕ = c.args.self.now in
     let it : List ℕ = c.loop-offset.offset-iterator in
-    sym c.loop-offset.invariant ∙ ap (slice_get it) c.if-left-eq0.true ∙ ap (λ (xs : List ℕ). slice_get xs 0) c.in-Some.ensures.steps
+    let table : List ℕ = c.string_table.result.now in
+    let at = sym c.loop-offset.invariant ∙ ap (slice_get it) c.if-left-eq0.true ∙ ap (λ (xs : List ℕ). slice_get xs 0) c.in-Some.ensures.steps in
+    needed_numbered file table c.args.i c.in-Some.offset c.string_table.ensures at ∙ ap (λ s. Some s) (sym c.string_at.ensures)
 
 pub loop-offset-preserved : goal.loop-offset-preserved
 loop-offset-preserved c =
@@ -22,5 +26,5 @@ loop-offset-preserved c =
 
 pub unreachable-requires : goal.unreachable-requires
 unreachable-requires c =
-    absent (needed_offsets c.args.self.now) c.args.i c.requires
+    absent (needed_offsets c.args.self.now) c.args.i (omega (arith, c.requires, needed_counted c.args.self.now))
     (sym (ap (λ (xs : List ℕ). slice_get xs c.loop-offset.left) c.in-None.ensures.steps.0) ∙ c.loop-offset.invariant)

@@ -1,7 +1,7 @@
 use Rattle.std.proofs.Common.{arith, ◌-◌, ◌≡◌, ◌+◌, ◌<◌, ℕ, subst, sym}
 use Rattle.elf_file.specs.inside.Index.{IsBlockAt}
 use Rattle.elf_file.proofs.Blocks.{all_above, block_at_by, block_address}
-use Rattle.elf_file.proofs.segments.Segments.block_at.Goals as goal
+use Rattle.elf_file.proofs.indexed_segments.IndexedSegments.block_at.Goals as goal
 
 pub returns-then-low-eq0 : goal.returns-then-low-eq0
 returns-then-low-eq0 c =

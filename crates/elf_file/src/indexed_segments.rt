@@ -1,0 +1,74 @@
+// A file's segments with an index of the PT_LOADs.
+
+ghost use Rattle.std.specs.Prelude.{◌≡◌, ◌<◌, false};
+ghost use Rattle.elf_file.specs.Segment.{program_header, has_bad_order};
+ghost use Rattle.elf_file.specs.Header.{header_count};
+ghost use Rattle.elf_file.specs.inside.Index.{Indexes};
+
+use crate::headers::Headers;
+use crate::load_index::LoadIndex;
+use crate::segment::ProgramHeader;
+use std::marker::Model;
+
+/// The same as `Segments`, with an index by which the PT_LOAD at an address is found. It is made
+/// where many are looked for; other views of a file are small without it. Contracts see the file's
+/// bytes.
+#[derive(Drop)]
+pub struct IndexedSegments<'a> {
+    headers: Headers<'a>,
+    index: LoadIndex,
+}
+
+impl<'a> Model for IndexedSegments<'a> {
+    ghost use Rattle.std.specs.Prelude.{List, ℕ};
+    ghost use Rattle.elf_file.specs.inside.Index.{IsIndexed};
+
+    ghost Value = { List ℕ };
+
+    ghost view = { λ s. s.headers };
+
+    ghost invariant = { λ s. IsIndexed s.headers s.index };
+}
+
+impl<'a> IndexedSegments<'a> {
+    /// The PT_LOADs of a file, which follow each other.
+    pub(crate) fn new(headers: Headers<'a>) -> IndexedSegments<'a>
+        requires { has_bad_order headers ≡ false }
+        ensures { result ≡ headers.entry }
+    {
+        let index = LoadIndex::new(&headers);
+        IndexedSegments { headers, index }
+    }
+
+    /// The headers, and what has been tested of the PT_LOADs.
+    pub(crate) fn headers(&self) -> &Headers<'a>
+        ensures same { result.now ≡ self.now }
+        ensures order { has_bad_order self.now ≡ false }
+    {
+        &self.headers
+    }
+
+    /// How many program headers there are.
+    pub(crate) fn header_count(&self) -> usize
+        ensures ok { result ≡ header_count self.now }
+        ensures most { result < 65536 }
+    {
+        self.headers.count()
+    }
+
+    /// The program header number `i`.
+    pub(crate) fn header(&self, i: usize) -> ProgramHeader
+        requires { i < header_count self.now }
+        ensures { result ≡ program_header self.now i }
+    {
+        self.headers.nth(i)
+    }
+
+    /// The index of the PT_LOADs.
+    pub(crate) fn index(&self) -> &LoadIndex
+        ensures indexes { Indexes self.now (header_count self.now) result.now }
+        ensures order { has_bad_order self.now ≡ false }
+    {
+        &self.index
+    }
+}
