@@ -1,7 +1,7 @@
 -- What is said of a disk of given bytes (own).
 use Rattle.std.specs.Prelude.{◌≡◌, ◌↔◌, ◌≤◌, ◌<◌, All, ◌+◌, ◌-◌, ℕ, List, [], ◌∷◌, length, map, take, true, nat_lt, if◌then◌else◌}
 use Rattle.std.specs.Prelude.{vec_len, vec_capacity}
-use Rattle.indexmap.specs.IndexMap.{spare}
+use Rattle.std.specs.HashMap.{spare}
 use Rattle.sector_disk.specs.CallCount.{calls_made, calls_failed}
 use Rattle.sector_disk.specs.Disk.{Sector, DiskFacts, MixtureAt, Logged, Wrote, Synced}
 use Rattle.sector_disk.specs.declared.call_count.CallCount.{CallCount}

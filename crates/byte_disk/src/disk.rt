@@ -2,7 +2,7 @@
 
 ghost use Rattle.std.specs.Prelude.{◌≡◌, ◌⊎◌, ◌<◌, ◌≤◌, ◌^◌, ℕ, length, All, map, nat_eq};
 ghost use Rattle.std.specs.Prelude.{◌++◌, ◌∷◌, [], Some, OnOk, OnErr, vec_len, vec_capacity};
-ghost use Rattle.indexmap.specs.IndexMap.{get, spare, Updates, IsUnchanged};
+ghost use Rattle.std.specs.HashMap.{get, spare, Updates, IsUnchanged};
 ghost use Rattle.sector_disk.specs.CallCount.{calls_made, calls_failed};
 ghost use Rattle.sector_disk.specs.Disk.{IsWhole, sector};
 ghost use Rattle.byte_disk.specs.Plan.{carried_out, writes_in, IsWriteOn};
@@ -11,9 +11,9 @@ ghost use Rattle.byte_disk.specs.inside.Latest.{content_by, plan_in};
 use crate::given::sectors_of;
 use crate::planned::PlannedStep;
 use crate::step::Step;
-use indexmap::IndexMap;
 use sector_disk::{CallCount, Disk, DiskFault, SECTOR_BYTES};
 use std::alloc::{AllocError, Global};
+use std::collections::HashMap;
 use std::mem::replace;
 
 /// An honest disk whose sectors were given. It keeps its writes and syncs as steps, in their order:
@@ -24,7 +24,7 @@ pub struct ByteDisk<'a> {
     start: &'a [[u8; SECTOR_BYTES]],
     planned: Vec<PlannedStep>,
     // For each sector that was written, the place of the step that wrote it last.
-    latest: IndexMap<u32, usize>,
+    latest: HashMap<u32, usize>,
     // The calls since the last step, which made none.
     idle: CallCount,
     ghost few: { length start.now < 2 ^ 32 },
@@ -56,7 +56,7 @@ impl<'a> ByteDisk<'a> {
         Some(ByteDisk {
             start,
             planned: Vec::new(alloc),
-            latest: IndexMap::new(alloc),
+            latest: HashMap::new(alloc),
             idle: CallCount::new(),
         })
     }
@@ -92,7 +92,7 @@ impl<'a> ByteDisk<'a> {
 /// next step.
 fn make_room(
     planned: &mut Vec<PlannedStep>,
-    latest: &mut IndexMap<u32, usize>,
+    latest: &mut HashMap<u32, usize>,
     at: u32,
 ) -> Result<(), AllocError>
     ensures same { planned.new.items ≡ planned.old.items }

@@ -1,26 +1,29 @@
 -- The rows of held versions: what each change of them keeps.
-use Rattle.std.proofs.Common.{◌≡◌, ◌≢◌, ⊎_elim, ℕ, zero, suc, ◌+◌, ◌-◌, ◌<◌, ◌≤◌, ◌==◌, nat_eq, Bool, true, false, if◌then◌else◌, sum_by, List, []}
-use Rattle.std.proofs.Common.{◌∷◌, ◌++◌, length, get_or, set, refl, sym, ap, subst, ◌∙◌, arith}
+use Rattle.std.proofs.Common.{◌≡◌, ◌≢◌, ⊎_elim, ℕ, zero, suc, ◌+◌, ◌<◌, ◌==◌, nat_eq, Bool, true, false, if◌then◌else◌, sum_by, List, []}
+use Rattle.std.proofs.Common.{◌∷◌, ◌++◌, length, get_or, set, take, drop, refl, sym, ap, subst, ◌∙◌, arith}
 use Rattle.std.specs.Prelude.{Contains}
-use Rattle.std.specs.List.{flat_map}
+use Rattle.std.specs.List.{flat_map, remove}
 use Rattle.std.proofs.Math.ListN.{get_or-map}
 use Rattle.std.proofs.Math.Seq.{map-set_same}
 use Rattle.std.proofs.lemmas.Bool.{cases_Bool, cases_lt, eq-eqb, eqb-true, eqb-false, ne_eqb, false≢true}
 use Rattle.std.proofs.lemmas.Grind.{flat_map-append, get_or-set_at}
-use Rattle.std.proofs.lemmas.List.{append-nil, get_or-set_other, get_or_append_left, get_or_default, length-append, length-set}
+use Rattle.std.proofs.lemmas.List.{get_or-set_other, length-set, take-append-drop}
 use Rattle.std.proofs.lemmas.List.Concat.{length-flat_map}
-use Rattle.std.proofs.lemmas.List.Elements.{All-push, All-set, Contains-push}
-use Rattle.std.proofs.lemmas.List.Quantifiers.{all_pairs_push}
-use Rattle.std.proofs.lemmas.List.Sums.{get_or-le-sum_by, sum_by-append, sum_by-cons, sum_by-set}
+use Rattle.std.proofs.lemmas.List.Edits.{get_or-insert_above, get_or-insert_at, get_or-insert_below, length-insert, length-remove}
+use Rattle.std.proofs.lemmas.List.Elements.{All-set}
+use Rattle.std.proofs.lemmas.List.Quantifiers.{all_pairs_remove}
+use Rattle.std.proofs.lemmas.List.Sums.{get_or-le-sum_by, sum_by-cons, sum_by-insert, sum_by-remove, sum_by-set}
 use Rattle.roots.specs.Entry.{EntryHasSpelling}
 use Rattle.store.specs.declared.placed_entry.PlacedEntry.{PlacedEntry}
 use Rattle.store.specs.declared.held_versions.HeldRow.{HeldRow}
 use Rattle.store.specs.HeldVersions.{HaveOwnRows, own_sectors, lone_sectors, holders_of, IsHeldBy}
 use Rattle.store.specs.Stands.{sectors_of}
+use Rattle.store.specs.inside.NameIndex.{closed_up}
 use Rattle.store.specs.inside.HeldRows.{IsUnheld, IsAtPlace, IsHeldOnce, IsHeldMore, IsLeft, IsHeldLess, IsLetGo, IsHeldRow, AreHeldRows, with_holders, unlisted, first_row}
 use Rattle.store.proofs.Counts.{occurs, occurs-flat_map}
+use Rattle.store.proofs.Inserted.{all_insert, all_pairs_insert}
 use Rattle.store.proofs.KeyedRows.{no_row}
-use Rattle.store.proofs.SwapRemoves.{All-swap_remove, AllPairs-swap_remove, length-swap_remove, sum_by-swap_removed, swap_remove_cases}
+use Rattle.store.proofs.Removed.{all_remove, at_closed, closed_inside, stood_at}
 
 -- two places with one sector are one place
 pub same_place : (held : List HeldRow) (i j : ℕ) (d : HeldRow) → HaveOwnRows held → i < length held → j < length held → (get_or held i d).placed.at ≡ (get_or held j d).placed.at → i ≡ j
@@ -54,8 +57,10 @@ module _ {entries : List PlacedEntry} {old : List HeldRow} (are : AreHeldRows en
   held_once {placed = placed} once fits listed =
       let row = first_row placed in
       subst (AreHeldRows entries) (sym once.is) (record {
-        each = All-push (IsHeldRow entries) old row are.each (record { fits = fits; some = omega arith; listed = λ _. listed });
-        own = all_pairs_push (λ (a b : HeldRow). a.placed.at ≢ b.placed.at) old row are.own once.absent;
+        each = all_insert (IsHeldRow entries) old once.place row (record { fits = fits; some = omega arith; listed = λ _. listed }) are.each;
+        own = all_pairs_insert (λ (a b : HeldRow). a.placed.at ≢ b.placed.at) old once.place row once.inside are.own
+            (λ k d before. once.absent k d (omega (arith, before, once.inside)))
+            (λ k d behind lt same. once.absent k d lt (sym same));
       })
 
   -- the same version with another count
@@ -75,9 +80,9 @@ module _ {entries : List PlacedEntry} {old : List HeldRow} (are : AreHeldRows en
 
   -- the last holder lets a version go
   pub held_gone : {new : List HeldRow} → {sector : ℕ} {version : HeldRow} → IsLetGo old new sector version → AreHeldRows entries new
-  held_gone {version = version} gone = subst (AreHeldRows entries) (sym gone.is) (record {
-    each = All-swap_remove old gone.place version gone.at.inside (IsHeldRow entries) are.each;
-    own = AllPairs-swap_remove old gone.place version gone.at.inside (λ (a b : HeldRow). a.placed.at ≢ b.placed.at) (λ a b apart same. apart (sym same)) are.own;
+  held_gone gone = subst (AreHeldRows entries) (sym gone.is) (record {
+    each = all_remove (IsHeldRow entries) old gone.place are.each;
+    own = all_pairs_remove (λ (a b : HeldRow). a.placed.at ≢ b.placed.at) old gone.place gone.at.inside are.own;
   })
 
   -- The state lists other entries, where the rows of all sectors but one hold for these,
@@ -111,9 +116,7 @@ module _ {entries : List PlacedEntry} {old : List HeldRow} (are : AreHeldRows en
 
 -- A sum over the rows: one more row,
 sum_once : (f : HeldRow → ℕ) {old new : List HeldRow} {placed : PlacedEntry} → IsHeldOnce old new placed → sum_by f new ≡ sum_by f old + f (first_row placed)
-sum_once f {old = old} {placed = placed} once =
-    let row = first_row placed in
-    omega (arith, ap (sum_by f) once.is, sum_by-append f old (row ∷ []), sum_by-cons f row [])
+sum_once f {old = old} {placed = placed} once = omega (arith, ap (sum_by f) once.is, sum_by-insert f old once.place (first_row placed))
 
 -- another row in a place,
 sum_set : (f : HeldRow → ℕ) {old : List HeldRow} {sector place : ℕ} {version : HeldRow} → IsAtPlace old sector place version → (row : HeldRow)
@@ -122,7 +125,7 @@ sum_set f {old = old} {place = place} at row = omega (arith, ap f (at.is no_row)
 
 -- and one row less.
 sum_gone : (f : HeldRow → ℕ) {old new : List HeldRow} {sector : ℕ} {version : HeldRow} → IsLetGo old new sector version → sum_by f new + f version ≡ sum_by f old
-sum_gone f {old = old} {version = version} gone = omega (arith, ap (sum_by f) gone.is, sum_by-swap_removed old gone.place version gone.at.inside f gone.at.is)
+sum_gone f {old = old} gone = omega (arith, ap (sum_by f) gone.is, sum_by-remove f old gone.place no_row gone.at.inside, ap f (gone.at.is no_row))
 
 -- a row keeps all sectors of its version where the state doesn't list it, and else none
 own_all : (version : HeldRow) → version.listed ≡ false → own_sectors version ≡ sectors_of version.placed
@@ -138,7 +141,10 @@ flat_map-set_same f (y ∷ xs) (suc i) x d same = ap (λ l. f y ++ l) (flat_map-
 
 -- The first holder of a version keeps no sectors, since the state lists it,
 pub lone_once : {old new : List HeldRow} {placed : PlacedEntry} → IsHeldOnce old new placed → lone_sectors new ≡ lone_sectors old
-lone_once {old = old} {placed = placed} once = ap lone_sectors once.is ∙ flat_map-append own_sectors old (first_row placed ∷ []) ∙ append-nil (lone_sectors old)
+lone_once {old = old} {placed = placed} once =
+    let before = take once.place old in
+    let behind = drop once.place old in
+    ap lone_sectors once.is ∙ flat_map-append own_sectors before (first_row placed ∷ behind) ∙ sym (flat_map-append own_sectors before behind) ∙ ap lone_sectors (take-append-drop once.place old)
 
 -- and how many hold it changes none.
 lone_counted : {old : List HeldRow} {sector place : ℕ} {version : HeldRow} (holders : ℕ) → IsAtPlace old sector place version
@@ -265,11 +271,10 @@ by_place {place = place} at = record { place = place; inside = at.inside; is = �
 pub by_first : {old new : List HeldRow} {placed : PlacedEntry} → IsHeldOnce old new placed → IsHeldBy new placed.at placed
 by_first {old = old} {placed = placed} once =
     let row = first_row placed in
-    let found = Contains-push old row in
     subst (λ l. IsHeldBy l placed.at placed) (sym once.is) (record {
-      place = found.0;
-      inside = found.1;
-      is = λ d. ap (λ (h : HeldRow). h.placed) (get_or_default (old ++ row ∷ []) found.0 d row found.1 ∙ found.2);
+      place = once.place;
+      inside = omega (arith, length-insert old once.place row once.inside, once.inside);
+      is = λ d. ap (λ (h : HeldRow). h.placed) (get_or-insert_at old once.place row d once.inside);
       its = refl;
     })
 
@@ -285,12 +290,21 @@ by_one {held = held} own first second =
 pub by_once : {old new : List HeldRow} {sector : ℕ} {p placed : PlacedEntry} → IsHeldOnce old new placed → IsHeldBy old sector p → IsHeldBy new sector p
 by_once {old = old} {sector = sector} {p = p} {placed = placed} once by =
     let row = first_row placed in
-    subst (λ l. IsHeldBy l sector p) (sym once.is) (record {
+    let more = length-insert old once.place row once.inside in
+    subst (λ l. IsHeldBy l sector p) (sym once.is) (⊎_elim
+    (λ before. record {
       place = by.place;
-      inside = omega (arith, by.inside, length-append old (row ∷ []));
-      is = λ d. ap (λ (h : HeldRow). h.placed) (get_or_append_left old (row ∷ []) d by.place by.inside) ∙ by.is d;
+      inside = omega (arith, by.inside, more);
+      is = λ d. ap (λ (h : HeldRow). h.placed) (get_or-insert_below old once.place row d by.place before once.inside) ∙ by.is d;
       its = by.its;
     })
+    (λ behind. record {
+      place = by.place + 1;
+      inside = omega (arith, by.inside, more);
+      is = λ d. ap (λ (h : HeldRow). h.placed) (get_or-insert_above old once.place row d by.place behind once.inside) ∙ by.is d;
+      its = by.its;
+    })
+    (cases_lt by.place once.place))
 
 -- or the row of one is written,
 by_set : {old : List HeldRow} {sector at place : ℕ} {p : PlacedEntry} {version : HeldRow} → IsAtPlace old at place version → (row : HeldRow)
@@ -313,51 +327,27 @@ pub by_less : {old new : List HeldRow} {sector at : ℕ} {p : PlacedEntry} → I
 by_less {sector = sector} {p = p} less by = subst (λ l. IsHeldBy l sector p) (sym less.is) (by_set less.at (with_holders less.holders less.version) refl by)
 
 -- or that of another one goes.
-below : (a b : ℕ) → a ≢ b → a ≤ b → a < b
-below a b apart le = ⊎_elim (λ lt. lt) (λ ge. absurd (apart (omega (arith, le, ge)))) (cases_lt a b)
-
 pub by_gone_other : {old new : List HeldRow} {sector at : ℕ} {p : PlacedEntry} {version : HeldRow} → IsLetGo old new at version → sector ≢ at → IsHeldBy old sector p → IsHeldBy new sector p
-by_gone_other {old = old} {new = new} {sector = sector} {at = at} {p = p} {version = version} gone apart by =
+by_gone_other {old = old} {sector = sector} {at = at} {p = p} {version = version} gone apart by =
     let entry = λ (h : HeldRow). h.placed in
-    let last = length old - 1 in
-    let count = length-swap_remove old gone.place version gone.at.inside in
+    let fewer = length-remove old gone.place gone.at.inside in
     let other : by.place ≢ gone.place = (λ same.
     let is : p ≡ version.placed = sym (by.is no_row) ∙ ap (λ k. (get_or old k no_row).placed) same ∙ ap entry (gone.at.is no_row) in
     apart (sym by.its ∙ ap (λ (placed : PlacedEntry). placed.at) is ∙ gone.at.its)) in
-    subst (λ l. IsHeldBy l sector p) (sym gone.is) (⊎_elim
-    (λ is_last.
-    let at_last : by.place ≡ last = eqb-true by.place last is_last in
-    let before : gone.place + 1 < length old = omega (arith, below gone.place last (λ same. other (at_last ∙ sym same)) (omega (arith, gone.at.inside))) in record {
-      place = gone.place;
-      inside = omega (arith, count, before);
-      is = λ d. swap_remove_cases old gone.place version gone.at.inside (λ (h : HeldRow). h.placed ≡ p) gone.place d before
-          (λ _. ap (λ k. (get_or old k d).placed) (sym at_last) ∙ by.is d)
-          (λ elsewhere. absurd (elsewhere refl));
+    subst (λ l. IsHeldBy l sector p) (sym gone.is) (record {
+      place = closed_up gone.place by.place;
+      inside = closed_inside gone.place (length (remove old gone.place)) by.place other (omega (arith, by.inside, fewer)) (omega (arith, gone.at.inside, fewer));
+      is = λ d. ap entry (at_closed old gone.place by.place d other gone.at.inside) ∙ by.is d;
       its = by.its;
     })
-    (λ isnt.
-    let before : by.place + 1 < length old = omega (arith, below by.place last (eqb-false by.place last isnt) (omega (arith, by.inside))) in record {
-      place = by.place;
-      inside = omega (arith, count, before);
-      is = λ d. swap_remove_cases old gone.place version gone.at.inside (λ (h : HeldRow). h.placed ≡ p) by.place d before
-          (λ here. absurd (other here))
-          (λ _. by.is d);
-      its = by.its;
-    })
-    (cases_Bool (nat_eq by.place last)))
 
 -- Where a row goes there is none of its sector,
 pub gone_unheld : {old new : List HeldRow} {at : ℕ} {version : HeldRow} → HaveOwnRows old → IsLetGo old new at version → IsUnheld new at
-gone_unheld {old = old} {at = at} {version = version} own gone =
+gone_unheld {old = old} {at = at} own gone =
     let sector = λ (h : HeldRow). h.placed.at in
-    let last = length old - 1 in
-    subst (λ l. IsUnheld l at) (sym gone.is) (λ k d lt.
-    let before : k + 1 < length old = omega (arith, lt, length-swap_remove old gone.place version gone.at.inside) in
-    let only : (i : ℕ) → i < length old → (get_or old i d).placed.at ≡ at → i ≡ gone.place =
-    λ i fits same. same_place old i gone.place d own fits gone.at.inside (same ∙ sym (ap sector (gone.at.is d) ∙ gone.at.its)) in
-    swap_remove_cases old gone.place version gone.at.inside (λ (h : HeldRow). h.placed.at ≢ at) k d before
-    (λ here same. absurd (omega (arith, here, before, only last (omega (arith, before)) same)))
-    (λ other same. other (only k (omega (arith, before)) same)))
+    subst (λ l. IsUnheld l at) (sym gone.is) (λ k d lt same.
+    let stood = stood_at old gone.place k gone.at.inside lt in
+    stood.2 (same_place old stood.0 gone.place d own stood.1 gone.at.inside (ap sector (sym (stood.3 d)) ∙ same ∙ sym (ap sector (gone.at.is d) ∙ gone.at.its))))
 
 -- so a version that somebody holds still has its row.
 pub by_gone : {old new : List HeldRow} {sector at : ℕ} {p : PlacedEntry} {version : HeldRow} → HaveOwnRows old → IsLetGo old new at version
@@ -383,29 +373,14 @@ pub by_less_back : {old new : List HeldRow} {sector at : ℕ} {p : PlacedEntry} 
 by_less_back {sector = sector} {p = p} less by = by_set_back less.at (with_holders less.holders less.version) refl (subst (λ l. IsHeldBy l sector p) less.is by)
 
 pub by_gone_back : {old new : List HeldRow} {sector at : ℕ} {p : PlacedEntry} {version : HeldRow} → IsLetGo old new at version → IsHeldBy new sector p → IsHeldBy old sector p
-by_gone_back {old = old} {sector = sector} {p = p} {version = version} gone by_new =
+by_gone_back {old = old} {sector = sector} {p = p} gone by_new =
     let by = subst (λ l. IsHeldBy l sector p) gone.is by_new in
-    let last = length old - 1 in
-    let count = length-swap_remove old gone.place version gone.at.inside in
-    let before : by.place + 1 < length old = omega (arith, by.inside, count) in
-    let stood = λ (d : HeldRow). swap_remove_cases old gone.place version gone.at.inside
-    (λ (h : HeldRow). (by.place ≡ gone.place → h ≡ get_or old last d) × (by.place ≢ gone.place → h ≡ get_or old by.place d)) by.place d before
-    (λ here. (λ _. refl, λ other. absurd (other here)))
-    (λ other. (λ here. absurd (other here), λ _. refl)) in
-    ⊎_elim
-    (λ here. record {
-      place = last;
-      inside = omega (arith, before);
-      is = λ d. ap (λ (h : HeldRow). h.placed) (sym ((stood d).0 (eqb-true by.place gone.place here))) ∙ by.is d;
+    let stood = stood_at old gone.place by.place gone.at.inside by.inside in record {
+      place = stood.0;
+      inside = stood.1;
+      is = λ d. ap (λ (h : HeldRow). h.placed) (sym (stood.3 d)) ∙ by.is d;
       its = by.its;
-    })
-    (λ other. record {
-      place = by.place;
-      inside = omega (arith, before);
-      is = λ d. ap (λ (h : HeldRow). h.placed) (sym ((stood d).1 (eqb-false by.place gone.place other))) ∙ by.is d;
-      its = by.its;
-    })
-    (cases_Bool (nat_eq by.place gone.place))
+    }
 
 -- Somebody holds what has a row.
 pub by_some : {entries : List PlacedEntry} {held : List HeldRow} {sector : ℕ} {p : PlacedEntry} → AreHeldRows entries held → IsHeldBy held sector p → 0 < holders_of held sector

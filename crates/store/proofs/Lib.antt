@@ -19,6 +19,7 @@ pub mod Given
 pub mod GivenUp
 pub mod HeldRows
 pub mod HeldVersions
+pub mod Inserted
 pub mod IsReadLemmas
 pub mod KeepsHolders
 pub mod KeyedRows
@@ -43,7 +44,6 @@ pub mod Replacements
 pub mod Rooms
 pub mod Staging
 pub mod StandsLemmas
-pub mod SwapRemoves
 pub mod Taking
 pub mod Untouched
 pub mod Upgrades

@@ -1,5 +1,5 @@
 -- The order of names with one more.
-use Rattle.std.proofs.Common.{◌≡◌, ◌≢◌, ℕ, ◌+◌, ◌-◌, ◌<◌, ◌≤◌, All, AllPairs, false, List, ◌∷◌, ◌++◌, [], length, take, drop, get_or, arith, refl, sym, ap, subst, ◌∙◌, ⊎_elim}
+use Rattle.std.proofs.Common.{◌≡◌, ◌≢◌, ℕ, ◌+◌, ◌<◌, All, false, List, ◌∷◌, ◌++◌, [], length, get_or, arith, refl, sym, ap, subst, ◌∙◌, ⊎_elim}
 use Rattle.std.specs.List.{insert}
 use Rattle.std.specs.Cmp.Lexicographic.{slice_cmp}
 use Rattle.std.specs.Ordering.{nat_cmp, ordering_reverse, is_lt}
@@ -8,51 +8,16 @@ use Rattle.std.specs.declared.cmp.Ordering.TheVariants.{Less, Equal, Greater}
 use Rattle.std.proofs.lemmas.Bool.{cases_lt, false≢true}
 use Rattle.std.proofs.lemmas.Cmp.{nat_list_cmp_total}
 use Rattle.std.proofs.lemmas.List.{length_push, map_push, get_or_append_left, get_or_push, get_or_default}
-use Rattle.std.proofs.lemmas.List.Edits.{length-insert, get_or-insert_below, get_or-insert_at, get_or-insert_above}
-use Rattle.std.proofs.lemmas.List.Elements.{All-append, All-cons, All-take, All-drop, Contains-append_right}
+use Rattle.std.proofs.lemmas.List.Edits.{length-insert}
+use Rattle.std.proofs.lemmas.List.Elements.{Contains-append_right}
 use Rattle.std.proofs.lemmas.List.Sorted.{IsPermutation-insert, Contains-permutation}
 use Rattle.std.proofs.lemmas.Map.Lookups.{exact_bytes}
 use Rattle.store.specs.declared.placed_entry.PlacedEntry.{PlacedEntry}
 use Rattle.store.specs.Stands.{name_of}
 use Rattle.store.specs.NameOrder.{entry_names, name_at, name_order, IsOrderOf}
 use Rattle.store.specs.inside.NameIndex.{order_to, IsPlace}
+use Rattle.store.proofs.Inserted.{all_insert, all_pairs_insert}
 use Rattle.store.proofs.NameIndex.{entry_name, entry_count}
-
-module _ {X : Type 0} (R : X → X → Type 0) (xs : List X) (i : ℕ) (y : X) where
-  -- two elements after an insertion, by what they are
-  pair : (j k : ℕ) (d a b : X) → get_or (insert xs i y) j d ≡ a → get_or (insert xs i y) k d ≡ b → R a b → R (get_or (insert xs i y) j d) (get_or (insert xs i y) k d)
-  pair j k d a b first second holds = subst (λ v. R v (get_or (insert xs i y) k d)) (sym first) (subst (λ v. R a v) (sym second) holds)
-
-  above : (k : ℕ) (d : X) → i ≤ length xs → i < k → get_or (insert xs i y) k d ≡ get_or xs (k - 1) d
-  above k d le lt =
-      let is : k - 1 + 1 ≡ k = omega (arith, lt) in
-      ap (λ n. get_or (insert xs i y) n d) (sym is) ∙ get_or-insert_above xs i y d (k - 1) (omega (arith, lt)) le
-
-  -- an element between those that it follows and those that follow it
-  pub all_pairs_insert : i ≤ length xs → AllPairs R xs → ((k : ℕ) (d : X) → k < i → R (get_or xs k d) y) → ((k : ℕ) (d : X) → i ≤ k → k < length xs → R y (get_or xs k d))
-      → AllPairs R (insert xs i y)
-  all_pairs_insert le pairs before behind j k d less lt =
-      let n : length (insert xs i y) ≡ length xs + 1 = length-insert xs i y le in
-      ⊎_elim
-      (λ low. pair j k d (get_or xs j d) (get_or xs k d) (get_or-insert_below xs i y d j (omega (arith, less, low)) le)
-      (get_or-insert_below xs i y d k low le) (pairs j k d less (omega (arith, low, le))))
-      (λ from. ⊎_elim
-      (λ high. ⊎_elim
-      (λ low. pair j k d (get_or xs j d) (get_or xs (k - 1) d) (get_or-insert_below xs i y d j low le) (above k d le high) (pairs j (k - 1) d (omega (arith, low, high)) (omega (arith, n, lt, high))))
-      (λ upper. ⊎_elim
-      (λ higher. pair j k d (get_or xs (j - 1) d) (get_or xs (k - 1) d) (above j d le higher) (above k d le high) (pairs (j - 1) (k - 1) d (omega (arith, less, higher)) (omega (arith, n, lt, high))))
-      (λ upto.
-      let is : i ≡ j = omega (arith, upper, upto) in
-      pair j k d y (get_or xs (k - 1) d) (ap (λ m. get_or (insert xs i y) m d) (sym is) ∙ get_or-insert_at xs i y d le) (above k d le high)
-      (behind (k - 1) d (omega (arith, high)) (omega (arith, n, lt, high))))
-      (cases_lt i j))
-      (cases_lt j i))
-      (λ upto.
-      let is : i ≡ k = omega (arith, from, upto) in
-      pair j k d (get_or xs j d) y (get_or-insert_below xs i y d j (omega (arith, less, is)) le)
-      (ap (λ m. get_or (insert xs i y) m d) (sym is) ∙ get_or-insert_at xs i y d le) (before j d (omega (arith, less, is))))
-      (cases_lt i k))
-      (cases_lt k i)
 
 module _ (names : List (List ℕ)) (name : List ℕ) where
   named-before : (p : ℕ) → p < length names → name_at (names ++ name ∷ []) p ≡ name_at names p
@@ -96,9 +61,7 @@ inserted-names names positions name place order at absent =
     let old : All (λ p. p < length (names ++ name ∷ [])) positions = λ k d lt. omega (arith, n, order.within k d lt) in
     record {
       size = length-insert positions place (length names) at.within ∙ ap (λ k. k + 1) order.size ∙ sym n;
-      within = All-append (λ p. p < length (names ++ name ∷ [])) (take place positions) (length names ∷ drop place positions)
-          (All-take (λ p. p < length (names ++ name ∷ [])) place positions old)
-          (All-cons (λ p. p < length (names ++ name ∷ [])) (length names) (drop place positions) (omega (arith, n)) (All-drop (λ p. p < length (names ++ name ∷ [])) place positions old));
+      within = all_insert (λ p. p < length (names ++ name ∷ [])) positions place (length names) (omega (arith, n)) old;
       every = λ p lt.
           Contains-permutation (length names ∷ positions) (insert positions place (length names)) p (IsPermutation-insert positions place (length names))
           (⊎_elim

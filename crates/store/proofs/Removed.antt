@@ -3,7 +3,7 @@ use Rattle.std.proofs.Common.{◌≡◌, ◌≢◌, ⊎_elim, ℕ, zero, suc, �
 use Rattle.std.specs.List.{remove}
 use Rattle.std.proofs.lemmas.Bool.{cases_lt}
 use Rattle.std.proofs.lemmas.Bool.Decides.{nat_tests}
-use Rattle.std.proofs.lemmas.List.Edits.{get_or-remove_below, get_or-remove_above}
+use Rattle.std.proofs.lemmas.List.Edits.{length-remove, get_or-remove_below, get_or-remove_above}
 use Rattle.std.proofs.lemmas.List.Elements.{All-append, All-take, All-drop}
 use Rattle.store.specs.inside.NameIndex.{closed_up}
 
@@ -46,3 +46,13 @@ at_closed xs gone p d other fits = ⊎_elim
     let is : p - 1 + 1 ≡ p = omega (arith, more) in
     ap (λ k. get_or (remove xs gone) k d) (closed-above gone p more) ∙ get_or-remove_above xs gone d (p - 1) (omega (arith, more)) fits ∙ ap (λ k. get_or xs k d) is)
     (cases_lt p gone)
+
+-- and what stands at a position now stood at another one than the one that goes
+pub stood_at : {A : Type 0} (xs : List A) (gone k : ℕ) → gone < length xs → k < length (remove xs gone)
+    → (j : ℕ) × (j < length xs) × (j ≢ gone) × ((d : A) → get_or (remove xs gone) k d ≡ get_or xs j d)
+stood_at xs gone k fits lt =
+    let fewer = length-remove xs gone fits in
+    ⊎_elim
+    (λ less. (k, omega (arith, lt, fewer), λ same. omega (arith, same, less), λ d. get_or-remove_below xs gone d k less fits))
+    (λ from. (k + 1, omega (arith, lt, fewer), λ same. omega (arith, same, from), λ d. get_or-remove_above xs gone d k from fits))
+    (cases_lt k gone)

@@ -3,13 +3,13 @@ ghost use Rattle.std.specs.Prelude.{◌≡◌, ◌⊎◌, [], IsTrue, IsFalse, I
 ghost use Rattle.std.specs.Prelude.{IfSome, IfErr, OnOk, OnErr};
 ghost use Rattle.store.specs.declared.held_versions.HeldRow.{HeldRow};
 ghost use Rattle.store.specs.HeldVersions.{IsHeldBy};
-ghost use Rattle.store.specs.inside.HeldRows.{IsUnheld, IsAtPlace, IsHeldOnce, IsHeldMore};
+ghost use Rattle.store.specs.inside.HeldRows.{IsUnheld, IsHeldOnce, IsHeldMore};
 ghost use Rattle.store.specs.inside.HeldRows.{IsLeft, IsHeldLess, IsLetGo};
 
 use crate::placed_entry::PlacedEntry;
 use crate::refusal::StoreRefusal;
-use indexmap::IndexMap;
 use std::alloc::Global;
+use std::collections::BTreeMap;
 use std::marker::Model;
 
 /// A version of a byte string that somebody holds: its entry, how many hold it, and whether the
@@ -21,15 +21,16 @@ pub struct HeldRow {
     pub listed: bool,
 }
 
-/// The versions that somebody holds, one row each, found by the sector of their entry.
+/// The versions that somebody holds, one row each, found by the sector of their entry and in the
+/// order of these sectors.
 #[derive(Drop)]
 pub(crate) struct HeldVersions {
-    rows: IndexMap<u32, HeldRow>,
+    rows: BTreeMap<u32, HeldRow>,
 }
 
 impl Model for HeldVersions {
     ghost use Rattle.std.specs.Prelude.{◌≡◌, List, map};
-    ghost use Rattle.indexmap.specs.IndexMap.{keys, values};
+    ghost use Rattle.std.specs.BTreeMap.{keys, values};
     ghost use Rattle.store.specs.declared.held_versions.HeldRow.{HeldRow};
 
     ghost Value = { List HeldRow };
@@ -45,17 +46,8 @@ impl HeldVersions {
         ensures { result ≡ [] }
     {
         HeldVersions {
-            rows: IndexMap::new(alloc),
+            rows: BTreeMap::new(alloc),
         }
-    }
-
-    /// The place of the row with this entry sector.
-    fn place_of(&self, sector: u32) -> Option<usize>
-        ensures none { IsNone result → IsUnheld self.now sector }
-        ensures some { IfSome result (λ place. (version : HeldRow)
-            × IsAtPlace self.now sector place version) }
-    {
-        self.rows.get_index_of(&sector)
     }
 
     /// The entry of the held version with this entry sector.
@@ -63,8 +55,8 @@ impl HeldVersions {
         ensures none { IsNone result → IsUnheld self.now sector }
         ensures some { IfSome result (λ placed. IsHeldBy self.now sector placed.now) }
     {
-        let place = self.place_of(sector)?;
-        Some(&self.rows[place].placed)
+        let version = self.rows.get(&sector)?;
+        Some(&version.placed)
     }
 
     /// A version that nobody held gets a row.
@@ -92,13 +84,13 @@ impl HeldVersions {
         ensures err { OnErr result (self.new ≡ self.old) }
         ensures refusals { IfErr result (λ e. e ≡ StoreRefusal.OutOfMemory) }
     {
-        let Some(place) = self.place_of(placed.at) else {
+        let Some(version) = self.rows.get_mut(&placed.at) else {
             return self.add(placed);
         };
-        let Some(holders) = self.rows[place].holders.checked_add(1) else {
+        let Some(holders) = version.holders.checked_add(1) else {
             return Err(StoreRefusal::OutOfMemory);
         };
-        self.rows[place].holders = holders;
+        version.holders = holders;
         Ok(())
     }
 
@@ -107,28 +99,25 @@ impl HeldVersions {
         ensures no { IsFalse result → (IsUnheld self.old sector) × (self.new ≡ self.old) }
         ensures yes { IsTrue result → IsLeft self.old self.new sector }
     {
-        match self.place_of(sector) {
-            Some(place) => {
-                self.rows[place].listed = false;
-                true
-            }
-            None => false,
-        }
+        let Some(version) = self.rows.get_mut(&sector) else {
+            return false;
+        };
+        version.listed = false;
+        true
     }
 
     /// One less holds the version with this entry sector. The version, where nobody does now. It
-    /// takes no memory, and moves one row at most.
+    /// takes no memory.
     pub(crate) fn let_go(&mut self, sector: u32) -> Option<HeldRow>
         ensures none { IsNone result → (IsHeldLess self.old self.new sector)
             ⊎ ((IsUnheld self.old sector) × (self.new ≡ self.old)) }
         ensures some { IfSome result (IsLetGo self.old self.new sector) }
     {
-        let place = self.place_of(sector)?;
-        if self.rows[place].holders > 1 {
-            self.rows[place].holders -= 1;
+        let version = self.rows.get_mut(&sector)?;
+        if version.holders > 1 {
+            version.holders -= 1;
             return None;
         }
-        let (_, version) = self.rows.swap_remove_index(place)?;
-        Some(version)
+        self.rows.remove(&sector)
     }
 }

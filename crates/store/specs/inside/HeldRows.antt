@@ -1,6 +1,6 @@
 -- What the calls of the table of held versions make of it, and what a store keeps of it.
-use Rattle.std.specs.Prelude.{◌≡◌, ◌≢◌, ℕ, ◌+◌, ◌<◌, false, true, List, [], ◌∷◌}
-use Rattle.std.specs.Prelude.{◌++◌, length, set, swap_remove, slice_index_or, All, Contains}
+use Rattle.std.specs.Prelude.{◌≡◌, ◌≢◌, ℕ, ◌+◌, ◌<◌, ◌≤◌, false, true, List}
+use Rattle.std.specs.Prelude.{length, set, insert, remove, slice_index_or, All, Contains}
 use Rattle.roots.specs.Entry.{EntryHasSpelling}
 use Rattle.store.specs.declared.placed_entry.PlacedEntry.{PlacedEntry}
 use Rattle.store.specs.declared.held_versions.HeldRow.{HeldRow}
@@ -25,10 +25,12 @@ pub record IsAtPlace (held : List HeldRow) (sector place : ℕ) (version : HeldR
   pub is : (d : HeldRow) → slice_index_or held place d ≡ version
   pub its : version.placed.at ≡ sector
 
--- one more holds the version, which was held by nobody,
+-- one more holds the version, which was held by nobody: it has its row at some place now,
 pub record IsHeldOnce (old new : List HeldRow) (placed : PlacedEntry) : Type 0 where
   pub absent : IsUnheld old placed.at
-  pub is : new ≡ old ++ first_row placed ∷ []
+  pub place : ℕ
+  pub inside : place ≤ length old
+  pub is : new ≡ insert old place (first_row placed)
 
 -- or by somebody
 pub record IsHeldMore (old new : List HeldRow) (sector : ℕ) : Type 0 where
@@ -54,12 +56,12 @@ pub record IsHeldLess (old new : List HeldRow) (sector : ℕ) : Type 0 where
   pub was : version.holders ≡ holders + 1
   pub is : new ≡ set old place (with_holders holders version)
 
--- its last holder lets the version go: the last row takes its place
+-- its last holder lets the version go
 pub record IsLetGo (old new : List HeldRow) (sector : ℕ) (version : HeldRow) : Type 0 where
   pub place : ℕ
   pub at : IsAtPlace old sector place version
   pub last : version.holders < 2
-  pub is : new ≡ swap_remove old place version
+  pub is : new ≡ remove old place
 
 -- What a row of the table is: the state lists the version, or it listed it once.
 pub record IsHeldRow (entries : List PlacedEntry) (version : HeldRow) : Type 0 where

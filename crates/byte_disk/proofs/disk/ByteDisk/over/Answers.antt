@@ -2,7 +2,7 @@ use Rattle.std.proofs.Common.{◌≡◌, [], refl, subst, sym}
 use Rattle.std.proofs.lemmas.List.Elements.{All-nil}
 use Rattle.std.specs.Prelude.{nat_eq}
 use Rattle.std.specs.Map.{lookup}
-use Rattle.indexmap.specs.IndexMap.{get}
+use Rattle.std.specs.HashMap.{get}
 use Rattle.sector_disk.specs.Disk.{sector}
 use Rattle.byte_disk.specs.Plan.{carried_out, IsWriteOn}
 use Rattle.byte_disk.specs.inside.Latest.{plan_in, content_by}

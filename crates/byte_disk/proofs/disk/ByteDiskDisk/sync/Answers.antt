@@ -1,6 +1,6 @@
 use Rattle.std.proofs.Common.{◌≡◌, ◌++◌, ◌∷◌, [], All, length, refl, subst, sym, ap, ◌∙◌}
 use Rattle.std.specs.Prelude.{nat_eq}
-use Rattle.indexmap.specs.IndexMap.{get}
+use Rattle.std.specs.HashMap.{get}
 use Rattle.sector_disk.specs.Disk.{sector}
 use Rattle.byte_disk.specs.declared.planned.PlannedStep.{PlannedStep}
 use Rattle.byte_disk.specs.declared.step.Step.TheVariants.{Sync}

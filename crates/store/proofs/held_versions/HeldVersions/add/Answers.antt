@@ -1,16 +1,26 @@
-use Rattle.std.proofs.Common.{refl}
-use Rattle.store.specs.inside.HeldRows.{first_row}
-use Rattle.store.proofs.KeyedRows.{rows_added, keys_added}
+use Rattle.std.proofs.Common.{refl, subst, sym}
+use Rattle.std.specs.Map.{values_of}
+use Rattle.store.specs.inside.HeldRows.{IsHeldOnce, IsUnheld, first_row}
+use Rattle.store.proofs.KeyedRows.{keys_put, put, put_inside, row_put}
 use Rattle.store.proofs.held_versions.HeldVersions.add.Goals as goal
 
 pub invariant_of-self-2 : goal.invariant_of-self-2
 invariant_of-self-2 c =
     let placed = c.args.placed.now in
-    keys_added c.self.inside.rows c.args.self.now c.self.view_is c.self.invariant placed.at (first_row placed) c.requires c.insert.new.self.entries c.in-Ok.ensures.entries refl
+    let absent = subst (λ rows. IsUnheld rows placed.at) (sym c.self.view_is) c.requires in
+    keys_put c.self.inside.rows.entries c.self.invariant placed.at (first_row placed) absent c.insert.new.self.entries c.in-Ok.ensures.entries refl
 
 pub returns-clause-ok : goal.returns-clause-ok
 returns-clause-ok c =
-    let placed = c.args.placed.now in record {
-      absent = c.requires;
-      is = rows_added c.self.inside.rows c.args.self.now c.self.view_is c.self.invariant placed.at (first_row placed) c.requires c.insert.new.self.entries c.in-Ok.ensures.entries;
-    }
+    let placed = c.args.placed.now in
+    let es = c.self.inside.rows.entries in
+    let own = c.self.invariant in
+    let new = c.insert.new.self.entries in
+    let is = c.in-Ok.ensures.entries in
+    let absent = subst (λ rows. IsUnheld rows placed.at) (sym c.self.view_is) c.requires in
+    subst (λ old. IsHeldOnce old (values_of new) placed) c.self.view_is (record {
+      absent = absent;
+      place = (put es own placed.at (first_row placed) absent new is).place;
+      inside = put_inside es own placed.at (first_row placed) absent new is;
+      is = row_put es own placed.at (first_row placed) absent new is;
+    })

@@ -1,30 +1,48 @@
-use Rattle.std.proofs.Common.{◌≡◌, ◌∙◌, ◌+◌, inr, Some, slice_get, set, sym, ap}
+use Rattle.std.proofs.Common.{◌∙◌, BTreeMap, ℕ, inr, refl, set, ap, subst, sym}
+use Rattle.std.specs.Map.{values_of}
+use Rattle.std.proofs.lemmas.Map.Steps.{set_value_same}
 use Rattle.store.specs.declared.held_versions.HeldRow.{HeldRow}
-use Rattle.store.specs.inside.HeldRows.{with_holders}
-use Rattle.store.proofs.KeyedRows.{row_read, same_read, rows_written, keys_written}
+use Rattle.store.specs.inside.HeldRows.{IsHeldMore, IsUnheld, with_holders}
+use Rattle.store.proofs.KeyedRows.{found, is_sector, keys_written, none_found, row_found, row_written}
 use Rattle.store.proofs.held_versions.HeldVersions.hold.Goals as goal
 
-pub invariant_of-self : goal.invariant_of-self
-invariant_of-self c =
-    let found = c.in-Some.ensures.some in
-    let row = c.index_mut.result.now in
-    let sector = c.args.placed.now.at in
-    let at = row_read c.args.self.now sector c.in-Some.place found.0 row found.1 (ap (λ l. slice_get l c.in-Some.place) (sym c.self.view_is) ∙ c.index_mut.ensures.value) in
-    keys_written c.self.inside.rows c.args.self.now c.self.view_is sector c.in-Some.place row (with_holders c.in-Some-checked_add.holders row) c.self.invariant at at.its
+pub add-requires : goal.add-requires
+add-requires c =
+    subst (λ (rows : BTreeMap ℕ HeldRow). IsUnheld (values_of rows.entries) c.args.placed.now.at) (sym c.get_mut.follows.holds-at-none)
+    (none_found c.self.inside.rows.entries c.self.invariant c.args.placed.now.at (sym c.in_default.ensures.value))
+
+pub invariant_of-self-in_default-checked_add : goal.invariant_of-self-in_default-checked_add
+invariant_of-self-in_default-checked_add c =
+    let row = c.in-Some.version.now in
+    keys_written c.self.inside.rows.entries c.self.invariant c.args.placed.now.at row (sym c.in-Some.ensures.value)
+    (c.get_mut.follows.lender row).entries row (c.get_mut.follows.holds row).0 refl
+
+pub returns-in_default-checked_add-clause-err : goal.returns-in_default-checked_add-clause-err
+returns-in_default-checked_add-clause-err c =
+    let es = c.self.inside.rows.entries in
+    let row = c.in-Some.version.now in
+    ap values_of ((c.get_mut.follows.holds row).0 ∙ set_value_same (is_sector c.args.placed.now.at) es row (sym c.in-Some.ensures.value)) ∙ c.self.view_is
+
+pub invariant_of-self-2 : goal.invariant_of-self-2
+invariant_of-self-2 c =
+    let row = c.in-Some.version.now in
+    let more = with_holders c.in-Some-checked_add.holders row in
+    keys_written c.self.inside.rows.entries c.self.invariant c.args.placed.now.at row (sym c.in-Some.ensures.value)
+    (c.get_mut.follows.lender more).entries more (c.get_mut.follows.holds more).0 refl
 
 pub returns-clause-ok : goal.returns-clause-ok
 returns-clause-ok c =
-    let found = c.in-Some.ensures.some in
-    let old = c.args.self.now in
-    let place = c.in-Some.place in
-    let row = c.index_mut.result.now in
-    let read : slice_get old place ≡ Some row = ap (λ l. slice_get l place) (sym c.self.view_is) ∙ c.index_mut.ensures.value in
-    let counted : slice_get old place ≡ Some c.index.result.now = ap (λ l. slice_get l place) (sym c.self.view_is) ∙ c.index.ensures in
-    let same : c.index.result.now ≡ row = same_read old place c.index.result.now row counted read in
-    let holders : c.in-Some-checked_add.holders ≡ row.holders + 1 = c.in-Some-checked_add.ensures.1 ∙ ap (λ (h : HeldRow). h.holders + 1) same in
-    inr (record {
+    let es = c.self.inside.rows.entries in
+    let sector = c.args.placed.now.at in
+    let row = c.in-Some.version.now in
+    let more = with_holders c.in-Some-checked_add.holders row in
+    let new = (c.get_mut.follows.lender more).entries in
+    let is = sym c.in-Some.ensures.value in
+    let place = (found es c.self.invariant sector row is).place in
+    inr (subst (λ old. IsHeldMore old (values_of new) sector) c.self.view_is (record {
       place = place;
       version = row;
-      at = row_read old c.args.placed.now.at place found.0 row found.1 read;
-      is = rows_written c.self.inside.rows old c.self.view_is place (with_holders c.in-Some-checked_add.holders row) ∙ ap (λ n. set old place (with_holders n row)) holders;
-    })
+      at = row_found es c.self.invariant sector row is;
+      is = row_written es c.self.invariant sector row is new more (c.get_mut.follows.holds more).0
+          ∙ ap (λ n. set (values_of es) place (with_holders n row)) c.in-Some-checked_add.ensures.1;
+    }))

@@ -1,22 +1,33 @@
-use Rattle.std.proofs.Common.{◌∙◌, slice_get, sym, ap}
-use Rattle.store.specs.inside.HeldRows.{unlisted}
-use Rattle.store.proofs.KeyedRows.{row_read, rows_written, keys_written}
+use Rattle.std.proofs.Common.{◌∙◌, BTreeMap, ℕ, ap, refl, subst, sym}
+use Rattle.std.specs.Map.{values_of}
+use Rattle.store.specs.declared.held_versions.HeldRow.{HeldRow}
+use Rattle.store.specs.inside.HeldRows.{IsLeft, IsUnheld, unlisted}
+use Rattle.store.proofs.KeyedRows.{found, keys_written, none_found, row_found, row_written}
 use Rattle.store.proofs.held_versions.HeldVersions.leave.Goals as goal
 
-pub invariant_of-self : goal.invariant_of-self
-invariant_of-self c =
-    let found = c.in-Some.ensures.some in
-    let row = c.index_mut.result.now in
-    let at = row_read c.args.self.now c.args.sector c.in-Some.place found.0 row found.1 (ap (λ l. slice_get l c.in-Some.place) (sym c.self.view_is) ∙ c.index_mut.ensures.value) in
-    keys_written c.self.inside.rows c.args.self.now c.self.view_is c.args.sector c.in-Some.place row (unlisted row) c.self.invariant at at.its
+pub returns-in_default-clause-no : goal.returns-in_default-clause-no
+returns-in_default-clause-no c = λ _. (
+  subst (λ rows. IsUnheld rows c.args.sector) c.self.view_is (none_found c.self.inside.rows.entries c.self.invariant c.args.sector (sym c.in_default.ensures.value)),
+  ap (λ (rows : BTreeMap ℕ HeldRow). values_of rows.entries) c.get_mut.follows.holds-at-none ∙ c.self.view_is,
+)
 
-pub returns-in-Some-clause-yes : goal.returns-in-Some-clause-yes
-returns-in-Some-clause-yes c = λ _.
-    let found = c.in-Some.ensures.some in
-    let row = c.index_mut.result.now in
-    let at = row_read c.args.self.now c.args.sector c.in-Some.place found.0 row found.1 (ap (λ l. slice_get l c.in-Some.place) (sym c.self.view_is) ∙ c.index_mut.ensures.value) in record {
-      place = c.in-Some.place;
+pub invariant_of-self-2 : goal.invariant_of-self-2
+invariant_of-self-2 c =
+    let row = c.in-Some.version.now in
+    let left = unlisted row in
+    keys_written c.self.inside.rows.entries c.self.invariant c.args.sector row (sym c.in-Some.ensures.value)
+    (c.get_mut.follows.lender left).entries left (c.get_mut.follows.holds left).0 refl
+
+pub returns-clause-yes : goal.returns-clause-yes
+returns-clause-yes c = λ _.
+    let es = c.self.inside.rows.entries in
+    let row = c.in-Some.version.now in
+    let left = unlisted row in
+    let new = (c.get_mut.follows.lender left).entries in
+    let is = sym c.in-Some.ensures.value in
+    subst (λ old. IsLeft old (values_of new) c.args.sector) c.self.view_is (record {
+      place = (found es c.self.invariant c.args.sector row is).place;
       version = row;
-      at = at;
-      is = rows_written c.self.inside.rows c.args.self.now c.self.view_is c.in-Some.place (unlisted row);
-    }
+      at = row_found es c.self.invariant c.args.sector row is;
+      is = row_written es c.self.invariant c.args.sector row is new left (c.get_mut.follows.holds left).0;
+    })

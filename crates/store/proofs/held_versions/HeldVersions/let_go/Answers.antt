@@ -1,59 +1,65 @@
-use Rattle.std.proofs.Common.{◌≡◌, ◌∙◌, ◌-◌, inl, Some, slice_get, sym, ap, arith}
+use Rattle.std.proofs.Common.{◌≡◌, ◌∙◌, ◌-◌, BTreeMap, inl, inr, refl, ℕ, IfSome, ap, subst, sym, arith}
+use Rattle.std.specs.Map.{lookup, remove_entry, values_of}
+use Rattle.std.proofs.lemmas.Map.Steps.{set_value_same}
 use Rattle.store.specs.declared.held_versions.HeldRow.{HeldRow}
-use Rattle.store.specs.inside.HeldRows.{with_holders}
-use Rattle.store.proofs.KeyedRows.{row_read, same_read, rows_written, keys_written, pair_there, pair_read, rows_left, keys_left}
+use Rattle.store.specs.inside.HeldRows.{IsHeldLess, IsLetGo, IsUnheld, with_holders}
+use Rattle.store.proofs.KeyedRows.{found, is_sector, keys_removed, keys_written, none_found, row_found, row_removed, row_written}
 use Rattle.store.proofs.held_versions.HeldVersions.let_go.Goals as goal
 
-pub invariant_of-self : goal.invariant_of-self
-invariant_of-self c =
-    let found = c.in_ok-place.ensures.some in
-    let place = c.in_ok-place.place in
-    let row = c.index_mut.result.now in
-    let at = row_read c.args.self.now c.args.sector place found.0 row found.1 (ap (λ l. slice_get l place) (sym c.self.view_is) ∙ c.index_mut.ensures.value) in
-    keys_written c.self.inside.rows c.args.self.now c.self.view_is c.args.sector place row (with_holders (row.holders - 1) row) c.self.invariant at at.its
+pub invariant_of-self-then-version-gt1 : goal.invariant_of-self-then-version-gt1
+invariant_of-self-then-version-gt1 c =
+    let row = c.in_ok-version.version.now in
+    let less = with_holders (row.holders - 1) row in
+    keys_written c.self.inside.rows.entries c.self.invariant c.args.sector row (sym c.in_ok-version.ensures.value)
+    (c.get_mut.follows.lender less).entries less (c.get_mut.follows.holds less).0 refl
 
-pub returns-then-index-gt1-clause-none : goal.returns-then-index-gt1-clause-none
-returns-then-index-gt1-clause-none c = λ _.
-    let found = c.in_ok-place.ensures.some in
-    let old = c.args.self.now in
-    let place = c.in_ok-place.place in
-    let row = c.index_mut.result.now in
-    let read : slice_get old place ≡ Some row = ap (λ l. slice_get l place) (sym c.self.view_is) ∙ c.index_mut.ensures.value in
-    let counted : slice_get old place ≡ Some c.index.result.now = ap (λ l. slice_get l place) (sym c.self.view_is) ∙ c.index.ensures in
-    let same : c.index.result.now.holders ≡ row.holders = ap (λ (h : HeldRow). h.holders) (same_read old place c.index.result.now row counted read) in
-    inl (record {
-      place = place;
+pub returns-then-version-gt1-clause-none : goal.returns-then-version-gt1-clause-none
+returns-then-version-gt1-clause-none c = λ _.
+    let es = c.self.inside.rows.entries in
+    let row = c.in_ok-version.version.now in
+    let less = with_holders (row.holders - 1) row in
+    let new = (c.get_mut.follows.lender less).entries in
+    let is = sym c.in_ok-version.ensures.value in
+    inl (subst (λ old. IsHeldLess old (values_of new) c.args.sector) c.self.view_is (record {
+      place = (found es c.self.invariant c.args.sector row is).place;
       version = row;
-      at = row_read old c.args.sector place found.0 row found.1 read;
+      at = row_found es c.self.invariant c.args.sector row is;
       holders = row.holders - 1;
-      some = omega (arith, same, c.if-index-gt1.true);
-      was = omega (arith, same, c.if-index-gt1.true);
-      is = rows_written c.self.inside.rows old c.self.view_is place (with_holders (row.holders - 1) row);
-    })
+      some = omega (arith, c.if-version-gt1.true);
+      was = omega (arith, c.if-version-gt1.true);
+      is = row_written es c.self.invariant c.args.sector row is new less (c.get_mut.follows.holds less).0;
+    }))
 
 pub returns-in_err-version-clause-none : goal.returns-in_err-version-clause-none
-returns-in_err-version-clause-none c = absurd
-    (pair_there c.self.inside.rows c.args.self.now c.self.view_is c.in_ok-place.place c.in_ok-place.ensures.some.1.inside
-    (sym c.in_err-version.ensures.entry))
+returns-in_err-version-clause-none c = λ _. inr (
+  subst (λ rows. IsUnheld rows c.args.sector) c.self.view_is (none_found c.self.inside.rows.entries c.self.invariant c.args.sector (sym c.in_err-version.ensures.value)),
+  ap (λ (rows : BTreeMap ℕ HeldRow). values_of rows.entries) c.get_mut.follows.holds-at-none ∙ c.self.view_is,
+)
+
+-- what was read and not written stays
+still : (c : goal.After-remove) → (c.get_mut.follows.lender c.in_ok-version.version.now).entries ≡ c.self.inside.rows.entries
+still c =
+    let row = c.in_ok-version.version.now in
+    (c.get_mut.follows.holds row).0 ∙ set_value_same (is_sector c.args.sector) c.self.inside.rows.entries row (sym c.in_ok-version.ensures.value)
+
+removed : (c : goal.After-remove) → c.remove.new.self.entries ≡ remove_entry (is_sector c.args.sector) c.self.inside.rows.entries
+removed c = c.remove.ensures.entries ∙ ap (remove_entry (is_sector c.args.sector)) (still c)
 
 pub invariant_of-self-2 : goal.invariant_of-self-2
 invariant_of-self-2 c =
-    let place = c.in_ok-place.place in
-    keys_left c.self.inside.rows c.args.self.now c.self.view_is place c.in_ok-version.field-0-0 c.in_ok-version.version
-    c.in_ok-place.ensures.some.1.inside c.swap_remove_index.new.self.entries c.in_ok-version.ensures.entries c.self.invariant
+    keys_removed c.self.inside.rows.entries c.self.invariant c.args.sector c.in_ok-version.version.now (sym c.in_ok-version.ensures.value) c.remove.new.self.entries (removed c)
 
 pub returns-clause-some : goal.returns-clause-some
 returns-clause-some c =
-    let found = c.in_ok-place.ensures.some in
-    let old = c.args.self.now in
-    let place = c.in_ok-place.place in
-    let row = c.in_ok-version.version in
-    let key = c.in_ok-version.field-0-0 in
-    let read : slice_get old place ≡ Some row = pair_read c.self.inside.rows old c.self.view_is place key row (sym c.in_ok-version.ensures.entry) in
-    let counted : slice_get old place ≡ Some c.index.result.now = ap (λ l. slice_get l place) (sym c.self.view_is) ∙ c.index.ensures in
-    let same : c.index.result.now.holders ≡ row.holders = ap (λ (h : HeldRow). h.holders) (same_read old place c.index.result.now row counted read) in record {
-      place = place;
-      at = row_read old c.args.sector place found.0 row found.1 read;
-      last = omega (arith, same, c.if-index-gt1.false);
-      is = rows_left c.self.inside.rows old c.self.view_is place key row found.1.inside c.swap_remove_index.new.self.entries c.in_ok-version.ensures.entries;
-    }
+    let es = c.self.inside.rows.entries in
+    let row = c.in_ok-version.version.now in
+    let new = c.remove.new.self.entries in
+    let is = sym c.in_ok-version.ensures.value in
+    let gone : IsLetGo (values_of es) (values_of new) c.args.sector row = record {
+      place = (found es c.self.invariant c.args.sector row is).place;
+      at = row_found es c.self.invariant c.args.sector row is;
+      last = omega (arith, c.if-version-gt1.false);
+      is = row_removed es c.self.invariant c.args.sector row is new (removed c);
+    } in
+    subst (λ result. IfSome result (IsLetGo c.args.self.now (values_of new) c.args.sector)) (sym (c.remove.ensures.value ∙ ap (lookup (is_sector c.args.sector)) (still c) ∙ is))
+    (subst (λ old. IsLetGo old (values_of new) c.args.sector row) c.self.view_is gone)
