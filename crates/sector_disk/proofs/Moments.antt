@@ -1,5 +1,5 @@
 -- How what a stop leaves goes on from call to call.
-use Rattle.std.proofs.Common.{◌≡◌, ⊎_elim, ℕ, ◌+◌, ◌<◌, ◌≤◌, List, ◌++◌, Result, refl, sym, ◌∙◌, ap, subst, arith}
+use Rattle.std.proofs.Common.{◌≡◌, ⊎_elim, ℕ, ◌+◌, ◌<◌, ◌≤◌, List, [], ◌++◌, Result, refl, sym, ◌∙◌, ap, subst, arith}
 use Rattle.std.proofs.lemmas.Bool.{cases_lt}
 use Rattle.std.proofs.lemmas.List.{length-append, append-nil, append_assoc}
 use Rattle.sector_disk.specs.Disk.{Sector, DiskFacts, Logged, LogGrows, MixtureAt, Mixture, KeepsPast, IsCall, AreCalls, AreCallsExactly, AreCallsAtMost, LeavesOnly}
