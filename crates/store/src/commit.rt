@@ -23,7 +23,7 @@ impl<D: Disk> OldStore<D> {
     ghost use Rattle.store.specs.Upgraded.{upgraded};
 
     /// Makes it a store of version 2, of the same byte strings and preloads. It writes their
-    /// catalogues and the next root: it refuses with GenerationEnd or Full before the first write,
+    /// catalogues and the next root: it refuses with S10 or S7 before the first write, or with S1,
     /// and takes no memory. Where it refuses it hands the disk back.
     pub fn commit(self) -> Result<Store<D>, (StoreRefusal, D)>
         // A stop at any moment leaves the old state, by the old rules, or the one after it.

@@ -23,7 +23,8 @@ impl<D: Disk> Store<D> {
     ghost use Rattle.store.specs.Step.{refusal_of_change, IsExactAnswer, IsRefusalOfChange};
 
     /// Takes out the byte string with this name, which is no preload. Those behind it close up, and
-    /// the preloads keep their names. It takes no memory, and never more sectors than there are.
+    /// the preloads keep their names. It takes no memory, and never more sectors than there are. It
+    /// refuses with S2, S10 or S1, of which S1 alone may come after the first write.
     pub fn delete(&mut self, name: &[u8]) -> Result<(), StoreRefusal>
         requires present { HasName self.old name.now }
         requires no_preload { IsNoPreload self.old name.now }

@@ -33,7 +33,7 @@ impl<D: Disk> Store<D> {
 
     /// Holds the byte string at this position as it is now. It makes no call of the disk, and
     /// copies none of its bytes. The first holder of a version takes memory, for all that follows
-    /// of it.
+    /// of it. It refuses with S2 or S11.
     pub fn hold_version(&mut self, position: usize) -> Result<HeldVersion, StoreRefusal>
         requires { position < length self.old.entries }
         ensures { HoldsVersion D.facts self.old self.new position result }
@@ -60,7 +60,8 @@ impl<D: Disk> Store<D> {
     /// The byte string that is held. It reads each of its sectors once, and writes nothing.
     /// Damaged, without a call of the disk, where nobody holds it here: the handle is another
     /// store's, or from before the same disk was opened again. A handle is the sector of its entry:
-    /// where somebody holds a version here whose entry has the same sector, that one is read.
+    /// where somebody holds a version here whose entry has the same sector, that one is read. Else
+    /// it refuses with S2, S11 or S1.
     pub fn read_version(
         &mut self,
         alloc: Global,

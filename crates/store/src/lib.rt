@@ -3,7 +3,8 @@
 //! A disk is made a store by `Store::format`, and opened again by `Store::open` after a stop at any
 //! moment. Byte strings are put behind the others by `put_new`, in the place of those under a name
 //! by `put_over`, and taken out by `delete`; `set_preloads` chooses the preloads. `Store::look`
-//! looks at a disk of either version, and `Store::upgrade` makes one of version 1 one of version 2.
+//! looks at a disk of either version, and `OldStore::commit` makes one of version 1 one of version
+//! 2.
 //! Which state sectors hold is defined in specs/Stands.antt.
 #![tactic(auto)]
 
@@ -36,7 +37,6 @@ mod refusal;
 mod room;
 mod slots;
 mod store;
-mod upgrade;
 mod used;
 
 pub use free_space::FreeSpace;

@@ -32,7 +32,7 @@ impl<D: Disk> Store<D> {
 
     /// Looks what a disk holds, after a stop too: a store of version 2, or one of version 1. It
     /// writes nothing: it syncs, and reads the two root sectors, each catalogue and one sector an
-    /// entry. Where it refuses it hands the disk back.
+    /// entry. Where it refuses, with S6, S3, S5, S11 or S1, it hands the disk back.
     pub fn look(alloc: Global, disk: D) -> Result<Look<D>, (StoreRefusal, D)>
         // A stop at any moment leaves what it could leave before.
         ensures any_moment { IsTrue (D.facts disk).honest → LeavesOnly (D.facts disk)

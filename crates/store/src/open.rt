@@ -17,7 +17,8 @@ impl<D: Disk> Store<D> {
 
     /// Opens the store that a disk of version 2 holds, after a stop too; OldFormat where its
     /// current root is of version 1. It writes nothing: it syncs, and reads the two root sectors,
-    /// each catalogue and one sector an entry. Where it refuses it hands the disk back.
+    /// each catalogue and one sector an entry. Where it refuses, with S6, S3, S12, S5, S11 or S1,
+    /// it hands the disk back.
     pub fn open(alloc: Global, disk: D) -> Result<Store<D>, (StoreRefusal, D)>
         ensures opened { Opens Stands D.facts (IsAt D.facts) disk result }
         ensures most_calls { AreCallsAtMost (3 + most_catalogues + most_libraries)

@@ -18,7 +18,8 @@ impl<D: Disk> Store<D> {
     ghost use Rattle.store.specs.Step.{refusal_of_change, IsExactAnswer, IsRefusalOfChange};
 
     /// Makes the byte strings at these positions the preloads, in this order: 16 at most, none of
-    /// them twice. It takes no memory and no sector.
+    /// them twice. It takes no memory and no sector. It refuses with S2, S10 or S1, of which S1
+    /// alone may come after the first write.
     pub fn set_preloads(&mut self, positions: &[usize]) -> Result<(), StoreRefusal>
         requires few { length positions.now ≤ most_preloads }
         requires inside { All (λ position. position < length self.old.entries) positions.now }

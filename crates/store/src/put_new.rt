@@ -25,6 +25,8 @@ impl<D: Disk> Store<D> {
     ghost use Rattle.store.specs.Step.{longest_free, refusal_of_new, IsAnswer, IsRefusalOfPutNew};
 
     /// Puts a byte string of 64 bytes to 16 MiB, with a name that no other has, behind the others.
+    /// It refuses with S2, S9, S10, S7, S8, S11 or S1, of which S1 alone may come after the first
+    /// write.
     pub fn put_new(&mut self, name: &[u8], bytes: &[u8]) -> Result<(), StoreRefusal>
         requires name { IsName name.now }
         requires size { IsFileSize (length bytes.now) }

@@ -26,7 +26,8 @@ impl<D: Disk> Store<D> {
     ghost use Rattle.store.specs.Step.{IsExactAnswer, IsRefusalOfPutOver};
 
     /// Puts other bytes, 64 bytes to 16 MiB, in the place of those under this name. The sectors of
-    /// the old ones are free once it is done, and not before. It takes no memory.
+    /// the old ones are free once it is done, and not before. It takes no memory. It refuses with
+    /// S2, S10, S7, S8 or S1, of which S1 alone may come after the first write.
     pub fn put_over(&mut self, name: &[u8], bytes: &[u8]) -> Result<(), StoreRefusal>
         requires present { HasName self.old name.now }
         requires size { IsFileSize (length bytes.now) }

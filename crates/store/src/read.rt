@@ -53,6 +53,7 @@ impl<D: Disk> Store<D> {
     ghost use Rattle.roots.specs.declared.version.Version.TheVariants.{Two};
 
     /// The byte string at this position. It reads each of its sectors once, and writes nothing.
+    /// It refuses with S2, S11 or S1.
     pub fn read_blob(&mut self, alloc: Global, position: usize) -> Result<Vec<u8>, StoreRefusal>
         requires { position < length self.old.entries }
         ensures { ReadsBlob Two D.facts self.old self.new position result }
@@ -82,6 +83,7 @@ impl<D: Disk> OldStore<D> {
     ghost use Rattle.roots.specs.declared.version.Version.TheVariants.{One};
 
     /// The byte string at this position. It reads each of its sectors once, and writes nothing.
+    /// It refuses with S11 or S1.
     pub fn read_blob(&mut self, alloc: Global, position: usize) -> Result<Vec<u8>, StoreRefusal>
         requires { position < length self.old.entries }
         ensures { ReadsBlob One D.facts self.old self.new position result }
