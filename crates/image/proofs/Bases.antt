@@ -201,11 +201,6 @@ init-room base end os some is low =
     first-room base os some ∙ ap (λ n. nat_lt MEMORY_LIMIT n || lacks_room (place_after n (drop 1 os))) (sym is)
     ∙ ap (λ b. b || lacks_room (place_after end (drop 1 os))) (below end MEMORY_LIMIT low)
 
-pub init-full : (base : ℕ) (os : List Named) → 0 < length os → MEMORY_LIMIT < base + reach (order.file_at os 0) → lacks_room (place base os) ≡ true
-init-full base os some high =
-    let end = base + reach (order.file_at os 0) in
-    first-room base os some ∙ ap (λ b. b || lacks_room (place_after end (drop 1 os))) (above end MEMORY_LIMIT high)
-
 -- the program by itself has room
 pub first-fits : (base end : ℕ) (os : List Named) → 0 < length os → end ≡ base + reach (order.file_at os 0) → end ≤ MEMORY_LIMIT
     → PlacesWantMemory (place base os)

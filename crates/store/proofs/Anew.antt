@@ -200,15 +200,3 @@ module _ {root : Root} {entries : List PlacedEntry} {held : List HeldRow} {layou
         once = occurs_distinct left (λ k. omega (arith, left_counts k, occurs-append k left (freed ++ catalogues), distinct_occurs k all once));
         claims = released.each left (claims_as mid all (left ++ (freed ++ catalogues)) left_counts claims) (distinct_as all (left ++ (freed ++ catalogues)) left_counts once);
       }
-
-      -- what holders keep needn't be released for the rest to be
-      pub freed_held : AreClaimedOnce mid (freed ++ catalogues)
-      freed_held = (
-        left,
-        claims_as mid all (left ++ (freed ++ catalogues)) left_counts claims,
-        distinct_as all (left ++ (freed ++ catalogues)) left_counts once,
-        subst (λ n. All (IsUsable n) (freed ++ catalogues)) (sym size)
-            (all-part (IsUsable root.sectors) (freed ++ catalogues) all
-            (λ s found. occurs_contains s all (omega
-            (arith, left_counts s, occurs-append s left (freed ++ catalogues), contains_occurs s (freed ++ catalogues) found))) inside),
-      )

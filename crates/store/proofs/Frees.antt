@@ -176,17 +176,11 @@ answers_take_exactly : (e : TakeRefusal) → IsExactAnswer (Some (refusal_of_tak
 answers_take_exactly take.Full = refl
 answers_take_exactly take.Fragmented = refl
 
--- a change that takes no more sectors than there is room for is refused at the last generation alone
-pub change_accepted : (s : State) → s.generation ≢ last_generation → refusal_of_change s ≡ None
-change_accepted s usable = if_no (nat_eq s.generation last_generation) _ _ (λ is. usable (eqb-true s.generation last_generation is))
-
 pub change_refused : (s : State) → s.generation ≡ last_generation → refusal_of_change s ≡ Some GenerationEnd
 change_refused s last = if_yes (nat_eq s.generation last_generation) _ _ (λ isnt. false≢true (sym isnt ∙ eq-eqb s.generation last_generation last))
 
 -- An upgrade is refused at the last generation, and where there is no room for the catalogues twice.
 module _ (sectors : ℕ) (s : State) where
-  pub upgrade_last : s.generation ≡ last_generation → refusal_of_upgrade sectors s ≡ Some GenerationEnd
-  upgrade_last last = if_yes (nat_eq s.generation last_generation) _ _ (λ isnt. false≢true (sym isnt ∙ eq-eqb s.generation last_generation last))
 
   pub upgrade_full : s.generation ≢ last_generation → sectors < root_sectors + taken_by s → refusal_of_upgrade sectors s ≡ Some Full
   upgrade_full usable many =
@@ -231,11 +225,6 @@ module _ {D : Type 0} (facts : D → DiskFacts) (holds : (disk : D) → IsTrue (
           room = free_is view.root view.entries view.held layout kept (facts view.disk).now s (whole_now at) (by at);
           longest = longest_is view.root view.entries view.held layout kept;
         }
-
-    pub old_facts_of : view.held ≡ [] → IsAtBy One facts store s → (free_count layout < 2 * catalogues_for (length view.entries)) ↔ (view.root.sectors < root_sectors + taken_by s)
-    old_facts_of unheld at_store =
-        let at : IsAtBy One facts view s = subst (λ o. IsAtBy One facts o s) (sym is) at_store in
-        old_free_is view.root view.entries view.held layout kept unheld (facts view.disk).now s (whole_now at) (by at)
 
 -- What `take_room` says of a layout by its result, where it needs so many sectors for bytes and so many in all.
 pub record Takes {T : Type 0} (layout : List Bool) (sectors all : ℕ) (result : Result T TakeRefusal) : Type 0 where

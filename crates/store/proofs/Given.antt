@@ -1,19 +1,16 @@
 -- The sectors that are given for bytes, as claims.
-use Rattle.std.proofs.Common.{◌≡◌, ⊎_elim, ℕ, ◌≤◌, Bool, true, List, ◌++◌, length, get_or, All, sym, ap, subst, ◌∙◌, arith}
+use Rattle.std.proofs.Common.{◌≡◌, ⊎_elim, ℕ, Bool, true, List, ◌++◌, length, get_or, sym, ap, subst, ◌∙◌, arith}
 use Rattle.std.specs.Prelude.{Contains}
 use Rattle.std.proofs.lemmas.List.Elements.{Contains-get_or, Contains-append_left, Contains-append_right, Contains-append_cases}
 use Rattle.extents.specs.declared.extent.Extent.{Extent}
 use Rattle.extents.specs.Extent.{places}
 use Rattle.extents.specs.Layout.{with_flags}
-use Rattle.extents.specs.Limits.{most_sectors}
 use Rattle.extents.specs.Taken.{IsGiven}
 use Rattle.extents.specs.Used.{ClaimsJust}
 use Rattle.extents.proofs.LayoutLemmas.{length-with_flags}
 use Rattle.extents.proofs.PlacesLemmas.{distinct-append, distinct-places}
 use Rattle.extents.proofs.UsedLemmas.{claims-take, claims-same_elements, free-unused}
-use Rattle.passes.specs.Bytes.{IsOnDisk}
 use Rattle.passes.proofs.Extents.{in_extent}
-use Rattle.roots.specs.Entry.{IsDataExtent}
 use Rattle.store.specs.inside.Claimed.{IsClaimedBeside}
 
 abbrev none : Extent
@@ -38,9 +35,3 @@ module _ {need : ℕ} {old mid : List Bool} {extents : List Extent} (given : IsG
         let inside = given.inside of.0 none of.1 in
         (omega (arith, inside.1, of.2.0), omega (arith, inside.2, of.2.1));
   }
-
-  pub given_data : length old ≤ most_sectors → All IsDataExtent extents
-  given_data few k d lt = let inside = given.inside k d lt in record { low = inside.1; filled = omega (arith, inside.0); high = omega (arith, inside.2, few) }
-
-  pub given_on_disk : All (IsOnDisk (length old)) extents
-  given_on_disk k d lt = (given.inside k d lt).2
