@@ -7,11 +7,12 @@ use Rattle.std.proofs.lemmas.Bool.Decides.{nat_tests}
 use Rattle.std.proofs.lemmas.List.{drop_more, drop_all, get_or-map, length-map}
 use Rattle.scope.specs.Objects.{Named, IsTaken, IsOrder}
 use Rattle.scope.specs.Objects as order
+use Rattle.image.specs.Bound.{AllAccepted}
 use Rattle.image.specs.Constant.{MEMORY_LIMIT}
-use Rattle.image.specs.Placement.{Placed, placed_at, place, place_after, named, unit, reach, ends_too_high, lacks_room}
+use Rattle.image.specs.Placement.{Placed, Stacked, placed_at, place, place_after, named, unit, reach, ends_too_high, lacks_room}
 use Rattle.image.specs.Refusal.{PlacesWantMemory}
 use Rattle.image.specs.Relocating.{base_at, file_at, name_at}
-use Rattle.image.specs.inside.Layout.{AllAccepted, IsPlaced, Stacked, with_bases}
+use Rattle.image.specs.inside.Layout.{IsPlaced, with_bases}
 use Rattle.image.proofs.Placing.{ends-low}
 
 -- the bases of objects

@@ -12,16 +12,17 @@ use Rattle.elf_dynamic.specs.Refusal.{first_refusal}
 use Rattle.elf_dynamic.specs.Relocation.{relocations, uses_symbol}
 use Rattle.elf_dynamic.specs.Constant.{R_X86_64_64, R_X86_64_GLOB_DAT, R_X86_64_JUMP_SLOT, R_X86_64_RELATIVE}
 use Rattle.elf_dynamic.specs.declared.relocation.Relocation.{Relocation}
+use Rattle.image.specs.Bound.{AllAccepted, Bound, IsBound, bound_writes, placed_as, value_in}
 use Rattle.image.specs.Byte.{byte_after, byte_of}
 use Rattle.image.specs.Constant.{MEMORY_LIMIT}
 use Rattle.image.specs.Heading.{Heading, within, holds}
 use Rattle.image.specs.Image.{ImageSegment, MemoryImage, heading, image_byte, image_of, object_of, segments_byte}
 use Rattle.image.specs.Loading.{Loaded, all_loaded, heading_at, loaded_byte, loaded_byte_at, loaded_of}
-use Rattle.image.specs.Placement.{Placed, reach}
+use Rattle.image.specs.Placement.{Placed, Stacked, reach}
 use Rattle.image.specs.Relocating.{Write, all_writes, base_at, file_at, last_write_at, relocations_of, symbol_value, value_with, write_with, writes_of, written_or}
 use Rattle.image.specs.declared.object.ImageObject.{ImageObject}
-use Rattle.image.specs.inside.Bound.{Bound, IsBound, IsFilled, bound_writes, placed_as, value_in}
-use Rattle.image.specs.inside.Layout.{AllAccepted, IsWhole, Rising, Stacked}
+use Rattle.image.specs.inside.Bound.{IsFilled}
+use Rattle.image.specs.inside.Layout.{IsWhole, Rising}
 use Rattle.image.proofs.Holding.{within-below, within-true}
 use Rattle.image.proofs.Placing.{loads-rising}
 use Rattle.image.proofs.Relocating.{written_or-then, writes-more}

@@ -5,9 +5,10 @@ use Rattle.std.proofs.Math.ListN.{get_or-append}
 use Rattle.std.proofs.lemmas.Bool.{cases_lt}
 use Rattle.std.proofs.lemmas.List.{length-append, length-replicate, get_or-append_right}
 use Rattle.elf_dynamic.specs.Symbol.{symbols}
+use Rattle.image.specs.Bound.{Bound, FirstBound, IsBound}
 use Rattle.image.specs.Placement.{Placed}
 use Rattle.image.specs.Relocating.{file_at}
-use Rattle.image.specs.inside.Bound.{AreValues, Bound, FirstBound, IsBound}
+use Rattle.image.specs.inside.Bound.{AreValues}
 
 none-known : (n k : ℕ) → slice_get (replicate n false) k ≡ Some true → ⊥
 none-known zero k h = let wrong : None ≡ Some true = h in absurd (cc)

@@ -7,12 +7,13 @@ use Rattle.std.proofs.lemmas.List.Concat.{flat_map-append}
 use Rattle.std.proofs.lemmas.Simd.{map-map}
 use Rattle.elf_file.specs.Segment.{loads}
 use Rattle.elf_dynamic.specs.Refusal.{first_refusal}
+use Rattle.image.specs.Bound.{AllAccepted}
 use Rattle.image.specs.Constant.{MEMORY_LIMIT}
 use Rattle.image.specs.Heading.{Heading}
 use Rattle.image.specs.Loading.{Loaded, heading_at, loaded_at, loaded_of, all_loaded}
-use Rattle.image.specs.Placement.{Placed, reach, end_of}
+use Rattle.image.specs.Placement.{Placed, Stacked, reach, end_of}
 use Rattle.image.specs.Relocating.{base_at, file_at, name_at}
-use Rattle.image.specs.inside.Layout.{AllAccepted, Rising, Stacked}
+use Rattle.image.specs.inside.Layout.{Rising}
 use Rattle.image.proofs.Placing.{loads-rising, loads-end}
 
 -- where the PT_LOADs of all objects lie

@@ -4,6 +4,7 @@ pub mod Heading
 pub mod Placement
 pub mod Loading
 pub mod Relocating
+pub mod Bound
 pub mod Byte
 pub mod Image
 pub mod Refusal

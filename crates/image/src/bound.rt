@@ -2,12 +2,12 @@
 
 ghost use Rattle.std.specs.Prelude.{◌≡◌, ◌<◌, length, true, None, All, IfOk, IfErr, OnOk};
 ghost use Rattle.scope.specs.Objects.{file_at};
+ghost use Rattle.image.specs.Bound.{AreBound, IsBound, IsReady, placed_as};
 ghost use Rattle.image.specs.Image.{object_of};
 ghost use Rattle.image.specs.Placement.{is_good_base, place};
 ghost use Rattle.image.specs.Refusal.{IsFirstOrWantsMemory, IsPlacedAnswer};
 ghost use Rattle.image.specs.Refusal.{placed_refusal, undefined_in, undefined_refusal};
 ghost use Rattle.image.specs.Relocating.{relocations_of};
-ghost use Rattle.image.specs.inside.Bound.{AreBound, IsBound, IsReady, placed_as};
 
 use crate::object::ImageObject;
 use crate::placed::PlacedOrder;
@@ -31,7 +31,7 @@ pub struct BoundObject {
 }
 
 impl Model for BoundObject {
-    ghost use Rattle.image.specs.inside.Bound.{Bound};
+    ghost use Rattle.image.specs.Bound.{Bound};
 
     ghost Value = { Bound };
 

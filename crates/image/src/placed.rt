@@ -4,10 +4,10 @@ ghost use Rattle.std.specs.Prelude.{◌≡◌, ◌<◌, length, map, Some, None,
 ghost use Rattle.std.specs.List.{All};
 ghost use Rattle.elf_dynamic.specs.Symbol.{symbols};
 ghost use Rattle.scope.specs.Target.{target};
-ghost use Rattle.image.specs.Placement.{named};
+ghost use Rattle.image.specs.Bound.{AllAccepted};
+ghost use Rattle.image.specs.Placement.{Stacked, named};
 ghost use Rattle.image.specs.Relocating.{base_at, file_at, name_at, own_address, symbol_value};
-ghost use Rattle.image.specs.inside.Layout.{AllAccepted, IsPlaced, Stacked};
-ghost use Rattle.image.specs.inside.Layout.{with_bases};
+ghost use Rattle.image.specs.inside.Layout.{IsPlaced, with_bases};
 
 use elf_dynamic::Object;
 use scope::{Order, Target, Undefined, resolve};

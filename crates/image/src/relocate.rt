@@ -5,13 +5,13 @@ ghost use Rattle.std.specs.List.{filter_map};
 ghost use Rattle.elf_dynamic.specs.Refusal.{first_refusal};
 ghost use Rattle.elf_dynamic.specs.Relocation.{relocations};
 ghost use Rattle.elf_file.specs.Segment.{loads};
+ghost use Rattle.image.specs.Bound.{value_in};
 ghost use Rattle.image.specs.Byte.{byte_after};
 ghost use Rattle.image.specs.Constant.{MEMORY_LIMIT};
 ghost use Rattle.image.specs.Image.{heading, segments_byte};
 ghost use Rattle.image.specs.Loading.{heading_at, loaded_at};
 ghost use Rattle.image.specs.Placement.{reach};
 ghost use Rattle.image.specs.Relocating.{last_write_at, write_with, written_or};
-ghost use Rattle.image.specs.inside.Bound.{value_in};
 ghost use Rattle.image.specs.inside.Layout.{Lands, Rising, after};
 
 use crate::load::load;

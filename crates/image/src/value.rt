@@ -4,8 +4,9 @@ ghost use Rattle.std.specs.Prelude.{◌≡◌, ◌<◌, ℕ, length, slice_index
 ghost use Rattle.std.specs.Prelude.{IfOk, MatchResult, replicate};
 ghost use Rattle.elf_dynamic.specs.Relocation.{uses_symbol};
 ghost use Rattle.elf_dynamic.specs.Symbol.{symbols};
+ghost use Rattle.image.specs.Bound.{IsKnown, IsReady, value_in};
 ghost use Rattle.image.specs.Relocating.{file_at, is_undefined, symbol_value, value_with};
-ghost use Rattle.image.specs.inside.Bound.{AreValues, IsKnown, IsReady, value_in};
+ghost use Rattle.image.specs.inside.Bound.{AreValues};
 
 use crate::placed::PlacedOrder;
 use elf_dynamic::{

@@ -1,10 +1,10 @@
 // Binding a program with the files of its load order.
 ghost use Rattle.std.specs.Prelude.{◌≡◌, ℕ, map, true, None, IfOk, IfErr, OnOk};
+ghost use Rattle.image.specs.Bound.{AreBound};
 ghost use Rattle.image.specs.Byte.{byte_of};
 ghost use Rattle.image.specs.Image.{image_byte, image_of};
 ghost use Rattle.image.specs.Placement.{is_good_base};
 ghost use Rattle.image.specs.Refusal.{missing_by, placed_refusal, IsFirstOrWantsMemory};
-ghost use Rattle.image.specs.inside.Bound.{AreBound};
 ghost use Rattle.requests.specs.Binding.{object_of};
 ghost use Rattle.registry.specs.inside.Walked.{walked_objects, walked_refusal};
 

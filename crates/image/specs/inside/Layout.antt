@@ -2,15 +2,14 @@
 use Rattle.std.specs.Prelude.{ℕ, ◌≡◌, ◌+◌, ◌-◌, ◌^◌, ◌<◌, ◌≤◌, Bool, ◌&&◌, true, nat_le, if◌then◌else◌}
 use Rattle.std.specs.Prelude.{List, [], ◌∷◌, ◌++◌, length, map, take, drop, replicate, sum_by, Option, Some, None}
 use Rattle.std.specs.Int.{byte_at}
-use Rattle.std.specs.List.{All, list_any}
+use Rattle.std.specs.List.{list_any}
 use Rattle.byteorder.specs.Endian.{little_bytes}
-use Rattle.elf_dynamic.specs.Refusal.{first_refusal}
 use Rattle.scope.specs.Objects.{Named}
-use Rattle.image.specs.Constant.{MEMORY_LIMIT}
+use Rattle.image.specs.Bound.{AllAccepted}
 use Rattle.image.specs.Heading.{Heading, within}
 use Rattle.image.specs.Image.{ImageSegment, heading}
 use Rattle.image.specs.Loading.{Loaded}
-use Rattle.image.specs.Placement.{Placed, placed_at, end_of}
+use Rattle.image.specs.Placement.{Placed, Stacked, placed_at}
 use Rattle.image.specs.Relocating.{Write}
 use Rattle.image.specs.declared.object.ImageObject.{ImageObject}
 
@@ -62,15 +61,6 @@ Lands headings w = (w.place < 2 ^ 64) × (list_any (room_in w.place) headings �
 pub record IsWhole (objects : List ImageObject) (segments : List ImageSegment) : Type 0 where
   pub rising : Rising 0 (map heading segments)
   pub counted : sum_by (λ o. o.segment_count) objects ≡ length segments
-
--- each object begins at or above the end of the one before or `from`, and none ends too high
-abbrev pub Stacked : ℕ → List Placed → Type 0
-Stacked from [] = Unit {0}
-Stacked from (p ∷ rest) = (from ≤ p.base) × (end_of p ≤ MEMORY_LIMIT) × Stacked (end_of p) rest
-
--- no test refuses their files
-abbrev pub AllAccepted : List Placed → Type 0
-AllAccepted objects = All (λ p. first_refusal p.file ≡ None) objects
 
 -- objects at bases
 abbrev pub with_bases : List Named → List ℕ → List Placed

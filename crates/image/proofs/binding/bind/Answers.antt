@@ -1,7 +1,8 @@
 use Rattle.std.proofs.Common.{◌≡◌, ◌<◌, List, length, sym, ◌∙◌, subst, arith}
+use Rattle.image.specs.Bound.{Bound, IsBound}
 use Rattle.image.specs.Image.{MemoryImage}
 use Rattle.image.specs.Placement.{Placed, place}
-use Rattle.image.specs.inside.Bound.{Bound, IsBound, IsFilled}
+use Rattle.image.specs.inside.Bound.{IsFilled}
 use Rattle.image.proofs.Bases.{file-placed, length-placed}
 use Rattle.image.proofs.Filled.{filled-all, filled-more, filled-none, next-above, next-fits}
 use Rattle.image.proofs.binding.bind.Goals as goal

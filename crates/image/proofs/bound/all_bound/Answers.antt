@@ -1,9 +1,9 @@
 use Rattle.std.proofs.Common.{◌<◌, ◌+◌, List, length, [], ◌∷◌, ap, ◌∙◌, sym, refl, subst, arith}
 use Rattle.std.proofs.lemmas.List.{length-append}
 use Rattle.std.proofs.lemmas.Result.{err_from_is_err_and}
+use Rattle.image.specs.Bound.{Bound, FirstBound, IsBound}
 use Rattle.image.specs.Placement.{Placed}
 use Rattle.image.specs.Refusal.{undefined_in, undefined_refusal}
-use Rattle.image.specs.inside.Bound.{Bound, FirstBound, IsBound}
 use Rattle.image.proofs.Keeping.{first-more}
 use Rattle.image.proofs.Undefined.{object-passed, object-found, no-object, refused-by}
 use Rattle.image.proofs.bound.all_bound.Goals as goal

@@ -1,8 +1,8 @@
 use Rattle.std.proofs.Common.{◌≡◌, map, drop, length}
 use Rattle.std.specs.List.{range_with_len}
 use Rattle.elf_file.specs.FirstOf.{first_of}
+use Rattle.image.specs.Bound.{FirstBound}
 use Rattle.image.specs.Refusal.{undefined_in, undefined_refusal}
-use Rattle.image.specs.inside.Bound.{FirstBound}
 use Rattle.image.proofs.bound.all_bound.Given as goal
 
 abbrev pub invariant-loop-own : goal.invariant-loop-own

@@ -1,10 +1,10 @@
 use Rattle.std.proofs.Common.{◌≡◌, List, Some, None, ap, ◌∙◌, sym, subst, inl, inr, Option}
 use Rattle.std.specs.Prelude.{IfOk, IfErr, OnOk}
 use Rattle.std.proofs.lemmas.Result.{err_from_is_err_and, MatchResult-weaker}
+use Rattle.image.specs.Bound.{AreBound}
 use Rattle.image.specs.Placement.{Placed, place}
 use Rattle.image.specs.Refusal.{placed_refusal, undefined_refusal, IsFirstOrWantsMemory}
 use Rattle.image.specs.declared.refusal.BindRefusal.{BindRefusal}
-use Rattle.image.specs.inside.Bound.{AreBound}
 use Rattle.image.specs.inside.Layout.{with_bases}
 use Rattle.image.proofs.Bases.{is-placed, with-place}
 use Rattle.image.proofs.Undefined.{placed-room, placed-left, placed-wants, some-fits}

@@ -7,12 +7,12 @@ use Rattle.elf_dynamic.specs.Relocation.{relocations}
 use Rattle.elf_dynamic.specs.Strings.{name_of}
 use Rattle.elf_dynamic.specs.Symbol.{symbols}
 use Rattle.elf_dynamic.specs.declared.relocation.Relocation.{Relocation}
+use Rattle.image.specs.Bound.{IsReady}
 use Rattle.image.specs.Placement.{Placed}
 use Rattle.image.specs.Refusal.{undefined_by}
 use Rattle.image.specs.Relocating.{file_at, first_undefined, is_undefined, relocations_of}
 use Rattle.image.specs.declared.refusal.BindRefusal.{BindRefusal}
 use Rattle.image.specs.declared.refusal.BindRefusal.TheVariants.{Undefined}
-use Rattle.image.specs.inside.Bound.{IsReady}
 use Rattle.image.proofs.Keeping.{values-unknown}
 use Rattle.image.proofs.Landing.{symbol-there, undefined-uses}
 use Rattle.image.proofs.Placing.{take_next}

@@ -1,7 +1,8 @@
 use Rattle.std.proofs.Common.{◌≡◌, take, drop}
 use Rattle.std.specs.List.{All, find}
+use Rattle.image.specs.Bound.{IsReady}
 use Rattle.image.specs.Relocating.{is_undefined, first_undefined, relocations_of}
-use Rattle.image.specs.inside.Bound.{AreValues, IsReady}
+use Rattle.image.specs.inside.Bound.{AreValues}
 use Rattle.image.proofs.bound.symbol_values.Given as goal
 
 abbrev pub invariant-loop-i : goal.invariant-loop-i

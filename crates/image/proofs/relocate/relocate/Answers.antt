@@ -5,11 +5,11 @@ use Rattle.std.proofs.lemmas.List.{take_all}
 use Rattle.elf_file.specs.Segment.{loads}
 use Rattle.elf_dynamic.specs.Relocation.{relocations}
 use Rattle.elf_dynamic.specs.declared.relocation.Relocation.{Relocation}
+use Rattle.image.specs.Bound.{value_in}
 use Rattle.image.specs.Heading.{Heading}
 use Rattle.image.specs.Image.{segments_byte}
 use Rattle.image.specs.Loading.{heading_at}
 use Rattle.image.specs.Relocating.{last_write_at, write_with, written_or}
-use Rattle.image.specs.inside.Bound.{value_in}
 use Rattle.image.specs.inside.Layout.{Lands, Rising, after}
 use Rattle.image.proofs.Landing.{relocation-lands}
 use Rattle.image.proofs.Placing.{loads-rising, take_next}

@@ -1,9 +1,9 @@
 use Rattle.std.proofs.Common.{◌≡◌, ℕ, map, take}
 use Rattle.std.specs.List.{filter_map}
 use Rattle.elf_dynamic.specs.Relocation.{relocations}
+use Rattle.image.specs.Bound.{value_in}
 use Rattle.image.specs.Image.{heading, segments_byte}
 use Rattle.image.specs.Relocating.{last_write_at, write_with, written_or}
-use Rattle.image.specs.inside.Bound.{value_in}
 use Rattle.image.proofs.relocate.relocate.Given as goal
 
 abbrev pub invariant-loop-i : goal.invariant-loop-i

@@ -1,10 +1,10 @@
 use Rattle.std.proofs.Common.{[], List, map, ap, ◌∙◌}
 use Rattle.std.specs.List.{filter_map}
 use Rattle.elf_dynamic.specs.Relocation.{relocations}
+use Rattle.image.specs.Bound.{value_in}
 use Rattle.image.specs.Image.{ImageSegment, heading, segments_byte}
 use Rattle.image.specs.Placement.{Placed}
 use Rattle.image.specs.Relocating.{Write, last_write_at, write_with, written_or}
-use Rattle.image.specs.inside.Bound.{value_in}
 use Rattle.image.proofs.Whole.{bytes-loaded, lie-loaded, refilled}
 use Rattle.image.proofs.relocate.relocated.Goals as goal
 

@@ -2,10 +2,11 @@ use Rattle.std.proofs.Common.{◌≡◌, ◌<◌, [], ◌∷◌, List, ℕ, leng
 use Rattle.std.proofs.lemmas.Iterator.Adapters.{YieldsList-from_vec}
 use Rattle.std.proofs.lemmas.Iterator.Consumers.{YieldsList-turn, YieldsList-end}
 use Rattle.std.proofs.lemmas.List.{length-append}
+use Rattle.image.specs.Bound.{AreBound, Bound, IsBound}
 use Rattle.image.specs.Image.{MemoryImage}
 use Rattle.image.specs.Placement.{Placed}
 use Rattle.image.specs.Relocating.{file_at}
-use Rattle.image.specs.inside.Bound.{AreBound, Bound, IsBound, IsFilled}
+use Rattle.image.specs.inside.Bound.{IsFilled}
 use Rattle.image.proofs.Filled.{filled-all, filled-more, filled-none, next-above, next-fits}
 use Rattle.states.specs.State.{Library}
 use Rattle.registry.specs.inside.Walked.{walked_objects}

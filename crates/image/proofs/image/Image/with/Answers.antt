@@ -3,12 +3,12 @@ use Rattle.std.specs.List.{All, filter_map}
 use Rattle.std.specs.Option.{option_or}
 use Rattle.elf_file.specs.Segment.{loads}
 use Rattle.elf_dynamic.specs.Relocation.{relocations}
+use Rattle.image.specs.Bound.{bound_writes, placed_as, value_in}
 use Rattle.image.specs.Byte.{byte_after}
 use Rattle.image.specs.Image.{ImageSegment, MemoryImage, heading, image_byte, segments_byte}
 use Rattle.image.specs.Loading.{heading_at, loaded_at, loaded_of}
 use Rattle.image.specs.Relocating.{write_with}
 use Rattle.image.specs.declared.object.ImageObject.{ImageObject}
-use Rattle.image.specs.inside.Bound.{bound_writes, placed_as, value_in}
 use Rattle.image.specs.inside.Layout.{IsWhole}
 use Rattle.image.proofs.Filled.{segments_byte-append, whole-more}
 use Rattle.image.proofs.image.Image.with.Goals as goal
