@@ -312,7 +312,6 @@ module _ {D : Type 0} (facts : D → DiskFacts) (old : Opened D) (slots : List (
 
     -- where it is cancelled
     module _ (new : Opened D) (held : IsHeld old slots) (ends : Ends facts old new b) where
-
       pub cancelled_in : CancelsIn facts before (with_slots new (set slots slot None)) slot Done
       cancelled_in = record {
         ok = left_on old new b refl ends held;

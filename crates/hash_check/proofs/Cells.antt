@@ -5,7 +5,6 @@ use Rattle.std.proofs.lemmas.List.{get_or-set_other}
 use Rattle.hash_check.specs.inside.NameTable.{IsOther, HoldOthers, Reaches}
 
 module _ (text : ℕ → List ℕ) (cells name : List ℕ) (from : ℕ) where
-
   -- a name is found at one place
   pub one-place : (at place : ℕ) → Reaches text cells name from at → Reaches text cells name from place → place ≡ at
   one-place at place a b = elim (cases_lt place at) [

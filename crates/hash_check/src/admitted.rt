@@ -70,8 +70,8 @@ impl<'a> Admitted<'a> {
         Ok(Admitted { object })
     }
 
-    /// The admitted object that a file is which no test refuses: of these only E22 is made again. It
-    /// costs what `Object::of_accepted` costs.
+    /// The admitted object that a file is which no test refuses: only E22 is made again. It costs
+    /// what `Object::of_accepted` costs.
     #[tactic(auto, using(crate::proofs::Reading::accepted_tests))]
     pub fn of_accepted(file: &'a [u8]) -> Admitted<'a>
         requires { first_file_refusal file.now ≡ None }

@@ -78,7 +78,6 @@ pub record HasCome {D : Type 0} (facts : D → DiskFacts) (program : List ℕ) (
   pub calls : AreCallsExactly (sum_by (λ file. data_sectors file.bytes) files) (facts start.disk) (facts now.disk)
 
 module _ {D : Type 0} (facts : D → DiskFacts) {program : List ℕ} {start : Opened D} where
-
   pub come_offers : {now : Opened D} {needs : Needs} {files : List Library} → HasCome facts program start now needs files → Offers facts Current start now
   come_offers {now = now} come = offers_read facts start now come.read Current start (offers_current facts start come.own)
 

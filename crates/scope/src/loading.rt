@@ -85,7 +85,7 @@ fn load_places<'a>(
 /// Puts a program, the libraries that are preloaded and all that these need into load order, or
 /// gives the first needed name that isn't installed. `preloads` are numbers of libraries. One pass
 /// over the dynamic section of each object, with one search for each needed name; it takes some 40
-/// bytes a library, and more for each symbol where walks may cost more than one look at all of them.
+/// bytes a library, and more for each symbol where walks may cost more than one look at all.
 pub fn load_order<'a>(
     alloc: Global,
     program: &'a Admitted<'a>,

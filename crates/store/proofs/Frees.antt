@@ -181,7 +181,6 @@ change_refused s last = if_yes (nat_eq s.generation last_generation) _ _ (λ isn
 
 -- An upgrade is refused at the last generation, and where there is no room for the catalogues twice.
 module _ (sectors : ℕ) (s : State) where
-
   pub upgrade_full : s.generation ≢ last_generation → sectors < root_sectors + taken_by s → refusal_of_upgrade sectors s ≡ Some Full
   upgrade_full usable many =
       if_no (nat_eq s.generation last_generation) _ _ (λ is. usable (eqb-true s.generation last_generation is))
