@@ -1,15 +1,17 @@
 // Reading a line.
 
-ghost use Rattle.std.specs.Prelude.{◌≡◌, ◌≢◌, ◌==◌, ℕ, List, Option, length};
+ghost use Rattle.std.specs.Prelude.{◌≡◌, ◌≢◌, ◌==◌, ℕ, List, Option, Some, length};
 ghost use Rattle.std.specs.Prelude.{if◌then◌else◌, IfOk, IfErr, OnErr};
 ghost use Rattle.std.specs.Io.{StopsAt};
+ghost use Rattle.std.specs.Io.Buffered.{reader_buffer, reader_remaining};
 ghost use Rattle.std.specs.Io.KnownBytes.{Consumes, Keeps};
+ghost use Rattle.memchr.specs.Find.{IsFirstByte, is_byte};
 ghost use Rattle.commands.specs.Script.{IsLine};
 ghost use Rattle.commands.specs.inside.Progress.{GotLine, GotPart};
 
 use crate::fault::ScriptFault;
 use memchr::memchr;
-use std::io::{BufRead, Error, ErrorKind};
+use std::io::{BufRead, BufReader, Error, ErrorKind, Read};
 
 /// What one read of a line gave.
 pub(crate) enum Got {
@@ -89,4 +91,25 @@ pub(crate) fn read_line<R: BufRead>(reader: &mut R, line: &mut Vec<u8>) -> Resul
         }
     }
     Err(ScriptFault::Read)
+}
+
+/// Takes a line whose newline stands at this place of what was read before, and puts it into the
+/// buffer, in place of what was there. Nothing is asked of the reader.
+pub(crate) fn take_line<R: Read>(
+    pages: &mut BufReader<&mut R>,
+    end: usize,
+    line: &mut Vec<u8>,
+) -> Result<Got, ScriptFault>
+    requires { IsFirstByte (is_byte 10) (reader_buffer pages.old) (Some end) }
+    ensures ok { IfOk result (GotLine (reader_remaining (λ r. R.remaining r.now) pages.old)
+        (reader_remaining (λ r. R.remaining r.now) pages.new) line.new.items) }
+    ensures read { IfErr result (λ _. Consumes (reader_remaining (λ r. R.remaining r.now) pages.old)
+        (reader_remaining (λ r. R.remaining r.now) pages.new) line.new.items) }
+    ensures part { IfErr result (λ _. StopsAt line.new.items 10) }
+    ensures fault { IfErr result (λ fault. fault ≢ ScriptFault.Write) }
+{
+    line.clear();
+    line.extend_from_slice(&pages.buffer()[..end])?;
+    pages.consume(end + 1);
+    Ok(Got::Whole)
 }

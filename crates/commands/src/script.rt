@@ -13,9 +13,10 @@ ghost use Rattle.commands.specs.declared.answer.Answer.{Answer};
 use crate::answer::{Answer, answer_asked, is_refused, may_wait, put_answer};
 use crate::asked::parse_line;
 use crate::fault::ScriptFault;
-use crate::reading::{Got, read_line};
+use crate::reading::{Got, read_line, take_line};
 use crate::summary::Summary;
 use crate::takes_events::TakesEvents;
+use memchr::memchr;
 use program_parts::Line;
 use std::alloc::Global;
 use std::io::{BufReader, Read, Write};
@@ -56,14 +57,14 @@ fn answer_whole<W: Write, G: TakesEvents>(
     Ok(refused)
 }
 
-/// Reads the next line. The reader is asked where no newline is left of what was read before; then
-/// nothing waits, so that whoever writes line by line has had all answers.
+/// Reads a line of which the reader has to be asked for more. Nothing waits then, so that whoever
+/// writes line by line has had all answers.
 fn ask_line<R: Read>(
     pages: &mut BufReader<&mut R>,
     line: &mut Vec<u8>,
     waiting: &Line,
 ) -> Result<Got, ScriptFault>
-    requires { HasLine (reader_buffer pages.old) ⊎ (waiting.now.waiting ≡ []) }
+    requires { waiting.now.waiting ≡ [] }
     ensures ok { IfOk result (GotLine (reader_remaining (λ r. R.remaining r.now) pages.old)
         (reader_remaining (λ r. R.remaining r.now) pages.new) line.new.items) }
     ensures read { IfErr result (λ _. Consumes (reader_remaining (λ r. R.remaining r.now) pages.old)
@@ -95,8 +96,8 @@ fn next_line<R: Read, W: Write>(
     ensures asked { IfOk result
         (λ _. HasLine (reader_buffer pages.old) ⊎ (waiting.new.waiting ≡ [])) }
 {
-    if pages.buffer().contains(&b'\n') {
-        return ask_line(pages, line, waiting);
+    if let Some(end) = memchr(b'\n', pages.buffer()) {
+        return take_line(pages, end, line);
     }
     waiting.send(writer)?;
     ask_line(pages, line, waiting)

@@ -7,7 +7,7 @@ ghost use Rattle.text_output.specs.Sends.{Sends};
 ghost use Rattle.text_output.specs.Name.{name_text};
 ghost use Rattle.std.specs.Fmt.{decimal};
 ghost use Rattle.program_parts.specs.Reply.{command_refusal_text, library_text, preload_text};
-ghost use Rattle.program_parts.specs.Reply.{listing_text, refused_line, reply_text};
+ghost use Rattle.program_parts.specs.Reply.{listing_text, reply_text};
 ghost use Rattle.program_parts.specs.inside.Short.{short_text};
 
 use crate::bind_refusal::{put_file_line, put_refusal};
@@ -17,17 +17,6 @@ use requests::{Listing, Refusal, Reply};
 use std::io::Write;
 use store::StoreRefusal;
 use text_output::WriteFault;
-
-/// The line of a refusal of which this is all that is said.
-fn put_plain_refusal<W: Write>(line: &mut Line, out: &mut W, said: &[u8]) -> Result<(), WriteFault>
-    ensures ok { OnOk result (Sends (W.contents out.old) line.old (W.contents out.new) line.new
-        (refused_line said.now)) }
-    ensures err { OnErr result (line.new.failed ≡ true) }
-{
-    line.put(out, b"refused ")?;
-    line.put(out, said)?;
-    line.put(out, b"\n")
-}
 
 /// The line of a refusal.
 fn put_command_refusal<W: Write>(
@@ -41,13 +30,13 @@ fn put_command_refusal<W: Write>(
 {
     match refusal {
         Refusal::Object(refusal) => put_file_line(line, out, b"refused C1 ", *refusal),
-        Refusal::AlreadyInstalled => put_plain_refusal(line, out, b"C2 AlreadyInstalled"),
-        Refusal::NotInstalled => put_plain_refusal(line, out, b"C3 NotInstalled"),
-        Refusal::InPreloads => put_plain_refusal(line, out, b"C4 InPreloads"),
-        Refusal::RepeatedPreload => put_plain_refusal(line, out, b"C5 RepeatedPreload"),
-        Refusal::TooManyPreloads => put_plain_refusal(line, out, b"C6 TooManyPreloads"),
-        Refusal::NoSlot => put_plain_refusal(line, out, b"C7 NoSlot"),
-        Refusal::NoSuchBinder => put_plain_refusal(line, out, b"C8 NoSuchBinder"),
+        Refusal::AlreadyInstalled => line.put(out, b"refused C2 AlreadyInstalled\n"),
+        Refusal::NotInstalled => line.put(out, b"refused C3 NotInstalled\n"),
+        Refusal::InPreloads => line.put(out, b"refused C4 InPreloads\n"),
+        Refusal::RepeatedPreload => line.put(out, b"refused C5 RepeatedPreload\n"),
+        Refusal::TooManyPreloads => line.put(out, b"refused C6 TooManyPreloads\n"),
+        Refusal::NoSlot => line.put(out, b"refused C7 NoSlot\n"),
+        Refusal::NoSuchBinder => line.put(out, b"refused C8 NoSuchBinder\n"),
         Refusal::Bind(refusal) => put_refusal(line, out, refusal),
         Refusal::Device => put_disk_refusal(line, out, StoreRefusal::Device),
         Refusal::Reopen => put_disk_refusal(line, out, StoreRefusal::Reopen),
