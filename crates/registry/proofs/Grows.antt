@@ -1,10 +1,8 @@
 -- What is needed grows.
-use Rattle.std.proofs.Common.{◌≡◌, ℕ, List, [], ◌∷◌, length, take, drop, get_or, Option, Some, None, Result, Ok, Err, refl, sym, ap, ◌∙◌, arith}
+use Rattle.std.proofs.Common.{◌≡◌, ℕ, List, [], ◌∷◌, length, take, drop, get_or, Option, Some, None, Result, Ok, Err, refl, sym, ap, ◌∙◌}
 use Rattle.std.specs.Prelude.{OnOk, OnErr, is_some, true}
 use Rattle.std.proofs.Math.Seq.{take-length}
 use Rattle.scope.specs.LoadOrder.{Need}
-use Rattle.scope.specs.inside.Growing.{grown}
-use Rattle.scope.proofs.Growing.{grown-take}
 use Rattle.registry.specs.declared.needs.Needs.{Needs}
 use Rattle.registry.specs.inside.Walked.{Grows}
 
@@ -32,13 +30,6 @@ grows_more old mid new first second = record {
     begins_more (x ∷ a) (y ∷ b) (z ∷ c) first second =
         let head : z ≡ x = ap (λ l. get_or l 0 z) second ∙ ap (λ l. get_or l 0 z) first in
         ap (λ l. z ∷ l) (begins_more a b c (ap (drop 1) first) (ap (drop 1) second)) ∙ ap (λ h. h ∷ a) head
-
-unfolding grown
-grows_place old place = record {
-  limit = refl;
-  begins = grown-take (length old.places.places) old.places.places (place ∷ []) (omega arith) ∙ take-length old.places.places;
-  missing = λ need is. is;
-}
 
 -- what was noted stays
 pub noted : (old new : Needs) → Grows old new → is_some old.missing ≡ true → new.missing ≡ old.missing
