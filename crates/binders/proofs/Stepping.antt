@@ -98,8 +98,6 @@ module _ {D : Type 0} (facts : D → DiskFacts) (old new : Opened D) (slots : Li
 pub stays_at : {D : Type 0} (facts : D → DiskFacts) (b : Slotted D) → StaysAt facts b b
 stays_at facts b = record { same = λ s at. at; kept = (refl, refl, refl); holders = λ sector. refl; alone = λ alone. alone }
 
-module _ {D : Type 0} (facts : D → DiskFacts) (b : Slotted D) (program : List ℕ) (base : ℕ) where
-
 module _ {D : Type 0} (facts : D → DiskFacts) (old : Opened D) (slots : List (Option Binding)) (slot : ℕ) where
   abbrev before : Slotted D
   before = with_slots old slots
