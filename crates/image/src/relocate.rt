@@ -15,7 +15,7 @@ ghost use Rattle.image.specs.Relocating.{last_write_at, write_with, written_or};
 ghost use Rattle.image.specs.inside.Layout.{Lands, Rising, after};
 
 use crate::load::load;
-use crate::parts::Parts;
+use crate::memory_parts::MemoryParts;
 use crate::patch::patch;
 use crate::segment::Segment;
 use crate::value::written_value;
@@ -26,7 +26,7 @@ use std::alloc::{AllocError, Global};
 /// segment that was found last.
 fn relocate_one(
     segments: &mut [Segment],
-    parts: &Parts,
+    parts: &MemoryParts,
     near: usize,
     base: u64,
     values: &[u64],
@@ -51,7 +51,7 @@ fn relocate_one(
 /// segments or over those that begin in one part of many.
 fn relocate(
     segments: &mut [Segment],
-    parts: &Parts,
+    parts: &MemoryParts,
     object: &Object<'_>,
     base: u64,
     values: &[u64],
@@ -87,7 +87,7 @@ pub(crate) fn relocated(
         (filter_map (write_with base (value_in values.now)) (relocations object.now)) a) }
 {
     let mut segments = load(alloc, object, base)?;
-    let parts = Parts::of(alloc, &segments)?;
+    let parts = MemoryParts::of(alloc, &segments)?;
     relocate(&mut segments, &parts, object, base, values)?;
     Ok(segments)
 }

@@ -17,16 +17,16 @@ const PARTS: u64 = 65536;
 /// begin in one part are left to halve over. Whoever asks tests the answer, so nothing is claimed
 /// of it here.
 #[derive(Drop)]
-pub(crate) struct Parts {
+pub(crate) struct MemoryParts {
     first: u64,
     begun: Vec<usize>,
 }
 
-impl Parts {
+impl MemoryParts {
     /// The parts of segments, or none where they are few. One pass over them; it takes eight bytes
     /// a part, 512 KiB at most.
-    pub(crate) fn of(alloc: Global, segments: &[Segment]) -> Result<Parts, AllocError> {
-        let mut parts = Parts {
+    pub(crate) fn of(alloc: Global, segments: &[Segment]) -> Result<MemoryParts, AllocError> {
+        let mut parts = MemoryParts {
             first: 0,
             begun: Vec::new(alloc),
         };
