@@ -1,5 +1,6 @@
 -- Images of the first so many objects, and one object more.
-use Rattle.std.proofs.Common.{◌≡◌, ℕ, ◌+◌, ◌-◌, ◌<◌, ◌≤◌, Bool, true, false, cond, List, [], ◌∷◌, ◌++◌, length, map, take, get_or, slice_index, Option, Some, None, refl, sym, ap, ◌∙◌, subst, arith, suc, reverse}
+use Rattle.std.proofs.Common.{◌≡◌, ℕ, ◌+◌, ◌-◌, ◌<◌, ◌≤◌, Bool, true, false, cond}
+use Rattle.std.proofs.Common.{List, [], ◌∷◌, ◌++◌, length, map, take, get_or, slice_index, Option, Some, None, refl, sym, ap, ◌∙◌, subst, arith, suc, reverse}
 use Rattle.std.specs.Prelude.{sum_by, ◌==◌, ◌||◌, ◌%◌, ◌^◌}
 use Rattle.std.specs.List.{All, cons_option, filter_map, find, flat_map, range_with_len}
 use Rattle.std.specs.Option.{option_map, option_or}

@@ -16,7 +16,8 @@ none-known (suc n) zero h = let wrong : Some false ≡ Some true = h in absurd (
 none-known (suc n) (suc k) h = none-known n k h
 
 -- none at first
-pub values-unknown : (objects : List Placed) (own n : ℕ) (values : List ℕ) (known : List Bool) → values ≡ replicate n 0 → known ≡ replicate n false → n ≡ length (symbols (file_at objects own)) → AreValues objects own values known
+pub values-unknown : (objects : List Placed) (own n : ℕ) (values : List ℕ) (known : List Bool)
+    → values ≡ replicate n 0 → known ≡ replicate n false → n ≡ length (symbols (file_at objects own)) → AreValues objects own values known
 values-unknown objects own n values known is none count =
     let counted : length values ≡ n = ap length is ∙ length-replicate n 0 in
     record {

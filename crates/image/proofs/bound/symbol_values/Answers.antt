@@ -22,7 +22,8 @@ use Rattle.image.proofs.bound.symbol_values.Goals as goal
 pub loop-i-init : goal.loop-i-init
 loop-i-init c =
     record {
-      kept = values-unknown c.args.objects.now c.args.own c.symbol_count.result c.in_ok-found.found.values.items c.in_ok-found.found.known.items c.in_ok-found.ensures.values c.in_ok-found.ensures.known
+      kept = values-unknown c.args.objects.now c.args.own c.symbol_count.result c.in_ok-found.found.values.items c.in_ok-found.found.known.items
+          c.in_ok-found.ensures.values c.in_ok-found.ensures.known
           (c.symbol_count.ensures.count ∙ ap (λ f. length (symbols f)) c.object-object.ensures.file);
       ready = λ k d h. absurd (omega (arith, h));
       first = refl;

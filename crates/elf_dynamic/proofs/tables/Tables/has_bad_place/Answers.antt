@@ -13,14 +13,16 @@ pub returns-then-has_misplaced_in : goal.returns-then-has_misplaced_in
 unfolding has_bad_place relocations
 returns-then-has_misplaced_in c =
     let file = c.args.self.now in
-    let first = in-part file c.indexed-segments.result c.rela.result.now (rela_table file) c.has_misplaced_in.result c.has_misplaced_in.ensures (c.indexed-segments.ensures ∙ c.segments.ensures) c.rela.ensures in
+    let first = in-part file c.indexed-segments.result c.rela.result.now (rela_table file)
+    c.has_misplaced_in.result c.has_misplaced_in.ensures (c.indexed-segments.ensures ∙ c.segments.ensures) c.rela.ensures in
     c.if-has_misplaced_in.true ∙ sym (any_both (is_misplaced file) (rela_table file) (jmprel_table file) true (first ∙ c.if-has_misplaced_in.true))
 
 pub returns-else-has_misplaced_in : goal.returns-else-has_misplaced_in
 unfolding has_bad_place relocations
 returns-else-has_misplaced_in c =
     let file = c.args.self.now in
-    let first = in-part file c.indexed-segments.result c.rela.result.now (rela_table file) c.has_misplaced_in.result c.has_misplaced_in.ensures (c.indexed-segments.ensures ∙ c.segments.ensures) c.rela.ensures in
+    let first = in-part file c.indexed-segments.result c.rela.result.now (rela_table file)
+    c.has_misplaced_in.result c.has_misplaced_in.ensures (c.indexed-segments.ensures ∙ c.segments.ensures) c.rela.ensures in
     let second = in-part file c.indexed-segments.result c.jmprel.result.now (jmprel_table file)
     c.has_misplaced_in-else-has_misplaced_in.result c.has_misplaced_in-else-has_misplaced_in.ensures (c.indexed-segments.ensures ∙ c.segments.ensures) c.jmprel.ensures in
     sym (any_both (is_misplaced file) (rela_table file) (jmprel_table file) false (first ∙ c.if-has_misplaced_in.false) ∙ second)
