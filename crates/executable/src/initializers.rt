@@ -49,7 +49,7 @@ fn nth_entry(section: &Memory<'_>, i: usize) -> Entry
 }
 
 /// Whether a dynamic section has a tag with at least this value. One pass over it.
-#[tactic(auto, unfolding(crate::specs::Initializers::has_from))]
+#[tactic(auto, unfolding(crate::specs::Initializers::has_from, elf_file::specs::Dynamic::entries_in, elf_file::specs::Dynamic::whole_entries))]
 fn has_from(section: &Memory<'_>, tag: u64, least: u64) -> bool
     ensures { result ≡ has_from section.now tag least }
 {
