@@ -1,5 +1,5 @@
 -- What a search in a table of names finds, and how a table is filled.
-use Rattle.std.proofs.Common.{◌≡◌, ◌≢◌, ℕ, ◌-◌, List, arith, ◌∙◌, sym, ap, inl, inr, get_or, set, subst}
+use Rattle.std.proofs.Common.{◌≡◌, ◌≢◌, ℕ, List, arith, ◌∙◌, sym, ap, inl, inr, get_or, set, subst}
 use Rattle.std.proofs.lemmas.Bool.{cases_lt}
 use Rattle.std.proofs.lemmas.List.{get_or-set_other}
 use Rattle.hash_check.specs.inside.NameTable.{IsOther, HoldOthers, Reaches}

@@ -2,7 +2,7 @@ use Rattle.std.proofs.Common.{◌++◌, codes}
 use Rattle.std.specs.Io.KnownBytes.{append_known}
 use Rattle.std.proofs.KnownBytes.{Appends-trans}
 use Rattle.text_output.specs.Name.{name_text}
-use Rattle.program_parts.proofs.Then.{then}
+use Rattle.image.proofs.Then.{then}
 use Rattle.program_parts.proofs.bind_refusal.put_named.Goals as goal
 
 pub returns-clause-ok : goal.returns-clause-ok

@@ -1,7 +1,7 @@
 use Rattle.std.proofs.Common.{subst}
 use Rattle.std.specs.Io.KnownBytes.{Appends, append_known}
 use Rattle.program_parts.specs.Refusal.{object_refusal_name, object_refusal_detail}
-use Rattle.program_parts.proofs.Then.{then}
+use Rattle.image.proofs.Then.{then}
 use Rattle.program_parts.proofs.refusal.put_object_refusal.Goals as goal
 
 pub returns-clause-ok : goal.returns-clause-ok

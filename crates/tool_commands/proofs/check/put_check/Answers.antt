@@ -1,6 +1,6 @@
 use Rattle.std.proofs.Common.{codes}
 use Rattle.std.specs.Io.KnownBytes.{append_known}
-use Rattle.program_parts.proofs.Then.{then}
+use Rattle.image.proofs.Then.{then}
 use Rattle.tool_commands.specs.Check.{findings_text}
 use Rattle.tool_commands.proofs.check.put_check.Goals as goal
 

@@ -5,7 +5,7 @@ use Rattle.std.specs.Io.KnownBytes.{Appends, append_known}
 use Rattle.std.proofs.KnownBytes.{Appends-trans}
 use Rattle.roots.specs.Root.{listed_preloads}
 use Rattle.store.specs.Stands.{names_at}
-use Rattle.program_parts.proofs.Then.{then}
+use Rattle.image.proofs.Then.{then}
 use Rattle.tool_commands.specs.Dump.{behind_space, preload_text}
 use Rattle.tool_commands.proofs.Installs.{preload-line}
 use Rattle.tool_commands.proofs.dump.put_preloads.Goals as goal

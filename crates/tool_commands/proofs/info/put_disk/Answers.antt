@@ -2,7 +2,7 @@ use Rattle.std.proofs.Common.{◌++◌, codes, subst}
 use Rattle.std.specs.Fmt.{decimal}
 use Rattle.std.specs.Io.KnownBytes.{Appends, append_known}
 use Rattle.std.proofs.KnownBytes.{Appends-trans}
-use Rattle.program_parts.proofs.Then.{then}
+use Rattle.image.proofs.Then.{then}
 use Rattle.tool_commands.proofs.info.put_disk.Goals as goal
 
 pub returns : goal.returns
