@@ -1,22 +1,26 @@
 -- What is found on a disk, by what was read of its entries.
-use Rattle.std.proofs.Common.{◌≡◌, ◌⊎◌, inl, inr, ⊎_elim, ℕ, ◌+◌, ◌-◌, List, length, All, Result, Ok, Err, IfOk, IfErr, OnOk, sym, ap, subst, ◌∙◌, arith}
+use Rattle.std.proofs.Common.{◌≡◌, ◌⊎◌, inl, inr, ⊎_elim, IsTrue, ℕ, ◌+◌, ◌-◌, ◌<◌, List, length, All, Result, Ok, Err, IfOk, IfErr, OnOk, sym, ap, subst, ◌∙◌, arith}
 use Rattle.std.specs.Global.{Vec}
 use Rattle.std.proofs.lemmas.List.{length-map}
-use Rattle.sector_disk.specs.Disk.{Sector, sector, DiskFacts, AreCallsExactly}
-use Rattle.sector_disk.proofs.Moments.{exactly_sum}
+use Rattle.std.proofs.lemmas.Result.{IfErr-weaker}
+use Rattle.sector_disk.specs.Disk.{Sector, sector, DiskFacts, IsSynced, MayAddSync, AreCallsExactly, AreCallsAtMost}
+use Rattle.sector_disk.proofs.Moments.{exactly_sum, exactly_at_most, at_most_sum}
+use Rattle.passes.specs.Calls.{AreReads}
+use Rattle.roots.specs.Limits.{most_catalogues}
 use Rattle.roots.specs.declared.root.Root.{Root}
 use Rattle.roots.specs.Choice.{IsCurrent}
 use Rattle.roots.specs.Entry.{SpellsEntry}
+use Rattle.states.specs.Limits.{most_libraries}
 use Rattle.store.specs.declared.found.Found.{Found}
 use Rattle.store.specs.declared.placed_entry.PlacedEntry.{PlacedEntry}
 use Rattle.store.specs.declared.refusal.StoreRefusal.{StoreRefusal}
 use Rattle.store.specs.declared.refusal.StoreRefusal.TheVariants.{Damaged, Device, OutOfMemory}
-use Rattle.store.specs.Stands.{AreListed, IsListed, IsIntact, UsesApart, HasRoom, HaveOwnNames, entry_sectors}
-use Rattle.store.specs.inside.Found.{IsFound}
-use Rattle.store.specs.inside.Reading.{RefusesEntries}
+use Rattle.store.specs.Stands.{AreListed, IsListed, IsIntact, UsesApart, HasRoom, HaveOwnNames, catalogues_of, entry_sectors}
+use Rattle.store.specs.inside.Found.{IsFound, IsFoundAfter, Finds}
+use Rattle.store.specs.inside.Reading.{AreReadsBehindSync, IsRefusalOfList, RefusesEntries}
 use Rattle.store.proofs.Beside.{room_more}
 use Rattle.store.proofs.Broken.{not_spelt, not_apart}
-use Rattle.store.proofs.Openings.{entries_refuse}
+use Rattle.store.proofs.Openings.{entries_refuse, then_reads_leave, reads_synced}
 
 -- each of these sectors was read for its entry
 pub entries_calls : (old mid new : DiskFacts) (n : ℕ) (r : Result (Vec PlacedEntry) StoreRefusal) (listed : List ℕ) → IfOk r (λ entries. entry_sectors entries.items ≡ listed)
@@ -44,19 +48,30 @@ module _ (m : List Sector) (root : Root) (listed : List ℕ) (are : AreListed m 
   entries_damaged size (Ok entries) unspelt = tt
   entries_damaged size (Err e) unspelt = λ is. not_spelt m root size listed are (unspelt is)
 
--- What is kept of a root and its entries is found by as many calls,
-module _ (root : Root) (entries : List PlacedEntry) where
-  pub found_calls : (old new : DiskFacts) (n : ℕ) (r : Result Found StoreRefusal) → IfOk r (λ found. (found.root ≡ root) × (found.entries.items ≡ entries))
-      → AreCallsExactly (n + length entries) old new
-      → IfOk r (λ found. AreCallsExactly (n + length found.entries.items) old new)
-  found_calls old new n (Ok found) same calls = subst (λ l. AreCallsExactly (n + length l) old new) (sym same.1) calls
-  found_calls old new n (Err e) same calls = tt
+-- nothing is found on any disk
+pub none_found : {old new : DiskFacts} (calls : ℕ) (e : StoreRefusal) → AreCallsAtMost (calls + most_catalogues + most_libraries) old new
+    → (e ≡ Device → old.failures < new.failures) → IsFoundAfter calls old new (Err e)
+none_found calls e most device = record { calls = most; all_calls = tt; kept = tt; device = device }
 
-  pub found_kept : {sectors : ℕ} (r : Result Found StoreRefusal) → IfOk r (λ found. IsFound found.root found.entries.items found.sectors.items found.index found.layout)
-      → IfOk r (λ found. (found.root ≡ root) × (found.entries.items ≡ entries)) → root.sectors ≡ sectors
-      → IfOk r (λ found. IsFound found.root found.entries.items found.sectors.items found.index found.layout × (found.root ≡ root) × (root.sectors ≡ sectors))
-  found_kept (Ok found) kept same size = (kept, same.0, size)
-  found_kept (Err e) kept same size = tt
+-- What is kept of a root and its entries is found on any disk,
+module _ (root : Root) (entries : List PlacedEntry) where
+  pub found_after : {old new : DiskFacts} (P : Type 0) (r : Result Found StoreRefusal)
+      → IfOk r (λ found. IsFound found.root found.entries.items found.sectors.items found.index found.layout)
+      → IfOk r (λ found. (found.root ≡ root) × (found.entries.items ≡ entries)) → IfErr r (λ e. (e ≡ OutOfMemory) ⊎ ((e ≡ Damaged) × P))
+      → AreCallsAtMost (0 + most_catalogues + most_libraries) old new → AreCallsExactly (length (catalogues_of root) + length entries) old new
+      → root.sectors ≡ old.sectors → IsFoundAfter 0 old new r
+  found_after P (Ok found) kept same refused most all size = record {
+    calls = most;
+    all_calls = record { some = all.some; time = omega (arith, all.time, ap (λ r. length (catalogues_of r)) same.0, ap length same.1) };
+    kept = (kept, ap (λ (r : Root). r.sectors) same.0 ∙ size);
+    device = tt;
+  }
+  found_after P (Err e) kept same refused most all size =
+      none_found 0 e most (λ is. absurd (⊎_elim (λ a. cc (a, is)) (λ both. cc (both.0, is)) refused))
+
+  pub found_root : (r : Result Found StoreRefusal) → IfOk r (λ found. (found.root ≡ root) × (found.entries.items ≡ entries)) → IfOk r (λ found. found.root ≡ root)
+  found_root (Ok found) same = same.0
+  found_root (Err e) same = tt
 
   module _ (m : List Sector) (size : root.sectors ≡ length m) (listed : IsListed m root entries) where
     -- and the sectors are intact by them,
@@ -86,11 +101,58 @@ module _ (root : Root) (entries : List PlacedEntry) where
         (λ both. entries_refuse m root e (inr (inl both.0)) (λ is. not_apart m root size entries listed both.1) size)
         refused
 
--- It is refused for two reasons, and the device is none of them.
-pub found_device : (P A : Type 0) (r : Result Found StoreRefusal) → IfErr r (λ e. (e ≡ OutOfMemory) ⊎ ((e ≡ Damaged) × P)) → IfErr r (λ e. e ≡ Device → A)
-found_device P A (Ok found) refused = tt
-found_device P A (Err e) refused = λ is. absurd (⊎_elim (λ a. cc (a, is)) (λ both. cc (both.0, is)) refused)
-
-pub found_refusals : (P : Type 0) (r : Result Found StoreRefusal) → IfErr r (λ e. (e ≡ OutOfMemory) ⊎ ((e ≡ Damaged) × P)) → IfErr r (λ e. (e ≡ Device) ⊎ (e ≡ Damaged) ⊎ (e ≡ OutOfMemory))
+-- and it is refused for two reasons
+pub found_refusals : (P : Type 0) (r : Result Found StoreRefusal) → IfErr r (λ e. (e ≡ OutOfMemory) ⊎ ((e ≡ Damaged) × P)) → IfErr r IsRefusalOfList
 found_refusals P (Ok found) refused = tt
 found_refusals P (Err e) refused = ⊎_elim (λ memory. inr (inr memory)) (λ both. inr (inl both.0)) refused
+
+-- What is found behind the calls that give the root.
+behind_root : {old mid new : DiskFacts} (r : Result Found StoreRefusal) → AreCallsExactly 3 old mid → IsFoundAfter 0 mid new r → IsFoundAfter 3 old new r
+behind_root (Ok found) first rest = record {
+  calls = at_most_sum {calls = 3} (exactly_at_most first (omega arith)) rest.calls (omega arith);
+  all_calls = exactly_sum first rest.all_calls (omega arith);
+  kept = (rest.kept.0, rest.kept.1 ∙ first.some.sectors);
+  device = tt;
+}
+behind_root (Err e) first rest = record {
+  calls = at_most_sum {calls = 3} (exactly_at_most first (omega arith)) rest.calls (omega arith);
+  all_calls = tt;
+  kept = tt;
+  device = λ is. omega (arith, first.some.failures, rest.device is);
+}
+
+module _ (Refuses : List Sector → StoreRefusal → Type 0) {old : DiskFacts} where
+  -- No root is found, or none that is wanted.
+  pub finds_none : {new : DiskFacts} (e : StoreRefusal) → AreCallsAtMost 3 old new → (e ≡ Device → old.failures < new.failures)
+      → (IsTrue old.honest → AreReadsBehindSync old new) → (IsTrue old.honest → Refuses old.now e) → Finds Refuses old new (Err e)
+  finds_none e most device reads refused = record {
+    found = none_found 3 e (record { some = most.some; time = omega (arith, most.time) }) device;
+    reads = reads;
+    synced = λ honest. tt;
+    intact = λ honest. tt;
+    refused = refused;
+  }
+
+  -- A root is found, and its entries by it.
+  pub finds : {mid new : DiskFacts} (root : Root) (r : Result Found StoreRefusal) → AreCallsExactly 3 old mid → IsFoundAfter 0 mid new r
+      → (IsTrue old.honest → AreReadsBehindSync old mid) → (IsTrue old.honest → IsSynced mid) → (IsTrue mid.honest → AreReads mid new)
+      → (IsTrue old.honest → IsCurrent (sector old.now 0) (sector old.now 1) root)
+      → (IsTrue mid.honest → IsCurrent (sector mid.now 0) (sector mid.now 1) root → IfOk r (λ found. IsIntact mid.now found.root found.entries.items))
+      → (IsTrue mid.honest → IfErr r (RefusesEntries mid.now root)) → (IsTrue old.honest → (e : StoreRefusal) → RefusesEntries old.now root e → Refuses old.now e)
+      → Finds Refuses old new r
+  finds {mid = mid} {new = new} root r first found reads synced same current intact refused why = record {
+    found = behind_root r first found;
+    reads = λ honest. record {
+      leaves = then_reads_leave (reads honest).leaves (same (still honest));
+      now = (same (still honest)).same.now ∙ (reads honest).now;
+      log = subst (λ l. MayAddSync old.log l) (sym (same (still honest)).same.log) (reads honest).log;
+    };
+    synced = λ honest. reads_synced r (synced honest) (same (still honest));
+    intact = λ honest. subst (λ m. IfOk r (λ found. IsIntact m found.root found.entries.items)) (reads honest).now
+        (intact (still honest) (subst (λ m. IsCurrent (sector m 0) (sector m 1) root) (sym (reads honest).now) (current honest)));
+    refused = λ honest. IfErr-weaker r (RefusesEntries old.now root) (Refuses old.now) (why honest)
+        (subst (λ m. IfErr r (RefusesEntries m root)) (reads honest).now (refused (still honest)));
+  }
+    where
+      still : IsTrue old.honest → IsTrue mid.honest
+      still honest = subst IsTrue (sym first.some.honest) honest

@@ -1,7 +1,7 @@
 // Reading what a disk holds: the current root, and the entries that it lists.
-ghost use Rattle.std.specs.Prelude.{◌≡◌, ◌+◌, ◌<◌, ◌⊎◌, [], IsTrue, IfOk, IfErr, OnOk, List};
+ghost use Rattle.std.specs.Prelude.{◌≡◌, ◌+◌, ◌<◌, ◌⊎◌, IsTrue, IfOk, IfErr, OnOk, List};
 ghost use Rattle.std.specs.Prelude.{length};
-ghost use Rattle.sector_disk.specs.Disk.{sector, Mixture, LeavesOnly, IsSynced, MayAddSync};
+ghost use Rattle.sector_disk.specs.Disk.{sector, IsSynced};
 ghost use Rattle.sector_disk.specs.Disk.{AreCallsExactly, AreCallsAtMost};
 ghost use Rattle.passes.specs.Calls.{AreReads};
 ghost use Rattle.roots.specs.declared.version.Version.TheVariants.{Two};
@@ -13,9 +13,10 @@ ghost use Rattle.store.specs.Opening.{RefusesLook, RefusesOpen};
 ghost use Rattle.states.specs.Geometry.{IsGeometry};
 ghost use Rattle.store.specs.declared.placed_entry.PlacedEntry.{PlacedEntry};
 ghost use Rattle.store.specs.Stands.{IsIntact, IsListed, Stands, StandsEither, catalogues_of};
-ghost use Rattle.store.specs.inside.Found.{IsFound};
+ghost use Rattle.store.specs.inside.Found.{Finds, IsFoundAfter};
 ghost use Rattle.store.specs.inside.Kept.{HaveSpellings};
-ghost use Rattle.store.specs.inside.Reading.{RefusesRoot, RefusesEntries};
+ghost use Rattle.store.specs.inside.Reading.{AreReadsBehindSync, IsRefusalOfList};
+ghost use Rattle.store.specs.inside.Reading.{RefusesEntries, RefusesRoot};
 
 use crate::entries::read_entries;
 use crate::found::Found;
@@ -32,12 +33,8 @@ fn read_root<D: Disk>(disk: &mut D) -> Result<Root, StoreRefusal>
     requires { IsGeometry (D.facts disk.old).sectors }
     ensures calls { AreCallsAtMost 3 (D.facts disk.old) (D.facts disk.new) }
     ensures all_calls { OnOk result (AreCallsExactly 3 (D.facts disk.old) (D.facts disk.new)) }
-    ensures any_moment { IsTrue (D.facts disk.old).honest
-        → LeavesOnly (D.facts disk.old) (D.facts disk.new) (Mixture (D.facts disk.old)) }
-    ensures now { IsTrue (D.facts disk.old).honest
-        → (D.facts disk.new).now ≡ (D.facts disk.old).now }
-    ensures log { IsTrue (D.facts disk.old).honest
-        → MayAddSync (D.facts disk.old).log (D.facts disk.new).log }
+    ensures reads { IsTrue (D.facts disk.old).honest
+        → AreReadsBehindSync (D.facts disk.old) (D.facts disk.new) }
     ensures synced { IsTrue (D.facts disk.old).honest → OnOk result (IsSynced (D.facts disk.new)) }
     ensures root { IfOk result RootHasSpelling }
     ensures current { IsTrue (D.facts disk.old).honest → IfOk result
@@ -78,8 +75,7 @@ fn read_listed_entries<D: Disk>(
         → IsIntact (D.facts disk.old).now root.now entries → ⊥) }
     ensures device { IfErr result (λ e. e ≡ StoreRefusal.Device
         → (D.facts disk.old).failures < (D.facts disk.new).failures) }
-    ensures refusals { IfErr result (λ e. (e ≡ StoreRefusal.Device)
-        ⊎ (e ≡ StoreRefusal.Damaged) ⊎ (e ≡ StoreRefusal.OutOfMemory)) }
+    ensures refusals { IfErr result IsRefusalOfList }
 {
     let listed = read_listed(alloc, disk, root)?;
     read_entries(alloc, disk, &listed)
@@ -89,26 +85,17 @@ fn read_listed_entries<D: Disk>(
 /// entry once, and writes nothing.
 fn find_entries<D: Disk>(alloc: Global, disk: &mut D, root: Root) -> Result<Found, StoreRefusal>
     requires root { RootHasSpelling root }
-    ensures calls { AreCallsAtMost (most_catalogues + most_libraries)
-        (D.facts disk.old) (D.facts disk.new) }
-    ensures all_calls { IfOk result (λ found.
-        AreCallsExactly (length (catalogues_of root) + length found.entries.items)
-        (D.facts disk.old) (D.facts disk.new)) }
+    ensures found { IsFoundAfter 0 (D.facts disk.old) (D.facts disk.new) result }
+    ensures root { IfOk result (λ found. found.root ≡ root) }
     ensures same { IsTrue (D.facts disk.old).honest
         → AreReads (D.facts disk.old) (D.facts disk.new) }
-    ensures kept { IfOk result (λ found. IsFound found.root found.entries.items
-        found.sectors.items found.index found.layout
-        × (found.root ≡ root) × (root.sectors ≡ (D.facts disk.old).sectors)) }
     ensures intact { IsTrue (D.facts disk.old).honest
         → IsCurrent (sector (D.facts disk.old).now 0) (sector (D.facts disk.old).now 1) root
         → IfOk result (λ found.
         IsIntact (D.facts disk.old).now found.root found.entries.items) }
     ensures refused { IsTrue (D.facts disk.old).honest
         → IfErr result (RefusesEntries (D.facts disk.old).now root) }
-    ensures device { IfErr result (λ e. e ≡ StoreRefusal.Device
-        → (D.facts disk.old).failures < (D.facts disk.new).failures) }
-    ensures refusals { IfErr result (λ e. (e ≡ StoreRefusal.Device)
-        ⊎ (e ≡ StoreRefusal.Damaged) ⊎ (e ≡ StoreRefusal.OutOfMemory)) }
+    ensures refusals { IfErr result IsRefusalOfList }
 {
     if root.sectors != disk.sectors() {
         return Err(StoreRefusal::Damaged);
@@ -120,27 +107,7 @@ fn find_entries<D: Disk>(alloc: Global, disk: &mut D, root: Root) -> Result<Foun
 /// What a disk of either version holds. It writes nothing.
 pub(crate) fn find_store<D: Disk>(alloc: Global, disk: &mut D) -> Result<Found, StoreRefusal>
     requires { IsGeometry (D.facts disk.old).sectors }
-    ensures calls { AreCallsAtMost (3 + most_catalogues + most_libraries)
-        (D.facts disk.old) (D.facts disk.new) }
-    ensures all_calls { IfOk result (λ found.
-        AreCallsExactly (3 + length (catalogues_of found.root) + length found.entries.items)
-        (D.facts disk.old) (D.facts disk.new)) }
-    ensures any_moment { IsTrue (D.facts disk.old).honest
-        → LeavesOnly (D.facts disk.old) (D.facts disk.new) (Mixture (D.facts disk.old)) }
-    ensures now { IsTrue (D.facts disk.old).honest
-        → (D.facts disk.new).now ≡ (D.facts disk.old).now }
-    ensures log { IsTrue (D.facts disk.old).honest
-        → MayAddSync (D.facts disk.old).log (D.facts disk.new).log }
-    ensures synced { IsTrue (D.facts disk.old).honest → OnOk result (IsSynced (D.facts disk.new)) }
-    ensures kept { IfOk result (λ found. IsFound found.root found.entries.items
-        found.sectors.items found.index found.layout
-        × (found.root.sectors ≡ (D.facts disk.old).sectors)) }
-    ensures intact { IsTrue (D.facts disk.old).honest → IfOk result (λ found.
-        IsIntact (D.facts disk.old).now found.root found.entries.items) }
-    ensures refused { IsTrue (D.facts disk.old).honest
-        → IfErr result (RefusesLook StandsEither (D.facts disk.old).now) }
-    ensures device { IfErr result (λ e. e ≡ StoreRefusal.Device
-        → (D.facts disk.old).failures < (D.facts disk.new).failures) }
+    ensures finds { Finds (RefusesLook StandsEither) (D.facts disk.old) (D.facts disk.new) result }
     ensures refusals { IfErr result (λ e. (e ≡ StoreRefusal.Device)
         ⊎ (e ≡ StoreRefusal.NotFormatted) ⊎ (e ≡ StoreRefusal.Damaged)
         ⊎ (e ≡ StoreRefusal.OutOfMemory)) }
@@ -152,28 +119,8 @@ pub(crate) fn find_store<D: Disk>(alloc: Global, disk: &mut D) -> Result<Found, 
 /// What a disk of version 2 holds; OldFormat where its root is of version 1. It writes nothing.
 pub(crate) fn find_current<D: Disk>(alloc: Global, disk: &mut D) -> Result<Found, StoreRefusal>
     requires { IsGeometry (D.facts disk.old).sectors }
-    ensures calls { AreCallsAtMost (3 + most_catalogues + most_libraries)
-        (D.facts disk.old) (D.facts disk.new) }
-    ensures all_calls { IfOk result (λ found.
-        AreCallsExactly (3 + length (catalogues_of found.root) + length found.entries.items)
-        (D.facts disk.old) (D.facts disk.new)) }
-    ensures any_moment { IsTrue (D.facts disk.old).honest
-        → LeavesOnly (D.facts disk.old) (D.facts disk.new) (Mixture (D.facts disk.old)) }
-    ensures now { IsTrue (D.facts disk.old).honest
-        → (D.facts disk.new).now ≡ (D.facts disk.old).now }
-    ensures log { IsTrue (D.facts disk.old).honest
-        → MayAddSync (D.facts disk.old).log (D.facts disk.new).log }
-    ensures synced { IsTrue (D.facts disk.old).honest → OnOk result (IsSynced (D.facts disk.new)) }
-    ensures kept { IfOk result (λ found. IsFound found.root found.entries.items
-        found.sectors.items found.index found.layout
-        × (version_of found.root ≡ Two)
-        × (found.root.sectors ≡ (D.facts disk.old).sectors)) }
-    ensures intact { IsTrue (D.facts disk.old).honest → IfOk result (λ found.
-        IsIntact (D.facts disk.old).now found.root found.entries.items) }
-    ensures refused { IsTrue (D.facts disk.old).honest
-        → IfErr result (RefusesOpen Stands (D.facts disk.old).now) }
-    ensures device { IfErr result (λ e. e ≡ StoreRefusal.Device
-        → (D.facts disk.old).failures < (D.facts disk.new).failures) }
+    ensures finds { Finds (RefusesOpen Stands) (D.facts disk.old) (D.facts disk.new) result }
+    ensures version { IfOk result (λ found. version_of found.root ≡ Two) }
     ensures refusals { IfErr result (λ e. (e ≡ StoreRefusal.Device)
         ⊎ (e ≡ StoreRefusal.NotFormatted) ⊎ (e ≡ StoreRefusal.Damaged)
         ⊎ (e ≡ StoreRefusal.OutOfMemory) ⊎ (e ≡ StoreRefusal.OldFormat)) }

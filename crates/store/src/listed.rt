@@ -1,5 +1,5 @@
 // Reading which entries a root lists: it does so itself in version 1, by catalogues in version 2.
-ghost use Rattle.std.specs.Prelude.{◌≡◌, ◌<◌, ◌⊎◌, ◌↔◌, ℕ, All, List, Some, IsTrue, IfOk, IfErr};
+ghost use Rattle.std.specs.Prelude.{◌≡◌, ◌<◌, ◌↔◌, ℕ, All, List, Some, IsTrue, IfOk, IfErr};
 ghost use Rattle.std.specs.Prelude.{OnOk, length};
 ghost use Rattle.sector_disk.specs.Disk.{Sector, IsCall, IsRead, AreCallsExactly, AreCallsAtMost};
 ghost use Rattle.passes.specs.Calls.{AreReads};
@@ -8,6 +8,7 @@ ghost use Rattle.roots.specs.declared.version.Version.TheVariants.{Two};
 ghost use Rattle.roots.specs.Catalogue.{SpellsCatalogue};
 ghost use Rattle.roots.specs.Root.{RootHasSpelling, version_of};
 ghost use Rattle.store.specs.Stands.{AreListed, catalogues_of};
+ghost use Rattle.store.specs.inside.Reading.{IsRefusalOfList};
 
 use crate::refusal::StoreRefusal;
 use roots::{Catalogue, MOST_CATALOGUE_ENTRIES, Root, Version, decode_catalogue};
@@ -65,8 +66,7 @@ fn read_catalogues<D: Disk>(
         → AreListed (D.facts disk.old).now root.now.library_count root.now.list sectors → ⊥) }
     ensures device { IfErr result (λ e. e ≡ StoreRefusal.Device
         → (D.facts disk.old).failures < (D.facts disk.new).failures) }
-    ensures refusals { IfErr result (λ e. (e ≡ StoreRefusal.Device)
-        ⊎ (e ≡ StoreRefusal.Damaged) ⊎ (e ≡ StoreRefusal.OutOfMemory)) }
+    ensures refusals { IfErr result IsRefusalOfList }
 {
     let count = usize::from(root.library_count);
     let mut listed = Vec::with_capacity(alloc, count)?;
@@ -114,8 +114,7 @@ pub(crate) fn read_listed<D: Disk>(
         → All (λ at. at < root.now.sectors) sectors → ⊥) }
     ensures device { IfErr result (λ e. e ≡ StoreRefusal.Device
         → (D.facts disk.old).failures < (D.facts disk.new).failures) }
-    ensures refusals { IfErr result (λ e. (e ≡ StoreRefusal.Device)
-        ⊎ (e ≡ StoreRefusal.Damaged) ⊎ (e ≡ StoreRefusal.OutOfMemory)) }
+    ensures refusals { IfErr result IsRefusalOfList }
 {
     let listed = match root.version() {
         Version::One => {

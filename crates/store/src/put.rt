@@ -1,5 +1,5 @@
 // What a put takes: sectors for its bytes, and their entry.
-ghost use Rattle.std.specs.Prelude.{◌≡◌, ◌≤◌, All, length};
+ghost use Rattle.std.specs.Prelude.{◌≡◌, ◌<◌, ◌≤◌, All, OnOk, length, vec_len, vec_capacity};
 ghost use Rattle.std.specs.Int.{div_ceil};
 ghost use Rattle.extents.specs.Extent.{sector_count};
 ghost use Rattle.extents.specs.Limits.{most_extents};
@@ -8,10 +8,30 @@ ghost use Rattle.roots.specs.Entry.{EntryHasSpelling, IsDataExtent};
 ghost use Rattle.store.specs.Names.{IsName, IsFileSize};
 ghost use Rattle.store.specs.Stands.{name_of, extents_of};
 
+use crate::name_index::NameIndex;
 use crate::placed_entry::PlacedEntry;
 use crate::room::Room;
 use roots::Entry;
 use sector_disk::SECTOR_BYTES;
+use std::alloc::AllocError;
+
+/// Makes room in memory for one entry more.
+pub(crate) fn reserve_one(
+    index: &mut NameIndex,
+    entries: &mut Vec<PlacedEntry>,
+    sectors: &mut Vec<u32>,
+) -> Result<(), AllocError>
+    ensures index { index.new.positions ≡ index.old.positions }
+    ensures entries { entries.new.items ≡ entries.old.items }
+    ensures sectors { sectors.new.items ≡ sectors.old.items }
+    ensures index_room { OnOk result (1 ≤ index.new.room) }
+    ensures entries_room { OnOk result (vec_len entries.new < vec_capacity entries.new) }
+    ensures sectors_room { OnOk result (vec_len sectors.new < vec_capacity sectors.new) }
+{
+    index.reserve()?;
+    entries.reserve(1)?;
+    sectors.reserve(1)
+}
 
 /// How many sectors the bytes take.
 pub(crate) fn sector_need(bytes: &[u8]) -> u32

@@ -2,7 +2,7 @@
 use crate::change::{Change, Staged};
 use crate::listed::catalogues;
 use crate::next::{next_root, push_sector};
-use crate::put::{new_entry, sector_need};
+use crate::put::{new_entry, reserve_one, sector_need};
 use crate::refusal::StoreRefusal;
 use crate::room::{release_sectors, take_room};
 use crate::store::Store;
@@ -64,9 +64,7 @@ impl<D: Disk> Store<D> {
         if self.root.generation == u64::MAX {
             return Err(StoreRefusal::GenerationEnd);
         }
-        self.index.reserve()?;
-        self.entries.reserve(1)?;
-        self.sectors.reserve(1)?;
+        reserve_one(&mut self.index, &mut self.entries, &mut self.sectors)?;
         let libraries = self.entries.len() + 1;
         let count = catalogues_for(libraries);
         let spare = count - catalogues(&self.root).len();

@@ -63,7 +63,7 @@ impl<D: Disk> Store<D> {
 
     /// The same, in a vector that is given, whatever that holds: it grows only where it is too
     /// small, so that byte strings which are read one after the other take the memory of the
-    /// largest once.
+    /// largest once. It refuses with S2, S11 or S1.
     pub fn read_blob_into(
         &mut self,
         position: usize,

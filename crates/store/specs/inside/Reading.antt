@@ -1,6 +1,6 @@
--- What each part of the reading of a disk refuses.
+-- What each part of the reading of a disk does to it, and what it refuses.
 use Rattle.std.specs.Prelude.{◌≡◌, ◌⊎◌, List, length}
-use Rattle.sector_disk.specs.Disk.{Sector, sector}
+use Rattle.sector_disk.specs.Disk.{Sector, sector, DiskFacts, Mixture, LeavesOnly, MayAddSync}
 use Rattle.roots.specs.declared.root.Root.{Root}
 use Rattle.roots.specs.Choice.{IsCurrent}
 use Rattle.store.specs.declared.placed_entry.PlacedEntry.{PlacedEntry}
@@ -9,6 +9,13 @@ use Rattle.store.specs.declared.refusal.StoreRefusal.TheVariants.{NotFormatted, 
 use Rattle.store.specs.Opening.{HasRootMagic}
 use Rattle.store.specs.Stands.{IsIntact}
 
+-- An honest disk was told to sync, and read. A stop at any moment leaves what it could leave before,
+-- and reads give what they gave.
+pub record AreReadsBehindSync (old new : DiskFacts) : Type 0 where
+  pub leaves : LeavesOnly old new (Mixture old)
+  pub now : new.now ≡ old.now
+  pub log : MayAddSync old.log new.log
+
 -- the refusals of the choice of a root
 pub record RefusesRoot (m : List Sector) (refusal : StoreRefusal) : Type 0 where
   pub may : (refusal ≡ Device) ⊎ (refusal ≡ NotFormatted) ⊎ (refusal ≡ Damaged)
@@ -16,8 +23,12 @@ pub record RefusesRoot (m : List Sector) (refusal : StoreRefusal) : Type 0 where
   pub formatted : refusal ≡ Damaged → HasRootMagic m
   pub damaged : refusal ≡ Damaged → (root : Root) → IsCurrent (sector m 0) (sector m 1) root → ⊥
 
+-- the refusals of what a root lists, on any disk
+abbrev pub IsRefusalOfList : StoreRefusal → Type 0
+IsRefusalOfList refusal = (refusal ≡ Device) ⊎ (refusal ≡ Damaged) ⊎ (refusal ≡ OutOfMemory)
+
 -- the refusals of the entries of a root that is current
 pub record RefusesEntries (m : List Sector) (root : Root) (refusal : StoreRefusal) : Type 0 where
-  pub may : (refusal ≡ Device) ⊎ (refusal ≡ Damaged) ⊎ (refusal ≡ OutOfMemory)
+  pub may : IsRefusalOfList refusal
   pub damaged : refusal ≡ Damaged → (entries : List PlacedEntry) → IsIntact m root entries → ⊥
   pub memory : refusal ≡ OutOfMemory → root.sectors ≡ length m

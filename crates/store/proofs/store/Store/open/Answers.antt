@@ -11,18 +11,19 @@ returns-in-Ok-clause-opened g c =
     let now = (facts c.args.disk).now in
     let root = c.in-Ok.found.root in
     let items = c.in-Ok.found.entries.items in
-    let two = c.in-Ok.ensures.kept.1 in
-    let calls = c.find_current.ensures.calls.some in
+    let two = c.in-Ok.ensures.version in
+    let finds = c.in-Ok.ensures.finds in
+    let calls = finds.found.calls.some in
     let at = λ (honest : IsTrue (facts c.args.disk).honest). found_at facts c.beside.result c.find_current.new.disk now root items Two
     c.beside.ensures.disk c.beside.ensures.root c.beside.ensures.entries c.beside.ensures.usable
-    (subst IsTrue (sym calls.honest) honest) (c.find_current.ensures.now honest) (c.in-Ok.ensures.synced honest) (c.in-Ok.ensures.intact honest) two in
+    (subst IsTrue (sym calls.honest) honest) (finds.reads honest).now (finds.synced honest) (finds.intact honest) two in
     let held : IsTrue (facts c.args.disk).honest → Stands now (state_of now root items) =
-    λ honest. (root, items, record { of_version = two; intact = c.in-Ok.ensures.intact honest; is = refl }) in record {
+    λ honest. (root, items, record { of_version = two; intact = finds.intact honest; is = refl }) in record {
       any_moment = search rules;
       now = search rules;
       log = search rules;
       ok = λ honest. (state_of now root items, held honest, at honest, λ other stands. one_state now Two Two other (state_of now root items) stands (held honest));
-      stands = λ honest s stands. found_at_state facts c.beside.result c.find_current.new.disk now root items Two s stands (at honest) (c.in-Ok.ensures.intact honest) two;
+      stands = λ honest s stands. found_at_state facts c.beside.result c.find_current.new.disk now root items Two s stands (at honest) (finds.intact honest) two;
       refused = λ _. tt;
       geometry = search rules;
       usable = search rules;
@@ -35,19 +36,21 @@ returns-in-Ok-clause-opened g c =
     }
 
 pub returns-in-Err-clause-opened : goal.returns-in-Err-clause-opened
-returns-in-Err-clause-opened g c = record {
-  any_moment = c.find_current.ensures.any_moment;
-  now = c.find_current.ensures.now;
-  log = c.find_current.ensures.log;
-  ok = λ _. tt;
-  stands = λ honest s stands. refuses_open (g.D.Disk.facts c.args.disk).now s stands c.in-Err.refusal c.in-Err.ensures.refusals (c.in-Err.ensures.refused honest);
-  refused = c.in-Err.ensures.refused;
-  geometry = tt;
-  usable = tt;
-  unheld = tt;
-  refusals = search rules;
-  device = c.in-Err.ensures.device;
-  untouched = search rules;
-  calls = c.find_current.ensures.calls.some;
-  old_calls = c.in-Err.ensures.old_calls;
-}
+returns-in-Err-clause-opened g c =
+    let finds = c.in-Err.ensures.finds in
+    record {
+      any_moment = λ honest. (finds.reads honest).leaves;
+      now = λ honest. (finds.reads honest).now;
+      log = λ honest. (finds.reads honest).log;
+      ok = λ _. tt;
+      stands = λ honest s stands. refuses_open (g.D.Disk.facts c.args.disk).now s stands c.in-Err.refusal c.in-Err.ensures.refusals (finds.refused honest);
+      refused = finds.refused;
+      geometry = tt;
+      usable = tt;
+      unheld = tt;
+      refusals = search rules;
+      device = finds.found.device;
+      untouched = search rules;
+      calls = finds.found.calls.some;
+      old_calls = c.in-Err.ensures.old_calls;
+    }

@@ -52,7 +52,7 @@ few g c = omega (arith, c.if-len-ge-MOST_LIBRARIES.false, c.len.ensures)
 
 -- how many catalogues list one entry more, and how many more they are
 more : (g : given.Over) (c : After-take_room g) → c.catalogues_for-count.result ≡ catalogues_for (length c.self.inside.entries.items + 1)
-more g c = omega (arith, c.catalogues_for-count.ensures, c.len-libraries.ensures, ap length c.reserve-2.ensures.items)
+more g c = omega (arith, c.catalogues_for-count.ensures, c.len-libraries.ensures, ap length c.reserve_one.ensures.entries)
 
 rest : (g : given.Over) (c : After-take_room g) → c.catalogues_for-count.result - length c.catalogues.result.now ≡ c.catalogues_for-count.result - catalogues_for (length c.self.inside.entries.items)
 rest g c =
@@ -62,7 +62,7 @@ rest g c =
     c.self.invariant.0 two)
 
 count_is : (g : given.Over) (c : After-next_root-root g) → c.len-libraries.result ≡ length c.self.inside.entries.items
-count_is g c = omega (arith, c.len-libraries.ensures, ap length c.reserve-2.ensures.items)
+count_is g c = omega (arith, c.len-libraries.ensures, ap length c.reserve_one.ensures.entries)
 
 -- what is put is one more entry
 newly : (g : given.Over) (c : After-next_root-root g)
@@ -93,7 +93,7 @@ listed_are : (g : given.Over) (c : After-next_root-root g) → c.push_sector.new
 listed_are g c =
     let put = c.new_entry-put.result in
     c.push_sector.ensures
-    ∙ ap (λ l. l ++ put.at ∷ []) (c.reserve-3.ensures.items ∙ c.self.invariant.3 c.if-self.false)
+    ∙ ap (λ l. l ++ put.at ∷ []) (c.reserve_one.ensures.sectors ∙ c.self.invariant.3 c.if-self.false)
     ∙ sym (map_push (λ (p : PlacedEntry). p.at) c.self.inside.entries.items put)
 
 -- it has room for the bytes
@@ -109,14 +109,8 @@ putting g c s sectors are =
     subst (λ sectors. IsFollowed Two c.self.inside.root c.self.inside.entries.items s change c.args.bytes.now sectors others (with_new c.args.name.now c.args.bytes.now s)) (sym (are ∙ listed_are g c))
     (new_put (newly g c) c.args.name.now c.args.bytes.now s c.new_entry-put.ensures.name c.new_entry-put.ensures.length (enough g c))
 
-pub returns-in_err-reserve-clause-any_moment : goal.returns-in_err-reserve-clause-any_moment
-returns-in_err-reserve-clause-any_moment g c s at = untouched g.D.Disk.facts c.args.self.now _ s (with_new c.args.name.now c.args.bytes.now s) c.self.view_is at
-
-pub returns-in_err-reserve-2-clause-any_moment : goal.returns-in_err-reserve-2-clause-any_moment
-returns-in_err-reserve-2-clause-any_moment g c s at = untouched g.D.Disk.facts c.args.self.now _ s (with_new c.args.name.now c.args.bytes.now s) c.self.view_is at
-
-pub returns-in_err-reserve-3-clause-any_moment : goal.returns-in_err-reserve-3-clause-any_moment
-returns-in_err-reserve-3-clause-any_moment g c s at = untouched g.D.Disk.facts c.args.self.now _ s (with_new c.args.name.now c.args.bytes.now s) c.self.view_is at
+pub returns-in_err-reserve_one-clause-any_moment : goal.returns-in_err-reserve_one-clause-any_moment
+returns-in_err-reserve_one-clause-any_moment g c s at = untouched g.D.Disk.facts c.args.self.now _ s (with_new c.args.name.now c.args.bytes.now s) c.self.view_is at
 
 pub returns-in_err-room-clause-any_moment : goal.returns-in_err-room-clause-any_moment
 returns-in_err-room-clause-any_moment g c s at = untouched g.D.Disk.facts c.args.self.now _ s (with_new c.args.name.now c.args.bytes.now s) c.self.view_is at
@@ -154,10 +148,10 @@ give_back-requires-clause-held g c =
 pub invariant_of-self-in-Err : goal.invariant_of-self-in-Err
 invariant_of-self-in-Err g c =
     let is_new = newly g (goal.at.invariant_of-self-in-Err g c).After-next_root-root in
-    let items = c.reserve-2.ensures.items in (
+    let items = c.reserve_one.ensures.entries in (
       subst (λ l. IsKept c.self.inside.root l c.self.inside.held c.give_back.new.layout) (sym items) (back_kept is_new.kept is_new.claimed c.give_back.new.layout c.give_back.ensures),
-      subst (λ l. IsOrderOf (entry_names l) c.reserve.new.self.positions) (sym items)
-          (subst (IsOrderOf (entry_names c.self.inside.entries.items)) (sym c.reserve.ensures.positions) c.self.invariant.1),
+      subst (λ l. IsOrderOf (entry_names l) c.reserve_one.new.index.positions) (sym items)
+          (subst (IsOrderOf (entry_names c.self.inside.entries.items)) (sym c.reserve_one.ensures.index) c.self.invariant.1),
       c.carry_out-written.ensures.calls.sectors ∙ c.self.invariant.2,
       λ is. absurd (false≢true (sym is)),
       c.self.invariant.4,
@@ -191,7 +185,7 @@ invariant_of-self-2 g c =
     let is_new = newly g before in
     let put = c.new_entry-put.result in
     let others = c.self.inside.entries.items ++ put ∷ [] in
-    let items = c.in-Ok.ensures.items ∙ ap (λ l. l ++ put ∷ []) c.reserve-2.ensures.items in
+    let items = c.in-Ok.ensures.items ∙ ap (λ l. l ++ put ∷ []) c.reserve_one.ensures.entries in
     let new = c.release_sectors.new.layout in
     let released : IsReleased c.take_room.new.layout new (catalogues_of c.self.inside.root) = subst (IsReleased c.take_room.new.layout new) c.catalogues-2.ensures c.release_sectors.ensures in
     let moved = new_moved is_new in (
@@ -207,14 +201,8 @@ invariant_of-self-2 g c =
       next_version (new_next is_new) is_new.kept.root_fits,
     )
 
-pub returns-in_err-reserve-clause-held : goal.returns-in_err-reserve-clause-held
-returns-in_err-reserve-clause-held g c = keeps_same g.D.Disk.facts c.self.view_is
-
-pub returns-in_err-reserve-2-clause-held : goal.returns-in_err-reserve-2-clause-held
-returns-in_err-reserve-2-clause-held g c = keeps_same g.D.Disk.facts c.self.view_is
-
-pub returns-in_err-reserve-3-clause-held : goal.returns-in_err-reserve-3-clause-held
-returns-in_err-reserve-3-clause-held g c = keeps_same g.D.Disk.facts c.self.view_is
+pub returns-in_err-reserve_one-clause-held : goal.returns-in_err-reserve_one-clause-held
+returns-in_err-reserve_one-clause-held g c = keeps_same g.D.Disk.facts c.self.view_is
 
 pub returns-in_err-room-clause-held : goal.returns-in_err-room-clause-held
 returns-in_err-room-clause-held g c = keeps_same g.D.Disk.facts c.self.view_is
@@ -243,7 +231,7 @@ pub returns-clause-ok : goal.returns-clause-ok
 returns-clause-ok g c s at_entry =
     let at = subst (λ store. IsAt g.D.Disk.facts store s) (sym c.self.view_is) at_entry in
     let put = putting g (goal.at.returns-clause-ok g c).After-next_root-root s c.deref.result.now c.deref.ensures.value in
-    let items = c.in-Ok.ensures.items ∙ ap (λ l. l ++ c.new_entry-put.result ∷ []) c.reserve-2.ensures.items in
+    let items = c.in-Ok.ensures.items ∙ ap (λ l. l ++ c.new_entry-put.result ∷ []) c.reserve_one.ensures.entries in
     record {
       honest = subst IsTrue (sym c.carry_out-written.ensures.calls.honest) at.honest;
       usable = refl;
@@ -271,7 +259,7 @@ returns-clause-placed g c =
     record {
       put = put;
       taken = subst (λ store. IsTaken (layout_in_use store) (div_ceil (length c.args.bytes.now) 512) (extents_of put.entry) put.at (catalogues_of c.next_root-root.result)) c.self.view_is taken;
-      entries = c.in-Ok.ensures.items ∙ ap (λ l. l ++ put ∷ []) c.reserve-2.ensures.items ∙ ap (λ store. store.entries ++ put ∷ []) c.self.view_is;
+      entries = c.in-Ok.ensures.items ∙ ap (λ l. l ++ put ∷ []) c.reserve_one.ensures.entries ∙ ap (λ store. store.entries ++ put ∷ []) c.self.view_is;
       written = λ honest. have_bytes (g.D.Disk.facts c.carry_out-written.new.disk) (extents_of put.entry) c.args.bytes.now
           (ap sector_count c.new_entry-put.ensures.extents ∙ room.sum ∙ c.sector_need.ensures)
           (c.in_default.ensures.written (subst (λ store. IsTrue (g.D.Disk.facts store.disk).honest) (sym c.self.view_is) honest));
