@@ -38,7 +38,7 @@ returns-in_err-image-clause-step g c s at =
     let p = err_from_is_err_and c.from_residual.result c.from_residual.ensures.1 in
     rw (p.1, p.2) (refused g.D.Disk.facts c.args.self.now c.read_needed.new.store s read at c.args.program.now c.args.base c.in_err-image.field-0.0
     (answer_same s c.args.program.now c.args.base walk.files.items walk.needs.missing c.requires (c.in-Ok.ensures.ok s here) (c.in-Ok.ensures.missing s here)
-    c.in_err-image.field-0.0 c.in_err-image.ensures.refused) (λ behind. c.in-Ok.ensures.libraries s here))
+    c.in_err-image.field-0.0 c.in_err-image.ensures.tested.refused) (λ behind. c.in-Ok.ensures.libraries s here))
 
 pub returns-clause-step : goal.returns-clause-step
 returns-clause-step g c s at =
@@ -49,7 +49,7 @@ returns-clause-step g c s at =
     let lacking = c.in-Ok.ensures.missing s here in
     let same = objects_same s c.args.program.now c.args.base walk.files.items walk.needs.missing c.requires ordered lacking in
     bound g.D.Disk.facts c.args.self.now c.read_needed.new.store s read at c.args.program.now c.args.base c.in_ok-image.image
-    (refusal_same s c.args.program.now c.args.base walk.files.items walk.needs.missing c.requires ordered lacking ∙ c.in_ok-image.ensures.accepted)
+    (refusal_same s c.args.program.now c.args.base walk.files.items walk.needs.missing c.requires ordered lacking ∙ c.in_ok-image.ensures.tested.accepted)
     (c.in_ok-image.ensures.ok ∙ ap image_of same)
     (λ a. c.in_ok-image.ensures.bytes a ∙ ap (λ os. byte_of os a) same) (c.in-Ok.ensures.libraries s here)
 
