@@ -1,6 +1,4 @@
 use Rattle.std.proofs.Common.{◌≡◌, ◌+◌, ◌-◌, ◌++◌, ◌∷◌, [], ℕ, List, length, get_or, sym, ap, subst, ◌∙◌}
-use Rattle.std.specs.Prelude.{All}
-use Rattle.std.proofs.lemmas.List.Elements.{All-push}
 use Rattle.std.proofs.lemmas.Result.{err_from_is_err_and}
 use Rattle.elf_dynamic.specs.Strings.{needed}
 use Rattle.scope.specs.Queue.{AreApart}
@@ -20,12 +18,6 @@ returns-in_err-file-clause-damaged g c s taken offers at =
     let named : c.next_position-position.result ≡ next_place c.args.self.now.needs c.args.self.now.files.items - 1 = c.next_position-position.ensures.next in
     rw p.1 (λ is library. c.in_err-file.ensures.damaged s (offers.files s at) (sym p.2 ∙ is)
     (subst (λ (k : ℕ). IsLibrary (get_or s.libraries k no_library)) (sym named) library))
-
-pub returns-clause-libraries : goal.returns-clause-libraries
-returns-clause-libraries g c all =
-    let f : Library = c.in_ok-file.file in
-    subst (All IsLibrary) (sym (c.in-Ok.ensures.items ∙ ap (λ (l : List Library). l ++ f ∷ []) c.reserve.ensures.items))
-    (All-push IsLibrary c.args.self.now.files.items f all c.in_ok-file.ensures.library)
 
 pub returns-clause-walked : goal.returns-clause-walked
 returns-clause-walked g c program taken offers so_far =
