@@ -5,7 +5,7 @@ use Rattle.std.proofs.lemmas.Result.{err_from_is_err_and}
 use Rattle.scope.specs.Queue.{AreApart}
 use Rattle.requests.specs.Library.{IsLibrary}
 use Rattle.registry.specs.inside.Walked.{IsWalked}
-use Rattle.store.proofs.IsReadLemmas.{read_more}
+use Rattle.store.proofs.IsReadLemmas.{read_more, read_none}
 use Rattle.registry.proofs.FilesRead.{all_read, libraries_read, missing_read, next_is_library}
 use Rattle.registry.proofs.Sources.{HasCome, come_more, come_offers}
 use Rattle.registry.proofs.needed.read_needed.Goals as goal
@@ -52,3 +52,12 @@ returns-clause-ok g c s at =
 pub returns-clause-missing : goal.returns-clause-missing
 returns-clause-missing g c s at =
     missing_read g.D.Disk.facts c.args.program.now c.args.store.now (g.met.D.Disk.holds_now c.args.store.now.disk) c.loop-source.invariant.walked (c.loop-source-test.ensures.no refl) s at
+
+pub returns-in_err-walk-clause-read : goal.returns-in_err-walk-clause-read
+returns-in_err-walk-clause-read g c = read_none c.args.store.now
+
+pub returns-clause-read : goal.returns-clause-read
+returns-clause-read g c = c.loop-source.invariant.read
+
+pub returns-clause-all_calls : goal.returns-clause-all_calls
+returns-clause-all_calls g c = c.loop-source.invariant.calls
