@@ -1,4 +1,5 @@
 use Rattle.std.proofs.Common.{ℕ, List, Option, Some, Ok, Err, refl, sym, subst}
+use Rattle.store.proofs.IsReadLemmas.{read_none}
 use Rattle.store.proofs.UsedAlone.{no_entry}
 use Rattle.store.specs.declared.refusal.StoreRefusal.{StoreRefusal}
 use Rattle.registry.specs.Flying.{Flies, IsStep}
@@ -60,3 +61,9 @@ returns-clause-step g c flight flies =
           (whole (Some walk)) flight here holds walk.needs walk.files.items refl c.step.new.store c.step.ensures.read
           c.if-not-has_next.ensures.apart (c.if-not-has_next.ensures.yes refl))))))
     ]
+
+pub returns-then-not-has_next-clause-read : goal.returns-then-not-has_next-clause-read
+returns-then-not-has_next-clause-read g c = read_none c.args.store.now
+
+pub returns-clause-read : goal.returns-clause-read
+returns-clause-read g c = c.step.ensures.read

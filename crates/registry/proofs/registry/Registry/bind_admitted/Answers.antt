@@ -61,3 +61,12 @@ returns-clause-all_calls g c s at =
     (sectors_read s c.args.program.now c.args.base walk.files.items walk.needs.missing c.requires (c.in-Ok.ensures.ok s here) (c.in-Ok.ensures.missing s here))
     (subst (λ k. AreCallsExactly (sum_by (λ (f : Library). data_sectors f.bytes) walk.files.items) (g.D.Disk.facts k.disk)
     (g.D.Disk.facts c.read_needed.new.store.disk)) c.self.view_is c.in-Ok.ensures.all_calls)
+
+pub returns-in-Err-clause-read : goal.returns-in-Err-clause-read
+returns-in-Err-clause-read g c = subst (λ k. IsRead g.D.Disk.facts k c.read_needed.new.store) c.self.view_is c.read_needed.ensures.read
+
+pub returns-in_err-image-clause-read : goal.returns-in_err-image-clause-read
+returns-in_err-image-clause-read g c = subst (λ k. IsRead g.D.Disk.facts k c.read_needed.new.store) c.self.view_is c.read_needed.ensures.read
+
+pub returns-clause-read : goal.returns-clause-read
+returns-clause-read g c = subst (λ k. IsRead g.D.Disk.facts k c.read_needed.new.store) c.self.view_is c.read_needed.ensures.read

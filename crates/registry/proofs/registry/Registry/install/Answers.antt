@@ -9,6 +9,8 @@ use Rattle.store.specs.Opened.{IsAt}
 use Rattle.registry.proofs.Forms.{is_name, file_size}
 use Rattle.registry.proofs.Putting.{installed, install_no_library, install_there, installed_as}
 use Rattle.registry.proofs.States.{same_sectors}
+use Rattle.store.specs.HeldVersions.{KeepsHeld}
+use Rattle.registry.proofs.Keeping.{keeps_held_same}
 use Rattle.registry.proofs.registry.Registry.install.Goals as goal
 
 pub returns-in_err-name-clause-applied : goal.returns-in_err-name-clause-applied
@@ -41,3 +43,15 @@ returns-clause-applied g c s at =
     (same_sectors facts old s here (λ honest. g.met.D.Disk.holds_now _ honest)) c.in_ok-name.ensures.memory c.put_new.result
     (installed s name c.position.result (c.position.ensures.state s here) ∙ sym c.is_some.ensures ∙ c.if-is_some.false)
     (put.any_moment s here) (put.refused s here) put.on_any_disk (put.ok s here)))
+
+pub returns-then-has_failed-clause-held : goal.returns-then-has_failed-clause-held
+returns-then-has_failed-clause-held g c = keeps_held_same g.D.Disk.facts c.args.self.now
+
+pub returns-in_err-name-clause-held : goal.returns-in_err-name-clause-held
+returns-in_err-name-clause-held g c = keeps_held_same g.D.Disk.facts c.args.self.now
+
+pub returns-then-is_some-clause-held : goal.returns-then-is_some-clause-held
+returns-then-is_some-clause-held g c = keeps_held_same g.D.Disk.facts c.args.self.now
+
+pub returns-clause-held : goal.returns-clause-held
+returns-clause-held g c = subst (λ k. KeepsHeld g.D.Disk.facts k c.put_new.new.self) c.self.view_is c.put_new.ensures.held

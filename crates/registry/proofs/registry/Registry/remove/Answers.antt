@@ -13,6 +13,8 @@ use Rattle.registry.specs.Refusals.{refusal_of}
 use Rattle.registry.proofs.Applying.{untouched, exact_answer, store_changed}
 use Rattle.registry.proofs.Changed.{change_ample, change_may}
 use Rattle.registry.proofs.Tested.{last_change, change_deviceless}
+use Rattle.store.specs.HeldVersions.{KeepsHeld}
+use Rattle.registry.proofs.Keeping.{keeps_held_same}
 use Rattle.registry.proofs.registry.Registry.remove.Goals as goal
 
 pub returns-in_err-test_remove-clause-applied : goal.returns-in_err-test_remove-clause-applied
@@ -37,3 +39,9 @@ returns-clause-applied g c s at =
     subst (λ r. AppliesUntested facts r new s q (answer_of c.in_words.result)) c.self.view_is
     (rw c.in_words.ensures (store_changed facts old new s here q tt first tested (change_deviceless s) (without c.args.name.now s) refl (done.any_moment s here) c.delete.result
     (exact_answer first c.delete.result (done.refused s here)) done.on_any_disk change_may (change_ample c.delete.result done.on_any_disk.refusals) (done.ok s here)))
+
+pub returns-in_err-test_remove-clause-held : goal.returns-in_err-test_remove-clause-held
+returns-in_err-test_remove-clause-held g c = keeps_held_same g.D.Disk.facts c.args.self.now
+
+pub returns-clause-held : goal.returns-clause-held
+returns-clause-held g c = subst (λ k. KeepsHeld g.D.Disk.facts k c.delete.new.self) c.self.view_is c.delete.ensures.held

@@ -14,6 +14,8 @@ use Rattle.registry.specs.Refusals.{refusal_of}
 use Rattle.registry.proofs.Applying.{untouched, exact_answer, store_changed}
 use Rattle.registry.proofs.Changed.{change_ample, change_may}
 use Rattle.registry.proofs.Tested.{last_change, change_deviceless}
+use Rattle.store.specs.HeldVersions.{KeepsHeld}
+use Rattle.registry.proofs.Keeping.{keeps_held_same}
 use Rattle.registry.proofs.registry.Registry.set_preloads.Goals as goal
 
 pub returns-in_err-positions-clause-applied : goal.returns-in_err-positions-clause-applied
@@ -42,3 +44,9 @@ returns-clause-applied g c s at =
     (rw c.in_words.ensures (store_changed facts old new s here q tt first tested (change_deviceless s) (with_preloads (names_at s.libraries c.as_slice.result.now) s)
     (ap (λ ns. with_preloads ns s) named) (done.any_moment s here) c.set_preloads.result
     (exact_answer first c.set_preloads.result (done.refused s here)) done.on_any_disk change_may (change_ample c.set_preloads.result done.on_any_disk.refusals) (done.ok s here)))
+
+pub returns-in_err-positions-clause-held : goal.returns-in_err-positions-clause-held
+returns-in_err-positions-clause-held g c = keeps_held_same g.D.Disk.facts c.args.self.now
+
+pub returns-clause-held : goal.returns-clause-held
+returns-clause-held g c = subst (λ k. KeepsHeld g.D.Disk.facts k c.set_preloads.new.self) c.self.view_is c.set_preloads.ensures.held
