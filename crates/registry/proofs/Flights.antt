@@ -16,7 +16,7 @@ use Rattle.scope.specs.Queue.{AreApart}
 use Rattle.scope.proofs.Apart.{few}
 use Rattle.scope.proofs.Queueing.{order-whole}
 use Rattle.image.specs.Byte.{byte_of}
-use Rattle.image.specs.Image.{MemoryImage, image_byte, image_of}
+use Rattle.image.specs.Image.{MemoryImage, image_of}
 use Rattle.image.specs.Refusal.{IsAnswer, IsProgramAnswer, IsFirstOrWantsMemory, WantsMemory, program_refusal}
 use Rattle.image.proofs.Answering.{program-answer}
 use Rattle.image.specs.declared.refusal.BindRefusal.{BindRefusal}

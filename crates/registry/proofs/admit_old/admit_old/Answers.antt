@@ -1,4 +1,4 @@
-use Rattle.std.proofs.Common.{◌≡◌, Ok, Err, ◌<◌, ◌+◌, length, refl, sym, subst, ◌∙◌, arith}
+use Rattle.std.proofs.Common.{◌≡◌, Ok, Err, ◌+◌, length, refl, sym, subst, ◌∙◌, arith}
 use Rattle.sector_disk.specs.Disk.{Mixture, LeavesOnly, LogGrows, AreCallsExactly}
 use Rattle.sector_disk.proofs.Moments.{more_calls, exactly_sum, exactly_logged}
 use Rattle.states.specs.Cost.{catalogues_for}

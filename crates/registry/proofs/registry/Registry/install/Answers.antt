@@ -1,4 +1,4 @@
-use Rattle.std.proofs.Common.{◌≡◌, true, false, sym, subst, ◌∙◌}
+use Rattle.std.proofs.Common.{◌≡◌, true, sym, subst, ◌∙◌}
 use Rattle.std.proofs.lemmas.Result.{err_from_is_err_and}
 use Rattle.requests.specs.Reading.{IsLibraryRefusal}
 use Rattle.states.specs.State.{names_of, has_name}
