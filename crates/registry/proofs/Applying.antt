@@ -1,8 +1,11 @@
 -- What a command does to a registry on a disk, by what the store did.
 use Rattle.std.proofs.Common.{◌≡◌, ◌≢◌, ℕ, ◌⊎◌, inl, inr, ⊎_elim, ◌<◌, List, Option, Some, None, Result, Ok, Err, IsTrue, IsFalse, refl, sym, ap, subst, ◌∙◌}
+use Rattle.std.specs.Prelude.{OnOk}
 use Rattle.std.specs.Option.{option_map}
+use Rattle.std.proofs.lemmas.Bool.{false≢true}
 use Rattle.sector_disk.specs.Disk.{Sector, DiskFacts, LeavesOnly}
 use Rattle.sector_disk.proofs.Moments.{at_rest, weaken}
+use Rattle.store.specs.Changed.{Changed}
 use Rattle.store.specs.Opened.{Opened, IsAt}
 use Rattle.store.specs.Stands as sectors
 use Rattle.store.specs.Step.{IsAnswer, IsExactAnswer, IsRefusalOfPutNew}
@@ -11,7 +14,7 @@ use Rattle.store.specs.declared.refusal.StoreRefusal.TheVariants as e
 use Rattle.states.specs.State.{State}
 use Rattle.requests.specs.Request.{Request, install, replace, remove, set_preloads, bind, list}
 use Rattle.requests.specs.Phase.{Phase}
-use Rattle.requests.specs.Step.{Step, accepted, refusal_at, reply_of, IsReply, TakesMemory, Leads, LacksWrite, LeavesFailed}
+use Rattle.requests.specs.Step.{Step, accepted, answer_of, refusal_at, reply_of, IsReply, TakesMemory, Leads, LacksWrite, LeavesFailed}
 use Rattle.requests.specs.declared.refusal.Refusal.TheVariants.{Device, Full, Fragmented, TooMany, GenerationEnd, OutOfMemory}
 use Rattle.requests.specs.declared.reply.Reply.{Reply}
 use Rattle.requests.specs.declared.reply.Reply.TheVariants.{Done, Refused}
@@ -22,6 +25,7 @@ use Rattle.registry.specs.Untested.{AppliesUntested, UntestedStep}
 use Rattle.registry.specs.Binding.{IfBound}
 use Rattle.registry.specs.Calls.{IfAccepted}
 use Rattle.registry.specs.Refusals.{refusal_of}
+use Rattle.registry.specs.inside.Reading.{in_words}
 
 pub leads_same : (p : Phase) → Leads p p.state p
 leads_same p = record { sectors = refl; failed = refl; state = refl }
@@ -138,7 +142,7 @@ module _ {D : Type 0} (facts : D → DiskFacts) (old : Opened D) (s : State) (at
     within m answer s' new_stands h = ⊎_elim inl new_stands h
 
     -- it did
-    pub change_done : (done : Unit {0}) → IsAnswer first (Ok done) → IsFalse new.failed → IsAt facts new (accepted s q) → AppliesUntested facts old new s q Done
+    change_done : (done : Unit {0}) → IsAnswer first (Ok done) → IsFalse new.failed → IsAt facts new (accepted s q) → AppliesUntested facts old new s q Done
     change_done done answer usable after = (
       accepted s q,
       record {
@@ -172,7 +176,7 @@ module _ {D : Type 0} (facts : D → DiskFacts) (old : Opened D) (s : State) (at
         )
 
     -- or it refused
-    pub change_refused : (refusal : StoreRefusal) → IsAnswer first (Err refusal) → first ≢ Some e.Device → refusal ≢ e.Reopen → IsRefusalOfPutNew refusal
+    change_refused : (refusal : StoreRefusal) → IsAnswer first (Err refusal) → first ≢ Some e.Device → refusal ≢ e.Reopen → IsRefusalOfPutNew refusal
         → (refusal ≡ e.Device → ((facts old.disk).failures < (facts new.disk).failures) × IsTrue new.failed) → (refusal ≢ e.Device → new ≡ old) → (refusal ≡ e.OutOfMemory → TakesMemory q)
         → AppliesUntested facts old new s q (Refused (refusal_of refusal))
     change_refused e.Device answer tests usable may device same memory = change_broken answer tests (device refl).0 (device refl).1
@@ -201,6 +205,27 @@ module _ {D : Type 0} (facts : D → DiskFacts) (old : Opened D) (s : State) (at
     change_refused e.Damaged answer tests usable may device same memory = absurd may
     change_refused e.BadGeometry answer tests usable may device same memory = absurd may
     change_refused e.OldFormat answer tests usable may device same memory = absurd may
+
+    -- whichever the store answered
+    change_answered : {calls : ℕ} {Refuses : StoreRefusal → Type 0} (answer : Result (Unit {0}) StoreRefusal) → IsAnswer first answer → first ≢ Some e.Device
+        → Changed facts e.Device e.Reopen old new calls Refuses answer → ((r : StoreRefusal) → Refuses r → IsRefusalOfPutNew r)
+        → (answer ≡ Err e.OutOfMemory → TakesMemory q) → OnOk answer (IsAt facts new (accepted s q)) → AppliesUntested facts old new s q (answer_of (in_words answer))
+    change_answered (Ok done) is tests changed may memory after = change_done done is changed.usable after
+    change_answered (Err r) is tests changed may memory after =
+        change_refused r is tests (λ reopens. false≢true (sym at.usable ∙ changed.reopen.0 (ap Err reopens))) (may r changed.refusals) changed.device changed.same
+        (λ lacks. memory (ap Err lacks))
+
+-- A change that the store was asked for, behind all tests but its own, of which this is the first,
+-- and which leads to this state.
+pub store_changed : {D : Type 0} (facts : D → DiskFacts) (old new : Opened D) (s : State) → IsAt facts old s → (q : Request) → IsChange q → (first : Option StoreRefusal)
+    → refusal_at (phase_of facts old s) q ≡ option_map refusal_of first → first ≢ Some e.Device → (t : State) → t ≡ accepted s q
+    → LeavesOnly (facts old.disk) (facts new.disk) (λ m. sectors.Stands m s ⊎ sectors.Stands m t)
+    → {calls : ℕ} {Refuses : StoreRefusal → Type 0} (answer : Result (Unit {0}) StoreRefusal) → IsAnswer first answer → Changed facts e.Device e.Reopen old new calls Refuses answer
+    → ((r : StoreRefusal) → Refuses r → IsRefusalOfPutNew r) → (answer ≡ Err e.OutOfMemory → TakesMemory q) → OnOk answer (IsAt facts new t)
+    → AppliesUntested facts old new s q (answer_of (in_words answer))
+store_changed facts old new s at q change first tested tests t leads leaves answer is changed may memory after =
+    change_answered facts old s at q new first change tested (subst (λ u. LeavesOnly (facts old.disk) (facts new.disk) (λ m. sectors.Stands m s ⊎ sectors.Stands m u)) leads leaves)
+    answer is tests changed may memory (subst (λ u. OnOk answer (IsAt facts new u)) leads after)
 
 -- a command and its answer by other words
 pub applies_as : {D : Type 0} (facts : D → DiskFacts) (old new : Opened D) (s : State) {q q' : Request} {r r' : Reply} → q' ≡ q → r' ≡ r

@@ -16,7 +16,7 @@ use Rattle.scope.specs.Queue.{AreApart}
 use Rattle.scope.proofs.Apart.{few}
 use Rattle.scope.proofs.Queueing.{order-whole}
 use Rattle.image.specs.Byte.{byte_of}
-use Rattle.image.specs.Image.{MemoryImage, image_byte, image_of}
+use Rattle.image.specs.Image.{MemoryImage, image_of}
 use Rattle.image.specs.Refusal.{IsAnswer, IsProgramAnswer, IsFirstOrWantsMemory, WantsMemory, program_refusal}
 use Rattle.image.proofs.Answering.{program-answer}
 use Rattle.image.specs.declared.refusal.BindRefusal.{BindRefusal}
@@ -50,7 +50,7 @@ use Rattle.registry.specs.inside.Binding.{Binding, Found, HasCome, Stays}
 use Rattle.registry.specs.inside.Reading.{IsReadRefusal, refusal_of_read}
 use Rattle.registry.specs.inside.Source.{Offers}
 use Rattle.registry.specs.inside.Stepping.{refused_step, unread_step}
-use Rattle.registry.specs.inside.Walked.{IsWalked, next_place, walked_objects, walked_refusal}
+use Rattle.registry.specs.inside.Walked.{IsBoundBy, IsWalked, next_place, walked_objects, walked_refusal}
 use Rattle.registry.proofs.Bindings.{refusal_same, objects_same}
 use Rattle.store.proofs.IsReadLemmas.{read_none}
 use Rattle.registry.proofs.FilesRead.{all_read, missing_read, order-at, place-above, library-at}
@@ -308,11 +308,10 @@ module _ {D : Type 0} (facts : D → DiskFacts) (old : Opened D) (before : Bindi
     bound : walked_objects before.program before.base files ≡ bound_objects flight.state before.program before.base
     bound = objects_same flight.state before.program before.base files needs.missing come.0 ordered lacking
 
-    pub bound_at_last : (image : MemoryImage) → walked_refusal before.program before.base needs.missing files ≡ None → image ≡ image_of (walked_objects before.program before.base files)
-        → ((a : ℕ) → image_byte image a ≡ byte_of (walked_objects before.program before.base files) a) → IsStep facts old old flight before (Ok (Final (Bound image)))
-    bound_at_last image accepted is bytes =
+    pub bound_at_last : (image : MemoryImage) → IsBoundBy before.program before.base needs.missing files (Ok image) → IsStep facts old old flight before (Ok (Final (Bound image)))
+    bound_at_last image is =
         subst (λ (f : Flight). IsStep facts old old f before (Ok (Final (Bound image)))) (own_is facts flies)
-        (at_end, (refusal ∙ accepted, is ∙ ap image_of bound, λ a. bytes a ∙ ap (λ os. byte_of os a) bound), refl)
+        (at_end, (refusal ∙ is.tested.accepted, is.ok ∙ ap image_of bound, λ a. is.bytes a ∙ ap (λ os. byte_of os a) bound), refl)
 
     last_refused : (e : BindRefusal) → walked_refusal before.program before.base needs.missing files ≡ Some e → IsStep facts old old flight before (Ok (Final (Refused (Bind e))))
     last_refused e is =

@@ -1,15 +1,29 @@
 -- The files of a bind as the objects that are bound.
-use Rattle.std.proofs.Common.{◌≡◌, ℕ, ◌+◌, ◌<◌, List, length, map, get_or, [], sym, ap, ◌∙◌, arith, suc}
+use Rattle.std.proofs.Common.{◌≡◌, ℕ, ◌+◌, ◌<◌, List, [], length, map, get_or, None, Result, IfErr, inl, inr, ⊎_elim, sym, ap, ◌∙◌, subst, arith, suc}
+use Rattle.std.specs.Prelude.{OnOk}
 use Rattle.std.proofs.lemmas.List.{length-map, get_or-map}
+use Rattle.std.proofs.lemmas.Result.{IfErr-weaker}
 use Rattle.std.proofs.lemmas.Simd.{map-map}
 use Rattle.scope.specs.LoadOrder.{available}
 use Rattle.scope.specs.Objects.{Named}
 use Rattle.scope.specs.Objects as order
+use Rattle.image.specs.Bound.{AreBound, Bound, IsBound}
+use Rattle.image.specs.Placement.{Placed, Stacked}
+use Rattle.image.specs.Refusal.{placed_refusal, IsFirstOrWantsMemory, IsPlacedAnswer}
 use Rattle.image.specs.Relocating.{file_at}
+use Rattle.image.specs.declared.refusal.BindRefusal.{BindRefusal}
 use Rattle.image.proofs.Bases.{file-placed, length-placed}
 use Rattle.requests.specs.Binding.{object_of}
 use Rattle.states.specs.State.{Library}
-use Rattle.registry.specs.inside.Walked.{walked_objects}
+use Rattle.registry.specs.inside.Walked.{IsTestedBy, walked_objects}
+
+-- what placing objects refuses is the first test that applies, or want of memory
+pub tested_as : {A : Type 0} (objects : List Placed) (answer : Result A BindRefusal) → OnOk answer (placed_refusal objects ≡ None) → IfErr answer (IsPlacedAnswer objects)
+    → IsTestedBy (placed_refusal objects) answer
+tested_as objects answer accepted refused = record {
+  accepted = accepted;
+  refused = IfErr-weaker answer (IsPlacedAnswer objects) (IsFirstOrWantsMemory (placed_refusal objects)) (λ e h. ⊎_elim (λ is. inl is) (λ lacks. inr lacks.0) h) refused;
+}
 
 -- the program, and as many as there are files
 pub count-walked : (program : List ℕ) (base : ℕ) (files : List Library) → length (walked_objects program base files) ≡ length files + 1
@@ -25,3 +39,37 @@ file-walked program base files k f within is =
     sym (file-placed base os (k + 1) ∙ ap (order.file_at os) next
     ∙ ap (λ (l : List (List ℕ)). get_or l k []) (map-map (λ (o : Named). o.file) object_of files)
     ∙ get_or-map (λ (l : Library). l.bytes) files k f [] within ∙ ap (λ (l : Library). l.bytes) (sym is))
+
+-- the file whose turn it is when these are done
+abbrev pub IsTurn : List Library → List Library → Library → Type 0
+IsTurn files done f = (length done < length files) × (f ≡ get_or files (length done) f)
+
+-- a bound object at a place, and the file of that object
+pub record IsNext (objects : List Placed) (place : ℕ) (b : Bound) (file : List ℕ) : Type 0 where
+  pub inside : place < length objects
+  pub stacked : Stacked 0 objects
+  pub bound : IsBound objects place b
+  pub same : file ≡ file_at objects place
+
+module _ (program : List ℕ) (base : ℕ) (files : List Library) (all : List Bound) (are : AreBound (walked_objects program base files) all) where
+  -- the program is next where nothing was filled,
+  pub next-program : (bound : Bound) (file : List ℕ) → bound ≡ get_or all 0 bound → file ≡ program → IsNext (walked_objects program base files) 0 bound file
+  next-program bound file is same = record {
+    inside = omega (arith, count-walked program base files);
+    stacked = are.stacked;
+    bound = subst (IsBound (walked_objects program base files) 0) (sym is) (are.each 0 bound (omega (arith, are.counted, count-walked program base files)));
+    same = same;
+  }
+
+  -- and then each file
+  module _ (done : List Library) (f : Library) (turn : IsTurn files done f) (place : ℕ) (at : place ≡ length done + 1) where
+    pub next-among : place < length all
+    next-among = omega (arith, turn.0, are.counted, count-walked program base files)
+
+    pub next-file : (bound : Bound) (file : List ℕ) → bound ≡ get_or all place bound → file ≡ f.bytes → IsNext (walked_objects program base files) place bound file
+    next-file bound file is same = record {
+      inside = omega (arith, next-among, are.counted);
+      stacked = are.stacked;
+      bound = subst (IsBound (walked_objects program base files) place) (sym is) (are.each place bound next-among);
+      same = same ∙ file-walked program base files (length done) f turn.0 turn.1 ∙ ap (file_at (walked_objects program base files)) (sym at);
+    }

@@ -20,7 +20,7 @@ use Rattle.store.specs.Opened as opened
 use Rattle.store.specs.Opening.{IsRefusalOfLook, IsRefusalOfUpgrade}
 use Rattle.store.specs.Opened.{Opened}
 use Rattle.store.specs.Stands as sectors
-use Rattle.store.specs.Step.{IsUpgradeAnswer}
+use Rattle.store.specs.Step.{IsRefusalOfCommit, IsUpgradeAnswer}
 use Rattle.store.specs.Taken.{IsRelisted}
 use Rattle.store.specs.Upgraded.{upgraded}
 use Rattle.states.specs.Cost.{catalogues_for}
@@ -115,7 +115,24 @@ refuses_looked sectors OldFormat h = absurd h
 pub refuses_admitted : (sectors : ℕ) (e : StoreRefusal) → IsGeometry sectors → (e ≡ Device) ⊎ (e ≡ Damaged) ⊎ (e ≡ OutOfMemory) → IsRefusalOfUpgrade sectors e
 refuses_admitted sectors e geometry which = ⊎_elim (λ a. rw a geometry) (λ rest. ⊎_elim (λ a. rw a geometry) (λ a. rw a geometry) rest) which
 
--- or since no root can follow.
+-- or since no root can follow: a commit was refused, or the reading before it.
+pub commit_refuses : (e : StoreRefusal) → IsRefusalOfCommit e → (e ≡ Device) ⊎ (e ≡ Damaged) ⊎ (e ≡ OutOfMemory) ⊎ (e ≡ GenerationEnd) ⊎ (e ≡ Full)
+commit_refuses Device h = inl refl
+commit_refuses GenerationEnd h = inr (inr (inr (inl refl)))
+commit_refuses Full h = inr (inr (inr (inr refl)))
+commit_refuses Reopen h = absurd h
+commit_refuses NotFormatted h = absurd h
+commit_refuses AlreadyFormatted h = absurd h
+commit_refuses Damaged h = absurd h
+commit_refuses BadGeometry h = absurd h
+commit_refuses Fragmented h = absurd h
+commit_refuses TooMany h = absurd h
+commit_refuses OutOfMemory h = absurd h
+commit_refuses OldFormat h = absurd h
+
+pub unread_refuses : (e : StoreRefusal) → (e ≡ Device) ⊎ (e ≡ Damaged) ⊎ (e ≡ OutOfMemory) → (e ≡ Device) ⊎ (e ≡ Damaged) ⊎ (e ≡ OutOfMemory) ⊎ (e ≡ GenerationEnd) ⊎ (e ≡ Full)
+unread_refuses e which = ⊎_elim (λ is. inl is) (λ rest. ⊎_elim (λ is. inr (inl is)) (λ is. inr (inr (inl is))) rest) which
+
 pub refuses_relisted : (sectors : ℕ) (e : StoreRefusal) → IsGeometry sectors → (e ≡ Device) ⊎ (e ≡ Damaged) ⊎ (e ≡ OutOfMemory) ⊎ (e ≡ GenerationEnd) ⊎ (e ≡ Full) → IsRefusalOfUpgrade sectors e
 refuses_relisted sectors e geometry which =
     ⊎_elim (λ a. rw a geometry)

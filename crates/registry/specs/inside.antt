@@ -3,6 +3,7 @@
 pub mod Binding
 pub mod Named
 pub mod Reading
+pub mod Relisting
 pub mod Source
 pub mod Stepping
 pub mod Walked

@@ -1,6 +1,6 @@
 // The files that a store holds, admitted one after the other.
-ghost use Rattle.std.specs.Prelude.{◌≡◌, ◌⊎◌, ◌<◌, sum_by, true, false, None, All, IfOk, IfErr, OnOk};
-ghost use Rattle.std.specs.Prelude.{length, slice_index_or};
+ghost use Rattle.std.specs.Prelude.{◌≡◌, ◌⊎◌, ◌<◌, true, false, None, All, IfOk, IfErr, OnOk};
+ghost use Rattle.std.specs.Prelude.{length, slice_index_or, sum_by};
 ghost use Rattle.hash_check.specs.FileRefusal.{first_file_refusal};
 ghost use Rattle.sector_disk.specs.Disk.{AreCallsExactly};
 ghost use Rattle.store.specs.declared.placed_entry.PlacedEntry.{PlacedEntry};

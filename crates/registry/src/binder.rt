@@ -1,15 +1,12 @@
 // Binders: a program is bound step by step, while the registry changes.
-ghost use Rattle.std.specs.Prelude.{◌≡◌, [], ℕ, None, IfOk, IfErr, OnOk};
-ghost use Rattle.image.specs.Byte.{byte_of};
-ghost use Rattle.image.specs.Image.{image_byte, image_of};
-ghost use Rattle.image.specs.Refusal.{IsFirstOrWantsMemory, IsProgramAnswer};
+ghost use Rattle.std.specs.Prelude.{◌≡◌, [], None, IfOk, IfErr, OnOk};
+ghost use Rattle.image.specs.Refusal.{IsProgramAnswer};
 ghost use Rattle.image.specs.Refusal.{program_refusal};
 ghost use Rattle.store.specs.Opened.{Opened};
 ghost use Rattle.registry.specs.Flying.{IsLastStep};
 ghost use Rattle.registry.specs.inside.Source.{Offers, offered};
 ghost use Rattle.registry.specs.inside.Stepping.{refused_step, unread_step};
-ghost use Rattle.registry.specs.inside.Walked.{IsAmong, IsWalked};
-ghost use Rattle.registry.specs.inside.Walked.{walked_objects, walked_refusal};
+ghost use Rattle.registry.specs.inside.Walked.{IsAmong, IsBoundBy, IsWalked};
 
 use crate::bind::refusal_of_read;
 use crate::bound::bind_walked;
@@ -89,14 +86,7 @@ fn look<D: Disk>(
 /// The last step: the program is bound with what the walk has found.
 fn answer(alloc: Global, program: &[u8], base: u64, walk: &Walk) -> Result<Image, BindRefusal>
     requires { program_refusal program.now base ≡ None }
-    ensures accepted { OnOk result
-        (walked_refusal program.now base walk.now.needs.missing walk.now.files.items ≡ None) }
-    ensures refused { IfErr result (IsFirstOrWantsMemory
-        (walked_refusal program.now base walk.now.needs.missing walk.now.files.items)) }
-    ensures ok { IfOk result (λ image. image
-        ≡ image_of (walked_objects program.now base walk.now.files.items)) }
-    ensures bytes { IfOk result (λ image. (a : ℕ) → image_byte image a
-        ≡ byte_of (walked_objects program.now base walk.now.files.items) a) }
+    ensures { IsBoundBy program.now base walk.now.needs.missing walk.now.files.items result }
 {
     let program = admit_program(alloc, program, base)?;
     bind_walked(alloc, &program, base, walk)

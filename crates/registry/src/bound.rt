@@ -1,12 +1,10 @@
 // Binding a program with the files of its load order.
-ghost use Rattle.std.specs.Prelude.{◌≡◌, ℕ, map, true, None, IfOk, IfErr, OnOk};
+ghost use Rattle.std.specs.Prelude.{◌≡◌, map, true, IfOk};
 ghost use Rattle.image.specs.Bound.{AreBound};
-ghost use Rattle.image.specs.Byte.{byte_of};
-ghost use Rattle.image.specs.Image.{image_byte, image_of};
 ghost use Rattle.image.specs.Placement.{is_good_base};
-ghost use Rattle.image.specs.Refusal.{missing_by, placed_refusal, IsFirstOrWantsMemory};
+ghost use Rattle.image.specs.Refusal.{missing_by, placed_refusal};
 ghost use Rattle.requests.specs.Binding.{object_of};
-ghost use Rattle.registry.specs.inside.Walked.{walked_objects, walked_refusal};
+ghost use Rattle.registry.specs.inside.Walked.{IsBoundBy, IsBoundWith, IsTestedBy, walked_objects};
 
 use crate::library_file::LibraryFile;
 use crate::walk::Walk;
@@ -34,14 +32,7 @@ fn bind_files(
     files: &[LibraryFile],
 ) -> Result<Image, BindRefusal>
     requires { is_good_base program.now base ≡ true }
-    ensures accepted { OnOk result
-        (placed_refusal (walked_objects program.now base files.now) ≡ None) }
-    ensures refused { IfErr result (IsFirstOrWantsMemory
-        (placed_refusal (walked_objects program.now base files.now))) }
-    ensures ok { IfOk result (λ image. image
-        ≡ image_of (walked_objects program.now base files.now)) }
-    ensures bytes { IfOk result (λ image. (a : ℕ) → image_byte image a
-        ≡ byte_of (walked_objects program.now base files.now) a) }
+    ensures { IsBoundWith program.now base files.now result }
 {
     let libraries = libraries_of(alloc, files)?;
     let order = Order::of(alloc, program, &libraries)?;
@@ -56,10 +47,8 @@ fn bound_files(
     files: &[LibraryFile],
 ) -> Result<Vec<BoundObject>, BindRefusal>
     requires { is_good_base program.now base ≡ true }
-    ensures accepted { OnOk result
-        (placed_refusal (walked_objects program.now base files.now) ≡ None) }
-    ensures refused { IfErr result (IsFirstOrWantsMemory
-        (placed_refusal (walked_objects program.now base files.now))) }
+    ensures tested { IsTestedBy
+        (placed_refusal (walked_objects program.now base files.now)) result }
     ensures bound { IfOk result (λ all.
         AreBound (walked_objects program.now base files.now) all.items) }
 {
@@ -76,14 +65,7 @@ fn bind_owned(
     files: Vec<LibraryFile>,
 ) -> Result<Image, BindRefusal>
     requires { is_good_base program.now base ≡ true }
-    ensures accepted { OnOk result
-        (placed_refusal (walked_objects program.now base files.items) ≡ None) }
-    ensures refused { IfErr result (IsFirstOrWantsMemory
-        (placed_refusal (walked_objects program.now base files.items))) }
-    ensures ok { IfOk result (λ image. image
-        ≡ image_of (walked_objects program.now base files.items)) }
-    ensures bytes { IfOk result (λ image. (a : ℕ) → image_byte image a
-        ≡ byte_of (walked_objects program.now base files.items) a) }
+    ensures { IsBoundWith program.now base files.items result }
 {
     let objects = bound_files(alloc, program, base, &files)?;
     let mut image = Image::empty(alloc).with(alloc, &objects[0], program.object())?;
@@ -116,14 +98,7 @@ pub(crate) fn bind_walked(
     walk: &Walk,
 ) -> Result<Image, BindRefusal>
     requires { is_good_base program.now base ≡ true }
-    ensures accepted { OnOk result
-        (walked_refusal program.now base walk.now.needs.missing walk.now.files.items ≡ None) }
-    ensures refused { IfErr result (IsFirstOrWantsMemory
-        (walked_refusal program.now base walk.now.needs.missing walk.now.files.items)) }
-    ensures ok { IfOk result (λ image. image
-        ≡ image_of (walked_objects program.now base walk.now.files.items)) }
-    ensures bytes { IfOk result (λ image. (a : ℕ) → image_byte image a
-        ≡ byte_of (walked_objects program.now base walk.now.files.items) a) }
+    ensures { IsBoundBy program.now base walk.now.needs.missing walk.now.files.items result }
 {
     match &walk.needs.missing {
         Some(need) => Err(missing(alloc, need)?),
@@ -139,14 +114,7 @@ pub(crate) fn bind_found(
     walk: Walk,
 ) -> Result<Image, BindRefusal>
     requires { is_good_base program.now base ≡ true }
-    ensures accepted { OnOk result
-        (walked_refusal program.now base walk.needs.missing walk.files.items ≡ None) }
-    ensures refused { IfErr result (IsFirstOrWantsMemory
-        (walked_refusal program.now base walk.needs.missing walk.files.items)) }
-    ensures ok { IfOk result (λ image. image
-        ≡ image_of (walked_objects program.now base walk.files.items)) }
-    ensures bytes { IfOk result (λ image. (a : ℕ) → image_byte image a
-        ≡ byte_of (walked_objects program.now base walk.files.items) a) }
+    ensures { IsBoundBy program.now base walk.needs.missing walk.files.items result }
 {
     let Walk { needs, files } = walk;
     match &needs.missing {

@@ -1,5 +1,5 @@
 // The changes that take neither memory nor a file: the tests of a command, then the store's call.
-use crate::refusal::refusal_of;
+use crate::refusal::in_words;
 use crate::registry::Registry;
 use arrayvec::ArrayVec;
 use requests::{Refusal, are_too_many, has_repeat};
@@ -82,10 +82,7 @@ impl<D: Disk> Registry<D> {
             IsRemoveRefusal result }
     {
         self.test_remove(name)?;
-        match self.store.delete(name) {
-            Ok(()) => Ok(()),
-            Err(refusal) => Err(refusal_of(refusal)),
-        }
+        in_words(self.store.delete(name))
     }
 
     /// The positions of the libraries of these names, or none where one isn't installed.
@@ -158,9 +155,6 @@ impl<D: Disk> Registry<D> {
             self.old self.new 2 IsPreloadsRefusal result }
     {
         let positions = self.test_preloads(names)?;
-        match self.store.set_preloads(positions.as_slice()) {
-            Ok(()) => Ok(()),
-            Err(refusal) => Err(refusal_of(refusal)),
-        }
+        in_words(self.store.set_preloads(positions.as_slice()))
     }
 }

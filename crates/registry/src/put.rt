@@ -1,5 +1,5 @@
 // Putting a library: behind the others, or in the place of the one of its name.
-use crate::refusal::refusal_of;
+use crate::refusal::in_words;
 use crate::registry::Registry;
 use requests::{Refusal, library_name};
 use sector_disk::Disk;
@@ -39,10 +39,7 @@ impl<D: Disk> Registry<D> {
         if self.store.position(name).is_some() {
             return Err(Refusal::AlreadyInstalled);
         }
-        match self.store.put_new(name, bytes) {
-            Ok(()) => Ok(()),
-            Err(refusal) => Err(refusal_of(refusal)),
-        }
+        in_words(self.store.put_new(name, bytes))
     }
 
     /// Replaces a library's file, which keeps its place. The sectors of the old one are free once
@@ -66,9 +63,6 @@ impl<D: Disk> Registry<D> {
         if self.store.position(name).is_none() {
             return Err(Refusal::NotInstalled);
         }
-        match self.store.put_over(name, bytes) {
-            Ok(()) => Ok(()),
-            Err(refusal) => Err(refusal_of(refusal)),
-        }
+        in_words(self.store.put_over(name, bytes))
     }
 }

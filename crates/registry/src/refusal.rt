@@ -1,13 +1,14 @@
-// The refusals of the store in the words of a registry.
-ghost use Rattle.std.specs.Prelude.{◌≡◌};
+// The answers of the store in the words of a registry.
+ghost use Rattle.std.specs.Prelude.{◌≡◌, IfErr};
 ghost use Rattle.store.specs.Step.{IsRefusalOfPutNew};
 ghost use Rattle.registry.specs.Refusals.{refusal_of};
+ghost use Rattle.registry.specs.inside.Reading.{in_words};
 
 use requests::Refusal;
 use store::StoreRefusal;
 
 /// Why the store refuses a change, in the registry's word for it.
-pub(crate) fn refusal_of(refusal: StoreRefusal) -> Refusal
+fn refusal_of(refusal: StoreRefusal) -> Refusal
     requires { IsRefusalOfPutNew refusal }
     ensures { result ≡ refusal_of refusal }
 {
@@ -24,5 +25,16 @@ pub(crate) fn refusal_of(refusal: StoreRefusal) -> Refusal
         | StoreRefusal::Damaged
         | StoreRefusal::BadGeometry
         | StoreRefusal::OldFormat => unreachable!(),
+    }
+}
+
+/// What the store answers to a change, in the registry's words.
+pub(crate) fn in_words(answer: Result<(), StoreRefusal>) -> Result<(), Refusal>
+    requires { IfErr answer IsRefusalOfPutNew }
+    ensures { result ≡ in_words answer }
+{
+    match answer {
+        Ok(()) => Ok(()),
+        Err(refusal) => Err(refusal_of(refusal)),
     }
 }

@@ -1,19 +1,18 @@
 // The walk of a bind through the files of its load order.
-ghost use Rattle.std.specs.Prelude.{◌≡◌, ◌<◌, ◌≤◌, ◌+◌, ◌-◌, ◌++◌, ◌∷◌, [], ℕ, List, length};
-ghost use Rattle.std.specs.Prelude.{get_or, slice_index_or, true, false, All, IfOk};
+ghost use Rattle.std.specs.Prelude.{◌≡◌, ◌<◌, ◌≤◌, ◌+◌, ◌-◌, [], ℕ, List, length};
+ghost use Rattle.std.specs.Prelude.{get_or, slice_index_or, true, false, IfOk};
 ghost use Rattle.std.specs.Prelude.{IfErr, OnOk, OnErr};
-ghost use Rattle.sector_disk.specs.Disk.{AreCallsAtMost, AreCallsExactly};
+ghost use Rattle.sector_disk.specs.Disk.{AreCallsAtMost};
 ghost use Rattle.scope.specs.Queue.{AreApart};
 ghost use Rattle.store.specs.Opened.{Opened, IsAt};
 ghost use Rattle.store.specs.Stands.{no_library};
 ghost use Rattle.store.specs.declared.placed_entry.PlacedEntry.{PlacedEntry};
-ghost use Rattle.states.specs.State.{Library, State};
+ghost use Rattle.states.specs.State.{State};
 ghost use Rattle.requests.specs.Library.{IsLibrary};
-ghost use Rattle.registry.specs.Binding.{data_sectors};
 ghost use Rattle.store.specs.IsRead.{IsRead, file_sectors};
 ghost use Rattle.registry.specs.inside.Reading.{IsReadRefusal};
-ghost use Rattle.registry.specs.inside.Source.{HasEntries, HasFiles, Offers, offered};
-ghost use Rattle.registry.specs.inside.Walked.{ArePlaces, IsAmong, IsWalked, next_place};
+ghost use Rattle.registry.specs.inside.Source.{HasEntries, Offers, offered};
+ghost use Rattle.registry.specs.inside.Walked.{HasReadNext, IsAmong, IsWalked, next_place};
 
 use crate::library_file::LibraryFile;
 use crate::needs::Needs;
@@ -108,16 +107,8 @@ impl Walk {
             → IsWalked D.facts program taken self.old.needs self.old.files.items
             → OnOk result
             (IsWalked D.facts program taken self.new.needs self.new.files.items) }
-
-        // One file more is read: which one, and how many sectors it takes.
-        ensures further { OnOk result ((file : Library)
-            × (self.new.files.items ≡ self.old.files.items ++ file ∷ [])
-            × ((s : State) → HasFiles D.facts source.entry store.old s → file
-            ≡ slice_index_or s.libraries
-            (next_place self.old.needs self.old.files.items - 1) no_library)
-            × ((entries : List PlacedEntry) → HasEntries source.entry store.old entries
-            → AreCallsExactly (data_sectors file.bytes)
-            (D.facts store.old.disk) (D.facts store.new.disk))) }
+        ensures next { OnOk result (HasReadNext D.facts source.entry store.old store.new
+            self.old.needs self.old.files.items self.new.files.items) }
         ensures calls { (entries : List PlacedEntry) → HasEntries source.entry store.old entries
             → (d : PlacedEntry) → AreCallsAtMost (file_sectors (slice_index_or entries
             (next_place self.old.needs self.old.files.items - 1) d))
@@ -127,8 +118,6 @@ impl Walk {
         ensures same { OnErr result ((self.new.needs ≡ self.old.needs)
             × (self.new.files.items ≡ self.old.files.items)) }
         ensures read { IsRead D.facts store.old store.new }
-        ensures libraries { OnOk result (All IsLibrary self.old.files.items
-            → All IsLibrary self.new.files.items) }
         ensures damaged { (s : State) → (taken : Opened D)
             → Offers D.facts source.entry taken store.old → IsAt D.facts taken s
             → IfErr result (λ e. e ≡ StoreRefusal.Damaged → IsLibrary (slice_index_or s.libraries

@@ -1,11 +1,12 @@
--- How reading the files of a store is refused.
-use Rattle.std.specs.Prelude.{◌<◌, IsTrue}
+-- What a store answers to reading and to changes, in the registry's words.
+use Rattle.std.specs.Prelude.{◌<◌, IsTrue, Result, Ok, Err}
 use Rattle.sector_disk.specs.Disk.{DiskFacts}
 use Rattle.store.specs.Opened.{Opened}
 use Rattle.store.specs.declared.refusal.StoreRefusal.{StoreRefusal}
 use Rattle.store.specs.declared.refusal.StoreRefusal.TheVariants.{Device, Reopen, Damaged, OutOfMemory}
 use Rattle.requests.specs.declared.refusal.Refusal.{Refusal}
 use Rattle.requests.specs.declared.refusal.Refusal.TheVariants as registry
+use Rattle.registry.specs.Refusals.{refusal_of}
 
 -- what it may be refused with, on any disk
 abbrev pub IsReadRefusal : {D : Type 0} → (D → DiskFacts) → Opened D → Opened D → StoreRefusal → Type 0
@@ -21,3 +22,8 @@ refusal_of_read Device = registry.Device
 refusal_of_read Reopen = registry.Reopen
 refusal_of_read OutOfMemory = registry.OutOfMemory
 refusal_of_read other = registry.Damaged
+
+-- what it answers to a change
+abbrev pub in_words : Result (Unit {0}) StoreRefusal → Result (Unit {0}) Refusal
+in_words (Ok done) = Ok done
+in_words (Err refusal) = Err (refusal_of refusal)

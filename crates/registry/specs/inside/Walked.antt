@@ -1,21 +1,30 @@
 -- What a bind has found on its walk through the files of its load order.
-use Rattle.std.specs.Prelude.{◌≡◌, ℕ, ◌+◌, ◌<◌, List, [], ◌∷◌, length, map, take, drop, get_or, Option, Some}
+use Rattle.std.specs.Prelude.{◌≡◌, ℕ, ◌+◌, ◌-◌, ◌<◌, List, [], ◌∷◌, ◌++◌, length, map, take, drop, get_or, slice_index_or}
+use Rattle.std.specs.Prelude.{Option, Some, None, Result, IfOk, IfErr, OnOk}
 use Rattle.std.specs.List.{filter_map, flat_map, find}
 use Rattle.std.specs.Option.{option_map, option_or}
-use Rattle.sector_disk.specs.Disk.{DiskFacts}
+use Rattle.sector_disk.specs.Disk.{DiskFacts, AreCallsExactly}
 use Rattle.elf_file.specs.FirstOf.{first_of}
 use Rattle.scope.specs.LoadOrder.{Need, available, place_of, needs_of, level_0, object_at, needed_by, is_missing}
 use Rattle.scope.specs.Queue.{Queue}
 use Rattle.scope.specs.inside.Growing.{grown}
 use Rattle.scope.specs.inside.Reached.{Reached}
+use Rattle.image.specs.Byte.{byte_of}
+use Rattle.image.specs.Image.{MemoryImage, image_byte, image_of}
 use Rattle.image.specs.Placement.{Placed, place}
-use Rattle.image.specs.Refusal.{placed_refusal, missing_by}
+use Rattle.image.specs.Refusal.{placed_refusal, missing_by, IsFirstOrWantsMemory}
 use Rattle.image.specs.declared.refusal.BindRefusal.{BindRefusal}
 use Rattle.store.specs.Opened.{Opened, IsAt}
+use Rattle.store.specs.Stands.{no_library}
+use Rattle.store.specs.declared.placed_entry.PlacedEntry.{PlacedEntry}
 use Rattle.requests.specs.Binding.{object_of, objects, preload_numbers}
+use Rattle.requests.specs.Library.{IsLibrary}
 use Rattle.states.specs.State.{Library, State}
 use Rattle.store.specs.NameOrder.{entry_names}
+use Rattle.registry.specs.Binding.{data_sectors}
 use Rattle.registry.specs.declared.needs.Needs.{Needs}
+use Rattle.registry.specs.declared.source.Source.{Source}
+use Rattle.registry.specs.inside.Source.{HasEntries, HasFiles}
 
 -- what is needed after an object that needs these too: the places of the names that files go by,
 -- and the first missing name
@@ -59,6 +68,15 @@ pub record IsWalked {D : Type 0} (facts : D → DiskFacts) (program : List ℕ) 
   pub reached : (s : State) → IsAt facts taken s
       → Reached (needs_of program (objects s)) (length (available program (objects s))) (level_0 (preload_numbers s)) needs.places.places (length files + 1)
 
+-- The file of the next place was read behind the others, by a call for each of its sectors, and is
+-- a library.
+pub record HasReadNext {D : Type 0} (facts : D → DiskFacts) (source : Source) (old new : Opened D) (needs : Needs) (files more : List Library) : Type 0 where
+  pub file : Library
+  pub behind : more ≡ files ++ file ∷ []
+  pub library : IsLibrary file
+  pub is : (s : State) → HasFiles facts source old s → file ≡ slice_index_or s.libraries (next_place needs files - 1) no_library
+  pub calls : (entries : List PlacedEntry) → HasEntries source old entries → AreCallsExactly (data_sectors file.bytes) (facts old.disk) (facts new.disk)
+
 -- a program and the files that were read, in memory
 abbrev pub walked_objects : List ℕ → ℕ → List Library → List Placed
 walked_objects program base files = place base (available program (map object_of files))
@@ -67,3 +85,22 @@ walked_objects program base files = place base (available program (map object_of
 abbrev pub walked_refusal : List ℕ → ℕ → Option Need → List Library → Option BindRefusal
 walked_refusal program base missing files =
     first_of (option_map missing_by missing ∷ placed_refusal (walked_objects program base files) ∷ [])
+
+-- an answer behind tests, of which this is the first that applies
+pub record IsTestedBy {A : Type 0} (first : Option BindRefusal) (answer : Result A BindRefusal) : Type 0 where
+  pub accepted : OnOk answer (first ≡ None)
+  pub refused : IfErr answer (IsFirstOrWantsMemory first)
+
+-- the image of these objects, where no test applies
+pub record IsImageOf (first : Option BindRefusal) (objects : List Placed) (answer : Result MemoryImage BindRefusal) : Type 0 where
+  pub tested : IsTestedBy first answer
+  pub ok : IfOk answer (λ image. image ≡ image_of objects)
+  pub bytes : IfOk answer (λ image. (a : ℕ) → image_byte image a ≡ byte_of objects a)
+
+-- what binding a program with the files of its load order answers: from B4 on
+abbrev pub IsBoundWith : List ℕ → ℕ → List Library → Result MemoryImage BindRefusal → Type 0
+IsBoundWith program base files answer = IsImageOf (placed_refusal (walked_objects program base files)) (walked_objects program base files) answer
+
+-- what binding it with what a walk has found answers: from B3 on
+abbrev pub IsBoundBy : List ℕ → ℕ → Option Need → List Library → Result MemoryImage BindRefusal → Type 0
+IsBoundBy program base missing files answer = IsImageOf (walked_refusal program base missing files) (walked_objects program base files) answer

@@ -1,7 +1,8 @@
-use Rattle.std.proofs.Common.{◌<◌, ◌≤◌, length, sym, ◌∙◌, arith}
+use Rattle.std.proofs.Common.{◌<◌, ◌≤◌, length, sym, subst, ◌∙◌, arith}
 use Rattle.std.proofs.lemmas.Result.{err_from_is_err_and}
 use Rattle.store.proofs.IsReadLemmas.{read_more}
-use Rattle.registry.proofs.Files.{one_admitted, one_refused, all_admitted}
+use Rattle.registry.specs.inside.Reading.{IsReadRefusal}
+use Rattle.registry.proofs.Files.{one_admitted, one_refused, all_admitted, refused_more}
 use Rattle.registry.proofs.admit.admit_files.Goals as goal
 
 pub returns-in_err-buffer-clause-read : goal.returns-in_err-buffer-clause-read
@@ -22,3 +23,9 @@ pub returns-clause-ok : goal.returns-clause-ok
 returns-clause-ok g c s at =
     let le : length s.libraries ≤ c.loop-position.position = omega (arith, c.loop-position-test.false, c.count-position-end.ensures.state s at) in
     all_admitted c.loop-position.invariant s at le
+
+pub returns-in_err-buffer-clause-refusals : goal.returns-in_err-buffer-clause-refusals
+returns-in_err-buffer-clause-refusals g c =
+    let p = err_from_is_err_and c.from_residual.result c.from_residual.ensures.1 in
+    rw p.1 (refused_more c.admit_at.new.store p.0 c.loop-position.invariant.read
+    (subst (IsReadRefusal g.D.Disk.facts c.loop-position.store c.admit_at.new.store) (sym p.2) c.in_err-buffer.ensures.refusals))

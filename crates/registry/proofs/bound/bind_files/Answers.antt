@@ -1,18 +1,16 @@
-use Rattle.std.proofs.Common.{◌≡◌, List, map, IfErr, inl, inr, ap, subst, ◌∙◌, ⊎_elim}
-use Rattle.std.proofs.lemmas.Result.{IfErr-weaker}
+use Rattle.std.proofs.Common.{List, ap, subst, ◌∙◌}
 use Rattle.scope.specs.LoadOrder.{available}
 use Rattle.scope.specs.Objects.{Named}
 use Rattle.image.specs.Placement.{place}
-use Rattle.image.specs.Refusal.{IsPlacedAnswer, IsFirstOrWantsMemory, placed_refusal}
-use Rattle.requests.specs.Binding.{object_of}
-use Rattle.registry.specs.inside.Walked.{walked_objects}
+use Rattle.image.specs.Refusal.{placed_refusal}
+use Rattle.registry.specs.inside.Walked.{IsImageOf}
+use Rattle.registry.proofs.Owned.{tested_as}
 use Rattle.registry.proofs.bound.bind_files.Goals as goal
 
-pub returns-clause-refused : goal.returns-clause-refused
-returns-clause-refused c =
-    let objects = walked_objects c.args.program.now c.args.base c.args.files.now in
-    let is : c.in_ok-order.order ≡ available c.args.program.now (map object_of c.args.files.now) =
-    c.in_ok-order.ensures ∙ ap (available c.args.program.now) (c.deref.ensures.value ∙ c.in_ok-libraries.ensures) in
-    IfErr-weaker c.bind.result (IsPlacedAnswer objects) (IsFirstOrWantsMemory (placed_refusal objects))
-    (λ e h. ⊎_elim (λ refused. inl refused) (λ lacks. inr lacks.0) h)
-    (subst (λ (os : List Named). IfErr c.bind.result (IsPlacedAnswer (place c.args.base os))) is c.bind.ensures.refused)
+pub returns : goal.returns
+returns c =
+    let placed = place c.args.base c.in_ok-order.order in
+    let e = c.bind.ensures in
+    subst (λ (os : List Named). IsImageOf (placed_refusal (place c.args.base os)) (place c.args.base os) c.bind.result)
+    (c.in_ok-order.ensures ∙ ap (available c.args.program.now) (c.deref.ensures.value ∙ c.in_ok-libraries.ensures))
+    (record { tested = tested_as placed c.bind.result e.accepted e.refused; ok = e.ok; bytes = e.bytes })

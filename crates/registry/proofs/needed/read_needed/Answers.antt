@@ -1,30 +1,30 @@
 use Rattle.std.proofs.Common.{◌≡◌, ◌+◌, ◌∙◌, length, refl, sym, ap, subst, arith}
-use Rattle.std.specs.Prelude.{All}
 use Rattle.std.proofs.lemmas.List.{length_push}
+use Rattle.std.proofs.lemmas.List.Elements.{All-push}
 use Rattle.std.proofs.lemmas.Result.{err_from_is_err_and}
 use Rattle.scope.specs.Queue.{AreApart}
 use Rattle.requests.specs.Library.{IsLibrary}
 use Rattle.registry.specs.inside.Walked.{IsWalked}
-use Rattle.store.proofs.IsReadLemmas.{read_more}
+use Rattle.store.proofs.IsReadLemmas.{read_more, read_none}
 use Rattle.registry.proofs.FilesRead.{all_read, libraries_read, missing_read, next_is_library}
 use Rattle.registry.proofs.Sources.{HasCome, come_more, come_offers}
 use Rattle.registry.proofs.needed.read_needed.Goals as goal
 
 pub loop-source-preserved : goal.loop-source-preserved
 loop-source-preserved g c =
-    let more = c.in_ok-step.ensures.further in
+    let more = c.in_ok-step.ensures.next in
     let come = c.loop-source.invariant in
     let offers = come_offers g.D.Disk.facts come in
     let walked = c.in_ok-step.ensures.walked c.args.program.now c.args.store.now offers come.walked in
-    subst (HasCome g.D.Disk.facts c.args.program.now c.args.store.now c.step.new.store c.step.new.self.needs) (sym more.1)
-    (come_more g.D.Disk.facts come c.step.ensures.read more.0 (subst (All IsLibrary) more.1 (c.in_ok-step.ensures.libraries come.libraries))
-    (subst (IsWalked g.D.Disk.facts c.args.program.now c.args.store.now c.step.new.self.needs) more.1 walked)
-    (more.3 c.args.store.now.entries offers.entries))
+    subst (HasCome g.D.Disk.facts c.args.program.now c.args.store.now c.step.new.store c.step.new.self.needs) (sym more.behind)
+    (come_more g.D.Disk.facts come c.step.ensures.read more.file (All-push IsLibrary c.loop-source.walk.files.items more.file come.libraries more.library)
+    (subst (IsWalked g.D.Disk.facts c.args.program.now c.args.store.now c.step.new.self.needs) more.behind walked)
+    (more.calls c.args.store.now.entries offers.entries))
 
 pub loop-source-smaller : goal.loop-source-smaller
 loop-source-smaller g c =
-    let more = c.in_ok-step.ensures.further in
-    let longer : length c.step.new.self.files.items ≡ length c.loop-source.walk.files.items + 1 = ap length more.1 ∙ length_push c.loop-source.walk.files.items more.0 in
+    let more = c.in_ok-step.ensures.next in
+    let longer : length c.step.new.self.files.items ≡ length c.loop-source.walk.files.items + 1 = ap length more.behind ∙ length_push c.loop-source.walk.files.items more.file in
     omega (arith, longer, c.loop-source-test.ensures.few, c.loop-source.invariant.walked.among.places.limit, c.loop-source.invariant.walked.among.within)
 
 pub returns-in_err-step-clause-read : goal.returns-in_err-step-clause-read
@@ -52,3 +52,12 @@ returns-clause-ok g c s at =
 pub returns-clause-missing : goal.returns-clause-missing
 returns-clause-missing g c s at =
     missing_read g.D.Disk.facts c.args.program.now c.args.store.now (g.met.D.Disk.holds_now c.args.store.now.disk) c.loop-source.invariant.walked (c.loop-source-test.ensures.no refl) s at
+
+pub returns-in_err-walk-clause-read : goal.returns-in_err-walk-clause-read
+returns-in_err-walk-clause-read g c = read_none c.args.store.now
+
+pub returns-clause-read : goal.returns-clause-read
+returns-clause-read g c = c.loop-source.invariant.read
+
+pub returns-clause-all_calls : goal.returns-clause-all_calls
+returns-clause-all_calls g c = c.loop-source.invariant.calls

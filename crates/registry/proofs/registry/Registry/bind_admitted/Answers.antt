@@ -38,7 +38,7 @@ returns-in_err-image-clause-step g c s at =
     let p = err_from_is_err_and c.from_residual.result c.from_residual.ensures.1 in
     rw (p.1, p.2) (refused g.D.Disk.facts c.args.self.now c.read_needed.new.store s read at c.args.program.now c.args.base c.in_err-image.field-0.0
     (answer_same s c.args.program.now c.args.base walk.files.items walk.needs.missing c.requires (c.in-Ok.ensures.ok s here) (c.in-Ok.ensures.missing s here)
-    c.in_err-image.field-0.0 c.in_err-image.ensures.refused) (λ behind. c.in-Ok.ensures.libraries s here))
+    c.in_err-image.field-0.0 c.in_err-image.ensures.tested.refused) (λ behind. c.in-Ok.ensures.libraries s here))
 
 pub returns-clause-step : goal.returns-clause-step
 returns-clause-step g c s at =
@@ -49,7 +49,7 @@ returns-clause-step g c s at =
     let lacking = c.in-Ok.ensures.missing s here in
     let same = objects_same s c.args.program.now c.args.base walk.files.items walk.needs.missing c.requires ordered lacking in
     bound g.D.Disk.facts c.args.self.now c.read_needed.new.store s read at c.args.program.now c.args.base c.in_ok-image.image
-    (refusal_same s c.args.program.now c.args.base walk.files.items walk.needs.missing c.requires ordered lacking ∙ c.in_ok-image.ensures.accepted)
+    (refusal_same s c.args.program.now c.args.base walk.files.items walk.needs.missing c.requires ordered lacking ∙ c.in_ok-image.ensures.tested.accepted)
     (c.in_ok-image.ensures.ok ∙ ap image_of same)
     (λ a. c.in_ok-image.ensures.bytes a ∙ ap (λ os. byte_of os a) same) (c.in-Ok.ensures.libraries s here)
 
@@ -61,3 +61,12 @@ returns-clause-all_calls g c s at =
     (sectors_read s c.args.program.now c.args.base walk.files.items walk.needs.missing c.requires (c.in-Ok.ensures.ok s here) (c.in-Ok.ensures.missing s here))
     (subst (λ k. AreCallsExactly (sum_by (λ (f : Library). data_sectors f.bytes) walk.files.items) (g.D.Disk.facts k.disk)
     (g.D.Disk.facts c.read_needed.new.store.disk)) c.self.view_is c.in-Ok.ensures.all_calls)
+
+pub returns-in-Err-clause-read : goal.returns-in-Err-clause-read
+returns-in-Err-clause-read g c = subst (λ k. IsRead g.D.Disk.facts k c.read_needed.new.store) c.self.view_is c.read_needed.ensures.read
+
+pub returns-in_err-image-clause-read : goal.returns-in_err-image-clause-read
+returns-in_err-image-clause-read g c = subst (λ k. IsRead g.D.Disk.facts k c.read_needed.new.store) c.self.view_is c.read_needed.ensures.read
+
+pub returns-clause-read : goal.returns-clause-read
+returns-clause-read g c = subst (λ k. IsRead g.D.Disk.facts k c.read_needed.new.store) c.self.view_is c.read_needed.ensures.read

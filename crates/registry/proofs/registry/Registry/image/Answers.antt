@@ -1,9 +1,10 @@
-use Rattle.std.proofs.Common.{subst}
+use Rattle.std.proofs.Common.{IfOk, subst}
 use Rattle.std.proofs.lemmas.Result.{err_from_is_err_and}
+use Rattle.sector_disk.specs.Disk.{AreCallsExactly}
 use Rattle.image.proofs.Answering.{program-answer}
 use Rattle.requests.specs.Binding.{objects, preload_numbers}
 use Rattle.requests.specs.Request.{bind}
-use Rattle.registry.specs.Binding.{bound_answer}
+use Rattle.registry.specs.Binding.{bind_sectors, bound_answer}
 use Rattle.registry.specs.Phase.{phase_of}
 use Rattle.registry.specs.Untested.{UntestedStep}
 use Rattle.registry.proofs.Bindings.{alone, refused}
@@ -21,3 +22,17 @@ pub returns-clause-step : goal.returns-clause-step
 returns-clause-step g c s at =
     subst (λ f. UntestedStep (phase_of g.D.Disk.facts c.args.self.now s) (bind f c.args.base) (bound_answer c.bind_admitted.result) (phase_of g.D.Disk.facts c.bind_admitted.new.self s))
     c.in_ok-program.ensures.same (c.bind_admitted.ensures.step s at)
+
+pub returns-then-has_failed-clause-read : goal.returns-then-has_failed-clause-read
+returns-then-has_failed-clause-read g c = read_none c.args.self.now
+
+pub returns-in_err-program-clause-read : goal.returns-in_err-program-clause-read
+returns-in_err-program-clause-read g c = read_none c.args.self.now
+
+pub returns-clause-read : goal.returns-clause-read
+returns-clause-read g c = c.bind_admitted.ensures.read
+
+pub returns-clause-all_calls : goal.returns-clause-all_calls
+returns-clause-all_calls g c s at =
+    subst (λ f. IfOk c.bind_admitted.result (λ _. AreCallsExactly (bind_sectors s f) (g.D.Disk.facts c.args.self.now.disk) (g.D.Disk.facts c.bind_admitted.new.self.disk)))
+    c.in_ok-program.ensures.same (c.bind_admitted.ensures.all_calls s at)

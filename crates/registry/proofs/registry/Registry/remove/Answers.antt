@@ -1,8 +1,8 @@
-use Rattle.std.proofs.Common.{◌≡◌, Ok, Err, sym, ap, subst, ◌∙◌}
+use Rattle.std.proofs.Common.{◌≡◌, Err, refl, sym, ap, subst, ◌∙◌}
 use Rattle.std.specs.Option.{option_map}
-use Rattle.std.proofs.lemmas.Bool.{false≢true}
 use Rattle.std.proofs.lemmas.Result.{err_from_is_err_and}
-use Rattle.store.specs.Step.{refusal_of_change, IsRefusalOfChange}
+use Rattle.states.specs.Changes.{without}
+use Rattle.store.specs.Step.{refusal_of_change}
 use Rattle.requests.specs.Request.{remove}
 use Rattle.requests.specs.Step.{answer_of, refusal_at}
 use Rattle.requests.specs.declared.reply.Reply.TheVariants.{Refused}
@@ -10,10 +10,11 @@ use Rattle.registry.specs.Untested.{AppliesUntested}
 use Rattle.store.specs.Opened.{IsAt}
 use Rattle.registry.specs.Phase.{phase_of}
 use Rattle.registry.specs.Refusals.{refusal_of}
-use Rattle.registry.proofs.Applying.{untouched, exact_answer, change_done, change_refused}
-use Rattle.registry.proofs.Changed.{change_may}
+use Rattle.registry.proofs.Applying.{untouched, exact_answer, store_changed}
+use Rattle.registry.proofs.Changed.{change_ample, change_may}
 use Rattle.registry.proofs.Tested.{last_change, change_deviceless}
-use Rattle.registry.proofs.registry.Registry.remove.Goals.{in-Ok, in-Err}
+use Rattle.store.specs.HeldVersions.{KeepsHeld}
+use Rattle.registry.proofs.Keeping.{keeps_held_same}
 use Rattle.registry.proofs.registry.Registry.remove.Goals as goal
 
 pub returns-in_err-test_remove-clause-applied : goal.returns-in_err-test_remove-clause-applied
@@ -29,22 +30,18 @@ returns-clause-applied g c s at =
     let facts = g.D.Disk.facts in
     let old = c.self.inside.store in
     let new = c.delete.new.self in
-    let name = c.args.name.now in
+    let q = remove c.args.name.now in
     let here : IsAt facts old s = subst (λ r. IsAt facts r s) (sym c.self.view_is) at in
     let first = refusal_of_change s in
-    let tested : refusal_at (phase_of facts old s) (remove name) ≡ option_map refusal_of first =
-    subst (λ r. refusal_at (phase_of facts r s) (remove name) ≡ option_map refusal_of first) (sym c.self.view_is)
-    (c.in_ok-test_remove.ensures.ok s at ∙ last_change (phase_of facts c.args.self.now s)) in
-    let leaves = c.delete.ensures.any_moment s here in
-    subst (λ r. AppliesUntested facts r new s (remove name) (answer_of c.match-delete.result)) c.self.view_is
-    (elim c.match-delete.branch [
-      | in-Ok w ↦ subst (λ r. AppliesUntested facts old new s (remove name) (answer_of r)) (sym w.result-is)
-          (change_done facts old s here (remove name) new first tt tested leaves w.in-Ok.field-0
-          (exact_answer first (Ok w.in-Ok.field-0) (w.in-Ok.ensures.refused s here)) w.in-Ok.ensures.on_any_disk.usable
-          (w.in-Ok.ensures.ok s here))
-      | in-Err w ↦ subst (λ r. AppliesUntested facts old new s (remove name) (answer_of r)) (sym (w.result-is ∙ ap Err w.refusal_of.ensures))
-          (change_refused facts old s here (remove name) new first tt tested leaves w.in-Err.refusal
-          (exact_answer first (Err w.in-Err.refusal) (w.in-Err.ensures.refused s here)) (change_deviceless s)
-          (λ is. false≢true (sym here.usable ∙ w.in-Err.ensures.on_any_disk.reopen.0 (ap Err is))) (change_may w.in-Err.refusal w.in-Err.ensures.on_any_disk.refusals)
-          w.in-Err.ensures.on_any_disk.device w.in-Err.ensures.on_any_disk.same (λ is. subst IsRefusalOfChange is w.in-Err.ensures.on_any_disk.refusals))
-    ])
+    let tested : refusal_at (phase_of facts old s) q ≡ option_map refusal_of first =
+    subst (λ r. refusal_at (phase_of facts r s) q ≡ option_map refusal_of first) (sym c.self.view_is) (c.in_ok-test_remove.ensures.ok s at ∙ last_change (phase_of facts c.args.self.now s)) in
+    let done = c.delete.ensures in
+    subst (λ r. AppliesUntested facts r new s q (answer_of c.in_words.result)) c.self.view_is
+    (rw c.in_words.ensures (store_changed facts old new s here q tt first tested (change_deviceless s) (without c.args.name.now s) refl (done.any_moment s here) c.delete.result
+    (exact_answer first c.delete.result (done.refused s here)) done.on_any_disk change_may (change_ample c.delete.result done.on_any_disk.refusals) (done.ok s here)))
+
+pub returns-in_err-test_remove-clause-held : goal.returns-in_err-test_remove-clause-held
+returns-in_err-test_remove-clause-held g c = keeps_held_same g.D.Disk.facts c.args.self.now
+
+pub returns-clause-held : goal.returns-clause-held
+returns-clause-held g c = subst (λ k. KeepsHeld g.D.Disk.facts k c.delete.new.self) c.self.view_is c.delete.ensures.held

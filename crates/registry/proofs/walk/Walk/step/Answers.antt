@@ -1,10 +1,11 @@
 use Rattle.std.proofs.Common.{◌≡◌, ◌+◌, ◌-◌, ◌++◌, ◌∷◌, [], ℕ, List, length, get_or, sym, ap, subst, ◌∙◌}
-use Rattle.std.specs.Prelude.{All}
-use Rattle.std.proofs.lemmas.List.Elements.{All-push}
 use Rattle.std.proofs.lemmas.Result.{err_from_is_err_and}
+use Rattle.sector_disk.specs.Disk.{DiskFacts, AreCallsAtMost}
 use Rattle.elf_dynamic.specs.Strings.{needed}
 use Rattle.scope.specs.Queue.{AreApart}
+use Rattle.store.specs.IsRead.{file_sectors}
 use Rattle.store.specs.Stands.{no_library}
+use Rattle.store.specs.declared.placed_entry.PlacedEntry.{PlacedEntry}
 use Rattle.requests.specs.Library.{IsLibrary}
 use Rattle.states.specs.State.{Library}
 use Rattle.registry.specs.declared.needs.Needs.{Needs}
@@ -14,18 +15,17 @@ use Rattle.registry.proofs.FilesRead.{one_read}
 use Rattle.registry.proofs.Sources.{entries_read}
 use Rattle.registry.proofs.walk.Walk.step.Goals as goal
 
+-- the calls for the file of a place
+calls_at : {old new : DiskFacts} (position next : ℕ) → position ≡ next → (entries : List PlacedEntry) (d : PlacedEntry) → AreCallsAtMost (file_sectors (get_or entries position d)) old new
+    → AreCallsAtMost (file_sectors (get_or entries next d)) old new
+calls_at {old = old} {new = new} position next is entries d calls = subst (λ k. AreCallsAtMost (file_sectors (get_or entries k d)) old new) is calls
+
 pub returns-in_err-file-clause-damaged : goal.returns-in_err-file-clause-damaged
 returns-in_err-file-clause-damaged g c s taken offers at =
     let p = err_from_is_err_and c.from_residual.result c.from_residual.ensures.1 in
     let named : c.next_position-position.result ≡ next_place c.args.self.now.needs c.args.self.now.files.items - 1 = c.next_position-position.ensures.next in
     rw p.1 (λ is library. c.in_err-file.ensures.damaged s (offers.files s at) (sym p.2 ∙ is)
     (subst (λ (k : ℕ). IsLibrary (get_or s.libraries k no_library)) (sym named) library))
-
-pub returns-clause-libraries : goal.returns-clause-libraries
-returns-clause-libraries g c all =
-    let f : Library = c.in_ok-file.file in
-    subst (All IsLibrary) (sym (c.in-Ok.ensures.items ∙ ap (λ (l : List Library). l ++ f ∷ []) c.reserve.ensures.items))
-    (All-push IsLibrary c.args.self.now.files.items f all c.in_ok-file.ensures.library)
 
 pub returns-clause-walked : goal.returns-clause-walked
 returns-clause-walked g c program taken offers so_far =
@@ -40,3 +40,36 @@ returns-clause-walked g c program taken offers so_far =
     (c.in_ok-add_needed.ensures.ok taken.entries has offers.own
     ∙ ap (λ (m : List ℕ). more_needs (entry_names taken.entries) before m (needed c.object.result.now)) c.name.ensures
     ∙ ap (λ (b : List ℕ). more_needs (entry_names taken.entries) before f.name (needed b)) (c.object.ensures.same ∙ c.admitted.ensures)))
+
+pub returns-in_err-file-clause-calls : goal.returns-in_err-file-clause-calls
+returns-in_err-file-clause-calls g c entries has d = calls_at _ _ c.next_position-position.ensures.next entries d (c.read_library.ensures.calls entries has d)
+
+pub returns-in_err-file-clause-read : goal.returns-in_err-file-clause-read
+returns-in_err-file-clause-read g c = c.read_library.ensures.read
+
+pub returns-in_err-reserve-clause-calls : goal.returns-in_err-reserve-clause-calls
+returns-in_err-reserve-clause-calls g c entries has d = calls_at _ _ c.next_position-position.ensures.next entries d (c.read_library.ensures.calls entries has d)
+
+pub returns-in_err-reserve-clause-read : goal.returns-in_err-reserve-clause-read
+returns-in_err-reserve-clause-read g c = c.read_library.ensures.read
+
+pub returns-in_err-add_needed-clause-calls : goal.returns-in_err-add_needed-clause-calls
+returns-in_err-add_needed-clause-calls g c entries has d = calls_at _ _ c.next_position-position.ensures.next entries d (c.read_library.ensures.calls entries has d)
+
+pub returns-in_err-add_needed-clause-read : goal.returns-in_err-add_needed-clause-read
+returns-in_err-add_needed-clause-read g c = c.read_library.ensures.read
+
+pub returns-clause-calls : goal.returns-clause-calls
+returns-clause-calls g c entries has d = calls_at _ _ c.next_position-position.ensures.next entries d (c.read_library.ensures.calls entries has d)
+
+pub returns-clause-read : goal.returns-clause-read
+returns-clause-read g c = c.read_library.ensures.read
+
+pub returns-clause-next : goal.returns-clause-next
+returns-clause-next g c = record {
+  file = c.in_ok-file.file;
+  behind = c.in-Ok.ensures.items ∙ ap (λ (l : List Library). l ++ c.in_ok-file.file ∷ []) c.reserve.ensures.items;
+  library = c.in_ok-file.ensures.library;
+  is = λ s has. c.in_ok-file.ensures.ok s has ∙ ap (λ (k : ℕ). get_or s.libraries k no_library) c.next_position-position.ensures.next;
+  calls = c.in_ok-file.ensures.all_calls;
+}
