@@ -330,6 +330,8 @@ def words():
             (' image . 0x10000', '3 error rlibreg: cannot read .'), (' image minimal.so/none 0x10000', '3 error rlibreg: cannot read minimal.so/none'),
             (' image  0x10000', '3 error rlibreg: cannot read '),
             (' image no-such-file 0x10001', '3 error rlibreg: cannot read no-such-file'))),
+        ('A file of 17 MiB, longer than a program may be, is read whole, and refused then.', [
+            'on minimal.so pad=17825792 run image disk 0x10000 => 1 refused B1 E13 TooLarge then same']),
     ])
     (DATA / 'empty').write_bytes(b'')
 

@@ -247,6 +247,14 @@ def rows():
     ]
 
 
+def long_line():
+    """A line of 33 MiB of zeros, and one behind it."""
+    length = 33 * 1024 * 1024
+    count, refused, answers = output(8, bytes(length) + b'\nlist\n')
+    assert answers == 'refused L1 BadLine\nend\n', answers
+    return f'script 8 bytes= pad={length + 6} {length:#x}=0a6c6973740a => {count} {refused} file bytes={answers.encode().hex()}'
+
+
 def bad_lines():
     name = b'x' * 241
     return [
@@ -270,6 +278,7 @@ def bad_lines():
             short(b'\n', 'refused L1 BadLine'), short(b'l', 'refused L2 CutLine'), short(b' ', 'refused L2 CutLine')]),
         ('A line that is cut is not run, whatever stands in it.', [
             short(b'list', 'refused L2 CutLine'), short(b'preload', 'refused L2 CutLine'), short(b'no line', 'refused L2 CutLine')]),
+        ('A line of 33 MiB, and one behind it.', [long_line()]),
         ('Nothing stands behind the last newline.', [short(b'list\n', 'end'), short(b'preload\n', 'ok')]),
         ('A name of a line may be of any length, and have any visible byte.', [
             short(b'remove ' + name + b'\n', 'refused C3 NotInstalled'),

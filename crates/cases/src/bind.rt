@@ -4,7 +4,7 @@ use crate::file::changed_file;
 use crate::number::parse_number;
 use crate::preload::preloads_of;
 use crate::shelf::{libraries_of, read_libraries};
-use anyhow::{Error, Result};
+use anyhow::{Context, Error, Result};
 use image::{Image, bind_program};
 use plain_registry::{are_preloads, have_distinct_names};
 use program_parts::write_refusal;
@@ -26,13 +26,9 @@ pub(crate) enum Told {
 /// Puts what stands behind `object` in the lines of a text into one line.
 fn put_objects(text: &mut Vec<u8>, whole: &[u8]) -> Result<()> {
     text.extend_from_slice(b"objects")?;
-    let mut start = 0;
-    for (end, byte) in whole.iter().enumerate() {
-        if *byte == b'\n' {
-            if let Some(object) = whole.get(start..end).unwrap_or(b"").strip_prefix(b"object") {
-                text.extend_from_slice(object)?;
-            }
-            start = end.saturating_add(1);
+    for line in whole.split(|byte| *byte == b'\n') {
+        if let Some(object) = line.strip_prefix(b"object") {
+            text.extend_from_slice(object)?;
         }
     }
     text.extend_from_slice(b"\n")?;
@@ -105,9 +101,7 @@ pub(crate) fn put_bind(
 ) -> Result<()> {
     let (front, rest) = words.split_once(" + ").unwrap_or((words, ""));
     let (program, names) = front.split_once(" preload ").unwrap_or((front, ""));
-    let Some((file, base)) = program.rsplit_once(' ') else {
-        return Err(Error::msg("a bind without a base"));
-    };
+    let (file, base) = program.rsplit_once(' ').context("a bind without a base")?;
     let base = parse_number(base)?;
     let bytes = changed_file(rt, file)?;
     let files = read_libraries(rt, rest)?;
@@ -126,8 +120,6 @@ pub(crate) fn put_bind(
 /// `word ADDRESS FILE BASE ..`: the eight bytes that this image has from an address on, as a
 /// number, or `none`, or the refusal.
 pub(crate) fn put_word(rt: &HostRuntime, text: &mut Vec<u8>, words: &str) -> Result<()> {
-    match words.split_once(' ') {
-        Some((address, words)) => put_bind(rt, text, words, Told::Word(parse_number(address)?)),
-        None => Err(Error::msg("a word of no program")),
-    }
+    let (address, words) = words.split_once(' ').context("a word of no program")?;
+    put_bind(rt, text, words, Told::Word(parse_number(address)?))
 }

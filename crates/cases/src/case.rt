@@ -3,13 +3,12 @@
 use crate::answer::is_wanted;
 use crate::bind::{Told, put_bind, put_word};
 use crate::disk::leaves_so;
-use crate::fault::fault;
 use crate::file::changed_file;
 use crate::library::{Seen, put_file, put_find, put_hash};
 use crate::number::parse_number;
 use crate::script::runs_so;
 use crate::words::ends_so;
-use anyhow::{Error, Result};
+use anyhow::{Context, Result, bail};
 use commands::run_image;
 use image::bind_alone;
 use std::alloc::Global;
@@ -17,21 +16,17 @@ use std::io::Write;
 
 /// `image FILE BASE`: the text of the image of a file, or of its refusal.
 fn put_image(rt: &HostRuntime, text: &mut Vec<u8>, words: &str) -> Result<()> {
-    let Some((file, base)) = words.rsplit_once(' ') else {
-        return Err(Error::msg("an image without a base"));
-    };
+    let (file, base) = words.rsplit_once(' ').context("an image without a base")?;
     let base = parse_number(base)?;
-    match run_image(rt.alloc(), &changed_file(rt, file)?, base, text) {
-        Ok(_) => Ok(()),
-        Err(fault) => Err(fault.into()),
-    }
+    run_image(rt.alloc(), &changed_file(rt, file)?, base, text)?;
+    Ok(())
 }
 
 /// The byte that the image of a file has at an address.
 fn byte_of(alloc: Global, bytes: &[u8], base: u64, address: u64) -> Result<Option<u8>> {
     match bind_alone(alloc, bytes, base) {
         Ok(image) => Ok(image.byte(address)),
-        Err(_) => Err(Error::msg("no image")),
+        Err(_) => bail!("no image"),
     }
 }
 
@@ -47,12 +42,8 @@ fn put_digits(text: &mut Vec<u8>, byte: Option<u8>) -> Result<()> {
 /// `byte FILE BASE ADDRESS`: the byte that the image of a file has at an address, in two digits, or
 /// `none`.
 fn put_byte(rt: &HostRuntime, text: &mut Vec<u8>, words: &str) -> Result<()> {
-    let Some((place, address)) = words.rsplit_once(' ') else {
-        return Err(Error::msg("a byte without an address"));
-    };
-    let Some((file, base)) = place.rsplit_once(' ') else {
-        return Err(Error::msg("a byte without a base"));
-    };
+    let (place, address) = words.rsplit_once(' ').context("a byte without an address")?;
+    let (file, base) = place.rsplit_once(' ').context("a byte without a base")?;
     let (base, address) = (parse_number(base)?, parse_number(address)?);
     let byte = byte_of(rt.alloc(), &changed_file(rt, file)?, base, address)?;
     put_digits(text, byte)
@@ -60,9 +51,7 @@ fn put_byte(rt: &HostRuntime, text: &mut Vec<u8>, words: &str) -> Result<()> {
 
 /// Puts what a call gives, which is a name with words behind it.
 fn put_answer(rt: &HostRuntime, text: &mut Vec<u8>, call: &str) -> Result<()> {
-    let Some((name, words)) = call.split_once(' ') else {
-        return Err(Error::msg("a call without words"));
-    };
+    let (name, words) = call.split_once(' ').context("a call without words")?;
     match name {
         "image" => put_image(rt, text, words),
         "byte" => put_byte(rt, text, words),
@@ -74,7 +63,7 @@ fn put_answer(rt: &HostRuntime, text: &mut Vec<u8>, call: &str) -> Result<()> {
         "view" => put_file(rt, text, words, Seen::View),
         "find" => put_find(rt, text, words),
         "hash" => put_hash(rt.alloc(), text, words),
-        _ => Err(fault("the call", call)),
+        _ => bail!("the call {call}"),
     }
 }
 
@@ -100,8 +89,6 @@ pub(crate) fn stands(rt: &HostRuntime, case: &str) -> Result<bool> {
     if let Some((call, wanted)) = case.split_once(" => ") {
         return gives(rt, call, wanted);
     }
-    match case.split_once(" =/> ") {
-        Some((call, other)) => Ok(!gives(rt, call, other)?),
-        None => Err(Error::msg("a case without =>")),
-    }
+    let (call, other) = case.split_once(" =/> ").context("a case without =>")?;
+    Ok(!gives(rt, call, other)?)
 }

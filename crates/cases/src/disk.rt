@@ -2,7 +2,7 @@
 
 use crate::file::changed_file;
 use crate::words::ends_so;
-use anyhow::{Error, Result};
+use anyhow::{Context, Result};
 use std::fs;
 
 /// The file that is the disk.
@@ -61,12 +61,8 @@ fn is_left(rt: &HostRuntime, before: &str, after: &str) -> Result<bool> {
 /// Whether a command line ends as it is wanted and leaves the disk so: `BEFORE run WORD ..
 /// [< INPUT]`, wanted as `STATUS ANSWER then AFTER`. The file `disk` is the disk.
 pub(crate) fn leaves_so(rt: &HostRuntime, words: &str, wanted: &str) -> Result<bool> {
-    let Some((before, words)) = words.split_once(" run") else {
-        return Err(Error::msg("a disk without words"));
-    };
-    let Some((ending, after)) = wanted.rsplit_once(" then ") else {
-        return Err(Error::msg("no disk after it"));
-    };
+    let (before, words) = words.split_once(" run").context("a disk without words")?;
+    let (ending, after) = wanted.rsplit_once(" then ").context("no disk after it")?;
     put_disk(rt, before)?;
     let ends = runs_to(rt, words, ending)?;
     let left = is_left(rt, before, after)?;

@@ -1,33 +1,23 @@
 // The file of a case: one of the folder, spelt, or made as a text says, with what is changed in it.
 
-use crate::fault::{error_of, fault};
 use crate::number::parse_number;
-use anyhow::{Error, Result};
+use anyhow::{Context, Result, bail};
 use std::alloc::Global;
 use std::fs;
 
 /// The bytes that digits spell.
 pub(crate) fn spelt(alloc: Global, digits: &str) -> Result<Vec<u8>> {
-    match hex::decode(alloc, digits) {
-        Ok(bytes) => Ok(bytes),
-        Err(error) => Err(error.into()),
-    }
+    Ok(hex::decode(alloc, digits)?)
 }
 
 /// The bytes of a file of the folder.
 fn file_bytes(rt: &HostRuntime, name: &str) -> Result<Vec<u8>> {
-    match fs::read(rt, name) {
-        Ok(bytes) => Ok(bytes),
-        Err(error) => Err(error_of(error.into(), "the file", name)),
-    }
+    fs::read(rt, name).context(format_args!("the file {name}"))
 }
 
 /// The text of a file of the folder; it is said what the file is, where it can't be read.
 pub(crate) fn text_of_file(rt: &HostRuntime, what: &str, name: &str) -> Result<String> {
-    match fs::read_to_string(rt, name) {
-        Ok(text) => Ok(text),
-        Err(error) => Err(error_of(error.into(), what, name)),
-    }
+    fs::read_to_string(rt, name).context(format_args!("{what} {name}"))
 }
 
 /// Writes bytes over those of a file.
@@ -35,7 +25,7 @@ fn put(bytes: &mut [u8], at: usize, new: &[u8]) -> Result<()> {
     for (i, byte) in new.iter().enumerate() {
         match bytes.get_mut(at.saturating_add(i)) {
             Some(place) => *place = *byte,
-            None => return Err(Error::msg("past the end")),
+            None => bail!("past the end"),
         }
     }
     Ok(())
@@ -73,7 +63,7 @@ fn with_changes(rt: &HostRuntime, bytes: Vec<u8>, changes: &str) -> Result<Vec<u
     for word in changes.split_whitespace() {
         match word.split_once('=') {
             Some((what, value)) => change(rt, &mut bytes, what, value)?,
-            None => return Err(fault("the change", word)),
+            None => bail!("the change {word}"),
         }
     }
     Ok(bytes)
@@ -83,10 +73,8 @@ fn with_changes(rt: &HostRuntime, bytes: Vec<u8>, changes: &str) -> Result<Vec<u
 /// each other line has changes.
 fn made_bytes(rt: &HostRuntime, name: &str) -> Result<Vec<u8>> {
     let text = text_of_file(rt, "the text", name)?;
-    match text.split_once(' ') {
-        Some((first, changes)) => with_changes(rt, plain_bytes(rt, first)?, changes),
-        None => Err(Error::msg("a text without changes")),
-    }
+    let (first, changes) = text.split_once(' ').context("a text without changes")?;
+    with_changes(rt, plain_bytes(rt, first)?, changes)
 }
 
 /// The bytes of a file before its changes: those that the text NAME of `made=NAME` says, or those

@@ -2,7 +2,7 @@
 
 use crate::file::{changed_file, spelt};
 use crate::view::put_view;
-use anyhow::{Error, Result};
+use anyhow::{Context, Result, bail};
 use hash_check::{Admitted, FileRefusal, ReadRefusal, elf_hash};
 use program_parts::write_file_refusal;
 use std::alloc::Global;
@@ -47,7 +47,7 @@ fn put_library(text: &mut Vec<u8>, object: &Admitted) -> Result<()> {
 fn put_export(text: &mut Vec<u8>, object: &Admitted, name: &[u8]) -> Result<()> {
     let found = object.find_hashed(name, elf_hash(name));
     if object.find(name) != found.symbol {
-        return Err(Error::msg("two answers"));
+        bail!("two answers");
     }
     let count = found.compared;
     match found.symbol {
@@ -78,7 +78,7 @@ pub(crate) fn put_file(
     match Admitted::read(rt.alloc(), &bytes) {
         Ok(object) => put_seen(text, &object, seen),
         Err(ReadRefusal::File(refusal)) => put_refused(text, refusal),
-        Err(ReadRefusal::OutOfMemory) => Err(Error::msg("out of memory")),
+        Err(ReadRefusal::OutOfMemory) => bail!("out of memory"),
     }
 }
 
@@ -93,13 +93,9 @@ pub(crate) fn name_bytes(alloc: Global, word: &str) -> Result<Vec<u8>> {
 /// `find FILE NAME`: the symbol that is exported under a name, and how many names a search
 /// compares.
 pub(crate) fn put_find(rt: &HostRuntime, text: &mut Vec<u8>, words: &str) -> Result<()> {
-    match words.rsplit_once(' ') {
-        Some((file, word)) => {
-            let name = name_bytes(rt.alloc(), word)?;
-            put_file(rt, text, file, Seen::Export(&name))
-        }
-        None => Err(Error::msg("a search without a name")),
-    }
+    let (file, word) = words.rsplit_once(' ').context("a search without a name")?;
+    let name = name_bytes(rt.alloc(), word)?;
+    put_file(rt, text, file, Seen::Export(&name))
 }
 
 /// `hash NAME`: the hash of a name.

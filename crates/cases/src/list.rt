@@ -3,7 +3,7 @@
 use crate::case::stands;
 use crate::file::text_of_file;
 use crate::number::parse_number;
-use anyhow::{Error, Result};
+use anyhow::{Context, Result};
 
 /// How many cases were run, and how many of them differ.
 #[derive(Default, Drop)]
@@ -34,12 +34,8 @@ fn run_cuts(
     rest: &str,
     tally: &mut Tally,
 ) -> Result<()> {
-    let Some((call, first)) = front.rsplit_once("cut=") else {
-        return Err(Error::msg("a range of no cut"));
-    };
-    let Some((last, answer)) = rest.split_once(' ') else {
-        return Err(Error::msg("a range without a base"));
-    };
+    let (call, first) = front.rsplit_once("cut=").context("a range of no cut")?;
+    let (last, answer) = rest.split_once(' ').context("a range without a base")?;
     for length in parse_number(first)?..=parse_number(last)? {
         let case = format!(in rt.alloc(); "{call}cut={length} {answer}")?;
         run_case(rt, list, &case, tally)?;

@@ -7,7 +7,6 @@ mod answer;
 mod bind;
 mod case;
 mod disk;
-mod fault;
 mod file;
 mod library;
 mod list;

@@ -1,7 +1,6 @@
 // The preloads of a case.
 
-use crate::fault::fault;
-use anyhow::Result;
+use anyhow::{Context, Result};
 use scope::Library;
 use std::alloc::Global;
 
@@ -23,10 +22,7 @@ pub(crate) fn preloads_of(
 ) -> Result<Vec<usize>> {
     let mut numbers = Vec::new(alloc);
     for name in names.split_whitespace() {
-        match number_of(libraries, name) {
-            Some(number) => numbers.push(number)?,
-            None => return Err(fault("no library", name)),
-        }
+        numbers.push(number_of(libraries, name).context(format_args!("no library {name}"))?)?;
     }
     Ok(numbers)
 }

@@ -3,39 +3,31 @@
 use crate::answer::is_wanted;
 use crate::file::changed_file;
 use crate::number::parse_number;
-use anyhow::{Error, Result};
+use anyhow::{Context, Result, bail};
 use binders::Binders;
-use commands::{ScriptFault, Summary, run_script};
+use commands::{Summary, run_script};
 use registry::Registry;
 use sector_disk::Memory;
 use std::alloc::Global;
 
 /// Runs a script on an empty registry.
-fn ran(
-    alloc: Global,
-    disk: Memory,
-    script: &[u8],
-    output: &mut Vec<u8>,
-) -> Result<std::result::Result<Summary, ScriptFault>> {
+fn ran(alloc: Global, disk: Memory, script: &[u8], output: &mut Vec<u8>) -> Result<Summary> {
     let mut script = script;
     match Registry::format(alloc, disk) {
         Ok(registry) => {
             let mut binders = Binders::new(alloc, registry);
             let ended = run_script(alloc, &mut script, output, &mut binders);
             let _ = binders.into_registry().into_disk();
-            Ok(ended)
+            Ok(ended?)
         }
-        Err(_) => Err(Error::msg("no registry")),
+        Err(_) => bail!("no registry"),
     }
 }
 
 /// What a script gives on a disk of so many sectors.
 fn summary_of(alloc: Global, sectors: u64, script: &[u8], output: &mut Vec<u8>) -> Result<Summary> {
     let disk = Memory::new(alloc, u32::try_from(sectors)?)?;
-    match ran(alloc, disk, script, output)? {
-        Ok(summary) => Ok(summary),
-        Err(fault) => Err(fault.into()),
-    }
+    ran(alloc, disk, script, output)
 }
 
 /// Whether a script gave what is wanted.
@@ -46,12 +38,8 @@ fn is_ended(
     output: &[u8],
     wanted: &str,
 ) -> Result<bool> {
-    let Some((wanted_lines, rest)) = wanted.split_once(' ') else {
-        return Err(Error::msg("lines alone"));
-    };
-    let Some((wanted_refused, answer)) = rest.split_once(' ') else {
-        return Err(Error::msg("two numbers alone"));
-    };
+    let (wanted_lines, rest) = wanted.split_once(' ').context("lines alone")?;
+    let (wanted_refused, answer) = rest.split_once(' ').context("two numbers alone")?;
     Ok(
         parse_number(wanted_lines)? == lines
             && parse_number(wanted_refused)? == refused
@@ -62,9 +50,7 @@ fn is_ended(
 /// Whether a script ends as it is wanted: `SECTORS FILE` on an empty registry on a disk of so many
 /// sectors, wanted as `LINES REFUSED ANSWER`.
 pub(crate) fn runs_so(rt: &HostRuntime, words: &str, wanted: &str) -> Result<bool> {
-    let Some((sectors, file)) = words.split_once(' ') else {
-        return Err(Error::msg("a script without a file"));
-    };
+    let (sectors, file) = words.split_once(' ').context("a script without a file")?;
     let sectors = parse_number(sectors)?;
     let text = changed_file(rt, file)?;
     let mut output = Vec::new(rt.alloc());

@@ -2,7 +2,7 @@
 
 use crate::file::changed_file;
 use crate::library::name_bytes;
-use anyhow::{Error, Result};
+use anyhow::{Context, Result, bail};
 use hash_check::{Admitted, ReadRefusal};
 use scope::Library;
 use std::alloc::Global;
@@ -39,15 +39,15 @@ pub(crate) fn read_libraries(rt: &HostRuntime, words: &str) -> Result<Vec<Librar
 fn library_of<'a>(alloc: Global, file: &'a LibraryFile) -> Result<Library<'a>> {
     let object = match Admitted::read(alloc, &file.bytes) {
         Ok(object) => object,
-        Err(ReadRefusal::File(_)) => return Err(Error::msg("a library that is refused")),
-        Err(ReadRefusal::OutOfMemory) => return Err(Error::msg("out of memory")),
+        Err(ReadRefusal::File(_)) => bail!("a library that is refused"),
+        Err(ReadRefusal::OutOfMemory) => bail!("out of memory"),
     };
     let name = match &file.name {
         Some(name) => name.as_slice(),
-        None => match object.library_name() {
-            Ok(name) => name,
-            Err(_) => return Err(Error::msg("a library without a name")),
-        },
+        None => object
+            .library_name()
+            .ok()
+            .context("a library without a name")?,
     };
     Ok(Library { name, object })
 }

@@ -2,7 +2,7 @@
 
 use crate::answer::is_wanted;
 use crate::number::parse_number;
-use anyhow::{Error, Result};
+use anyhow::{Context, Result};
 use commands::run_words;
 use std::alloc::Global;
 
@@ -23,9 +23,7 @@ fn is_ended(
     errors: &[u8],
     wanted: &str,
 ) -> Result<bool> {
-    let Some((number, answer)) = wanted.split_once(' ') else {
-        return Err(Error::msg("a status alone"));
-    };
+    let (number, answer) = wanted.split_once(' ').context("a status alone")?;
     if parse_number(number)? != u64::from(status) {
         return Ok(false);
     }

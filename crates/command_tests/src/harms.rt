@@ -30,15 +30,15 @@ pub(crate) type Row = (&'static [Harm], [Wanted; 3]);
 // What is damaged whatever way a liar has it.
 const DAMAGED: [Wanted; 3] = [S5, S5, S4];
 
-/// Of a disk of version 1. In the order of the disk the first sector of bytes is taken for the
-/// entry.
-pub(crate) const OLD_ROWS: [Row; 9] = [
+/// Of a disk of version 1 or 2. In the order of the disk the first sector of bytes is taken for the
+/// entry, or for the catalogue.
+pub(crate) static ROWS: [Row; 9] = [
     (&[], [S5, HELD, S4]),
     // One root, no root.
     (&[Zeros(1)], [EMPTY, EMPTY, S4]),
     (&[Zeros(0)], DAMAGED),
     (&[Zeros(0), Zeros(1)], [S3, S3, EMPTY]),
-    // The root has nine sectors, or an entry behind the disk.
+    // The root has nine sectors, or what it lists is behind the disk.
     (&[Byte(1, 16, 9)], DAMAGED),
     (&[Byte(1, 64, 8)], DAMAGED),
     // The entry has its own sector as the file's.
@@ -48,20 +48,11 @@ pub(crate) const OLD_ROWS: [Row; 9] = [
     (&[Zeros(2)], DAMAGED),
 ];
 
-/// Of a disk of version 2. In the order of the disk the first sector of bytes is taken for the
-/// catalogue.
-pub(crate) const ROWS: [Row; 18] = [
-    (&[], [S5, HELD, S4]),
-    // One root, no root.
-    (&[Zeros(1)], [EMPTY, EMPTY, S4]),
-    (&[Zeros(0)], DAMAGED),
-    (&[Zeros(0), Zeros(1)], [S3, S3, EMPTY]),
-    // The root has nine sectors, or no catalogue, or two, or one behind the disk, or the entry as
-    // one, or it is one of version 1.
-    (&[Byte(1, 16, 9)], DAMAGED),
+/// Of a disk of version 2 alone.
+pub(crate) static NEW_ROWS: [Row; 9] = [
+    // The root has no catalogue, or two, or the entry as one, or it is one of version 1.
     (&[Byte(1, 56, 0)], DAMAGED),
     (&[Byte(1, 56, 2)], DAMAGED),
-    (&[Byte(1, 64, 8)], DAMAGED),
     (&[Byte(1, 64, 3)], DAMAGED),
     (&[Byte(1, 7, b'1')], DAMAGED),
     // The catalogue is none, or lists two entries, or one behind the disk, or itself.
@@ -69,10 +60,6 @@ pub(crate) const ROWS: [Row; 18] = [
     (&[Byte(4, 4, 2), Byte(4, 20, 5)], DAMAGED),
     (&[Byte(4, 16, 8)], DAMAGED),
     (&[Byte(4, 16, 4)], DAMAGED),
-    // The entry has its own sector as the file's, or the catalogue's.
-    (&[Byte(3, 256, 3)], DAMAGED),
+    // The entry has the catalogue's sector as the file's.
     (&[Byte(3, 256, 4)], DAMAGED),
-    // The file stands under another name, or is none.
-    (&[Byte(3, 16, b'b')], DAMAGED),
-    (&[Zeros(2)], DAMAGED),
 ];

@@ -2,7 +2,7 @@
 ghost use Rattle.std.specs.Prelude.{◌<◌};
 
 use crate::every_line::{LINES, are_answers, script};
-use crate::harms::{OLD_ROWS, ROWS, Row, Wanted};
+use crate::harms::{NEW_ROWS, ROWS, Row, Wanted};
 use crate::scripts::summary;
 use crate::sectors::{Sectors, harmed, one_library};
 use binders::Binders;
@@ -99,6 +99,7 @@ fn all_lie(alloc: Global, version: u8, rows: &[Row]) -> Option<bool> {
 
 #[test]
 fn a_liar_is_refused_or_answers_a_script(rt: HostRuntime) {
-    assert!(rt; all_lie(rt.alloc(), 1, &OLD_ROWS) == Some(true));
-    assert!(rt; all_lie(rt.alloc(), 2, &ROWS) == Some(true));
+    for (version, rows) in [(1, &ROWS), (2, &ROWS), (2, &NEW_ROWS)] {
+        assert!(rt; all_lie(rt.alloc(), version, rows) == Some(true));
+    }
 }

@@ -69,23 +69,3 @@ fn the_refusal_of_a_file_is_one_write(rt: HostRuntime) {
     let is_written = write_file_refusal(&mut out, refusal).is_ok();
     assert!(rt; (is_written, out.calls, out.room) == (true, 1, 20));
 }
-
-/// The text of a refusal.
-fn text_of(alloc: Global, refusal: &BindRefusal) -> Vec<u8> {
-    let mut text = Vec::new(alloc);
-    let _ = write_refusal(&mut text, refusal);
-    text
-}
-
-// A name that is longer than any buffer.
-#[test]
-fn a_name_of_100000_bytes_is_spelt(rt: HostRuntime) -> Result<(), Fail> {
-    let name = vec![in rt.alloc(); b'x'; 100_000]?;
-    let text = text_of(rt.alloc(), &BindRefusal::undefined(rt.alloc(), b"a", &name));
-    let front = b"refused B5 Undefined a ";
-    let is_spelt = text.starts_with(front)
-        && text.ends_with(b"x\n")
-        && text.iter().filter(|byte| **byte == b'x').count() == 100_000;
-    assert!(rt; (is_spelt, text.len()) == (true, front.len() + 100_001));
-    Ok(())
-}

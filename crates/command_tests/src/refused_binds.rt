@@ -26,15 +26,7 @@ struct Case {
     reads: u64,
 }
 
-static CASES: [Case; 3] = [
-    Case {
-        libraries: &[(b'a', b"", 1)],
-        preloads: &[],
-        needs: b"z",
-        missing: b'z',
-        opening: 6,
-        reads: 0,
-    },
+static CASES: [Case; 2] = [
     Case {
         libraries: &[(b'a', b"ce", 1), (b'b', b"", 2)],
         preloads: &[],

@@ -1,6 +1,5 @@
 // Command lines, each with its status and what it writes.
 
-use crate::programs::of_segments;
 use commands::run_arguments;
 use std::fs::File;
 use std::io::ErrorKind;
@@ -92,17 +91,4 @@ fn words_that_are_not_read(rt: HostRuntime) {
     ] {
         assert!(rt; ends(&rt, Err(io::Error::from(kind)), wanted));
     }
-}
-
-// Longer than a program may be: it is read whole all the same, and then refused.
-#[test]
-fn a_file_of_17_mib_is_read(rt: HostRuntime) -> Result<(), Fail> {
-    let mut long = of_segments(rt.alloc(), 1)?;
-    long.resize(17 * 1024 * 1024, 0)?;
-    fs::write(&rt, "long.so", long.as_slice())?;
-    let words = words_of(&rt, &["image", "long.so", "0x10000"]);
-    let is_refused = ends(&rt, words, (1, "refused B1 E13 TooLarge\n", ""));
-    fs::remove_file(&rt, "long.so")?;
-    assert!(rt; is_refused);
-    Ok(())
 }

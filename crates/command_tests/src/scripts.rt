@@ -3,15 +3,15 @@
 ghost use Rattle.std.specs.Prelude.{⊤};
 
 use crate::programs::of_segments;
-use crate::streams::{Full, Stops};
+use crate::streams::Turn::Says;
+use crate::streams::{Full, Stops, Turn, Turns};
 use binders::{Binders, Event, EventReply};
 use commands::{ScriptFault, Summary, TakesEvents, run_script};
 use registry::Registry;
 use requests::{Command, Reply};
 use sector_disk::Memory;
 use std::alloc::Global;
-use std::io;
-use std::io::{ErrorKind, Read};
+use std::io::ErrorKind;
 use std::test::Fail;
 
 /// Done to every event, and what was asked.
@@ -41,30 +41,6 @@ impl TakesEvents for Asked {
     }
 }
 
-/// A reader that gives these texts one after the other, and then fails or is at its end.
-#[derive(Drop)]
-struct Texts<'a> {
-    texts: &'a [&'a str],
-    /// How many of them were given.
-    given: usize,
-    last: Option<ErrorKind>,
-}
-
-impl Read for Texts<'_> {
-    fn read(&mut self, buf: &mut [u8]) -> io::Result<usize> {
-        let Some(text) = self.texts.get(self.given) else {
-            return match self.last {
-                Some(kind) => Err(io::Error::from(kind)),
-                None => Ok(0),
-            };
-        };
-        let count = text.len().min(buf.len());
-        buf[..count].copy_from_slice(&text.as_bytes()[..count]);
-        self.given = self.given.saturating_add(1);
-        Ok(count)
-    }
-}
-
 /// What a script ends with.
 type Ended = Result<Summary, ScriptFault>;
 
@@ -73,33 +49,35 @@ pub(crate) fn summary(lines: u64, refused: u64) -> Summary {
     Summary { lines, refused }
 }
 
-/// What a script does over a reader of these texts: what it ends with, the letters of its events,
-/// and what it writes.
-fn run_texts(alloc: Global, texts: &[&str], last: Option<ErrorKind>) -> (Ended, Vec<u8>, Vec<u8>) {
-    let mut reader = Texts {
-        texts,
-        given: 0,
-        last,
-    };
-    let mut asked = Asked {
+/// The same before the first event.
+fn nothing_asked(alloc: Global) -> Asked {
+    Asked {
         letters: Vec::new(alloc),
-    };
+    }
+}
+
+/// What a script does over a reader that takes these turns: what it ends with, the letters of its
+/// events, and what it writes.
+fn run_turns(alloc: Global, turns: &[Turn]) -> (Ended, Vec<u8>, Vec<u8>) {
+    let mut asked = nothing_asked(alloc);
     let mut output = Vec::new(alloc);
-    let ended = run_script(alloc, &mut reader, &mut output, &mut asked);
+    let ended = run_script(alloc, &mut Turns(turns), &mut output, &mut asked);
     (ended, asked.letters, output)
 }
 
+/// Each form of line, cut anywhere.
+static FORMS: [Turn; 6] = [
+    Says("install 0aF"),
+    Says("F\nrepl"),
+    Says("ace 00\nremove !~\n"),
+    Says("preload\npreload a b\nbind 0x"),
+    Says("1 00\nlist\nbegin 0x2 00\nadvance 0\n"),
+    Says("cancel 9\nlist \n\nlist"),
+];
+
 #[test]
 fn each_form_of_line_asks_its_command(rt: HostRuntime) {
-    let texts = [
-        "install 0aF",
-        "F\nrepl",
-        "ace 00\nremove !~\n",
-        "preload\npreload a b\nbind 0x",
-        "1 00\nlist\nbegin 0x2 00\nadvance 0\n",
-        "cancel 9\nlist \n\nlist",
-    ];
-    let (ended, letters, output) = run_texts(rt.alloc(), &texts, None);
+    let (ended, letters, output) = run_turns(rt.alloc(), &FORMS);
     let wanted = b"ok\nok\nok\nok\nok\nok\nok\nok\nok\nok\n\
         refused L1 BadLine\nrefused L1 BadLine\nrefused L2 CutLine\n";
     let is_asked = letters.as_slice() == b"irdppblgac".as_slice();
@@ -107,27 +85,31 @@ fn each_form_of_line_asks_its_command(rt: HostRuntime) {
     assert!(rt; (ended, is_asked, is_written) == (Ok(summary(13, 3)), true, true));
 }
 
-const OTHER: ErrorKind = ErrorKind::Other;
+const FAILS: Turn = Turn::Fails(ErrorKind::Other);
 
 const READ: ScriptFault = ScriptFault::Read;
 
 const MEMORY: ScriptFault = ScriptFault::OutOfMemory;
 
-/// What a reader gives before it fails, how it fails, the letters of the events that happened, each
-/// of which is answered `ok`, and what the script ends with.
-static CUT: [(&[&str], ErrorKind, &str, ScriptFault); 6] = [
-    // At once, in the middle of a line, and between lines.
-    (&[], OTHER, "", READ),
-    (&["li"], OTHER, "", READ),
-    (&["list\npreload"], OTHER, "l", READ),
-    (&["list\npre", "load\n"], OTHER, "lp", READ),
-    (&["list\n", "list\nlist"], OTHER, "ll", READ),
-    (&["list\n"], ErrorKind::OutOfMemory, "l", MEMORY),
+/// What a reader does, the letters of the events that happened, each of which is answered `ok`, and
+/// what the script ends with.
+static CUT: [(&[Turn], &str, ScriptFault); 6] = [
+    // It fails at once, in the middle of a line, and between lines.
+    (&[FAILS], "", READ),
+    (&[Says("li"), FAILS], "", READ),
+    (&[Says("list\npreload"), FAILS], "l", READ),
+    (&[Says("list\npre"), Says("load\n"), FAILS], "lp", READ),
+    (&[Says("list\n"), Says("list\nlist"), FAILS], "ll", READ),
+    (
+        &[Says("list\n"), Turn::Fails(ErrorKind::OutOfMemory)],
+        "l",
+        MEMORY,
+    ),
 ];
 
 /// Whether a script is cut off so.
-fn is_cut(alloc: Global, texts: &[&str], last: ErrorKind, asked: &str, fault: ScriptFault) -> bool {
-    let (ended, letters, output) = run_texts(alloc, texts, Some(last));
+fn is_cut(alloc: Global, turns: &[Turn], asked: &str, fault: ScriptFault) -> bool {
+    let (ended, letters, output) = run_turns(alloc, turns);
     ended == Err(fault)
         && letters.as_slice() == asked.as_bytes()
         && output.len() == asked.len().saturating_mul(3)
@@ -135,16 +117,14 @@ fn is_cut(alloc: Global, texts: &[&str], last: ErrorKind, asked: &str, fault: Sc
 
 #[test]
 fn a_reader_fails_after_these_lines(rt: HostRuntime) {
-    for &(texts, last, asked, fault) in &CUT {
-        assert!(rt; is_cut(rt.alloc(), texts, last, asked, fault));
+    for &(turns, asked, fault) in &CUT {
+        assert!(rt; is_cut(rt.alloc(), turns, asked, fault));
     }
 }
 
 /// What a script ends with whose writer takes so many bytes, and how many events happened.
 fn run_full(alloc: Global, text: &str, room: usize) -> (Ended, usize) {
-    let mut asked = Asked {
-        letters: Vec::new(alloc),
-    };
+    let mut asked = nothing_asked(alloc);
     let mut out = Full::with_room(room);
     let ended = run_script(alloc, &mut text.as_bytes(), &mut out, &mut asked);
     (ended, asked.letters.len())
@@ -229,19 +209,5 @@ fn a_writer_fails_within_an_image(rt: HostRuntime) -> Result<(), Fail> {
     let in_pieces = takes_writes(alloc, script.as_bytes(), &whole, (11, 8192))?;
     let is_long = whole.1.len() > 72_000;
     assert!(rt; (whole.0, is_long, at_once, in_pieces) == (Ok(summary(3, 0)), true, true, true));
-    Ok(())
-}
-
-#[test]
-fn a_line_of_33_mib_is_read_once(rt: HostRuntime) -> Result<(), Fail> {
-    let mut text = vec![in rt.alloc(); b'0'; 33 * 1024 * 1024]?;
-    text.extend_from_slice(b"\nlist\n")?;
-    let mut asked = Asked {
-        letters: Vec::new(rt.alloc()),
-    };
-    let mut output = Vec::new(rt.alloc());
-    let ended = run_script(rt.alloc(), &mut text.as_slice(), &mut output, &mut asked);
-    let is_written = output.as_slice() == b"refused L1 BadLine\nok\n".as_slice();
-    assert!(rt; (ended, is_written) == (Ok(summary(2, 1)), true));
     Ok(())
 }

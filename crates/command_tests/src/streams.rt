@@ -8,6 +8,8 @@ use std::io::{ErrorKind, Read, Write};
 pub(crate) enum Turn {
     /// It gives so many bytes, or as many as are wanted.
     Gives(usize),
+    /// It gives this text.
+    Says(&'static str),
     /// It fails.
     Fails(ErrorKind),
 }
@@ -26,6 +28,11 @@ impl Read for Turns<'_> {
             Turn::Gives(count) => {
                 let count = (*count).min(buf.len());
                 buf[..count].fill(7);
+                Ok(count)
+            }
+            Turn::Says(text) => {
+                let count = text.len().min(buf.len());
+                buf[..count].copy_from_slice(&text.as_bytes()[..count]);
                 Ok(count)
             }
             Turn::Fails(kind) => Err(io::Error::from(*kind)),

@@ -10,6 +10,4 @@ mod layouts;
 #[cfg(test)]
 mod random;
 #[cfg(test)]
-mod sectors;
-#[cfg(test)]
 mod stops;

@@ -58,17 +58,7 @@ fn tell(words: &mut Vec<&'static str>, all: &[RoundReplies]) -> Result<(), Alloc
 }
 
 // What is told where no growth is refused.
-const TOLD: [&str; 9] = [
-    "ok",
-    "list a b c preload b",
-    "|",
-    "S1",
-    "S2",
-    "|",
-    "list a b preload b",
-    "image",
-    "|",
-];
+const TOLD: &str = "ok, list a b c preload b, |, S1, S2, |, list a b preload b, image, |";
 
 // What a disk lists.
 fn left(alloc: Global, disk: Memory) -> Result<&'static str, AllocError> {
@@ -80,11 +70,12 @@ fn left(alloc: Global, disk: Memory) -> Result<&'static str, AllocError> {
 
 // Whether these are the words where no growth is refused.
 fn is_whole(words: &[&'static str]) -> bool {
-    let mut same = words.len() == TOLD.len();
-    for (told, wanted) in words.iter().zip(&TOLD) {
-        same = same && *told == *wanted;
+    let mut wanted = TOLD.split(", ");
+    let mut same = true;
+    for told in words {
+        same = same && wanted.next() == Some(*told);
     }
-    same
+    same && wanted.next().is_none()
 }
 
 // What is told where a growth is refused.

@@ -80,23 +80,13 @@ fn run(alloc: Global, disk: Memory, lines: &[u8]) -> Result<Ran, AllocError> {
     })
 }
 
-// The lines that were done, by their replies.
-fn done_lines(alloc: Global, lines: &[u8], told: &[Vec<u8>]) -> Result<Vec<u8>, AllocError> {
-    let mut done = Vec::new(alloc);
+// The lines that were done, by their replies, and these.
+fn done(alloc: Global, lines: &[u8], told: &[Vec<u8>]) -> Result<[Vec<u8>; 2], AllocError> {
+    let mut done = [Vec::new(alloc), Vec::new(alloc)];
     for (line, reply) in lines.split_inclusive(ends_line).zip(told) {
         if !is_not_done(reply) {
-            done.extend_from_slice(line)?;
-        }
-    }
-    Ok(done)
-}
-
-// The replies to the lines that were done.
-fn done_text(alloc: Global, told: &[Vec<u8>]) -> Result<Vec<u8>, AllocError> {
-    let mut done = Vec::new(alloc);
-    for reply in told {
-        if !is_not_done(reply) {
-            done.extend_from_slice(reply)?;
+            done[0].extend_from_slice(line)?;
+            done[1].extend_from_slice(reply)?;
         }
     }
     Ok(done)
@@ -110,12 +100,10 @@ fn is_as_without(
     disk: Memory,
 ) -> Result<bool, AllocError> {
     let start = before(alloc, STEPS.len())?;
-    let without = run(alloc, start, &done_lines(alloc, lines, told)?)?;
-    Ok(
-        without.fault.is_none()
-            && without.text == done_text(alloc, told)?
-            && seen(alloc, without.disk)? == seen(alloc, disk)?,
-    )
+    let [done, text] = done(alloc, lines, told)?;
+    let without = run(alloc, start, &done)?;
+    let same = without.fault.is_none() && without.text == text;
+    Ok(same && seen(alloc, without.disk)? == seen(alloc, disk)?)
 }
 
 // Whether all was answered as where no growth is refused.

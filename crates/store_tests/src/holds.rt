@@ -3,19 +3,9 @@ use crate::calls::Change::{ChooseNone, Put};
 use crate::calls::{disk_after, make, opened};
 use crate::sectors::copy;
 use crate::seen::given;
-use sector_disk::{Fuse, Memory};
+use sector_disk::{Disk, Fuse, Memory};
 use std::process::Abort;
 use store::{HeldVersion, Store, StoreRefusal};
-
-// Holds the byte string at a position.
-fn hold(
-    rt: &(impl Abort + AllocGlobal),
-    store: &mut Store<Memory>,
-    position: usize,
-) -> HeldVersion {
-    assert!(rt; position < store.count());
-    store.hold_version(position).expect(rt, "what is held")
-}
 
 // The store on 8 sectors with a byte string of 344 ones, whose sixth call fails: the first one
 // after the opening.
@@ -24,19 +14,16 @@ fn failing(rt: &(impl Abort + AllocGlobal)) -> Store<Fuse<Memory>> {
     opened(rt, Fuse::new(disk, 6, false, false))
 }
 
-// Holds the first byte string, or says why not.
-fn hold_first(
-    rt: &(impl Abort + AllocGlobal),
-    store: &mut Store<Fuse<Memory>>,
-) -> Result<HeldVersion, StoreRefusal> {
+// Holds the first byte string.
+fn hold_first<D: Disk>(rt: &impl Abort, store: &mut Store<D>) -> HeldVersion {
     assert!(rt; store.count() == 1);
-    store.hold_version(0)
+    store.hold_version(0).expect(rt, "what is held")
 }
 
 #[test]
 fn a_read_that_fails_is_made_again(rt: HostRuntime) {
     let mut store = failing(&rt);
-    let held = hold_first(&rt, &mut store).expect(&rt, "what is held");
+    let held = hold_first(&rt, &mut store);
     let failed = given(store.read_version(rt.alloc(), &held));
     let read = given(store.read_version(rt.alloc(), &held));
     store.let_version_go(held);
@@ -56,7 +43,7 @@ fn read_first(
 #[test]
 fn after_a_failed_change_nothing_is_read(rt: HostRuntime) {
     let mut store = failing(&rt);
-    let held = hold_first(&rt, &mut store).expect(&rt, "what is held");
+    let held = hold_first(&rt, &mut store);
     let failed = make(&rt, &mut store, Put(0, 2, 344));
     let refusals = [
         read_first(&rt, &mut store),
@@ -75,7 +62,7 @@ fn a_handle_of_another_store_reads_nothing(rt: HostRuntime) {
     let disk = disk_after(&rt, 8, &[(Put(0, 1, 344), None)]);
     let mut other = opened(&rt, copy(&rt, &disk));
     let mut store = opened(&rt, disk);
-    let held = hold(&rt, &mut store, 0);
+    let held = hold_first(&rt, &mut store);
     let read = given(other.read_version(rt.alloc(), &held));
     other.let_version_go(held);
     let _ = other.into_disk();

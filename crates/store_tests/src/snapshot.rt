@@ -78,17 +78,3 @@ fn a_snapshot_is_as_it_was(rt: HostRuntime) {
     let _ = store.into_disk();
     assert!(rt; kept);
 }
-
-// No byte string is there to be held.
-#[test]
-fn an_empty_store_has_a_snapshot(rt: HostRuntime) {
-    let mut store = formatted(&rt, 8);
-    let snapshot = taken(&rt, &mut store, &[]);
-    let found = (
-        snapshot.count(),
-        snapshot.position(&store, &numbered_name(2)),
-    );
-    snapshot.let_go(&mut store);
-    let _ = store.into_disk();
-    assert!(rt; found == (0, None));
-}

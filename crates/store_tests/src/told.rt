@@ -1,13 +1,11 @@
 // What is told of a disk of four byte strings as the contents of a registry.
 use crate::libraries::disk;
-use contents::{Contents, Finding, Info, Unread};
+use contents::{Contents, Finding, Unread};
 use elf_dynamic::ObjectRefusal;
 use hash_check::FileRefusal;
-use roots::Version;
 use samples::library;
 use sector_disk::Memory;
 use std::process::Abort;
-use store::FreeSpace;
 
 fn opened(rt: &(impl Abort + AllocGlobal)) -> Contents<Memory> {
     match Contents::open(rt.alloc(), disk(rt)) {
@@ -16,21 +14,6 @@ fn opened(rt: &(impl Abort + AllocGlobal)) -> Contents<Memory> {
     }
 }
 
-// Of 64 sectors two are the roots', nine have bytes and entries, one has the catalogue. Of the
-// others an install takes three beside the bytes: an entry, a catalogue, and one for the next.
-const INFO: Info = Info {
-    version: Version::Two,
-    sectors: 64,
-    generation: 5,
-    libraries: 4,
-    preloads: 1,
-    free: FreeSpace {
-        sectors: 52,
-        runs: 2,
-        largest: 512 * 50,
-    },
-};
-
 // What is found of each.
 const FINDINGS: [Finding; 4] = [
     Finding::Sound,
@@ -38,14 +21,6 @@ const FINDINGS: [Finding; 4] = [
     Finding::OtherName,
     Finding::Sound,
 ];
-
-#[test]
-fn the_whole_is_told(rt: HostRuntime) {
-    let contents = opened(&rt);
-    let info = contents.info();
-    let _ = contents.into_disk();
-    assert!(rt; info == INFO);
-}
 
 #[test]
 fn each_library_is_looked_at(rt: HostRuntime) {

@@ -20,7 +20,7 @@ fn is_as(alloc: Global, memory: &mut Memory, plan: Plan, calls: u32) -> bool {
     let Some(mut file) = disk(alloc, memory.sectors(), plan) else {
         return false;
     };
-    let alike = call_both(&mut file, memory, calls).is_some();
+    let alike = call_both(&mut file, memory, calls);
     let synced = file.sync().is_ok();
     let file = file.into_file();
     let all_synced = file.synced.get() == file.writes;

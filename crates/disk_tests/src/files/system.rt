@@ -12,19 +12,19 @@ fn sectors(rt: &HostRuntime, path: &str) -> Result<u32, OpenFault> {
     Ok(disk.sectors())
 }
 
-// A disk of so many sectors over a new file, which gets its name at once, or over one that has as
+// A disk of eight sectors over a new file, which gets its name at once, or over one that has as
 // many.
-fn make(rt: &HostRuntime, path: &str, sectors: u32) -> Result<FileDisk<DiskFile>, OpenFault> {
-    let Made { disk, name } = FileDisk::make(rt, rt.alloc(), path, sectors)?;
-    match name.map_or(Ok(()), |name| name.give(rt)) {
-        Ok(()) => Ok(disk),
-        Err(_) => Err(OpenFault::CannotOpen),
+fn make(rt: &HostRuntime, path: &str) -> Result<FileDisk<DiskFile>, OpenFault> {
+    let Made { disk, name } = FileDisk::make(rt, rt.alloc(), path, 8)?;
+    let is_named = match name {
+        Some(name) => name.give(rt).is_ok(),
+        None => true,
+    };
+    if is_named {
+        Ok(disk)
+    } else {
+        Err(OpenFault::CannotOpen)
     }
-}
-
-fn made(rt: &HostRuntime, path: &str, sectors: u32) -> Result<u32, OpenFault> {
-    let disk = make(rt, path, sectors)?;
-    Ok(disk.sectors())
 }
 
 // Makes a folder anew.
@@ -35,10 +35,10 @@ fn make_folder(rt: &HostRuntime, path: &str) -> bool {
 
 // Makes a file of so many zeros, or leaves so many bytes of one.
 fn set_length(rt: &HostRuntime, path: &str, length: u64) -> bool {
-    match File::create(rt, path) {
-        Ok(file) => file.set_len(length).is_ok(),
-        Err(_) => false,
-    }
+    let Ok(file) = File::create(rt, path) else {
+        return false;
+    };
+    file.set_len(length).is_ok()
 }
 
 // Whether a file has so many bytes, each of sector 1 of this value and the others zero.
@@ -57,7 +57,7 @@ fn is_file(rt: &HostRuntime, path: &str, length: usize, content: u8) -> bool {
 
 // Makes a disk of eight sectors of which sector 1 holds fives: whether that succeeds.
 fn make_of_five(rt: &HostRuntime, path: &str) -> Result<bool, OpenFault> {
-    let mut disk = make(rt, path, 8)?;
+    let mut disk = make(rt, path)?;
     Ok(write(&mut disk, 1, 5) && disk.sync().is_ok())
 }
 
@@ -91,7 +91,7 @@ fn a_disk_that_is_opened_for_reading_is_not_written(rt: HostRuntime) {
 // Makes a disk, writes sector 1, and leaves three sectors of its file and half of one: what the
 // sectors 1 to 4 hold then, and whether a sync and a write succeed; the write waits.
 fn cut(rt: &HostRuntime, path: &str) -> Result<([Option<u8>; 4], [bool; 2]), OpenFault> {
-    let mut disk = make(rt, path, 8)?;
+    let mut disk = make(rt, path)?;
     let begun = write(&mut disk, 1, 5) && set_length(rt, path, 3 * 512 + 256);
     let first = [read(&mut disk, 1), read(&mut disk, 2)];
     let last = [read(&mut disk, 3), read(&mut disk, 4)];
@@ -125,7 +125,7 @@ fn next_call(
     before: &[u32],
     then: Option<u32>,
 ) -> Result<(bool, bool), OpenFault> {
-    let mut disk = make(rt, path, 8)?;
+    let mut disk = make(rt, path)?;
     let mut begun = true;
     for at in before {
         begun = write(&mut disk, *at, 5) && begun;
@@ -192,7 +192,7 @@ fn opened_otherwise(rt: &HostRuntime) -> Option<&'static str> {
         }
     }
     for path in &MADE {
-        if made(rt, path, 8) != Err(OpenFault::CannotOpen) {
+        if make(rt, path).err() != Some(OpenFault::CannotOpen) {
             return Some(*path);
         }
     }
