@@ -36,7 +36,7 @@ CLAUSES = [
     ('rlibreg_c/bind', 'rlibreg_bind', 'image answered'),
     ('rlibreg_c/list', 'rlibreg_list', 'listing answered'),
     ('rlibreg_c/preload', 'rlibreg_plan_preload', 'plan answered left'),
-    ('rlibreg_c/change', 'rlibreg_plan_install rlibreg_plan_replace rlibreg_plan_remove', 'plan answered left'),
+    ('rlibreg_c/change', 'rlibreg_plan_install rlibreg_plan_replace rlibreg_plan_remove', 'planned'),
     ('rlibreg_c/format', 'rlibreg_plan_format', 'plan answered left'),
     ('rlibreg_c/upgrade', 'rlibreg_plan_upgrade', 'plan answered left'),
 ]

@@ -1,6 +1,6 @@
 -- What a command of a registry on a disk ends with.
-use Rattle.std.proofs.Common.{◌≡◌, ℕ, List, Option, Some, Result, Ok, Err, ap, refl, sym, subst, inl, inr, ⊎_elim}
-use Rattle.std.specs.Prelude.{is_some, true, false, ◌⊎◌, codes, OnOk}
+use Rattle.std.proofs.Common.{◌≡◌, ℕ, List, Option, Some, Result, Ok, Err, ap, refl, sym, subst, inl, inr}
+use Rattle.std.specs.Prelude.{is_some, false, ◌⊎◌, codes, OnOk}
 use Rattle.std.specs.Io.KnownBytes.{Appends}
 use Rattle.image.specs.declared.refusal.BindRefusal.TheVariants as bind_refusal
 use Rattle.requests.specs.Request.{Request}
@@ -34,6 +34,8 @@ use Rattle.commands.specs.declared.disk.NoRegistry.{NoRegistry}
 use Rattle.commands.specs.declared.disk.NoRegistry.TheVariants as no
 use Rattle.program_parts.specs.declared.file.FileFault.{FileFault}
 use Rattle.program_parts.specs.declared.file.FileFault.TheVariants.{CannotRead, OutOfMemory}
+use Rattle.commands.specs.declared.with_file.WithFile.TheVariants as with
+use Rattle.commands.specs.inside.WithFile.{AsksWith}
 use Rattle.commands.specs.inside.Ends.{BindEnds, CommandEnds, IsFormatted, IsNoRegistry, IsNotRead, IsTurnedAway, IsWritten, Replied, SaysNoMemory, IsUpgradedOver}
 use Rattle.commands.proofs.Ending.{reply_answers}
 
@@ -245,11 +247,11 @@ module _ (F : Type 0) (before after : Option (List ℕ)) where
   away_replied IsAsked why Failed is h = tt
   away_replied IsAsked why NoMemory is h = h
 
-  -- a request that was asked is such a request
-  such : (IsAsked : Request → Type 0) (q : Request) (status : Status) → IsAsked q → Replies F (λ asked. asked ≡ q) status before after → Replies F IsAsked status before after
-  such IsAsked q status is h = record {
+  -- what asks one thing asks another
+  also : (A B : Request → Type 0) → ((q : Request) → A q → B q) → (status : Status) → Replies F A status before after → Replies F B status before after
+  also A B other status h = record {
     asked = h.asked;
-    is_asked = subst IsAsked (sym h.is_asked) is;
+    is_asked = other h.asked h.is_asked;
     disk = h.disk;
     old = h.old;
     opened = h.opened;
@@ -260,13 +262,17 @@ module _ (F : Type 0) (before after : Option (List ℕ)) where
     written = h.written;
   }
 
+  pub replied_also : (A B : Request → Type 0) → ((q : Request) → A q → B q) → (status : Status) → Replied F A before after status → Replied F B before after status
+  replied_also A B other Done h = also A B other Done h
+  replied_also A B other Refused (inl h) = inl (also A B other Refused h)
+  replied_also A B other Refused (inr h) = inr h
+  replied_also A B other BadWords h = absurd h
+  replied_also A B other Failed h = tt
+  replied_also A B other NoMemory h = h
+
+  -- a request that was asked is such a request
   pub replied_as : (IsAsked : Request → Type 0) (q : Request) (status : Status) → IsAsked q → Replied F (λ asked. asked ≡ q) before after status → Replied F IsAsked before after status
-  replied_as IsAsked q Done is h = such IsAsked q Done is h
-  replied_as IsAsked q Refused is (inl h) = inl (such IsAsked q Refused is h)
-  replied_as IsAsked q Refused is (inr h) = inr h
-  replied_as IsAsked q BadWords is h = absurd h
-  replied_as IsAsked q Failed is h = tt
-  replied_as IsAsked q NoMemory is h = h
+  replied_as IsAsked q status is h = replied_also (λ asked. asked ≡ q) IsAsked (λ asked e. subst IsAsked (sym e) is) status h
 
   -- a file was not read, or memory for names was refused
   pub memory_replied : (IsAsked : Request → Type 0) (status : Status) → SaysNoMemory before after status → Replied F IsAsked before after status
@@ -323,10 +329,10 @@ module _ (F : Type 0) (io : Streams) where
   ends_as line good done refused lacks Failed h = good
   ends_as line good done refused lacks NoMemory h = (good, lacks h)
 
-  pub install_ends : (disk file : List ℕ) (status : Status) → Replied F (Asks (install disk file)) io.before io.after status → CommandEnds F (Some (install disk file)) io status
+  pub install_ends : (disk file : List ℕ) (status : Status) → Replied F (AsksWith with.Install) io.before io.after status → CommandEnds F (Some (install disk file)) io status
   install_ends disk file status h = ends_as (install disk file) refl (λ k. k) (λ k. k) (λ k. k) status h
 
-  pub replace_ends : (disk file : List ℕ) (status : Status) → Replied F (Asks (replace disk file)) io.before io.after status → CommandEnds F (Some (replace disk file)) io status
+  pub replace_ends : (disk file : List ℕ) (status : Status) → Replied F (AsksWith with.Replace) io.before io.after status → CommandEnds F (Some (replace disk file)) io status
   replace_ends disk file status h = ends_as (replace disk file) refl (λ k. k) (λ k. k) (λ k. k) status h
 
   pub remove_ends : (disk name : List ℕ) (status : Status) → Replied F (λ asked. asked ≡ request.remove name) io.before io.after status → CommandEnds F (Some (remove disk name)) io status
@@ -352,9 +358,3 @@ module _ {F : Type 0} (n : ℕ) (disk : FileDisk F) where
       → OnOk answer ((d : FileDisk F) × (registry : Opened (FileDisk F)) × IsMade n d registry)
   format_made answer left new sectors h =
       subst (λ (a : Result (Unit {0}) StoreRefusal). OnOk a ((d : FileDisk F) × (registry : Opened (FileDisk F)) × IsMade n d registry)) (sym h.2) (made_as h.0 new sectors h.1)
-
--- what a command ends with whose disk is the file behind a standard stream, when nothing was printed
-pub ends_away : (F : Type 0) (line : CommandLine) (io : Streams) (status : Status) → io.after ≡ io.before
-    → ((status ≡ BadWords) × (are_bad (Some line) ≡ true)) ⊎ ((status ≡ Failed) × (are_bad (Some line) ≡ false)) → CommandEnds F (Some line) io status
-ends_away F line io status same either =
-    ⊎_elim (λ bad. subst (CommandEnds F (Some line) io) (sym bad.0) (bad.1, same)) (λ failed. subst (CommandEnds F (Some line) io) (sym failed.0) failed.1) either

@@ -8,7 +8,6 @@ pub mod Lines
 pub mod Pages
 pub mod Pieces
 pub mod ScriptRuns
-pub mod Saying
 pub mod Scripts
 pub mod Seen
 pub mod Sent

@@ -3,3 +3,4 @@ pub mod Asked
 pub mod Ends
 pub mod Progress
 pub mod Watched
+pub mod WithFile

@@ -1,9 +1,8 @@
 // A command line.
 
 ghost use Rattle.std.specs.Prelude.{◌≡◌, ◌≢◌, ◌≤◌, ◌<◌, ◌==◌, ◌⊎◌, true, false};
-ghost use Rattle.std.specs.Prelude.{Some, None, MatchResult, IfOk, map, string_bytes, vec_len};
+ghost use Rattle.std.specs.Prelude.{Some, None, MatchResult, map, string_bytes};
 ghost use Rattle.program_parts.specs.Base.{base_of};
-ghost use Rattle.program_parts.specs.File.{read_limit};
 ghost use Rattle.commands.specs.Outcome.{are_bad, reads_input, IsDone, IsRefused, LacksMemory};
 ghost use Rattle.commands.specs.Said.{bad_text, base_text};
 ghost use Rattle.program_parts.specs.Said.{AppendsFront};
@@ -14,11 +13,12 @@ ghost use Rattle.file_disk.specs.declared.disk_file.DiskFile.{DiskFile};
 
 use crate::action::{Action, read_words};
 use crate::message::{bad_base, bad_command_line, cannot_read};
-use crate::on_disk::{ask, bind, format, install, preload, replace, upgrade};
+use crate::on_disk::{ask, bind, format, preload, upgrade};
 use crate::script_on_disk::script;
 use crate::show::run_image;
 use crate::status::status_of;
 use crate::unread::not_read;
+use crate::with_file::{WithFile, ask_with};
 use program_parts::{Behind, FileFault, Status, behind_streams, parse_base, read_file};
 use requests::Command;
 use std::alloc::Global;
@@ -93,8 +93,12 @@ fn run_action<R: Files<File = File> + Clock, I: Read, O: Write, E: Write>(
         Action::Image { program, base } => image(rt, alloc, program, base, output, errors),
         Action::Format { disk, sectors } => format(rt, alloc, disk, sectors, output, errors),
         Action::Upgrade { disk } => upgrade(rt, alloc, disk, output, errors),
-        Action::Install { disk, file } => install(rt, alloc, disk, file, output, errors),
-        Action::Replace { disk, file } => replace(rt, alloc, disk, file, output, errors),
+        Action::Install { disk, file } => {
+            ask_with(rt, alloc, disk, WithFile::Install, file, output, errors)
+        }
+        Action::Replace { disk, file } => {
+            ask_with(rt, alloc, disk, WithFile::Replace, file, output, errors)
+        }
         Action::Remove { disk, name } => {
             let command = Command::Remove(name.as_bytes());
             ask(rt, alloc, disk, &command, output, errors)
@@ -136,35 +140,17 @@ fn keep_away<E: Write>(action: &Action<'_>, disk: &str, behind: Behind, errors: 
     }
 }
 
-/// Does a command, unless what it says would be written into its disk.
-fn run_apart<R: Files<File = File> + Clock, I: Read, O: Write, E: Write>(
-    rt: &R,
-    alloc: Global,
-    action: &Action<'_>,
-    input: &mut I,
-    output: &mut O,
-    errors: &mut E,
-) -> Status
-    ensures ends { CommandEnds DiskFile (Some (line_of action.now)) (record {
-      unread = I.remaining input.old;
-      before = O.contents output.old;
-      after = O.contents output.new;
-    }) result }
-    ensures unread { reads_input (Some (line_of action.now)) ≡ false → input.new ≡ input.old }
-    ensures said { IsSaid base_text (O.contents output.old) (O.contents output.new)
-        (E.contents errors.old) (E.contents errors.new) result }
-{
-    let Some(disk) = action.disk() else {
-        return run_action(rt, alloc, action, input, output, errors);
-    };
+/// The disk of a command, where it is the file behind a standard stream, and what stands there.
+fn disk_behind<'a, R: Files>(rt: &R, action: &Action<'a>) -> Option<(&'a str, Behind)> {
+    let disk = action.disk()?;
     let reads_input = matches!(action, Action::Script { .. });
     match behind_streams(rt, disk, reads_input) {
-        Behind::Other => run_action(rt, alloc, action, input, output, errors),
-        behind => keep_away(action, disk, behind, errors),
+        Behind::Other => None,
+        behind => Some((disk, behind)),
     }
 }
 
-/// Does the command that the words are.
+/// Does the command that the words are, unless what it says would be written into its disk.
 fn run_command<R: Files<File = File> + Clock, I: Read, O: Write, E: Write>(
     rt: &R,
     alloc: Global,
@@ -186,7 +172,10 @@ fn run_command<R: Files<File = File> + Clock, I: Read, O: Write, E: Write>(
         (E.contents errors.old) (E.contents errors.new) result }
 {
     match read_words(words) {
-        Some(action) => run_apart(rt, alloc, &action, input, output, errors),
+        Some(action) => match disk_behind(rt, &action) {
+            None => run_action(rt, alloc, &action, input, output, errors),
+            Some((disk, behind)) => keep_away(&action, disk, behind, errors),
+        },
         None => bad_command_line(errors),
     }
 }

@@ -3,7 +3,7 @@
 ghost use Rattle.std.specs.Prelude.{◌≡◌, ◌∷◌, ℕ, List, map, string_bytes};
 ghost use Rattle.std.specs.Option.{option_map};
 ghost use Rattle.commands.specs.Words.{CommandLine, command_line, line_of};
-ghost use Rattle.commands.specs.Words.{of_one, of_two, of_three, format_behind, preload_behind};
+ghost use Rattle.commands.specs.Words.{bind, format_behind, of_one, of_three, of_two, preload_behind};
 
 use crate::action::Action;
 use crate::sectors::parse_sectors;
@@ -31,18 +31,6 @@ fn two_words(words: &[String]) -> Option<(&str, &str)>
     }
 }
 
-/// The words, where they are three.
-fn three_words(words: &[String]) -> Option<(&str, &str, &str)>
-    ensures { (command : List ℕ → List ℕ → List ℕ → CommandLine)
-        → option_map (λ w. command w.0.now w.1.now w.2.now) result
-        ≡ of_three command (map (λ word. string_bytes word) words.now) }
-{
-    match words {
-        [a, b, c] => Some((a, b, c)),
-        _ => None,
-    }
-}
-
 /// `format` of DISK SECTORS.
 fn read_format(words: &[String]) -> Option<Action<'_>>
     ensures { option_map line_of result
@@ -53,6 +41,21 @@ fn read_format(words: &[String]) -> Option<Action<'_>>
             let sectors = parse_sectors(sectors)?;
             Some(Action::Format { disk, sectors })
         }
+        _ => None,
+    }
+}
+
+/// `bind` of DISK PROGRAM BASE.
+fn read_bind(words: &[String]) -> Option<Action<'_>>
+    ensures { option_map line_of result
+        ≡ of_three bind (map (λ word. string_bytes word) words.now) }
+{
+    match words {
+        [disk, program, base] => Some(Action::Bind {
+            disk,
+            program,
+            base,
+        }),
         _ => None,
     }
 }
@@ -98,14 +101,7 @@ pub(crate) fn read_form<'a>(name: &str, words: &'a [String]) -> Option<Action<'a
             let disk = one_word(words)?;
             Some(Action::List { disk })
         }
-        "bind" => {
-            let (disk, program, base) = three_words(words)?;
-            Some(Action::Bind {
-                disk,
-                program,
-                base,
-            })
-        }
+        "bind" => read_bind(words),
         "script" => {
             let disk = one_word(words)?;
             Some(Action::Script { disk })

@@ -34,6 +34,7 @@ mod summary;
 mod takes_events;
 mod unread;
 mod watched;
+mod with_file;
 mod word;
 
 pub use action::{Action, read_words};

@@ -1,6 +1,6 @@
 // The commands of a registry on a disk.
 
-ghost use Rattle.std.specs.Prelude.{◌≡◌, false, map, string_bytes, IfOk};
+ghost use Rattle.std.specs.Prelude.{◌≡◌, map, string_bytes, IfOk};
 ghost use Rattle.requests.specs.Request.{request_of};
 ghost use Rattle.program_parts.specs.Base.{base_of};
 ghost use Rattle.commands.specs.Outcome.{Asks};
@@ -16,8 +16,9 @@ use crate::disk_answer::write_disk_answer;
 use crate::making::run_upgrade;
 use crate::message::bad_base;
 use crate::request::run_request;
-use crate::unread::{no_memory, not_read};
-use program_parts::{Status, parse_base, read_file};
+use crate::unread::no_memory;
+use crate::with_file::{WithFile, ask_with};
+use program_parts::{Status, parse_base};
 use requests::Command;
 use std::alloc::{AllocError, Global};
 use std::fs::File;
@@ -93,48 +94,6 @@ pub(crate) fn upgrade<R: Files<File = File> + Clock, O: Write, E: Write>(
     }
 }
 
-/// `install DISK FILE`. The file is read before the disk is opened.
-#[tactic(auto, using(crate::proofs::Asking::unread_replied))]
-pub(crate) fn install<R: Files<File = File> + Clock, O: Write, E: Write>(
-    rt: &R,
-    alloc: Global,
-    disk: &str,
-    file: &str,
-    output: &mut O,
-    errors: &mut E,
-) -> Status
-    ensures ends { Replied DiskFile (Asks (words.install disk.now file.now))
-        (O.contents output.old) (O.contents output.new) result }
-    ensures said { IsSaid base_text (O.contents output.old) (O.contents output.new)
-        (E.contents errors.old) (E.contents errors.new) result }
-{
-    match read_file(rt, alloc, file) {
-        Ok(bytes) => ask(rt, alloc, disk, &Command::Install(&bytes), output, errors),
-        Err(fault) => not_read(fault, file, output, errors),
-    }
-}
-
-/// `replace DISK FILE`. The file is read before the disk is opened.
-#[tactic(auto, using(crate::proofs::Asking::unread_replied))]
-pub(crate) fn replace<R: Files<File = File> + Clock, O: Write, E: Write>(
-    rt: &R,
-    alloc: Global,
-    disk: &str,
-    file: &str,
-    output: &mut O,
-    errors: &mut E,
-) -> Status
-    ensures ends { Replied DiskFile (Asks (words.replace disk.now file.now))
-        (O.contents output.old) (O.contents output.new) result }
-    ensures said { IsSaid base_text (O.contents output.old) (O.contents output.new)
-        (E.contents errors.old) (E.contents errors.new) result }
-{
-    match read_file(rt, alloc, file) {
-        Ok(bytes) => ask(rt, alloc, disk, &Command::Replace(&bytes), output, errors),
-        Err(fault) => not_read(fault, file, output, errors),
-    }
-}
-
 /// The bytes of names.
 fn bytes_of(alloc: Global, names: &[String]) -> Result<Vec<&[u8]>, AllocError>
     ensures { IfOk result (λ list. map (λ name. name.now) list.items
@@ -174,7 +133,7 @@ pub(crate) fn preload<R: Files<File = File> + Clock, O: Write, E: Write>(
 
 /// `bind DISK PROGRAM BASE`. BASE is read before any file is opened, and the program before the
 /// disk is.
-#[tactic(auto, using(crate::proofs::Asking::unread_replied, crate::proofs::Asking::bind_ends))]
+#[tactic(auto, using(crate::proofs::Asking::bind_ends))]
 pub(crate) fn bind<R: Files<File = File> + Clock, O: Write, E: Write>(
     rt: &R,
     alloc: Global,
@@ -190,21 +149,11 @@ pub(crate) fn bind<R: Files<File = File> + Clock, O: Write, E: Write>(
     ensures said { IsSaid base_text (O.contents output.old) (O.contents output.new)
         (E.contents errors.old) (E.contents errors.new) result }
 {
-    let Some(base) = parse_base(base) else {
-        return bad_base(errors);
-    };
-    match read_file(rt, alloc, program) {
-        Ok(bytes) => ask(
-            rt,
-            alloc,
-            disk,
-            &Command::Bind {
-                program: &bytes,
-                base,
-            },
-            output,
-            errors,
-        ),
-        Err(fault) => not_read(fault, program, output, errors),
+    match parse_base(base) {
+        Some(base) => {
+            let asking = WithFile::Bind { base };
+            ask_with(rt, alloc, disk, asking, program, output, errors)
+        }
+        None => bad_base(errors),
     }
 }

@@ -1,7 +1,6 @@
 // Changes of the libraries: plans.
-ghost use Rattle.std.specs.Prelude.{◌≡◌};
 ghost use Rattle.requests.specs.Request.{install, replace, remove};
-ghost use Rattle.c_answers.specs.Answers.{IsChangeAnswered, IsLeft, IsPlanOf};
+ghost use Rattle.rlibreg_c.specs.Planned.{IsPlanned};
 
 use c_answers::{Answer, plan_change};
 use requests::Command;
@@ -17,12 +16,8 @@ pub extern "C" fn rlibreg_plan_install(
     text: &mut [u8],
     answer: &mut Answer,
 ) -> u32
-    // The plan leads from the state that the bytes hold to the one that acceptance gives.
-    ensures plan { result ≡ 0 → IsPlanOf disk.now (install file.now) plan.new answer.new }
-    ensures answered { IsChangeAnswered disk.now (install file.now) plan.new text.new answer.new
+    ensures planned { IsPlanned disk.now (install file.now) plan.old plan.new text.new answer.new
         result }
-    ensures left { IsLeft plan.old plan.new result }
-    ensures status { answer.new.status ≡ result }
 {
     *answer = plan_change(alloc, disk, &Command::Install(file), plan, text);
     answer.status
@@ -38,12 +33,8 @@ pub extern "C" fn rlibreg_plan_replace(
     text: &mut [u8],
     answer: &mut Answer,
 ) -> u32
-    // The plan leads from the state that the bytes hold to the one that acceptance gives.
-    ensures plan { result ≡ 0 → IsPlanOf disk.now (replace file.now) plan.new answer.new }
-    ensures answered { IsChangeAnswered disk.now (replace file.now) plan.new text.new answer.new
+    ensures planned { IsPlanned disk.now (replace file.now) plan.old plan.new text.new answer.new
         result }
-    ensures left { IsLeft plan.old plan.new result }
-    ensures status { answer.new.status ≡ result }
 {
     *answer = plan_change(alloc, disk, &Command::Replace(file), plan, text);
     answer.status
@@ -59,12 +50,8 @@ pub extern "C" fn rlibreg_plan_remove(
     text: &mut [u8],
     answer: &mut Answer,
 ) -> u32
-    // The plan leads from the state that the bytes hold to the one that acceptance gives.
-    ensures plan { result ≡ 0 → IsPlanOf disk.now (remove name.now) plan.new answer.new }
-    ensures answered { IsChangeAnswered disk.now (remove name.now) plan.new text.new answer.new
+    ensures planned { IsPlanned disk.now (remove name.now) plan.old plan.new text.new answer.new
         result }
-    ensures left { IsLeft plan.old plan.new result }
-    ensures status { answer.new.status ≡ result }
 {
     *answer = plan_change(alloc, disk, &Command::Remove(name), plan, text);
     answer.status

@@ -1,7 +1,6 @@
 pub mod Answering
 pub mod Cuts
 pub mod Findings
-pub mod Forms
 pub mod Installs
 pub mod Listing
 pub mod Named

@@ -1,2 +1,3 @@
 pub mod Lack
 pub mod Listed
+pub mod WithFile

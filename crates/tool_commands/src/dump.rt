@@ -137,28 +137,6 @@ fn put_end<D: Disk, W: Write>(
     }
 }
 
-/// The script.
-fn put_script<D: Disk, W: Write>(
-    contents: &mut Contents<D>,
-    alloc: Global,
-    script: &mut Script,
-    out: &mut W,
-) -> Result<Option<Cut>, WriteFault>
-    ensures read { IsRead D.facts contents.old contents.new }
-    ensures inside { IfOk result (λ cut. IfSome cut (λ c.
-        c.position < length contents.new.entries)) }
-    ensures ok { (s : State) → IsAt D.facts contents.old s → IfOk result (λ cut.
-        IsGone s cut × Sends (W.contents out.old) script.old (W.contents out.new) script.new
-        (libraries_text s cut ++ end_text s.preloads cut)) }
-    ensures told { IfOk result (λ cut. (libraries : List Library) × (preloads : List (List ℕ))
-        × IsLacking cut × Sends (W.contents out.old) script.old (W.contents out.new) script.new
-        (flat_map install_text libraries ++ end_text preloads cut)) }
-{
-    let cut = put_libraries(contents, alloc, script, out)?;
-    put_end(contents.store(), &cut, script, out)?;
-    Ok(cut)
-}
-
 /// Writes the script.
 fn write_script<D: Disk, W: Write>(
     contents: &mut Contents<D>,
@@ -176,7 +154,8 @@ fn write_script<D: Disk, W: Write>(
         (flat_map install_text libraries ++ end_text preloads cut)) }
 {
     let mut script = Script::new();
-    let cut = put_script(contents, alloc, &mut script, out)?;
+    let cut = put_libraries(contents, alloc, &mut script, out)?;
+    put_end(contents.store(), &cut, &mut script, out)?;
     script.send(out)?;
     Ok(cut)
 }

@@ -2,7 +2,9 @@
 
 ghost use Rattle.std.specs.Prelude.{◌≡◌, ◌∷◌, map, string_bytes};
 ghost use Rattle.std.specs.Option.{option_map};
-ghost use Rattle.tool_commands.specs.Form.{command_line, line_of};
+ghost use Rattle.tool_commands.specs.Form.{command_line, line_of, question_of};
+ghost use Rattle.tool_commands.specs.Form.{executable_behind, of_one, of_two};
+ghost use Rattle.tool_commands.specs.Form.{file, remove, replace, tell};
 
 use program_parts::parse_base;
 
@@ -46,25 +48,92 @@ pub struct Asked<'a> {
     pub action: Action<'a>,
 }
 
+/// What is told of DISK, where it stands alone.
+fn read_disk<'a>(form: Form<'a>, words: &'a [String]) -> Option<Asked<'a>>
+    ensures { option_map line_of result
+        ≡ of_one (question_of form.entry) (map (λ word. string_bytes word) words.now) }
+{
+    match words {
+        [disk] => Some(Asked {
+            disk,
+            action: Action::Tell(form),
+        }),
+        _ => None,
+    }
+}
+
+/// `file` of DISK NAME.
+fn read_file(words: &[String]) -> Option<Asked<'_>>
+    ensures { option_map line_of result
+        ≡ of_two (λ name. tell (file name)) (map (λ word. string_bytes word) words.now) }
+{
+    match words {
+        [disk, name] => Some(Asked {
+            disk,
+            action: Action::Tell(Form::File(name)),
+        }),
+        _ => None,
+    }
+}
+
+/// `replace` of DISK FILE.
+fn read_replace(words: &[String]) -> Option<Asked<'_>>
+    ensures { option_map line_of result
+        ≡ of_two replace (map (λ word. string_bytes word) words.now) }
+{
+    match words {
+        [disk, file] => Some(Asked {
+            disk,
+            action: Action::Replace(file),
+        }),
+        _ => None,
+    }
+}
+
+/// `remove` of DISK NAME.
+fn read_remove(words: &[String]) -> Option<Asked<'_>>
+    ensures { option_map line_of result
+        ≡ of_two remove (map (λ word. string_bytes word) words.now) }
+{
+    match words {
+        [disk, name] => Some(Asked {
+            disk,
+            action: Action::Remove(name),
+        }),
+        _ => None,
+    }
+}
+
+/// `executable` of DISK PROGRAM BASE.
+fn read_executable(words: &[String]) -> Option<Asked<'_>>
+    ensures { option_map line_of result
+        ≡ executable_behind (map (λ word. string_bytes word) words.now) }
+{
+    match words {
+        [disk, program, base] => {
+            let base = parse_base(base)?;
+            let action = Action::Executable { program, base };
+            Some(Asked { disk, action })
+        }
+        _ => None,
+    }
+}
+
 /// What is done by the form of this name, and with which disk.
 fn read_form<'a>(name: &str, words: &'a [String]) -> Option<Asked<'a>>
     ensures { option_map line_of result
         ≡ command_line (name.now ∷ map (λ word. string_bytes word) words.now) }
 {
-    let (disk, action) = match (name, words) {
-        ("info", [disk]) => (disk, Action::Tell(Form::Info)),
-        ("check", [disk]) => (disk, Action::Tell(Form::Check)),
-        ("file", [disk, name]) => (disk, Action::Tell(Form::File(name))),
-        ("dump", [disk]) => (disk, Action::Tell(Form::Dump)),
-        ("replace", [disk, file]) => (disk, Action::Replace(file)),
-        ("remove", [disk, name]) => (disk, Action::Remove(name)),
-        ("executable", [disk, program, base]) => {
-            let base = parse_base(base)?;
-            (disk, Action::Executable { program, base })
-        }
-        _ => return None,
-    };
-    Some(Asked { disk, action })
+    match name {
+        "info" => read_disk(Form::Info, words),
+        "check" => read_disk(Form::Check, words),
+        "file" => read_file(words),
+        "dump" => read_disk(Form::Dump, words),
+        "replace" => read_replace(words),
+        "remove" => read_remove(words),
+        "executable" => read_executable(words),
+        _ => None,
+    }
 }
 
 /// What the words after the program's name ask. It takes no memory.

@@ -24,6 +24,7 @@ mod run;
 mod said;
 mod sound;
 mod telling;
+mod with_file;
 
 pub use arguments::run_arguments;
 pub use check::run_check;

@@ -1,19 +1,20 @@
 // What is done with the disk that a file is.
 
 ghost use Rattle.std.specs.Prelude.{◌≡◌, IfOk};
-ghost use Rattle.requests.specs.Request as request;
 ghost use Rattle.requests.specs.Request.{request_of};
 ghost use Rattle.file_disk.specs.FileDisk.{IsNew};
 ghost use Rattle.file_disk.specs.declared.disk_file.DiskFile.{DiskFile};
 ghost use Rattle.tool_commands.specs.Form.{deed_of, question_of};
 ghost use Rattle.tool_commands.specs.Outcome.{AskEnds, DeedEnds, ReadEnds, TellEnds};
 ghost use Rattle.tool_commands.specs.Outcome.{open_status, read_status};
+ghost use Rattle.tool_commands.specs.inside.WithFile.{request_with, telling_of};
 
 use crate::form::{Action, Asked, Form};
 use crate::request::run_request;
 use crate::run::{end_unopened, run_form};
 use crate::said::{cannot_read, say_refusal};
 use crate::telling::Telling;
+use crate::with_file::WithFile;
 use file_disk::{DiskFile, FileDisk, OpenFault};
 use program_parts::{FileFault, Status, read_file};
 use requests::Command;
@@ -60,22 +61,37 @@ fn tell<R: Files<File = File> + Clock, O: Write, E: Write>(
     }
 }
 
-/// Applies a command to the registry on the disk that was opened at a path, and tells the reply.
-/// The lock is held until the output is written.
-fn ask<O: Write, E: Write>(
+/// Opens a disk: for an executable file for reading alone, and else with a lock that nobody else may
+/// hold.
+fn open_disk<R: Files<File = File> + Clock>(
+    rt: &R,
     alloc: Global,
-    opened: Result<FileDisk<DiskFile>, OpenFault>,
+    path: &str,
+    telling: Telling,
+) -> Result<FileDisk<DiskFile>, OpenFault>
+    ensures { IfOk result (λ disk. IsNew disk) }
+{
+    match telling {
+        Telling::Text => FileDisk::open(rt, alloc, path),
+        Telling::Executable => FileDisk::open_read_only(rt, alloc, path),
+    }
+}
+
+/// Applies a command to the registry on a disk, and tells the reply. The lock is held until the
+/// output is written.
+fn ask<R: Files<File = File> + Clock, O: Write, E: Write>(
+    rt: &R,
+    alloc: Global,
     path: &str,
     command: &Command<'_>,
     telling: Telling,
     output: &mut O,
     errors: &mut E,
 ) -> Status
-    requires { IfOk opened (λ disk. IsNew disk) }
     ensures { AskEnds DiskFile (request_of command.now) telling
         (O.contents output.old) (O.contents output.new) result }
 {
-    match opened {
+    match open_disk(rt, alloc, path, telling) {
         Ok(disk) => {
             let (status, disk) = run_request(alloc, disk, command, telling, output, errors);
             drop(disk);
@@ -83,22 +99,6 @@ fn ask<O: Write, E: Write>(
         }
         Err(fault) => not_opened(alloc, path, fault, errors),
     }
-}
-
-/// Opens the disk with a lock that nobody else may hold, and changes its registry.
-fn change<R: Files<File = File> + Clock, O: Write, E: Write>(
-    rt: &R,
-    alloc: Global,
-    path: &str,
-    command: &Command<'_>,
-    output: &mut O,
-    errors: &mut E,
-) -> Status
-    ensures { AskEnds DiskFile (request_of command.now) Telling.Text
-        (O.contents output.old) (O.contents output.new) result }
-{
-    let opened = FileDisk::open(rt, alloc, path);
-    ask(alloc, opened, path, command, Telling::Text, output, errors)
 }
 
 /// Says why a file wasn't read.
@@ -111,51 +111,25 @@ fn not_read<E: Write>(alloc: Global, path: &str, fault: FileFault, errors: &mut 
     }
 }
 
-/// Puts a file in the place of the library of its name. The file is read before the disk is opened.
-fn replace<R: Files<File = File> + Clock, O: Write, E: Write>(
+/// Reads a file, and then opens the disk and asks what is asked with the file's bytes.
+fn ask_with<R: Files<File = File> + Clock, O: Write, E: Write>(
     rt: &R,
     alloc: Global,
     path: &str,
+    asking: WithFile,
     file: &str,
     output: &mut O,
     errors: &mut E,
 ) -> Status
-    ensures { ReadEnds DiskFile request.replace Telling.Text
+    ensures { ReadEnds DiskFile (request_with asking) (telling_of asking)
         (O.contents output.old) (O.contents output.new) result }
 {
     match read_file(rt, alloc, file) {
         Ok(bytes) => {
-            let command = Command::Replace(&bytes);
-            change(rt, alloc, path, &command, output, errors)
+            let command = asking.command(&bytes);
+            ask(rt, alloc, path, &command, asking.telling(), output, errors)
         }
         Err(fault) => not_read(alloc, file, fault, errors),
-    }
-}
-
-/// Gives the executable file of a program. It is read before the disk is opened, for reading alone.
-fn executable<R: Files<File = File> + Clock, O: Write, E: Write>(
-    rt: &R,
-    alloc: Global,
-    path: &str,
-    program: &str,
-    base: u64,
-    output: &mut O,
-    errors: &mut E,
-) -> Status
-    ensures { ReadEnds DiskFile (λ bytes. request.bind bytes base) Telling.Executable
-        (O.contents output.old) (O.contents output.new) result }
-{
-    match read_file(rt, alloc, program) {
-        Ok(bytes) => {
-            let command = Command::Bind {
-                program: &bytes,
-                base,
-            };
-            let opened = FileDisk::open_read_only(rt, alloc, path);
-            let telling = Telling::Executable;
-            ask(alloc, opened, path, &command, telling, output, errors)
-        }
-        Err(fault) => not_read(alloc, program, fault, errors),
     }
 }
 
@@ -173,13 +147,16 @@ pub(crate) fn run_asked<R: Files<File = File> + Clock, O: Write, E: Write>(
     let disk = asked.disk;
     match asked.action {
         Action::Tell(form) => tell(rt, alloc, disk, &form, output, errors),
-        Action::Replace(file) => replace(rt, alloc, disk, file, output, errors),
+        Action::Replace(file) => {
+            ask_with(rt, alloc, disk, WithFile::Replace, file, output, errors)
+        }
         Action::Remove(name) => {
             let command = Command::Remove(name.as_bytes());
-            change(rt, alloc, disk, &command, output, errors)
+            ask(rt, alloc, disk, &command, Telling::Text, output, errors)
         }
         Action::Executable { program, base } => {
-            executable(rt, alloc, disk, program, base, output, errors)
+            let asking = WithFile::Executable { base };
+            ask_with(rt, alloc, disk, asking, program, output, errors)
         }
     }
 }

@@ -1,8 +1,16 @@
+use Rattle.std.proofs.Common.{refl}
 use Rattle.requests.specs.Request.{remove}
 use Rattle.c_answers.proofs.Given.{plan_given, no_listing, no_image}
 use Rattle.rlibreg_c.proofs.change.rlibreg_plan_remove.Goals as goal
 
-pub returns-clause-plan : goal.returns-clause-plan
-returns-clause-plan c zero =
+pub returns : goal.returns
+returns c =
     let on = c.plan_change in
-    plan_given c.args.disk.now (remove c.args.name.now) (λ s l e. no_listing l e) (λ s image e. no_image image e) on.new.plan on.new.text on.result on.result.status zero on.ensures.answered
+    record {
+      planned = record {
+        plan = λ zero. plan_given c.args.disk.now (remove c.args.name.now) (λ s l e. no_listing l e) (λ s image e. no_image image e) on.new.plan on.new.text on.result on.result.status zero on.ensures.answered;
+        answered = on.ensures.answered;
+        left = on.ensures.left;
+        status = refl;
+      };
+    }

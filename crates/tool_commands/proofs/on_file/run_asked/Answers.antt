@@ -12,16 +12,16 @@ returns-in-Tell g c =
 
 pub returns-in-Replace : goal.returns-in-Replace
 returns-in-Replace g c =
-    subst (λ a. DeedEnds DiskFile (deed_of a) (g.O.Write.contents c.args.output.now) (g.O.Write.contents c.replace.new.output) c.replace.result) (sym c.in-Replace.is) c.replace.ensures
+    subst (λ a. DeedEnds DiskFile (deed_of a) (g.O.Write.contents c.args.output.now) (g.O.Write.contents c.ask_with.new.output) c.ask_with.result) (sym c.in-Replace.is) c.ask_with.ensures
 
 pub returns-in-Remove : goal.returns-in-Remove
 returns-in-Remove g c =
     let before = g.O.Write.contents c.args.output.now in
-    let after = g.O.Write.contents c.change.new.output in
-    let named = subst (λ n. AskEnds DiskFile (request.remove n) Text before after c.change.result) c.as_bytes.ensures.value c.change.ensures in
-    subst (λ a. DeedEnds DiskFile (deed_of a) before after c.change.result) (sym c.in-Remove.is) named
+    let after = g.O.Write.contents c.ask.new.output in
+    let named = subst (λ n. AskEnds DiskFile (request.remove n) Text before after c.ask.result) c.as_bytes.ensures.value c.ask.ensures in
+    subst (λ a. DeedEnds DiskFile (deed_of a) before after c.ask.result) (sym c.in-Remove.is) named
 
 pub returns-in-Executable : goal.returns-in-Executable
 returns-in-Executable g c =
-    subst (λ a. DeedEnds DiskFile (deed_of a) (g.O.Write.contents c.args.output.now) (g.O.Write.contents c.executable.new.output) c.executable.result)
-    (sym c.in-Executable.is) c.executable.ensures
+    subst (λ a. DeedEnds DiskFile (deed_of a) (g.O.Write.contents c.args.output.now) (g.O.Write.contents c.ask_with-in-Executable.new.output) c.ask_with-in-Executable.result)
+    (sym c.in-Executable.is) c.ask_with-in-Executable.ensures

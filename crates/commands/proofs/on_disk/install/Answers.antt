@@ -1,8 +1,0 @@
-use Rattle.std.proofs.Common.{ap}
-use Rattle.requests.specs.Request as request
-use Rattle.commands.proofs.Asking.{replied_as}
-use Rattle.commands.proofs.on_disk.install.Goals as goal
-
-pub returns-in-Ok-clause-ends : goal.returns-in-Ok-clause-ends
-returns-in-Ok-clause-ends g c =
-    replied_as _ _ _ _ _ _ (c.in-Ok.bytes.items, c.in-Ok.ensures, ap request.install c.deref.ensures.value) c.ask.ensures.ends

@@ -1,0 +1,45 @@
+// What is asked with the bytes of a file.
+
+ghost use Rattle.std.specs.Prelude.{◌≡◌};
+ghost use Rattle.requests.specs.Request.{request_of};
+ghost use Rattle.tool_commands.specs.inside.WithFile.{request_with, telling_of};
+
+use crate::telling::Telling;
+use requests::Command;
+
+/// What is asked of a registry with the bytes of a file.
+#[derive(Clone, Copy)]
+pub(crate) enum WithFile {
+    /// Puts it in the place of the library of the same name.
+    Replace,
+    /// Gives the executable file of a program.
+    Executable {
+        /// The address at which it is bound.
+        base: u64,
+    },
+}
+
+impl WithFile {
+    /// The command, with these bytes.
+    pub(crate) fn command(self, bytes: &[u8]) -> Command<'_>
+        ensures { request_of result ≡ request_with self bytes.now }
+    {
+        match self {
+            WithFile::Replace => Command::Replace(bytes),
+            WithFile::Executable { base } => Command::Bind {
+                program: bytes,
+                base,
+            },
+        }
+    }
+
+    /// How its reply is told.
+    pub(crate) fn telling(self) -> Telling
+        ensures { result ≡ telling_of self }
+    {
+        match self {
+            WithFile::Replace => Telling::Text,
+            WithFile::Executable { .. } => Telling::Executable,
+        }
+    }
+}
