@@ -32,7 +32,7 @@ const DAMAGED: [Wanted; 3] = [S5, S5, S4];
 
 /// Of a disk of version 1 or 2. In the order of the disk the first sector of bytes is taken for the
 /// entry, or for the catalogue.
-pub(crate) static ROWS: [Row; 9] = [
+pub(crate) const ROWS: [Row; 9] = [
     (&[], [S5, HELD, S4]),
     // One root, no root.
     (&[Zeros(1)], [EMPTY, EMPTY, S4]),
@@ -49,7 +49,7 @@ pub(crate) static ROWS: [Row; 9] = [
 ];
 
 /// Of a disk of version 2 alone.
-pub(crate) static NEW_ROWS: [Row; 9] = [
+pub(crate) const NEW_ROWS: [Row; 9] = [
     // The root has no catalogue, or two, or the entry as one, or it is one of version 1.
     (&[Byte(1, 56, 0)], DAMAGED),
     (&[Byte(1, 56, 2)], DAMAGED),

@@ -99,7 +99,7 @@ fn all_lie(alloc: Global, version: u8, rows: &[Row]) -> Option<bool> {
 
 #[test]
 fn a_liar_is_refused_or_answers_a_script(rt: HostRuntime) {
-    for (version, rows) in [(1, &ROWS), (2, &ROWS), (2, &NEW_ROWS)] {
-        assert!(rt; all_lie(rt.alloc(), version, rows) == Some(true));
-    }
+    assert!(rt; all_lie(rt.alloc(), 1, &ROWS) == Some(true));
+    assert!(rt; all_lie(rt.alloc(), 2, &ROWS) == Some(true));
+    assert!(rt; all_lie(rt.alloc(), 2, &NEW_ROWS) == Some(true));
 }
