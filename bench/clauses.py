@@ -21,10 +21,12 @@ For who uses a crate, or asks what is proved of a call: each public call with th
 
 
 def exported(crate):
-    """The names that a crate's lib.rt gives its users."""
+    """The names that a crate's lib.rt gives its users, and those that it exports to C."""
     names = set()
     for used in re.findall(r'^pub use ([^;]*);', (crate / 'src' / 'lib.rt').read_text(), re.M):
         names.update(re.findall(r'\w+', used.split('::', 1)[-1]))
+    for path in (crate / 'src').glob('*.rt'):
+        names.update(re.findall(r'^pub extern "C" fn (\w+)', path.read_text(), re.M))
     return names
 
 

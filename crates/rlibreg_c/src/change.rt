@@ -16,6 +16,7 @@ pub extern "C" fn rlibreg_plan_install(
     text: &mut [u8],
     answer: &mut Answer,
 ) -> u32
+    // The plan leads from the state that the bytes hold to the one that acceptance gives.
     ensures planned { IsPlanned disk.now (install file.now) plan.old plan.new text.new answer.new
         result }
 {
@@ -33,6 +34,7 @@ pub extern "C" fn rlibreg_plan_replace(
     text: &mut [u8],
     answer: &mut Answer,
 ) -> u32
+    // The plan leads from the state that the bytes hold to the one that acceptance gives.
     ensures planned { IsPlanned disk.now (replace file.now) plan.old plan.new text.new answer.new
         result }
 {
@@ -50,6 +52,7 @@ pub extern "C" fn rlibreg_plan_remove(
     text: &mut [u8],
     answer: &mut Answer,
 ) -> u32
+    // The plan leads from the state that the bytes hold to the one that acceptance gives.
     ensures planned { IsPlanned disk.now (remove name.now) plan.old plan.new text.new answer.new
         result }
 {
