@@ -61,8 +61,8 @@ fn tell<R: Files<File = File> + Clock, O: Write, E: Write>(
     }
 }
 
-/// Opens a disk: for an executable file for reading alone, and else with a lock that nobody else may
-/// hold.
+/// Opens a disk: for an executable file for reading alone, and else with a lock that nobody else
+/// may hold.
 fn open_disk<R: Files<File = File> + Clock>(
     rt: &R,
     alloc: Global,
