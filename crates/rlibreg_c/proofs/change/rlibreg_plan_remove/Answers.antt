@@ -8,7 +8,8 @@ returns c =
     let on = c.plan_change in
     record {
       planned = record {
-        plan = λ zero. plan_given c.args.disk.now (remove c.args.name.now) (λ s l e. no_listing l e) (λ s image e. no_image image e) on.new.plan on.new.text on.result on.result.status zero on.ensures.answered;
+        plan = λ zero. plan_given c.args.disk.now (remove c.args.name.now)
+            (λ s l e. no_listing l e) (λ s image e. no_image image e) on.new.plan on.new.text on.result on.result.status zero on.ensures.answered;
         answered = on.ensures.answered;
         left = on.ensures.left;
         status = refl;
