@@ -9,7 +9,7 @@ use crate::form::read_form;
 
 /// A command of the program with its words in their order, each as it stands in the command line.
 /// The first word of all but one is the path of the file that is the disk.
-#[derive(Clone, Copy, Debug, PartialEq, Eq)]
+#[derive(Clone, Copy)]
 pub enum Action<'a> {
     /// Prints the image of a program that needs no library.
     Image {

@@ -3,7 +3,8 @@
 ghost use Rattle.std.specs.Prelude.{◌≡◌, ◌∷◌, ℕ, List, map, string_bytes};
 ghost use Rattle.std.specs.Option.{option_map};
 ghost use Rattle.commands.specs.Words.{CommandLine, command_line, line_of};
-ghost use Rattle.commands.specs.Words.{bind, format_behind, of_one, of_three, of_two, preload_behind};
+ghost use Rattle.commands.specs.Words.{of_one, of_three, of_two};
+ghost use Rattle.commands.specs.Words.{bind, format_behind, preload_behind};
 
 use crate::action::Action;
 use crate::sectors::parse_sectors;

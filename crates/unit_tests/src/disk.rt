@@ -1,0 +1,7 @@
+// Tests of `sector_disk`, `file_disk` and `extents`.
+
+mod alike;
+mod files;
+mod layouts;
+mod random;
+mod stops;

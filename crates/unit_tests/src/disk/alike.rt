@@ -1,0 +1,59 @@
+// The same random calls of a disk and of one in memory.
+use crate::disk::random::next;
+use crate::disk::stops::{read, write};
+use sector_disk::{Disk, Memory};
+
+/// A call of a disk.
+#[derive(Clone, Copy)]
+enum Call {
+    Read,
+    Write(u8),
+    Sync,
+}
+
+// One call of both disks: whether they answer the same, and that no write and no sync fails.
+fn is_alike<D: Disk>(disk: &mut D, memory: &mut Memory, at: u32, call: Call) -> bool {
+    match call {
+        Call::Read => read(disk, at) == read(memory, at),
+        Call::Write(content) => write(disk, at, content) && write(memory, at, content),
+        Call::Sync => disk.sync().is_ok() && memory.sync().is_ok(),
+    }
+}
+
+// The next call: a third are reads, one in fifteen is a sync.
+fn next_call(state: &mut u64) -> Call {
+    let content = (next(state) % 251) as u8;
+    match next(state) % 30 {
+        0..10 => Call::Read,
+        10..28 => Call::Write(content),
+        _ => Call::Sync,
+    }
+}
+
+/// Whether so many calls of both disks are answered alike, three in four of them of the sector
+/// behind the last one.
+pub(crate) fn call_both<D: Disk>(disk: &mut D, memory: &mut Memory, calls: u32) -> bool {
+    let mut state = 88_172_645_463_325_252;
+    let mut at = 0u32;
+    for _ in 0..calls {
+        let far = next(&mut state) % memory.sectors().max(1);
+        at = at.saturating_add(1);
+        if at >= memory.sectors() || next(&mut state) % 4 == 0 {
+            at = far;
+        }
+        if !is_alike(disk, memory, at, next_call(&mut state)) {
+            return false;
+        }
+    }
+    true
+}
+
+/// Whether both disks have as many sectors, which hold the same.
+pub(crate) fn are_same<D: Disk>(disk: &mut D, memory: &mut Memory) -> bool {
+    for at in 0..memory.sectors() {
+        if read(disk, at) != read(memory, at) {
+            return false;
+        }
+    }
+    disk.sectors() == memory.sectors()
+}

@@ -1,0 +1,119 @@
+// Files that fail.
+
+use crate::disk::files::fake::{Fake, Plan, WELL, disk, reopened};
+use crate::disk::stops::{read, write};
+use file_disk::FileDisk;
+use sector_disk::Disk;
+use std::alloc::Global;
+
+// Writes, syncs and writes again; then nothing may succeed that fails once.
+fn seven_calls(disk: &mut FileDisk<Fake>) -> [bool; 7] {
+    [
+        write(disk, 1, 11),
+        write(disk, 2, 12),
+        write(disk, 6, 16),
+        disk.sync().is_ok(),
+        write(disk, 3, 13),
+        disk.sync().is_ok(),
+        disk.sync().is_ok(),
+    ]
+}
+
+// What the sectors 1, 2, 3 and 6 hold.
+fn four_sectors(disk: &mut FileDisk<Fake>) -> [Option<u8>; 4] {
+    [read(disk, 1), read(disk, 2), read(disk, 3), read(disk, 6)]
+}
+
+// Whether these are the first calls, so many, and no other.
+fn are_first(done: [bool; 7], count: usize) -> bool {
+    for (call, is_done) in done.iter().enumerate() {
+        if *is_done != (call < count) {
+            return false;
+        }
+    }
+    true
+}
+
+// Whether the file, opened again, holds each of these sectors old or new, and works.
+fn works_again(alloc: Global, file: Fake, contents: [u8; 4]) -> bool {
+    let Some(mut again) = reopened(alloc, file) else {
+        return false;
+    };
+    let found = four_sectors(&mut again);
+    let mut right = write(&mut again, 5, 15) && again.sync().is_ok();
+    for (content, found) in contents.iter().zip(&found) {
+        right = right && (*found == Some(0) || *found == Some(*content));
+    }
+    right
+}
+
+// Whether the calls of the disk fail from this one on where this call of the file fails, and its
+// sectors then read so.
+fn fails_so(alloc: Global, fails: u64, failed: usize, contents: [u8; 4]) -> bool {
+    let Some(mut disk) = disk(alloc, 8, Plan { fails, ..WELL }) else {
+        return false;
+    };
+    let done = are_first(seven_calls(&mut disk), failed);
+    let [one, two, three, six] = contents;
+    let read = four_sectors(&mut disk) == [Some(one), Some(two), Some(three), Some(six)];
+    let again = works_again(alloc, disk.into_file(), contents);
+    done && read && again
+}
+
+// The file's calls are: seek and write of sectors 1 and 2, seek and write of 6, sync, seek and
+// write of 3, sync, sync. The call that fails; the call of the disk that fails, counted from 0; and
+// the bytes that sectors 1, 2, 3 and 6 read as after it: what waited stays readable.
+const CALLS: [(u64, usize, [u8; 4]); 10] = [
+    (1, 2, [11, 12, 0, 0]),
+    (2, 2, [11, 12, 0, 0]),
+    (3, 3, [11, 12, 0, 16]),
+    (4, 3, [11, 12, 0, 16]),
+    (5, 3, [11, 12, 0, 16]),
+    (6, 5, [11, 12, 13, 16]),
+    (7, 5, [11, 12, 13, 16]),
+    (8, 5, [11, 12, 13, 16]),
+    (9, 6, [11, 12, 13, 16]),
+    (0, 7, [11, 12, 13, 16]),
+];
+
+// The first call of the table that fails otherwise.
+fn fails_otherwise(alloc: Global) -> Option<u64> {
+    for (fails, failed, contents) in &CALLS {
+        if !fails_so(alloc, *fails, *failed, *contents) {
+            return Some(*fails);
+        }
+    }
+    None
+}
+
+#[test]
+fn a_failure_is_that_of_its_call_and_of_all_later_ones(rt: HostRuntime) {
+    assert!(rt; fails_otherwise(rt.alloc()) == None);
+}
+
+// What sector 0 and then this one hold on a disk over such a file, and whether sector 1 is written
+// and synced then.
+fn read_and_write(alloc: Global, plan: Plan, second: u32) -> Option<([Option<u8>; 2], bool)> {
+    let mut disk = disk(alloc, 8, plan)?;
+    let reads = [read(&mut disk, 0), read(&mut disk, second)];
+    Some((reads, write(&mut disk, 1, 5) && disk.sync().is_ok()))
+}
+
+// A read that fails halfway gives the whole sectors before it: the second call of the file reads
+// 700 bytes, and the third fails.
+#[test]
+fn a_read_that_fails_halfway_gives_what_it_read(rt: HostRuntime) {
+    let plan = Plan {
+        most: 700,
+        interrupts: true,
+        fails: 3,
+    };
+    let answers = read_and_write(rt.alloc(), plan, 1);
+    assert!(rt; answers == Some(([Some(0), Some(0)], true)));
+}
+
+#[test]
+fn a_read_that_fails_lets_the_disk_be(rt: HostRuntime) {
+    let answers = read_and_write(rt.alloc(), Plan { fails: 2, ..WELL }, 0);
+    assert!(rt; answers == Some(([None, Some(0)], true)));
+}

@@ -1,0 +1,219 @@
+// Files of the system.
+
+use crate::disk::stops::{read, write};
+use file_disk::{DiskFile, FileDisk, Made, OpenFault};
+use sector_disk::Disk;
+use std::fs;
+use std::fs::File;
+
+// What opening answers: how many sectors there are.
+fn sectors(rt: &HostRuntime, path: &str) -> Result<u32, OpenFault> {
+    let disk: FileDisk<DiskFile> = FileDisk::open(rt, rt.alloc(), path)?;
+    Ok(disk.sectors())
+}
+
+// A disk of eight sectors over a new file, which gets its name at once, or over one that has as
+// many.
+fn make(rt: &HostRuntime, path: &str) -> Result<FileDisk<DiskFile>, OpenFault> {
+    let Made { disk, name } = FileDisk::make(rt, rt.alloc(), path, 8)?;
+    let is_named = match name {
+        Some(name) => name.give(rt).is_ok(),
+        None => true,
+    };
+    if is_named {
+        Ok(disk)
+    } else {
+        Err(OpenFault::CannotOpen)
+    }
+}
+
+// Makes a folder anew.
+fn make_folder(rt: &HostRuntime, path: &str) -> bool {
+    let _ = fs::remove_dir_all(rt, path);
+    fs::create_dir(rt, path).is_ok()
+}
+
+// Makes a file of so many zeros, or leaves so many bytes of one.
+fn set_length(rt: &HostRuntime, path: &str, length: u64) -> bool {
+    let Ok(file) = File::create(rt, path) else {
+        return false;
+    };
+    file.set_len(length).is_ok()
+}
+
+// Whether a file has so many bytes, each of sector 1 of this value and the others zero.
+fn is_file(rt: &HostRuntime, path: &str, length: usize, content: u8) -> bool {
+    let Ok(bytes) = fs::read(rt, path) else {
+        return false;
+    };
+    for (at, byte) in bytes.iter().enumerate() {
+        let wanted = if at / 512 == 1 { content } else { 0 };
+        if *byte != wanted {
+            return false;
+        }
+    }
+    bytes.len() == length
+}
+
+// Makes a disk of eight sectors of which sector 1 holds fives: whether that succeeds.
+fn make_of_five(rt: &HostRuntime, path: &str) -> Result<bool, OpenFault> {
+    let mut disk = make(rt, path)?;
+    Ok(write(&mut disk, 1, 5) && disk.sync().is_ok())
+}
+
+// Opens such a disk for reading: whether it reads and syncs, and whether it syncs after a write.
+fn read_and_write(rt: &HostRuntime, path: &str) -> Result<(bool, bool), OpenFault> {
+    let mut disk: FileDisk<DiskFile> = FileDisk::open_read_only(rt, rt.alloc(), path)?;
+    let reads = disk.sectors() == 8 && disk.sync().is_ok() && read(&mut disk, 1) == Some(5);
+    let writes = write(&mut disk, 1, 6);
+    Ok((reads && writes, disk.sync().is_ok()))
+}
+
+#[test]
+fn a_disk_that_is_opened_for_reading_is_not_written(rt: HostRuntime) {
+    let folder = "file_disk_test_reading";
+    let path = "file_disk_test_reading/disk";
+    let begun = make_folder(&rt, folder) && make_of_five(&rt, path) == Ok(true);
+    let answers = read_and_write(&rt, path);
+    let kept = is_file(&rt, path, 8 * 512, 5);
+    let none = read_and_write(&rt, "file_disk_test_reading/none");
+    let others = (
+        read_and_write(&rt, folder),
+        read_and_write(&rt, "/dev/null"),
+    );
+    let ended = fs::remove_dir_all(&rt, folder).is_ok();
+    let right = answers == Ok((true, false));
+    let refused = Err(OpenFault::CannotOpen);
+    let closed = none == refused && others == (refused, refused);
+    assert!(rt; begun && kept && ended && right && closed);
+}
+
+// Makes a disk, writes sector 1, and leaves three sectors of its file and half of one: what the
+// sectors 1 to 4 hold then, and whether a sync and a write succeed; the write waits.
+fn cut(rt: &HostRuntime, path: &str) -> Result<([Option<u8>; 4], [bool; 2]), OpenFault> {
+    let mut disk = make(rt, path)?;
+    let begun = write(&mut disk, 1, 5) && set_length(rt, path, 3 * 512 + 256);
+    let first = [read(&mut disk, 1), read(&mut disk, 2)];
+    let last = [read(&mut disk, 3), read(&mut disk, 4)];
+    let synced = disk.sync().is_ok();
+    let written = write(&mut disk, 2, 6);
+    let waits = begun && read(&mut disk, 1) == first[0];
+    let one = if waits { first[0] } else { None };
+    Ok(([one, first[1], last[0], last[1]], [synced, written]))
+}
+
+#[test]
+fn a_file_that_was_cut_is_not_written(rt: HostRuntime) {
+    let folder = "file_disk_test_cut";
+    let path = "file_disk_test_cut/disk";
+    let begun = make_folder(&rt, folder);
+    let answers = cut(&rt, path);
+    let kept = is_file(&rt, path, 3 * 512 + 256, 0);
+    let ended = fs::remove_dir_all(&rt, folder).is_ok();
+    let lost = answers == Ok(([Some(5), Some(0), None, None], [false, false]));
+    assert!(rt; begun && kept && ended && lost);
+}
+
+// What is written before a file is cut, and what is written then; where nothing is, it is synced.
+const CUT: [(&[u32], Option<u32>); 3] = [(&[], None), (&[1, 4], None), (&[1, 4], Some(6))];
+
+// Makes a disk, writes these sectors, and leaves one sector of its file: whether the next call
+// succeeds, and whether the file has that sector alone.
+fn next_call(
+    rt: &HostRuntime,
+    path: &str,
+    before: &[u32],
+    then: Option<u32>,
+) -> Result<(bool, bool), OpenFault> {
+    let mut disk = make(rt, path)?;
+    let mut begun = true;
+    for at in before {
+        begun = write(&mut disk, *at, 5) && begun;
+    }
+    begun = set_length(rt, path, 512) && begun;
+    let done = match then {
+        Some(at) => write(&mut disk, at, 6),
+        None => disk.sync().is_ok(),
+    };
+    Ok((done, begun && is_file(rt, path, 512, 0)))
+}
+
+// The first of them that doesn't fail, or that writes into the file.
+fn cut_unseen(rt: &HostRuntime, folder: &str, path: &str) -> Option<usize> {
+    for (case, (before, then)) in CUT.iter().enumerate() {
+        let begun = make_folder(rt, folder);
+        if !begun || next_call(rt, path, before, *then) != Ok((false, true)) {
+            return Some(case);
+        }
+    }
+    None
+}
+
+#[test]
+fn the_next_write_or_sync_sees_that_a_file_was_cut(rt: HostRuntime) {
+    let folder = "file_disk_test_seen";
+    let unseen = cut_unseen(&rt, folder, "file_disk_test_seen/disk");
+    let ended = fs::remove_dir_all(&rt, folder).is_ok();
+    assert!(rt; (unseen, ended) == (None, true));
+}
+
+// What can't be opened, and what can't be made.
+const OPENED: [&str; 5] = [
+    "/dev/full",
+    "/dev/null",
+    "/dev/zero",
+    "file_disk_test_refused",
+    "file_disk_test_refused/none",
+];
+
+const MADE: [&str; 3] = [
+    "/dev/full",
+    "file_disk_test_refused",
+    "file_disk_test_refused/none/disk",
+];
+
+// Lengths of files, and how a disk over one is opened.
+const LENGTHS: [(u64, Result<u32, OpenFault>); 8] = [
+    (0, Ok(0)),
+    (511, Err(OpenFault::BadLength)),
+    (512, Ok(1)),
+    (7 * 512, Ok(7)),
+    (8 * 512 + 1, Err(OpenFault::BadLength)),
+    (4_194_305 * 512, Ok(4_194_305)),
+    (4_294_967_295 * 512, Ok(u32::MAX)),
+    (4_294_967_296 * 512, Err(OpenFault::BadLength)),
+];
+
+// The first that is opened or made otherwise.
+fn opened_otherwise(rt: &HostRuntime) -> Option<&'static str> {
+    for path in &OPENED {
+        if sectors(rt, path) != Err(OpenFault::CannotOpen) {
+            return Some(*path);
+        }
+    }
+    for path in &MADE {
+        if make(rt, path).err() != Some(OpenFault::CannotOpen) {
+            return Some(*path);
+        }
+    }
+    None
+}
+
+// The first length that is answered otherwise.
+fn measured_otherwise(rt: &HostRuntime, path: &str) -> Option<u64> {
+    for (length, answer) in &LENGTHS {
+        if !set_length(rt, path, *length) || sectors(rt, path) != *answer {
+            return Some(*length);
+        }
+    }
+    None
+}
+
+#[test]
+fn other_files_and_lengths_are_refused(rt: HostRuntime) {
+    let begun = make_folder(&rt, "file_disk_test_refused");
+    let other = opened_otherwise(&rt);
+    let length = measured_otherwise(&rt, "file_disk_test_refused/length");
+    let ended = fs::remove_dir_all(&rt, "file_disk_test_refused").is_ok();
+    assert!(rt; (begun && ended, other, length) == (true, None, None));
+}

@@ -1,0 +1,6 @@
+// Tests of the crates that read files, bind programs and spell texts.
+
+mod executables;
+mod images;
+mod searches;
+mod texts;

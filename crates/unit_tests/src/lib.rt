@@ -1,0 +1,10 @@
+//! Tests of the libraries below the registry, through their public calls: what no clause and no
+//! stored case says.
+#![tactic(auto)]
+
+#[cfg(test)]
+mod disk;
+#[cfg(test)]
+mod file;
+#[cfg(test)]
+mod store;

@@ -1,0 +1,30 @@
+// Names, and sectors of disks that are written by hand.
+use crate::store::sectors::write;
+use roots::{Catalogue, Entry, Root, encode_catalogue, encode_entry, encode_root};
+use sector_disk::Memory;
+use std::process::Abort;
+
+/// The name of library i: two characters, each for 6 bits of the number.
+pub(crate) fn numbered_name(i: u32) -> [u8; 2] {
+    [b'0' + (i / 64 % 64) as u8, b'0' + (i % 64) as u8]
+}
+
+/// Writes an entry.
+pub(crate) fn write_entry(rt: &impl Abort, disk: &mut Memory, at: u32, entry: &Entry) {
+    assert!(rt; entry.has_spelling());
+    write(rt, disk, at, &encode_entry(entry));
+}
+
+/// Writes a catalogue of these entries.
+pub(crate) fn write_catalogue(rt: &impl Abort, disk: &mut Memory, at: u32, entries: &[u32]) {
+    assert!(rt; entries.len() <= 64);
+    let catalogue = Catalogue::new(entries);
+    assert!(rt; catalogue.has_spelling());
+    write(rt, disk, at, &encode_catalogue(&catalogue));
+}
+
+/// Writes a root, in the sector of its generation.
+pub(crate) fn write_root(rt: &impl Abort, disk: &mut Memory, root: &Root) {
+    assert!(rt; root.has_spelling());
+    write(rt, disk, (root.generation % 2) as u32, &encode_root(root));
+}

@@ -1,0 +1,37 @@
+// A look of which each call of the disk fails in turn.
+use crate::store::calls::Change::Put;
+use crate::store::calls::{formatted, make_all};
+use crate::store::sectors::copy;
+use crate::store::seen::{Seen, look};
+use sector_disk::{Fuse, Memory};
+use std::process::Abort;
+use store::StoreRefusal;
+
+// A disk with 65 byte strings, which two catalogues list.
+fn sixty_five(rt: &(impl Abort + AllocGlobal)) -> Memory {
+    let mut store = formatted(rt, 136);
+    for number in 0..65 {
+        make_all(rt, &mut store, &[(Put(number, 7, 64), None)]);
+    }
+    store.into_disk()
+}
+
+// The first call whose failure a look at this disk doesn't answer: 70 are made.
+fn unanswered(rt: &(impl Abort + AllocGlobal), disk: &Memory) -> Option<u64> {
+    for call in 1..71 {
+        let fuse: Fuse<Memory> = Fuse::new(copy(rt, disk), call, false, false);
+        if look(rt, fuse) != Seen::Refused(StoreRefusal::Device) {
+            return Some(call);
+        }
+    }
+    None
+}
+
+#[test]
+fn each_call_of_a_look_may_fail(rt: HostRuntime) {
+    // A sync, two roots, two catalogues and 65 entries: 70 calls, and the next isn't made.
+    let disk = sixty_five(&rt);
+    let unanswered = unanswered(&rt, &disk);
+    let further = look(&rt, Fuse::new(disk, 71, false, false));
+    assert!(rt; unanswered.is_none() && further == Seen::Current(65));
+}

@@ -1,0 +1,71 @@
+// Versions that are held: reads of them that fail, and handles of another store.
+use crate::store::calls::Change::{ChooseNone, Put};
+use crate::store::calls::{disk_after, make, opened};
+use crate::store::sectors::copy;
+use crate::store::seen::given;
+use sector_disk::{Disk, Fuse, Memory};
+use std::process::Abort;
+use store::{HeldVersion, Store, StoreRefusal};
+
+// The store on 8 sectors with a byte string of 344 ones, whose sixth call fails: the first one
+// after the opening.
+fn failing(rt: &(impl Abort + AllocGlobal)) -> Store<Fuse<Memory>> {
+    let disk = disk_after(rt, 8, &[(Put(0, 1, 344), None)]);
+    opened(rt, Fuse::new(disk, 6, false, false))
+}
+
+// Holds the first byte string.
+fn hold_first<D: Disk>(rt: &impl Abort, store: &mut Store<D>) -> HeldVersion {
+    assert!(rt; store.count() == 1);
+    store.hold_version(0).expect(rt, "what is held")
+}
+
+#[test]
+fn a_read_that_fails_is_made_again(rt: HostRuntime) {
+    let mut store = failing(&rt);
+    let held = hold_first(&rt, &mut store);
+    let failed = given(store.read_version(rt.alloc(), &held));
+    let read = given(store.read_version(rt.alloc(), &held));
+    store.let_version_go(held);
+    let _ = store.into_disk();
+    assert!(rt; failed == Err(StoreRefusal::Device) && read == Ok((344, Some(1))));
+}
+
+// Reads the first byte string, or says why not.
+fn read_first(
+    rt: &(impl Abort + AllocGlobal),
+    store: &mut Store<Fuse<Memory>>,
+) -> Option<StoreRefusal> {
+    assert!(rt; store.count() == 1);
+    store.read_blob(rt.alloc(), 0).err()
+}
+
+#[test]
+fn after_a_failed_change_nothing_is_read(rt: HostRuntime) {
+    let mut store = failing(&rt);
+    let held = hold_first(&rt, &mut store);
+    let failed = make(&rt, &mut store, Put(0, 2, 344));
+    let refusals = [
+        read_first(&rt, &mut store),
+        store.read_version(rt.alloc(), &held).err(),
+        make(&rt, &mut store, ChooseNone),
+    ];
+    store.let_version_go(held);
+    let _ = store.into_disk();
+    assert!(rt; failed == Some(StoreRefusal::Device));
+    assert!(rt; refusals == [Some(StoreRefusal::Reopen); 3]);
+}
+
+// A handle of the one store is none of the other's, where nobody holds anything.
+#[test]
+fn a_handle_of_another_store_reads_nothing(rt: HostRuntime) {
+    let disk = disk_after(&rt, 8, &[(Put(0, 1, 344), None)]);
+    let mut other = opened(&rt, copy(&rt, &disk));
+    let mut store = opened(&rt, disk);
+    let held = hold_first(&rt, &mut store);
+    let read = given(other.read_version(rt.alloc(), &held));
+    other.let_version_go(held);
+    let _ = other.into_disk();
+    let _ = store.into_disk();
+    assert!(rt; read == Err(StoreRefusal::Damaged));
+}

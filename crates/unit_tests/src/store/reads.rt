@@ -1,0 +1,75 @@
+// What a store tells and reads of a disk that was written by hand.
+use crate::store::calls::opened;
+use crate::store::disks::{write_catalogue, write_entry, write_root};
+use crate::store::sectors::{memory, write};
+use extents::Extent;
+use roots::{Entry, Root};
+use sector_disk::{Fuse, Memory, SECTOR_BYTES};
+use std::process::Abort;
+use store::{Store, StoreRefusal};
+
+// A disk of 8 sectors, each full of its own number, but for the roots, the entry in sector 4 and
+// the catalogue in 5: a byte string of 1,100 bytes lies in the sectors 6, 2 and 3, and is a
+// preload.
+fn scattered(rt: &(impl Abort + AllocGlobal)) -> Memory {
+    let mut disk = memory(rt, 8);
+    for at in 2..8 {
+        write(rt, &mut disk, at, &[at as u8; SECTOR_BYTES]);
+    }
+    let extents = [Extent { start: 6, count: 1 }, Extent { start: 2, count: 2 }];
+    write_entry(rt, &mut disk, 4, &Entry::new(b"a", 1100, &extents));
+    write_catalogue(rt, &mut disk, 5, &[4]);
+    write_root(rt, &mut disk, &Root::over_catalogues(0, 8, 1, &[5], &[0]));
+    disk
+}
+
+// The store on that disk, whose sixth call fails: the fifth one of the opening reads the entry, and
+// the next one the first sector.
+fn opened_scattered(rt: &(impl Abort + AllocGlobal)) -> Store<Fuse<Memory>> {
+    opened(rt, Fuse::new(scattered(rt), 6, false, false))
+}
+
+// Whether the store tells what the disk has.
+fn tells(store: &Store<Fuse<Memory>>) -> bool {
+    store.count() == 1
+        && store.name(0) == b"a".as_slice()
+        && store.length(0) == 1100
+        && store.position(b"a") == Some(0)
+        && store.position(b"ab").is_none()
+        && store.preloads() == [0].as_slice()
+}
+
+// Where bytes of the byte string lie, and which.
+const PLACES: [(usize, u8); 6] = [(0, 6), (511, 6), (512, 2), (1023, 2), (1024, 3), (1099, 3)];
+
+// Whether these are its bytes.
+fn are_its(bytes: &[u8]) -> bool {
+    for (at, want) in &PLACES {
+        if bytes.get(*at) != Some(want) {
+            return false;
+        }
+    }
+    bytes.len() == 1100
+}
+
+// Reads the one byte string: the refusal, if it is refused, and else whether its bytes are right.
+fn read(
+    rt: &(impl Abort + AllocGlobal),
+    store: &mut Store<Fuse<Memory>>,
+) -> Result<bool, StoreRefusal> {
+    assert!(rt; store.count() == 1);
+    let bytes = store.read_blob(rt.alloc(), 0)?;
+    Ok(are_its(&bytes))
+}
+
+#[test]
+fn a_byte_string_is_told_and_read_in_the_order_of_its_extents(rt: HostRuntime) {
+    let mut store = opened_scattered(&rt);
+    let told = tells(&store);
+
+    // A read that failed doesn't make the store fail.
+    let first = read(&rt, &mut store);
+    let second = read(&rt, &mut store);
+    let _ = store.into_disk();
+    assert!(rt; told && first == Err(StoreRefusal::Device) && second == Ok(true));
+}
