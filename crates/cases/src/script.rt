@@ -10,24 +10,17 @@ use registry::Registry;
 use sector_disk::Memory;
 use std::alloc::Global;
 
-/// Runs a script on an empty registry.
-fn ran(alloc: Global, disk: Memory, script: &[u8], output: &mut Vec<u8>) -> Result<Summary> {
-    let mut script = script;
-    match Registry::format(alloc, disk) {
-        Ok(registry) => {
-            let mut binders = Binders::new(alloc, registry);
-            let ended = run_script(alloc, &mut script, output, &mut binders);
-            let _ = binders.into_registry().into_disk();
-            Ok(ended?)
-        }
-        Err(_) => bail!("no registry"),
-    }
-}
-
-/// What a script gives on a disk of so many sectors.
+/// What a script gives that runs on an empty registry, on a disk of so many sectors.
 fn summary_of(alloc: Global, sectors: u64, script: &[u8], output: &mut Vec<u8>) -> Result<Summary> {
     let disk = Memory::new(alloc, u32::try_from(sectors)?)?;
-    ran(alloc, disk, script, output)
+    let Ok(registry) = Registry::format(alloc, disk) else {
+        bail!("no registry");
+    };
+    let mut script = script;
+    let mut binders = Binders::new(alloc, registry);
+    let ended = run_script(alloc, &mut script, output, &mut binders);
+    let _ = binders.into_registry().into_disk();
+    Ok(ended?)
 }
 
 /// Whether a script gave what is wanted.
