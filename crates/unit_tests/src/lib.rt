@@ -3,8 +3,8 @@
 #![tactic(auto)]
 
 #[cfg(test)]
-mod disk;
+mod disks;
 #[cfg(test)]
-mod file;
+mod files;
 #[cfg(test)]
-mod store;
+mod stores;

@@ -1,5 +1,5 @@
 use Rattle.std.specs.List.{IsDistinct}
-use Rattle.unit_tests.proofs.file.executables.a_library_with_initializers.Goals as goal
+use Rattle.unit_tests.proofs.files.executables.a_library_with_initializers.Goals as goal
 
 pub bind_program-requires-clause-names : goal.bind_program-requires-clause-names
 unfolding IsDistinct

@@ -1,8 +1,8 @@
 // Snapshots of a store: they are read and found by name as they were taken.
-use crate::store::calls::Change::{Choose, ChooseNone, Delete, Put};
-use crate::store::calls::{Change, formatted, make_all};
-use crate::store::disks::numbered_name;
-use crate::store::seen::given;
+use crate::stores::calls::Change::{Choose, ChooseNone, Delete, Put};
+use crate::stores::calls::{Change, formatted, make_all};
+use crate::stores::disks::numbered_name;
+use crate::stores::seen::given;
 use sector_disk::Memory;
 use snapshots::Snapshot;
 use std::process::Abort;

@@ -1,6 +1,6 @@
 // The same random calls of a disk and of one in memory.
-use crate::disk::random::next;
-use crate::disk::stops::{read, write};
+use crate::disks::random::next;
+use crate::disks::stops::{read, write};
 use sector_disk::{Disk, Memory};
 
 /// A call of a disk.

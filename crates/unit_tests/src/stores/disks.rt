@@ -1,5 +1,5 @@
 // Names, and sectors of disks that are written by hand.
-use crate::store::sectors::write;
+use crate::stores::sectors::write;
 use roots::{Catalogue, Entry, Root, encode_catalogue, encode_entry, encode_root};
 use sector_disk::Memory;
 use std::process::Abort;

@@ -1,8 +1,8 @@
 // The same calls on a disk over a file and on one in memory.
 
-use crate::disk::alike::{are_same, call_both};
-use crate::disk::files::fake::{Fake, Plan, WELL, disk, reopened};
-use crate::disk::stops::{fill, is_filled, read, write};
+use crate::disks::alike::{are_same, call_both};
+use crate::disks::files::fake::{Fake, Plan, WELL, disk, reopened};
+use crate::disks::stops::{fill, is_filled, read, write};
 use sector_disk::{Disk, Memory, SECTOR_BYTES};
 use std::alloc::Global;
 

@@ -1,8 +1,8 @@
 // A look of which each call of the disk fails in turn.
-use crate::store::calls::Change::Put;
-use crate::store::calls::{formatted, make_all};
-use crate::store::sectors::copy;
-use crate::store::seen::{Seen, look};
+use crate::stores::calls::Change::Put;
+use crate::stores::calls::{formatted, make_all};
+use crate::stores::sectors::copy;
+use crate::stores::seen::{Seen, look};
 use sector_disk::{Fuse, Memory};
 use std::process::Abort;
 use store::StoreRefusal;

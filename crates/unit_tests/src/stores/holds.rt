@@ -1,8 +1,8 @@
 // Versions that are held: reads of them that fail, and handles of another store.
-use crate::store::calls::Change::{ChooseNone, Put};
-use crate::store::calls::{disk_after, make, opened};
-use crate::store::sectors::copy;
-use crate::store::seen::given;
+use crate::stores::calls::Change::{ChooseNone, Put};
+use crate::stores::calls::{disk_after, make, opened};
+use crate::stores::sectors::copy;
+use crate::stores::seen::given;
 use sector_disk::{Disk, Fuse, Memory};
 use std::process::Abort;
 use store::{HeldVersion, Store, StoreRefusal};

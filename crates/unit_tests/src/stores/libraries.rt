@@ -1,6 +1,6 @@
 // A disk of 64 sectors with four byte strings: a library, one that is none, a library under another
 // name, and a library that is a preload.
-use crate::store::calls::formatted;
+use crate::stores::calls::formatted;
 use samples::library;
 use sector_disk::Memory;
 use std::process::Abort;

@@ -1,5 +1,5 @@
 // What is told of a disk of four byte strings as the contents of a registry.
-use crate::store::libraries::disk;
+use crate::stores::libraries::disk;
 use contents::{Contents, Finding, Unread};
 use elf_dynamic::ObjectRefusal;
 use hash_check::FileRefusal;

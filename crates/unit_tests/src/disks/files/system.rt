@@ -1,6 +1,6 @@
 // Files of the system.
 
-use crate::disk::stops::{read, write};
+use crate::disks::stops::{read, write};
 use file_disk::{DiskFile, FileDisk, Made, OpenFault};
 use sector_disk::Disk;
 use std::fs;

@@ -4,8 +4,8 @@ ghost use Rattle.store.specs.declared.placed_entry.PlacedEntry.{PlacedEntry};
 ghost use Rattle.store.specs.Names.{IsNoPreload};
 ghost use Rattle.store.specs.Stands.{name_of};
 
-use crate::store::disks::numbered_name;
-use crate::store::sectors::memory;
+use crate::stores::disks::numbered_name;
+use crate::stores::sectors::memory;
 use sector_disk::{Disk, Memory};
 use std::process::Abort;
 use store::{Store, StoreRefusal};

@@ -1,7 +1,7 @@
 // Files that fail.
 
-use crate::disk::files::fake::{Fake, Plan, WELL, disk, reopened};
-use crate::disk::stops::{read, write};
+use crate::disks::files::fake::{Fake, Plan, WELL, disk, reopened};
+use crate::disks::stops::{read, write};
 use file_disk::FileDisk;
 use sector_disk::Disk;
 use std::alloc::Global;

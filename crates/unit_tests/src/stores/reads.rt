@@ -1,7 +1,7 @@
 // What a store tells and reads of a disk that was written by hand.
-use crate::store::calls::opened;
-use crate::store::disks::{write_catalogue, write_entry, write_root};
-use crate::store::sectors::{memory, write};
+use crate::stores::calls::opened;
+use crate::stores::disks::{write_catalogue, write_entry, write_root};
+use crate::stores::sectors::{memory, write};
 use extents::Extent;
 use roots::{Entry, Root};
 use sector_disk::{Fuse, Memory, SECTOR_BYTES};
