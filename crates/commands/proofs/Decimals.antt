@@ -1,5 +1,5 @@
 -- Decimal digits are a numeral.
-use Rattle.std.proofs.Common.{◌≡◌, ℕ, ◌<◌, ◌≤◌, Bool, true, false, List, length, arith, nat_eq, nat_le}
+use Rattle.std.proofs.Common.{◌≡◌, ℕ, ◌<◌, ◌≤◌, true, false, List, length, arith, nat_eq, nat_le}
 use Rattle.std.specs.Prelude.{◌&&◌, Result, Some}
 use Rattle.std.specs.Result.{result_ok}
 use Rattle.std.specs.List.{list_all}

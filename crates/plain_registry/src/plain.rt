@@ -2,10 +2,10 @@
 
 use crate::libraries::have_distinct_names;
 use crate::numbers::are_preloads;
-use hash_check::{Admitted, FileRefusal, ReadRefusal};
+use hash_check::Admitted;
 use image::{Image, bind_program};
 use names::Name;
-use requests::{Command, Listing, Refusal, Reply};
+use requests::{Command, Listing, Refusal, Reply, library_name};
 use scope::Library;
 use std::alloc::{AllocError, Global};
 
@@ -35,18 +35,6 @@ impl Drop for PlainRegistry {
             files: _files,
             preloads: _preloads,
         } = self;
-    }
-}
-
-// The name of a library's file, or why it is none.
-fn own_name(alloc: Global, file: &[u8]) -> Result<&[u8], Refusal> {
-    match Admitted::read(alloc, file) {
-        Ok(object) => match object.library_name() {
-            Ok(name) => Ok(name),
-            Err(refusal) => Err(Refusal::Object(FileRefusal::Object(refusal))),
-        },
-        Err(ReadRefusal::File(refusal)) => Err(Refusal::Object(refusal)),
-        Err(ReadRefusal::OutOfMemory) => Err(Refusal::OutOfMemory),
     }
 }
 
@@ -151,7 +139,7 @@ impl PlainRegistry {
     }
 
     fn install(&mut self, file: &[u8]) -> Result<(), Refusal> {
-        let name = own_name(self.alloc, file)?;
+        let name = library_name(self.alloc, file)?;
         if self.place(name).is_some() {
             return Err(Refusal::AlreadyInstalled);
         }
@@ -166,7 +154,7 @@ impl PlainRegistry {
     }
 
     fn replace(&mut self, file: &[u8]) -> Result<(), Refusal> {
-        let name = own_name(self.alloc, file)?;
+        let name = library_name(self.alloc, file)?;
         let place = self.place(name).ok_or(Refusal::NotInstalled)?;
         if !self.has_room(file, self.files.len()) {
             return Err(Refusal::Full);
@@ -200,7 +188,8 @@ impl PlainRegistry {
         Ok(())
     }
 
-    fn list(&self) -> Result<Listing, AllocError> {
+    /// The names and sizes of its libraries, and the names of its preloads.
+    pub fn list(&self) -> Result<Listing, AllocError> {
         let mut listing = Listing {
             libraries: Vec::new(self.alloc),
             preloads: Vec::new(self.alloc),

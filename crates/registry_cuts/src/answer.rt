@@ -44,3 +44,12 @@ pub(crate) fn event_answer(alloc: Global, reply: &EventReply) -> Result<Vec<u8>>
     }
     Ok(text)
 }
+
+/// What the replies to events say.
+pub(crate) fn event_answers(alloc: Global, replies: &[EventReply]) -> Result<Vec<Vec<u8>>> {
+    let mut answers = Vec::new(alloc);
+    for reply in replies {
+        answers.push(event_answer(alloc, reply)?)?;
+    }
+    Ok(answers)
+}

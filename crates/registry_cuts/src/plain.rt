@@ -9,7 +9,7 @@ use crate::wanted::{Wanted, Which, by_table};
 use anyhow::{Result, bail};
 use binders::EventReply;
 use plain_registry::PlainRegistry;
-use requests::{Command, Listing, Refusal, Reply};
+use requests::{Listing, Refusal, Reply};
 use std::alloc::Global;
 use std::rc::Rc;
 
@@ -161,19 +161,12 @@ impl Plain {
         room
     }
 
-    fn listing(&mut self) -> Result<Listing> {
-        match self.registry.apply(&Command::List) {
-            Reply::Listing(listing) => Ok(listing),
-            _ => bail!("no listing"),
-        }
-    }
-
     // How many sectors each step of a bind of a program reads, the first one last. The first reads
     // none, each other one a library, the preloads and then the one that is needed, and the last
     // none. Libraries need none.
-    fn steps(&mut self, needed: u8) -> Result<Vec<u64>> {
+    fn steps(&self, needed: u8) -> Result<Vec<u64>> {
         let needed = [needed];
-        let listing = self.listing()?;
+        let listing = self.registry.list()?;
         let mut steps = vec![in self.alloc; 0; 1]?;
         let mut is_preload = false;
         for name in &listing.preloads {
@@ -190,9 +183,9 @@ impl Plain {
 
     // How many calls of the disk a command makes: a bind reads also where a library is missing, and
     // others make none where they aren't done.
-    fn calls(&mut self, event: &Event, is_done: bool) -> Result<u64> {
+    fn calls(&self, event: &Event, is_done: bool) -> Result<u64> {
         if is_done {
-            return Ok(event.calls(self.listing()?.libraries.len()));
+            return Ok(event.calls(self.registry.list()?.libraries.len()));
         }
         let mut all = 0u64;
         if event.what == What::Bind {

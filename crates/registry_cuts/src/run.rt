@@ -1,6 +1,6 @@
 // Runs of a registry on a disk in memory, of which a call may be cut.
 
-use crate::answer::event_answer;
+use crate::answer::event_answers;
 use crate::cut::{Cut, Powered};
 use crate::event::Event;
 use anyhow::{Result, bail};
@@ -46,11 +46,8 @@ fn happen(
     for event in events {
         given.push(event.binder_event())?;
     }
-    let mut answers = Vec::new(alloc);
-    for reply in &binders.run_events(&given)? {
-        answers.push(event_answer(alloc, reply)?)?;
-    }
-    Ok(answers)
+    let replies = binders.run_events(&given)?;
+    event_answers(alloc, &replies)
 }
 
 impl Run {

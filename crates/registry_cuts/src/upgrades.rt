@@ -37,12 +37,8 @@ fn disk_in(tally: &Tally, file: &str) -> Result<Memory> {
     let sectors = u32::try_from(bytes.len().div_ceil(SECTOR_BYTES))?;
     let mut disk = Memory::new(tally.rt.alloc(), sectors)?;
     for (at, sector) in (0..disk.sectors()).zip(bytes.chunks(SECTOR_BYTES)) {
-        let mut content = [0; SECTOR_BYTES];
-        for (to, from) in content.iter_mut().zip(sector) {
-            *to = *from;
-        }
         if at < disk.sectors() {
-            disk.write(at, &content)?;
+            disk.write(at, sector.try_into()?)?;
         }
     }
     disk.sync()?;

@@ -26,3 +26,6 @@ returns-clause-end c = c.loop-planned.invariant.at ∙ ap length (begun_all c.ar
 
 pub returns-clause-spelled : goal.returns-clause-spelled
 returns-clause-spelled c = c.loop-planned.invariant.front ∙ begun_all c.args.steps.now c.loop-planned.planned-index (omega arith)
+
+pub loop-planned-init : goal.loop-planned-init
+loop-planned-init c = record { at = c.in_ok-at.ensures.end; front = c.in_ok-at.ensures.front }

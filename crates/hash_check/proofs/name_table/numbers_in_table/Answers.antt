@@ -26,3 +26,6 @@ loop-number-preserved c =
           (stand-more names c.loop-number.cells.items new c.loop-number.numbers.items number c.in-Some.told put c.loop-number.invariant.long
           c.loop-number.invariant.stand k lt));
     }
+
+pub returns-in-None : goal.returns-in-None
+returns-in-None c = tt

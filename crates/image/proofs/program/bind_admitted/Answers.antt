@@ -46,3 +46,6 @@ returns-clause-refused c =
     MatchResult-weaker c.bind.result
     (subst (λ (os : List Named). IfErr c.bind.result (IsPlacedAnswer (place base os))) c.in_ok-order.ensures.ok c.bind.ensures.refused)
     (λ x h. h) (λ e h. placed-answer file base libraries preloads e taken (placed-is file base libraries preloads taken (program-based file base c.requires.program) c.in_ok-order.ensures.found) h)
+
+pub load_order-requires-clause-preloads : goal.load_order-requires-clause-preloads
+load_order-requires-clause-preloads c = c.requires.preloads

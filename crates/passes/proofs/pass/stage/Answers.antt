@@ -1,22 +1,42 @@
-use Rattle.std.proofs.Common.{IsTrue, ◌++◌, sym, subst, ap, ◌∙◌}
+use Rattle.std.proofs.Common.{◌≡◌, IsTrue, ◌+◌, ◌<◌, ◌++◌, length, take, drop, All, sym, subst, ap, ◌∙◌, arith}
 use Rattle.std.specs.List.{Contains}
-use Rattle.std.proofs.lemmas.List.Elements.{Contains-append_left, Contains-append_right}
+use Rattle.std.proofs.lemmas.List.Elements.{All-same, All-take, All-drop, Contains-append_left, Contains-append_right}
 use Rattle.std.proofs.lemmas.Result.{on_ok_weaker}
 use Rattle.sector_disk.specs.Disk.{IsMixtureBut}
 use Rattle.sector_disk.proofs.Mixtures.{synced_at_ok}
 use Rattle.sector_disk.proofs.Writes.{sync_leaves}
-use Rattle.extents.specs.Extent.{places}
-use Rattle.passes.specs.Bytes.{bytes_at}
+use Rattle.extents.specs.Extent.{places, sector_count}
+use Rattle.passes.specs.Bytes.{IsOnDisk, bytes_at}
+use Rattle.passes.specs.declared.single.SingleSector.{SingleSector}
+use Rattle.passes.specs.Calls.{AreCallsInRow}
 use Rattle.passes.specs.Singles.{single_places, HoldsSingles}
 use Rattle.passes.proofs.Commits.{wider_leaves}
 use Rattle.passes.proofs.Files.{more_leaves}
 use Rattle.passes.proofs.Parts.{parts_of, front_among, back_among, front_once, back_once, parts_apart, whole_held, still_held}
+use Rattle.passes.proofs.Rows.{one_in_row, then_in_row, stop_in_row}
 use Rattle.passes.proofs.Runs.{bytes_at_same}
 use Rattle.passes.proofs.pass.stage.Goals as goal
+
+pub write_singles-requires-clause-room : goal.write_singles-requires-clause-room
+write_singles-requires-clause-room g c =
+    let P = λ (s : SingleSector). s.at < (g.D.Disk.facts c.args.disk.now).sectors in
+    let singles = c.args.singles.now in
+    All-same P _ (take c.count_before.result singles) c.split_at.ensures.front (All-take P c.count_before.result singles c.requires.room)
 
 pub write_singles-requires-clause-once : goal.write_singles-requires-clause-once
 write_singles-requires-clause-once g c =
     front_once (parts_of c.count_before.result c.args.singles.now _ _ c.split_at.ensures.front c.split_at.ensures.back) c.requires.once
+
+pub write_bytes-requires-clause-inside : goal.write_bytes-requires-clause-inside
+write_bytes-requires-clause-inside g c =
+    subst (λ sectors. All (IsOnDisk sectors) c.args.extents.now) (sym c.write_singles.ensures.calls.sectors) c.requires.inside
+
+pub write_singles-requires-2-clause-room : goal.write_singles-requires-2-clause-room
+write_singles-requires-2-clause-room g c =
+    let P = λ (s : SingleSector). s.at < (g.D.Disk.facts c.write_bytes.new.disk).sectors in
+    let singles = c.args.singles.now in
+    let room = subst (λ sectors. All (λ (s : SingleSector). s.at < sectors) singles) (sym (c.write_bytes.ensures.calls.sectors ∙ c.write_singles.ensures.calls.sectors)) c.requires.room in
+    All-same P _ (drop c.count_before.result singles) c.split_at.ensures.back (All-drop P c.count_before.result singles room)
 
 pub write_singles-requires-2-clause-once : goal.write_singles-requires-2-clause-once
 write_singles-requires-2-clause-once g c =
@@ -108,3 +128,25 @@ returns-clause-singles g c honest =
     let first = still_held (Contains b) _ _ front (c.in_ok-write_singles-2.ensures.now honest_after) (parts_apart parts c.requires.once) beside in
     let held = whole_held parts _ first (c.in_ok-write_singles-2.ensures.written honest_after) in
     on_ok_weaker c.sync.result (λ _. subst (λ m. HoldsSingles m c.args.singles.now) (sym sync.now) held) sync.stop_ok
+
+pub returns-in_err-write_singles-clause-calls : goal.returns-in_err-write_singles-clause-calls
+returns-in_err-write_singles-clause-calls g c =
+    stop_in_row c.from_residual.result c.in_err-write_singles.ensures.calls (omega arith) c.from_residual.ensures.0
+
+pub returns-in_err-write_bytes-clause-calls : goal.returns-in_err-write_bytes-clause-calls
+returns-in_err-write_bytes-clause-calls g c =
+    stop_in_row c.from_residual-in_err-write_bytes.result
+    (then_in_row c.in_ok-write_singles.ensures.calls c.in_err-write_bytes.ensures.calls) (omega arith) c.from_residual-in_err-write_bytes.ensures.0
+
+pub returns-in_err-write_singles-2-clause-calls : goal.returns-in_err-write_singles-2-clause-calls
+returns-in_err-write_singles-2-clause-calls g c =
+    stop_in_row c.from_residual-in_err-write_singles-2.result
+    (then_in_row c.in_ok-write_singles.ensures.calls (then_in_row c.in_ok-write_bytes.ensures.calls c.in_err-write_singles-2.ensures.calls))
+    (omega arith) c.from_residual-in_err-write_singles-2.ensures.0
+
+pub returns-clause-calls : goal.returns-clause-calls
+returns-clause-calls g c =
+    let calls =
+    then_in_row c.in_ok-write_singles.ensures.calls (then_in_row c.in_ok-write_bytes.ensures.calls (then_in_row c.in_ok-write_singles-2.ensures.calls (one_in_row c.sync.ensures.calls))) in
+    let sum : length c.split_at.result.0.now + (sector_count c.args.extents.now + (length c.split_at.result.1.now + 1)) ≡ sector_count c.args.extents.now + length c.args.singles.now + 1 = omega arith in
+    subst (λ n. AreCallsInRow n (g.D.Disk.facts c.args.disk.now) (g.D.Disk.facts c.sync.new.self) c.sync.result) sum calls

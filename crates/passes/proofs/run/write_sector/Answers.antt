@@ -13,3 +13,9 @@ pub returns-clause-honest : goal.returns-clause-honest
 returns-clause-honest g c honest =
     let same = padded-short 512 c.args.bytes.now c.requires.fits ∙ sym c.with_zeros.ensures in
     subst (λ content. IsWrite (g.D.Disk.facts c.args.disk.now) (g.D.Disk.facts c.write-2.new.self) c.args.at content c.write-2.result) (sym same) (c.write-2.ensures.honest honest)
+
+pub returns-in-Some-clause-calls : goal.returns-in-Some-clause-calls
+returns-in-Some-clause-calls g c = c.write.ensures.calls
+
+pub returns-clause-calls : goal.returns-clause-calls
+returns-clause-calls g c = c.write-2.ensures.calls

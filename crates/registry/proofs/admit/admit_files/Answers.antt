@@ -1,6 +1,7 @@
 use Rattle.std.proofs.Common.{◌<◌, ◌≤◌, length, sym, subst, ◌∙◌, arith}
 use Rattle.std.proofs.lemmas.Result.{err_from_is_err_and}
-use Rattle.store.proofs.IsReadLemmas.{read_more}
+use Rattle.sector_disk.proofs.Moments.{exactly_none}
+use Rattle.store.proofs.IsReadLemmas.{read_more, read_none}
 use Rattle.registry.specs.inside.Reading.{IsReadRefusal}
 use Rattle.registry.proofs.Files.{one_admitted, one_refused, all_admitted, refused_more}
 use Rattle.registry.proofs.admit.admit_files.Goals as goal
@@ -29,3 +30,10 @@ returns-in_err-buffer-clause-refusals g c =
     let p = err_from_is_err_and c.from_residual.result c.from_residual.ensures.1 in
     rw p.1 (refused_more c.admit_at.new.store p.0 c.loop-position.invariant.read
     (subst (IsReadRefusal g.D.Disk.facts c.loop-position.store c.admit_at.new.store) (sym p.2) c.in_err-buffer.ensures.refusals))
+
+pub loop-position-init : goal.loop-position-init
+loop-position-init g c = record {
+  read = read_none c.args.store.now;
+  each = λ s at k lt. absurd (omega (arith, lt));
+  calls = exactly_none (g.D.Disk.facts c.args.store.now.disk);
+}

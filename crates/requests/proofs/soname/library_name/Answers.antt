@@ -35,3 +35,15 @@ returns-in-Err-clause-refused c =
 
 pub returns-in-Err-File-clause-refused : goal.returns-in-Err-File-clause-refused
 returns-in-Err-File-clause-refused c = is_refused c.args.file.now c.in-Err-File.refusal (rw c.in-Err-File.field-0-is at c.in-Err-File.ensures.refused)
+
+pub returns-in-Err-clause-ok : goal.returns-in-Err-clause-ok
+returns-in-Err-clause-ok c = tt
+
+pub returns-in-Err-clause-name : goal.returns-in-Err-clause-name
+returns-in-Err-clause-name c = tt
+
+pub returns-in-Err-clause-library : goal.returns-in-Err-clause-library
+returns-in-Err-clause-library c = tt
+
+pub returns-in-Err-clause-memory : goal.returns-in-Err-clause-memory
+returns-in-Err-clause-memory c = tt

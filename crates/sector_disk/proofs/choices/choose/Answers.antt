@@ -1,4 +1,4 @@
-use Rattle.std.proofs.Common.{◌≢◌, ◌+◌, ◌<◌, length, ◌∙◌, arith, below_more, subst, ap, ◌%◌}
+use Rattle.std.proofs.Common.{◌≢◌, ◌+◌, ◌<◌, length, ◌∙◌, arith, below_more, subst, sym, ap, ◌%◌}
 use Rattle.std.proofs.lemmas.List.{get_or-set_same, get_or-set_other}
 use Rattle.sector_disk.proofs.choices.choose.Goals as goal
 
@@ -16,3 +16,8 @@ loop-at-preserved g c =
 
 pub returns : goal.returns
 returns g c at lt = c.loop-at.invariant.0 at (omega arith)
+
+pub pick-requires : goal.pick-requires
+pick-requires g c =
+    let at = c.loop-at.at in
+    subst (λ n. goal.F-pre g c.args.pick at (n + 1)) (sym (c.loop-at.invariant.1 at (omega arith))) (c.requires.callable at (omega arith))

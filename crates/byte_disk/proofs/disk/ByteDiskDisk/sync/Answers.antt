@@ -1,4 +1,4 @@
-use Rattle.std.proofs.Common.{◌≡◌, ◌++◌, ◌∷◌, [], All, length, refl, subst, sym, ap, ◌∙◌}
+use Rattle.std.proofs.Common.{◌≡◌, ◌++◌, ◌∷◌, [], All, length, refl, subst, sym, ap, ◌∙◌, arith}
 use Rattle.std.specs.Prelude.{nat_eq}
 use Rattle.std.specs.HashMap.{get}
 use Rattle.sector_disk.specs.Disk.{sector}
@@ -42,3 +42,6 @@ returns-in-Ok-clause-honest c honest =
     let self = c.args.self.now in
     let p : PlannedStep = record { step = Sync; idle = self.idle } in
     made_sync self.start.now self.planned.items self.idle c.make_step.new.planned.items c.make_step.new.idle p refl (c.make_step.ensures.made ∙ ap (λ l. l ++ p ∷ []) c.in-Ok.ensures.items) refl
+
+pub returns-in-Err-clause-full : goal.returns-in-Err-clause-full
+returns-in-Err-clause-full c = omega (arith, c.in-Err.ensures.full)

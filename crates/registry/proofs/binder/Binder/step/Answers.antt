@@ -4,7 +4,7 @@ use Rattle.store.proofs.UsedAlone.{no_entry}
 use Rattle.store.specs.declared.refusal.StoreRefusal.{StoreRefusal}
 use Rattle.registry.specs.Flying.{Flies, IsStep}
 use Rattle.registry.specs.declared.walk.Walk.{Walk}
-use Rattle.registry.specs.inside.Binding.{Binding, found_of}
+use Rattle.registry.specs.inside.Binding.{Binding, IsReadyFor, found_of}
 use Rattle.registry.specs.inside.Stepping.{unread_step}
 use Rattle.registry.specs.inside.Walked.{IsBoundBy}
 use Rattle.registry.proofs.Flights.{bound_at_last, flies_offers, gone_on, next_library, refused_at_last, unread_on, with_found}
@@ -67,3 +67,8 @@ returns-then-not-has_next-clause-read g c = read_none c.args.store.now
 
 pub returns-clause-read : goal.returns-clause-read
 returns-clause-read g c = c.step.ensures.read
+
+pub step-requires-clause-among : goal.step-requires-clause-among
+step-requires-clause-among g c =
+    let binder : Binding = record { program = c.self.inside.program.items; base = c.self.inside.base; snapshot = c.self.inside.snapshot; found = found_of c.self.inside.walk } in
+    (subst (λ (o : Option Walk). IsReadyFor binder (found_of o)) c.in-Some.is c.self.invariant).1

@@ -1,11 +1,12 @@
-use Rattle.std.proofs.Common.{◌≡◌, true, sym, subst, ◌∙◌}
+use Rattle.std.proofs.Common.{◌≡◌, true, IsFalse, sym, subst, ◌∙◌}
+use Rattle.std.proofs.lemmas.Bool.{false≢true}
 use Rattle.std.proofs.lemmas.Result.{err_from_is_err_and}
 use Rattle.requests.specs.Reading.{IsLibraryRefusal}
 use Rattle.states.specs.State.{names_of, has_name}
 use Rattle.requests.specs.Request.{install}
 use Rattle.requests.specs.Step.{answer_of}
 use Rattle.registry.specs.Untested.{AppliesUntested}
-use Rattle.store.specs.Opened.{IsAt}
+use Rattle.store.specs.Opened.{Opened, IsAt}
 use Rattle.registry.proofs.Forms.{is_name, file_size}
 use Rattle.registry.proofs.Putting.{installed, install_no_library, install_there, installed_as}
 use Rattle.registry.proofs.States.{same_sectors}
@@ -55,3 +56,10 @@ returns-then-is_some-clause-held g c = keeps_held_same g.D.Disk.facts c.args.sel
 
 pub returns-clause-held : goal.returns-clause-held
 returns-clause-held g c = subst (λ k. KeepsHeld g.D.Disk.facts k c.put_new.new.self) c.self.view_is c.put_new.ensures.held
+
+pub returns-then-has_failed-clause-applied : goal.returns-then-has_failed-clause-applied
+returns-then-has_failed-clause-applied g c s at =
+    absurd (false≢true (sym (subst (λ (r : Opened g.row.D.Denot). IsFalse r.failed) (sym c.self.view_is) at.usable) ∙ sym c.has_failed.ensures.value ∙ c.if-has_failed.true))
+
+pub in_words-requires : goal.in_words-requires
+in_words-requires g c = c.put_new.ensures.on_any_disk.refusals

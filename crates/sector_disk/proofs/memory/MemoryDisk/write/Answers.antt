@@ -1,15 +1,16 @@
-use Rattle.std.proofs.Common.{◌≡◌, ◌+◌, ◌<◌, ◌≤◌, ◌∙◌, inl, [], ◌∷◌, ◌++◌, List, ap, arith, length, get_or, set, take, drop, All, sym, subst}
-use Rattle.std.proofs.lemmas.List.{get_or_read, length-drop, length-set, length_push, take-append-le}
-use Rattle.std.proofs.lemmas.List.Elements.{All-push, All-weaker}
+use Rattle.std.proofs.Common.{◌≡◌, ◌+◌, ◌<◌, ◌≤◌, ◌∙◌, inl, [], ◌∷◌, ◌++◌, List, ℕ, ap, arith, length, get_or, set, take, drop, All, refl, sym, subst}
+use Rattle.std.proofs.lemmas.List.{append-nil, get_or_read, length-append, length-drop, length-set, length_push, take-append-le}
+use Rattle.std.proofs.lemmas.List.Elements.{All-push, All-weaker, filter-append}
+use Rattle.std.specs.List.{filter}
 use Rattle.sector_disk.specs.declared.moment.Moment.{Moment}
 use Rattle.sector_disk.specs.declared.written.Written.{Written}
 use Rattle.sector_disk.specs.Disk.{GrowsBy, IsUnchanged, IsWhole}
-use Rattle.sector_disk.specs.Written.{contents, written_to}
-use Rattle.sector_disk.specs.inside.WrittenLaws.{length-contents}
+use Rattle.sector_disk.specs.Written.{contents, written_to, choices}
+use Rattle.sector_disk.specs.inside.WrittenLaws.{length-contents, written_to_same, written_to_other}
 use Rattle.sector_disk.specs.Memory.{memory_facts}
 use Rattle.sector_disk.specs.Moments.{facts_of}
 use Rattle.sector_disk.proofs.Contents.{contents-append}
-use Rattle.sector_disk.proofs.Kept.{keeps_past_to, unchanged, grows, length-written_to, counted_more}
+use Rattle.sector_disk.proofs.Kept.{keeps_past_to, unchanged, grows, length-written_to, counted_more, choices-append}
 use Rattle.sector_disk.proofs.Whole.{is_whole}
 use Rattle.sector_disk.proofs.memory.MemoryDisk.write.Goals as goal
 
@@ -123,3 +124,80 @@ returns-in-Err-clause-honest c honest =
 
 pub returns-in-Err-clause-err : goal.returns-in-Err-clause-err
 returns-in-Err-clause-err c = err_same c
+
+pub invariant_of-self-clause-whole_start : goal.invariant_of-self-clause-whole_start
+invariant_of-self-clause-whole_start c = c.args.self.now.whole_start
+
+pub invariant_of-self-in-Err : goal.invariant_of-self-in-Err
+invariant_of-self-in-Err c =
+    let self = c.args.self.now in
+    let same = sym c.in-Err.ensures.items in
+    let NoLater = λ (writes : List Written) (moment : Moment). moment.writes ≤ length writes in
+    let this : c.moment-moment.result.writes ≡ length self.writes.items = ap (λ m. m.writes) c.moment-moment.ensures in
+    record {
+      few = self.few;
+      written_in_range = subst (All (λ (write : Written). write.at < length self.start.items)) same self.written_in_range;
+      synced_writes = omega (arith, self.synced_writes, ap length same);
+      is_latest = self.is_latest ∙ ap (contents self.start.items) same;
+      one_count_each = self.one_count_each;
+      counted = λ k lt. self.counted k lt ∙ ap (λ ws. length (written_to k (drop self.synced ws))) same;
+      whole_start = self.whole_start;
+      whole_writes = subst (All (λ (write : Written). IsWhole write.content)) same self.whole_writes;
+      no_later = subst (All (NoLater c.push.new.self.items)) (sym c.and-self-in-Err.ensures)
+          (All-push (NoLater c.push.new.self.items) self.past.items _ (subst (λ ws. All (NoLater ws) self.past.items) same self.no_later) (omega (arith, this, ap length same)));
+    }
+
+-- how many calls have failed after one more
+failures_then : (past past' : List Moment) (moment : Moment) (n : ℕ) → past' ≡ past ++ moment ∷ [] → length (filter (λ (m : Moment). m.failed) (moment ∷ [])) ≡ n
+    → length (filter (λ (m : Moment). m.failed) past') ≡ length (filter (λ (m : Moment). m.failed) past) + n
+failures_then past past' moment n is one =
+    let failed = λ (m : Moment). m.failed in
+    ap (λ p. length (filter failed p)) is
+    ∙ ap length (filter-append failed past (moment ∷ []))
+    ∙ length-append (filter failed past) (filter failed (moment ∷ []))
+    ∙ ap (λ k. length (filter failed past) + k) one
+
+pub returns-in-Ok-clause-calls : goal.returns-in-Ok-clause-calls
+returns-in-Ok-clause-calls c =
+    let past = c.args.self.now.past.items in
+    let this = ap (λ m. length (filter (λ (x : Moment). x.failed) (m ∷ []))) c.moment-moment.ensures in
+    record {
+      honest = refl;
+      sectors = refl;
+      plans = refl;
+      log = record { more = []; few = omega arith; grown = refl };
+      time = ap length c.and-self.ensures ∙ length_push past c.moment-moment.result;
+      ok = omega (arith, failures_then past c.and-self.result.items c.moment-moment.result 0 c.and-self.ensures this);
+      err = tt;
+    }
+
+pub returns-in-Err-clause-calls : goal.returns-in-Err-clause-calls
+returns-in-Err-clause-calls c =
+    let past = c.args.self.now.past.items in
+    record {
+      honest = refl;
+      sectors = refl;
+      plans = refl;
+      log = record { more = []; few = omega arith; grown = refl };
+      time = ap length c.and-self-in-Err.ensures ∙ length_push past _;
+      ok = tt;
+      err = failures_then past c.and-self-in-Err.result.items _ 1 c.and-self-in-Err.ensures refl;
+    }
+
+pub returns-in-Ok-clause-choices_ok : goal.returns-in-Ok-clause-choices_ok
+returns-in-Ok-clause-choices_ok c =
+    let self = c.args.self.now in
+    let at = c.args.at in
+    let write : Written = record { at = at; content = c.args.from.now } in
+    let chosen = λ (k : ℕ). choices self.start.items self.writes.items self.synced k in
+    let more = λ (k : ℕ). ap (λ ws. choices self.start.items ws self.synced k) c.in-Ok.ensures.items
+    ∙ choices-append self.start.items self.writes.items self.synced k write self.synced_writes in
+    record {
+      here = more at ∙ ap (λ l. chosen at ++ l) (written_to_same at write [] refl);
+      others = λ k other. more k ∙ ap (λ l. chosen k ++ l) (written_to_other k write [] (λ is. other (sym is))) ∙ append-nil (chosen k);
+    }
+
+pub returns-in-Err-clause-choices_err : goal.returns-in-Err-clause-choices_err
+returns-in-Err-clause-choices_err c =
+    let self = c.args.self.now in
+    record { each = λ k. ap (λ ws. choices self.start.items ws self.synced k) c.in-Err.ensures.items }

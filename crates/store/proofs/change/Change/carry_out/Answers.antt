@@ -2,6 +2,7 @@ use Rattle.std.proofs.Common.{◌⊎◌, ℕ, ◌<◌, ◌≤◌, IsTrue, sym, s
 use Rattle.std.specs.Prelude.{Contains}
 use Rattle.sector_disk.proofs.Moments.{goes_on, left_now}
 use Rattle.extents.specs.Limits.{root_sectors}
+use Rattle.passes.proofs.Rows.{then_in_row, stop_in_row}
 use Rattle.store.specs.Stands.{StandsBy, StandsAs, Stands}
 use Rattle.store.specs.inside.Change.{staged_sectors}
 use Rattle.store.proofs.Puts.{ok_both, staged_only, staged_stands, followed_done, followed_only, committed_others, staged_others}
@@ -62,3 +63,9 @@ returns-clause-others g c honest =
     let low : c.slot_of.result < 2 = grind (arith, c.slot_of.ensures.value) in
     committed_others (staged_sectors c.args.self.now.staged)
     (c.write_staged.ensures.any_moment honest) c.slot_of.result c.encode_root.result low (c.commit.ensures.any_moment honest_mid)
+
+pub returns-in_err-write_staged-clause-calls : goal.returns-in_err-write_staged-clause-calls
+returns-in_err-write_staged-clause-calls g c = stop_in_row c.from_residual.result c.in_err-write_staged.ensures.calls (omega arith) c.from_residual.ensures.0
+
+pub returns-clause-calls : goal.returns-clause-calls
+returns-clause-calls g c = then_in_row c.in_ok-write_staged.ensures.calls c.commit.ensures.calls

@@ -1,4 +1,4 @@
-use Rattle.std.proofs.Common.{◌≡◌, ◌≢◌, ◌⊎◌, ◌-◌, ◌<◌, List, [], ℕ, ◌++◌, All, get_or, length, map, IsTrue, refl, sym, subst, ap, ◌∙◌, arith}
+use Rattle.std.proofs.Common.{rules, ◌≡◌, ◌≢◌, ◌⊎◌, ◌-◌, ◌<◌, List, [], ℕ, ◌++◌, All, get_or, length, map, IsTrue, refl, sym, subst, ap, ◌∙◌, arith}
 use Rattle.std.specs.List.{remove}
 use Rattle.std.proofs.lemmas.List.{get_or_read}
 use Rattle.sector_disk.specs.Disk.{LeavesOnly}
@@ -217,3 +217,17 @@ returns-clause-placed g c =
           (singles_in_use c.self.inside.root c.self.inside.entries.items c.self.inside.held c.self.inside.layout removal.kept c.take_catalogues-taken.result c.take_catalogues-taken.ensures.taken));
       entries = c.remove-3.ensures.items ∙ ap (λ store. remove store.entries gone) c.self.view_is;
     }
+
+pub returns-then-self-2-clause-on_any_disk : goal.returns-then-self-2-clause-on_any_disk
+returns-then-self-2-clause-on_any_disk g c = record {
+  reopen = search rules;
+  device = search rules;
+  same = search rules;
+  usable = tt;
+  refusals = tt;
+  all_calls = tt;
+  calls = search rules;
+}
+
+pub returns-then-self-2-clause-refused : goal.returns-then-self-2-clause-refused
+returns-then-self-2-clause-refused g c = search rules

@@ -1,4 +1,4 @@
-use Rattle.std.proofs.Common.{◌≡◌, ◌⊎◌, ◌<◌, [], All, length, IsTrue, refl, sym, subst, ap, ◌∙◌, arith}
+use Rattle.std.proofs.Common.{rules, ◌≡◌, ◌⊎◌, ◌<◌, [], All, length, IsTrue, refl, sym, subst, ap, ◌∙◌, arith}
 use Rattle.sector_disk.specs.Disk.{LeavesOnly}
 use Rattle.roots.specs.declared.version.Version.TheVariants.{Two}
 use Rattle.roots.specs.Root.{version_of}
@@ -98,3 +98,14 @@ pub returns-clause-held : goal.returns-clause-held
 returns-clause-held g c =
     subst (λ store. KeepsHolders (g.D.Disk.facts store.disk) (g.D.Disk.facts c.carry_out.new.disk) store.held c.self.inside.held) c.self.view_is
     (keeps_table c.self.invariant.0 [] (λ k found. omega (arith, found.1)) (c.carry_out.ensures.others))
+
+pub returns-then-self-clause-on_any_disk : goal.returns-then-self-clause-on_any_disk
+returns-then-self-clause-on_any_disk g c = record {
+  reopen = search rules;
+  device = search rules;
+  same = search rules;
+  usable = tt;
+  refusals = tt;
+  all_calls = tt;
+  calls = search rules;
+}

@@ -27,6 +27,9 @@ loop-byte-preserved g c =
           (put.1 ∙ was.0, put.2 ∙ ap (λ (b : Buffered). with_text b next) was.1 ∙ with-two c.args.self.now front next ∙ ap (with_text c.args.self.now) (sym more));
     }
 
+pub returns-then-is_empty : goal.returns-then-is_empty
+returns-then-is_empty g c = rw (← c.if-is_empty.ensures) c.put_piece.ensures
+
 pub returns-in_err-put_name_byte-clause-fits : goal.returns-in_err-put_name_byte-clause-fits
 returns-in_err-put_name_byte-clause-fits g c = λ room.
     let name = c.args.name.now in

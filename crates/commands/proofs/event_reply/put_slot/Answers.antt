@@ -1,0 +1,16 @@
+use Rattle.std.proofs.Common.{◌++◌, codes}
+use Rattle.std.specs.Fmt.{decimal}
+use Rattle.std.specs.Io.KnownBytes.{append_known}
+use Rattle.std.proofs.KnownBytes.{Appends-trans}
+use Rattle.commands.proofs.event_reply.put_slot.Goals as goal
+
+pub returns-clause-ok : goal.returns-clause-ok
+returns-clause-ok g c =
+    let w = g.W.Write.contents in
+    let start = append_known (w c.args.out.now) c.args.line.now.waiting in
+    let first = append_known (w c.put.new.out) c.put.new.self.waiting in
+    let second = append_known (w c.put_decimal.new.out) c.put_decimal.new.self.waiting in
+    let third = append_known (w c.put-2.new.out) c.put-2.new.self.waiting in
+    let number = decimal c.args.slot in
+    let a = Appends-trans start first second (codes "slot ") number c.in_ok-put.ensures.ok c.in_ok-put_decimal.ensures.ok in
+    Appends-trans start second third (codes "slot " ++ number) (codes "\n") a c.in_ok-put-2.ensures.ok
