@@ -1,5 +1,6 @@
 pub mod Accepted
 mod TableEntries
+mod ByNumber
 mod Misplaced
 mod SymbolNumbers
 mod StringEnds

@@ -201,68 +201,44 @@ fn is_refused(symbol: Symbol) -> bool
 
 /// Whether one of these tests refuses a symbol of a table, but for the first: one pass, where the
 /// tests make four.
-#[tactic(auto, unfolding(crate::specs::Symbol::symbols_in))]
 pub(crate) fn has_refused_in(table: &[u8]) -> bool
     ensures { result ≡ list_any is_refused (drop 1 (symbols_in table.now)) }
 {
-    (0..table.len() / SYMBOL_SIZE as usize)
-        .map(|i| nth_symbol(table, i))
-        .skip(1)
-        .any(|s| is_refused(s))
+    (1..table.len() / SYMBOL_SIZE as usize).any(|i| is_refused(nth_symbol(table, i)))
 }
 
 /// Whether a symbol of a table, but for the first, is a common symbol.
-#[tactic(auto, unfolding(crate::specs::Symbol::symbols_in))]
 pub(crate) fn has_common_in(table: &[u8]) -> bool
     ensures { result ≡ list_any is_common (drop 1 (symbols_in table.now)) }
 {
-    (0..table.len() / SYMBOL_SIZE as usize)
-        .map(|i| nth_symbol(table, i))
-        .skip(1)
-        .any(|s| is_common(s))
+    (1..table.len() / SYMBOL_SIZE as usize).any(|i| is_common(nth_symbol(table, i)))
 }
 
 /// Whether a symbol of a table, but for the first, is thread-local.
-#[tactic(auto, unfolding(crate::specs::Symbol::symbols_in))]
 pub(crate) fn has_tls_in(table: &[u8]) -> bool
     ensures { result ≡ list_any is_tls (drop 1 (symbols_in table.now)) }
 {
-    (0..table.len() / SYMBOL_SIZE as usize)
-        .map(|i| nth_symbol(table, i))
-        .skip(1)
-        .any(|s| is_tls(s))
+    (1..table.len() / SYMBOL_SIZE as usize).any(|i| is_tls(nth_symbol(table, i)))
 }
 
 /// Whether a symbol of a table, but for the first, is an indirect function.
-#[tactic(auto, unfolding(crate::specs::Symbol::symbols_in))]
 pub(crate) fn has_ifunc_in(table: &[u8]) -> bool
     ensures { result ≡ list_any is_ifunc (drop 1 (symbols_in table.now)) }
 {
-    (0..table.len() / SYMBOL_SIZE as usize)
-        .map(|i| nth_symbol(table, i))
-        .skip(1)
-        .any(|s| is_ifunc(s))
+    (1..table.len() / SYMBOL_SIZE as usize).any(|i| is_ifunc(nth_symbol(table, i)))
 }
 
 /// Whether a symbol of a table, but for the first, has another binding.
-#[tactic(auto, unfolding(crate::specs::Symbol::symbols_in))]
 pub(crate) fn has_badly_bound_in(table: &[u8]) -> bool
     ensures { result ≡ list_any is_badly_bound (drop 1 (symbols_in table.now)) }
 {
-    (0..table.len() / SYMBOL_SIZE as usize)
-        .map(|i| nth_symbol(table, i))
-        .skip(1)
-        .any(|s| is_badly_bound(s))
+    (1..table.len() / SYMBOL_SIZE as usize).any(|i| is_badly_bound(nth_symbol(table, i)))
 }
 
 /// Whether the offset of the name of a symbol of a table, but for the first, is at or above a
 /// limit.
-#[tactic(auto, unfolding(crate::specs::Symbol::symbols_in))]
 pub(crate) fn has_name_from(table: &[u8], limit: u64) -> bool
     ensures { result ≡ list_any (λ s. nat_le limit s.name) (drop 1 (symbols_in table.now)) }
 {
-    (0..table.len() / SYMBOL_SIZE as usize)
-        .map(|i| nth_symbol(table, i))
-        .skip(1)
-        .any(|s| u64::from(s.name) >= limit)
+    (1..table.len() / SYMBOL_SIZE as usize).any(|i| u64::from(nth_symbol(table, i).name) >= limit)
 }

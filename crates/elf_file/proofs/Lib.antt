@@ -3,6 +3,8 @@ mod Accepted
 mod Spans
 pub mod Order
 mod LoadNumbers
+mod AnyLoad
+pub mod ByNumber
 mod Blocks
 mod TagTables
 mod InMemory

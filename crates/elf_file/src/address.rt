@@ -4,7 +4,8 @@ ghost use Rattle.std.specs.Prelude.{◌≡◌, ◌≤◌, ◌+◌, length, take,
 ghost use Rattle.elf_file.specs.Address.{is_in_file_part, find_file_part, bytes_at};
 
 use crate::headers::Headers;
-use crate::segment::{PT_LOAD, ProgramHeader};
+use crate::load_segments::LoadSegments;
+use crate::segment::ProgramHeader;
 use crate::segments::Segments;
 
 /// So many bytes of a file from one on.
@@ -27,14 +28,10 @@ fn is_in_file_part(address: u64, size: u64, h: ProgramHeader) -> bool
 impl Headers<'_> {
     /// The PT_LOAD that has so many bytes at an address in its file part. One pass over the program
     /// headers.
-    #[tactic(auto, unfolding(crate::specs::Address::find_file_part, crate::specs::Segment::loads))]
     fn find_file_part(&self, address: u64, size: u64) -> Option<ProgramHeader>
         ensures { result ≡ find_file_part self.now address size }
     {
-        (0..self.count())
-            .map(|i| self.nth(i))
-            .filter(|h| h.kind == PT_LOAD)
-            .find(|h| is_in_file_part(address, size, *h))
+        LoadSegments::new(self).find(|h| is_in_file_part(address, size, *h))
     }
 }
 

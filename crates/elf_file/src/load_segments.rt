@@ -32,7 +32,7 @@ impl<'a> Model for LoadSegments<'a> {
 
 impl Headers<'_> {
     /// The number of the first PT_LOAD from a program header on, or how many headers there are.
-    fn next_load(&self, from: usize) -> usize
+    pub(crate) fn next_load(&self, from: usize) -> usize
         requires { from ≤ header_count self.now }
         ensures within { result ≤ header_count self.now }
         ensures from { from ≤ result }

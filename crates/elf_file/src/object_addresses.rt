@@ -9,7 +9,8 @@ ghost use Rattle.elf_file.specs.ObjectAddresses.{addresses_of};
 
 use crate::header::PROGRAM_HEADER_SIZE;
 use crate::headers::Headers;
-use crate::segment::{PT_LOAD, ProgramHeader};
+use crate::load_segments::LoadSegments;
+use crate::segment::ProgramHeader;
 use crate::segments::Segments;
 
 /// Addresses within an object before its base is added (gABI chapters 4 and 5).
@@ -36,14 +37,10 @@ fn has_file_bytes(offset: u64, size: u64, h: ProgramHeader) -> bool
 impl Headers<'_> {
     /// The first PT_LOAD that has so many bytes of the file from an offset on. One pass over the
     /// program headers.
-    #[tactic(auto, unfolding(crate::specs::Segment::loads))]
     fn find_file_bytes(&self, offset: u64, size: u64) -> Option<ProgramHeader>
         ensures { result ≡ find (has_file_bytes offset size) (loads self.now) }
     {
-        (0..self.count())
-            .map(|i| self.nth(i))
-            .filter(|h| h.kind == PT_LOAD)
-            .find(|h| has_file_bytes(offset, size, *h))
+        LoadSegments::new(self).find(|h| has_file_bytes(offset, size, *h))
     }
 }
 

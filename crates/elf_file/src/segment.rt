@@ -7,6 +7,7 @@ ghost use Rattle.elf_file.specs.Segment.{has_high_segment, is_too_large, has_bad
 ghost use Rattle.elf_file.specs.Dynamic.{dynamic_count, find_dynamic};
 
 use crate::headers::Headers;
+use crate::load_segments::LoadSegments;
 
 /// A program header as it stands in the file (gABI chapter 5, `Elf64_Phdr`).
 #[derive(Clone, Copy, Debug, PartialEq, Eq)]
@@ -65,32 +66,23 @@ fn is_out_of_order(first: ProgramHeader, next: ProgramHeader) -> bool
 }
 
 impl Headers<'_> {
-    #[tactic(auto, unfolding(crate::specs::Segment::has_tls_segment))]
     pub(crate) fn has_tls_segment(&self) -> bool
         ensures { result ≡ has_tls_segment self.now }
     {
-        (0..self.count())
-            .map(|i| self.nth(i))
-            .any(|h| h.kind == PT_TLS)
+        (0..self.count()).any(|i| self.nth(i).kind == PT_TLS)
     }
 
-    #[tactic(auto, unfolding(crate::specs::Segment::has_load))]
     fn has_load(&self) -> bool
         ensures { result ≡ has_load self.now }
     {
-        (0..self.count())
-            .map(|i| self.nth(i))
-            .any(|h| h.kind == PT_LOAD)
+        self.next_load(0) < self.count()
     }
 
-    #[tactic(auto, unfolding(crate::specs::Segment::has_bad_load))]
     fn has_bad_load(&self) -> bool
         ensures { result ≡ has_bad_load self.now }
     {
         let size = self.file().len();
-        (0..self.count())
-            .map(|i| self.nth(i))
-            .any(|h| is_bad_load(size, h))
+        LoadSegments::new(self).any(|h| is_bad_load(size, h))
     }
 
     pub(crate) fn has_bad_segment(&self) -> bool
@@ -99,13 +91,10 @@ impl Headers<'_> {
         !self.has_load() || self.has_bad_load()
     }
 
-    #[tactic(auto, unfolding(crate::specs::Segment::has_high_segment))]
     fn has_high_segment(&self) -> bool
         ensures { result ≡ has_high_segment self.now }
     {
-        (0..self.count())
-            .map(|i| self.nth(i))
-            .any(|h| is_too_high(h))
+        LoadSegments::new(self).any(|h| is_too_high(h))
     }
 
     pub(crate) fn is_too_large(&self) -> bool
@@ -114,29 +103,20 @@ impl Headers<'_> {
         self.file().len() > LARGEST_FILE || self.has_high_segment()
     }
 
-    #[tactic(auto, unfolding(crate::specs::Segment::has_bad_order, crate::specs::Segment::loads))]
     pub(crate) fn has_bad_order(&self) -> bool
         ensures { result ≡ has_bad_order self.now }
     {
-        let loads = (0..self.count())
-            .map(|i| self.nth(i))
-            .filter(|h| h.kind == PT_LOAD);
-        let others = (0..self.count())
-            .map(|i| self.nth(i))
-            .filter(|h| h.kind == PT_LOAD);
-        loads
-            .zip(others.skip(1))
-            .any(|(a, b)| is_out_of_order(a, b))
+        let loads = LoadSegments::new(self);
+        let others = LoadSegments::new(self).skip(1);
+        loads.zip(others).any(|(a, b)| is_out_of_order(a, b))
     }
 
     /// How many PT_DYNAMICs there are.
-    #[tactic(auto, unfolding(crate::specs::Dynamic::dynamic_count))]
     pub(crate) fn dynamic_count(&self) -> usize
         ensures { result ≡ dynamic_count self.now }
     {
         (0..self.count())
-            .map(|i| self.nth(i))
-            .filter(|h| h.kind == PT_DYNAMIC)
+            .filter(|i| self.nth(*i).kind == PT_DYNAMIC)
             .count()
     }
 

@@ -11,7 +11,7 @@ use crate::first_refusal::test_segments;
 use crate::headers::Headers;
 use crate::indexed_segments::IndexedSegments;
 use crate::load_segments::LoadSegments;
-use crate::segment::{PT_LOAD, ProgramHeader};
+use crate::segment::ProgramHeader;
 use std::marker::Model;
 
 /// A file that none of the tests E1 to E14 refuses: its PT_LOADs follow the rules and each other.
@@ -74,13 +74,11 @@ impl<'a> Segments<'a> {
     }
 
     /// How many PT_LOADs there are: one pass over the program headers.
-    #[tactic(auto, unfolding(crate::specs::Segment::loads))]
     pub fn count(&self) -> usize
         ensures { result ≡ length (loads self.now) }
     {
         (0..self.header_count())
-            .map(|i| self.header(i))
-            .filter(|h| h.kind == PT_LOAD)
+            .filter(|i| self.headers.is_load(*i))
             .count()
     }
 
