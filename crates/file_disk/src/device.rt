@@ -69,9 +69,14 @@ fn numbers_in<R: Files>(rt: &R, alloc: Global, path: &str) -> io::Result<Option<
     }
 }
 
+/// The path of a name in a folder.
+fn path_in(alloc: Global, folder: &str, name: &str) -> io::Result<String> {
+    Ok(format!(in alloc; "{folder}/{name}")?)
+}
+
 /// Whether the device of a folder of sysfs is a partition.
 fn is_partition<R: Files>(rt: &R, alloc: Global, folder: &str) -> io::Result<bool> {
-    let partition = format!(in alloc; "{folder}/partition")?;
+    let partition = path_in(alloc, folder, "partition")?;
     Ok(fs::metadata(rt, partition.as_str()).is_ok())
 }
 
@@ -81,7 +86,7 @@ fn whole_of<R: Files>(rt: &R, alloc: Global, numbers: Numbers) -> io::Result<Opt
     if !is_partition(rt, alloc, &folder)? {
         return Ok(None);
     }
-    let disk = format!(in alloc; "{folder}/../dev")?;
+    let disk = path_in(alloc, &folder, "../dev")?;
     numbers_in(rt, alloc, &disk)
 }
 
@@ -164,35 +169,35 @@ impl Device {
     /// Whether other devices stand on it, on its disk or on its partitions.
     fn is_held<R: Files>(self, rt: &R, alloc: Global) -> io::Result<bool> {
         let folder = self.numbers.folder(alloc)?;
-        if has_holders(rt, alloc, &folder)? {
-            return Ok(true);
-        }
-        if self.whole.is_some() {
-            let disk = format!(in alloc; "{folder}/..")?;
-            return has_holders(rt, alloc, &disk);
-        }
-        has_held_partition(rt, alloc, &folder, &names_in(rt, alloc, &folder)?)
+        is_folder_held(rt, alloc, &folder, self.whole.is_some())
     }
 }
 
 /// The names in a folder, or in the one that a link leads to, each ended by a byte 0.
 fn names_in<R: Files>(rt: &R, alloc: Global, folder: &str) -> io::Result<Vec<u8>> {
+    let inside = path_in(alloc, folder, ".")?;
+    let mut found = rt.open_dir(&inside)?;
     let mut names = Vec::new(alloc);
-    let inside = format!(in alloc; "{folder}/.")?;
-    rt.open_dir(&inside)?.read_to_end(&mut names)?;
+    found.read_to_end(&mut names)?;
     Ok(names)
+}
+
+/// Whether a folder with these names, each ended by a byte 0, has more than itself and the one
+/// above it.
+fn has_others(names: &[u8]) -> bool {
+    for name in names.split(|byte| *byte == 0) {
+        if !matches!(name, b"" | b"." | b"..") {
+            return true;
+        }
+    }
+    false
 }
 
 /// Whether other devices stand on the one of a folder of sysfs.
 fn has_holders<R: Files>(rt: &R, alloc: Global, folder: &str) -> io::Result<bool> {
-    let holders = format!(in alloc; "{folder}/holders")?;
+    let holders = path_in(alloc, folder, "holders")?;
     let names = names_in(rt, alloc, &holders)?;
-    for name in names.split(|byte| *byte == 0) {
-        if !matches!(name, b"" | b"." | b"..") {
-            return Ok(true);
-        }
-    }
-    Ok(false)
+    Ok(has_others(&names))
 }
 
 /// Whether a name in the folder of a disk is that of a partition on which other devices stand.
@@ -205,7 +210,7 @@ fn is_held_partition<R: Files>(
     let Ok(name) = str::from_utf8(name) else {
         return Ok(false);
     };
-    let inside = format!(in alloc; "{folder}/{name}")?;
+    let inside = path_in(alloc, folder, name)?;
     Ok(is_partition(rt, alloc, &inside)? && has_holders(rt, alloc, &inside)?)
 }
 
@@ -223,6 +228,23 @@ fn has_held_partition<R: Files>(
         }
     }
     Ok(false)
+}
+
+/// Whether other devices stand on the one of a folder of sysfs, on its disk if it is a partition,
+/// or else on its partitions.
+fn is_folder_held<R: Files>(
+    rt: &R,
+    alloc: Global,
+    folder: &str,
+    is_partition: bool,
+) -> io::Result<bool> {
+    if has_holders(rt, alloc, folder)? {
+        return Ok(true);
+    }
+    if is_partition {
+        return has_holders(rt, alloc, &path_in(alloc, folder, "..")?);
+    }
+    has_held_partition(rt, alloc, folder, &names_in(rt, alloc, folder)?)
 }
 
 /// Whether a block device is mounted, swapped to or held by another device; or its disk is, or one

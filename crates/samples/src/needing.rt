@@ -25,15 +25,27 @@ const LETTERS: &[u8] = b"abcdepfz";
 /// An entry of the dynamic section with a name of one letter: of tag 1 a needed library, of tag 14
 /// the library's own.
 pub fn named(tag: u64, letter: u8) -> [u8; 16] {
-    let number = LETTERS.iter().take_while(|l| **l != letter).count() as u64;
+    let mut place = 1u64;
+    for one in LETTERS {
+        if *one == letter {
+            break;
+        }
+        place = place.wrapping_add(2);
+    }
     let mut entry = [0; 16];
     put(&mut entry, 0, &tag.to_le_bytes());
-    put(
-        &mut entry,
-        8,
-        &number.wrapping_mul(2).wrapping_add(1).to_le_bytes(),
-    );
+    put(&mut entry, 8, &place.to_le_bytes());
     entry
+}
+
+/// Writes the sizes of the whole file and of its dynamic section, in the file and in memory.
+fn put_sizes(file: &mut [u8]) {
+    let whole = file.len() as u64;
+    let section = whole.saturating_sub(FRONT.len() as u64);
+    put(file, 96, &whole.to_le_bytes());
+    put(file, 104, &whole.to_le_bytes());
+    put(file, 152, &section.to_le_bytes());
+    put(file, 160, &section.to_le_bytes());
 }
 
 /// A file that needs libraries of one letter each, with an entry more, or with none, behind them,
@@ -50,15 +62,7 @@ pub fn needing_file(
     }
     bytes.extend_from_slice(entry)?;
     bytes.extend_from_slice(TAIL)?;
-    let whole = (bytes.len() as u64).to_le_bytes();
-    let section = (bytes.len() as u64)
-        .saturating_sub(FRONT.len() as u64)
-        .to_le_bytes();
-    for (at, number) in [(96, whole), (104, whole), (152, section), (160, section)] {
-        put(&mut bytes, at, &number);
-    }
-    for _ in bytes.len()..size {
-        bytes.push(0)?;
-    }
+    put_sizes(&mut bytes);
+    bytes.resize(size.max(bytes.len()), 0)?;
     Ok(bytes)
 }

@@ -1,4 +1,5 @@
 // The smallest library, and a program that needs one.
+use crate::bytes::put;
 use std::alloc::{AllocError, Global};
 
 /// How many bytes each has.
@@ -38,9 +39,7 @@ pub fn library(name: u8, version: u8) -> [u8; SIZE] {
 /// The same, with zeros behind it up to so many bytes.
 pub fn padded(alloc: Global, name: u8, version: u8, size: usize) -> Result<Vec<u8>, AllocError> {
     let mut file = vec![in alloc; 0; size]?;
-    for (to, from) in file.iter_mut().zip(library(name, version).iter()) {
-        *to = *from;
-    }
+    put(&mut file, 0, &library(name, version));
     Ok(file)
 }
 
