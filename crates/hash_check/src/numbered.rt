@@ -3,6 +3,7 @@
 ghost use Rattle.std.specs.Prelude.{◌≡◌, ◌<◌, ◌≤◌, ◌+◌, ◌^◌, ◌++◌, ℕ, length, map, slice_index};
 ghost use Rattle.std.specs.Prelude.{IfOk, IfSome, OnOk};
 ghost use Rattle.std.specs.List.{All};
+ghost use Rattle.std.specs.List.Sorted.{IsPermutation};
 ghost use Rattle.hash_check.specs.Numbered.{nth_symbol, AreNumbered};
 ghost use Rattle.hash_check.specs.inside.Endings.{AreEndings};
 ghost use Rattle.hash_check.specs.inside.Names.{all_symbols};
@@ -64,6 +65,15 @@ fn all_symbols(alloc: Global, object: &Object<'_>) -> Result<Vec<u32>, AllocErro
     ensures { IfOk result (λ numbers. numbers.items ≡ all_symbols object.now) }
 {
     (1..object.symbol_count()).collect(alloc)
+}
+
+/// The same, in the order of the places of their names in the string table.
+fn symbols_by_name_place(alloc: Global, object: &Object<'_>) -> Result<Vec<u32>, AllocError>
+    ensures { IfOk result (λ numbers. IsPermutation (all_symbols object.now) numbers.items) }
+{
+    let mut symbols = all_symbols(alloc, object)?;
+    symbols.sort_unstable_by_key(|i| offset_of(object, *i));
+    Ok(symbols)
 }
 
 /// The names of all symbols of objects, each read to its end; none where those of an object have so
@@ -129,8 +139,7 @@ fn all_names_by_place<'a>(
     let mut all = Vec::new(alloc);
     for place in 0..objects.len() {
         let object = objects[place].object();
-        let mut symbols = all_symbols(alloc, object)?;
-        symbols.sort_unstable_by_key(|i| offset_of(object, *i));
+        let symbols = symbols_by_name_place(alloc, object)?;
         let names = names_of(alloc, object, &symbols)?;
         let endings = endings_of(alloc, object, &symbols)?;
         add_endings(&mut all, &endings, gathered.names.len())?;

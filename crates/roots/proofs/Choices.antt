@@ -1,7 +1,7 @@
 -- The choice between two slots is the current root of the two sectors.
-use Rattle.std.proofs.Common.{◌≡◌, ℕ, ◌%◌, List, Bool, true, false, cond, eqb, ◌&&◌, Result, Ok, Err, refl, sym, ap, subst, ◌∙◌, inl, inr, arith}
+use Rattle.std.proofs.Common.{◌≡◌, ℕ, ◌%◌, ◌<◌, ◌≤◌, List, Bool, true, false, cond, eqb, ◌&&◌, Result, Ok, Err, refl, sym, ap, subst, ◌∙◌, inl, inr, arith}
 use Rattle.std.specs.Int.{abs_diff}
-use Rattle.std.proofs.lemmas.Bool.{eqb-true, and_parts, cases_lt}
+use Rattle.std.proofs.lemmas.Bool.{eqb-true, and_parts, cases_lt, lt-ltb, le-ltb}
 use Rattle.roots.specs.declared.root.Root.{Root}
 use Rattle.roots.specs.declared.slot.Slot.{Slot}
 use Rattle.roots.specs.declared.slot.Slot.TheVariants.{Empty, Good, Bad}
@@ -11,7 +11,7 @@ use Rattle.roots.specs.declared.choice.ChooseRefusal.{ChooseRefusal}
 use Rattle.roots.specs.declared.choice.ChooseRefusal.TheVariants.{NotFormatted, Damaged}
 use Rattle.roots.specs.Root.{version_of, LacksMagic, SpellsRoot}
 use Rattle.roots.specs.Slot.{IsSlotOf}
-use Rattle.roots.specs.Choice.{are_neighbours, keeps_version, are_in_row, earlier, later, chosen, AreSuccessive, KeepsVersion, IsCurrent}
+use Rattle.roots.specs.Choice.{slot_of, are_neighbours, keeps_version, are_in_row, earlier, later, chosen, AreSuccessive, KeepsVersion, IsCurrent}
 use Rattle.roots.proofs.Roots.{one_root, spelt_has_magic}
 
 abbrev Answer : Type 0
@@ -110,3 +110,12 @@ lack_from_refused s0 s1 (Good first) Bad is0 is1 e = absurd cc
 lack_from_refused s0 s1 Empty (Good other) is0 is1 e = absurd cc
 lack_from_refused s0 s1 Empty Bad is0 is1 e = absurd cc
 lack_from_refused s0 s1 Bad slot1 is0 is1 e = absurd cc
+
+-- what is newer, of two roots in their slots that are one commit apart
+pub odd_is_newer : (even odd : Root) (answer : Answer) → slot_of even.generation ≡ 0 → slot_of odd.generation ≡ 1 → abs_diff even.generation odd.generation ≡ 1 → even.generation < odd.generation
+    → answer ≡ cond (keeps_version (version_of even) (version_of odd)) (Ok odd) (Err Damaged) → answer ≡ chosen (Good even) (Good odd)
+odd_is_newer even odd answer slot0 slot1 apart newer is = rw (slot0, slot1, apart, lt-ltb even.generation odd.generation newer) is
+
+pub even_is_newer : (even odd : Root) (answer : Answer) → slot_of even.generation ≡ 0 → slot_of odd.generation ≡ 1 → abs_diff even.generation odd.generation ≡ 1 → odd.generation ≤ even.generation
+    → answer ≡ cond (keeps_version (version_of odd) (version_of even)) (Ok even) (Err Damaged) → answer ≡ chosen (Good even) (Good odd)
+even_is_newer even odd answer slot0 slot1 apart newer is = rw (slot0, slot1, apart, le-ltb even.generation odd.generation newer) is

@@ -74,3 +74,15 @@ module _ (sectors : List Sector) (numbers : List ℕ) (w : Written) (writes : Li
       (λ same. omega (arith, le, less_here, ap (λ j. get_or less j 0) same, ap (λ j. get_or numbers j 0) same, ap length (written_to_same k w writes same)))
       (λ other. omega (arith, le, less_there k other, ap length (written_to_other k w writes other)))
       (cases_eq w.at k)
+
+-- where each number is how many writes there are, it is so behind the first of them, which counts its own down
+pub counted_less : (counts : List ℕ) (w : Written) (writes : List Written) → w.at < length counts → (k : ℕ) → get_or counts k 0 ≡ length (written_to k (w ∷ writes))
+    → get_or (set counts w.at (get_or counts w.at 0 - 1)) k 0 ≡ length (written_to k writes)
+counted_less counts w writes inside k counted =
+    let fewer = get_or counts w.at 0 - 1 in
+    ⊎_elim
+    (λ same.
+    let here = ap (λ j. get_or (set counts w.at fewer) j 0) same in
+    omega (arith, counted, get_or-set_same counts w.at fewer 0 inside, here, ap (λ j. get_or counts j 0) same, ap length (written_to_same k w writes same)))
+    (λ other. omega (arith, counted, get_or-set_other counts w.at k fewer 0 (λ e. other (sym e)), ap length (written_to_other k w writes other)))
+    (cases_eq w.at k)

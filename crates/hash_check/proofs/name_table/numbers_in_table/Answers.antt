@@ -5,6 +5,9 @@ use Rattle.hash_check.specs.inside.NameTable.{IsPut, Stands}
 use Rattle.hash_check.proofs.Tabling.{stand-more}
 use Rattle.hash_check.proofs.name_table.numbers_in_table.Goals as goal
 
+pub put-requires-clause-few : goal.put-requires-clause-few
+put-requires-clause-few c = λ k. subst (λ l. get_or l k 0 ≤ c.loop-number.number) (sym c.deref_mut.ensures.value) (c.loop-number.invariant.few k)
+
 pub loop-number-preserved : goal.loop-number-preserved
 loop-number-preserved c =
     let names : List (List ℕ) = c.args.names.now in

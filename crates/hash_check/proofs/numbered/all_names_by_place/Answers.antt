@@ -15,10 +15,6 @@ use Rattle.hash_check.proofs.Listing.{gathered-on}
 use Rattle.hash_check.proofs.Joined.{endings-more}
 use Rattle.hash_check.proofs.numbered.all_names_by_place.Goals as goal
 
-moved-symbols : (file symbols sorted own : List ℕ) → symbols ≡ all_symbols file → IsPermutation symbols sorted → own ≡ sorted → IsPermutation (all_symbols file) own
-moved-symbols file symbols sorted own all moved is =
-    subst (λ (l : List ℕ). IsPermutation (all_symbols file) l) (sym is) (subst (λ (l : List ℕ). IsPermutation l sorted) all moved)
-
 valid-symbols : (file own : List ℕ) → IsPermutation (all_symbols file) own → All (IsSymbol file) own
 valid-symbols file own moved = All-permutation (IsSymbol file) (all_symbols file) own moved (all-symbols file)
 
@@ -26,14 +22,13 @@ pub names_of-requires : goal.names_of-requires
 names_of-requires c =
     let file : List ℕ = c.object-object.result.now in
     valid-symbols file c.deref.result.now
-    (moved-symbols file c.in_ok-symbols.symbols.items c.sort_unstable_by_key.new.self.items c.deref.result.now c.in_ok-symbols.ensures c.sort_unstable_by_key.ensures.permutation c.deref.ensures.value)
+    (subst (IsPermutation (all_symbols file)) (sym c.deref.ensures.value) c.in_ok-symbols.ensures)
 
 pub endings_of-requires : goal.endings_of-requires
 endings_of-requires c =
     let file : List ℕ = c.object-object.result.now in
     valid-symbols file c.deref-in-loop-place.result.now
-    (moved-symbols file c.in_ok-symbols.symbols.items c.sort_unstable_by_key.new.self.items c.deref-in-loop-place.result.now c.in_ok-symbols.ensures c.sort_unstable_by_key.ensures.permutation
-    c.deref-in-loop-place.ensures.value)
+    (subst (IsPermutation (all_symbols file)) (sym c.deref-in-loop-place.ensures.value) c.in_ok-symbols.ensures)
 
 pub loop-place-preserved : goal.loop-place-preserved
 loop-place-preserved c =
@@ -54,9 +49,7 @@ loop-place-preserved c =
     let endings : c.add_endings.new.all.items ≡ c.loop-place.all.items ++ map (behind (length names)) new =
     c.in_ok-add_endings.ensures ∙ ap (λ (l : List Ending). c.loop-place.all.items ++ map (behind c.len.result) l) c.deref-in-loop-place-2.ensures.value
     ∙ ap (λ n. c.loop-place.all.items ++ map (behind n) new) before in
-    let moved : IsPermutation (all_symbols file) own =
-    moved-symbols file c.in_ok-symbols.symbols.items c.sort_unstable_by_key.new.self.items own c.in_ok-symbols.ensures c.sort_unstable_by_key.ensures.permutation
-    c.deref-in-loop-place-3.ensures.value in
+    let moved : IsPermutation (all_symbols file) own = subst (IsPermutation (all_symbols file)) (sym c.deref-in-loop-place-3.ensures.value) c.in_ok-symbols.ensures in
     record {
       gathered = gathered-on files c.loop-place.place c.loop-place.gathered.symbols.items c.add_symbols.new.gathered.symbols.items names c.add_symbols.new.gathered.names.items file own e
           c.loop-place.invariant.gathered moved c.in_ok-add_symbols.ensures.symbols more;

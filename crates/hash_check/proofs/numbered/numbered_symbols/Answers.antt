@@ -1,11 +1,43 @@
-use Rattle.std.proofs.Common.{Bor, ℕ, List, length, map, sym, subst}
+use Rattle.std.proofs.Common.{Bor, ℕ, List, length, map, ap, sym, subst, arith}
 use Rattle.std.specs.Prelude.{IfSome}
 use Rattle.std.proofs.lemmas.List.{length-map}
+use Rattle.hash_check.specs.Numbered.{name_in}
 use Rattle.hash_check.specs.Numbers.{AreNumbers}
 use Rattle.hash_check.specs.declared.admitted.Admitted.{Admitted}
+use Rattle.hash_check.specs.inside.Endings.{AreEndings}
 use Rattle.hash_check.specs.inside.Numbered.{AreGathered}
 use Rattle.hash_check.proofs.Listing.{numbered}
 use Rattle.hash_check.proofs.numbered.numbered_symbols.Goals as goal
+
+pub give_numbers-requires : goal.give_numbers-requires
+give_numbers-requires c =
+    let files : List (List ℕ) = map (λ (o : Bor Admitted). o.now) c.args.objects.now in
+    let gathered : AreGathered files (length c.args.objects.now) c.in-Some.gathered.symbols.items c.in-Some.gathered.names.items = rw c.in-Some.is at c.in_ok-gathered.ensures in
+    let told : AreNumbers c.deref.result.now c.in-Some-2.numbers.items = rw c.in-Some-2.is at c.in_ok-numbers.ensures in
+    omega (
+      arith,
+      told.size,
+      c.deref-in-Some-2.ensures.len,
+      ap length c.deref-in-Some-2.ensures.value,
+      ap length c.deref.ensures.value,
+      ap length gathered.names_are,
+      length-map c.in-Some.gathered.symbols.items (name_in files),
+    )
+
+pub numbers_of_endings-requires : goal.numbers_of_endings-requires
+numbers_of_endings-requires c = subst (λ (l : List (List ℕ)). AreEndings l c.in_ok-gathered-2.endings.items) (sym c.deref-2.ensures.value) c.in_ok-gathered-2.ensures.endings
+
+pub give_numbers-requires-2 : goal.give_numbers-requires-2
+give_numbers-requires-2 c =
+    let files : List (List ℕ) = map (λ (o : Bor Admitted). o.now) c.args.objects.now in
+    omega (
+      arith,
+      c.in_ok-numbers-2.ensures.size,
+      ap length c.deref-3.ensures.value,
+      ap length c.deref-2.ensures.value,
+      ap length c.in_ok-gathered-2.ensures.gathered.names_are,
+      length-map c.in_ok-gathered-2.gathered.symbols.items (name_in files),
+    )
 
 pub returns-in-Some-2 : goal.returns-in-Some-2
 returns-in-Some-2 c =

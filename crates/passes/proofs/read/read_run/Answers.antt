@@ -1,4 +1,4 @@
-use Rattle.std.proofs.Common.{◌≡◌, ◌+◌, ◌-◌, ◌*◌, ◌≤◌, ◌++◌, ◌∷◌, [], IsTrue, length, refl, sym, subst, ap, ◌∙◌, arith}
+use Rattle.std.proofs.Common.{◌≡◌, ◌+◌, ◌-◌, ◌*◌, ◌≤◌, ◌++◌, ◌∷◌, [], IsTrue, length, drop, length-drop, length-take-le, refl, sym, subst, ap, ◌∙◌, arith}
 use Rattle.std.specs.List.{range_with_len}
 use Rattle.std.proofs.lemmas.List.{append-nil}
 use Rattle.std.proofs.lemmas.Slice.{take-put_mid, drop-put_mid}
@@ -6,7 +6,7 @@ use Rattle.std.proofs.lemmas.Grind.{flat_map-append}
 use Rattle.sector_disk.specs.Disk.{sector}
 use Rattle.passes.specs.Bytes.{bytes_at}
 use Rattle.passes.proofs.Readings.{more_reads, length_kept}
-use Rattle.passes.proofs.Rows.{so_far_in_row, one_in_row}
+use Rattle.passes.proofs.Rows.{one_in_row, then_in_row, so_far_in_row, stop_in_row}
 use Rattle.passes.proofs.Runs.{range_more}
 use Rattle.passes.proofs.read.read_run.Goals as goal
 
@@ -14,6 +14,19 @@ pub returns-in_err-read_sector-clause-same : goal.returns-in_err-read_sector-cla
 returns-in_err-read_sector-clause-same g c honest =
     let so_far = c.loop-done.invariant in
     more_reads (so_far.reads honest) c.read_sector.ensures.calls (c.read_sector.ensures.honest (subst IsTrue (sym so_far.calls.honest) honest))
+
+pub returns-in_err-read_sector-clause-calls : goal.returns-in_err-read_sector-clause-calls
+returns-in_err-read_sector-clause-calls g c =
+    stop_in_row c.from_residual.result (then_in_row c.loop-done.invariant.calls (one_in_row c.in_err-read_sector.ensures.calls)) (omega (arith, c.loop-done-test.true)) c.from_residual.ensures.0
+
+pub read_sector-requires : goal.read_sector-requires
+read_sector-requires g c =
+    let so_far = c.loop-done.invariant in
+    let from = 512 * c.loop-done.done in
+    record {
+      room = omega (arith, so_far.calls.sectors, c.requires.room, c.loop-done-test.true);
+      size = length-take-le (from + 512 - from) (drop from c.loop-done.into) (omega (arith, length-drop from c.loop-done.into, so_far.length_is, c.requires.size, c.loop-done-test.true)) ∙ omega arith;
+    }
 
 pub loop-done-preserved : goal.loop-done-preserved
 loop-done-preserved g c =

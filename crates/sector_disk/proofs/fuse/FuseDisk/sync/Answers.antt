@@ -1,4 +1,4 @@
-use Rattle.std.proofs.Common.{refl, sym, subst}
+use Rattle.std.proofs.Common.{refl, sym, subst, rules}
 use Rattle.std.specs.Prelude.{Result, Err}
 use Rattle.sector_disk.specs.declared.disk.DiskFault.{DiskFault}
 use Rattle.sector_disk.specs.declared.disk.DiskFault.TheVariants.{Failed}
@@ -32,3 +32,6 @@ returns-in-Late-clause-honest g c honest =
     (subst (λ inner. IsSync (fused self.plan (facts self.inner) past) (fused self.plan (facts inner) new.past.items) failed) (sym c.end_call-in-Late.ensures.inner)
     (late_sync self.plan (facts self.inner) (facts c.sync.new.self) past new.past.items _ c.end_call-in-Late.ensures.past refl
     c.sync.ensures.calls.time c.sync.result Failed (c.sync.ensures.honest honest))))
+
+pub returns-in-Late-clause-turn : goal.returns-in-Late-clause-turn
+returns-in-Late-clause-turn g c = search rules
