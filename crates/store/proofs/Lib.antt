@@ -1,4 +1,5 @@
 pub mod Anew
+pub mod BadGeometry
 pub mod Beside
 pub mod BlobReads
 pub mod Broken
@@ -32,10 +33,12 @@ pub mod NameRemovals
 pub mod News
 pub mod Openings
 pub mod Ordered
+pub mod Outcomes
 pub mod Placing
 pub mod Preloads
 pub mod Puts
 pub mod Queries
+pub mod Refusals
 pub mod Releases
 pub mod Relistings
 pub mod Removals
@@ -43,6 +46,7 @@ pub mod Removed
 pub mod Replacements
 pub mod Rooms
 pub mod Staging
+pub mod SlotReads
 pub mod StandsLemmas
 pub mod Taking
 pub mod Untouched

@@ -1,10 +1,10 @@
 -- Which sectors of entries the list of a root gives.
-use Rattle.std.proofs.Common.{◌≡◌, ◌↔◌, ℕ, ◌<◌, List, length, get_or, take, All, refl, sym, ap, ◌∙◌, arith}
+use Rattle.std.proofs.Common.{◌≡◌, ◌↔◌, ℕ, ◌<◌, List, [], length, get_or, take, All, refl, sym, ap, ◌∙◌, arith}
 use Rattle.std.proofs.lemmas.List.{length-take-le}
 use Rattle.sector_disk.specs.Disk.{Sector, sector}
 use Rattle.roots.specs.declared.entry_list.EntryList.{EntryList}
 use Rattle.roots.specs.declared.entry_list.EntryList.TheVariants.{InRoot, InCatalogues}
-use Rattle.roots.specs.declared.version.Version.TheVariants.{Two}
+use Rattle.roots.specs.declared.version.Version.TheVariants.{One, Two}
 use Rattle.roots.specs.declared.root.Root.{Root}
 use Rattle.states.specs.Cost.{catalogues_for}
 use Rattle.roots.specs.Root.{version_of, version_of_list, used_places, listed_sectors, ListFits}
@@ -21,6 +21,14 @@ catalogues_2 libraries (InCatalogues count sectors) is = refl
 
 pub catalogues_are : (root : Root) → version_of root ≡ Two → listed_sectors root ≡ catalogues_of root
 catalogues_are root is = catalogues_2 root.library_count root.list is
+
+-- one of version 1 has none,
+none_in_1 : (list : EntryList) → version_of_list list ≡ One → catalogues_in list ≡ []
+none_in_1 (InRoot sectors) is = refl
+none_in_1 (InCatalogues count sectors) is = absurd cc
+
+pub none_listed : (root : Root) → version_of root ≡ One → catalogues_of root ≡ []
+none_listed root is = none_in_1 root.list is
 
 -- and what it gives is in them.
 pub listed_2 : (m : List Sector) (libraries : ℕ) (list : EntryList) (xs : List ℕ) → version_of_list list ≡ Two

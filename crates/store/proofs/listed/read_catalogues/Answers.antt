@@ -1,12 +1,30 @@
-use Rattle.std.proofs.Common.{◌≡◌, ◌+◌, ◌<◌, ◌++◌, All, get_or, IsTrue, length, sym, ap, subst, ◌∙◌, arith}
+use Rattle.std.proofs.Common.{◌≡◌, ◌+◌, ◌<◌, ◌++◌, All, get_or, IsTrue, length, inl, inr, refl, sym, ap, subst, ◌∙◌, arith}
+use Rattle.std.proofs.lemmas.Result.{err_from_is_err_and}
 use Rattle.sector_disk.specs.Disk.{AreCallsExactly}
-use Rattle.passes.proofs.Readings.{more_reads}
+use Rattle.sector_disk.proofs.Moments.{no_calls}
+use Rattle.passes.proofs.Readings.{no_reads, more_reads}
 use Rattle.passes.proofs.Rows.{in_row_at_most, in_row_exactly}
 use Rattle.roots.proofs.RootLemmas.{length-listed_2}
 use Rattle.store.specs.Stands.{AreCatalogued, catalogues_of}
 use Rattle.store.proofs.Listings.{catalogues_are, listed_2, places_inside}
 use Rattle.store.proofs.CatalogueReads.{CataloguesSoFar, one_call_more, no_catalogues, next_catalogue, no_catalogue_there, wrong_count_there, all_count, all_catalogued}
+use Rattle.store.proofs.Refusals.{device-damaged, damaged-device, memory-damaged, memory-device}
 use Rattle.store.proofs.listed.read_catalogues.Goals as goal
+
+pub returns-in_err-listed : goal.returns-in_err-listed
+returns-in_err-listed g c =
+    let disk = g.D.Disk.facts c.args.disk.now in
+    let p = err_from_is_err_and c.from_residual.result c.from_residual.ensures.1 in
+    rw (p.1, p.2) (record {
+      calls = record { some = no_calls disk; time = omega arith };
+      all_calls = tt;
+      same = λ honest. no_reads disk;
+      count = tt;
+      listed = λ honest. tt;
+      unlisted = λ honest is. absurd (memory-damaged is);
+      device = λ is. absurd (memory-device is);
+      refusals = inr (inr refl);
+    })
 
 pub loop-at-init : goal.loop-at-init
 loop-at-init g c =
@@ -21,71 +39,83 @@ read_catalogue-requires g c =
     let inside = subst (All (λ k. k < root.sectors)) (sym c.listed_sectors-at-items.ensures) (places_inside root.library_count root.sectors root.list c.requires.root.list) in
     subst (λ n. get_or c.listed_sectors-at-items.result.now c.loop-at.at-index 0 < n) (c.requires.sectors ∙ sym c.loop-at.invariant.calls.sectors) (inside c.loop-at.at-index 0 c.loop-at-test.true)
 
-pub returns-in_err-catalogue-clause-calls : goal.returns-in_err-catalogue-clause-calls
-returns-in_err-catalogue-clause-calls g c =
-    let is = c.listed_sectors-at-items.ensures ∙ catalogues_are c.args.root.now c.requires.version in
-    one_call_more c.loop-at.invariant.calls c.read_catalogue.ensures.calls (omega (arith, c.loop-at-test.true, ap length is))
-
-pub returns-in_err-catalogue-clause-same : goal.returns-in_err-catalogue-clause-same
-returns-in_err-catalogue-clause-same g c honest =
+pub returns-in_err-catalogue : goal.returns-in_err-catalogue
+returns-in_err-catalogue g c =
     let so_far = c.loop-at.invariant in
-    more_reads (so_far.reads honest) c.read_catalogue.ensures.calls (c.read_catalogue.ensures.catalogue.2 (subst IsTrue (sym so_far.calls.honest) honest))
-
-pub returns-in_default-clause-calls : goal.returns-in_default-clause-calls
-returns-in_default-clause-calls g c =
     let is = c.listed_sectors-at-items.ensures ∙ catalogues_are c.args.root.now c.requires.version in
-    one_call_more c.loop-at.invariant.calls c.read_catalogue.ensures.calls (omega (arith, c.loop-at-test.true, ap length is))
+    let p = err_from_is_err_and c.from_residual-in_err-catalogue.result c.from_residual-in_err-catalogue.ensures.1 in
+    rw (p.1, p.2) (record {
+      calls = one_call_more so_far.calls c.read_catalogue.ensures.calls (omega (arith, c.loop-at-test.true, ap length is));
+      all_calls = tt;
+      same = λ honest. more_reads (so_far.reads honest) c.read_catalogue.ensures.calls (c.read_catalogue.ensures.catalogue.2 (subst IsTrue (sym so_far.calls.honest) honest));
+      count = tt;
+      listed = λ honest. tt;
+      unlisted = λ honest is. absurd (device-damaged is);
+      device = λ is. omega (arith, so_far.calls.ok, c.in_err-catalogue.ensures.calls.err);
+      refusals = inl refl;
+    })
 
-pub returns-in_default-clause-same : goal.returns-in_default-clause-same
-returns-in_default-clause-same g c honest =
+pub returns-in_default : goal.returns-in_default
+returns-in_default g c =
     let so_far = c.loop-at.invariant in
-    more_reads (so_far.reads honest) c.read_catalogue.ensures.calls (c.read_catalogue.ensures.catalogue.2 (subst IsTrue (sym so_far.calls.honest) honest))
-
-pub returns-in_default-clause-unlisted : goal.returns-in_default-clause-unlisted
-returns-in_default-clause-unlisted g c honest was sectors listed =
-    let now = (g.D.Disk.facts c.args.disk.now).now in
-    let root = c.args.root.now in
-    let is = c.listed_sectors-at-items.ensures ∙ catalogues_are root c.requires.version in
-    let enough = ap length c.listed_sectors-at-items.ensures ∙ length-listed_2 root c.requires.root c.requires.version in
-    let both = (listed_2 now root.library_count root.list sectors c.requires.version).0 listed in
-    let read = c.in_ok-catalogue.ensures.catalogue in
-    no_catalogue_there c.loop-at.invariant enough c.loop-at-test.true c.in_ok-catalogue.ensures.calls read.2 read.1 honest sectors both.0
-    (subst (λ catalogues. AreCatalogued now catalogues sectors) (sym is) both.1) c.in_default.is
+    let is = c.listed_sectors-at-items.ensures ∙ catalogues_are c.args.root.now c.requires.version in record {
+      calls = one_call_more so_far.calls c.read_catalogue.ensures.calls (omega (arith, c.loop-at-test.true, ap length is));
+      all_calls = tt;
+      same = λ honest. more_reads (so_far.reads honest) c.read_catalogue.ensures.calls (c.read_catalogue.ensures.catalogue.2 (subst IsTrue (sym so_far.calls.honest) honest));
+      count = tt;
+      listed = λ honest. tt;
+      unlisted = λ honest was sectors listed.
+          let now = (g.D.Disk.facts c.args.disk.now).now in
+          let root = c.args.root.now in
+          let enough = ap length c.listed_sectors-at-items.ensures ∙ length-listed_2 root c.requires.root c.requires.version in
+          let both = (listed_2 now root.library_count root.list sectors c.requires.version).0 listed in
+          let read = c.in_ok-catalogue.ensures.catalogue in
+          no_catalogue_there so_far enough c.loop-at-test.true c.in_ok-catalogue.ensures.calls read.2 read.1 honest sectors both.0
+          (subst (λ catalogues. AreCatalogued now catalogues sectors) (sym is) both.1) c.in_default.is;
+      device = λ is. absurd (damaged-device is);
+      refusals = inr (inl refl);
+    }
 
 pub overflow_sub-count : goal.overflow_sub-count
 overflow_sub-count g c = omega (arith, c.from-count.ensures, c.len.ensures, c.loop-at.invariant.count)
 
-pub returns-then-sectors-min-clause-calls : goal.returns-then-sectors-min-clause-calls
-returns-then-sectors-min-clause-calls g c =
-    let is = c.listed_sectors-at-items.ensures ∙ catalogues_are c.args.root.now c.requires.version in
-    one_call_more c.loop-at.invariant.calls c.read_catalogue.ensures.calls (omega (arith, c.loop-at-test.true, ap length is))
-
-pub returns-then-sectors-min-clause-same : goal.returns-then-sectors-min-clause-same
-returns-then-sectors-min-clause-same g c honest =
+pub returns-then-sectors-min : goal.returns-then-sectors-min
+returns-then-sectors-min g c =
     let so_far = c.loop-at.invariant in
-    more_reads (so_far.reads honest) c.read_catalogue.ensures.calls (c.read_catalogue.ensures.catalogue.2 (subst IsTrue (sym so_far.calls.honest) honest))
+    let is = c.listed_sectors-at-items.ensures ∙ catalogues_are c.args.root.now c.requires.version in record {
+      calls = one_call_more so_far.calls c.read_catalogue.ensures.calls (omega (arith, c.loop-at-test.true, ap length is));
+      all_calls = tt;
+      same = λ honest. more_reads (so_far.reads honest) c.read_catalogue.ensures.calls (c.read_catalogue.ensures.catalogue.2 (subst IsTrue (sym so_far.calls.honest) honest));
+      count = tt;
+      listed = λ honest. tt;
+      unlisted = λ honest was sectors listed.
+          let now = (g.D.Disk.facts c.args.disk.now).now in
+          let root = c.args.root.now in
+          let enough = ap length c.listed_sectors-at-items.ensures ∙ length-listed_2 root c.requires.root c.requires.version in
+          let both = (listed_2 now root.library_count root.list sectors c.requires.version).0 listed in
+          let read = c.in_ok-catalogue.ensures.catalogue in
+          wrong_count_there so_far enough c.loop-at-test.true c.in_ok-catalogue.ensures.calls read.2 read.1 honest sectors both.0
+          (subst (λ catalogues. AreCatalogued now catalogues sectors) (sym is) both.1) c.in-Some.catalogue c.in-Some.is
+          (λ e. absurd (omega (arith, e, c.if-sectors-min.true, ap length c.sectors.ensures, c.min.ensures, c.from-count.ensures, c.len.ensures)));
+      device = λ is. absurd (damaged-device is);
+      refusals = inr (inl refl);
+    }
 
-pub returns-then-sectors-min-clause-unlisted : goal.returns-then-sectors-min-clause-unlisted
-returns-then-sectors-min-clause-unlisted g c honest was sectors listed =
-    let now = (g.D.Disk.facts c.args.disk.now).now in
-    let root = c.args.root.now in
-    let is = c.listed_sectors-at-items.ensures ∙ catalogues_are root c.requires.version in
-    let enough = ap length c.listed_sectors-at-items.ensures ∙ length-listed_2 root c.requires.root c.requires.version in
-    let both = (listed_2 now root.library_count root.list sectors c.requires.version).0 listed in
-    let read = c.in_ok-catalogue.ensures.catalogue in
-    wrong_count_there c.loop-at.invariant enough c.loop-at-test.true c.in_ok-catalogue.ensures.calls read.2 read.1 honest sectors both.0
-    (subst (λ catalogues. AreCatalogued now catalogues sectors) (sym is) both.1) c.in-Some.catalogue c.in-Some.is
-    (λ e. absurd (omega (arith, e, c.if-sectors-min.true, ap length c.sectors.ensures, c.min.ensures, c.from-count.ensures, c.len.ensures)))
-
-pub returns-in_err-extend_from_slice-clause-calls : goal.returns-in_err-extend_from_slice-clause-calls
-returns-in_err-extend_from_slice-clause-calls g c =
-    let is = c.listed_sectors-at-items.ensures ∙ catalogues_are c.args.root.now c.requires.version in
-    one_call_more c.loop-at.invariant.calls c.read_catalogue.ensures.calls (omega (arith, c.loop-at-test.true, ap length is))
-
-pub returns-in_err-extend_from_slice-clause-same : goal.returns-in_err-extend_from_slice-clause-same
-returns-in_err-extend_from_slice-clause-same g c honest =
+pub returns-in_err-extend_from_slice : goal.returns-in_err-extend_from_slice
+returns-in_err-extend_from_slice g c =
     let so_far = c.loop-at.invariant in
-    more_reads (so_far.reads honest) c.read_catalogue.ensures.calls (c.read_catalogue.ensures.catalogue.2 (subst IsTrue (sym so_far.calls.honest) honest))
+    let is = c.listed_sectors-at-items.ensures ∙ catalogues_are c.args.root.now c.requires.version in
+    let p = err_from_is_err_and c.from_residual-in_err-extend_from_slice.result c.from_residual-in_err-extend_from_slice.ensures.1 in
+    rw (p.1, p.2) (record {
+      calls = one_call_more so_far.calls c.read_catalogue.ensures.calls (omega (arith, c.loop-at-test.true, ap length is));
+      all_calls = tt;
+      same = λ honest. more_reads (so_far.reads honest) c.read_catalogue.ensures.calls (c.read_catalogue.ensures.catalogue.2 (subst IsTrue (sym so_far.calls.honest) honest));
+      count = tt;
+      listed = λ honest. tt;
+      unlisted = λ honest is. absurd (memory-damaged is);
+      device = λ is. absurd (memory-device is);
+      refusals = inr (inr refl);
+    })
 
 pub loop-at-preserved : goal.loop-at-preserved
 loop-at-preserved g c =

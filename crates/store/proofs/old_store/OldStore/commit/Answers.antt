@@ -1,8 +1,9 @@
-use Rattle.std.proofs.Common.{◌≡◌, ◌≢◌, ◌⊎◌, ⊎_elim, ◌↔◌, ◌+◌, ◌-◌, ◌*◌, ◌<◌, ◌≤◌, IsTrue, List, ℕ, [], None, Ok, Err, length, refl, sym, ap, subst, ◌∙◌, arith}
+use Rattle.std.proofs.Common.{◌≡◌, ◌≢◌, ◌⊎◌, inl, ⊎_elim, ◌↔◌, ◌+◌, ◌-◌, ◌*◌, ◌<◌, ◌≤◌, Bool}
+use Rattle.std.proofs.Common.{IsTrue, List, ℕ, [], None, Ok, Err, length, refl, sym, ap, subst, ◌∙◌, arith}
 use Rattle.std.proofs.lemmas.Bool.{cases_lt}
-use Rattle.sector_disk.specs.Disk.{LeavesOnly, Mixture}
+use Rattle.sector_disk.specs.Disk.{LeavesOnly, Mixture, DiskFacts, AreCallsAtMost, AreCallsExactly}
 use Rattle.states.specs.Cost.{catalogues_for, taken_by}
-use Rattle.roots.specs.Root.{listed_preloads}
+use Rattle.roots.specs.Root.{listed_preloads, version_of}
 use Rattle.roots.specs.declared.version.Version.TheVariants.{One, Two}
 use Rattle.sector_disk.proofs.Mixtures.{whole_mixture}
 use Rattle.extents.specs.Limits.{root_sectors}
@@ -10,8 +11,8 @@ use Rattle.extents.specs.Used.{layout_of}
 use Rattle.states.specs.Limits.{last_generation}
 use Rattle.states.specs.State.{State}
 use Rattle.store.specs.declared.refusal.StoreRefusal.TheVariants.{Full}
-use Rattle.store.specs.Step.{refusal_of_upgrade, IsExactAnswer}
-use Rattle.store.specs.Opened.{IsOldAt}
+use Rattle.store.specs.Step.{refusal_of_upgrade, IsExactAnswer, IsRefusalOfCommit}
+use Rattle.store.specs.Opened.{IsOldAt, Opened}
 use Rattle.store.specs.Stands.{Stands, StandsBy, StandsOld, catalogues_of, entry_sectors, used}
 use Rattle.store.specs.Taken.{AreTaken}
 use Rattle.store.specs.Upgraded.{upgraded}
@@ -26,9 +27,17 @@ use Rattle.store.proofs.Beside.{in_use_alone}
 use Rattle.store.proofs.CataloguedEntries.{can_be_catalogued}
 use Rattle.store.proofs.Frees.{old_free_is, upgrade_full, upgrade_accepted}
 use Rattle.store.proofs.Following.{following_fits, following_kept, next_version}
-use Rattle.store.proofs.Relistings.{IsRelist, relist_next, relist_moved, relist_room, relist_taken, relist_followed}
+use Rattle.store.proofs.Relistings.{IsRelist, relist_next, relist_moved, relist_room, relist_taken, relist_followed, few_old}
+use Rattle.passes.proofs.Rows.{in_row_at_most, in_row_exactly}
+use Rattle.sector_disk.proofs.Moments.{at_rest, exactly_at_most}
+use Rattle.roots.specs.Limits.{most_root_entries}
+use Rattle.roots.specs.declared.root.Root.{Root}
+use Rattle.store.specs.declared.placed_entry.PlacedEntry.{PlacedEntry}
+use Rattle.store.specs.inside.Kept.{IsKept}
+use Rattle.store.proofs.Refusals.{end-device, full-device}
+use Rattle.store.proofs.Outcomes.{still, upgrade_ends}
 use Rattle.store.proofs.old_store.OldStore.commit.Given as given
-use Rattle.store.proofs.old_store.OldStore.commit.Goals.{After-free_count, After-next_root-root, After-carry_out}
+use Rattle.store.proofs.old_store.OldStore.commit.Goals.{After-free_count, After-next_root-root, After-carry_out, After-beside}
 use Rattle.store.proofs.old_store.OldStore.commit.Goals as goal
 
 -- the next root lists the same entries by the catalogues that were taken
@@ -196,3 +205,107 @@ returns-in-Ok-clause-placed g c =
           (subst (λ r. AreTaken (layout_of root.sectors (used root entries)) (catalogues_of r)) (sym c.beside.ensures.root) all);
       entries = c.beside.ensures.entries ∙ ap (λ store. store.entries) c.self.view_is;
     }
+
+-- where it is refused before it writes, a stop leaves what stood
+stays : {D : Type 0} (facts : D → DiskFacts) {view store : Opened D} (s : State) → view ≡ store → IsOldAt facts store s
+    → LeavesOnly (facts store.disk) (facts view.disk) (λ m. StandsOld m s ⊎ Stands m (upgraded s))
+stays facts {store = store} s is at =
+    subst (λ view. LeavesOnly (facts store.disk) (facts view.disk) (λ m. StandsOld m s ⊎ Stands m (upgraded s))) (sym is)
+    (at_rest (facts store.disk) (λ m. StandsOld m s ⊎ Stands m (upgraded s)) (λ m mixture. inl (store.root, store.entries, at.stands m mixture)))
+
+-- there are no more entries than a root lists itself
+few_kept : (root : Root) (entries : List PlacedEntry) (layout : List Bool) → IsKept root entries [] layout → version_of root ≡ One → length entries ≤ most_root_entries
+few_kept root entries layout kept one = omega (arith, kept.counted, few_old root.library_count root.sectors root.list one kept.root_fits.list)
+
+pub returns-then-found-clause-few : goal.returns-then-found-clause-few
+returns-then-found-clause-few g c =
+    subst (λ store. length store.entries ≤ most_root_entries) c.self.view_is
+    (few_kept c.self.inside.found.root c.self.inside.found.entries.items c.self.inside.found.layout c.self.invariant.0.kept c.self.invariant.2)
+
+pub returns-then-free_count-count-clause-few : goal.returns-then-free_count-count-clause-few
+returns-then-free_count-count-clause-few g c =
+    subst (λ store. length store.entries ≤ most_root_entries) c.self.view_is
+    (few_kept c.self.inside.found.root c.self.inside.found.entries.items c.self.inside.found.layout c.self.invariant.0.kept c.self.invariant.2)
+
+pub returns-in-Err-clause-few : goal.returns-in-Err-clause-few
+returns-in-Err-clause-few g c =
+    subst (λ store. length store.entries ≤ most_root_entries) c.self.view_is
+    (few_kept c.self.inside.found.root c.self.inside.found.entries.items c.self.inside.found.layout c.self.invariant.0.kept c.self.invariant.2)
+
+pub returns-in-Ok-clause-few : goal.returns-in-Ok-clause-few
+returns-in-Ok-clause-few g c =
+    subst (λ store. length store.entries ≤ most_root_entries) c.self.view_is
+    (few_kept c.self.inside.found.root c.self.inside.found.entries.items c.self.inside.found.layout c.self.invariant.0.kept c.self.invariant.2)
+
+pub returns-then-found-clause-any_moment : goal.returns-then-found-clause-any_moment
+returns-then-found-clause-any_moment g c s at = stays g.D.Disk.facts s c.self.view_is at
+
+pub returns-then-found-clause-calls : goal.returns-then-found-clause-calls
+returns-then-found-clause-calls g c = still g.D.Disk.facts c.self.view_is
+
+pub returns-then-found-clause-untouched : goal.returns-then-found-clause-untouched
+returns-then-found-clause-untouched g c other = ap (λ store. store.disk) c.self.view_is
+
+pub returns-then-found-clause-device : goal.returns-then-found-clause-device
+returns-then-found-clause-device g c is = absurd (end-device is)
+
+pub returns-then-free_count-count-clause-any_moment : goal.returns-then-free_count-count-clause-any_moment
+returns-then-free_count-count-clause-any_moment g c s at = stays g.D.Disk.facts s c.self.view_is at
+
+pub returns-then-free_count-count-clause-calls : goal.returns-then-free_count-count-clause-calls
+returns-then-free_count-count-clause-calls g c = still g.D.Disk.facts c.self.view_is
+
+pub returns-then-free_count-count-clause-untouched : goal.returns-then-free_count-count-clause-untouched
+returns-then-free_count-count-clause-untouched g c other = ap (λ store. store.disk) c.self.view_is
+
+pub returns-then-free_count-count-clause-device : goal.returns-then-free_count-count-clause-device
+returns-then-free_count-count-clause-device g c is = absurd (full-device is)
+
+pub returns-then-found-clause-refused : goal.returns-then-found-clause-refused
+returns-then-found-clause-refused g c s at =
+    upgrade_ends g.D.Disk.facts g.met.D.Disk.holds_now g.met.D.Disk.whole_sectors c.self.view_is at
+    c.args.self.root.sectors (omega (arith, c.if-found.true))
+
+pub returns-in-Err-clause-device : goal.returns-in-Err-clause-device
+returns-in-Err-clause-device g c is =
+    subst (λ store. (g.D.Disk.facts store.disk).failures < (g.D.Disk.facts c.carry_out.new.disk).failures) c.self.view_is
+    (omega (arith, c.in-Err.ensures.calls.err))
+
+pub returns-in-Err-clause-untouched : goal.returns-in-Err-clause-untouched
+returns-in-Err-clause-untouched g c other = absurd (other c.from.ensures)
+
+pub returns-in-Err-clause-refusals : goal.returns-in-Err-clause-refusals
+returns-in-Err-clause-refusals g c = subst IsRefusalOfCommit (sym c.from.ensures) tt
+
+pub returns-in-Err-clause-calls : goal.returns-in-Err-clause-calls
+returns-in-Err-clause-calls g c =
+    let is = relisted g (goal.at.returns-in-Err-clause-calls g c).After-next_root-root in
+    subst (λ store. AreCallsAtMost (catalogues_for (length store.entries) + 3) (g.D.Disk.facts store.disk) (g.D.Disk.facts c.carry_out.new.disk)) c.self.view_is
+    (in_row_at_most c.in-Err.ensures.calls (omega (arith, is.enough)))
+
+-- how many calls it makes where it is done
+calls_are : (g : given.Over) (c : After-beside g)
+    → AreCallsExactly (catalogues_for (length c.args.self.entries) + 3) (g.D.Disk.facts c.args.self.disk) (g.D.Disk.facts c.beside.result.disk)
+calls_are g c =
+    let is = relisted g (goal.at.returns-in-Ok-clause-all_calls g c).After-next_root-root in
+    let n : ℕ = catalogues_for (length c.self.inside.found.entries.items) + 3 in
+    let all : AreCallsExactly n (g.D.Disk.facts c.self.inside.disk) (g.D.Disk.facts c.carry_out.new.disk) =
+    subst (λ n. AreCallsExactly n (g.D.Disk.facts c.self.inside.disk) (g.D.Disk.facts c.carry_out.new.disk)) (omega (arith, is.enough))
+    (in_row_exactly c.in-Ok.ensures.calls) in
+    subst (λ d. AreCallsExactly (catalogues_for (length c.args.self.entries) + 3) (g.D.Disk.facts c.args.self.disk) (g.D.Disk.facts d)) (sym c.beside.ensures.disk)
+    (subst (λ store. AreCallsExactly (catalogues_for (length store.entries) + 3) (g.D.Disk.facts store.disk) (g.D.Disk.facts c.carry_out.new.disk)) c.self.view_is all)
+
+pub returns-in-Ok-clause-all_calls : goal.returns-in-Ok-clause-all_calls
+returns-in-Ok-clause-all_calls g c = calls_are g c
+
+pub returns-in-Ok-clause-calls : goal.returns-in-Ok-clause-calls
+returns-in-Ok-clause-calls g c = exactly_at_most (calls_are g c) (omega arith)
+
+pub carry_out-requires-clause-fits : goal.carry_out-requires-clause-fits
+carry_out-requires-clause-fits g c = omega (arith, c.self.invariant.1, c.self.invariant.0.kept.root_fits.sectors)
+
+pub carry_out-requires-clause-roots : goal.carry_out-requires-clause-roots
+carry_out-requires-clause-roots g c = omega (arith, c.self.invariant.1, c.self.invariant.0.kept.root_fits.sectors)
+
+pub next_root-root-requires-clause-catalogues : goal.next_root-root-requires-clause-catalogues
+next_root-root-requires-clause-catalogues g c = c.as_slice.ensures.fits

@@ -1,6 +1,6 @@
-use Rattle.std.proofs.Common.{rules, ◌≡◌, ◌≢◌, ◌⊎◌, ◌-◌, ◌<◌, List, [], ℕ, ◌++◌, All, get_or, length, map, IsTrue, refl, sym, subst, ap, ◌∙◌, arith}
+use Rattle.std.proofs.Common.{◌≡◌, ◌≢◌, ◌⊎◌, ◌-◌, ◌<◌, List, [], ℕ, ◌++◌, All, get_or, length, map, IsTrue, refl, sym, subst, ap, ◌∙◌, arith}
 use Rattle.std.specs.List.{remove}
-use Rattle.std.proofs.lemmas.List.{get_or_read}
+use Rattle.std.proofs.lemmas.List.{get_or_read, length-map}
 use Rattle.sector_disk.specs.Disk.{LeavesOnly}
 use Rattle.extents.specs.Used.{layout_of}
 use Rattle.roots.specs.declared.version.Version.TheVariants.{Two}
@@ -16,7 +16,7 @@ use Rattle.store.specs.Stands.{Stands, StandsBy, catalogues_of, entry_sectors, n
 use Rattle.store.specs.Taken.{AreTaken, IsNamedAt}
 use Rattle.store.specs.inside.Catalogues.{CanBeCatalogued}
 use Rattle.store.specs.inside.Claimed.{IsUsable}
-use Rattle.store.specs.inside.Kept.{IsKept}
+use Rattle.store.specs.inside.Kept.{IsKept, HaveSpellings}
 use Rattle.store.specs.NameOrder.{IsOrderOf, entry_names}
 use Rattle.store.specs.inside.NameIndex.{closed_up}
 use Rattle.store.specs.declared.change.Staged.TheVariants.{Catalogues}
@@ -24,15 +24,22 @@ use Rattle.store.specs.declared.change.Change.{Change}
 use Rattle.store.specs.inside.Change.{IsFollowed}
 use Rattle.store.specs.inside.Next.{next_root}
 use Rattle.store.specs.inside.Room.{AreClaimedOnce, IsGivenUp}
-use Rattle.store.proofs.Anew.{more_free, more_inside, more_once, moved_held}
+use Rattle.store.proofs.Anew.{more_free, more_inside, more_once, moved_held, back_kept, more_held}
 use Rattle.store.proofs.CataloguedEntries.{can_be_catalogued}
 use Rattle.store.proofs.Following.{following_fits, following_kept, next_catalogues, next_version}
 use Rattle.store.proofs.GivenUp.{given_claimed, given_few, given_keeps, given_rows, given_size, still_removed}
-use Rattle.store.proofs.KeepsHolders.{keeps_table}
+use Rattle.store.proofs.KeepsHolders.{keeps_same, keeps_table}
 use Rattle.store.proofs.Placing.{singles_in_use}
 use Rattle.store.proofs.Removals.{IsRemoval, catalogues_fit, removal_next, removal_moved, removal_followed, removal_room}
 use Rattle.store.proofs.Removed.{map_remove}
 use Rattle.store.proofs.UsedAlone.{no_entry}
+use Rattle.std.proofs.lemmas.Bool.{false≢true}
+use Rattle.roots.specs.Entry.{EntryHasSpelling}
+use Rattle.store.specs.declared.refusal.StoreRefusal.TheVariants.{GenerationEnd}
+use Rattle.store.proofs.Frees.{exactly_failed, exactly_done}
+use Rattle.store.proofs.Refusals.{end-device, end-reopen}
+use Rattle.store.proofs.Outcomes.{answers_reopen, answers_early, answers_device, answers_carried_out, has_not_failed, change_ends, change_accepted}
+use Rattle.store.proofs.Untouched.{untouched}
 use Rattle.store.proofs.store.Store.delete.Given as given
 use Rattle.store.proofs.store.Store.delete.Goals.{After-root_without-root, After-carry_out-written, After-catalogues, After-give_up}
 use Rattle.store.proofs.store.Store.delete.Goals as goal
@@ -218,16 +225,110 @@ returns-clause-placed g c =
       entries = c.remove-3.ensures.items ∙ ap (λ store. remove store.entries gone) c.self.view_is;
     }
 
+pub returns-then-self-clause-any_moment : goal.returns-then-self-clause-any_moment
+returns-then-self-clause-any_moment g c s at = untouched g.D.Disk.facts c.args.self.now c.args.self.now s (without c.args.name.now s) refl at
+
+pub returns-then-self-2-clause-any_moment : goal.returns-then-self-2-clause-any_moment
+returns-then-self-2-clause-any_moment g c s at = untouched g.D.Disk.facts c.args.self.now c.args.self.now s (without c.args.name.now s) refl at
+
+pub returns-then-self-clause-refused : goal.returns-then-self-clause-refused
+returns-then-self-clause-refused g c s at = absurd (has_not_failed g.D.Disk.facts g.met.D.Disk.holds_now g.met.D.Disk.whole_sectors c.self.view_is at c.if-self.true)
+
+pub returns-then-self-clause-on_any_disk : goal.returns-then-self-clause-on_any_disk
+returns-then-self-clause-on_any_disk g c = answers_reopen g.D.Disk.facts c.self.view_is refl c.if-self.true tt
+
 pub returns-then-self-2-clause-on_any_disk : goal.returns-then-self-2-clause-on_any_disk
-returns-then-self-2-clause-on_any_disk g c = record {
-  reopen = search rules;
-  device = search rules;
-  same = search rules;
-  usable = tt;
-  refusals = tt;
-  all_calls = tt;
-  calls = search rules;
-}
+returns-then-self-2-clause-on_any_disk g c = answers_early g.D.Disk.facts c.self.view_is GenerationEnd refl c.if-self.false end-device end-reopen tt
 
 pub returns-then-self-2-clause-refused : goal.returns-then-self-2-clause-refused
-returns-then-self-2-clause-refused g c = search rules
+returns-then-self-2-clause-refused g c s at = change_ends g.D.Disk.facts g.met.D.Disk.holds_now g.met.D.Disk.whole_sectors c.self.view_is at (omega (arith, c.if-self-2.true))
+
+pub returns-in-Err-clause-refused : goal.returns-in-Err-clause-refused
+returns-in-Err-clause-refused g c s at =
+    let accepted = change_accepted g.D.Disk.facts g.met.D.Disk.holds_now g.met.D.Disk.whole_sectors c.self.view_is at (λ last. omega (arith, last, c.if-self-2.false)) in
+    exactly_failed c.from.result accepted c.from.ensures
+
+pub returns-clause-refused : goal.returns-clause-refused
+returns-clause-refused g c s at = exactly_done (change_accepted g.D.Disk.facts g.met.D.Disk.holds_now g.met.D.Disk.whole_sectors c.self.view_is at (λ last. omega (arith, last, c.if-self-2.false)))
+
+pub returns-in-Err-clause-on_any_disk : goal.returns-in-Err-clause-on_any_disk
+returns-in-Err-clause-on_any_disk g c =
+    let removal = removing g (goal.at.returns-in-Err-clause-on_any_disk g c).After-root_without-root in
+    answers_device g.D.Disk.facts c.self.view_is c.from.result c.from.ensures c.in-Err.ensures.calls
+    (omega (arith, removal.enough, ap (λ store. catalogues_for (length store.entries - 1)) c.self.view_is)) c.if-self.false refl tt
+
+pub returns-clause-on_any_disk : goal.returns-clause-on_any_disk
+returns-clause-on_any_disk g c =
+    let removal = removing g (goal.at.returns-clause-on_any_disk g c).After-root_without-root in
+    answers_carried_out g.D.Disk.facts c.self.view_is c.in_default-written.ensures.calls
+    (omega (arith, removal.enough, ap (λ store. catalogues_for (length store.entries - 1)) c.self.view_is)) c.if-self.false refl
+
+pub invariant_of-self : goal.invariant_of-self
+invariant_of-self g c =
+    let removal = removing g (goal.at.invariant_of-self g c).After-root_without-root in (
+      back_kept removal.kept removal.claimed c.give_back.new.layout c.give_back.ensures,
+      c.self.invariant.1,
+      c.carry_out-written.ensures.calls.sectors ∙ c.self.invariant.2,
+      λ is. absurd (false≢true (sym is)),
+      c.self.invariant.4,
+    )
+
+pub position_of-requires-clause-index : goal.position_of-requires-clause-index
+position_of-requires-clause-index g c = subst (λ l. IsOrderOf (entry_names l) c.self.inside.index.positions) (sym c.deref.ensures.value) c.self.invariant.1
+
+pub remove-requires-2-clause-index : goal.remove-requires-2-clause-index
+remove-requires-2-clause-index g c = subst (λ l. IsOrderOf (entry_names l) c.self.inside.index.positions) (sym c.deref-3.ensures.value) c.self.invariant.1
+
+pub remove-requires-2-clause-spellings : goal.remove-requires-2-clause-spellings
+remove-requires-2-clause-spellings g c = subst HaveSpellings (sym c.deref-3.ensures.value) c.self.invariant.0.entries_fit
+
+pub remove-requires-2-clause-within : goal.remove-requires-2-clause-within
+remove-requires-2-clause-within g c = omega (arith, c.in-Some.ensures.some.0, ap length c.deref.ensures.value, ap length c.deref-3.ensures.value)
+
+pub remove-requires : goal.remove-requires
+remove-requires g c =
+    let listed : length c.self.inside.sectors.items ≡ length c.self.inside.entries.items = ap length (c.self.invariant.3 c.if-self.false)
+    ∙ length-map c.self.inside.entries.items (λ (p : PlacedEntry). p.at) in
+    omega (arith, c.in-Some.ensures.some.0, ap length c.deref.ensures.value, listed)
+
+pub remove-requires-3 : goal.remove-requires-3
+remove-requires-3 g c = omega (arith, c.in-Some.ensures.some.0, ap length c.deref.ensures.value)
+
+pub index-requires : goal.index-requires
+index-requires g c = omega (arith, c.in-Some.ensures.some.0, ap length c.deref.ensures.value)
+
+pub catalogues-requires : goal.catalogues-requires
+catalogues-requires g c = c.self.invariant.0.root_fits
+
+pub give_back-requires-clause-held : goal.give_back-requires-clause-held
+give_back-requires-clause-held g c =
+    let removal = removing g (goal.at.give_back-requires-clause-held g c).After-root_without-root in
+    more_held removal.kept removal.claimed
+
+pub carry_out-written-requires-clause-fits : goal.carry_out-written-requires-clause-fits
+carry_out-written-requires-clause-fits g c = omega (arith, c.self.invariant.2, c.self.invariant.0.root_fits.sectors)
+
+pub carry_out-written-requires-clause-roots : goal.carry_out-written-requires-clause-roots
+carry_out-written-requires-clause-roots g c = omega (arith, c.self.invariant.2, c.self.invariant.0.root_fits.sectors)
+
+pub give_up-requires-clause-fits : goal.give_up-requires-clause-fits
+give_up-requires-clause-fits g c =
+    let items = c.self.inside.entries.items in
+    let lt : c.in-Some.position < length items = omega (arith, c.in-Some.ensures.some.0, ap length c.deref.ensures.value) in
+    subst (λ (p : PlacedEntry). EntryHasSpelling p.entry) (sym (get_or_read items c.in-Some.position c.index.result.now lt c.index.ensures no_entry))
+    (c.self.invariant.0.entries_fit c.in-Some.position no_entry lt)
+
+pub root_without-root-requires-clause-fits : goal.root_without-root-requires-clause-fits
+root_without-root-requires-clause-fits g c = c.self.invariant.0.root_fits
+
+pub root_without-root-requires-clause-generation : goal.root_without-root-requires-clause-generation
+root_without-root-requires-clause-generation g c = omega (arith, c.if-self-2.false, c.self.invariant.0.root_fits.generation)
+
+pub root_without-root-requires-clause-catalogues : goal.root_without-root-requires-clause-catalogues
+root_without-root-requires-clause-catalogues g c = c.as_slice.ensures.fits
+
+pub returns-then-self-clause-held : goal.returns-then-self-clause-held
+returns-then-self-clause-held g c = keeps_same g.D.Disk.facts {old = c.args.self.now} {view = c.args.self.now} refl
+
+pub returns-then-self-2-clause-held : goal.returns-then-self-2-clause-held
+returns-then-self-2-clause-held g c = keeps_same g.D.Disk.facts {old = c.args.self.now} {view = c.args.self.now} refl

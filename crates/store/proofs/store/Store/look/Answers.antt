@@ -1,10 +1,38 @@
-use Rattle.std.proofs.Common.{[], IsTrue, false, inl, inr, refl, sym, subst, ◌∙◌, rules}
+use Rattle.std.proofs.Common.{[], IsTrue, false, inl, inr, refl, sym, subst, ◌∙◌, rules, arith}
+use Rattle.sector_disk.specs.Disk.{Mixture}
+use Rattle.sector_disk.proofs.Moments.{at_rest, no_calls}
 use Rattle.roots.specs.declared.version.Version.TheVariants.{One, Two}
+use Rattle.states.specs.Geometry.{IsGeometry}
 use Rattle.states.specs.State.{State}
 use Rattle.store.specs.Opened.{Opened}
-use Rattle.store.specs.Stands.{Stands, state_of}
+use Rattle.store.specs.Stands.{Stands, StandsEither, state_of}
 use Rattle.store.proofs.Openings.{refuses_look, other_version, found_at, found_at_state}
+use Rattle.store.proofs.Refusals.{geometry-device}
+use Rattle.store.proofs.BadGeometry.{no_geometry, geometry_refused}
 use Rattle.store.proofs.store.Store.look.Goals as goal
+
+pub returns-then-not-is_geometry : goal.returns-then-not-is_geometry
+returns-then-not-is_geometry g c =
+    let disk = g.D.Disk.facts c.args.disk in
+    let none : IsGeometry disk.sectors → ⊥ = search rules in
+    let here = λ (honest : IsTrue disk.honest). subst (λ n. IsGeometry n → ⊥) (sym (g.met.D.Disk.holds_now _ honest).size) none in
+    record {
+      any_moment = λ honest. at_rest disk (Mixture disk) (λ m mixture. mixture);
+      now = λ honest. refl;
+      log = λ honest. record { either = inl refl };
+      stands = λ honest s stands. absurd (no_geometry disk.now (here honest) Two s stands);
+      stands_old = λ honest s stands. absurd (no_geometry disk.now (here honest) One s stands);
+      ok = λ honest. tt;
+      refused = λ honest. geometry_refused StandsEither disk.now (here honest);
+      unheld = tt;
+      usable = tt;
+      geometry = tt;
+      refusals = none;
+      device = λ is. absurd (geometry-device is);
+      untouched = λ is. refl;
+      calls = record { some = no_calls disk; time = omega arith };
+      all_calls = tt;
+    }
 
 pub returns-in-One : goal.returns-in-One
 returns-in-One g c =

@@ -1,9 +1,40 @@
-use Rattle.std.proofs.Common.{IsTrue, refl, sym, subst, rules}
+use Rattle.std.proofs.Common.{IsTrue, inl, refl, sym, ap, subst, ◌∙◌, rules, arith}
+use Rattle.sector_disk.specs.Disk.{Mixture, LeavesOnly, MayAddSync, AreCalls}
+use Rattle.sector_disk.proofs.Moments.{at_rest, no_calls}
 use Rattle.roots.specs.declared.version.Version.TheVariants.{Two}
+use Rattle.states.specs.Geometry.{IsGeometry}
 use Rattle.store.specs.Stands.{Stands, state_of}
 use Rattle.store.proofs.Openings.{refuses_open, found_at, found_at_state}
 use Rattle.store.proofs.StandsLemmas.{one_state}
+use Rattle.store.proofs.Refusals.{geometry-device, geometry-old}
+use Rattle.store.proofs.BadGeometry.{no_geometry, geometry_refused_open}
 use Rattle.store.proofs.store.Store.open.Goals as goal
+
+pub returns-then-not-is_geometry : goal.returns-then-not-is_geometry
+returns-then-not-is_geometry g c =
+    let disk = g.D.Disk.facts c.args.disk in
+    let none : IsGeometry disk.sectors → ⊥ = search rules in
+    let here = λ (honest : IsTrue disk.honest). subst (λ n. IsGeometry n → ⊥) (sym (g.met.D.Disk.holds_now _ honest).size) none in
+    record {
+      opened = record {
+        any_moment = λ honest. at_rest disk (Mixture disk) (λ m mixture. mixture);
+        now = λ honest. refl;
+        log = λ honest. record { either = inl refl };
+        ok = λ honest. tt;
+        stands = λ honest s stands. absurd (no_geometry disk.now (here honest) Two s stands);
+        refused = λ honest. geometry_refused_open Stands disk.now (here honest);
+        geometry = tt;
+        usable = tt;
+        unheld = tt;
+        refusals = none;
+        device = λ is. absurd (geometry-device is);
+        untouched = λ is. refl;
+        calls = no_calls disk;
+        old_calls = λ is. absurd (geometry-old is);
+      };
+      most_calls = record { some = no_calls disk; time = omega arith };
+      all_calls = tt;
+    }
 
 pub returns-in-Ok-clause-opened : goal.returns-in-Ok-clause-opened
 returns-in-Ok-clause-opened g c =
@@ -19,19 +50,19 @@ returns-in-Ok-clause-opened g c =
     (subst IsTrue (sym calls.honest) honest) (finds.reads honest).now (finds.synced honest) (finds.intact honest) two in
     let held : IsTrue (facts c.args.disk).honest → Stands now (state_of now root items) =
     λ honest. (root, items, record { of_version = two; intact = finds.intact honest; is = refl }) in record {
-      any_moment = search rules;
-      now = search rules;
-      log = search rules;
+      any_moment = λ honest. subst (λ d. LeavesOnly (facts c.args.disk) (facts d) (Mixture (facts c.args.disk))) (sym c.beside.ensures.disk) (finds.reads honest).leaves;
+      now = λ honest. ap (λ d. (facts d).now) c.beside.ensures.disk ∙ (finds.reads honest).now;
+      log = λ honest. subst (λ d. MayAddSync (facts c.args.disk).log (facts d).log) (sym c.beside.ensures.disk) (finds.reads honest).log;
       ok = λ honest. (state_of now root items, held honest, at honest, λ other stands. one_state now Two Two other (state_of now root items) stands (held honest));
       stands = λ honest s stands. found_at_state facts c.beside.result c.find_current.new.disk now root items Two s stands (at honest) (finds.intact honest) two;
       refused = λ _. tt;
       geometry = search rules;
-      usable = search rules;
+      usable = c.beside.ensures.usable;
       unheld = c.beside.ensures.unheld;
       refusals = tt;
       device = tt;
       untouched = tt;
-      calls = search rules;
+      calls = subst (λ d. AreCalls (facts c.args.disk) (facts d)) (sym c.beside.ensures.disk) calls;
       old_calls = tt;
     }
 

@@ -13,13 +13,13 @@ use Rattle.store.specs.declared.change.Change.{Change}
 use Rattle.store.specs.declared.placed_entry.PlacedEntry.{PlacedEntry}
 use Rattle.states.specs.State.{State}
 use Rattle.states.specs.Changes.{with_new}
-use Rattle.store.specs.HeldVersions.{lone_sectors, KeepsHolders, layout_in_use}
+use Rattle.store.specs.HeldVersions.{lone_sectors, KeepsHolders, layout_in_use, room_of}
 use Rattle.store.specs.Names.{LacksName}
 use Rattle.store.specs.Opened.{IsAt}
 use Rattle.store.specs.Stands.{Stands, StandsBy, catalogues_of, entry_sectors, extents_of, name_of, sectors_of}
 use Rattle.store.specs.Taken.{IsTaken}
 use Rattle.store.specs.inside.Catalogues.{CanBeCatalogued}
-use Rattle.store.specs.inside.Kept.{IsKept}
+use Rattle.store.specs.inside.Kept.{IsKept, HaveSpellings}
 use Rattle.store.specs.NameOrder.{IsOrderOf, entry_names}
 use Rattle.store.specs.declared.change.Staged.TheVariants.{Put}
 use Rattle.store.specs.inside.Change.{IsFollowed}
@@ -35,6 +35,12 @@ use Rattle.store.proofs.News.{IsNew, free_room, room_place, new_next, new_moved,
 use Rattle.store.proofs.Placing.{taken_so}
 use Rattle.store.proofs.Untouched.{untouched}
 use Rattle.store.proofs.Written.{have_bytes}
+use Rattle.store.specs.declared.refusal.StoreRefusal.TheVariants.{GenerationEnd, TooMany}
+use Rattle.store.specs.Step.{longest_free}
+use Rattle.store.proofs.Refusals.{end-device, end-reopen, many-device, many-reopen}
+use Rattle.store.proofs.Outcomes.{answers_reopen, answers_early, answers_no_memory, answers_no_room, answers_device, answers_carried_out}
+use Rattle.store.proofs.Outcomes.{has_not_failed}
+use Rattle.store.proofs.Outcomes.{new_many, new_ends, new_no_memory, same_entries, take_put_new}
 use Rattle.store.proofs.store.Store.put_new.Given as given
 use Rattle.store.proofs.store.Store.put_new.Goals.{After-take_room, After-next_root-root}
 use Rattle.store.proofs.store.Store.put_new.Goals as goal
@@ -264,3 +270,174 @@ returns-clause-placed g c =
           (ap sector_count c.new_entry-put.ensures.extents ∙ room.sum ∙ c.sector_need.ensures)
           (c.in_default.ensures.written (subst (λ store. IsTrue (g.D.Disk.facts store.disk).honest) (sym c.self.view_is) honest));
     }
+
+pub returns-then-self-clause-any_moment : goal.returns-then-self-clause-any_moment
+returns-then-self-clause-any_moment g c s at = untouched g.D.Disk.facts c.args.self.now c.args.self.now s (with_new c.args.name.now c.args.bytes.now s) refl at
+
+pub returns-then-self-2-clause-any_moment : goal.returns-then-self-2-clause-any_moment
+returns-then-self-2-clause-any_moment g c s at = untouched g.D.Disk.facts c.args.self.now c.args.self.now s (with_new c.args.name.now c.args.bytes.now s) refl at
+
+pub returns-then-self-clause-refused : goal.returns-then-self-clause-refused
+returns-then-self-clause-refused g c s at = absurd (has_not_failed g.D.Disk.facts g.met.D.Disk.holds_now g.met.D.Disk.whole_sectors c.self.view_is at c.if-self.true)
+
+pub returns-then-self-clause-on_any_disk : goal.returns-then-self-clause-on_any_disk
+returns-then-self-clause-on_any_disk g c = answers_reopen g.D.Disk.facts c.self.view_is refl c.if-self.true tt
+
+pub returns-then-self-2-clause-on_any_disk : goal.returns-then-self-2-clause-on_any_disk
+returns-then-self-2-clause-on_any_disk g c = answers_early g.D.Disk.facts c.self.view_is GenerationEnd refl c.if-self.false end-device end-reopen tt
+
+pub returns-then-len-ge-MOST_LIBRARIES-clause-any_moment : goal.returns-then-len-ge-MOST_LIBRARIES-clause-any_moment
+returns-then-len-ge-MOST_LIBRARIES-clause-any_moment g c s at = untouched g.D.Disk.facts c.args.self.now c.args.self.now s (with_new c.args.name.now c.args.bytes.now s) refl at
+
+pub returns-then-len-ge-MOST_LIBRARIES-clause-on_any_disk : goal.returns-then-len-ge-MOST_LIBRARIES-clause-on_any_disk
+returns-then-len-ge-MOST_LIBRARIES-clause-on_any_disk g c = answers_early g.D.Disk.facts c.self.view_is TooMany refl c.if-self.false many-device many-reopen tt
+
+pub returns-then-len-ge-MOST_LIBRARIES-clause-refused : goal.returns-then-len-ge-MOST_LIBRARIES-clause-refused
+returns-then-len-ge-MOST_LIBRARIES-clause-refused g c s at =
+    new_many g.D.Disk.facts g.met.D.Disk.holds_now g.met.D.Disk.whole_sectors c.self.view_is at (room_of c.args.self.now) (longest_free c.args.self.now) c.args.bytes.now
+    (omega (arith, c.if-len-ge-MOST_LIBRARIES.true, c.len.ensures))
+
+pub returns-then-self-2-clause-refused : goal.returns-then-self-2-clause-refused
+returns-then-self-2-clause-refused g c s at =
+    new_ends g.D.Disk.facts g.met.D.Disk.holds_now g.met.D.Disk.whole_sectors c.self.view_is at (room_of c.args.self.now) (longest_free c.args.self.now) c.args.bytes.now
+    (omega (arith, c.if-len-ge-MOST_LIBRARIES.false, c.len.ensures)) (omega (arith, c.if-self-2.true))
+
+pub returns-in_err-reserve_one-clause-refused : goal.returns-in_err-reserve_one-clause-refused
+returns-in_err-reserve_one-clause-refused g c s at =
+    new_no_memory g.D.Disk.facts g.met.D.Disk.holds_now g.met.D.Disk.whole_sectors c.self.view_is at (room_of c.args.self.now) (longest_free c.args.self.now) c.args.bytes.now
+    (omega (arith, c.if-len-ge-MOST_LIBRARIES.false, c.len.ensures)) (λ last. omega (arith, last, c.if-self-2.false)) c.from_residual.result c.from_residual.ensures.1
+
+pub returns-in_err-reserve_one-clause-on_any_disk : goal.returns-in_err-reserve_one-clause-on_any_disk
+returns-in_err-reserve_one-clause-on_any_disk g c =
+    answers_no_memory g.D.Disk.facts c.self.view_is c.from_residual.result c.from_residual.ensures.1
+    (same_entries c.reserve_one.ensures.entries ∙ c.self.view_is) c.if-self.false tt
+
+pub returns-in_err-room-clause-on_any_disk : goal.returns-in_err-room-clause-on_any_disk
+returns-in_err-room-clause-on_any_disk g c =
+    answers_no_room g.D.Disk.facts c.self.view_is c.in_err-room.field-0.0 c.from_residual-in_err-room.result c.from_residual-in_err-room.ensures.1
+    (same_entries c.reserve_one.ensures.entries ∙ c.self.view_is) c.if-self.false take_put_new
+
+pub returns-in-Err-clause-on_any_disk : goal.returns-in-Err-clause-on_any_disk
+returns-in-Err-clause-on_any_disk g c =
+    let is = newly g (goal.at.returns-in-Err-clause-on_any_disk g c).After-next_root-root in
+    answers_device g.D.Disk.facts c.self.view_is c.from.result c.from.ensures c.in-Err.ensures.calls (omega (
+      arith,
+      ap sector_count c.new_entry-put.ensures.extents,
+      c.in_ok-room.ensures.sum,
+      c.sector_need.ensures,
+      is.enough,
+      ap (λ store. catalogues_for (length store.entries + 1)) c.self.view_is,
+    )) c.if-self.false refl tt
+
+pub returns-clause-on_any_disk : goal.returns-clause-on_any_disk
+returns-clause-on_any_disk g c =
+    let is = newly g (goal.at.returns-clause-on_any_disk g c).After-next_root-root in
+    answers_carried_out g.D.Disk.facts c.self.view_is c.in_default.ensures.calls (omega (
+      arith,
+      ap sector_count c.new_entry-put.ensures.extents,
+      c.in_ok-room.ensures.sum,
+      c.sector_need.ensures,
+      is.enough,
+      ap (λ store. catalogues_for (length store.entries + 1)) c.self.view_is,
+    )) c.if-self.false refl
+
+pub invariant_of-self : goal.invariant_of-self
+invariant_of-self g c =
+    let items = c.reserve_one.ensures.entries in (
+      subst (λ l. IsKept c.self.inside.root l c.self.inside.held c.self.inside.layout) (sym items) c.self.invariant.0,
+      subst (λ l. IsOrderOf (entry_names l) c.reserve_one.new.index.positions) (sym items)
+          (subst (IsOrderOf (entry_names c.self.inside.entries.items)) (sym c.reserve_one.ensures.index) c.self.invariant.1),
+      c.self.invariant.2,
+      λ usable. c.reserve_one.ensures.sectors ∙ c.self.invariant.3 usable ∙ ap entry_sectors (sym items),
+      c.self.invariant.4,
+    )
+
+pub invariant_of-self-in_err-room : goal.invariant_of-self-in_err-room
+invariant_of-self-in_err-room g c =
+    let items = c.reserve_one.ensures.entries in (
+      subst (λ l. IsKept c.self.inside.root l c.self.inside.held c.take_room.new.layout) (sym items)
+          (subst (IsKept c.self.inside.root c.self.inside.entries.items c.self.inside.held) (sym c.in_err-room.ensures.err) c.self.invariant.0),
+      subst (λ l. IsOrderOf (entry_names l) c.reserve_one.new.index.positions) (sym items)
+          (subst (IsOrderOf (entry_names c.self.inside.entries.items)) (sym c.reserve_one.ensures.index) c.self.invariant.1),
+      c.self.invariant.2,
+      λ usable. c.reserve_one.ensures.sectors ∙ c.self.invariant.3 usable ∙ ap entry_sectors (sym items),
+      c.self.invariant.4,
+    )
+
+pub insert-requires-clause-new : goal.insert-requires-clause-new
+insert-requires-clause-new g c =
+    subst (All (λ (placed : PlacedEntry). name_of placed.entry ≢ c.args.name.now)) (sym (c.deref-2.ensures.value ∙ c.reserve_one.ensures.entries))
+    (subst (λ store. LacksName store c.args.name.now) (sym c.self.view_is) c.requires.new)
+
+pub insert-requires-clause-index : goal.insert-requires-clause-index
+insert-requires-clause-index g c =
+    subst (λ l. IsOrderOf (entry_names l) c.reserve_one.new.index.positions) (sym (c.deref-2.ensures.value ∙ c.reserve_one.ensures.entries))
+    (subst (IsOrderOf (entry_names c.self.inside.entries.items)) (sym c.reserve_one.ensures.index) c.self.invariant.1)
+
+pub insert-requires-clause-few : goal.insert-requires-clause-few
+insert-requires-clause-few g c =
+    let before = (goal.at.insert-requires-clause-few g c).After-take_room in
+    subst (λ l. length l < 65536) (sym (c.deref-2.ensures.value ∙ c.reserve_one.ensures.entries)) (omega (arith, few g before))
+
+pub insert-requires-clause-room : goal.insert-requires-clause-room
+insert-requires-clause-room g c = c.in_ok-reserve_one.ensures.index_room
+
+pub insert-requires-clause-spellings : goal.insert-requires-clause-spellings
+insert-requires-clause-spellings g c = subst HaveSpellings (sym (c.deref-2.ensures.value ∙ c.reserve_one.ensures.entries)) c.self.invariant.0.entries_fit
+
+pub catalogues-requires-2 : goal.catalogues-requires-2
+catalogues-requires-2 g c = c.self.invariant.0.root_fits
+
+pub next_root-root-requires-clause-fits : goal.next_root-root-requires-clause-fits
+next_root-root-requires-clause-fits g c = c.self.invariant.0.root_fits
+
+pub carry_out-written-requires-clause-fits : goal.carry_out-written-requires-clause-fits
+carry_out-written-requires-clause-fits g c = omega (arith, c.self.invariant.2, c.self.invariant.0.root_fits.sectors)
+
+pub carry_out-written-requires-clause-roots : goal.carry_out-written-requires-clause-roots
+carry_out-written-requires-clause-roots g c = omega (arith, c.self.invariant.2, c.self.invariant.0.root_fits.sectors)
+
+pub next_root-root-requires-clause-few : goal.next_root-root-requires-clause-few
+next_root-root-requires-clause-few g c = omega (arith, c.len-libraries.ensures, ap length c.reserve_one.ensures.entries, c.if-len-ge-MOST_LIBRARIES.false, c.len.ensures)
+
+pub new_entry-put-requires-clause-name : goal.new_entry-put-requires-clause-name
+new_entry-put-requires-clause-name g c = c.requires.name
+
+pub new_entry-put-requires-clause-extents : goal.new_entry-put-requires-clause-extents
+new_entry-put-requires-clause-extents g c = c.in_ok-room.ensures.data
+
+pub take_room-requires-clause-disk : goal.take_room-requires-clause-disk
+take_room-requires-clause-disk g c = omega (arith, c.self.invariant.0.size, c.self.invariant.0.root_fits.sectors)
+
+pub returns-then-self-clause-held : goal.returns-then-self-clause-held
+returns-then-self-clause-held g c = keeps_same g.D.Disk.facts {old = c.args.self.now} {view = c.args.self.now} refl
+
+pub returns-then-self-2-clause-held : goal.returns-then-self-2-clause-held
+returns-then-self-2-clause-held g c = keeps_same g.D.Disk.facts {old = c.args.self.now} {view = c.args.self.now} refl
+
+pub returns-then-len-ge-MOST_LIBRARIES-clause-held : goal.returns-then-len-ge-MOST_LIBRARIES-clause-held
+returns-then-len-ge-MOST_LIBRARIES-clause-held g c = keeps_same g.D.Disk.facts {old = c.args.self.now} {view = c.args.self.now} refl
+
+pub next_root-root-requires-clause-catalogues : goal.next_root-root-requires-clause-catalogues
+next_root-root-requires-clause-catalogues g c = c.as_slice.ensures.fits
+
+pub next_root-root-requires-clause-generation : goal.next_root-root-requires-clause-generation
+next_root-root-requires-clause-generation g c = omega (arith, c.if-self-2.false, c.self.invariant.0.root_fits.generation)
+
+pub give_back-requires-clause-fits : goal.give_back-requires-clause-fits
+give_back-requires-clause-fits g c = c.new_entry-put.ensures.fits
+
+pub new_entry-put-requires-clause-few : goal.new_entry-put-requires-clause-few
+new_entry-put-requires-clause-few g c = c.in_ok-room.ensures.extents
+
+pub new_entry-put-requires-clause-sum : goal.new_entry-put-requires-clause-sum
+new_entry-put-requires-clause-sum g c = c.in_ok-room.ensures.sum ∙ c.sector_need.ensures
+
+pub new_entry-put-requires-clause-size : goal.new_entry-put-requires-clause-size
+new_entry-put-requires-clause-size g c = c.requires.size
+
+pub push_sector-requires : goal.push_sector-requires
+push_sector-requires g c = c.in_ok-reserve_one.ensures.sectors_room
+
+pub catalogues-requires : goal.catalogues-requires
+catalogues-requires g c = c.self.invariant.0.root_fits

@@ -2,7 +2,7 @@ use Rattle.std.proofs.Common.{◌≡◌, ◌≢◌, ◌⊎◌, ◌-◌, ◌*◌,
 use Rattle.std.specs.Int.{div_ceil}
 use Rattle.std.proofs.lemmas.Bool.{false≢true}
 use Rattle.std.proofs.lemmas.Grind.{div_ceil_times}
-use Rattle.std.proofs.lemmas.List.{get_or_default, map-set}
+use Rattle.std.proofs.lemmas.List.{get_or_default, map-set, length-map, get_or_read}
 use Rattle.sector_disk.specs.Disk.{LeavesOnly}
 use Rattle.extents.specs.Extent.{sector_count}
 use Rattle.states.specs.Cost.{catalogues_for}
@@ -37,6 +37,12 @@ use Rattle.store.proofs.Replacements.{IsReplacement, replacement_moved, replacem
 use Rattle.store.proofs.Untouched.{untouched}
 use Rattle.store.proofs.Written.{have_bytes}
 use Rattle.store.proofs.UsedAlone.{no_entry}
+use Rattle.roots.specs.Entry.{EntryHasSpelling}
+use Rattle.store.specs.declared.refusal.StoreRefusal.TheVariants.{GenerationEnd}
+use Rattle.store.specs.inside.Kept.{IsKept}
+use Rattle.store.specs.NameOrder.{IsOrderOf, entry_names}
+use Rattle.store.proofs.Refusals.{end-device, end-reopen}
+use Rattle.store.proofs.Outcomes.{answers_reopen, answers_early, answers_no_room, answers_device, answers_carried_out, has_not_failed, put_ends, take_put_over}
 use Rattle.store.proofs.store.Store.put_over.Given as given
 use Rattle.store.proofs.store.Store.put_over.Goals.{After-next_root-root, After-catalogues, After-give_up}
 use Rattle.store.proofs.store.Store.put_over.Goals as goal
@@ -281,3 +287,124 @@ returns-clause-placed g c =
           (ap sector_count c.new_entry-put.ensures.extents ∙ room.sum ∙ c.sector_need.ensures)
           (c.in_default-written.ensures.written (subst (λ store. IsTrue (g.D.Disk.facts store.disk).honest) (sym c.self.view_is) honest));
     }
+
+pub returns-then-self-clause-any_moment : goal.returns-then-self-clause-any_moment
+returns-then-self-clause-any_moment g c s at = untouched g.D.Disk.facts c.args.self.now c.args.self.now s (with_bytes c.args.name.now c.args.bytes.now s) refl at
+
+pub returns-then-self-2-clause-any_moment : goal.returns-then-self-2-clause-any_moment
+returns-then-self-2-clause-any_moment g c s at = untouched g.D.Disk.facts c.args.self.now c.args.self.now s (with_bytes c.args.name.now c.args.bytes.now s) refl at
+
+pub returns-then-self-clause-refused : goal.returns-then-self-clause-refused
+returns-then-self-clause-refused g c s at = absurd (has_not_failed g.D.Disk.facts g.met.D.Disk.holds_now g.met.D.Disk.whole_sectors c.self.view_is at c.if-self.true)
+
+pub returns-then-self-clause-on_any_disk : goal.returns-then-self-clause-on_any_disk
+returns-then-self-clause-on_any_disk g c = answers_reopen g.D.Disk.facts c.self.view_is refl c.if-self.true tt
+
+pub returns-then-self-2-clause-on_any_disk : goal.returns-then-self-2-clause-on_any_disk
+returns-then-self-2-clause-on_any_disk g c = answers_early g.D.Disk.facts c.self.view_is GenerationEnd refl c.if-self.false end-device end-reopen tt
+
+pub returns-then-self-2-clause-refused : goal.returns-then-self-2-clause-refused
+returns-then-self-2-clause-refused g c s at =
+    put_ends g.D.Disk.facts g.met.D.Disk.holds_now g.met.D.Disk.whole_sectors c.self.view_is at (room_of c.args.self.now) (longest_free c.args.self.now) c.args.bytes.now
+    (omega (arith, c.if-self-2.true))
+
+pub returns-in_err-room-clause-on_any_disk : goal.returns-in_err-room-clause-on_any_disk
+returns-in_err-room-clause-on_any_disk g c =
+    answers_no_room g.D.Disk.facts c.self.view_is c.in_err-room.field-0.0 c.from_residual.result c.from_residual.ensures.1 c.self.view_is c.if-self.false take_put_over
+
+pub returns-in-Err-clause-on_any_disk : goal.returns-in-Err-clause-on_any_disk
+returns-in-Err-clause-on_any_disk g c =
+    let is = replacing g (goal.at.returns-in-Err-clause-on_any_disk g c).After-next_root-root in
+    answers_device g.D.Disk.facts c.self.view_is c.from.result c.from.ensures c.in-Err.ensures.calls (omega (
+      arith,
+      ap sector_count c.new_entry-put.ensures.extents,
+      c.in_ok-room.ensures.sum,
+      c.sector_need.ensures,
+      is.enough,
+      ap (λ store. catalogues_for (length store.entries)) c.self.view_is,
+    )) c.if-self.false refl tt
+
+pub returns-clause-on_any_disk : goal.returns-clause-on_any_disk
+returns-clause-on_any_disk g c =
+    let is = replacing g (goal.at.returns-clause-on_any_disk g c).After-next_root-root in
+    answers_carried_out g.D.Disk.facts c.self.view_is c.in_default-written.ensures.calls (omega (
+      arith,
+      ap sector_count c.new_entry-put.ensures.extents,
+      c.in_ok-room.ensures.sum,
+      c.sector_need.ensures,
+      is.enough,
+      ap (λ store. catalogues_for (length store.entries)) c.self.view_is,
+    )) c.if-self.false refl
+
+pub invariant_of-self : goal.invariant_of-self
+invariant_of-self g c = (
+  subst (IsKept c.self.inside.root c.self.inside.entries.items c.self.inside.held) (sym c.in_err-room.ensures.err) c.self.invariant.0,
+  c.self.invariant.1,
+  c.self.invariant.2,
+  c.self.invariant.3,
+  c.self.invariant.4,
+)
+
+pub position_of-requires-clause-index : goal.position_of-requires-clause-index
+position_of-requires-clause-index g c = subst (λ l. IsOrderOf (entry_names l) c.self.inside.index.positions) (sym c.deref.ensures.value) c.self.invariant.1
+
+pub index_mut-requires : goal.index_mut-requires
+index_mut-requires g c =
+    let listed : length c.self.inside.sectors.items ≡ length c.self.inside.entries.items = ap length (c.self.invariant.3 c.if-self.false)
+    ∙ length-map c.self.inside.entries.items (λ (p : PlacedEntry). p.at) in
+    omega (arith, c.in-Some.ensures.some.0, ap length c.deref.ensures.value, listed)
+
+pub index_mut-requires-2 : goal.index_mut-requires-2
+index_mut-requires-2 g c = omega (arith, c.in-Some.ensures.some.0, ap length c.deref.ensures.value)
+
+pub index-requires : goal.index-requires
+index-requires g c = omega (arith, c.in-Some.ensures.some.0, ap length c.deref.ensures.value)
+
+pub catalogues-requires : goal.catalogues-requires
+catalogues-requires g c = c.self.invariant.0.root_fits
+
+pub carry_out-written-requires-clause-fits : goal.carry_out-written-requires-clause-fits
+carry_out-written-requires-clause-fits g c = omega (arith, c.self.invariant.2, c.self.invariant.0.root_fits.sectors)
+
+pub carry_out-written-requires-clause-roots : goal.carry_out-written-requires-clause-roots
+carry_out-written-requires-clause-roots g c = omega (arith, c.self.invariant.2, c.self.invariant.0.root_fits.sectors)
+
+pub give_up-requires-clause-fits : goal.give_up-requires-clause-fits
+give_up-requires-clause-fits g c =
+    let items = c.self.inside.entries.items in
+    let lt : c.in-Some.position < length items = omega (arith, c.in-Some.ensures.some.0, ap length c.deref.ensures.value) in
+    subst (λ (p : PlacedEntry). EntryHasSpelling p.entry) (sym (get_or_read items c.in-Some.position c.index.result.now lt c.index.ensures no_entry))
+    (c.self.invariant.0.entries_fit c.in-Some.position no_entry lt)
+
+pub give_back-requires-clause-fits : goal.give_back-requires-clause-fits
+give_back-requires-clause-fits g c = c.new_entry-put.ensures.fits
+
+pub new_entry-put-requires-clause-extents : goal.new_entry-put-requires-clause-extents
+new_entry-put-requires-clause-extents g c = c.in_ok-room.ensures.data
+
+pub next_root-root-requires-clause-fits : goal.next_root-root-requires-clause-fits
+next_root-root-requires-clause-fits g c = c.self.invariant.0.root_fits
+
+pub next_root-root-requires-clause-generation : goal.next_root-root-requires-clause-generation
+next_root-root-requires-clause-generation g c = omega (arith, c.if-self-2.false, c.self.invariant.0.root_fits.generation)
+
+pub returns-then-self-clause-held : goal.returns-then-self-clause-held
+returns-then-self-clause-held g c = keeps_same g.D.Disk.facts {old = c.args.self.now} {view = c.args.self.now} refl
+
+pub returns-then-self-2-clause-held : goal.returns-then-self-2-clause-held
+returns-then-self-2-clause-held g c = keeps_same g.D.Disk.facts {old = c.args.self.now} {view = c.args.self.now} refl
+
+pub next_root-root-requires-clause-catalogues : goal.next_root-root-requires-clause-catalogues
+next_root-root-requires-clause-catalogues g c = c.as_slice.ensures.fits
+
+pub new_entry-put-requires-clause-few : goal.new_entry-put-requires-clause-few
+new_entry-put-requires-clause-few g c = c.in_ok-room.ensures.extents
+
+pub new_entry-put-requires-clause-sum : goal.new_entry-put-requires-clause-sum
+new_entry-put-requires-clause-sum g c = c.in_ok-room.ensures.sum ∙ c.sector_need.ensures
+
+pub new_entry-put-requires-clause-size : goal.new_entry-put-requires-clause-size
+new_entry-put-requires-clause-size g c = c.requires.size
+
+pub take_room-requires-clause-disk : goal.take_room-requires-clause-disk
+take_room-requires-clause-disk g c = omega (arith, c.self.invariant.0.size, c.self.invariant.0.root_fits.sectors)

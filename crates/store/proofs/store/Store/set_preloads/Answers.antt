@@ -1,4 +1,4 @@
-use Rattle.std.proofs.Common.{rules, ◌≡◌, ◌⊎◌, ◌<◌, [], All, length, IsTrue, refl, sym, subst, ap, ◌∙◌, arith}
+use Rattle.std.proofs.Common.{◌≡◌, ◌⊎◌, ◌<◌, [], All, length, IsTrue, refl, sym, subst, ap, ◌∙◌, arith}
 use Rattle.sector_disk.specs.Disk.{LeavesOnly}
 use Rattle.roots.specs.declared.version.Version.TheVariants.{Two}
 use Rattle.roots.specs.Root.{version_of}
@@ -10,9 +10,15 @@ use Rattle.store.specs.declared.change.Staged.TheVariants.{Nothing}
 use Rattle.store.specs.inside.Change.{IsFollowed}
 use Rattle.store.specs.inside.Next.{IsNext}
 use Rattle.store.specs.HeldVersions.{KeepsHolders}
-use Rattle.store.proofs.KeepsHolders.{keeps_table}
+use Rattle.store.proofs.KeepsHolders.{keeps_same, keeps_table}
 use Rattle.store.proofs.Following.{following_fits, following_kept, next_version}
 use Rattle.store.proofs.Preloads.{preloads_next, preloads_followed, preloads_room, same_catalogues, same_claimed}
+use Rattle.std.proofs.lemmas.Bool.{false≢true}
+use Rattle.store.specs.declared.refusal.StoreRefusal.TheVariants.{GenerationEnd}
+use Rattle.store.proofs.Frees.{exactly_done}
+use Rattle.store.proofs.Refusals.{end-device, end-reopen}
+use Rattle.store.proofs.Outcomes.{answers_reopen, answers_early, answers_carried_out, has_not_failed, change_ends, change_accepted, change_failed}
+use Rattle.store.proofs.Untouched.{untouched}
 use Rattle.store.proofs.store.Store.set_preloads.Given as given
 use Rattle.store.proofs.store.Store.set_preloads.Goals.{After-with_preloads}
 use Rattle.store.proofs.store.Store.set_preloads.Goals as goal
@@ -99,13 +105,52 @@ returns-clause-held g c =
     subst (λ store. KeepsHolders (g.D.Disk.facts store.disk) (g.D.Disk.facts c.carry_out.new.disk) store.held c.self.inside.held) c.self.view_is
     (keeps_table c.self.invariant.0 [] (λ k found. omega (arith, found.1)) (c.carry_out.ensures.others))
 
+pub returns-then-self-clause-any_moment : goal.returns-then-self-clause-any_moment
+returns-then-self-clause-any_moment g c s at = untouched g.D.Disk.facts c.args.self.now c.args.self.now s (with_preloads (names_at s.libraries c.args.positions.now) s) refl at
+
+pub returns-then-self-2-clause-any_moment : goal.returns-then-self-2-clause-any_moment
+returns-then-self-2-clause-any_moment g c s at = untouched g.D.Disk.facts c.args.self.now c.args.self.now s (with_preloads (names_at s.libraries c.args.positions.now) s) refl at
+
+pub returns-then-self-clause-refused : goal.returns-then-self-clause-refused
+returns-then-self-clause-refused g c s at = absurd (has_not_failed g.D.Disk.facts g.met.D.Disk.holds_now g.met.D.Disk.whole_sectors c.self.view_is at c.if-self.true)
+
 pub returns-then-self-clause-on_any_disk : goal.returns-then-self-clause-on_any_disk
-returns-then-self-clause-on_any_disk g c = record {
-  reopen = search rules;
-  device = search rules;
-  same = search rules;
-  usable = tt;
-  refusals = tt;
-  all_calls = tt;
-  calls = search rules;
-}
+returns-then-self-clause-on_any_disk g c = answers_reopen g.D.Disk.facts c.self.view_is refl c.if-self.true tt
+
+pub returns-then-self-2-clause-on_any_disk : goal.returns-then-self-2-clause-on_any_disk
+returns-then-self-2-clause-on_any_disk g c = answers_early g.D.Disk.facts c.self.view_is GenerationEnd refl c.if-self.false end-device end-reopen tt
+
+pub returns-then-self-2-clause-refused : goal.returns-then-self-2-clause-refused
+returns-then-self-2-clause-refused g c s at = change_ends g.D.Disk.facts g.met.D.Disk.holds_now g.met.D.Disk.whole_sectors c.self.view_is at (omega (arith, c.if-self-2.true))
+
+pub returns-in_err-carry_out-clause-refused : goal.returns-in_err-carry_out-clause-refused
+returns-in_err-carry_out-clause-refused g c s at =
+    change_failed g.D.Disk.facts g.met.D.Disk.holds_now g.met.D.Disk.whole_sectors c.self.view_is at (λ last. omega (arith, last, c.if-self-2.false))
+    c.from_residual.result c.from_residual.ensures.1
+
+pub returns-clause-refused : goal.returns-clause-refused
+returns-clause-refused g c s at = exactly_done (change_accepted g.D.Disk.facts g.met.D.Disk.holds_now g.met.D.Disk.whole_sectors c.self.view_is at (λ last. omega (arith, last, c.if-self-2.false)))
+
+pub returns-clause-on_any_disk : goal.returns-clause-on_any_disk
+returns-clause-on_any_disk g c = answers_carried_out g.D.Disk.facts c.self.view_is c.in_ok-carry_out.ensures.calls (omega arith) c.if-self.false refl
+
+pub invariant_of-self : goal.invariant_of-self
+invariant_of-self g c = (
+  c.self.invariant.0,
+  c.self.invariant.1,
+  c.carry_out.ensures.calls.sectors ∙ c.self.invariant.2,
+  λ is. absurd (false≢true (sym is)),
+  c.self.invariant.4,
+)
+
+pub returns-then-self-clause-held : goal.returns-then-self-clause-held
+returns-then-self-clause-held g c = keeps_same g.D.Disk.facts {old = c.args.self.now} {view = c.args.self.now} refl
+
+pub returns-then-self-2-clause-held : goal.returns-then-self-2-clause-held
+returns-then-self-2-clause-held g c = keeps_same g.D.Disk.facts {old = c.args.self.now} {view = c.args.self.now} refl
+
+pub carry_out-requires-clause-fits : goal.carry_out-requires-clause-fits
+carry_out-requires-clause-fits g c = omega (arith, c.self.invariant.2, c.self.invariant.0.root_fits.sectors)
+
+pub carry_out-requires-clause-roots : goal.carry_out-requires-clause-roots
+carry_out-requires-clause-roots g c = omega (arith, c.self.invariant.2, c.self.invariant.0.root_fits.sectors)
