@@ -7,7 +7,6 @@
 #![tactic(auto)]
 
 mod ahead;
-mod device;
 mod disk;
 mod disk_file;
 mod gathered;

@@ -3,9 +3,9 @@
 ghost use Rattle.std.specs.Prelude.{◌≡◌, true};
 ghost use Rattle.std.specs.Fs.{new_options, with_read, with_write};
 
-use crate::device::is_in_use;
 use crate::disk_file::{Access, DiskFile};
 use crate::open::OpenFault;
+use block_devices::is_in_use;
 use std::alloc::Global;
 use std::fs::{File, Metadata, OpenOptions, TryLockError};
 use std::io::ErrorKind;

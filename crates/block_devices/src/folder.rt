@@ -1,0 +1,126 @@
+// What the files of /proc and the folders of sysfs tell of block devices (proc(5), sysfs(5)).
+
+use crate::numbers::Numbers;
+use std::alloc::Global;
+use std::io::{ErrorKind, Read};
+use std::rt::Files;
+use std::{fs, io, str};
+
+/// The text of a file, with a mark in the place of bytes that are no UTF-8: a mount point may have
+/// such a name.
+pub(crate) fn read_text<R: Files>(rt: &R, alloc: Global, path: &str) -> io::Result<String> {
+    let bytes = fs::read(&(rt, alloc), path)?;
+    Ok(String::from_utf8_lossy(alloc, &bytes)?)
+}
+
+/// The numbers that a file has, where there is one.
+pub(crate) fn numbers_in<R: Files>(
+    rt: &R,
+    alloc: Global,
+    path: &str,
+) -> io::Result<Option<Numbers>> {
+    match read_text(rt, alloc, path) {
+        Ok(text) => Ok(Numbers::parse(text.trim_end())),
+        Err(fault) if fault.kind() == ErrorKind::NotFound => Ok(None),
+        Err(fault) => Err(fault),
+    }
+}
+
+/// The path of a name in a folder.
+fn path_in(alloc: Global, folder: &str, name: &str) -> io::Result<String> {
+    Ok(format!(in alloc; "{folder}/{name}")?)
+}
+
+/// Whether the device of a folder of sysfs is a partition.
+fn is_partition<R: Files>(rt: &R, alloc: Global, folder: &str) -> io::Result<bool> {
+    let partition = path_in(alloc, folder, "partition")?;
+    Ok(fs::metadata(rt, partition.as_str()).is_ok())
+}
+
+/// The numbers of the disk that a device is a partition of.
+pub(crate) fn whole_of<R: Files>(
+    rt: &R,
+    alloc: Global,
+    numbers: Numbers,
+) -> io::Result<Option<Numbers>> {
+    let folder = numbers.folder(alloc)?;
+    if !is_partition(rt, alloc, &folder)? {
+        return Ok(None);
+    }
+    let disk = path_in(alloc, &folder, "../dev")?;
+    numbers_in(rt, alloc, &disk)
+}
+
+/// The names in a folder, or in the one that a link leads to, each ended by a byte 0.
+fn names_in<R: Files>(rt: &R, alloc: Global, folder: &str) -> io::Result<Vec<u8>> {
+    let inside = path_in(alloc, folder, ".")?;
+    let mut found = rt.open_dir(&inside)?;
+    let mut names = Vec::new(alloc);
+    found.read_to_end(&mut names)?;
+    Ok(names)
+}
+
+/// Whether a folder with these names, each ended by a byte 0, has more than itself and the one
+/// above it.
+fn has_others(names: &[u8]) -> bool {
+    for name in names.split(|byte| *byte == 0) {
+        if !matches!(name, b"" | b"." | b"..") {
+            return true;
+        }
+    }
+    false
+}
+
+/// Whether other devices stand on the one of a folder of sysfs.
+fn has_holders<R: Files>(rt: &R, alloc: Global, folder: &str) -> io::Result<bool> {
+    let holders = path_in(alloc, folder, "holders")?;
+    let names = names_in(rt, alloc, &holders)?;
+    Ok(has_others(&names))
+}
+
+/// Whether a name in the folder of a disk is that of a partition on which other devices stand.
+fn is_held_partition<R: Files>(
+    rt: &R,
+    alloc: Global,
+    folder: &str,
+    name: &[u8],
+) -> io::Result<bool> {
+    let Ok(name) = str::from_utf8(name) else {
+        return Ok(false);
+    };
+    let inside = path_in(alloc, folder, name)?;
+    Ok(is_partition(rt, alloc, &inside)? && has_holders(rt, alloc, &inside)?)
+}
+
+/// Whether one of the names in the folder of a disk, each ended by a byte 0, is that of a partition
+/// on which other devices stand.
+fn has_held_partition<R: Files>(
+    rt: &R,
+    alloc: Global,
+    folder: &str,
+    names: &[u8],
+) -> io::Result<bool> {
+    for name in names.split(|byte| *byte == 0) {
+        if is_held_partition(rt, alloc, folder, name)? {
+            return Ok(true);
+        }
+    }
+    Ok(false)
+}
+
+/// Whether other devices stand on the one of a folder of sysfs, on its disk if it is a partition,
+/// or else on its partitions.
+pub(crate) fn is_folder_held<R: Files>(
+    rt: &R,
+    alloc: Global,
+    folder: &str,
+    is_partition: bool,
+) -> io::Result<bool> {
+    if has_holders(rt, alloc, folder)? {
+        return Ok(true);
+    }
+    if is_partition {
+        return has_holders(rt, alloc, &path_in(alloc, folder, "..")?);
+    }
+    has_held_partition(rt, alloc, folder, &names_in(rt, alloc, folder)?)
+}

@@ -1,0 +1,35 @@
+// The numbers of block devices, and their folders of sysfs.
+
+use std::alloc::Global;
+use std::io;
+
+/// The numbers of a block device.
+#[derive(Clone, Copy, PartialEq, Eq)]
+pub(crate) struct Numbers {
+    major: u64,
+    minor: u64,
+}
+
+impl Numbers {
+    /// Those of which Linux makes one number (makedev(3)).
+    pub(crate) fn new(rdev: u64) -> Numbers {
+        Numbers {
+            major: (rdev >> 8 & 0xfff) | (rdev >> 32 & 0xffff_f000),
+            minor: (rdev & 0xff) | (rdev >> 12 & 0xffff_ff00),
+        }
+    }
+
+    /// Those that a text spells as the system does: `8:1`.
+    pub(crate) fn parse(text: &str) -> Option<Numbers> {
+        let (major, minor) = text.split_once(':')?;
+        Some(Numbers {
+            major: major.parse().ok()?,
+            minor: minor.parse().ok()?,
+        })
+    }
+
+    /// The device's folder of sysfs.
+    pub(crate) fn folder(self, alloc: Global) -> io::Result<String> {
+        Ok(format!(in alloc; "/sys/dev/block/{}:{}", self.major, self.minor)?)
+    }
+}
