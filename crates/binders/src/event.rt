@@ -2,7 +2,7 @@
 use requests::{Command, Reply};
 
 /// A command, or something that is done with a binder.
-#[derive(Clone, Copy, Debug)]
+#[derive(Clone, Copy)]
 pub enum Event<'a> {
     /// A command is applied.
     Apply(Command<'a>),

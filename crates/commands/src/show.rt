@@ -11,7 +11,7 @@ use std::io::Write;
 use store::StoreRefusal;
 
 /// What was shown.
-#[derive(Clone, Copy, Debug, PartialEq, Eq)]
+#[derive(Clone, Copy, PartialEq, Eq)]
 pub enum Shown {
     /// The image.
     Image,

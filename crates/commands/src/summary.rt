@@ -4,7 +4,7 @@ ghost use Rattle.std.specs.Prelude.{◌≡◌, ◌+◌, if◌then◌else◌};
 ghost use Rattle.std.specs.Io.Iter.{u64_saturate};
 
 /// What a script did. Each number stays at the greatest once it is there.
-#[derive(Clone, Copy, Debug, PartialEq, Eq)]
+#[derive(Clone, Copy, PartialEq, Eq)]
 pub struct Summary {
     /// How many lines there were, one without a newline among them.
     pub lines: u64,

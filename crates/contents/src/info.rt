@@ -5,7 +5,7 @@ use sector_disk::Disk;
 use store::FreeSpace;
 
 /// What is told of a disk and of the state that it holds.
-#[derive(Clone, Copy, Debug, PartialEq, Eq)]
+#[derive(Clone, Copy, PartialEq, Eq)]
 pub struct Info {
     /// The version of the disk.
     pub version: Version,

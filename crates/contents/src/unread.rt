@@ -2,7 +2,7 @@
 use std::alloc::AllocError;
 
 /// Why the bytes of a library aren't given.
-#[derive(Clone, Copy, Debug, PartialEq, Eq)]
+#[derive(Clone, Copy, PartialEq, Eq)]
 pub enum Unread {
     /// No library of this name is installed.
     NotInstalled,

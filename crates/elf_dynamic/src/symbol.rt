@@ -13,7 +13,7 @@ ghost use Rattle.elf_dynamic.specs.inside.Symbols.{is_refused};
 use elf_file::{SYMBOL_SIZE, u16_at, u32_at, u64_at};
 
 /// A symbol as it stands in the file (gABI chapter 4, `Elf64_Sym`).
-#[derive(Clone, Copy, Debug, PartialEq, Eq)]
+#[derive(Clone, Copy, PartialEq, Eq)]
 pub struct Symbol {
     /// `st_name`: the offset of its name in the string table, in bytes.
     pub name: u32,

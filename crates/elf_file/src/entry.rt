@@ -6,7 +6,7 @@ ghost use Rattle.elf_file.specs.Dynamic.{entry};
 use crate::number::u64_at;
 
 /// An entry of the dynamic section (gABI chapter 5, `Elf64_Dyn`).
-#[derive(Clone, Copy, Debug, PartialEq, Eq)]
+#[derive(Clone, Copy, PartialEq, Eq)]
 pub struct Entry {
     /// `d_tag`.
     pub tag: u64,

@@ -14,7 +14,7 @@ use crate::segment::ProgramHeader;
 use crate::segments::Segments;
 
 /// Addresses within an object before its base is added (gABI chapters 4 and 5).
-#[derive(Clone, Copy, Debug, PartialEq, Eq)]
+#[derive(Clone, Copy, PartialEq, Eq)]
 pub struct ObjectAddresses {
     /// Of its program headers, where a PT_LOAD has all of them.
     pub headers: Option<u64>,

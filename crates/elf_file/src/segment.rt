@@ -10,7 +10,7 @@ use crate::headers::Headers;
 use crate::load_segments::LoadSegments;
 
 /// A program header as it stands in the file (gABI chapter 5, `Elf64_Phdr`).
-#[derive(Clone, Copy, Debug, PartialEq, Eq)]
+#[derive(Clone, Copy, PartialEq, Eq)]
 pub struct ProgramHeader {
     /// `p_type`.
     pub kind: u32,

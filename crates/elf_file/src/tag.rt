@@ -55,7 +55,7 @@ pub const SYMBOL_SIZE: u64 = 24;
 pub const RELOCATION_SIZE: u64 = 24;
 
 /// A tag that is read.
-#[derive(Clone, Copy, Debug, PartialEq, Eq)]
+#[derive(Clone, Copy, PartialEq, Eq)]
 pub enum Tag {
     /// `DT_NEEDED`.
     Needed,

@@ -7,7 +7,7 @@ use std::marker::Model;
 
 /// The free runs of a disk, from the lowest up. Most that come and go are among the lowest, so a
 /// run that goes may leave a vacant place in front of all, and one that comes may fill it.
-#[derive(Debug, Drop)]
+#[derive(Drop)]
 pub(crate) struct RunList {
     // Vacant places, and behind them the runs.
     list: Vec<Extent>,

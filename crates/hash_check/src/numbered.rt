@@ -19,7 +19,7 @@ use elf_dynamic::Object;
 use std::alloc::{AllocError, Global};
 
 /// A symbol of one of several objects, with the number of its name.
-#[derive(Clone, Copy, Debug, PartialEq, Eq)]
+#[derive(Clone, Copy, PartialEq, Eq)]
 pub struct NumberedSymbol {
     /// The place of the object.
     pub object: usize,

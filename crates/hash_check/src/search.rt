@@ -15,7 +15,7 @@ use crate::export::is_exported;
 use elf_dynamic::Object;
 
 /// What a search found, and how many symbols it looked at.
-#[derive(Clone, Copy, Debug, PartialEq, Eq)]
+#[derive(Clone, Copy, PartialEq, Eq)]
 pub struct Found {
     /// The number of the symbol that is exported under the name.
     pub symbol: Option<u32>,

@@ -9,7 +9,7 @@ use requests::{Refusal, Reply};
 use store::StoreRefusal;
 
 /// The exit status of a program.
-#[derive(Clone, Copy, Debug, PartialEq, Eq)]
+#[derive(Clone, Copy, PartialEq, Eq)]
 pub enum Status {
     /// Done.
     Done = 0,

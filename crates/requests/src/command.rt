@@ -1,7 +1,7 @@
 // Commands.
 
 /// A command to a registry, which borrows its bytes.
-#[derive(Clone, Copy, Debug)]
+#[derive(Clone, Copy)]
 pub enum Command<'a> {
     /// Installs a library: the bytes of its file.
     Install(&'a [u8]),

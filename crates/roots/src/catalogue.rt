@@ -11,7 +11,7 @@ use extents::MOST_SECTORS;
 
 /// A part of a list of libraries, by the sectors of their entries. In a spelling the places past
 /// the count are zero.
-#[derive(Clone, Copy, Debug, PartialEq, Eq)]
+#[derive(Clone, Copy, PartialEq, Eq)]
 pub struct Catalogue {
     /// How many entries it lists.
     pub count: u16,

@@ -14,7 +14,7 @@ use sector_disk::SECTOR_BYTES;
 
 /// A library's entry: its name, and where its file lies. In a spelling the places past a count
 /// are zero.
-#[derive(Clone, Copy, Debug, PartialEq, Eq)]
+#[derive(Clone, Copy, PartialEq, Eq)]
 pub struct Entry {
     /// The length of the file in bytes.
     pub file_length: u32,

@@ -9,7 +9,7 @@ use crate::version::Version;
 
 /// Where a root lists the entries of its libraries. Each version of the disk has its own list and
 /// its own magic.
-#[derive(Clone, Copy, Debug, PartialEq, Eq)]
+#[derive(Clone, Copy, PartialEq, Eq)]
 pub enum EntryList {
     /// Version 1: the root has the sectors of the entries, in the order of installation.
     InRoot([u32; MOST_ROOT_ENTRIES]),

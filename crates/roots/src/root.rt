@@ -14,7 +14,7 @@ use states::{MOST_PRELOADS, is_geometry};
 
 /// The root of a registry, as one of the two root sectors has it. In a spelling the places past a
 /// count are zero.
-#[derive(Clone, Copy, Debug, PartialEq, Eq)]
+#[derive(Clone, Copy, PartialEq, Eq)]
 pub struct Root {
     /// How many commits were made since the disk was formatted.
     pub generation: u64,

@@ -1,7 +1,7 @@
 use crate::root::Root;
 
 /// What one of the two root sectors holds.
-#[derive(Clone, Copy, Debug, PartialEq, Eq)]
+#[derive(Clone, Copy, PartialEq, Eq)]
 pub enum Slot {
     /// No root was written here: neither magic is there.
     Empty,

@@ -1,7 +1,7 @@
 // What a symbol is bound to.
 
 /// What a symbol is bound to.
-#[derive(Clone, Copy, Debug, PartialEq, Eq)]
+#[derive(Clone, Copy, PartialEq, Eq)]
 pub enum Target {
     /// The number 0.
     Zero,
@@ -15,5 +15,5 @@ pub enum Target {
 }
 
 /// A symbol is bound to nothing: no object defines it, and it isn't weak.
-#[derive(Clone, Copy, Debug, PartialEq, Eq)]
+#[derive(Clone, Copy, PartialEq, Eq)]
 pub struct Undefined;

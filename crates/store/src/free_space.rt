@@ -13,7 +13,7 @@ use roots::{MOST_FILE_BYTES, MOST_LIBRARIES, catalogues_for};
 use sector_disk::{Disk, SECTOR_BYTES};
 
 /// How much of a store's disk is free.
-#[derive(Clone, Copy, Debug, PartialEq, Eq)]
+#[derive(Clone, Copy, PartialEq, Eq)]
 pub struct FreeSpace {
     /// How many sectors are free: the state doesn't use them, and nobody holds them.
     pub sectors: u32,

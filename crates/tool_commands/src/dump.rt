@@ -40,7 +40,7 @@ const PAGE: usize = 0x10000;
 type Script = OutputBuffer<PAGE>;
 
 /// Where a script was cut, and why.
-#[derive(Clone, Copy, Debug, PartialEq, Eq)]
+#[derive(Clone, Copy, PartialEq, Eq)]
 struct Cut {
     position: usize,
     lack: Lack,

@@ -9,7 +9,7 @@ ghost use Rattle.tool_commands.specs.Form.{file, remove, replace, tell};
 use program_parts::parse_base;
 
 /// What is told of a disk.
-#[derive(Clone, Copy, Debug, PartialEq, Eq)]
+#[derive(Clone, Copy, PartialEq, Eq)]
 pub enum Form<'a> {
     /// Tells of the whole.
     Info,
@@ -22,7 +22,7 @@ pub enum Form<'a> {
 }
 
 /// What is done with a disk.
-#[derive(Clone, Copy, Debug, PartialEq, Eq)]
+#[derive(Clone, Copy, PartialEq, Eq)]
 pub enum Action<'a> {
     /// Tells what it has. It is only read.
     Tell(Form<'a>),
@@ -40,7 +40,7 @@ pub enum Action<'a> {
 }
 
 /// What words ask: what is done, and the path of the disk.
-#[derive(Clone, Copy, Debug, PartialEq, Eq)]
+#[derive(Clone, Copy, PartialEq, Eq)]
 pub struct Asked<'a> {
     /// The path of the disk.
     pub disk: &'a str,

@@ -16,7 +16,7 @@ use sector_disk::Disk;
 use std::alloc::{AllocError, Global};
 
 /// Why a library isn't given.
-#[derive(Clone, Copy, Debug, PartialEq, Eq)]
+#[derive(Clone, Copy, PartialEq, Eq)]
 pub(crate) enum Lack {
     /// It can't be read, or isn't one of its name.
     Found(Finding),

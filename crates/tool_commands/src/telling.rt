@@ -17,7 +17,7 @@ use std::io::Write;
 use text_output::WriteFault;
 
 /// How a reply is told.
-#[derive(Clone, Copy, Debug, PartialEq, Eq)]
+#[derive(Clone, Copy, PartialEq, Eq)]
 pub enum Telling {
     /// By its text, on the output.
     Text,
