@@ -1,8 +1,8 @@
 -- Byte strings in a row, one more at a time.
-use Rattle.std.proofs.Common.{◌≡◌, ℕ, zero, suc, ◌+◌, ◌<◌, ◌≤◌, List, [], ◌∷◌, ◌++◌, length, get_or, take, map, refl, sym, ◌∙◌, ap, arith}
+use Rattle.std.proofs.Common.{◌≡◌, ℕ, zero, suc, ◌+◌, ◌<◌, ◌≤◌, List, [], ◌∷◌, ◌++◌, length, get_or, take, map, refl, sym, ◌∙◌, ap, subst, arith}
 use Rattle.std.proofs.lemmas.List.{take_more, flat_map_more, length-append, take_all}
 use Rattle.std.specs.List.{flat_map}
-use Rattle.std.specs.Prelude.{Option, Some, None, IfNone}
+use Rattle.std.specs.Prelude.{Option, Some, None, IfNone, IfSome}
 
 module _ {A : Type 0} (row : A → List ℕ) where
   pub rows_more : (xs : List A) (i : ℕ) (d : A) → i < length xs → flat_map row (take (i + 1) xs) ≡ flat_map row (take i xs) ++ row (get_or xs i d)
@@ -45,3 +45,7 @@ module _ {A : Type 0} (row : A → List ℕ) (xs : List A) (i : ℕ) (x : A) (lt
 pub none_holds : {B : Type 0} {P : Type 0} (o : Option B) → P → IfNone o P
 none_holds None p = p
 none_holds (Some b) p = tt
+
+-- and of what is given there
+pub none_given : {B : Type 0} (o : Option B) → o ≡ None → (P : B → Type 0) → IfSome o P
+none_given o none P = subst (λ x. IfSome x P) (sym none) tt

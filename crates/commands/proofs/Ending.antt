@@ -1,6 +1,6 @@
 -- What a command ends with.
 use Rattle.std.proofs.Common.{◌≡◌, ◌≢◌, ◌<◌, ℕ, List, length, Option, Some, Result, Ok, Err, ap}
-use Rattle.std.specs.Prelude.{IfOk, MatchResult, is_some}
+use Rattle.std.specs.Prelude.{IfErr, IfOk, MatchResult, is_some}
 use Rattle.image.specs.declared.refusal.BindRefusal.TheVariants as bind_refusal
 use Rattle.requests.specs.declared.refusal.Refusal.{Refusal}
 use Rattle.requests.specs.declared.refusal.Refusal.TheVariants as refusal
@@ -12,7 +12,23 @@ use Rattle.program_parts.specs.declared.status.Status.{Status}
 use Rattle.program_parts.specs.declared.status.Status.TheVariants.{Done, Refused, BadWords, Failed, NoMemory}
 use Rattle.program_parts.specs.File.{read_limit}
 use Rattle.program_parts.specs.Status.{reply_status, refusal_status}
+use Rattle.commands.specs.RunImage.{Shows}
+use Rattle.commands.specs.Status.{status_of}
+use Rattle.commands.specs.declared.fault.ScriptFault.{ScriptFault}
+use Rattle.commands.specs.declared.fault.ScriptFault.TheVariants as fault
+use Rattle.commands.specs.declared.show.Shown.{Shown}
+use Rattle.commands.specs.declared.show.Shown.TheVariants as shown
 use Rattle.commands.specs.inside.Ends.{ImageEnds, IsShown, IsNotRead}
+
+-- what was shown ends so
+pub image_shown : (file : List ℕ) (base : ℕ) (before after : Option (List ℕ)) (r : Result Shown ScriptFault) → IfOk r (Shows file base before after)
+    → IfErr r (λ why. why ≡ fault.Write) → IsShown file base before after (status_of r)
+image_shown file base before after (Ok shown.Image) ok err = ok
+image_shown file base before after (Ok shown.Refused) ok err = ok
+image_shown file base before after (Ok shown.NoMemory) ok err = ok
+image_shown file base before after (Err fault.Read) ok err = tt
+image_shown file base before after (Err fault.Write) ok err = tt
+image_shown file base before after (Err fault.OutOfMemory) ok err = absurd (cc err)
 
 shown_ends : (file : List ℕ) (base : ℕ) (asked : Option ℕ) (before after : Option (List ℕ)) (status : Status) → asked ≡ Some base
     → length file < read_limit → IsShown file base before after status → ImageEnds asked before after status

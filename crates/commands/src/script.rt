@@ -50,7 +50,8 @@ fn answer_whole<W: Write, G: TakesEvents>(
     let answer = answer_asked(binders, &asked);
     put_answer(waiting, writer, &answer)?;
     let refused = is_refused(&answer);
-    if may_wait(&asked, &answer) {
+    let waits = may_wait(&asked, &answer);
+    if waits {
         return Ok(refused);
     }
     waiting.send(writer)?;

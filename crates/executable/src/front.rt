@@ -2,6 +2,7 @@
 
 ghost use Rattle.std.specs.Prelude.{◌≡◌, ◌+◌, ◌^◌, ◌<◌, ◌≤◌, ◌++◌, length, IfOk, OnOk};
 ghost use Rattle.std.specs.List.{All};
+ghost use Rattle.std.specs.Vec.{vec_len, vec_capacity};
 ghost use Rattle.byteorder.specs.Endian.{little_bytes};
 ghost use Rattle.executable.specs.File.{file_header, header_bytes, load_header, load_headers};
 ghost use Rattle.executable.specs.File.{own_header, table_header, stack_header, table_of};
@@ -127,23 +128,21 @@ fn load_header(offset: u64, piece: &Piece) -> ProgramHeader
     }
 }
 
-/// The PT_LOADs of pieces whose pages follow one another from an offset on.
-fn put_load_headers(
-    table: &mut Vec<ProgramHeader>,
-    mut offset: u64,
-    pieces: &[Piece],
-) -> Result<(), AllocError>
+/// Puts the PT_LOADs of pieces, whose pages follow one another from an offset on, behind a table
+/// that has room for them.
+fn put_load_headers(table: &mut Vec<ProgramHeader>, mut offset: u64, pieces: &[Piece])
     requires offset { offset ≤ 2 ^ 20 }
     requires count { length pieces.now ≤ MOST_HEADERS }
     requires contents { All (λ p. length p.contents ≤ MEMORY_LIMIT) pieces.now }
-    ensures { OnOk result
-        (table.new.items ≡ table.old.items ++ load_headers offset pieces.now) }
+    requires room { vec_len table.old + length pieces.now ≤ vec_capacity table.old }
+    ensures items { table.new.items ≡ table.old.items ++ load_headers offset pieces.now }
+    ensures len { vec_len table.new ≡ vec_len table.old + length pieces.now }
+    ensures capacity { vec_capacity table.new ≡ vec_capacity table.old }
 {
     for piece in pieces {
-        table.push(load_header(offset, piece))?;
+        table.push_reserved(load_header(offset, piece));
         offset += piece_size(piece);
     }
-    Ok(())
 }
 
 /// The PT_LOAD of so many program headers at an address.
@@ -218,15 +217,15 @@ pub(crate) fn table_of(
     let count = pieces.len() + 3;
     let below = is_below(place, pieces);
     let mut table = Vec::with_capacity(alloc, count)?;
-    table.push(table_header(place, count))?;
+    table.push_reserved(table_header(place, count));
     if below {
-        table.push(own_header(place, count))?;
+        table.push_reserved(own_header(place, count));
     }
     let from = whole_pages(headers_size(count));
-    put_load_headers(&mut table, from, pieces)?;
+    put_load_headers(&mut table, from, pieces);
     if !below {
-        table.push(own_header(place, count))?;
+        table.push_reserved(own_header(place, count));
     }
-    table.push(stack_header())?;
+    table.push_reserved(stack_header());
     Ok(table)
 }

@@ -66,7 +66,7 @@ pub(crate) fn numbers_in_table(
     let mut numbers = Vec::with_capacity(alloc, names.len())?;
     for number in 0..names.len() {
         match put(names, &mut cells, number) {
-            Some(told) => numbers.push(told)?,
+            Some(told) => numbers.push_reserved(told),
             None => return Ok(None),
         }
     }

@@ -62,7 +62,7 @@ pub(crate) fn names_of<'a>(
         let stretch = stretch_of(object, last, symbol);
         let skipped = (offset_of(object, symbol) - stretch.from) as usize;
         let length = stretch.length - skipped;
-        names.push(Name::new(text_of(object, symbol, length)))?;
+        names.push_reserved(Name::new(text_of(object, symbol, length)));
         last = Some(stretch);
     }
     Ok(names)
@@ -86,7 +86,7 @@ pub(crate) fn short_names<'a>(
         if !room.take(name.len()) {
             return Ok(None);
         }
-        names.push(Name::new(name))?;
+        names.push_reserved(Name::new(name));
     }
     Ok(Some(names))
 }

@@ -128,9 +128,7 @@ fn all_bound(alloc: Global, objects: &PlacedOrder<'_>) -> Result<Vec<BoundObject
     let mut bound = Vec::with_capacity(alloc, count)?;
     for own in 0..count {
         let object = bound_object(alloc, objects, own)?;
-        let Ok(()) = bound.push(object) else {
-            return Err(BindRefusal::OutOfMemory);
-        };
+        bound.push_reserved(object);
     }
     Ok(bound)
 }

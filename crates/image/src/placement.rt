@@ -114,12 +114,12 @@ fn fitting_bases(
         return Ok(None);
     };
     let mut bases = Vec::with_capacity(alloc, count)?;
-    bases.push(base)?;
+    bases.push_reserved(base);
     for i in 1..count {
         let Some((next, next_end)) = place_behind(order.object(i).object(), end) else {
             return Ok(None);
         };
-        bases.push(next)?;
+        bases.push_reserved(next);
         end = next_end;
     }
     Ok(Some(bases))

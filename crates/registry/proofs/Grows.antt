@@ -1,10 +1,13 @@
 -- What is needed grows.
-use Rattle.std.proofs.Common.{◌≡◌, ℕ, List, [], ◌∷◌, length, take, drop, get_or, Option, Some, None, Result, Ok, Err, refl, sym, ap, ◌∙◌}
+use Rattle.std.proofs.Common.{◌≡◌, ◌+◌, ◌<◌, ◌≤◌, ◌++◌, ℕ, false, is_err, List, [], ◌∷◌, length, take, drop, get_or, Option, Some, None, Result, Ok, Err, refl, sym, ap, ◌∙◌, arith}
 use Rattle.std.specs.Prelude.{OnOk, OnErr, is_some, true}
 use Rattle.std.proofs.Math.Seq.{take-length}
+use Rattle.std.proofs.lemmas.List.{get_or-take, length-take, length_push}
 use Rattle.scope.specs.LoadOrder.{Need}
+use Rattle.scope.specs.Queue.{Queue}
 use Rattle.registry.specs.declared.needs.Needs.{Needs}
-use Rattle.registry.specs.inside.Walked.{Grows}
+use Rattle.states.specs.State.{Library}
+use Rattle.registry.specs.inside.Walked.{Grows, IsAmong}
 
 -- what follows where it went well and where it was refused
 pub on_either : {T E : Type 0} (r : Result T E) {P Q R : Type 0} → OnOk r P → OnErr r Q → (P → R) → (Q → R) → R
@@ -38,3 +41,41 @@ noted old new grows some = by old.missing refl
     by : (o : Option Need) → old.missing ≡ o → new.missing ≡ old.missing
     by None is = absurd cc
     by (Some need) is = grows.missing need is ∙ sym is
+
+-- what was added is taken off again
+pub taken_off : (old mid : Needs) (places : Queue) (missing : Option Need) (count : ℕ) → Grows old mid → count ≡ length old.places.places
+    → places ≡ record { limit = mid.places.limit; places = take count mid.places.places } → missing ≡ old.missing → ◌≡◌ {A = Needs} (record { places = places; missing = missing }) old
+taken_off old mid places missing count grows counted shorter same =
+    let begins : take count mid.places.places ≡ old.places.places = ap (λ n. take n mid.places.places) counted ∙ grows.begins in
+    let back : ◌≡◌ {A = Queue} (record { limit = mid.places.limit; places = take count mid.places.places }) old.places = (λ i. record { limit = grows.limit i; places = begins i }) in
+    let whole : places ≡ old.places = shorter ∙ back in
+    (λ i. record { places = whole i; missing = same i })
+
+-- no name was noted
+pub unnoted : (missing : Option Need) → false ≡ is_some missing → None ≡ missing
+unnoted None is = refl
+unnoted (Some need) is = cc
+
+-- what is so anyway is so where it was refused, and what was refused went not well
+pub if_refused : {T E : Type 0} {P : Type 0} (r : Result T E) → P → OnErr r P
+if_refused (Ok t) p = tt
+if_refused (Err e) p = p
+
+pub not_well : {T E : Type 0} (P : Type 0) (r : Result T E) → true ≡ is_err r → OnOk r P
+not_well P (Ok t) is = cc
+not_well P (Err e) is = tt
+
+-- a walk that has read a file of its queue is among as many files
+pub still_among : {count : ℕ} {old new : Needs} {files more : List Library} (file : Library) → IsAmong count old files → Grows old new
+    → length files + 1 < length old.places.places → more ≡ files ++ file ∷ [] → IsAmong count new more
+still_among {old = old} {new = new} {files = files} file among grows next behind = record {
+  places = record {
+    limit = grows.limit ∙ among.places.limit;
+    first = sym (get_or-take (length old.places.places) new.places.places 0 1 (omega (arith, next)))
+        ∙ ap (λ (ps : List ℕ). get_or ps 0 1) grows.begins
+        ∙ among.places.first;
+  };
+  within =
+      let longer : length old.places.places ≤ length new.places.places = omega (arith, ap length grows.begins, length-take (length old.places.places) new.places.places) in
+      omega (arith, next, longer, ap length behind, length_push files file);
+}

@@ -19,7 +19,7 @@ fn libraries_of(alloc: Global, files: &[LibraryFile]) -> Result<Vec<Library<'_>>
 {
     let mut libraries = Vec::with_capacity(alloc, files.len())?;
     for file in files {
-        libraries.push(file.library())?;
+        libraries.push_reserved(file.library());
     }
     Ok(libraries)
 }

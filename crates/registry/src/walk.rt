@@ -128,9 +128,7 @@ impl Walk {
         let file = read_library(alloc, store, source, position)?;
         self.files.reserve(1)?;
         self.needs.add_needed(alloc, store, source, file.name(), file.admitted().object())?;
-        match self.files.push(file) {
-            Ok(()) => Ok(()),
-            Err(_) => unreachable!(),
-        }
+        self.files.push_reserved(file);
+        Ok(())
     }
 }

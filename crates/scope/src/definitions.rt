@@ -21,7 +21,7 @@ pub(crate) fn no_definitions(alloc: Global, count: usize) -> Result<Vec<Definiti
 {
     let mut kept = Vec::with_capacity(alloc, count)?;
     for number in 0..count {
-        kept.push(Definition::none())?;
+        kept.push_reserved(Definition::none());
     }
     Ok(kept)
 }
@@ -145,7 +145,7 @@ pub(crate) fn own_definitions(
     for at in 0..symbols.len() {
         let place = symbols[at].object;
         kept = keep_up_to(objects, symbols, kept, place, &mut last);
-        own.push(own_one(&last[symbols[at].number as usize], place))?;
+        own.push_reserved(own_one(&last[symbols[at].number as usize], place));
     }
     Ok(own)
 }

@@ -32,7 +32,7 @@ fn admitted<'a>(
 {
     let mut all = Vec::with_capacity(alloc, objects.len())?;
     for object in objects {
-        all.push(object.object())?;
+        all.push_reserved(object.object());
     }
     Ok(all)
 }
@@ -44,7 +44,7 @@ fn no_rows(alloc: Global, objects: &[LoadedObject<'_>]) -> Result<Vec<Vec<Defini
     let mut rows = Vec::with_capacity(alloc, objects.len())?;
     for object in objects {
         let count = object.object().object().symbol_count() as usize;
-        rows.push(no_definitions(alloc, count)?)?;
+        rows.push_reserved(no_definitions(alloc, count)?);
     }
     Ok(rows)
 }

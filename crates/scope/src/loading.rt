@@ -50,7 +50,7 @@ fn objects_at<'a>(
 {
     let mut objects = Vec::with_capacity(alloc, places.len())?;
     for place in places {
-        objects.push(object_at(program, libraries, *place))?;
+        objects.push_reserved(object_at(program, libraries, *place));
     }
     Ok(objects)
 }

@@ -70,9 +70,9 @@ impl<'a> Order<'a> {
         ensures { IfOk result (λ order. order ≡ available program.now libraries.now) }
     {
         let mut objects = Vec::with_capacity(alloc, libraries.len() + 1)?;
-        objects.push(LoadedObject::new(program_name(), program))?;
+        objects.push_reserved(LoadedObject::new(program_name(), program));
         for library in libraries {
-            objects.push(LoadedObject::new(library.name(), library.object()))?;
+            objects.push_reserved(LoadedObject::new(library.name(), library.object()));
         }
         Ok(Order::new(alloc, objects))
     }

@@ -7,7 +7,7 @@ use Rattle.std.proofs.lemmas.List.Elements.{All-get_or, Contains-append_left, Co
 use Rattle.std.specs.List.{Contains, filter}
 use Rattle.sector_disk.specs.declared.moment.Moment.{Moment}
 use Rattle.sector_disk.specs.declared.written.Written.{Written}
-use Rattle.sector_disk.specs.Disk.{Sector, sector, DiskFacts, MayLeave, KeepsPast, IsUnchanged, LeavesNoMore, LeavesNowAlone, GrowsBy, StartsWith}
+use Rattle.sector_disk.specs.Disk.{IsCopy, Sector, sector, DiskFacts, MayLeave, KeepsPast, IsUnchanged, LeavesNoMore, LeavesNowAlone, GrowsBy, StartsWith}
 use Rattle.sector_disk.specs.Written.{contents, written_to, choices}
 use Rattle.sector_disk.specs.inside.WrittenLaws.{length-contents, written_to_same, written_to_other, now_chosen}
 use Rattle.sector_disk.specs.Memory.{IsPicked}
@@ -215,3 +215,22 @@ fresh start writes past no_writes no_past =
     subst (λ ws. StartsWith (facts_of start ws 0 past) (contents start ws)) (sym no_writes)
     (subst (λ p. StartsWith (facts_of start [] 0 p) start) (sym no_past)
     (record { honest = refl; sectors = refl; now = refl; alone = alone start [] 0 [] []; time = refl; failures = refl; log = refl }))
+
+-- the same sectors, writes and past make a copy
+pub copied : (start start' : List Sector) (writes writes' : List Written) (synced : ℕ) (past past' : List Moment)
+    → start' ≡ start → writes' ≡ writes → past' ≡ past → IsCopy (facts_of start writes synced past) (facts_of start' writes' synced past')
+copied start start' writes writes' synced past past' starts writes_are pasts =
+    let old = facts_of start writes synced past in
+    subst (λ l. IsCopy old (facts_of l writes' synced past')) (sym starts)
+    (subst (λ l. IsCopy old (facts_of start l synced past')) (sym writes_are)
+    (subst (λ l. IsCopy old (facts_of start writes synced l)) (sym pasts)
+    (record {
+      honest = refl;
+      sectors = refl;
+      time = refl;
+      failures = refl;
+      plans = refl;
+      log = refl;
+      now = refl;
+      past = λ u k content. (λ left. left, λ left. left);
+    })))

@@ -1,9 +1,9 @@
-use Rattle.std.proofs.Common.{◌≡◌, ◌<◌, ◌∷◌, ◌++◌, [], length, get_or, take, sym, ◌∙◌, ap, subst, arith, append_assoc}
+use Rattle.std.proofs.Common.{refl, ◌≡◌, ◌<◌, ◌∷◌, ◌++◌, [], length, get_or, take, sym, ◌∙◌, ap, subst, arith, append_assoc}
 use Rattle.store.specs.Stands.{no_library}
 use Rattle.c_answers.specs.Check.{IsFound, IsFoundAt}
 use Rattle.c_answers.specs.declared.finding.FindingPlace.{FindingPlace}
 use Rattle.c_answers.proofs.Findings.{names_fit, names_more, tell_one, tell_all}
-use Rattle.c_answers.proofs.Rows.{none_holds}
+use Rattle.c_answers.proofs.Rows.{none_holds, none_given}
 use Rattle.c_answers.proofs.check.put_findings.Goals as goal
 
 pub returns-in_err-behind-clause-unread : goal.returns-in_err-behind-clause-unread
@@ -65,3 +65,18 @@ pub returns-clause-found : goal.returns-clause-found
 returns-clause-found g c s at found =
     let now = c.loop-position in
     tell_all s.libraries now.position now.findings now.names now.at (omega (arith, c.loop-position-test.false, c.count-position-end.ensures.state s at)) (now.invariant.told s at found)
+
+pub loop-position-init : goal.loop-position-init
+loop-position-init g c = record {
+  told = λ s at found. record { each = λ k lt d. absurd (omega (arith, lt)); at = refl; names = refl };
+  at = λ s at. refl;
+}
+
+pub returns-in_err-finding-clause-found : goal.returns-in_err-finding-clause-found
+returns-in_err-finding-clause-found g c s at found = none_given c.from_residual.result c.from_residual.ensures _
+
+pub returns-in_err-behind-clause-found : goal.returns-in_err-behind-clause-found
+returns-in_err-behind-clause-found g c s at found = none_given c.from_residual-in_err-behind.result c.from_residual-in_err-behind.ensures _
+
+pub returns-in_err-at-clause-found : goal.returns-in_err-at-clause-found
+returns-in_err-at-clause-found g c s at found = none_given c.from_residual-in_err-at.result c.from_residual-in_err-at.ensures _

@@ -3,7 +3,7 @@ use Rattle.std.proofs.lemmas.List.{take_all, take_more_set}
 use Rattle.image.specs.declared.object.ImageObject.{ImageObject}
 use Rattle.c_answers.specs.Objects.{object_names, object_places}
 use Rattle.c_answers.proofs.Objects.{end_more, names_more, places_more, room_lacks, segments_le, segments_more}
-use Rattle.c_answers.proofs.Rows.{none_holds}
+use Rattle.c_answers.proofs.Rows.{none_holds, none_given}
 use Rattle.c_answers.proofs.layout.put_objects.Goals as goal
 
 pub returns-in_err-at-clause-small : goal.returns-in_err-at-clause-small
@@ -49,3 +49,12 @@ returns-clause-bytes c =
     c.loop-i.invariant.names
     ∙ ap (λ (l : List ImageObject). take c.args.from c.args.bytes.now ++ object_names l)
     (take_all c.loop-i.i c.args.image.now.objects (omega (arith, ap length c.objects-object-items.ensures.objects)))
+
+pub returns-in_err-at-clause-end : goal.returns-in_err-at-clause-end
+returns-in_err-at-clause-end c = none_given c.from_residual.result c.from_residual.ensures _
+
+pub returns-in_err-at-clause-bytes : goal.returns-in_err-at-clause-bytes
+returns-in_err-at-clause-bytes c = none_given c.from_residual.result c.from_residual.ensures _
+
+pub returns-in_err-at-clause-places : goal.returns-in_err-at-clause-places
+returns-in_err-at-clause-places c = none_given c.from_residual.result c.from_residual.ensures _

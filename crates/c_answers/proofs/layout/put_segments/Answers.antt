@@ -3,7 +3,7 @@ use Rattle.std.proofs.lemmas.List.{take_more, take_more_set}
 use Rattle.image.specs.Image.{ImageSegment}
 use Rattle.c_answers.specs.Layout.{place_of, places_of}
 use Rattle.c_answers.proofs.Places.{segment_more}
-use Rattle.c_answers.proofs.Rows.{end_more, front_more, room_lacks, none_holds}
+use Rattle.c_answers.proofs.Rows.{end_more, front_more, room_lacks, none_holds, none_given}
 use Rattle.c_answers.proofs.layout.put_segments.Goals as goal
 
 pub returns-in_err-at-clause-small : goal.returns-in_err-at-clause-small
@@ -38,3 +38,12 @@ loop-i-preserved c =
           (subst (λ (l : List ImageSegment). c.segment-item.result ≡ get_or l c.loop-i.i c.segment-item.result) c.segments-segment-items.ensures
           c.segment-item.is) ∙ sym (take_more segments i s (omega (arith, ap length c.segments-segment-items.ensures))));
     }
+
+pub returns-in_err-at-clause-end : goal.returns-in_err-at-clause-end
+returns-in_err-at-clause-end c = none_given c.from_residual.result c.from_residual.ensures _
+
+pub returns-in_err-at-clause-bytes : goal.returns-in_err-at-clause-bytes
+returns-in_err-at-clause-bytes c = none_given c.from_residual.result c.from_residual.ensures _
+
+pub returns-in_err-at-clause-places : goal.returns-in_err-at-clause-places
+returns-in_err-at-clause-places c = none_given c.from_residual.result c.from_residual.ensures _

@@ -1,7 +1,7 @@
 use Rattle.std.proofs.Common.{◌+◌, [], length, take, arith}
 use Rattle.c_answers.specs.Listing.{Entry, names_in_row}
 use Rattle.c_answers.proofs.Entries.{row, size_more, names_more, places_more, library_more, lacks}
-use Rattle.c_answers.proofs.Rows.{rows_le, none_holds}
+use Rattle.c_answers.proofs.Rows.{rows_le, none_holds, none_given}
 use Rattle.c_answers.proofs.listing.put_libraries.Goals as goal
 
 pub returns-in_err-at-clause-small : goal.returns-in_err-at-clause-small
@@ -29,3 +29,12 @@ loop-i-preserved c =
       entries = places_more 0 (take i libraries) e (take (i + 1) libraries) more [] c.loop-i.entries c.put_entry.new.entries i (i + 1) c.loop-i.at (omega (arith, was.at)) was.entries put.entries;
       names = names_more 0 (take i libraries) e (take (i + 1) libraries) more [] c.loop-i.names c.put_entry.new.names c.loop-i.at c.in_ok-at.at was.names put.names;
     }
+
+pub returns-in_err-at-clause-end : goal.returns-in_err-at-clause-end
+returns-in_err-at-clause-end c = none_given c.from_residual.result c.from_residual.ensures _
+
+pub returns-in_err-at-clause-entries : goal.returns-in_err-at-clause-entries
+returns-in_err-at-clause-entries c = none_given c.from_residual.result c.from_residual.ensures _
+
+pub returns-in_err-at-clause-names : goal.returns-in_err-at-clause-names
+returns-in_err-at-clause-names c = none_given c.from_residual.result c.from_residual.ensures _

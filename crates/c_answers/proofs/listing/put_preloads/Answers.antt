@@ -1,7 +1,7 @@
 use Rattle.std.proofs.Common.{◌≡◌, ◌∙◌, ◌+◌, ◌∷◌, ◌++◌, [], ap, length, take, arith}
 use Rattle.c_answers.specs.Listing.{names_in_row, place_of, preload_entries}
 use Rattle.c_answers.proofs.Entries.{size_more, names_more, places_more, preload_more, preloads_le, lacks}
-use Rattle.c_answers.proofs.Rows.{none_holds}
+use Rattle.c_answers.proofs.Rows.{none_holds, none_given}
 use Rattle.c_answers.proofs.listing.put_preloads.Goals as goal
 
 pub returns-in_err-at-clause-small : goal.returns-in_err-at-clause-small
@@ -36,3 +36,12 @@ loop-i-preserved c =
           (c.args.libraries + i) (c.args.libraries + (i + 1)) c.loop-i.at was.at was.entries behind;
       names = names_more c.args.from all (name, 0) next more (take c.args.from c.args.names.now) c.loop-i.names c.put_entry.new.names c.loop-i.at c.in_ok-at.at was.names put.names;
     }
+
+pub returns-in_err-at-clause-end : goal.returns-in_err-at-clause-end
+returns-in_err-at-clause-end c = none_given c.from_residual.result c.from_residual.ensures _
+
+pub returns-in_err-at-clause-entries : goal.returns-in_err-at-clause-entries
+returns-in_err-at-clause-entries c = none_given c.from_residual.result c.from_residual.ensures _
+
+pub returns-in_err-at-clause-names : goal.returns-in_err-at-clause-names
+returns-in_err-at-clause-names c = none_given c.from_residual.result c.from_residual.ensures _

@@ -1,5 +1,5 @@
 use Rattle.std.proofs.Common.{◌∙◌, ◌++◌, ap, sym, length, arith}
-use Rattle.c_answers.proofs.Rows.{none_holds}
+use Rattle.c_answers.proofs.Rows.{none_holds, none_given}
 use Rattle.c_answers.proofs.Steps.{row, begun_all, begun_more, begun_size, begun_lacks}
 use Rattle.c_answers.proofs.plan.put_steps.Goals as goal
 
@@ -29,3 +29,9 @@ returns-clause-spelled c = c.loop-planned.invariant.front ∙ begun_all c.args.s
 
 pub loop-planned-init : goal.loop-planned-init
 loop-planned-init c = record { at = c.in_ok-at.ensures.end; front = c.in_ok-at.ensures.front }
+
+pub returns-in_err-at-2-clause-end : goal.returns-in_err-at-2-clause-end
+returns-in_err-at-2-clause-end c = none_given c.from_residual-in_err-at-2.result c.from_residual-in_err-at-2.ensures _
+
+pub returns-in_err-at-2-clause-spelled : goal.returns-in_err-at-2-clause-spelled
+returns-in_err-at-2-clause-spelled c = none_given c.from_residual-in_err-at-2.result c.from_residual-in_err-at-2.ensures _

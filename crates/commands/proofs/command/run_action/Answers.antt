@@ -4,7 +4,7 @@ use Rattle.file_disk.specs.declared.disk_file.DiskFile.{DiskFile}
 use Rattle.commands.specs.Script.{Streams}
 use Rattle.commands.specs.Words.{line_of, remove}
 use Rattle.commands.specs.inside.Ends.{CommandEnds}
-use Rattle.commands.proofs.Asking.{remove_ends, preload_ends}
+use Rattle.commands.proofs.Asking.{install_ends, replace_ends, remove_ends, preload_ends, list_ends}
 use Rattle.commands.proofs.command.run_action.Goals as goal
 
 pub returns-in-Remove-clause-ends : goal.returns-in-Remove-clause-ends
@@ -18,3 +18,19 @@ returns-in-Preload-clause-ends g c =
     let io : Streams = record { unread = g.I.Read.remaining c.args.input.now; before = g.O.Write.contents c.args.output.now; after = g.O.Write.contents c.preload.new.output } in
     subst (λ a. CommandEnds DiskFile (Some (line_of a)) io c.preload.result) (sym c.in-Preload.is)
     (preload_ends _ io c.in-Preload.disk.now (map (λ name. string_bytes name) c.in-Preload.names.now) _ c.preload.ensures.ends)
+
+pub returns-in-Install-clause-ends : goal.returns-in-Install-clause-ends
+returns-in-Install-clause-ends g c =
+    let io : Streams = record { unread = g.I.Read.remaining c.args.input.now; before = g.O.Write.contents c.args.output.now; after = g.O.Write.contents c.ask_with.new.output } in
+    subst (λ a. CommandEnds DiskFile (Some (line_of a)) io c.ask_with.result) (sym c.in-Install.is) (install_ends _ io c.in-Install.disk.now c.in-Install.file.now _ c.ask_with.ensures.ends)
+
+pub returns-in-Replace-clause-ends : goal.returns-in-Replace-clause-ends
+returns-in-Replace-clause-ends g c =
+    let io : Streams = record { unread = g.I.Read.remaining c.args.input.now; before = g.O.Write.contents c.args.output.now; after = g.O.Write.contents c.ask_with-in-Replace.new.output } in
+    subst (λ a. CommandEnds DiskFile (Some (line_of a)) io c.ask_with-in-Replace.result) (sym c.in-Replace.is)
+    (replace_ends _ io c.in-Replace.disk.now c.in-Replace.file.now _ c.ask_with-in-Replace.ensures.ends)
+
+pub returns-in-List-clause-ends : goal.returns-in-List-clause-ends
+returns-in-List-clause-ends g c =
+    let io : Streams = record { unread = g.I.Read.remaining c.args.input.now; before = g.O.Write.contents c.args.output.now; after = g.O.Write.contents c.ask-in-List.new.output } in
+    subst (λ a. CommandEnds DiskFile (Some (line_of a)) io c.ask-in-List.result) (sym c.in-List.is) (list_ends _ io c.in-List.disk.now _ c.ask-in-List.ensures.ends)

@@ -31,8 +31,10 @@ loop-piece-preserved c =
     let p = c.piece-item.result in
     let small : length p.contents ≤ MEMORY_LIMIT = rw c.piece-item.is (c.requires.contents c.loop-piece.piece-index p (omega arith)) in
     record {
-      rest = step c.loop-piece.table.items c.push.new.self.items (c.args.table.now.items ++ load_headers c.args.offset c.args.pieces.now) c.args.pieces.now
+      rest = step c.loop-piece.table.items c.push_reserved.new.self.items (c.args.table.now.items ++ load_headers c.args.offset c.args.pieces.now) c.args.pieces.now
           c.loop-piece.piece-index c.loop-piece.offset (c.loop-piece.offset + c.piece_size-offset.result) p c.load_header.result
-          (omega arith) c.piece-item.is c.load_header.ensures (ap (λ (n : ℕ). c.loop-piece.offset + n) c.piece_size-offset.ensures) c.in_ok-push.ensures.items c.loop-piece.invariant.rest;
+          (omega arith) c.piece-item.is c.load_header.ensures (ap (λ (n : ℕ). c.loop-piece.offset + n) c.piece_size-offset.ensures) c.push_reserved.ensures.items c.loop-piece.invariant.rest;
+      len = omega (arith, c.push_reserved.ensures.len, c.loop-piece.invariant.len);
+      capacity = c.push_reserved.ensures.capacity ∙ c.loop-piece.invariant.capacity;
       bound = omega (arith, c.piece_size-offset.ensures, short-piece p small, c.loop-piece.invariant.bound);
     }

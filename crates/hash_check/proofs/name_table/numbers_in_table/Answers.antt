@@ -19,12 +19,13 @@ loop-number-preserved c =
     ap (λ n. take n (new ++ rest)) size ∙ take-append_seam new rest in
     let put : IsPut c.args.names.now c.loop-number.cells.items c.put.new.cells c.loop-number.number c.in-Some.told =
     subst (λ l. IsPut names l new number c.in-Some.told) c.deref_mut.ensures.value c.in-Some.ensures in
-    let more : c.push.new.self.items ≡ c.loop-number.numbers.items ++ c.in-Some.told ∷ [] = c.in_ok-push-in-Some.ensures.items in
+    let more : c.push_reserved.new.self.items ≡ c.loop-number.numbers.items ++ c.in-Some.told ∷ [] = c.push_reserved.ensures.items in
     record {
       size = omega (arith, ap length whole, c.loop-number.invariant.size, size, c.deref_mut.ensures.len, ap length c.deref_mut.ensures.value);
       few = λ k. subst (λ l. get_or l k 0 ≤ number + 1) (sym whole) (put.few k);
       long = ap length more ∙ omega (arith, length-append c.loop-number.numbers.items (c.in-Some.told ∷ []), c.loop-number.invariant.long);
-      stand = λ k lt. subst (λ l. Stands names l k (get_or c.push.new.self.items k 0)) (sym whole)
+      room = omega (arith, c.push_reserved.ensures.capacity, c.loop-number.invariant.room);
+      stand = λ k lt. subst (λ l. Stands names l k (get_or c.push_reserved.new.self.items k 0)) (sym whole)
           (subst (λ (l : List ℕ). Stands names new k (get_or l k 0)) (sym more)
           (stand-more names c.loop-number.cells.items new c.loop-number.numbers.items number c.in-Some.told put c.loop-number.invariant.long
           c.loop-number.invariant.stand k lt));

@@ -9,5 +9,9 @@ loop-symbol-preserved c =
     let xs : List ℕ = c.args.symbols.now in
     let k : ℕ = c.loop-symbol.symbol-index in
     let lt : c.loop-symbol.symbol-index < length c.args.symbols.now = omega arith in
-    c.in_ok-push.ensures.items ∙ ap (λ (l : List (List ℕ)). l ++ c.new.result ∷ []) c.loop-symbol.invariant
-    ∙ ap (λ (n : List ℕ). map (name_of file) (take k xs) ++ n ∷ []) (c.new.ensures ∙ c.name_of-name.ensures.name) ∙ sym (map_more (name_of file) xs k 0 lt)
+    record {
+      names = c.push_reserved.ensures.items ∙ ap (λ (l : List (List ℕ)). l ++ c.new.result ∷ []) c.loop-symbol.invariant.names
+          ∙ ap (λ (n : List ℕ). map (name_of file) (take k xs) ++ n ∷ []) (c.new.ensures ∙ c.name_of-name.ensures.name) ∙ sym (map_more (name_of file) xs k 0 lt);
+      len = omega (arith, c.push_reserved.ensures.len, c.loop-symbol.invariant.len);
+      room = omega (arith, c.push_reserved.ensures.capacity, c.loop-symbol.invariant.room);
+    }

@@ -13,6 +13,7 @@ unfolding undefined_refusal
 loop-own-init c =
     record {
       counted = ap length c.in_ok-bound.ensures.items;
+      room = omega (arith, c.in_ok-bound.ensures.capacity, c.count-count.ensures.count);
       each = λ k d h. absurd (omega (arith, h, ap length c.in_ok-bound.ensures.items));
       first = refl;
     }
@@ -25,8 +26,9 @@ loop-own-preserved c =
     let before : List Bound = c.loop-own.bound.items in
     let b : Bound = c.in_ok-object.object in
     record {
-      counted = ap length c.in-Ok.ensures.items ∙ length-append before (b ∷ []) ∙ ap (λ n. n + 1) c.loop-own.invariant.counted;
-      each = subst (FirstBound objects) (sym c.in-Ok.ensures.items)
+      counted = ap length c.push_reserved.ensures.items ∙ length-append before (b ∷ []) ∙ ap (λ n. n + 1) c.loop-own.invariant.counted;
+      room = omega (arith, c.push_reserved.ensures.capacity, c.loop-own.invariant.room);
+      each = subst (FirstBound objects) (sym c.push_reserved.ensures.items)
           (first-more objects before b c.loop-own.invariant.each (subst (λ n. IsBound objects n b) (sym c.loop-own.invariant.counted) c.in_ok-object.ensures.bound));
       first = object-passed (undefined_in objects) (length objects) own within c.in_ok-object.ensures.ok ∙ c.loop-own.invariant.first;
     }

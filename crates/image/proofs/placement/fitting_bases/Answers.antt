@@ -15,9 +15,11 @@ loop-i-init c =
     let some = order-some os c.count-count.ensures.order in
     let same : c.object-2.result.now ≡ file_at os 0 = c.object-2.ensures.same ∙ c.object.ensures.file in
     let is : end ≡ base + reach (file_at os 0) = c.in-Some.ensures.0 ∙ ap (λ f. base + reach f) same in
-    let items : c.push.new.self.items ≡ base ∷ [] = c.in_ok-push.ensures.items ∙ ap (λ (l : List ℕ). l ++ base ∷ []) c.in_ok-bases.ensures.items in
+    let items : c.push_reserved.new.self.items ≡ base ∷ [] = c.push_reserved.ensures.items ∙ ap (λ (l : List ℕ). l ++ base ∷ []) c.in_ok-bases.ensures.items in
     record {
       low = c.in-Some.ensures.1;
+      len = omega (arith, c.push_reserved.ensures.len, c.in_ok-bases.ensures.len);
+      space = omega (arith, c.push_reserved.ensures.capacity, c.in_ok-bases.ensures.capacity, c.count-count.ensures.count);
       bases = init-bases base end os some is ∙ ap (λ (l : List ℕ). l ++ bases_of (place_after end (drop 1 os))) (sym items);
       room = init-room base end os some is c.in-Some.ensures.1;
     }
@@ -38,10 +40,12 @@ loop-i-preserved c =
     let old : List ℕ = c.loop-i.bases.items in
     record {
       low = t.2;
+      len = omega (arith, c.push_reserved-in-loop-i.ensures.len, c.loop-i.invariant.len);
+      space = omega (arith, c.push_reserved-in-loop-i.ensures.capacity, c.loop-i.invariant.space);
       bases =
           c.loop-i.invariant.bases ∙ ap (λ (l : List ℕ). old ++ l) (step-bases end next new i os within at is)
           ∙ sym (append_assoc old (next ∷ []) (bases_of (place_after new (drop (i + 1) os))))
-          ∙ ap (λ (l : List ℕ). l ++ bases_of (place_after new (drop (i + 1) os))) (sym c.in_ok-push-2.ensures.items);
+          ∙ ap (λ (l : List ℕ). l ++ bases_of (place_after new (drop (i + 1) os))) (sym c.push_reserved-in-loop-i.ensures.items);
       room = c.loop-i.invariant.room ∙ step-room end next new i os within at is t.2;
     }
 
@@ -69,20 +73,4 @@ returns-in_err-bases-clause-memory c =
     let same : c.object-2.result.now ≡ file_at os 0 = c.object-2.ensures.same ∙ c.object.ensures.file in
     let is : c.in-Some.end ≡ c.args.base + reach (file_at os 0) = c.in-Some.ensures.0 ∙ ap (λ f. c.args.base + reach f) same in
     let p = err_from_is_err_and c.from_residual.result c.from_residual.ensures.1 in
-    rw p.1 (first-fits c.args.base c.in-Some.end os (order-some os c.count-count.ensures.order) is c.in-Some.ensures.1)
-
-pub returns-in_err-push-clause-memory : goal.returns-in_err-push-clause-memory
-returns-in_err-push-clause-memory c =
-    let os = c.args.order.now in
-    let same : c.object-2.result.now ≡ file_at os 0 = c.object-2.ensures.same ∙ c.object.ensures.file in
-    let is : c.in-Some.end ≡ c.args.base + reach (file_at os 0) = c.in-Some.ensures.0 ∙ ap (λ f. c.args.base + reach f) same in
-    let p = err_from_is_err_and c.from_residual-in_err-push.result c.from_residual-in_err-push.ensures.1 in
-    rw p.1 (first-fits c.args.base c.in-Some.end os (order-some os c.count-count.ensures.order) is c.in-Some.ensures.1)
-
-pub returns-in_err-push-2-clause-memory : goal.returns-in_err-push-2-clause-memory
-returns-in_err-push-2-clause-memory c =
-    let os = c.args.order.now in
-    let same : c.object-2.result.now ≡ file_at os 0 = c.object-2.ensures.same ∙ c.object.ensures.file in
-    let is : c.in-Some.end ≡ c.args.base + reach (file_at os 0) = c.in-Some.ensures.0 ∙ ap (λ f. c.args.base + reach f) same in
-    let p = err_from_is_err_and c.from_residual-in_err-push-2.result c.from_residual-in_err-push-2.ensures.1 in
     rw p.1 (first-fits c.args.base c.in-Some.end os (order-some os c.count-count.ensures.order) is c.in-Some.ensures.1)

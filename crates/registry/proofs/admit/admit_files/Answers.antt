@@ -1,9 +1,12 @@
-use Rattle.std.proofs.Common.{◌<◌, ◌≤◌, length, sym, subst, ◌∙◌, arith}
+use Rattle.std.proofs.Common.{◌≡◌, ◌<◌, ◌≤◌, length, take, sum_by, sym, subst, ◌∙◌, arith}
+use Rattle.std.proofs.lemmas.List.{take_all}
+use Rattle.sector_disk.specs.Disk.{AreCallsExactly}
 use Rattle.std.proofs.lemmas.Result.{err_from_is_err_and}
 use Rattle.sector_disk.proofs.Moments.{exactly_none}
 use Rattle.store.proofs.IsReadLemmas.{read_more, read_none}
 use Rattle.registry.specs.inside.Reading.{IsReadRefusal}
 use Rattle.registry.proofs.Files.{one_admitted, one_refused, all_admitted, refused_more}
+use Rattle.store.specs.IsRead.{file_sectors}
 use Rattle.registry.proofs.admit.admit_files.Goals as goal
 
 pub returns-in_err-buffer-clause-read : goal.returns-in_err-buffer-clause-read
@@ -37,3 +40,14 @@ loop-position-init g c = record {
   each = λ s at k lt. absurd (omega (arith, lt));
   calls = exactly_none (g.D.Disk.facts c.args.store.now.disk);
 }
+
+pub returns-clause-all_calls : goal.returns-clause-all_calls
+returns-clause-all_calls g c =
+    let facts = g.D.Disk.facts in
+    let start = c.args.store.now in
+    let all : take c.loop-position.position start.entries ≡ start.entries =
+    take_all c.loop-position.position start.entries (omega (arith, c.loop-position-test.false, c.count-position-end.ensures.value)) in
+    subst (λ entries. AreCallsExactly (sum_by file_sectors entries) (facts start.disk) (facts c.loop-position.store.disk)) all c.loop-position.invariant.calls
+
+pub returns-clause-read : goal.returns-clause-read
+returns-clause-read g c = c.loop-position.invariant.read

@@ -1,13 +1,19 @@
-use Rattle.std.proofs.Common.{◌≡◌, ◌+◌, ◌∙◌, length, refl, sym, ap, subst, arith}
+use Rattle.std.proofs.Common.{◌≡◌, ◌+◌, ◌∙◌, List, All, length, sum_by, refl, sym, ap, subst, arith}
 use Rattle.std.proofs.lemmas.List.{length_push}
-use Rattle.std.proofs.lemmas.List.Elements.{All-push}
+use Rattle.std.proofs.lemmas.List.Elements.{All-nil, All-push}
 use Rattle.std.proofs.lemmas.Result.{err_from_is_err_and}
 use Rattle.scope.specs.Queue.{AreApart}
 use Rattle.requests.specs.Library.{IsLibrary}
 use Rattle.registry.specs.inside.Walked.{IsWalked}
 use Rattle.store.proofs.IsReadLemmas.{read_more, read_none}
 use Rattle.registry.proofs.FilesRead.{all_read, libraries_read, missing_read, next_is_library}
-use Rattle.registry.proofs.Sources.{HasCome, come_more, come_offers}
+use Rattle.registry.proofs.Sources.{HasCome, come_more, come_offers, offers_current}
+use Rattle.sector_disk.specs.Disk.{AreCallsExactly}
+use Rattle.sector_disk.proofs.Moments.{exactly_none}
+use Rattle.states.specs.State.{Library}
+use Rattle.registry.specs.Binding.{data_sectors}
+use Rattle.registry.specs.inside.Reading.{IsReadRefusal}
+use Rattle.registry.proofs.Files.{refused_more}
 use Rattle.registry.proofs.needed.read_needed.Goals as goal
 
 pub loop-source-preserved : goal.loop-source-preserved
@@ -61,3 +67,25 @@ returns-clause-read g c = c.loop-source.invariant.read
 
 pub returns-clause-all_calls : goal.returns-clause-all_calls
 returns-clause-all_calls g c = c.loop-source.invariant.calls
+
+pub returns-in_err-step-clause-refusals : goal.returns-in_err-step-clause-refusals
+returns-in_err-step-clause-refusals g c =
+    let p = err_from_is_err_and c.from_residual-in_err-step.result c.from_residual-in_err-step.ensures.1 in
+    rw p.1 (refused_more c.step.new.store p.0 c.loop-source.invariant.read
+    (subst (IsReadRefusal g.D.Disk.facts c.loop-source.store c.step.new.store) (sym p.2) c.in_err-step.ensures.refusals))
+
+pub step-requires-clause-next : goal.step-requires-clause-next
+step-requires-clause-next g c = c.loop-source-test.ensures.yes refl
+
+pub loop-source-init : goal.loop-source-init
+loop-source-init g c =
+    let start = c.args.store.now in
+    let none = c.in_ok-walk.ensures.none in
+    let disk = g.D.Disk.facts start.disk in
+    record {
+      walked = c.in_ok-walk.ensures.ok start (offers_current g.D.Disk.facts start c.entries_are_sound.ensures.own_names);
+      libraries = subst (All IsLibrary) (sym none) (All-nil IsLibrary);
+      own = c.entries_are_sound.ensures.own_names;
+      read = read_none start;
+      calls = subst (λ (files : List Library). AreCallsExactly (sum_by (λ (f : Library). data_sectors f.bytes) files) disk disk) (sym none) (exactly_none disk);
+    }

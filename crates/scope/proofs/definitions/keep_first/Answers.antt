@@ -1,9 +1,10 @@
 use Rattle.std.proofs.Common.{◌≡◌, ◌<◌, ◌+◌, ◌∙◌, List, length, Bool, true, false, Option, Some, None, refl, sym, arith, subst, set}
 use Rattle.std.specs.Prelude.{is_some, not}
 use Rattle.std.proofs.lemmas.Bool.{false≢true}
-use Rattle.std.proofs.lemmas.List.{get_or_default}
+use Rattle.std.proofs.lemmas.List.{get_or_default, length-map}
 use Rattle.hash_check.specs.Numbered.{nth_symbol}
 use Rattle.hash_check.specs.declared.numbered.NumberedSymbol.{NumberedSymbol}
+use Rattle.scope.specs.Objects.{Named}
 use Rattle.scope.specs.declared.target.Target.{Target}
 use Rattle.scope.specs.inside.Definitions.{nth_target, AreFirst}
 use Rattle.scope.proofs.Kept.{first-new}
@@ -26,3 +27,9 @@ returns-then-is_exported c =
     subst (λ (x : Option Target). AreFirst c.args.objects.now all (c.args.at + 1) (set c.args.first.now (nth_symbol all c.args.at).number x)) (sym c.at.ensures)
     (first-new c.args.objects.now all c.args.first.now c.args.at c.requires.at c.requires.first
     (sym c.is_exported.ensures ∙ c.if-is_exported.true) room none)
+
+pub overflow_cast-symbol : goal.overflow_cast-symbol
+overflow_cast-symbol c = omega (arith, (c.requires.numbered.are.each c.args.at c.requires.at).there, length-map c.args.objects.now (λ (o : Named). o.file), c.requires.few)
+
+pub is_exported-requires-clause-there : goal.is_exported-requires-clause-there
+is_exported-requires-clause-there c = omega (arith, (c.requires.numbered.are.each c.args.at c.requires.at).there, length-map c.args.objects.now (λ (o : Named). o.file))

@@ -32,7 +32,8 @@ loop-at-preserved c =
       last = subst (AreLast objects all c.keep_up_to-kept.result) (sym whole) last;
       within = up_to.within;
       low = λ j k before behind within. omega (arith, up_to.low j before, c.requires.numbered.are.rising c.loop-at.at k (omega (arith, behind)) within);
-      count = omega (arith, ap length c.in_ok-push.ensures.items, length-append c.loop-at.own.items (c.own_one.result ∷ []), c.loop-at.invariant.count);
-      own = λ k le. subst (λ (l : List (Option Target)). nth_target l k ≡ own_definition objects (nth_symbol all k)) (sym c.in_ok-push.ensures.items)
+      count = omega (arith, ap length c.push_reserved.ensures.items, length-append c.loop-at.own.items (c.own_one.result ∷ []), c.loop-at.invariant.count);
+      room = omega (arith, c.push_reserved.ensures.capacity, c.loop-at.invariant.room);
+      own = λ k le. subst (λ (l : List (Option Target)). nth_target l k ≡ own_definition objects (nth_symbol all k)) (sym c.push_reserved.ensures.items)
           (own-more objects all c.loop-at.own.items c.loop-at.at c.own_one.result c.loop-at.invariant.count c.loop-at.invariant.own is k le);
     }

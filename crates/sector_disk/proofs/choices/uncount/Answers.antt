@@ -29,6 +29,10 @@ loop-write-init c k lt = c.requires.counted k lt ∙ ap (λ ws. length (written_
 pub bounds-counts-write : goal.bounds-counts-write
 bounds-counts-write c = omega (arith, in_range c.args.writes.now c.args.start c.loop-write.write-index (length c.args.counts.now) c.requires.in_range c.loop-write-test.true)
 
+pub bounds-counts-write-in-loop-write : goal.bounds-counts-write-in-loop-write
+bounds-counts-write-in-loop-write c =
+    omega (arith, in_range c.args.writes.now c.args.start c.loop-write.write-index (length c.args.counts.now) c.requires.in_range c.loop-write-test.true, c.loop-write.auto.counts)
+
 pub overflow_sub-counts : goal.overflow_sub-counts
 overflow_sub-counts c =
     let i = c.loop-write.write-index in

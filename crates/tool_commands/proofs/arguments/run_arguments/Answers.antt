@@ -1,5 +1,5 @@
-use Rattle.std.proofs.Common.{◌≡◌, map, None, Result, Ok, sym, subst}
-use Rattle.std.specs.Prelude.{IfOk, IfSome, string_bytes}
+use Rattle.std.proofs.Common.{◌≡◌, map, None, Result, Ok, Err, refl, sym, subst}
+use Rattle.std.specs.Prelude.{IfOk, IfSome, OnErr, string_bytes}
 use Rattle.file_disk.specs.declared.disk_file.DiskFile.{DiskFile}
 use Rattle.tool_commands.specs.Form.{command_line}
 use Rattle.tool_commands.specs.Outcome.{LineEnds}
@@ -27,3 +27,34 @@ returns-in-Ok-clause-ends g c =
     (λ list. IfSome (command_line (map (λ word. string_bytes word) list.items)) (λ line. LineEnds DiskFile line before after c.run_words.result))
     (subst (λ l. IfSome (command_line (map (λ word. string_bytes word) l)) (λ line. LineEnds DiskFile line before after c.run_words.result))
     c.deref.ensures.value c.run_words.ensures.ends)
+
+-- words that weren't read, of which one thing is known where they were, and another where they weren't
+were_not : {T E : Type 0} (r : Result T E) (e : E) → r ≡ Err e → (P : T → Type 0) → IfOk r P
+were_not r e is P = subst (λ o. IfOk o P) (sym is) tt
+
+failed : {T E : Type 0} (r : Result T E) (e : E) → r ≡ Err e → {P : Type 0} → P → OnErr r P
+failed r e is {P = P} h = subst (λ o. OnErr o P) (sym is) h
+
+pub returns-in-Err-clause-bad_words : goal.returns-in-Err-clause-bad_words
+returns-in-Err-clause-bad_words g c = were_not c.args.words _ c.in-Err.is _
+
+pub returns-in-Err-clause-form : goal.returns-in-Err-clause-form
+returns-in-Err-clause-form g c = were_not c.args.words _ c.in-Err.is _
+
+pub returns-in-Err-clause-ends : goal.returns-in-Err-clause-ends
+returns-in-Err-clause-ends g c = were_not c.args.words _ c.in-Err.is _
+
+pub returns-in-Err-clause-same : goal.returns-in-Err-clause-same
+returns-in-Err-clause-same g c = failed c.args.words _ c.in-Err.is refl
+
+pub returns-in-Err-2-clause-bad_words : goal.returns-in-Err-2-clause-bad_words
+returns-in-Err-2-clause-bad_words g c = were_not c.args.words _ c.in-Err-2.is _
+
+pub returns-in-Err-2-clause-form : goal.returns-in-Err-2-clause-form
+returns-in-Err-2-clause-form g c = were_not c.args.words _ c.in-Err-2.is _
+
+pub returns-in-Err-2-clause-ends : goal.returns-in-Err-2-clause-ends
+returns-in-Err-2-clause-ends g c = were_not c.args.words _ c.in-Err-2.is _
+
+pub returns-in-Err-2-clause-same : goal.returns-in-Err-2-clause-same
+returns-in-Err-2-clause-same g c = failed c.args.words _ c.in-Err-2.is refl

@@ -39,3 +39,13 @@ pub returns-in-File-clause-told : goal.returns-in-File-clause-told
 returns-in-File-clause-told g c =
     subst (λ f. FormTells (question_of f) (g.O.Write.contents c.args.output.now) (g.O.Write.contents c.run_file.new.output) c.run_file.result)
     (sym c.in-File.is) c.run_file.ensures.told
+
+pub returns-in-Dump-clause-ends : goal.returns-in-Dump-clause-ends
+returns-in-Dump-clause-ends g c s at =
+    subst (λ f. FormEnds g.D.Disk.facts c.args.contents.now s (question_of f) (g.O.Write.contents c.args.output.now) (g.O.Write.contents c.run_dump.new.output) c.run_dump.result)
+    (sym c.in-Dump.is) (c.run_dump.ensures.ends s at)
+
+pub returns-in-Dump-clause-told : goal.returns-in-Dump-clause-told
+returns-in-Dump-clause-told g c =
+    subst (λ f. FormTells (question_of f) (g.O.Write.contents c.args.output.now) (g.O.Write.contents c.run_dump.new.output) c.run_dump.result)
+    (sym c.in-Dump.is) c.run_dump.ensures.told

@@ -1,6 +1,7 @@
 use Rattle.std.proofs.Common.{◌≡◌, ℕ, List, get_or, rules, sym, subst, ◌∙◌}
 use Rattle.store.specs.Opened.{IsAt}
 use Rattle.store.specs.Stands.{no_library}
+use Rattle.store.proofs.IsReadLemmas.{read_none}
 use Rattle.contents.specs.File.{HasFile}
 use Rattle.tool_commands.proofs.Named.{is_given, is_lacking, lacks}
 use Rattle.tool_commands.proofs.sound.sound_file.Goals as goal
@@ -32,3 +33,6 @@ returns-clause-lack g c = (no_library, c.in-Err.ensures.err no_library)
 
 pub returns-in_err-name-clause-lack : goal.returns-in_err-name-clause-lack
 returns-in_err-name-clause-lack g c = lacks no_library c.from_residual.result (search (rules, c.from_residual.ensures, c.in_err-name.ensures))
+
+pub returns-in_err-name-clause-read : goal.returns-in_err-name-clause-read
+returns-in_err-name-clause-read g c = read_none c.args.contents.now

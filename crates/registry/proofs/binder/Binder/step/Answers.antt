@@ -72,3 +72,6 @@ pub step-requires-clause-among : goal.step-requires-clause-among
 step-requires-clause-among g c =
     let binder : Binding = record { program = c.self.inside.program.items; base = c.self.inside.base; snapshot = c.self.inside.snapshot; found = found_of c.self.inside.walk } in
     (subst (λ (o : Option Walk). IsReadyFor binder (found_of o)) c.in-Some.is c.self.invariant).1
+
+pub returns-in_default-clause-read : goal.returns-in_default-clause-read
+returns-in_default-clause-read g c = read_none c.args.store.now

@@ -36,3 +36,15 @@ pub returns-clause-all_calls : goal.returns-clause-all_calls
 returns-clause-all_calls g c s at =
     subst (λ f. IfOk c.bind_admitted.result (λ _. AreCallsExactly (bind_sectors s f) (g.D.Disk.facts c.args.self.now.disk) (g.D.Disk.facts c.bind_admitted.new.self.disk)))
     c.in_ok-program.ensures.same (c.bind_admitted.ensures.all_calls s at)
+
+pub returns-clause-device : goal.returns-clause-device
+returns-clause-device g c = c.bind_admitted.ensures.device
+
+pub returns-clause-reopen : goal.returns-clause-reopen
+returns-clause-reopen g c = c.bind_admitted.ensures.reopen
+
+pub returns-clause-refusals : goal.returns-clause-refusals
+returns-clause-refusals g c = c.bind_admitted.ensures.refusals
+
+pub returns-clause-alone : goal.returns-clause-alone
+returns-clause-alone g c refused = absurd (refused c.in_ok-program.ensures.accepted)

@@ -1,4 +1,4 @@
-use Rattle.std.proofs.Common.{◌≡◌, true, IsFalse, sym, subst, ◌∙◌}
+use Rattle.std.proofs.Common.{◌≡◌, ◌+◌, length, true, IsTrue, IsFalse, sym, subst, ◌∙◌}
 use Rattle.std.proofs.lemmas.Bool.{false≢true}
 use Rattle.std.proofs.lemmas.Result.{err_from_is_err_and}
 use Rattle.requests.specs.Reading.{IsLibraryRefusal}
@@ -12,6 +12,13 @@ use Rattle.registry.proofs.Putting.{installed, install_no_library, install_there
 use Rattle.registry.proofs.States.{same_sectors}
 use Rattle.store.specs.HeldVersions.{KeepsHeld}
 use Rattle.registry.proofs.Keeping.{keeps_held_same}
+use Rattle.std.specs.Int.{div_ceil}
+use Rattle.sector_disk.specs.Disk.{sector_bytes}
+use Rattle.states.specs.Cost.{catalogues_for}
+use Rattle.store.specs.Changed.{Changed}
+use Rattle.requests.specs.declared.refusal.Refusal.TheVariants.{Device, Reopen, AlreadyInstalled}
+use Rattle.registry.specs.Answered.{IsInstallRefusal}
+use Rattle.registry.proofs.Changed.{changed_in_words, changed_refused, changed_reopen, library_refused, install_may}
 use Rattle.registry.proofs.registry.Registry.install.Goals as goal
 
 pub returns-in_err-name-clause-applied : goal.returns-in_err-name-clause-applied
@@ -63,3 +70,26 @@ returns-then-has_failed-clause-applied g c s at =
 
 pub in_words-requires : goal.in_words-requires
 in_words-requires g c = c.put_new.ensures.on_any_disk.refusals
+
+pub returns-then-has_failed-clause-on_any_disk : goal.returns-then-has_failed-clause-on_any_disk
+returns-then-has_failed-clause-on_any_disk g c =
+    changed_reopen g.D.Disk.facts c.args.self.now (subst (λ (r : Opened g.row.D.Denot). IsTrue r.failed) c.self.view_is (sym c.has_failed.ensures.value ∙ c.if-has_failed.true)) tt
+
+pub returns-in_err-name-clause-on_any_disk : goal.returns-in_err-name-clause-on_any_disk
+returns-in_err-name-clause-on_any_disk g c =
+    let p = err_from_is_err_and c.from_residual.result c.from_residual.ensures.1 in
+    let is = library_refused c.args.bytes.now p.0 (subst (IsLibraryRefusal c.args.bytes.now) (sym p.2) c.in_err-name.ensures.refused) in
+    let usable : IsFalse c.args.self.now.failed = subst (λ (r : Opened g.row.D.Denot). IsFalse r.failed) c.self.view_is (sym c.has_failed.ensures.value ∙ c.if-has_failed.false) in
+    rw p.1 (changed_refused g.D.Disk.facts c.args.self.now p.0 usable is.0 is.1 is.2)
+
+pub returns-then-is_some-clause-on_any_disk : goal.returns-then-is_some-clause-on_any_disk
+returns-then-is_some-clause-on_any_disk g c =
+    let usable : IsFalse c.args.self.now.failed = subst (λ (r : Opened g.row.D.Denot). IsFalse r.failed) c.self.view_is (sym c.has_failed.ensures.value ∙ c.if-has_failed.false) in
+    changed_refused g.D.Disk.facts c.args.self.now AlreadyInstalled usable (λ is. cc) (λ is. cc) tt
+
+pub returns-clause-on_any_disk : goal.returns-clause-on_any_disk
+returns-clause-on_any_disk g c =
+    let facts = g.D.Disk.facts in
+    let changed = λ (k : Opened g.row.D.Denot). Changed facts Device Reopen k c.put_new.new.self
+    (div_ceil (length c.args.bytes.now) sector_bytes + catalogues_for (length k.entries + 1) + 4) IsInstallRefusal c.in_words.result in
+    subst changed c.self.view_is (rw c.in_words.ensures (changed_in_words facts IsInstallRefusal install_may c.put_new.result c.put_new.ensures.on_any_disk))

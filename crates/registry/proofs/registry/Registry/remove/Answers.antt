@@ -1,4 +1,4 @@
-use Rattle.std.proofs.Common.{◌≡◌, Err, refl, sym, ap, subst, ◌∙◌}
+use Rattle.std.proofs.Common.{◌≡◌, ◌+◌, ◌-◌, length, Err, refl, sym, ap, subst, ◌∙◌}
 use Rattle.std.specs.Option.{option_map}
 use Rattle.std.proofs.lemmas.Result.{err_from_is_err_and}
 use Rattle.states.specs.Changes.{without}
@@ -15,6 +15,12 @@ use Rattle.registry.proofs.Changed.{change_ample, change_may}
 use Rattle.registry.proofs.Tested.{last_change, change_deviceless}
 use Rattle.store.specs.HeldVersions.{KeepsHeld}
 use Rattle.registry.proofs.Keeping.{keeps_held_same}
+use Rattle.states.specs.Cost.{catalogues_for}
+use Rattle.store.specs.Changed.{Changed}
+use Rattle.store.specs.Opened.{Opened}
+use Rattle.requests.specs.declared.refusal.Refusal.TheVariants.{Device, Reopen}
+use Rattle.registry.specs.Answered.{IsRemoveRefusal}
+use Rattle.registry.proofs.Changed.{changed_in_words, changed_none, remove_may}
 use Rattle.registry.proofs.registry.Registry.remove.Goals as goal
 
 pub returns-in_err-test_remove-clause-applied : goal.returns-in_err-test_remove-clause-applied
@@ -45,3 +51,15 @@ returns-in_err-test_remove-clause-held g c = keeps_held_same g.D.Disk.facts c.ar
 
 pub returns-clause-held : goal.returns-clause-held
 returns-clause-held g c = subst (λ k. KeepsHeld g.D.Disk.facts k c.delete.new.self) c.self.view_is c.delete.ensures.held
+
+pub returns-in_err-test_remove-clause-on_any_disk : goal.returns-in_err-test_remove-clause-on_any_disk
+returns-in_err-test_remove-clause-on_any_disk g c =
+    let p = err_from_is_err_and c.from_residual.result c.from_residual.ensures.1 in
+    let tested = c.in_err-test_remove.ensures in
+    rw (p.1 ∙ ap Err p.2) (changed_none g.D.Disk.facts c.args.self.now c.in_err-test_remove.field-0.0 tested.reopen tested.device tested.refusals)
+
+pub returns-clause-on_any_disk : goal.returns-clause-on_any_disk
+returns-clause-on_any_disk g c =
+    let facts = g.D.Disk.facts in
+    let changed = λ (k : Opened g.row.D.Denot). Changed facts Device Reopen k c.delete.new.self (catalogues_for (length k.entries - 1) + 3) IsRemoveRefusal c.in_words.result in
+    subst changed c.self.view_is (rw c.in_words.ensures (changed_in_words facts IsRemoveRefusal remove_may c.delete.result c.delete.ensures.on_any_disk))

@@ -16,6 +16,10 @@ use Rattle.registry.proofs.Changed.{change_ample, change_may}
 use Rattle.registry.proofs.Tested.{last_change, change_deviceless}
 use Rattle.store.specs.HeldVersions.{KeepsHeld}
 use Rattle.registry.proofs.Keeping.{keeps_held_same}
+use Rattle.store.specs.Changed.{Changed}
+use Rattle.requests.specs.declared.refusal.Refusal.TheVariants.{Device, Reopen}
+use Rattle.registry.specs.Answered.{IsPreloadsRefusal}
+use Rattle.registry.proofs.Changed.{changed_in_words, changed_none, preloads_may}
 use Rattle.registry.proofs.registry.Registry.set_preloads.Goals as goal
 
 pub returns-in_err-positions-clause-applied : goal.returns-in_err-positions-clause-applied
@@ -50,3 +54,15 @@ returns-in_err-positions-clause-held g c = keeps_held_same g.D.Disk.facts c.args
 
 pub returns-clause-held : goal.returns-clause-held
 returns-clause-held g c = subst (λ k. KeepsHeld g.D.Disk.facts k c.set_preloads.new.self) c.self.view_is c.set_preloads.ensures.held
+
+pub returns-in_err-positions-clause-on_any_disk : goal.returns-in_err-positions-clause-on_any_disk
+returns-in_err-positions-clause-on_any_disk g c =
+    let p = err_from_is_err_and c.from_residual.result c.from_residual.ensures.1 in
+    let tested = c.in_err-positions.ensures in
+    rw (p.1 ∙ ap Err p.2) (changed_none g.D.Disk.facts c.args.self.now c.in_err-positions.field-0.0 tested.reopen tested.device tested.refusals)
+
+pub returns-clause-on_any_disk : goal.returns-clause-on_any_disk
+returns-clause-on_any_disk g c =
+    let facts = g.D.Disk.facts in
+    subst (λ k. Changed facts Device Reopen k c.set_preloads.new.self 2 IsPreloadsRefusal c.in_words.result) c.self.view_is
+    (rw c.in_words.ensures (changed_in_words facts IsPreloadsRefusal preloads_may c.set_preloads.result c.set_preloads.ensures.on_any_disk))

@@ -29,3 +29,18 @@ returns-in-None-clause-refused g c s at =
       preloads_lacking p names (sym c.are_too_many.ensures ∙ c.if-are_too_many.false) (sym c.has_repeat.ensures ∙ c.if-has_repeat.false) ((c.in-None.ensures.lacking s at).0 refl),
       leads_same p,
     )
+
+pub returns-then-has_failed-clause-device : goal.returns-then-has_failed-clause-device
+returns-then-has_failed-clause-device g c is = cc
+
+pub returns-then-are_too_many-clause-device : goal.returns-then-are_too_many-clause-device
+returns-then-are_too_many-clause-device g c is = cc
+
+pub returns-then-has_repeat-clause-device : goal.returns-then-has_repeat-clause-device
+returns-then-has_repeat-clause-device g c is = cc
+
+pub returns-in-Some-clause-device : goal.returns-in-Some-clause-device
+returns-in-Some-clause-device g c is = cc
+
+pub returns-in-None-clause-device : goal.returns-in-None-clause-device
+returns-in-None-clause-device g c is = cc

@@ -29,3 +29,9 @@ returns-clause-ok g c taken offers =
     ∙ ap (λ (n : ℕ). let q : Queue = record { limit = n + 1; places = level_0 c.deref.result.now } in after q) (c.count.ensures.count ∙ count)
     ∙ ap (λ (l : List ℕ). more_needs names (first_needs (length taken.entries + 1) l) program_name (needed c.args.program.now))
     (c.deref.ensures.value ∙ c.in_ok-preloads.ensures.same ∙ offers.preloads)))
+
+pub add_needed-requires : goal.add_needed-requires
+add_needed-requires g c = ap (λ (q : Queue). q.limit) c.in_ok-places.ensures ∙ ap (λ (n : ℕ). n + 1) c.count.ensures.count
+
+pub returns-clause-none : goal.returns-clause-none
+returns-clause-none g c = c.new-files.ensures.items

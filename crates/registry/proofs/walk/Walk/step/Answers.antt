@@ -13,6 +13,8 @@ use Rattle.store.specs.NameOrder.{entry_names}
 use Rattle.registry.specs.inside.Walked.{IsWalked, more_needs, next_place}
 use Rattle.registry.proofs.FilesRead.{one_read}
 use Rattle.registry.proofs.Sources.{entries_read}
+use Rattle.registry.proofs.Grows.{still_among}
+use Rattle.registry.proofs.Sources.{count_read}
 use Rattle.registry.proofs.walk.Walk.step.Goals as goal
 
 -- the calls for the file of a place
@@ -33,7 +35,7 @@ returns-clause-walked g c program taken offers so_far =
     let f : Library = c.in_ok-file.file in
     let apart : AreApart (length taken.entries + 1) before.places.places = subst (λ k. AreApart k before.places.places) so_far.among.places.limit c.next_position-position.ensures.apart in
     let has = entries_read g.D.Disk.facts c.args.store.now c.read_library.new.store c.read_library.ensures.read c.args.source taken.entries offers.entries in
-    subst (IsWalked g.D.Disk.facts program taken c.add_needed.new.self) (sym (c.in-Ok.ensures.items ∙ ap (λ (l : List Library). l ++ f ∷ []) c.reserve.ensures.items))
+    subst (IsWalked g.D.Disk.facts program taken c.add_needed.new.self) (sym (c.push_reserved.ensures.items ∙ ap (λ (l : List Library). l ++ f ∷ []) c.reserve.ensures.items))
     (one_read g.D.Disk.facts program taken (g.met.D.Disk.holds_now taken.disk) so_far apart c.requires.next f
     (λ t at. c.in_ok-file.ensures.ok t (offers.files t at) ∙ ap (λ (k : ℕ). get_or t.libraries k no_library) c.next_position-position.ensures.next)
     c.add_needed.new.self
@@ -68,8 +70,17 @@ returns-clause-read g c = c.read_library.ensures.read
 pub returns-clause-next : goal.returns-clause-next
 returns-clause-next g c = record {
   file = c.in_ok-file.file;
-  behind = c.in-Ok.ensures.items ∙ ap (λ (l : List Library). l ++ c.in_ok-file.file ∷ []) c.reserve.ensures.items;
+  behind = c.push_reserved.ensures.items ∙ ap (λ (l : List Library). l ++ c.in_ok-file.file ∷ []) c.reserve.ensures.items;
   library = c.in_ok-file.ensures.library;
   is = λ s has. c.in_ok-file.ensures.ok s has ∙ ap (λ (k : ℕ). get_or s.libraries k no_library) c.next_position-position.ensures.next;
   calls = c.in_ok-file.ensures.all_calls;
 }
+
+pub returns-clause-among : goal.returns-clause-among
+returns-clause-among g c =
+    still_among c.in_ok-file.file c.requires.among c.add_needed.ensures.grows c.requires.next
+    (c.push_reserved.ensures.items ∙ ap (λ (l : List Library). l ++ c.in_ok-file.file ∷ []) c.reserve.ensures.items)
+
+pub add_needed-requires : goal.add_needed-requires
+add_needed-requires g c =
+    c.requires.among.places.limit ∙ ap (λ (n : ℕ). n + 1) (sym (count_read g.D.Disk.facts c.args.store.now c.read_library.new.store c.read_library.ensures.read c.args.source))

@@ -1,4 +1,4 @@
-use Rattle.std.proofs.Common.{◌≡◌, ◌++◌, ◌∷◌, [], ℕ, List, take, sym, ap, subst, ◌∙◌}
+use Rattle.std.proofs.Common.{◌≡◌, ◌++◌, ◌∷◌, [], ℕ, List, take, sym, ap, subst, ◌∙◌, arith}
 use Rattle.std.specs.List.{All}
 use Rattle.std.proofs.lemmas.List.{take_more}
 use Rattle.std.proofs.lemmas.List.Elements.{All-push}
@@ -19,11 +19,13 @@ loop-library-preserved c =
     ∙ ap (λ (f : List ℕ). let o : Named = record { name = library.name; file = f } in o) c.object.ensures in
     record {
       objects =
-          c.in_ok-push-2.ensures.items
+          c.push_reserved-in-loop-library.ensures.items
           ∙ ap (λ (l : List Named). l ++ object ∷ []) c.loop-library.invariant.objects
           ∙ ap (λ (o : Named). available program (take i libraries) ++ o ∷ []) (is ∙ c.library-item.is)
           ∙ ap (available program) (sym (take_more libraries i library c.loop-library-test.true));
-      taken = subst (All (λ (o : Named). IsTaken o.file)) (sym c.in_ok-push-2.ensures.items)
+      len = omega (arith, c.push_reserved-in-loop-library.ensures.len, c.loop-library.invariant.len);
+      room = omega (arith, c.push_reserved-in-loop-library.ensures.capacity, c.loop-library.invariant.room);
+      taken = subst (All (λ (o : Named). IsTaken o.file)) (sym c.push_reserved-in-loop-library.ensures.items)
           (All-push (λ (o : Named). IsTaken o.file) c.loop-library.objects.items object c.loop-library.invariant.taken
           (subst IsTaken (sym (ap (λ (o : Named). o.file) c.new-in-loop-library.ensures.same)) c.new-in-loop-library.ensures.taken));
     }

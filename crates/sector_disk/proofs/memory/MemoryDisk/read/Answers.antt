@@ -1,5 +1,7 @@
-use Rattle.std.proofs.Common.{◌∙◌, ◌<◌, [], ap, arith, length, refl}
+use Rattle.std.proofs.Common.{◌∙◌, ◌<◌, ◌≤◌, [], All, ap, arith, length, refl, subst, sym}
 use Rattle.std.proofs.lemmas.List.{get_or_read}
+use Rattle.std.proofs.lemmas.List.Elements.{All-push}
+use Rattle.sector_disk.specs.declared.moment.Moment.{Moment}
 use Rattle.sector_disk.specs.Disk.{sector}
 use Rattle.sector_disk.specs.inside.WrittenLaws.{length-contents}
 use Rattle.sector_disk.proofs.Kept.{keeps_past_to, unchanged}
@@ -20,4 +22,21 @@ returns-clause-honest c honest =
           (λ n le. refl) c.and-self.ensures;
       same = unchanged self.start.items self.writes.items self.synced self.past.items c.and-self.result.items;
       ok = get_or_read self.latest.items c.args.at c.index.result.now in_latest c.index.ensures [] ∙ ap (λ l. sector l c.args.at) self.is_latest;
+    }
+
+pub invariant_of-self : goal.invariant_of-self
+invariant_of-self c =
+    let self = c.args.self.now in
+    let NoLater = λ (moment : Moment). moment.writes ≤ length self.writes.items in
+    record {
+      few = self.few;
+      written_in_range = self.written_in_range;
+      synced_writes = self.synced_writes;
+      is_latest = self.is_latest;
+      one_count_each = self.one_count_each;
+      counted = self.counted;
+      whole_start = self.whole_start;
+      whole_writes = self.whole_writes;
+      no_later = subst (All NoLater) (sym c.and-self.ensures)
+          (All-push NoLater self.past.items c.moment-moment.result self.no_later (omega (arith, ap (λ m. m.writes) c.moment-moment.ensures)));
     }
