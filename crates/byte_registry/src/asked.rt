@@ -44,7 +44,8 @@ pub fn ask<'a>(
         Ok(disk) => disk,
         Err(refusal) => return Err(refusal),
     };
-    match Registry::open_untested(alloc, disk) {
+    let opened = Registry::open_untested(alloc, disk);
+    match opened {
         Ok(registry) => {
             let mut registry = registry;
             let reply = registry.apply(command);

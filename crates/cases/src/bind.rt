@@ -1,10 +1,10 @@
 // A program that is bound with libraries.
 
 use crate::file::changed_file;
-use crate::number::parse_number;
+use crate::number::{first_number, last_number};
 use crate::preload::preloads_of;
-use crate::shelf::{libraries_of, read_libraries};
-use anyhow::{Context, Error, Result};
+use crate::shelf::{LibraryFile, libraries_of, read_libraries};
+use anyhow::{Error, Result};
 use image::{Image, bind_program};
 use plain_registry::{are_preloads, have_distinct_names};
 use program_parts::write_refusal;
@@ -91,6 +91,20 @@ fn put_bound(
     }
 }
 
+/// Binds a program with the libraries in these files, of which those of these names are preloads.
+fn put_with_files(
+    alloc: Global,
+    text: &mut Vec<u8>,
+    program: (&[u8], u64),
+    files: &[LibraryFile],
+    names: &str,
+    told: Told,
+) -> Result<()> {
+    let libraries = libraries_of(alloc, files)?;
+    let preloads = preloads_of(alloc, &libraries, names)?;
+    put_bound(alloc, text, program, &libraries, &preloads, told)
+}
+
 /// Binds the program `FILE BASE [preload NAME ..] [+ LIBRARY] ..`, and puts what is told of its
 /// image, or the refusal.
 pub(crate) fn put_bind(
@@ -101,25 +115,15 @@ pub(crate) fn put_bind(
 ) -> Result<()> {
     let (front, rest) = words.split_once(" + ").unwrap_or((words, ""));
     let (program, names) = front.split_once(" preload ").unwrap_or((front, ""));
-    let (file, base) = program.rsplit_once(' ').context("a bind without a base")?;
-    let base = parse_number(base)?;
+    let (file, base) = last_number(program)?;
     let bytes = changed_file(rt, file)?;
     let files = read_libraries(rt, rest)?;
-    let libraries = libraries_of(rt.alloc(), &files)?;
-    let preloads = preloads_of(rt.alloc(), &libraries, names)?;
-    put_bound(
-        rt.alloc(),
-        text,
-        (&bytes, base),
-        &libraries,
-        &preloads,
-        told,
-    )
+    put_with_files(rt.alloc(), text, (&bytes, base), &files, names, told)
 }
 
 /// `word ADDRESS FILE BASE ..`: the eight bytes that this image has from an address on, as a
 /// number, or `none`, or the refusal.
 pub(crate) fn put_word(rt: &HostRuntime, text: &mut Vec<u8>, words: &str) -> Result<()> {
-    let (address, words) = words.split_once(' ').context("a word of no program")?;
-    put_bind(rt, text, words, Told::Word(parse_number(address)?))
+    let (address, words) = first_number(words)?;
+    put_bind(rt, text, words, Told::Word(address))
 }

@@ -5,7 +5,7 @@ use crate::bind::{Told, put_bind, put_word};
 use crate::disk::leaves_so;
 use crate::file::changed_file;
 use crate::library::{Seen, put_file, put_find, put_hash};
-use crate::number::parse_number;
+use crate::number::last_number;
 use crate::script::runs_so;
 use crate::words::ends_so;
 use anyhow::{Context, Result, bail};
@@ -16,8 +16,7 @@ use std::io::Write;
 
 /// `image FILE BASE`: the text of the image of a file, or of its refusal.
 fn put_image(rt: &HostRuntime, text: &mut Vec<u8>, words: &str) -> Result<()> {
-    let (file, base) = words.rsplit_once(' ').context("an image without a base")?;
-    let base = parse_number(base)?;
+    let (file, base) = last_number(words)?;
     run_image(rt.alloc(), &changed_file(rt, file)?, base, text)?;
     Ok(())
 }
@@ -42,9 +41,8 @@ fn put_digits(text: &mut Vec<u8>, byte: Option<u8>) -> Result<()> {
 /// `byte FILE BASE ADDRESS`: the byte that the image of a file has at an address, in two digits, or
 /// `none`.
 fn put_byte(rt: &HostRuntime, text: &mut Vec<u8>, words: &str) -> Result<()> {
-    let (place, address) = words.rsplit_once(' ').context("a byte without an address")?;
-    let (file, base) = place.rsplit_once(' ').context("a byte without a base")?;
-    let (base, address) = (parse_number(base)?, parse_number(address)?);
+    let (place, address) = last_number(words)?;
+    let (file, base) = last_number(place)?;
     let byte = byte_of(rt.alloc(), &changed_file(rt, file)?, base, address)?;
     put_digits(text, byte)
 }

@@ -1,13 +1,12 @@
 // A file as an object that others may use: its admission, its name and its exports.
 
 use crate::file::{changed_file, spelt};
-use crate::view::put_view;
+use crate::view::{put_named, put_view};
 use anyhow::{Context, Result, bail};
 use hash_check::{Admitted, FileRefusal, ReadRefusal, elf_hash};
 use program_parts::write_file_refusal;
 use std::alloc::Global;
 use std::io::Write;
-use text_output::write_name;
 
 /// What is told of an admitted file.
 #[derive(Clone, Copy)]
@@ -33,12 +32,7 @@ fn put_refused(text: &mut Vec<u8>, refusal: FileRefusal) -> Result<()> {
 /// Puts the name of a library, or its refusal as a library.
 fn put_library(text: &mut Vec<u8>, object: &Admitted) -> Result<()> {
     match object.library_name() {
-        Ok(name) => {
-            text.extend_from_slice(b"library ")?;
-            write_name(text, name)?;
-            text.extend_from_slice(b"\n")?;
-            Ok(())
-        }
+        Ok(name) => put_named(text, b"library ", name),
         Err(refusal) => put_refused(text, FileRefusal::Object(refusal)),
     }
 }

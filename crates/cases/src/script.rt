@@ -2,8 +2,8 @@
 
 use crate::answer::is_wanted;
 use crate::file::changed_file;
-use crate::number::parse_number;
-use anyhow::{Context, Result, bail};
+use crate::number::first_number;
+use anyhow::{Result, bail};
 use binders::Binders;
 use commands::{Summary, run_script};
 use registry::Registry;
@@ -31,20 +31,15 @@ fn is_ended(
     output: &[u8],
     wanted: &str,
 ) -> Result<bool> {
-    let (wanted_lines, rest) = wanted.split_once(' ').context("lines alone")?;
-    let (wanted_refused, answer) = rest.split_once(' ').context("two numbers alone")?;
-    Ok(
-        parse_number(wanted_lines)? == lines
-            && parse_number(wanted_refused)? == refused
-            && is_wanted(rt, output, answer)?,
-    )
+    let (wanted_lines, rest) = first_number(wanted)?;
+    let (wanted_refused, answer) = first_number(rest)?;
+    Ok(wanted_lines == lines && wanted_refused == refused && is_wanted(rt, output, answer)?)
 }
 
 /// Whether a script ends as it is wanted: `SECTORS FILE` on an empty registry on a disk of so many
 /// sectors, wanted as `LINES REFUSED ANSWER`.
 pub(crate) fn runs_so(rt: &HostRuntime, words: &str, wanted: &str) -> Result<bool> {
-    let (sectors, file) = words.split_once(' ').context("a script without a file")?;
-    let sectors = parse_number(sectors)?;
+    let (sectors, file) = first_number(words)?;
     let text = changed_file(rt, file)?;
     let mut output = Vec::new(rt.alloc());
     let summary = summary_of(rt.alloc(), sectors, &text, &mut output)?;

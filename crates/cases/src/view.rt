@@ -6,26 +6,39 @@ use hash_check::Admitted;
 use std::io::Write;
 use text_output::write_name;
 
-/// Puts the line of the SONAME, and those of the needed libraries.
-fn put_names(text: &mut Vec<u8>, object: &Object) -> Result<()> {
-    match object.soname() {
-        Some(name) => {
-            text.extend_from_slice(b"soname ")?;
-            write_name(text, name)?;
-        }
-        None => text.extend_from_slice(b"no soname")?,
-    }
-    for i in 0..object.needed_count() {
-        text.extend_from_slice(b"\nneeded ")?;
-        write_name(text, object.needed(i))?;
-    }
+/// Puts a line of these bytes and a name.
+pub(crate) fn put_named(text: &mut Vec<u8>, front: &[u8], name: &[u8]) -> Result<()> {
+    text.extend_from_slice(front)?;
+    write_name(text, name)?;
     text.extend_from_slice(b"\n")?;
     Ok(())
 }
 
-/// Puts a number behind a space.
-fn put_number(text: &mut Vec<u8>, number: u64) -> Result<()> {
-    write!(text, " {number}")?;
+/// Puts the line of the SONAME, and those of the needed libraries.
+fn put_names(text: &mut Vec<u8>, object: &Object) -> Result<()> {
+    match object.soname() {
+        Some(name) => put_named(text, b"soname ", name)?,
+        None => text.extend_from_slice(b"no soname\n")?,
+    }
+    for i in 0..object.needed_count() {
+        put_named(text, b"needed ", object.needed(i))?;
+    }
+    Ok(())
+}
+
+/// Puts the index of a symbol and the numbers in its fields.
+fn put_fields(text: &mut Vec<u8>, i: u32, symbol: Symbol) -> Result<()> {
+    let Symbol {
+        value,
+        size,
+        section,
+        ..
+    } = symbol;
+    let (kind, binding, visibility) = (symbol.kind(), symbol.binding(), symbol.visibility());
+    write!(
+        text,
+        "symbol {i} {value:#018x} {size} {kind} {binding} {visibility} {section} "
+    )?;
     Ok(())
 }
 
@@ -37,20 +50,12 @@ fn put_symbol(
     name: &[u8],
     found: Option<u32>,
 ) -> Result<()> {
-    let value = symbol.value;
-    write!(text, "symbol {i} 0x{value:016x}")?;
-    put_number(text, symbol.size)?;
-    for number in [symbol.kind(), symbol.binding(), symbol.visibility()] {
-        put_number(text, u64::from(number))?;
-    }
-    put_number(text, u64::from(symbol.section))?;
-    text.extend_from_slice(b" ")?;
+    put_fields(text, i, symbol)?;
     write_name(text, name)?;
     match found {
-        Some(found) => put_number(text, u64::from(found))?,
-        None => text.extend_from_slice(b" none")?,
+        Some(found) => writeln!(text, " {found}")?,
+        None => text.extend_from_slice(b" none\n")?,
     }
-    text.extend_from_slice(b"\n")?;
     Ok(())
 }
 

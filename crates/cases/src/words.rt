@@ -1,8 +1,8 @@
 // A command line: what it writes, and its exit status.
 
 use crate::answer::is_wanted;
-use crate::number::parse_number;
-use anyhow::{Context, Result};
+use crate::number::first_number;
+use anyhow::Result;
 use commands::run_words;
 use std::alloc::Global;
 
@@ -23,8 +23,8 @@ fn is_ended(
     errors: &[u8],
     wanted: &str,
 ) -> Result<bool> {
-    let (number, answer) = wanted.split_once(' ').context("a status alone")?;
-    if parse_number(number)? != u64::from(status) {
+    let (wanted_status, answer) = first_number(wanted)?;
+    if wanted_status != u64::from(status) {
         return Ok(false);
     }
     match answer.strip_prefix("error ") {

@@ -25,19 +25,19 @@ const EMPTY: Wanted = Ok(("end\nrefused B3 Missing /program a\nok\n", 8));
 /// What is changed of the disk. Then a liar with its sectors as answers: opened, or upgraded where
 /// they are of version 1, in the order of the disk, and in the order in which they are read; and
 /// formatted.
-pub(crate) type Row = (&'static [Harm], [Wanted; 3]);
+pub(crate) type Row = (&'static [Harm], &'static [Wanted; 3]);
 
 // What is damaged whatever way a liar has it.
-const DAMAGED: [Wanted; 3] = [S5, S5, S4];
+const DAMAGED: &[Wanted; 3] = &[S5, S5, S4];
 
 /// Of a disk of version 1 or 2. In the order of the disk the first sector of bytes is taken for the
 /// entry, or for the catalogue.
-pub(crate) const ROWS: [Row; 9] = [
-    (&[], [S5, HELD, S4]),
+pub(crate) static ROWS: [Row; 9] = [
+    (&[], &[S5, HELD, S4]),
     // One root, no root.
-    (&[Zeros(1)], [EMPTY, EMPTY, S4]),
+    (&[Zeros(1)], &[EMPTY, EMPTY, S4]),
     (&[Zeros(0)], DAMAGED),
-    (&[Zeros(0), Zeros(1)], [S3, S3, EMPTY]),
+    (&[Zeros(0), Zeros(1)], &[S3, S3, EMPTY]),
     // The root has nine sectors, or what it lists is behind the disk.
     (&[Byte(1, 16, 9)], DAMAGED),
     (&[Byte(1, 64, 8)], DAMAGED),
@@ -49,7 +49,7 @@ pub(crate) const ROWS: [Row; 9] = [
 ];
 
 /// Of a disk of version 2 alone.
-pub(crate) const NEW_ROWS: [Row; 9] = [
+pub(crate) static NEW_ROWS: [Row; 9] = [
     // The root has no catalogue, or two, or the entry as one, or it is one of version 1.
     (&[Byte(1, 56, 0)], DAMAGED),
     (&[Byte(1, 56, 2)], DAMAGED),

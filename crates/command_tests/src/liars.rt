@@ -90,7 +90,7 @@ fn all_lie(alloc: Global, version: u8, rows: &[Row]) -> Option<bool> {
     let script = script(alloc).ok()?;
     let sectors = one_library(version);
     let mut all = true;
-    for (harms, wanted) in rows {
+    for &(harms, wanted) in rows {
         let sectors = harmed(&sectors, harms);
         all &= lies(alloc, version, &sectors, script.as_bytes(), wanted) == Some(true);
     }

@@ -42,9 +42,10 @@ fn tables(address: u64) -> [u8; TABLES + DYNAMIC] {
     let mut bytes = [0; TABLES + DYNAMIC];
     put(&mut bytes, 0, &[1, 0, 0, 0, 1]);
     // HASH, SYMTAB, STRTAB, STRSZ and SYMENT, and the end: a tag and a value each.
-    let hash = [4, address, 6, address.saturating_add(16)];
-    let text = [5, address.saturating_add(40), 10, 3, 11, 24, 0, 0];
-    for (i, field) in hash.iter().chain(text.iter()).enumerate() {
+    let symbols = address.saturating_add(16);
+    let text = address.saturating_add(40);
+    let fields = [4, address, 6, symbols, 5, text, 10, 3, 11, 24, 0, 0];
+    for (i, field) in fields.iter().enumerate() {
         let at = i.saturating_mul(8).saturating_add(TABLES);
         put(&mut bytes, at, &field.to_le_bytes());
     }

@@ -104,15 +104,20 @@ fn lacks(reply: &Reply, library: u8) -> bool {
     }
 }
 
-// Whether a bind is answered S1 over a disk of which this call behind the opening fails. The same
-// bind then is answered B3, and so is a first bind that isn't answered S1.
-fn fails(alloc: Global, case: &Case, call: u64) -> Option<bool> {
-    let (first, again) = told(alloc, case, case.opening.wrapping_add(call))?;
-    if lacks(&first, case.missing) {
+// Whether the first of two binds is answered S1. The second then is answered B3, and so is a first
+// one that isn't answered S1.
+fn is_failed(first: &Reply, again: &Reply, missing: u8) -> Option<bool> {
+    if lacks(first, missing) {
         return Some(false);
     }
     let is_told = matches!(first, Reply::Refused(Refusal::Device));
-    (is_told && lacks(&again, case.missing)).then_some(true)
+    (is_told && lacks(again, missing)).then_some(true)
+}
+
+// Whether a bind is answered S1 over a disk of which this call behind the opening fails.
+fn fails(alloc: Global, case: &Case, call: u64) -> Option<bool> {
+    let (first, again) = told(alloc, case, case.opening.wrapping_add(call))?;
+    is_failed(&first, &again, case.missing)
 }
 
 // Whether a bind reads as many sectors as a case says, none of them twice.

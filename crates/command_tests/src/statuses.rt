@@ -34,20 +34,23 @@ const NO_COMMAND: &[&str] = &["help"];
 
 const BAD_BASE: &[&str] = &["image", "no such file", "10"];
 
+/// Command lines, the rooms of output and standard error, and what is told of them.
+static MESSAGES: [(&[&str], (usize, usize), (u8, usize, u64, usize)); 9] = [
+    (UNREAD, (100, 100), (3, 100, 1, 66)),
+    (UNREAD, (0, 100), (3, 0, 1, 66)),
+    (UNREAD, (100, 0), (3, 100, 1, 0)),
+    (NO_COMMAND, (100, 100), (2, 100, 1, 74)),
+    (NO_COMMAND, (100, 0), (2, 100, 1, 0)),
+    (BAD_BASE, (100, 100), (2, 100, 1, 82)),
+    (BAD_BASE, (100, 0), (2, 100, 1, 0)),
+    // No memory for the words: that is said on the output.
+    (&[], (24, 100), (4, 0, 0, 100)),
+    (&[], (23, 100), (3, 23, 0, 100)),
+];
+
 #[test]
 fn a_message_is_one_write_that_changes_no_status(rt: HostRuntime) {
-    for (words, rooms, wanted) in [
-        (UNREAD, (100, 100), (3, 100, 1, 66)),
-        (UNREAD, (0, 100), (3, 0, 1, 66)),
-        (UNREAD, (100, 0), (3, 100, 1, 0)),
-        (NO_COMMAND, (100, 100), (2, 100, 1, 74)),
-        (NO_COMMAND, (100, 0), (2, 100, 1, 0)),
-        (BAD_BASE, (100, 100), (2, 100, 1, 82)),
-        (BAD_BASE, (100, 0), (2, 100, 1, 0)),
-        // No memory for the words: that is said on the output.
-        (&[], (24, 100), (4, 0, 0, 100)),
-        (&[], (23, 100), (3, 23, 0, 100)),
-    ] {
+    for &(words, rooms, wanted) in &MESSAGES {
         assert!(rt; told(&rt, words, rooms) == wanted);
     }
 }
@@ -74,11 +77,15 @@ static TEXTS: [(&[&str], usize, u8); 5] = [
     (&["script", "empty.disk"], 4, 0),
 ];
 
+/// Whether a disk of eight sectors is formatted.
+fn formats(rt: &HostRuntime, disk: &str) -> bool {
+    ends(rt, words_of(rt, &["format", disk, "8"]), (0, "ok\n", ""))
+}
+
 #[test]
 fn output_that_fails_is_status_3(rt: HostRuntime) -> Result<(), Fail> {
     fs::write(&rt, "nine.so", of_segments(rt.alloc(), 9)?.as_slice())?;
-    let format = words_of(&rt, &["format", "empty.disk", "8"]);
-    assert!(rt; ends(&rt, format, (0, "ok\n", "")));
+    assert!(rt; formats(&rt, "empty.disk"));
     for &(words, length, status) in &TEXTS {
         assert!(rt; needs_room(&rt, words, length, status));
     }
@@ -96,17 +103,19 @@ fn script_status(rt: &HostRuntime, disk: &str, turns: &[Turn]) -> u8 {
     run_arguments(rt, rt.alloc(), words, &mut input, &mut output, &mut errors)
 }
 
+/// What the input of a script does, and its status.
+static INPUTS: [(&[Turn], u8); 4] = [
+    (&[], 0),
+    // A line that isn't whole.
+    (&[Turn::Gives(9)], 1),
+    (&[Turn::Fails(ErrorKind::Other)], 3),
+    (&[Turn::Fails(ErrorKind::OutOfMemory)], 4),
+];
+
 #[test]
 fn input_that_fails_is_status_3_or_4(rt: HostRuntime) -> Result<(), Fail> {
-    let format = words_of(&rt, &["format", "input.disk", "8"]);
-    assert!(rt; ends(&rt, format, (0, "ok\n", "")));
-    for (turns, status) in [
-        ([].as_slice(), 0),
-        // A line that isn't whole.
-        (&[Turn::Gives(9)], 1),
-        (&[Turn::Fails(ErrorKind::Other)], 3),
-        (&[Turn::Fails(ErrorKind::OutOfMemory)], 4),
-    ] {
+    assert!(rt; formats(&rt, "input.disk"));
+    for &(turns, status) in &INPUTS {
         assert!(rt; script_status(&rt, "input.disk", turns) == status);
     }
     fs::remove_file(&rt, "input.disk")?;

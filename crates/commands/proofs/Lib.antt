@@ -4,6 +4,7 @@ pub mod Decimals
 pub mod Ending
 pub mod Fronts
 pub mod Ascii
+pub mod BinderLines
 pub mod Lines
 pub mod Pages
 pub mod Pieces

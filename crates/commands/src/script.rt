@@ -1,17 +1,20 @@
 // Running a script.
 
-ghost use Rattle.std.specs.Prelude.{◌≡◌, ◌≢◌, ◌⊎◌, [], List, ℕ, IfOk, IfErr};
+ghost use Rattle.std.specs.Prelude.{◌≡◌, ◌≢◌, ◌⊎◌, [], List, ℕ, IfOk, IfErr, OnOk};
+ghost use Rattle.std.specs.Option.{option_map};
 ghost use Rattle.std.specs.Io.{StopsAt};
 ghost use Rattle.std.specs.Io.Buffered.{reader_buffer, reader_remaining};
 ghost use Rattle.std.specs.Io.KnownBytes.{Appends, Consumes, append_known};
 ghost use Rattle.text_output.specs.Sends.{Sends};
 ghost use Rattle.commands.specs.Answer.{LineStep, MayWait, answer_text, is_refused};
+ghost use Rattle.commands.specs.Line.{meaning};
 ghost use Rattle.commands.specs.Script.{Breaks, Ends, Finishes, IsHeldBack, Stops, StopsWriting};
+ghost use Rattle.commands.specs.inside.Asked.{happening_asked};
 ghost use Rattle.commands.specs.inside.Progress.{GotLine, HasLine, Misses, Told, Unread};
 ghost use Rattle.commands.specs.declared.answer.Answer.{Answer};
 
 use crate::answer::{Answer, answer_asked, is_refused, may_wait, put_answer};
-use crate::asked::parse_line;
+use crate::asked::{Asked, parse_line};
 use crate::fault::ScriptFault;
 use crate::reading::{Got, read_line, take_line};
 use crate::summary::Summary;
@@ -24,8 +27,31 @@ use std::io::{BufReader, Read, Write};
 /// How many bytes are read at once.
 const PAGE: usize = 0x10000;
 
-/// Answers a whole line, and says whether it was refused. An answer waits behind those that wait
-/// already, where it may; otherwise all of them are sent.
+/// Tells the answer to what a line asks. It waits behind those that wait already, where it may;
+/// otherwise all of them are sent.
+fn tell_answer<W: Write>(
+    waiting: &mut Line,
+    writer: &mut W,
+    asked: &Option<Asked<'_>>,
+    answer: &Answer,
+) -> Result<(), ScriptFault>
+    ensures ok { OnOk result (Sends (W.contents writer.old) waiting.old (W.contents writer.new)
+        waiting.new (answer_text answer.now)) }
+    ensures waits { IfOk result (λ _. (line : List ℕ)
+        → option_map happening_asked asked.now ≡ meaning line
+        → (waiting.new.waiting ≡ []) ⊎ MayWait line answer.now) }
+    ensures err { IfErr result (λ fault. fault ≡ ScriptFault.Write) }
+{
+    put_answer(waiting, writer, answer)?;
+    let waits = may_wait(asked, answer);
+    if waits {
+        return Ok(());
+    }
+    waiting.send(writer)?;
+    Ok(())
+}
+
+/// Answers a whole line, and says whether it was refused.
 fn answer_whole<W: Write, G: TakesEvents>(
     alloc: Global,
     line: &[u8],
@@ -48,14 +74,8 @@ fn answer_whole<W: Write, G: TakesEvents>(
         Err(_) => return Err(ScriptFault::OutOfMemory),
     };
     let answer = answer_asked(binders, &asked);
-    put_answer(waiting, writer, &answer)?;
-    let refused = is_refused(&answer);
-    let waits = may_wait(&asked, &answer);
-    if waits {
-        return Ok(refused);
-    }
-    waiting.send(writer)?;
-    Ok(refused)
+    tell_answer(waiting, writer, &asked, &answer)?;
+    Ok(is_refused(&answer))
 }
 
 /// Reads a line of which the reader has to be asked for more. Nothing waits then, so that whoever

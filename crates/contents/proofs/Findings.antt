@@ -2,7 +2,7 @@
 use Rattle.std.proofs.Common.{◌≡◌, ℕ, ◌+◌, ◌-◌, ◌<◌, ◌≤◌, cond, List, [], ◌∷◌, ◌++◌, length, get_or, take, sum_by, refl, sym, ap, subst, ◌∙◌, ⊎_elim, arith}
 use Rattle.std.specs.Prelude.{count_by}
 use Rattle.std.proofs.lemmas.Bool.{cases_lt}
-use Rattle.std.proofs.lemmas.List.{length-append, get_or_append_left, get_or-append_right}
+use Rattle.std.proofs.lemmas.List.{length-append, get_or_append_left, get_or-append_right, take_all}
 use Rattle.std.proofs.lemmas.List.Sums.{sum_by_more, sum_by_more_le, sum_by_push}
 use Rattle.sector_disk.specs.Disk.{DiskFacts, AreCallsAtMost}
 use Rattle.sector_disk.proofs.Moments.{exactly_none, exactly_at_most, at_most_sum}
@@ -86,3 +86,13 @@ module _ {D : Type 0} {facts : D → DiskFacts} where
     ap (λ entries. file_sectors (get_or entries position no_entry)) so_far.read.entries,
     sum_by_more_le file_sectors start.entries position no_entry lt,
   ))
+
+  -- All were looked at.
+  pub all_counted : {start now : Opened D} {position : ℕ} {findings : List Finding} → FoundSoFar facts start now position findings → length start.entries ≡ position
+      → length findings ≡ length start.entries
+  all_counted so_far all = so_far.count ∙ sym all
+
+  pub all_calls : {start now : Opened D} {position : ℕ} {findings : List Finding} → FoundSoFar facts start now position findings → length start.entries ≤ position
+      → AreCallsAtMost (sum_by file_sectors start.entries) (facts start.disk) (facts now.disk)
+  all_calls {start = start} {now = now} {position = position} so_far all =
+      subst (λ entries. AreCallsAtMost (sum_by file_sectors entries) (facts start.disk) (facts now.disk)) (take_all position start.entries all) so_far.calls

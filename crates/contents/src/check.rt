@@ -76,10 +76,10 @@ impl<D: Disk> Contents<D> {
         ensures calls { AreCallsAtMost (sum_by file_sectors self.old.entries)
             (D.facts self.old.disk) (D.facts self.new.disk) }
     {
-        let mut findings = Vec::new(alloc);
+        let mut findings = Vec::with_capacity(alloc, self.store.count())?;
         for position in 0..self.store.count() {
             let finding = self.check_at(alloc, position)?;
-            findings.push(finding)?;
+            findings.push_reserved(finding);
         }
         Ok(findings)
     }

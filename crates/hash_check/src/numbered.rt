@@ -48,14 +48,15 @@ fn add_symbols<'a>(
     ensures names { OnOk result (gathered.new.names.items
         ≡ gathered.old.names.items ++ names.entry.items) }
 {
+    gathered.names.append(&mut names)?;
+    gathered.symbols.reserve(symbols.len())?;
     for symbol in symbols {
-        gathered.symbols.push(NumberedSymbol {
+        gathered.symbols.push_reserved(NumberedSymbol {
             object: place,
             symbol: *symbol,
             number: 0,
-        })?;
+        });
     }
-    gathered.names.append(&mut names)?;
     Ok(())
 }
 
@@ -112,12 +113,13 @@ fn add_endings<'a>(
     ensures { OnOk result (all.new.items
         ≡ all.old.items ++ map (behind before) endings.now) }
 {
+    all.reserve(endings.len())?;
     for ending in endings {
-        all.push(Ending {
+        all.push_reserved(Ending {
             string: ending.string,
             first: before + ending.first,
             past: before + ending.past,
-        })?;
+        });
     }
     Ok(())
 }

@@ -13,15 +13,6 @@ use crate::segment::Segment;
 use elf_dynamic::Object;
 use std::alloc::{AllocError, Global};
 
-/// A copy of bytes.
-fn copy_of(alloc: Global, bytes: &[u8]) -> Result<Vec<u8>, AllocError>
-    ensures { IfOk result (λ v. v.items ≡ bytes.now) }
-{
-    let mut copy = Vec::with_capacity(alloc, bytes.len())?;
-    copy.extend_from_slice(bytes)?;
-    Ok(copy)
-}
-
 /// The segments of an object at a base before any relocation. One pass over its PT_LOADs; the
 /// file's bytes are copied once.
 pub(crate) fn load(
@@ -36,10 +27,10 @@ pub(crate) fn load(
 {
     let mut segments = Vec::with_capacity(alloc, object.segment_count())?;
     for header in object.segments() {
-        let front = copy_of(alloc, object.contents_of(header))?;
+        let front = Vec::from_slice(alloc, object.contents_of(header))?;
         let permissions = Permissions::of_flags(header.flags);
         let size = header.memory_size as u32;
-        segments.push(Segment::new(base + header.address, permissions, front, size))?;
+        segments.push_reserved(Segment::new(base + header.address, permissions, front, size));
     }
     Ok(segments)
 }

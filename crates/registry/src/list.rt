@@ -22,7 +22,7 @@ impl<D: Disk> Registry<D> {
         let mut entries = Vec::with_capacity(self.alloc, self.store.count())?;
         for position in 0..self.store.count() {
             let name = Name::copy_of(self.alloc, self.store.name(position))?;
-            entries.push((name, self.store.length(position)))?;
+            entries.push_reserved((name, self.store.length(position)));
         }
         Ok(entries)
     }
@@ -35,7 +35,7 @@ impl<D: Disk> Registry<D> {
         let positions = self.store.preloads();
         let mut names = Vec::with_capacity(self.alloc, positions.len())?;
         for position in positions {
-            names.push(Name::copy_of(self.alloc, self.store.name(*position as usize))?)?;
+            names.push_reserved(Name::copy_of(self.alloc, self.store.name(*position as usize))?);
         }
         Ok(names)
     }

@@ -150,7 +150,7 @@ impl Course {
     // is no change leaves the disk as it was.
     fn follow_one(&self, tally: &mut Tally, count: usize, before: &Memory) -> Result<Memory> {
         let (plain, disk) = self.leave(tally, count, Cut::NONE)?;
-        plain.sides(&self.probe)?.open(tally, &disk, plain.wanted)?;
+        self.open_flight(tally, &plain, &disk)?;
         if !self.is_change(count) {
             let right = leave_same(tally.rt.alloc(), &disk, before)?;
             tally.count(right, &count, "the disk behind a step");
@@ -186,7 +186,7 @@ impl Course {
         self.go_on(tally, &plain, disk)
     }
 
-    // Opens what is left behind such a call.
+    // Opens what is left, and where all calls behind one were cut, cuts each call of that.
     fn open_flight(&self, tally: &mut Tally, plain: &Plain, disk: &Memory) -> Result<()> {
         let sides = plain.sides(&self.probe)?;
         sides.open(tally, disk, plain.wanted)?;

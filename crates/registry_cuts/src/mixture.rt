@@ -56,13 +56,18 @@ fn bytes_of(alloc: Global, disk: Memory) -> Result<Vec<u8>> {
     Ok(bytes)
 }
 
+// Whether a stop with these picks leaves the same of two disks.
+fn stop_same(alloc: Global, one: &Memory, other: &Memory, picks: &[usize]) -> Result<bool> {
+    let left = bytes_of(alloc, stopped(one, picks)?)?;
+    Ok(left == bytes_of(alloc, stopped(other, picks)?)?)
+}
+
 /// Whether a stop leaves the same of two disks.
 pub(crate) fn leave_same(alloc: Global, one: &Memory, other: &Memory) -> Result<bool> {
     let picks = all_picks(alloc, one)?;
     let mut right = picks == all_picks(alloc, other)?;
     for picks in &picks {
-        right = right
-            && bytes_of(alloc, stopped(one, picks)?)? == bytes_of(alloc, stopped(other, picks)?)?;
+        right = right && stop_same(alloc, one, other, picks)?;
     }
     Ok(right)
 }

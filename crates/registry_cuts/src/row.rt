@@ -22,6 +22,24 @@ fn lines(tally: &Tally, file: &str) -> Result<Vec<String>> {
     Ok(lines)
 }
 
+// Events on a disk of so many sectors after these changes.
+fn run_course(
+    tally: &mut Tally,
+    word: &str,
+    sectors: u32,
+    start: &[Rc<Event>],
+    events: &[Rc<Event>],
+) -> Result<()> {
+    let alloc = tally.rt.alloc();
+    let disk = disk_after(alloc, sectors, start)?;
+    let course = Course::on(alloc, disk, sectors, start, events, word != "list")?;
+    match word {
+        "list" => course.cut_list(tally),
+        "follow" => course.follow(tally),
+        _ => course.cut_flights(tally),
+    }
+}
+
 // Events on disks of these sizes after these changes.
 fn run_events(
     tally: &mut Tally,
@@ -30,19 +48,39 @@ fn run_events(
     start: &[Rc<Event>],
     text: &str,
 ) -> Result<()> {
-    let alloc = tally.rt.alloc();
-    let events = Event::all(alloc, text)?;
+    let events = Event::all(tally.rt.alloc(), text)?;
     for size in sizes.split(' ') {
-        let sectors = size.parse::<u32>()?;
-        let disk = disk_after(alloc, sectors, start)?;
-        let course = Course::on(alloc, disk, sectors, start, &events, word != "list")?;
-        match word {
-            "list" => course.cut_list(tally),
-            "follow" => course.follow(tally),
-            _ => course.cut_flights(tally),
-        }?;
+        run_course(tally, word, size.parse::<u32>()?, start, &events)?;
     }
     Ok(())
+}
+
+// Each line of a file as events of a list.
+fn run_lists(tally: &mut Tally, sizes: &str, start: &[Rc<Event>], file: &str) -> Result<()> {
+    for list in &lines(tally, file)? {
+        run_events(tally, "list", sizes, start, list)?;
+    }
+    Ok(())
+}
+
+// What a word has done with a disk, after these changes.
+fn run_word(
+    tally: &mut Tally,
+    word: &str,
+    disk: &str,
+    start: &[Rc<Event>],
+    rest: &str,
+) -> Result<()> {
+    match word {
+        "format" => cut_making(tally, Beginning::Format, disk, start),
+        "upgrade" => cut_making(tally, Beginning::Upgrade, disk, start),
+        "full" => cut_making(tally, Beginning::Full, disk, start),
+        "newer" => cut_making(tally, Beginning::Newer, disk, start),
+        "rounds" => play_rounds(tally, disk.parse::<u32>()?, start, rest),
+        "list" | "follow" | "binders" => run_events(tally, word, disk, start, rest),
+        "lists" => run_lists(tally, disk, start, rest),
+        _ => bail!("the word {word}"),
+    }
 }
 
 // A row: its word, its disk, the changes before, and what comes then.
@@ -51,21 +89,7 @@ fn run_row(tally: &mut Tally, row: &str) -> Result<()> {
     let (word, disk) = front.split_once(' ').context("a row without a disk")?;
     let (start, rest) = rest.split_once(" | ").unwrap_or((rest, "nothing"));
     let start = Event::all(tally.rt.alloc(), start)?;
-    match word {
-        "format" => cut_making(tally, Beginning::Format, disk, &start),
-        "upgrade" => cut_making(tally, Beginning::Upgrade, disk, &start),
-        "full" => cut_making(tally, Beginning::Full, disk, &start),
-        "newer" => cut_making(tally, Beginning::Newer, disk, &start),
-        "rounds" => play_rounds(tally, disk.parse::<u32>()?, &start, rest),
-        "list" | "follow" | "binders" => run_events(tally, word, disk, &start, rest),
-        "lists" => {
-            for list in &lines(tally, rest)? {
-                run_events(tally, "list", disk, &start, list)?;
-            }
-            Ok(())
-        }
-        _ => bail!("the word {word}"),
-    }
+    run_word(tally, word, disk, &start, rest)
 }
 
 /// Runs the rows of a file; one behind `wrong` is wrong on purpose.

@@ -79,6 +79,16 @@ fn seen_of(alloc: Global, replies: &[Reply]) -> Result<Seen> {
     })
 }
 
+// Has a plain registry make changes.
+fn make(plain: &mut PlainRegistry, changes: &[Rc<Event>]) -> Result<()> {
+    for change in changes {
+        if !matches!(plain.apply(&change.command()), Reply::Done) {
+            bail!("a command was refused");
+        }
+    }
+    Ok(())
+}
+
 // Asks a registry, if there is one.
 fn ask(
     alloc: Global,
@@ -137,11 +147,7 @@ impl Seen {
         probe: &Probe,
     ) -> Result<Seen> {
         let mut plain = PlainRegistry::new(alloc, sectors);
-        for change in changes {
-            if !matches!(plain.apply(&change.command()), Reply::Done) {
-                bail!("a command was refused");
-            }
-        }
+        make(&mut plain, changes)?;
         seen_of(alloc, &plain.run(&probe.looks(alloc)?)?)
     }
 

@@ -1,11 +1,13 @@
 -- What is kept of definitions by numbers is what a search finds.
-use Rattle.std.proofs.Common.{◌≡◌, ◌≢◌, ℕ, ◌<◌, ◌≤◌, ◌+◌, true, false, cond, List, [], ◌∷◌, ◌++◌, length, map, arith, refl, sym, ap, ◌∙◌, subst, get_or, set, Option, Some, None, inl, inr}
+use Rattle.std.proofs.Common.{◌≡◌, ◌≢◌, ℕ, ◌<◌, ◌≤◌, ◌+◌, true, false, cond, List, [], ◌∷◌, ◌++◌, length, map, replicate, arith, refl, sym, ap, ◌∙◌, subst}
+use Rattle.std.proofs.Common.{get_or, set, Option, Some, None, inl, inr, ⊎_elim}
 use Rattle.std.specs.Prelude.{is_none, is_some}
 use Rattle.std.specs.List.{All}
 use Rattle.std.specs.Option.{option_map}
 use Rattle.std.proofs.lemmas.Bool.{cases_lt, cases_eq, false≢true, eq-eqb, ne_eqb}
 use Rattle.std.proofs.Math.Seq.{get_or-append_seam}
-use Rattle.std.proofs.lemmas.List.{get_or_append_left, length-set, get_or-set_other, get_or-set_same, get_or-map, length-map}
+use Rattle.std.proofs.Math.ListN.{get_or-eq_default}
+use Rattle.std.proofs.lemmas.List.{get_or-replicate, length-replicate, get_or_append_left, length-set, get_or-set_other, get_or-set_same, get_or-map, length-map}
 use Rattle.elf_file.specs.FirstOf.{first_of}
 use Rattle.elf_file.specs.Dynamic.{is_symbolic}
 use Rattle.elf_dynamic.specs.Strings.{name_of}
@@ -44,6 +46,13 @@ own-here p o s e = ap (λ b. cond b (Some (At o s)) None) (eq-eqb o p e) ∙ ap 
 own-other : (p o s : ℕ) → o ≢ p → own_of p (Some (At o s)) ≡ None
 unfolding own_of
 own-other p o s e = ap (λ b. cond b (Some (At o s)) None) (ne_eqb o p e)
+
+-- Where none is kept yet, none is for any number.
+kept-none : (n k : ℕ) → nth_target (replicate n None) k ≡ None
+kept-none n k =
+    let none : Option Target = None in
+    ⊎_elim (λ inside. get_or-replicate n k none none inside)
+    (λ behind. get_or-eq_default (replicate n none) none (omega (arith, behind, length-replicate n none))) (cases_lt k n)
 
 -- in load order, and for a symbolic object what it exports itself before that
 pub found-own : (objects : List Named) (object : ℕ) (name : List ℕ) (x : Target) → is_symbolic (file_at objects object) ≡ true → definition_at objects name object ≡ Some x
@@ -114,8 +123,18 @@ module _ (objects : List Named) (all : List NumberedSymbol) where
         ]
       ]
 
-  pub first-none : (kept : List (Option Target)) → length kept ≡ length all + 1 → ((n : ℕ) → nth_target kept n ≡ None) → AreFirst objects all 0 kept
-  first-none kept size none = record { size = size; each = λ n. inl (none n); known = λ k lt. absurd (omega (arith, lt)) }
+  module _ (kept : List (Option Target)) (is : kept ≡ replicate (length all + 1) None) where
+    size-none : length kept ≡ length all + 1
+    size-none = ap length is ∙ length-replicate (length all + 1) None
+
+    each-none : (n : ℕ) → IsOneOf objects all 0 kept n
+    each-none n = inl (ap (λ l. nth_target l n) is ∙ kept-none (length all + 1) n)
+
+    pub first-none : AreFirst objects all 0 kept
+    first-none = record { size = size-none; each = each-none; known = λ k lt. absurd (omega (arith, lt)) }
+
+    pub last-none : AreLast objects all 0 kept
+    last-none = record { size = size-none; each = each-none; known = λ k lt. absurd (omega (arith, lt)) }
 
   -- a symbol that is kept, since none was
   pub first-new : (kept : List (Option Target)) (k : ℕ) → k < length all → AreFirst objects all k kept → IsExported objects (nth_symbol all k) → (nth_symbol all k).number < length kept

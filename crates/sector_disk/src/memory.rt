@@ -231,9 +231,7 @@ impl Disk for Memory {
 fn filled<T: Copy>(alloc: Global, count: u32, item: T) -> Result<Vec<T>, AllocError>
     ensures { IfOk result (λ items. items.items ≡ replicate count item) }
 {
-    let mut items = Vec::with_capacity(alloc, count as usize)?;
-    for place in 0..count {
-        items.push(item)?;
-    }
+    let mut items = Vec::new(alloc);
+    items.resize(count as usize, item)?;
     Ok(items)
 }

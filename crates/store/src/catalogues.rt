@@ -54,10 +54,7 @@ impl Singles {
         requires { length self.old ≤ most_catalogues }
         ensures { self.new ≡ self.old ++ single ∷ [] }
     {
-        match self.list.push(single) {
-            Ok(()) => {}
-            Err(_) => unreachable!(),
-        }
+        self.list.push_reserved(single);
     }
 
     /// Appends the catalogues that list these sectors, each with its part of them.

@@ -33,11 +33,7 @@ pub(crate) struct Found {
 fn sectors_of_entries(alloc: Global, entries: &[PlacedEntry]) -> Result<Vec<u32>, AllocError>
     ensures { IfOk result (λ sectors. sectors.items ≡ entry_sectors entries.now) }
 {
-    let mut sectors = Vec::with_capacity(alloc, entries.len())?;
-    for placed in entries {
-        sectors.push(placed.at)?;
-    }
-    Ok(sectors)
+    entries.iter().map(|placed| placed.at).collect(alloc)
 }
 
 impl Found {

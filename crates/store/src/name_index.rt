@@ -106,11 +106,7 @@ fn all_positions(alloc: Global, count: usize) -> Result<Vec<u16>, AllocError>
     requires { count < 2 ^ 16 }
     ensures { IfOk result (λ positions. positions.items ≡ range_with_len 0 count) }
 {
-    let mut positions = Vec::with_capacity(alloc, count)?;
-    for position in 0..count {
-        positions.push(position as u16)?;
-    }
-    Ok(positions)
+    (0..count as u16).collect(alloc)
 }
 
 /// All positions in the order of the names, where one may stand twice.

@@ -1,6 +1,5 @@
-// The roots that follow one, and the sectors of entries that their catalogues list.
-ghost use Rattle.std.specs.Prelude.{◌≡◌, ◌+◌, ◌<◌, ◌≤◌, ◌^◌, [], ◌∷◌, ◌++◌, length, map, All};
-ghost use Rattle.std.specs.Prelude.{vec_len, vec_capacity};
+// The roots that follow one.
+ghost use Rattle.std.specs.Prelude.{◌≡◌, ◌+◌, ◌<◌, ◌≤◌, ◌^◌, length, map, All};
 ghost use Rattle.roots.specs.Limits.{most_catalogues};
 ghost use Rattle.states.specs.Limits.{most_libraries, most_preloads};
 ghost use Rattle.roots.specs.Root.{RootHasSpelling, listed_preloads};
@@ -12,17 +11,6 @@ use crate::listed::catalogues;
 use crate::name_index::close_up;
 use roots::Root;
 use states::MOST_PRELOADS;
-
-/// Puts the sector of an entry behind the others, for which there is room.
-pub(crate) fn push_sector(sectors: &mut Vec<u32>, at: u32)
-    requires { vec_len sectors.old < vec_capacity sectors.old }
-    ensures { sectors.new.items ≡ sectors.old.items ++ at ∷ [] }
-{
-    match sectors.push(at) {
-        Ok(()) => {}
-        Err(_) => unreachable!(),
-    }
-}
 
 /// The next root, which counts so many libraries and lists these catalogues and the same preloads.
 pub(crate) fn next_root(root: &Root, libraries: usize, catalogues: &[u32]) -> Root

@@ -1,7 +1,7 @@
 // Putting a byte string behind the others.
 use crate::change::{Change, Staged};
 use crate::listed::catalogues;
-use crate::next::{next_root, push_sector};
+use crate::next::next_root;
 use crate::put::{new_entry, reserve_one, sector_need};
 use crate::refusal::StoreRefusal;
 use crate::room::{release_sectors, take_room};
@@ -70,7 +70,7 @@ impl<D: Disk> Store<D> {
         let spare = count - catalogues(&self.root).len();
         let room = take_room(&mut self.layout, sector_need(bytes), count, spare)?;
         let put = new_entry(name, bytes, &room);
-        push_sector(&mut self.sectors, put.at);
+        self.sectors.push_reserved(put.at);
         let root = next_root(&self.root, libraries, room.catalogues.as_slice());
         let change = Change {
             staged: Staged::Put(put, room.catalogues),
@@ -84,10 +84,7 @@ impl<D: Disk> Store<D> {
         }
         release_sectors(&mut self.layout, catalogues(&self.root));
         self.index.insert(&self.entries, name);
-        match self.entries.push(put) {
-            Ok(()) => {}
-            Err(_) => unreachable!(),
-        }
+        self.entries.push_reserved(put);
         self.root = change.root;
         self.failed = false;
         Ok(())

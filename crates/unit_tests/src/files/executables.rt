@@ -1,6 +1,6 @@
 // An executable file is made, and refused, where memory is ample.
 
-use executable::{Executable, ExecutableRefusal, executable_of};
+use executable::{ExecutableRefusal, executable_of};
 use hash_check::Admitted;
 use image::{Image, bind_alone, bind_program};
 use names::Name;
@@ -31,10 +31,10 @@ fn alone(alloc: Global, file: &[u8]) -> Result<Image, Fail> {
     }
 }
 
-/// The bytes of a file.
-fn bytes_of(alloc: Global, file: &Executable) -> Result<Vec<u8>, Fail> {
+/// The bytes of the executable file of an image.
+fn bytes_of(alloc: Global, image: &Image) -> Result<Vec<u8>, Fail> {
     let mut bytes = Vec::new(alloc);
-    file.write_to(&mut bytes)?;
+    executable_of(alloc, image)?.write_to(&mut bytes)?;
     Ok(bytes)
 }
 
@@ -48,13 +48,16 @@ fn word(bytes: &[u8], at: usize) -> Option<u64> {
 fn a_file_is_made(rt: HostRuntime) -> Result<(), Fail> {
     let alloc = rt.alloc();
     let image = alone(alloc, &with_entry(library(b'a', 1), 0x40))?;
-    let file = executable_of(alloc, &image)?;
-    let bytes = bytes_of(alloc, &file)?;
-    assert_eq!(rt; bytes.len(), 8192);
-    assert_eq!(rt; word(&bytes, 24), Some(0x20040));
-    assert_eq!(rt; word(&bytes, 64 + 56 + 16), Some(0x1f000));
-    assert_eq!(rt; word(&bytes, 64 + 112 + 16), Some(0x20000));
-    assert_eq!(rt; word(&bytes, 64 + 112 + 40), Some(344));
+    let bytes = bytes_of(alloc, &image)?;
+    let words = [
+        word(&bytes, 24),
+        word(&bytes, 64 + 56 + 16),
+        word(&bytes, 64 + 112 + 16),
+        word(&bytes, 64 + 112 + 40),
+    ];
+    let wanted = [Some(0x20040), Some(0x1f000), Some(0x20000), Some(344)];
+    assert!(rt; bytes.len() == 8192);
+    assert!(rt; words == wanted);
     Ok(())
 }
 
@@ -66,21 +69,26 @@ fn a_program_without_an_entry(rt: HostRuntime) -> Result<(), Fail> {
     Ok(())
 }
 
+/// The image of a program with the library a.
+fn with_library(alloc: Global, file: &[u8], own: &[u8]) -> Result<Image, Fail> {
+    let Ok(object) = Admitted::read(alloc, own) else {
+        return Err(Fail::from("refused"));
+    };
+    let libraries = [Library { name: b"a", object }];
+    match bind_program(alloc, file, 0x20000, &libraries, &[]) {
+        Ok(image) => Ok(image),
+        Err(_) => Err(Fail::from("refused")),
+    }
+}
+
 #[test]
 fn a_library_with_initializers(rt: HostRuntime) -> Result<(), Fail> {
     let alloc = rt.alloc();
     let mut own = library(b'a', 1);
     put(&mut own, TAG_AT, &[12]);
-    let Ok(object) = Admitted::read(alloc, &own) else {
-        return Err(Fail::from("refused"));
-    };
-    let libraries = [Library { name: b"a", object }];
-    let file = with_entry(program(b'a'), 0x40);
-    let Ok(image) = bind_program(alloc, &file, 0x20000, &libraries, &[]) else {
-        return Err(Fail::from("refused"));
-    };
+    let image = with_library(alloc, &with_entry(program(b'a'), 0x40), &own)?;
+    let refusal = executable_of(alloc, &image).err();
     let name = Name::copy_of(alloc, b"a")?;
-    let refusal = ExecutableRefusal::Initializers { name };
-    assert!(rt; executable_of(alloc, &image).err() == Some(refusal));
+    assert!(rt; refusal == Some(ExecutableRefusal::Initializers { name }));
     Ok(())
 }

@@ -95,10 +95,13 @@ fn find_plainly(object: &Object<'_>, name: &[u8]) -> Option<u32> {
     None
 }
 
+/// Names that are exported, and that aren't.
+static NAMES: [&[u8]; 6] = [b"f", b"g", b"u", b"", b"fg", b"f\0g"];
+
 /// Whether each name is found as a plain search finds it, and symbols and the library have their
 /// names.
 fn finds_plainly(admitted: &Admitted<'_>) -> bool {
-    for name in [b"f".as_slice(), b"g", b"u", b"", b"fg", b"f\0g"] {
+    for &name in &NAMES {
         if admitted.find(name) != find_plainly(admitted.object(), name) {
             return false;
         }

@@ -20,14 +20,28 @@ fn hold_first<D: Disk>(rt: &impl Abort, store: &mut Store<D>) -> HeldVersion {
     store.hold_version(0).expect(rt, "what is held")
 }
 
+// What a read of a version gives.
+fn read<D: Disk>(
+    rt: &impl AllocGlobal,
+    store: &mut Store<D>,
+    held: &HeldVersion,
+) -> Result<(usize, Option<u8>), StoreRefusal> {
+    given(store.read_version(rt.alloc(), held))
+}
+
+// Lets a version go, and the store.
+fn end<D: Disk + Drop>(mut store: Store<D>, held: HeldVersion) {
+    store.let_version_go(held);
+    let _ = store.into_disk();
+}
+
 #[test]
 fn a_read_that_fails_is_made_again(rt: HostRuntime) {
     let mut store = failing(&rt);
     let held = hold_first(&rt, &mut store);
-    let failed = given(store.read_version(rt.alloc(), &held));
-    let read = given(store.read_version(rt.alloc(), &held));
-    store.let_version_go(held);
-    let _ = store.into_disk();
+    let failed = read(&rt, &mut store, &held);
+    let read = read(&rt, &mut store, &held);
+    end(store, held);
     assert!(rt; failed == Err(StoreRefusal::Device) && read == Ok((344, Some(1))));
 }
 
@@ -47,11 +61,10 @@ fn after_a_failed_change_nothing_is_read(rt: HostRuntime) {
     let failed = make(&rt, &mut store, Put(0, 2, 344));
     let refusals = [
         read_first(&rt, &mut store),
-        store.read_version(rt.alloc(), &held).err(),
+        read(&rt, &mut store, &held).err(),
         make(&rt, &mut store, ChooseNone),
     ];
-    store.let_version_go(held);
-    let _ = store.into_disk();
+    end(store, held);
     assert!(rt; failed == Some(StoreRefusal::Device));
     assert!(rt; refusals == [Some(StoreRefusal::Reopen); 3]);
 }
@@ -63,9 +76,8 @@ fn a_handle_of_another_store_reads_nothing(rt: HostRuntime) {
     let mut other = opened(&rt, copy(&rt, &disk));
     let mut store = opened(&rt, disk);
     let held = hold_first(&rt, &mut store);
-    let read = given(other.read_version(rt.alloc(), &held));
-    other.let_version_go(held);
-    let _ = other.into_disk();
+    let read = read(&rt, &mut other, &held);
+    end(other, held);
     let _ = store.into_disk();
     assert!(rt; read == Err(StoreRefusal::Damaged));
 }

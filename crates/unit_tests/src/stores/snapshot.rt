@@ -21,6 +21,14 @@ fn taken(
     }
 }
 
+// Whether the snapshot has the name of a number at this position.
+fn names(store: &Store<Memory>, snapshot: &Snapshot, number: u32, position: usize) -> bool {
+    let name = numbered_name(number);
+    snapshot.position(store, &name) == Some(position)
+        && position < snapshot.count()
+        && snapshot.name(store, position) == name.as_slice()
+}
+
 // Whether the snapshot has so many bytes of this value under the name of a number, at this
 // position.
 fn has(
@@ -30,13 +38,9 @@ fn has(
     row: (u32, usize, u8, usize),
 ) -> bool {
     let (number, position, byte, length) = row;
-    let name = numbered_name(number);
-    if snapshot.position(store, &name) != Some(position) || position >= snapshot.count() {
-        return false;
-    }
-    let named = snapshot.name(store, position) == name.as_slice();
-    let read = snapshot.read(rt.alloc(), store, position);
-    named && given(read) == Ok((length, Some(byte)))
+    names(store, snapshot, number, position)
+        && position < snapshot.count()
+        && given(snapshot.read(rt.alloc(), store, position)) == Ok((length, Some(byte)))
 }
 
 // The names stand in another order than the positions.

@@ -31,6 +31,11 @@ loop-init g c =
       told_none held,
     )
 
+pub returns-in_err-next_line-clause-ok : goal.returns-in_err-next_line-clause-ok
+returns-in_err-next_line-clause-ok g c =
+    let p = err_from_is_err_and c.from_residual.result c.from_residual.ensures.1 in
+    rw p.1 tt
+
 pub returns-in_err-next_line-clause-err : goal.returns-in_err-next_line-clause-err
 returns-in_err-next_line-clause-err g c =
     let p = err_from_is_err_and c.from_residual.result c.from_residual.ensures.1 in
@@ -41,6 +46,11 @@ returns-in_err-next_line-clause-err g c =
     let now = append_known (g.W.Write.contents c.next_line.new.writer) c.next_line.new.waiting.waiting in
     let failed = subst (Unread (rest c.loop.pages) (rest c.next_line.new.pages) held now line) (sym p.2) c.in_err-next_line.ensures.err in
     rw p.1 (off_reading g.W.Write.contents g.G.TakesEvents.step _ (place (rest c.loop.pages) held) _ _ _ so.0 so.1 so.2 so.3 so.4 (place (rest c.next_line.new.pages) now) line p.0 failed)
+
+pub returns-in_err-refused-in-Whole-clause-ok : goal.returns-in_err-refused-in-Whole-clause-ok
+returns-in_err-refused-in-Whole-clause-ok g c =
+    let p = err_from_is_err_and c.from_residual-in_err-refused-in-Whole.result c.from_residual-in_err-refused-in-Whole.ensures.1 in
+    rw p.1 tt
 
 pub returns-in_err-refused-in-Whole-clause-err : goal.returns-in_err-refused-in-Whole-clause-err
 returns-in_err-refused-in-Whole-clause-err g c =
@@ -60,6 +70,11 @@ returns-in_err-refused-in-Whole-clause-err g c =
     (off_line g.W.Write.contents g.G.TakesEvents.step _ (place (rest c.loop.pages) held) _ _ _ so.0 so.1 so.2 so.3 so.4
     (place (rest c.next_line.new.pages) mid)
     (place (rest c.next_line.new.pages) now) s' line p.0 got.0 got.1 c.in_ok-next_line.ensures.kept missed)
+
+pub returns-in_err-put_answer-in-Cut-clause-ok : goal.returns-in_err-put_answer-in-Cut-clause-ok
+returns-in_err-put_answer-in-Cut-clause-ok g c =
+    let p = err_from_is_err_and c.from_residual-in_err-put_answer-in-Cut.result c.from_residual-in_err-put_answer-in-Cut.ensures.1 in
+    rw p.1 tt
 
 pub returns-in_err-put_answer-in-Cut-clause-err : goal.returns-in_err-put_answer-in-Cut-clause-err
 returns-in_err-put_answer-in-Cut-clause-err g c =
@@ -96,6 +111,9 @@ returns-in-End-clause-ok g c =
       so.4,
     )
 
+pub returns-in-End-clause-err : goal.returns-in-End-clause-err
+returns-in-End-clause-err g c = tt
+
 pub returns-in-Cut-clause-ok : goal.returns-in-Cut-clause-ok
 returns-in-Cut-clause-ok g c =
     let so = c.loop.invariant in
@@ -115,6 +133,9 @@ returns-in-Cut-clause-ok g c =
       so.4,
     )
 
+pub returns-in-Cut-clause-err : goal.returns-in-Cut-clause-err
+returns-in-Cut-clause-err g c = tt
+
 pub loop-preserved : goal.loop-preserved
 loop-preserved g c =
     let so = c.loop.invariant in
@@ -133,6 +154,9 @@ loop-preserved g c =
     (place (rest c.next_line.new.pages) now) _ _ line ok.0 c.in_ok-refused-in-Whole.refused got.0 got.1 made
     (Appends-trans held mid now [] (answer_text ok.0) c.in_ok-next_line.ensures.kept ok.2) ok.3 c.count.ensures.lines c.count.ensures.refused)
     either
+
+pub returns-clause-ok : goal.returns-clause-ok
+returns-clause-ok g c = tt
 
 pub returns-clause-err : goal.returns-clause-err
 returns-clause-err g c =

@@ -1,4 +1,4 @@
-use Rattle.std.proofs.Common.{◌≡◌, ◌<◌, ◌+◌, ◌∙◌, ◌∷◌, ◌++◌, ℕ, List, [], length, map, take, get_or, ap, sym, refl, append_assoc}
+use Rattle.std.proofs.Common.{◌≡◌, ◌<◌, ◌+◌, ◌∙◌, ◌∷◌, ◌++◌, ℕ, List, [], length, map, take, get_or, ap, sym, refl, append_assoc, arith}
 use Rattle.std.proofs.lemmas.List.{map_more}
 use Rattle.hash_check.specs.inside.Numbered.{behind}
 use Rattle.hash_check.specs.declared.endings.Ending.{Ending}
@@ -14,5 +14,9 @@ one-more before old all new xs i e d lt is held pushed =
 pub loop-ending-preserved : goal.loop-ending-preserved
 unfolding behind
 loop-ending-preserved c =
-    one-more c.args.before c.args.all.now.items c.loop-ending.all.items c.push.new.self.items c.args.endings.now c.loop-ending.ending-index _ _
-    c.loop-ending-test.true refl c.loop-ending.invariant c.in_ok-push.ensures.items
+    record {
+      items = one-more c.args.before c.args.all.now.items c.loop-ending.all.items c.push_reserved.new.self.items c.args.endings.now c.loop-ending.ending-index _ _
+          c.loop-ending-test.true refl c.loop-ending.invariant.items c.push_reserved.ensures.items;
+      len = omega (arith, c.push_reserved.ensures.len, c.loop-ending.invariant.len);
+      room = omega (arith, c.push_reserved.ensures.capacity, c.loop-ending.invariant.room);
+    }

@@ -11,11 +11,12 @@ loop-symbol-preserved c =
     let k : ℕ = c.loop-symbol.symbol-index in
     let lt : c.loop-symbol.symbol-index < length c.args.symbols.now = omega arith in
     record {
-      symbols = c.in_ok-push.ensures.items ∙ ap (λ (l : List NumberedSymbol). l ++ unnumbered c.args.place (get_or xs k 0) ∷ []) c.loop-symbol.invariant.symbols
+      symbols = c.push_reserved.ensures.items ∙ ap (λ (l : List NumberedSymbol). l ++ unnumbered c.args.place (get_or xs k 0) ∷ []) c.loop-symbol.invariant.symbols
           ∙ append_assoc old (map (unnumbered c.args.place) (take k xs)) (unnumbered c.args.place (get_or xs k 0) ∷ [])
           ∙ ap (λ (l : List NumberedSymbol). old ++ l) (sym (map_more (unnumbered c.args.place) xs k 0 lt));
       names = c.loop-symbol.invariant.names;
-      own = c.loop-symbol.invariant.own;
+      len = omega (arith, c.push_reserved.ensures.len, c.loop-symbol.invariant.len);
+      room = omega (arith, c.push_reserved.ensures.capacity, c.loop-symbol.invariant.room);
     }
 
 pub returns-clause-symbols : goal.returns-clause-symbols
@@ -24,4 +25,4 @@ returns-clause-symbols c =
     c.loop-symbol.invariant.symbols ∙ ap (λ (l : List ℕ). c.args.gathered.now.symbols.items ++ map (unnumbered c.args.place) l) (take_all c.loop-symbol.symbol-index c.args.symbols.now all)
 
 pub returns-clause-names : goal.returns-clause-names
-returns-clause-names c = c.in_ok-append.ensures.items ∙ ap (λ l. l ++ c.args.names.items) c.loop-symbol.invariant.names
+returns-clause-names c = c.loop-symbol.invariant.names

@@ -1,4 +1,4 @@
-use Rattle.std.proofs.Common.{◌≡◌, Some, None, inr, refl, sym, ◌∙◌}
+use Rattle.std.proofs.Common.{◌≡◌, Some, None, inl, inr, refl, sym, ◌∙◌}
 use Rattle.hash_check.specs.FileRefusal.{first_file_refusal}
 use Rattle.requests.proofs.Sonames.{file_taken}
 use Rattle.registry.proofs.admit.see_library.Goals as goal
@@ -14,3 +14,6 @@ returns-then-is_library-clause-damaged c = tt
 
 pub returns-in-Err-OutOfMemory-clause-refusals : goal.returns-in-Err-OutOfMemory-clause-refusals
 returns-in-Err-OutOfMemory-clause-refusals c = inr refl
+
+pub returns-in-Err-File-clause-refusals : goal.returns-in-Err-File-clause-refusals
+returns-in-Err-File-clause-refusals c = inl refl

@@ -6,7 +6,7 @@ use Rattle.hash_check.specs.declared.numbered.NumberedSymbol.{NumberedSymbol}
 use Rattle.scope.specs.Objects.{Named}
 use Rattle.scope.specs.declared.target.Target.{Target}
 use Rattle.scope.specs.inside.Definitions.{nth_target, AreLast, own_of, own_definition}
-use Rattle.scope.proofs.Kept.{own-found, own-more}
+use Rattle.scope.proofs.Kept.{last-none, own-found, own-more}
 use Rattle.scope.proofs.definitions.own_definitions.Goals as goal
 
 pub loop-at-preserved : goal.loop-at-preserved
@@ -37,3 +37,13 @@ loop-at-preserved c =
       own = λ k le. subst (λ (l : List (Option Target)). nth_target l k ≡ own_definition objects (nth_symbol all k)) (sym c.push_reserved.ensures.items)
           (own-more objects all c.loop-at.own.items c.loop-at.at c.own_one.result c.loop-at.invariant.count c.loop-at.invariant.own is k le);
     }
+
+pub loop-at-init : goal.loop-at-init
+loop-at-init c = record {
+  last = last-none c.args.objects.now c.args.symbols.now c.in_ok-last.last.items c.in_ok-last.ensures;
+  within = omega arith;
+  low = λ j k before. absurd (omega (arith, before));
+  count = ap length c.in_ok-own.ensures.items;
+  room = c.in_ok-own.ensures.capacity;
+  own = λ k lt. absurd (omega (arith, lt));
+}

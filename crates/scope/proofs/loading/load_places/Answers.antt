@@ -79,3 +79,9 @@ pub returns-clause-found : goal.returns-clause-found
 returns-clause-found c =
     missing-end c.args.program.now c.args.libraries.now c.args.preloads.now c.loop-i.places.places c.loop-i.i c.loop-i.invariant.reached c.loop-i.invariant.within
     (omega (arith, c.count.ensures.count, c.loop-i-test.false)) c.loop-i.invariant.clear
+
+pub first_level-requires-clause-preloads : goal.first_level-requires-clause-preloads
+first_level-requires-clause-preloads c = c.requires.preloads
+
+pub first_level-requires-clause-distinct : goal.first_level-requires-clause-distinct
+first_level-requires-clause-distinct c = c.requires.distinct

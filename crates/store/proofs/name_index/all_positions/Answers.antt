@@ -1,7 +1,6 @@
-use Rattle.std.proofs.Common.{sym, ap, ◌∙◌, ◌++◌, ◌∷◌, []}
-use Rattle.store.proofs.NameOrder.{range_more}
+use Rattle.std.proofs.Common.{refl, arith}
+use Rattle.std.proofs.lemmas.Iterator.{items_from_collect, YieldsList-from_range}
 use Rattle.store.proofs.name_index.all_positions.Goals as goal
 
-pub loop-position-preserved : goal.loop-position-preserved
-loop-position-preserved c =
-    c.in_ok-push.ensures.items ∙ ap (λ l. l ++ c.loop-position.position ∷ []) c.loop-position.invariant ∙ sym (range_more c.loop-position.position)
+pub returns : goal.returns
+returns c = items_from_collect c.collect.result c.collect.ensures.ran (YieldsList-from_range 0 c.args.count c.args.count refl (omega arith))

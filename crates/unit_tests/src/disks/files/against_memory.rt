@@ -60,16 +60,20 @@ fn read_all(alloc: Global, file: Fake) -> Option<u64> {
     filled.then_some(reads)
 }
 
+// Such a file, which was filled.
+fn filled(alloc: Global) -> Option<Fake> {
+    let mut disk = disk(alloc, 5_000, WELL)?;
+    let filled = fill(&mut disk) && disk.sync().is_ok();
+    filled.then_some(disk.into_file())
+}
+
 // Fills such a file: how many writes that takes, how many there were when it was synced, how many
 // reads that takes, and then how many to read it all.
 fn fill_and_read(alloc: Global) -> Option<[u64; 4]> {
-    let mut disk = disk(alloc, 5_000, WELL)?;
-    let filled = fill(&mut disk) && disk.sync().is_ok();
-    let file = disk.into_file();
-    let counts = [file.writes, file.synced.get(), file.reads];
+    let file = filled(alloc)?;
+    let [writes, synced, reads] = [file.writes, file.synced.get(), file.reads];
     let again = read_all(alloc, file)?;
-    let [writes, synced, reads] = counts;
-    filled.then_some([writes, synced, reads, again])
+    Some([writes, synced, reads, again])
 }
 
 #[test]

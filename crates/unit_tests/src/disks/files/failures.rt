@@ -34,17 +34,23 @@ fn are_first(done: [bool; 7], count: usize) -> bool {
     true
 }
 
+// Whether a sector that held zeros and was written is old or new.
+fn is_old_or_new(found: Option<u8>, new: u8) -> bool {
+    found == Some(0) || found == Some(new)
+}
+
 // Whether the file, opened again, holds each of these sectors old or new, and works.
 fn works_again(alloc: Global, file: Fake, contents: [u8; 4]) -> bool {
     let Some(mut again) = reopened(alloc, file) else {
         return false;
     };
-    let found = four_sectors(&mut again);
-    let mut right = write(&mut again, 5, 15) && again.sync().is_ok();
-    for (content, found) in contents.iter().zip(&found) {
-        right = right && (*found == Some(0) || *found == Some(*content));
-    }
-    right
+    let [one, two, three, six] = four_sectors(&mut again);
+    let works = write(&mut again, 5, 15) && again.sync().is_ok();
+    works
+        && is_old_or_new(one, contents[0])
+        && is_old_or_new(two, contents[1])
+        && is_old_or_new(three, contents[2])
+        && is_old_or_new(six, contents[3])
 }
 
 // Whether the calls of the disk fail from this one on where this call of the file fails, and its

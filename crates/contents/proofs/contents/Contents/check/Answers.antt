@@ -1,38 +1,61 @@
-use Rattle.std.proofs.Common.{◌<◌, ◌+◌, length, sym, subst, arith}
+use Rattle.std.proofs.Common.{◌≡◌, ◌<◌, ◌≤◌, ◌+◌, length, sym, subst, arith}
+use Rattle.sector_disk.proofs.Moments.{exactly_none, exactly_at_most}
 use Rattle.store.specs.Opened.{IsAt}
-use Rattle.store.proofs.IsReadLemmas.{read_more}
-use Rattle.contents.proofs.Findings.{FoundSoFar, one_found, some_calls}
+use Rattle.store.proofs.IsReadLemmas.{read_none, read_more}
+use Rattle.contents.proofs.Findings.{FoundSoFar, none_found, one_found, some_calls, all_counted, all_calls}
 use Rattle.contents.proofs.contents.Contents.check.Goals as goal
 
 pub returns-in_err-finding-clause-read : goal.returns-in_err-finding-clause-read
-returns-in_err-finding-clause-read g c = read_more c.loop-position.invariant.read c.check_at.ensures.read
+returns-in_err-finding-clause-read g c = read_more c.loop-position.invariant.0.read c.check_at.ensures.read
 
 pub returns-in_err-finding-clause-calls : goal.returns-in_err-finding-clause-calls
 returns-in_err-finding-clause-calls g c =
     let lt : c.loop-position.position < length c.args.self.now.entries =
     subst (λ store. c.loop-position.position < length store.entries) c.self.view_is
     (omega (arith, c.loop-position-test.true, c.count-position-end.ensures.value)) in
-    some_calls c.check_at.new.self lt c.loop-position.invariant c.check_at.ensures.calls
-
-pub returns-in_err-push-clause-read : goal.returns-in_err-push-clause-read
-returns-in_err-push-clause-read g c = read_more c.loop-position.invariant.read c.check_at.ensures.read
-
-pub returns-in_err-push-clause-calls : goal.returns-in_err-push-clause-calls
-returns-in_err-push-clause-calls g c =
-    let lt : c.loop-position.position < length c.args.self.now.entries =
-    subst (λ store. c.loop-position.position < length store.entries) c.self.view_is
-    (omega (arith, c.loop-position-test.true, c.count-position-end.ensures.value)) in
-    some_calls c.check_at.new.self lt c.loop-position.invariant c.check_at.ensures.calls
+    some_calls c.check_at.new.self lt c.loop-position.invariant.0 c.check_at.ensures.calls
 
 pub loop-position-preserved : goal.loop-position-preserved
 loop-position-preserved g c =
     let lt : c.loop-position.position < length c.args.self.now.entries =
     subst (λ store. c.loop-position.position < length store.entries) c.self.view_is
-    (omega (arith, c.loop-position-test.true, c.count-position-end.ensures.value)) in
-    subst (FoundSoFar g.D.Disk.facts c.args.self.now c.check_at.new.self (c.loop-position.position + 1)) (sym c.in_ok-push.ensures.items)
-    (one_found c.in_ok-finding.finding lt c.loop-position.invariant c.check_at.ensures.read c.in_ok-finding.ensures.finding c.in_ok-finding.ensures.device c.check_at.ensures.calls)
+    (omega (arith, c.loop-position-test.true, c.count-position-end.ensures.value)) in (
+      subst (FoundSoFar g.D.Disk.facts c.args.self.now c.check_at.new.self (c.loop-position.position + 1)) (sym c.push_reserved.ensures.items)
+          (one_found c.in_ok-finding.finding lt c.loop-position.invariant.0 c.check_at.ensures.read c.in_ok-finding.ensures.finding c.in_ok-finding.ensures.device c.check_at.ensures.calls),
+      omega (arith, c.push_reserved.ensures.len, c.loop-position.invariant.1),
+      omega (arith, c.push_reserved.ensures.capacity, c.loop-position.invariant.2),
+    )
 
 pub returns-clause-findings : goal.returns-clause-findings
 returns-clause-findings g c s at i lt d =
     let here = subst (λ store. IsAt g.D.Disk.facts store s) (sym c.self.view_is) at in
-    c.loop-position.invariant.each s at i (omega (arith, lt, c.loop-position-test.false, c.count-position-end.ensures.state s here)) d
+    c.loop-position.invariant.0.each s at i (omega (arith, lt, c.loop-position-test.false, c.count-position-end.ensures.state s here)) d
+
+pub returns-in_err-findings-clause-read : goal.returns-in_err-findings-clause-read
+returns-in_err-findings-clause-read g c = read_none c.args.self.now
+
+pub returns-in_err-findings-clause-calls : goal.returns-in_err-findings-clause-calls
+returns-in_err-findings-clause-calls g c = exactly_at_most (exactly_none (g.D.Disk.facts c.args.self.now.disk)) (omega arith)
+
+pub loop-position-init : goal.loop-position-init
+loop-position-init g c = (
+  subst (FoundSoFar g.D.Disk.facts c.args.self.now c.args.self.now 0) (sym c.in_ok-findings.ensures.items) (none_found c.args.self.now),
+  c.in_ok-findings.ensures.len,
+  omega (arith, c.in_ok-findings.ensures.capacity, c.count.ensures.value, c.count-position-end.ensures.value),
+)
+
+pub returns-clause-all : goal.returns-clause-all
+returns-clause-all g c = all_counted c.loop-position.invariant.0
+    (subst (λ store. length store.entries ≡ c.loop-position.position) c.self.view_is
+    (omega (arith, c.loop-position-test.false, c.loop-position.auto.position-end, c.count-position-end.ensures.value)))
+
+pub returns-clause-calls : goal.returns-clause-calls
+returns-clause-calls g c = all_calls c.loop-position.invariant.0
+    (subst (λ store. length store.entries ≤ c.loop-position.position) c.self.view_is
+    (omega (arith, c.loop-position-test.false, c.count-position-end.ensures.value)))
+
+pub returns-clause-read : goal.returns-clause-read
+returns-clause-read g c = c.loop-position.invariant.0.read
+
+pub returns-clause-device : goal.returns-clause-device
+returns-clause-device g c = c.loop-position.invariant.0.failures

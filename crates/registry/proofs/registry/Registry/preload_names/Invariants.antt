@@ -1,8 +1,13 @@
-use Rattle.std.proofs.Common.{◌≡◌, take}
+use Rattle.std.proofs.Common.{◌≡◌, ◌≤◌, length, take}
+use Rattle.std.specs.Vec.{vec_len, vec_capacity}
 use Rattle.store.specs.Stands.{names_at}
 use Rattle.states.specs.State.{State}
 use Rattle.store.specs.Opened.{IsAt}
 use Rattle.registry.proofs.registry.Registry.preload_names.Given as goal
 
 abbrev pub invariant-loop-position : goal.invariant-loop-position
-invariant-loop-position g l = (s : State) → IsAt g.D.Disk.facts l.fn.self s → l.names.items ≡ names_at s.libraries (take l.position-index l.positions)
+invariant-loop-position g l = record {
+  items : (s : State) → IsAt g.D.Disk.facts l.fn.self s → l.names.items ≡ names_at s.libraries (take l.position-index l.positions);
+  len : vec_len l.names ≡ l.position-index;
+  room : length l.positions ≤ vec_capacity l.names;
+}

@@ -34,6 +34,7 @@ returns-clause-walked g c program taken offers so_far =
     let before : Needs = c.args.self.now.needs in
     let f : Library = c.in_ok-file.file in
     let apart : AreApart (length taken.entries + 1) before.places.places = subst (λ k. AreApart k before.places.places) so_far.among.places.limit c.next_position-position.ensures.apart in
+    let bytes : c.object.result.now ≡ f.bytes = c.object.ensures.same ∙ c.admitted.ensures in
     let has = entries_read g.D.Disk.facts c.args.store.now c.read_library.new.store c.read_library.ensures.read c.args.source taken.entries offers.entries in
     subst (IsWalked g.D.Disk.facts program taken c.add_needed.new.self) (sym (c.push_reserved.ensures.items ∙ ap (λ (l : List Library). l ++ f ∷ []) c.reserve.ensures.items))
     (one_read g.D.Disk.facts program taken (g.met.D.Disk.holds_now taken.disk) so_far apart c.requires.next f
@@ -41,7 +42,7 @@ returns-clause-walked g c program taken offers so_far =
     c.add_needed.new.self
     (c.in_ok-add_needed.ensures.ok taken.entries has offers.own
     ∙ ap (λ (m : List ℕ). more_needs (entry_names taken.entries) before m (needed c.object.result.now)) c.name.ensures
-    ∙ ap (λ (b : List ℕ). more_needs (entry_names taken.entries) before f.name (needed b)) (c.object.ensures.same ∙ c.admitted.ensures)))
+    ∙ ap (λ (b : List ℕ). more_needs (entry_names taken.entries) before f.name (needed b)) bytes))
 
 pub returns-in_err-file-clause-calls : goal.returns-in_err-file-clause-calls
 returns-in_err-file-clause-calls g c entries has d = calls_at _ _ c.next_position-position.ensures.next entries d (c.read_library.ensures.calls entries has d)

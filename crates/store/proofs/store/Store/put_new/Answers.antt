@@ -95,10 +95,10 @@ newly g c =
     }
 
 -- its sectors are listed with the others'
-listed_are : (g : given.Over) (c : After-next_root-root g) → c.push_sector.new.sectors.items ≡ entry_sectors (c.self.inside.entries.items ++ c.new_entry-put.result ∷ [])
+listed_are : (g : given.Over) (c : After-next_root-root g) → c.push_reserved.new.self.items ≡ entry_sectors (c.self.inside.entries.items ++ c.new_entry-put.result ∷ [])
 listed_are g c =
     let put = c.new_entry-put.result in
-    c.push_sector.ensures
+    c.push_reserved.ensures.items
     ∙ ap (λ l. l ++ put.at ∷ []) (c.reserve_one.ensures.sectors ∙ c.self.invariant.3 c.if-self.false)
     ∙ sym (map_push (λ (p : PlacedEntry). p.at) c.self.inside.entries.items put)
 
@@ -106,7 +106,7 @@ listed_are g c =
 enough : (g : given.Over) (c : After-next_root-root g) → length c.args.bytes.now ≤ 512 * sector_count (extents_of c.new_entry-put.result.entry)
 enough g c = omega (arith, ap sector_count c.new_entry-put.ensures.extents, c.in_ok-room.ensures.sum, c.sector_need.ensures, (div_ceil_times (length c.args.bytes.now) 512 (omega arith)).0)
 
-putting : (g : given.Over) (c : After-next_root-root g) (s : State) (sectors : List ℕ) → sectors ≡ c.push_sector.new.sectors.items
+putting : (g : given.Over) (c : After-next_root-root g) (s : State) (sectors : List ℕ) → sectors ≡ c.push_reserved.new.self.items
     → IsFollowed Two c.self.inside.root c.self.inside.entries.items s (record { staged = Put c.new_entry-put.result c.in_ok-room.room.catalogues; root = c.next_root-root.result })
     c.args.bytes.now sectors (c.self.inside.entries.items ++ c.new_entry-put.result ∷ []) (with_new c.args.name.now c.args.bytes.now s)
 putting g c s sectors are =
@@ -191,7 +191,7 @@ invariant_of-self-2 g c =
     let is_new = newly g before in
     let put = c.new_entry-put.result in
     let others = c.self.inside.entries.items ++ put ∷ [] in
-    let items = c.in-Ok.ensures.items ∙ ap (λ l. l ++ put ∷ []) c.reserve_one.ensures.entries in
+    let items = c.push_reserved-2.ensures.items ∙ ap (λ l. l ++ put ∷ []) c.reserve_one.ensures.entries in
     let new = c.release_sectors.new.layout in
     let released : IsReleased c.take_room.new.layout new (catalogues_of c.self.inside.root) = subst (IsReleased c.take_room.new.layout new) c.catalogues-2.ensures c.release_sectors.ensures in
     let moved = new_moved is_new in (
@@ -201,7 +201,7 @@ invariant_of-self-2 g c =
           (rows_more put is_new.kept.rows)
           (moved_claimed is_new.kept is_new.claimed c.next_root-root.result others moved new released)),
       subst (λ l. IsOrderOf (entry_names l) c.insert.new.self.positions)
-          (ap (λ l. l ++ put ∷ []) c.deref-2.ensures.value ∙ sym c.in-Ok.ensures.items) (c.insert.ensures put c.new_entry-put.ensures.name),
+          (ap (λ l. l ++ put ∷ []) c.deref-2.ensures.value ∙ sym c.push_reserved-2.ensures.items) (c.insert.ensures put c.new_entry-put.ensures.name),
       c.carry_out-written.ensures.calls.sectors ∙ c.self.invariant.2 ∙ sym (ap (λ r. r.sectors) c.next_root-root.ensures),
       λ _. listed_are g before ∙ ap entry_sectors (sym items),
       next_version (new_next is_new) is_new.kept.root_fits,
@@ -237,7 +237,7 @@ pub returns-clause-ok : goal.returns-clause-ok
 returns-clause-ok g c s at_entry =
     let at = subst (λ store. IsAt g.D.Disk.facts store s) (sym c.self.view_is) at_entry in
     let put = putting g (goal.at.returns-clause-ok g c).After-next_root-root s c.deref.result.now c.deref.ensures.value in
-    let items = c.in-Ok.ensures.items ∙ ap (λ l. l ++ c.new_entry-put.result ∷ []) c.reserve_one.ensures.entries in
+    let items = c.push_reserved-2.ensures.items ∙ ap (λ l. l ++ c.new_entry-put.result ∷ []) c.reserve_one.ensures.entries in
     record {
       honest = subst IsTrue (sym c.carry_out-written.ensures.calls.honest) at.honest;
       usable = refl;
@@ -265,7 +265,7 @@ returns-clause-placed g c =
     record {
       put = put;
       taken = subst (λ store. IsTaken (layout_in_use store) (div_ceil (length c.args.bytes.now) 512) (extents_of put.entry) put.at (catalogues_of c.next_root-root.result)) c.self.view_is taken;
-      entries = c.in-Ok.ensures.items ∙ ap (λ l. l ++ put ∷ []) c.reserve_one.ensures.entries ∙ ap (λ store. store.entries ++ put ∷ []) c.self.view_is;
+      entries = c.push_reserved-2.ensures.items ∙ ap (λ l. l ++ put ∷ []) c.reserve_one.ensures.entries ∙ ap (λ store. store.entries ++ put ∷ []) c.self.view_is;
       written = λ honest. have_bytes (g.D.Disk.facts c.carry_out-written.new.disk) (extents_of put.entry) c.args.bytes.now
           (ap sector_count c.new_entry-put.ensures.extents ∙ room.sum ∙ c.sector_need.ensures)
           (c.in_default.ensures.written (subst (λ store. IsTrue (g.D.Disk.facts store.disk).honest) (sym c.self.view_is) honest));
@@ -436,8 +436,11 @@ new_entry-put-requires-clause-sum g c = c.in_ok-room.ensures.sum ∙ c.sector_ne
 pub new_entry-put-requires-clause-size : goal.new_entry-put-requires-clause-size
 new_entry-put-requires-clause-size g c = c.requires.size
 
-pub push_sector-requires : goal.push_sector-requires
-push_sector-requires g c = c.in_ok-reserve_one.ensures.sectors_room
+pub push_reserved-requires : goal.push_reserved-requires
+push_reserved-requires g c = c.in_ok-reserve_one.ensures.sectors_room
+
+pub push_reserved-requires-2 : goal.push_reserved-requires-2
+push_reserved-requires-2 g c = c.in_ok-reserve_one.ensures.entries_room
 
 pub catalogues-requires : goal.catalogues-requires
 catalogues-requires g c = c.self.invariant.0.root_fits
