@@ -148,5 +148,6 @@ pub returns-clause-calls : goal.returns-clause-calls
 returns-clause-calls g c =
     let calls =
     then_in_row c.in_ok-write_singles.ensures.calls (then_in_row c.in_ok-write_bytes.ensures.calls (then_in_row c.in_ok-write_singles-2.ensures.calls (one_in_row c.sync.ensures.calls))) in
-    let sum : length c.split_at.result.0.now + (sector_count c.args.extents.now + (length c.split_at.result.1.now + 1)) ≡ sector_count c.args.extents.now + length c.args.singles.now + 1 = omega arith in
+    let sum : length c.split_at.result.0.now + (sector_count c.args.extents.now + (length c.split_at.result.1.now + 1)) ≡ sector_count c.args.extents.now + length c.args.singles.now + 1 =
+    omega arith in
     subst (λ n. AreCallsInRow n (g.D.Disk.facts c.args.disk.now) (g.D.Disk.facts c.sync.new.self) c.sync.result) sum calls
