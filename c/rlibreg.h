@@ -398,9 +398,11 @@ rlibreg *rlibreg_create(void);
 void rlibreg_close(rlibreg *registry);
 
 /* What the last call of this struct was answered: the line or the reply of the program, ended by a
- * byte 0, and the answer. Both stay until the next call. */
+ * byte 0, and the answer. Both stay until the next call. And where it was answered RLIBREG_SYSTEM or
+ * S1, errno as the call left it; else 0. */
 const char *rlibreg_text(const rlibreg *registry);
 const rlibreg_answer *rlibreg_last(const rlibreg *registry);
+int rlibreg_errno(const rlibreg *registry);
 
 /* How a file is opened: for reading alone, with a lock that others share who read, and without
  * waiting for it; or with a sum of these. */

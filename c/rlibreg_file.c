@@ -16,6 +16,7 @@ struct rlibreg {
     char *text;     /* of the last answer, ended by a byte 0 */
     size_t text_room;
     rlibreg_answer answer;
+    int why; /* errno as the last answer without the first layer left it */
 };
 
 /* ---- Answers */
@@ -23,6 +24,7 @@ struct rlibreg {
 /* Answers without the first layer, with this text. */
 static uint32_t say(rlibreg *it, uint32_t status, const char *text) {
     it->answer = (rlibreg_answer){ .status = status, .text = strlen(text) };
+    it->why = errno;
     strcpy(it->text, text);
     return status;
 }
@@ -49,13 +51,14 @@ static int text_was_cut(rlibreg *it) {
         it->text[whole] = 0;
         return 0;
     }
-    char *larger = realloc(it->text, whole + 1);
+    char *larger = malloc(whole + 1), *before = it->text;
     if (!larger) {
         it->text[it->text_room - 1] = 0;
         return 0;
     }
     it->text = larger;
     it->text_room = whole + 1;
+    free(before); /* the last: a child that another thread forks just then can close the struct */
     return 1;
 }
 
@@ -93,6 +96,11 @@ const char *rlibreg_text(const rlibreg *it) {
 
 const rlibreg_answer *rlibreg_last(const rlibreg *it) {
     return &it->answer;
+}
+
+int rlibreg_errno(const rlibreg *it) {
+    uint32_t status = it->answer.status;
+    return status == RLIBREG_SYSTEM || status == RLIBREG_DEVICE ? it->why : 0;
 }
 
 /* ---- The file */
@@ -455,6 +463,12 @@ static int make_room(rlibreg_image *out, struct room room) {
     return 0;
 }
 
+/* Gives back the room that an image doesn't take. Its bytes are the most of it. */
+static void give_room_back(rlibreg_image *it, size_t bytes) {
+    uint8_t *fitting = realloc(it->bytes, bytes);
+    if (fitting) it->bytes = fitting;
+}
+
 static uint32_t bind_into(rlibreg *it, const struct bound *what, rlibreg_image *out,
                           struct room room) {
     return over_bytes(it, rlibreg_bind(it->file.bytes, it->file.length, what->program, what->length,
@@ -484,6 +498,7 @@ uint32_t rlibreg_image_of(rlibreg *it, const void *program, size_t length, uint6
         room = (struct room){ it->answer.objects, it->answer.count, it->answer.bytes };
         if (!make_room(out, room)) return say_memory(it);
     }
+    give_room_back(out, it->answer.bytes);
     out->count = it->answer.count;
     out->object_count = it->answer.objects;
     return RLIBREG_DONE;

@@ -168,6 +168,10 @@ static void want_reopen(rlibreg *it, const struct change *change) {
     WANT(rlibreg_findings_of(it, &findings) == RLIBREG_REOPEN && !findings.findings);
 }
 
+static int is_of_the_system(uint32_t status) {
+    return status == RLIBREG_SYSTEM || status == RLIBREG_DEVICE;
+}
+
 /* Makes a change, from the opening of the disk to its closing. */
 static struct outcome attempt(const struct change *change) {
     struct outcome it = { 0 };
@@ -177,6 +181,7 @@ static struct outcome attempt(const struct change *change) {
     it.status = it.opened ? it.opened : change->make(registry);
     it.why = errno;
     WANT(rlibreg_last(registry)->status == it.status);
+    WANT(rlibreg_errno(registry) == (is_of_the_system(it.status) ? it.why : 0));
     if (it.status == RLIBREG_SYSTEM) WANT(!rlibreg_text(registry)[0]);
     if (it.status == RLIBREG_DEVICE) {
         WANT(!strcmp(rlibreg_text(registry), "refused S1 Device\n"));

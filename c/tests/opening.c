@@ -23,6 +23,7 @@ static uint32_t opens(const char *path, unsigned flags) {
     uint32_t status = rlibreg_open(it, path, flags);
     int why = errno;
     WANT(rlibreg_last(it)->status == status && !rlibreg_text(it)[0]);
+    WANT(rlibreg_errno(it) == (status == RLIBREG_SYSTEM ? why : 0));
     rlibreg_close(it);
     errno = why;
     return status;
