@@ -2,15 +2,17 @@
 """Runs each changing command of the program `rlibreg` on a disk in a file, and has one system call after the other fail,
 or kills the program at it. Wants strace.
 
-    python3 bench/faults.py PROGRAM FOLDER
+    python3 bench/faults.py PROGRAM FOLDER [--tool RLIBREG_TOOL]
 
 After each run the disk, as a whole machine still has it, is listed, and a program is bound from it: both have to be as
 before the command or as after it, and as after it where the command answered `ok`. So `format` of a disk that isn't there
 leaves none, or a whole registry; the other name under which it is made is left by a kill alone, or where it can't be taken
 away (`making.py` has more of this). At last every two syncs of a command fail. It prints, for each command and each kind
-of fault, how many runs ended how. Before that come the standard streams that are closed or fail (`streams.py`).
+of fault, how many runs ended how. Before that come the standard streams that are closed or fail (`streams.py`), of
+RLIBREG_TOOL too.
 """
 
+import argparse
 import collections
 import shutil
 import subprocess
@@ -19,7 +21,7 @@ from pathlib import Path
 
 from libraries import Made
 from old_disks import old_disk
-from streams import try_streams
+from streams import Streams, ToolStreams, try_streams
 
 SECTORS = '64'
 # Where a call fails before the program's own code runs, the loader of the C library says so and exits with 127.
@@ -123,7 +125,12 @@ def two_syncs(calls):
 
 
 def main():
-    program, folder = Path(sys.argv[1]), Path(sys.argv[2])
+    words = argparse.ArgumentParser()
+    words.add_argument('program', type=Path)
+    words.add_argument('folder', type=Path)
+    words.add_argument('--tool', type=Path)
+    given = words.parse_args()
+    program, folder = given.program, given.folder
     folder.mkdir(parents=True, exist_ok=True)
     made_files(folder)
     bench = Bench(program, folder)
@@ -134,11 +141,16 @@ def main():
     bench.done('install', 'disk', 'b.so')
     two = bench.disk.read_bytes()
     old = old_disk(int(SECTORS), [(b'a', (folder / 'a.so').read_bytes()), (b'b', (folder / 'b.so').read_bytes())])
-    held = try_streams(bench.program, folder, one, two, old)
+    held = try_streams(Streams, bench.program, folder, one, two, old)
+    if given.tool:
+        held &= try_streams(ToolStreams, given.tool.resolve(), folder, one, two, old)
     commands = [
         (['format', 'disk', SECTORS], None), (['install', 'disk', 'b.so'], one), (['replace', 'disk', 'b2.so'], two),
         (['remove', 'disk', 'b'], two), (['preload', 'disk', 'b', 'a'], two), (['upgrade', 'disk'], old),
     ]
+    if not shutil.which('strace'):
+        print('skipped: calls that fail: there is no strace')
+        commands = []
     for words, start in commands:
         bench.trial(words, start)
     print(f'faults: {bench.wrong} wrong')

@@ -1,5 +1,5 @@
-"""Runs each command of the program `rlibreg` with standard streams that are closed, that fail, or that are the disk
-itself, and with DISK, FILE and PROGRAM given as numbers of open files; `faults.py` calls it.
+"""Runs each command of the program `rlibreg`, and of `rlibreg-tool`, with standard streams that are closed, that fail, or
+that are the disk itself, and with DISK, FILE and PROGRAM given as numbers of open files; `faults.py` calls it.
 
 After each run the disk has, byte by byte, what it had before the command or what the command alone leaves, and no other
 file has changed. It prints, for each kind of stream, how many runs ended with which status.
@@ -9,6 +9,7 @@ import collections
 import itertools
 import os
 import pty
+import shutil
 import signal
 import socket
 import subprocess
@@ -23,6 +24,11 @@ Ended = collections.namedtuple('Ended', 'status output errors disk')
 
 
 class Streams:
+    """Those of the program `rlibreg`."""
+
+    NAME, BAD_LINE = 'rlibreg', b'bad command line'
+    UNWRITTEN = b''  # what is said where the output fails
+
     def __init__(self, program, folder, one, two, old):
         self.program, self.folder, self.disk = str(program), folder, folder / 'disk'
         zeros = bytes(len(one))
@@ -38,6 +44,16 @@ class Streams:
             ['remove', disk, 'b'], ['preload', disk, 'b', 'a'], ['list', disk], ['bind', disk, program, '0x100000'], ['script', disk],
             ['upgrade', disk],
         ]
+
+    def with_disk(self, disk):
+        """Commands that look for a disk of this name, each with its status and message where the disk is behind a stream."""
+        unread = 3, f'{self.NAME}: cannot read {disk}\n'.encode()
+        commands = [words for words in self.commands(disk) if disk in words] + [['install', disk, 'none']]
+        return [(words, *unread) for words in commands] + [(['bind', disk, 'program', '10'], 2, b'rlibreg: bad base\n')]
+
+    def parts(self):
+        return [self.closed, self.numbered, self.the_disk, self.files_of_streams, self.odd, self.without_proc, self.interrupted,
+                self.odd_words]
 
     def start_of(self, words, start):
         """An install finds a registry without its library."""
@@ -100,7 +116,8 @@ class Streams:
             unread = INPUT in closed and words[0] == 'script'
             holds = ended.status == self.expected(words, plain, closed)
             holds &= unread or ended.output == (b'' if OUTPUT in closed else plain.output)
-            holds &= unread or ended.errors == (b'' if ERRORS in closed else plain.errors)
+            said = plain.errors or (self.UNWRITTEN if OUTPUT in closed and plain.output else b'')
+            holds &= unread or ended.errors == (b'' if ERRORS in closed else said)
             holds &= ended.disk == (before if unread else plain.disk)
             self.check(kind, words, start, ended, holds, before, plain.disk)
 
@@ -146,13 +163,12 @@ class Streams:
         contents = {'a registry': self.starts['a registry'], 'zeros': self.starts['zeros'], 'an empty file': b'', '24 bytes': bytes(24)}
         for (start, content), stream in itertools.product(contents.items(), NAMES):
             for name, more in itertools.product(('disk', 'link', NAMES[stream], f'/proc/self/fd/{stream}', f'/dev/fd/{stream}'), (0, os.O_APPEND)):
-                for words in self.commands(name)[1:] + [['bind', name, 'program', '10'], ['install', name, 'none']]:
+                for words, status, message in self.with_disk(name):
                     if stream == INPUT and words[0] != 'script':
                         self.behind_input(name, words, start, content, more)
                         continue
                     ended = self.behind(stream, words, content, more)
-                    message = b'rlibreg: bad base\n' if words[-1] == '10' else f'rlibreg: cannot read {name}\n'.encode()
-                    holds = ended.status == (2 if words[-1] == '10' else 3) and not ended.output
+                    holds = ended.status == status and not ended.output
                     holds &= ended.errors == (None if stream == ERRORS else message) or stream == OUTPUT and ended.errors == message
                     self.check(f'the disk behind {NAMES[stream]}', words, start, ended, holds, content, content)
 
@@ -221,6 +237,57 @@ class Streams:
             plain = Ended(ended.returncode, ended.stdout, ended.stderr, None)
             self.check('no /proc', ['list', name], 'a folder', plain, plain[:3] == (3, b'', f'rlibreg: cannot read {name}\n'.encode()), None, None)
 
+    def interrupted(self):
+        """A read of a script that a signal interrupts is made again: the first, and the one that finds its end."""
+        if not shutil.which('strace'):
+            print('skipped: an interrupted read: there is no strace')
+            return
+        plain = self.plain(['script', 'disk'], 'a registry')
+        for number in 1, 2:
+            self.put(self.starts['a registry'])
+            lines = self.folder / 'lines'
+            lines.write_bytes(LINES)
+            with open(lines, 'rb') as given:
+                ended = subprocess.run(
+                    ['strace', '-qq', '-o', 'log', '-P', lines, '-e', f'inject=read:error=EINTR:when={number}', self.program, 'script', 'disk'],
+                    cwd=self.folder, stdin=given, capture_output=True)
+            log = self.folder / 'log'
+            holds = 'EINTR' in log.read_text() and (ended.returncode, ended.stdout) == (plain.status, plain.output)
+            ended = Ended(ended.returncode, ended.stdout, ended.stderr, self.found())
+            self.check('an interrupted read', ['script', 'disk'], 'a registry', ended, holds, self.starts['a registry'], plain.disk)
+            lines.unlink()
+            log.unlink()
+
+    def odd_words(self):
+        """A word that isn't UTF-8, at each place."""
+        before = self.starts['a registry']
+        for words in self.commands():
+            for at in range(len(words)):
+                self.put(before)
+                ended = self.run([*words[:at], b'\xff', *words[at + 1:]])
+                holds = (ended.status, ended.output) == (2, b'') and self.BAD_LINE in ended.errors
+                self.check("a word that isn't UTF-8", words, 'a registry', ended, holds, before, before)
+
+
+class ToolStreams(Streams):
+    """Those of the program `rlibreg-tool`, which reads no standard input."""
+
+    NAME, BAD_LINE = 'rlibreg-tool', b'usage: rlibreg-tool '
+    UNWRITTEN = b'rlibreg-tool: cannot write\n'
+
+    def commands(self, disk='disk', files=lambda name: name):
+        return [
+            ['info', disk], ['check', disk], ['file', disk, 'b'], ['dump', disk], ['replace', disk, files('b2.so')],
+            ['remove', disk, 'b'], ['executable', disk, files('alone'), '0x400000'],
+        ]
+
+    def with_disk(self, disk):
+        unread = 3, f'{self.NAME}: cannot read {disk}\n'.encode()
+        return [(words, *unread) for words in self.commands(disk)]
+
+    def parts(self):
+        return [self.closed, self.the_disk, self.odd_words]
+
 
 def full_pipe(blocking):
     ours, theirs = os.pipe()
@@ -287,16 +354,15 @@ def kinds():
         yield f'a socket whose peer has gone as {NAMES[stream]}', stream, (3,), gone_peer
 
 
-def try_streams(program, folder, one, two, old):
-    """All of it, and whether it was as it has to be."""
-    streams = Streams(program, folder, one, two, old)
+def try_streams(kind, program, folder, *disks):
+    """All that there is for a program of this kind, and whether it was as it has to be."""
+    streams = kind(program, folder, *disks)
     files = streams.others()
-    for part in (streams.closed, streams.numbered, streams.the_disk, streams.files_of_streams, streams.odd,
-                 streams.without_proc):
+    for part in streams.parts():
         part()
     assert streams.others() == files, 'another file has changed'
     for kind, ends in streams.ends.items():
         told = ', '.join(f'{count} with {status}, disk {disk}' for (status, disk), count in sorted(ends.items(), key=str))
         print(f'{kind}: {sum(ends.values())} runs: {told}', flush=True)
-    print(f'streams: {sum(sum(ends.values()) for ends in streams.ends.values())} runs, {streams.wrong} wrong')
+    print(f'streams of {streams.NAME}: {sum(sum(ends.values()) for ends in streams.ends.values())} runs, {streams.wrong} wrong')
     return streams.wrong == 0
