@@ -70,8 +70,8 @@ class Streams:
     def others(self):
         return {path.name: path.read_bytes() for path in self.folder.iterdir() if path.name != 'disk'}
 
-    def run(self, words, given=None, closed=(), passed=()):
-        """Runs the words; `given` has open files for some of the streams."""
+    def run(self, words, given=None, closed=(), passed=(), wait=60):
+        """Runs the words; `given` has open files for some of the streams. What doesn't end by itself is killed."""
         given = given or {}
         def close():
             for number in closed:
@@ -81,7 +81,7 @@ class Streams:
             [self.program, *words], cwd=self.folder, preexec_fn=close, pass_fds=passed,
             stdin=into[INPUT], stdout=into[OUTPUT], stderr=into[ERRORS])
         try:
-            output, errors = process.communicate(LINES if INPUT not in given else None, timeout=WAIT if given else 60)
+            output, errors = process.communicate(LINES if INPUT not in given else None, timeout=wait)
         except subprocess.TimeoutExpired:
             process.kill()
             output, errors = process.communicate()
@@ -210,7 +210,8 @@ class Streams:
                 plain, before = self.plain(words, start), self.start_of(words, start)
                 self.put(before)
                 given, behind, late = made()
-                ended = self.run(words, {stream: given}) if not late else self.hung_up(words, stream, given, behind)
+                wait = WAIT if -signal.SIGKILL in statuses else 60
+                ended = self.run(words, {stream: given}, wait=wait) if not late else self.hung_up(words, stream, given, behind)
                 for end in (given, behind):
                     if end is not None and not (late and end is behind):
                         end.close() if hasattr(end, 'close') else os.close(end)
