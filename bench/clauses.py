@@ -1,21 +1,27 @@
 """The public calls of each crate with their clauses, as docs/CLAUSES.md has them, from the text of `src/`.
 
 A call is told by the first sentence of its comment. Behind it are the labels of its clauses, each group of them with the
-`//` lines above it; a clause without a label says what the result is. What the words of a clause mean stands in
+`//` lines above it; a clause without a label says what the result is. Of a clause that cites one record the parts follow in
+square brackets: the record's fields, each group of them with the comment above it. What the words of a clause mean stands in
 docs/PROOFS.md and docs/DEFINITIONS.md.
 """
 
 import re
+from functools import cache
 from pathlib import Path
+
+import definitions
 
 ROOT = Path(__file__).resolve().parent.parent
 ITEM = re.compile(r'^( *)pub (?:const )?(?:unsafe )?(?:extern "C" )?fn (\w+)')
 TRAIT_ITEM = re.compile(r'^    fn (\w+)')
 OWNER = re.compile(r'^(?:pub )?(impl|trait)\b(?:<.*?>)? ?(?:[\w:]+(?:<.*?>)? for )?(\w+)')
 CLAUSE = re.compile(r'^ *ensures (?:(\w+) )?\{')
+# records of disks and of states that most clauses cite, whose parts say nothing of a call
+GENERAL = {'sector_disk/Disk', 'states/State', 'store/Opened', 'store/Stands', 'registry/Opened', 'registry/Stands'}
 HEAD = """# Clauses
 
-For who uses a crate, or asks what is proved of a call: each public call with the labels of its clauses and the comments above them. The clauses themselves stand in `src/`, in front of each body. `bench/documents.py` makes this page.
+For who uses a crate, or asks what is proved of a call: each public call with the labels of its clauses and the comments above them. Where a clause cites one record, its parts are in square brackets. The clauses themselves stand in `src/`, in front of each body. `bench/documents.py` makes this page.
 
 """
 
@@ -36,12 +42,111 @@ def described(comment):
     return re.split(r'(?<=[.:]) (?=[A-Z])', text)[0].rstrip('.')
 
 
-def groups_of(lines):
+@cache
+def cited_by(path):
+    """What the names of a file of code or of definitions stand for, and its lines without comments."""
+    lines = path.read_text().splitlines()
+    return definitions.uses_of(lines), lines
+
+
+def found_at(name, path):
+    """The file of definitions and the name for which a name stands in a file, or None."""
+    first, *rest = name.split('.')
+    used = cited_by(path)[0].get(first)
+    if used is None:
+        return (path, name) if path.suffix == '.antt' else None
+    place, last = used[0], used[1] or (rest[0] if rest else first)
+    crate, module = place.split('/')
+    file = ROOT / 'crates' / crate / 'specs' / (module.replace('.', '/') + '.antt')
+    return (file, last) if file.exists() else None
+
+
+def conjuncts(text):
+    """What stands at the end of a clause, behind its premises and of what a call gives: the first words of its parts. Of an
+    alternative there is none."""
+    text = ' '.join(text.split())
+    text = re.split(r' → (?![^(]*\))|→ ', text)[-1] if '→' in text else text
+    text = re.sub(r'^(?:IfOk|IfErr|IfSome) \w+ \((?:λ \w+\. )?', '', text)
+    if '⊎' in text:
+        return []
+    heads = (re.match(r'\(*([A-Z][\w.]*)', part) for part in text.split(' × '))
+    return [head.group(1) for head in heads if head]
+
+
+@cache
+def parts_of(name, path):
+    """The parts of the record that a name stands for in a file: each group of fields with the comment above it; none where it is
+    no record. An abbreviation stands for what it says."""
+    found = found_at(name, path)
+    if found is None or f'{found[0].parts[-3]}/{found[0].stem}' in GENERAL:
+        return ()
+    file, last = found
+    lines = cited_by(file)[1]
+    for number, line in enumerate(lines):
+        if re.match(rf'(?:  )?pub record {last}\b', line):
+            return tuple(fields_of(lines[number + 1:], len(line) - len(line.lstrip()), file))
+        if re.match(rf'(?:  )?abbrev pub {last}\b', line):
+            return cited_in(body_of(last, lines[number + 1:]), file, last)
+    return ()
+
+
+def body_of(name, lines):
+    """What an abbreviation stands for."""
+    body = []
+    for line in lines:
+        if not body and line.strip().startswith(f'{name} ') and ' =' in line:
+            body.append(line.split(' =', 1)[1])
+        elif body and not line.startswith('    '):
+            break
+        elif body:
+            body.append(line)
+    return ' '.join(body)
+
+
+def cited_in(text, path, own=None):
+    """The parts of the records that a text cites."""
+    return tuple(part for name in conjuncts(text) if name != own for part in parts_of(name, path))
+
+
+def fields_of(lines, indent, path):
+    """The fields of a record: groups of a comment and names, each with the parts of a record that it cites without a premise."""
+    groups, margin = [], ' ' * (indent + 2)
+    for line in lines:
+        named = re.match(rf'{margin}pub (\w+) : (.*)', line)
+        if re.match(rf'{margin}-- ', line):
+            if groups and not groups[-1][1]:
+                groups[-1][0] += ' ' + line.strip()[3:]
+            else:
+                groups.append([line.strip()[3:], []])
+        elif named:
+            if not groups:
+                groups.append(['', []])
+            inner = () if '→' in named.group(2) else cited_in(named.group(2), path)
+            groups[-1][1].append(f'`{named.group(1)}`' + told(inner))
+        elif line and not line.startswith(margin):
+            break
+    return [(comment.rstrip('.'), tuple(names)) for comment, names in groups]
+
+
+def told(parts):
+    """Parts in square brackets."""
+    listed = '; '.join(', '.join(names) + (f': {comment}' if comment else '') for comment, names in parts)
+    return f' [{listed}]' if listed else ''
+
+
+def label_of(number, lines, path):
+    """The label of the clause at a line, with the parts of the record that it cites."""
+    label = CLAUSE.match(lines[number]).group(1) or 'result'
+    clause = next(definitions.clause_texts(' '.join(lines[number:]), label))
+    return f'`{label}`' + told(cited_in(clause, path))
+
+
+def groups_of(lines, path):
     """The clauses of a call: for each group between empty lines its comment and its labels."""
     groups, comment, labels = [], [], []
-    for line in [*lines, '']:
+    for number, line in enumerate([*lines, '']):
         if CLAUSE.match(line):
-            labels.append(CLAUSE.match(line).group(1) or 'result')
+            labels.append(label_of(number, lines, path))
         elif line.strip().startswith('//'):
             if labels:
                 groups.append((comment, labels))
@@ -51,6 +156,17 @@ def groups_of(lines):
             groups.append((comment, labels))
             comment, labels = [], []
     return [(' '.join(comment).rstrip('.'), labels) for comment, labels in groups if labels]
+
+
+def end_of_header(lines, number):
+    """The line with which a function's clauses end: its body begins there, or it has none."""
+    depth = 0
+    for k in range(number, len(lines)):
+        line = lines[k].split('//')[0].rstrip()
+        if depth == 0 and line.endswith((';', '{', '{}')) and not re.match(r' *(?:ensures|requires)\b', line):
+            return k
+        depth += line.count('{') - line.count('}')
+    return len(lines)
 
 
 def calls_in(path, names):
@@ -67,16 +183,15 @@ def calls_in(path, names):
         if item:
             name = item.group(item.lastindex)
             if (owner[1] if owner else name) in names:
-                ends = (k for k in range(number, len(lines)) if re.match(r' *\{\}?$|.*[;{]$', lines[k]) and not CLAUSE.match(lines[k]))
-                header = lines[number:next(ends)]
-                found.append((f'{owner[1]}::{name}' if owner else name, described(comment), groups_of(header)))
+                header = lines[number:end_of_header(lines, number)]
+                found.append((f'{owner[1]}::{name}' if owner else name, described(comment), groups_of(header, path)))
         comment = [*comment, line] if line.strip().startswith('///') else comment if line.strip().startswith('#[') else []
     return found
 
 
 def row_of(name, said, groups):
     """The row of a call."""
-    parts = [', '.join(f'`{label}`' for label in labels) + (f': {comment}' if comment else '') for comment, labels in groups]
+    parts = [', '.join(labels) + (f': {comment}' if comment else '') for comment, labels in groups]
     return f'| `{name}` | {said} | {"; ".join(parts)} |'.replace('  ', ' ')
 
 

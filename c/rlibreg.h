@@ -172,9 +172,10 @@ typedef struct rlibreg_object {
     uint64_t name_length;   /* how many bytes the name has, without the byte 0 behind it */
     uint64_t first_segment; /* the number of its first segment in the image */
     uint64_t segments;      /* how many of the image's segments are its own: they are in a row */
-    uint64_t headers;       /* the address of its program headers, or 0 where no segment has them */
+    uint64_t headers;       /* the address of its program headers, or 0 where no one segment has them
+                             * all; at the base 0 it may be 0 where one has */
     uint64_t header_count;  /* how many program headers its file has */
-    uint64_t dynamic;       /* the address of its dynamic section, or 0 where no segment has it */
+    uint64_t dynamic;       /* the same of its dynamic section */
     uint64_t entry;         /* its base and its file's e_entry together, modulo 2^64 */
 } rlibreg_object;
 
