@@ -159,13 +159,15 @@ def groups_of(lines, path):
 
 
 def end_of_header(lines, number):
-    """The line with which a function's clauses end: its body begins there, or it has none."""
+    """The line behind a function's clauses: its body begins there, or it has none."""
     depth = 0
     for k in range(number, len(lines)):
         line = lines[k].split('//')[0].rstrip()
-        if depth == 0 and line.endswith((';', '{', '{}')) and not re.match(r' *(?:ensures|requires)\b', line):
+        if depth == 0 and line.endswith(('{', '{}')) and not re.match(r' *(?:ensures|requires)\b', line):
             return k
         depth += line.count('{') - line.count('}')
+        if depth == 0 and line.endswith(';'):
+            return k + 1
     return len(lines)
 
 
