@@ -13,7 +13,7 @@ from pathlib import Path
 from libraries import Made
 from registries import SECTOR
 
-SECTORS, PAGE, PAGES, CUT_STATUS = 64, 4096, 1024, 86
+SECTORS, ROOTS, PAGE, PAGES, CUT_STATUS = 64, 1024, 4096, 1024, 86
 # A run of more seconds ends the script.
 LONGEST = 60
 DISK, NEW = 'disk', 'new'
@@ -24,7 +24,7 @@ LIBRARIES = {
     'c.so': (b'c', Made(b'c', exports=[b'fc'], data=700)),
 }
 PROGRAM = Made(needed=[b'a'], undefined=[b'fa'], relocations=[(1, 0, 1, 0)], behind=64)
-STEPS = ('sync', 'letgo', 'write', 'truncate', 'link', 'unlink', 'rename')
+STEPS = ('sync', 'write', 'truncate', 'link', 'unlink', 'rename')
 SOURCES = Path(__file__).resolve().parent
 
 # The bytes of the file and the names that lead to it; of the medium its bytes and its names; and the dirty pages.
@@ -36,6 +36,11 @@ def clean(content, names=frozenset([DISK])):
     """A machine that has just started, over a medium with these bytes, or with no file."""
     names = frozenset() if content is None else names
     return Held(content, names, content or b'', names, frozenset())
+
+
+def is_shown_otherwise(held):
+    """Whether the medium has other roots than the file shows, and nothing is going to bring them there."""
+    return bool(held.names) and 0 not in held.dirty and held.content[:ROOTS] != held.medium[:ROOTS]
 
 
 def steps_of(log):

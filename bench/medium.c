@@ -4,8 +4,9 @@
    that is to fail answers EIO: the dirty pages are then taken for clean, whether the medium has them or not, and the file goes on
    showing them, to later processes too, until posix_fadvise(POSIX_FADV_DONTNEED) lets them go: they then show what the medium has. The
    cache is in pieces of four pages, and a piece is let go if it is clean and lies whole in the range; mincore says that the first page is
-   kept until that was let go. Names are the medium's once the folder is synced or, as where a file system has a
-   journal, the file itself. Writes through mappings aren't seen.
+   kept until that was let go. A read with O_DIRECT, which has to be aligned, gives what the medium has, and of dirty pages what the file
+   has: they are written back first, but not flushed, so a cut can still take them. Names are the medium's once the folder is synced or,
+   as where a file system has a journal, the file itself. Writes through mappings aren't seen, and no time is slept.
 
        gcc -std=c11 -O2 -U_FORTIFY_SOURCE -shared -fPIC -o medium.so medium.c
 
@@ -17,6 +18,8 @@
    MEDIUM_ERROR    the number that a failing sync leaves in errno, EIO where it isn't there
    MEDIUM_READ_ONLY  if it is there, neither file is opened for writing (EROFS), and each sync of one answers MEDIUM_ERROR
    MEDIUM_SILENT   if it is there, a failing sync answers that it was done: another process was told of the failure
+   MEDIUM_MAPPED   if it is there, somebody has the front mapped: it isn't let go
+   MEDIUM_PAST     how reads with O_DIRECT fail: EINVAL where a descriptor is to have it, if it is `refused`, or a number for errno
    MEDIUM_CUT      before which step the process ends: steps are the calls after which a machine can find something else */
 #define _GNU_SOURCE
 #include <errno.h>
@@ -34,9 +37,10 @@
 #include <sys/stat.h>
 #include <sys/syscall.h>
 #include <sys/uio.h>
+#include <time.h>
 #include <unistd.h>
 
-enum { PAGE = 4096, PAGES = 1024, PIECE = 4, DESCRIPTORS = 1024, HIGH = 500, CUT_STATUS = 86 };
+enum { ROOTS = 1024, PAGE = 4096, PAGES = 1024, PIECE = 4, DESCRIPTORS = 1024, HIGH = 500, CUT_STATUS = 86 };
 enum name { OTHER, THE_DISK, THE_NEW, THE_FOLDER };
 
 struct kept {
@@ -49,7 +53,7 @@ static enum name names[DESCRIPTORS];
 static char disk[PATH_MAX], new_name[PATH_MAX], folder[PATH_MAX];
 static int medium = -1, log_file = -1;
 static int steps, syncs, cut;
-static bool front_is_gone;
+static bool front_is_gone, is_past[DESCRIPTORS];
 
 static int in_folder(const char *name, int flags) {
     char path[PATH_MAX + 16];
@@ -220,11 +224,38 @@ static void let_go(int descriptor, off_t from, off_t size) {
     off_t end = length_of(file), stop = size ? from + size : end;
     for (off_t first = 0; first < PAGES && first * PAGE < end; first += PIECE) {
         bool whole = (first + PIECE) * PAGE <= stop || stop >= end;
-        if (first * PAGE < from || !whole || !is_clean(first)) continue;
+        if (first * PAGE < from || !whole || !is_clean(first) || (!first && getenv("MEDIUM_MAPPED"))) continue;
         for (off_t page = first; page < first + PIECE; page++) copy_page(medium, file, page, PAGE, end);
         if (!first) front_is_gone = true;
     }
     syscall(SYS_close, file);
+}
+
+/* Bytes as they are read past the cache: of each page at most what the file has of it. */
+static ssize_t bytes_past(int descriptor, char *into, size_t size, off_t from) {
+    ssize_t length = syscall(SYS_pread64, descriptor, into, size, from);
+    for (off_t at = 0; at < length; at += PAGE) {
+        size_t part = length - at < PAGE ? (size_t)(length - at) : PAGE;
+        if (kept->dirty[(from + at) / PAGE]) continue;
+        memset(into + at, 0, part);
+        if (syscall(SYS_pread64, medium, into + at, part, from + at) < 0) abort();
+    }
+    return length;
+}
+
+static bool roots_agree(int descriptor) {
+    char file[ROOTS], past[ROOTS];
+    ssize_t length = syscall(SYS_pread64, descriptor, file, ROOTS, 0);
+    return length < 0 || (length == bytes_past(descriptor, past, ROOTS, 0) && !memcmp(file, past, (size_t)length));
+}
+
+static ssize_t read_past(int descriptor, void *into, size_t size, off_t from) {
+    int error = atoi(told("MEDIUM_PAST", "0"));
+    if (!error && ((uintptr_t)into % PAGE || size % PAGE || from % PAGE)) error = EINVAL;
+    ssize_t answer = error ? -1 : bytes_past(descriptor, into, size, from);
+    note("past %d %lld %zd %s\n", descriptor, (long long)from, answer, roots_agree(descriptor) ? "same" : "other");
+    if (error) errno = error;
+    return answer;
 }
 
 /* The calls. */
@@ -284,6 +315,7 @@ int close(int descriptor) {
     if (behind(descriptor)) {
         note("close %d %s\n", descriptor, said(behind(descriptor)));
         names[descriptor] = OTHER;
+        is_past[descriptor] = false;
     }
     return (int)syscall(SYS_close, descriptor);
 }
@@ -296,11 +328,23 @@ static int doubled(int descriptor, int answer) {
     return answer;
 }
 
+/* The file itself may lie where there is no O_DIRECT. */
+static int set_past(int descriptor, long flags) {
+    if (flags & O_DIRECT && !strcmp(told("MEDIUM_PAST", ""), "refused")) {
+        note("refused %d\n", descriptor);
+        errno = EINVAL;
+        return -1;
+    }
+    is_past[descriptor] = flags & O_DIRECT;
+    return 0;
+}
+
 int fcntl(int descriptor, int command, ...) {
     va_list words;
     va_start(words, command);
     long word = va_arg(words, long);
     va_end(words);
+    if (command == F_SETFL && is_file(descriptor)) return set_past(descriptor, word);
     int answer = (int)syscall(SYS_fcntl, descriptor, command, word);
     return command == F_DUPFD || command == F_DUPFD_CLOEXEC ? doubled(descriptor, answer) : answer;
 }
@@ -330,7 +374,12 @@ ssize_t readv(int descriptor, const struct iovec *into, int count) {
 }
 
 ssize_t pread(int descriptor, void *into, size_t size, off_t from) {
-    return was_read(descriptor, from, syscall(SYS_pread64, descriptor, into, size, from));
+    if (!is_file(descriptor)) return syscall(SYS_pread64, descriptor, into, size, from);
+    if (is_past[descriptor]) return read_past(descriptor, into, size, from);
+    ssize_t answer = syscall(SYS_pread64, descriptor, into, size, from);
+    front_is_gone = false;
+    note("kept %d %lld %zd\n", descriptor, (long long)from, answer);
+    return answer;
 }
 
 ssize_t pread64(int descriptor, void *into, size_t size, off_t from) {
@@ -395,7 +444,6 @@ int fdatasync(int descriptor) {
 
 int posix_fadvise(int descriptor, off_t from, off_t size, int advice) {
     if (is_file(descriptor) && advice == POSIX_FADV_DONTNEED) {
-        step();
         note("letgo %d %lld %lld\n", descriptor, (long long)from, (long long)size);
         let_go(descriptor, from, size);
     }
@@ -407,6 +455,10 @@ int mincore(void *from, size_t size, unsigned char *is_kept) {
     *is_kept = !front_is_gone;
     note("asked %s\n", front_is_gone ? "gone" : "kept");
     return 0;
+}
+
+int nanosleep(const struct timespec *asked, struct timespec *left) {
+    return ready() ? 0 : (int)syscall(SYS_nanosleep, asked, left);
 }
 
 int posix_fadvise64(int descriptor, off_t from, off_t size, int advice) {

@@ -1,18 +1,22 @@
-"""The order of the calls that the program `rlibreg` makes, as `medium.c` logs them, for `syncs.py`: lock, sync, more and
-more of the front let go until that is gone, the first read; all writes before the sync, and that before the reply and before
-a name is given; the lock until the last sync."""
+"""The order of the calls that the program `rlibreg` makes, as `medium.c` logs them, for `syncs.py`: lock, sync, the roots
+compared with the medium's; where they differ, more and more of the front let go until that is gone, and compared again, or
+written; the first read once they agree; all writes before the sync, and that before the reply and before a name is given; the
+lock until the last sync."""
 
-from machines import has_failed
+from machines import PAGE, ROOTS, has_failed
 
-# How much of the front is let go first, and at most.
-PAGE, FRONT = 4096, 2 << 20
+# How much of the front is let go at most.
+FRONT = 2 << 20
 
 
 class OpenFile:
     """What was done with an open file so far, by all its descriptors."""
 
-    def __init__(self):
+    def __init__(self, is_made):
         self.descriptors, self.lock, self.synced, self.read, self.written = 1, '', False, False, False
+        self.is_made = is_made
+        # Whether the roots were found to be the medium's, or nothing can tell.
+        self.agrees = self.is_blind = False
         # How much was let go last, and whether the front was gone then.
         self.let_go, self.is_gone = 0, False
 
@@ -42,7 +46,7 @@ class Order:
             self.faults.add(what)
 
     def open(self, _, words):
-        self.files[words[0]] = OpenFile()
+        self.files[words[0]] = OpenFile(words[2] == 'made')
 
     def double(self, file, words):
         if file:
@@ -64,23 +68,38 @@ class Order:
     def is_locked(self, file):
         return file.lock == 'exclusive' or self.shared and file.lock == 'shared'
 
+    def kept(self, file, words):
+        self.fault_if(not self.is_locked(file), 'it is read without its lock')
+        self.fault_if(not file.synced or words[1:] != ['0', str(PAGE)], 'the roots are compared before the sync')
+
+    def past(self, file, words):
+        self.kept(file, words[:3] if words[2] != '-1' else [*words[:2], str(PAGE)])
+        file.agrees = words[3] == 'same' and words[2] != '-1'
+
+    def refused(self, file, _):
+        file.is_blind = True
+
     def read(self, file, _):
         if not file.read:
             self.fault_if(not self.is_locked(file), 'it is read without its lock')
-            forgotten = file.is_gone or file.let_go == FRONT
-            self.fault_if(not file.synced or not forgotten, 'it is read before the sync, or before its front is gone')
+            forgotten = file.is_blind and (file.is_gone or file.let_go == FRONT)
+            self.fault_if(not file.synced or not file.agrees and not forgotten, 'it is read before its roots are known to be the medium\'s')
         file.read = True
 
     def letgo(self, file, words):
-        size = 2 * file.let_go or PAGE
-        self.fault_if(not file.synced or file.read or words[1:] != ['0', str(size)], 'the cache is let go at another time or place')
-        file.let_go, self.letting_go = size, file
+        is_first = file.is_gone or file.let_go in (0, FRONT)
+        size = PAGE if is_first else 2 * file.let_go
+        is_right = file.synced and not file.read and not file.agrees and words[1:] == ['0', str(size)]
+        self.fault_if(not is_right, 'the cache is let go at another time or place')
+        file.let_go, file.is_gone, self.letting_go = size, False, file
 
     def asked(self, _, words):
         self.letting_go.is_gone = words == ['gone']
 
-    def write(self, file, _):
+    def write(self, file, words):
         self.fault_if(file.lock != 'exclusive', 'it is written without its lock')
+        as_shown = file.let_go and words[1:] == ['0', str(ROOTS)]
+        self.fault_if(not (file.agrees or file.read or file.is_made or as_shown), 'it is written before its roots are known to be the medium\'s')
         self.waiting = file.written = True
 
     def truncate(self, file, _):

@@ -10,7 +10,7 @@ each of its steps too; and after each of all these a power cut, after which the 
 or not. Demanded is: the failing command is answered S1 or status 3; the disk holds what was acknowledged, or that with
 the one command that wasn't, is never damaged, and is from an opening on what that has shown. What the states are is
 kept by this script (`registries.py`), which reads the medium by itself. The calls in between have their order: lock, sync, the
-front of the cache let go, the first read; all writes before the sync, and that before the reply; the lock until the last sync.
+roots compared with the medium's, the first read; all writes before the sync, and that before the reply; the lock until the last sync.
 
 It prints a line for each command, and ends with 1 where something is wrong. --all tries more mixtures, parts and chains of faults.
 --body NAME has the body NAME of `bodies.c` make other calls than PROGRAM does: then something has to be wrong, but of `right`.

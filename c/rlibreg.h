@@ -33,10 +33,15 @@
  * - A lock of flock(2) is advice: it stops nobody who doesn't ask. Who may read the disk can hold
  *   it. Over NFS it may do nothing. A child of fork has it too, until the process that opened the
  *   disk closes it, or, where that ends without doing so, as long as the child keeps the file open.
- * - After a sync that failed Linux takes the pages for written, and gives them to whoever reads.
- *   So an opening syncs the file, and has the system forget what it keeps of the front, where the
- *   registry's two roots stand: what is read then is what the medium has. Pages that a process has
- *   mapped aren't forgotten, so nobody maps the disk who hasn't its lock.
+ * - After a write that failed Linux takes the pages for written, and shows them to whoever reads. So
+ *   an opening syncs the file, and compares the registry's two roots as the system shows them with
+ *   those of the medium, which it reads past the system's memory. Where they differ the system is
+ *   made to forget its own. Where it can't, since somebody has them mapped who hasn't the lock, an
+ *   opening for changes has the medium take them, and one for reading alone is RLIBREG_SYSTEM with
+ *   EIO. Locked memory (mlockall) makes no difference.
+ * - Of encrypted and compressed files, of loop devices without direct I/O, and where there is no
+ *   O_DIRECT, nothing can be read past memory: there an opening for changes always has the medium
+ *   take the roots, and one for reading may show a change that was answered S1.
  * - The two roots stand in one block of 4,096 bytes. A medium that ruins a block of that size which
  *   it was writing can lose both.
  * - There is no checksum: a byte that changed on the medium within a library's code isn't seen, by

@@ -143,11 +143,11 @@ static uint32_t open_locked(struct disk_file *it, const char *path, unsigned fla
     return RLIBREG_HELD;
 }
 
-/* Syncs a file. Where it is open for reading alone, and its file system has no syncs since it can't
- * be written, there is nothing to sync. One that a failure has made read-only answers EROFS: it has
- * pages that the medium hasn't got. */
+/* Syncs a file, and has the medium and the system agree on its roots. Where it is open for reading
+ * alone, and its file system has no syncs since it can't be written, there is nothing to sync. One
+ * that a failure has made read-only answers EROFS: it has pages that the medium hasn't got. */
 static int sync_file(int fd, unsigned flags) {
-    if (!fsync(fd)) return 0;
+    if (!fsync(fd)) return rlibreg_meet_front(fd, fsync);
     return !(flags & RLIBREG_CHANGES) && errno == EINVAL ? 0 : -1;
 }
 
@@ -158,7 +158,6 @@ uint32_t rlibreg_disk_file_map(struct disk_file *it, unsigned flags) {
     if (!length) return RLIBREG_DONE; /* a disk without bytes: each call is answered S6 */
     void *map = mmap(NULL, (size_t)length, PROT_READ, MAP_SHARED, it->fd, 0);
     if (map == MAP_FAILED) return RLIBREG_SYSTEM;
-    rlibreg_forget_front(it->fd, map);
     it->bytes = map;
     it->length = (size_t)length;
     return RLIBREG_DONE;

@@ -34,12 +34,11 @@ uint32_t rlibreg_disk_file_open(struct disk_file *it, const char *path, unsigned
 /* Maps what the medium has of a file that is open and locked. */
 uint32_t rlibreg_disk_file_map(struct disk_file *it, unsigned flags);
 
-/* Has the system forget what it keeps of the front of a file that is synced (rlibreg_front.c). After
- * a sync that failed it takes that for written: what the medium has is known only once it is read
- * from there. More and more is to be forgotten, until the first page is gone, as a map of the file
- * shows; without one, 2 MiB. What a process has read through a map isn't forgotten, nor what another
- * call is using just then. */
-void rlibreg_forget_front(int fd, void *map);
+/* Behind a sync of an opening that succeeded, and before any map: whether the medium has the roots
+ * that the system shows (rlibreg_front.c). Where it hasn't, the system is made to forget them. Where
+ * it can't, the medium is to take them, by a write and SYNC, if the file is open for changes. 0, or
+ * -1 with errno, EIO where the two differ still. */
+int rlibreg_meet_front(int fd, int (*sync)(int));
 
 /* Puts a file that is to be locked into the list of the locks of this process. RLIBREG_HELD: one of
  * them excludes it, which nobody could wait for. */

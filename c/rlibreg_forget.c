@@ -3,28 +3,19 @@
 #define _GNU_SOURCE
 #include "rlibreg_disk_file.h"
 
-#include <sys/mman.h>
-
 int __real_fsync(int fd);
 int __wrap_fsync(int fd);
 
 enum { NUMBERS = 64 };
 
-static void forget_front(int fd) {
-    void *map = mmap(NULL, 1, PROT_READ, MAP_SHARED, fd, 0);
-    if (map == MAP_FAILED) map = NULL;
-    rlibreg_forget_front(fd, map);
-    if (map) munmap(map, 1);
-}
-
-/* The first sync of a file that succeeds has the system forget what it keeps of the file's front,
- * where the roots are; of a descriptor of a high number, each sync. The program opens its disk
- * once, before any folder that it syncs, so a number stands for one file. */
+/* Behind the first sync of a file that succeeds the medium has to have the roots that the system
+ * shows; of a descriptor of a high number, behind each sync. The program opens its disk once, and
+ * before any folder that it syncs, so a number stands for one file. */
 int __wrap_fsync(int fd) {
     static char was_synced[NUMBERS];
     if (__real_fsync(fd)) return -1;
     if (fd < NUMBERS && was_synced[fd]) return 0;
+    if (rlibreg_meet_front(fd, __real_fsync)) return -1;
     if (fd < NUMBERS) was_synced[fd] = 1;
-    forget_front(fd);
     return 0;
 }

@@ -1,24 +1,145 @@
-/* Having the system forget what it keeps of the front of a disk's file. */
+/* Whether the medium has the roots that the system shows: the first 1,024 bytes of a disk.
+ *
+ * A page that couldn't be written back the system takes for written, and shows. So behind the sync
+ * of an opening, and before any map, the roots are read twice: from the system's memory and past it
+ * (O_DIRECT). Where they are equal nothing else is done: as long as the lock is held, nobody who
+ * asks for it can make them differ, whatever memory drops and reads again. */
 #define _GNU_SOURCE
 #include "rlibreg_disk_file.h"
 
+#include <errno.h>
 #include <fcntl.h>
+#include <linux/loop.h>
+#include <stdalign.h>
+#include <string.h>
+#include <sys/ioctl.h>
 #include <sys/mman.h>
+#include <time.h>
+#include <unistd.h>
 
-/* The roots stand in the first 1,024 bytes. What the system keeps of a file is in pieces of a page
- * to 2 MiB, and it lets a piece go only where that lies whole in what is to go. */
-enum { PAGE = 4096, GREATEST_PIECE = 2 << 20 };
+/* What the system keeps of a file is in pieces of a page to 2 MiB, and it lets a piece go only
+ * where that lies whole in what is to go. What is read past it is a block of 4,096 bytes, since
+ * there are devices of such sectors. */
+enum { SECTOR = 512, ROOTS = 2 * SECTOR, BLOCK = 4096, GREATEST_PIECE = 2 << 20 };
+
+/* How often a front is to be forgotten that others are using, five milliseconds apart. */
+enum { FORGET_TRIES = 40 };
+
+enum comparison {
+    EQUAL,
+    DIFFERENT,
+    UNKNOWN, /* nothing can be read past the system's memory, or what is read is of some memory */
+    FAILED   /* errno says why */
+};
+
+struct front {
+    int fd, flags;
+    int is_blind; /* reads past the system's memory succeed, and are of some memory all the same */
+    alignas(BLOCK) uint8_t kept[BLOCK];   /* as the system shows it */
+    alignas(BLOCK) uint8_t medium[BLOCK]; /* as it is read past the system's memory */
+};
+
+/* A loop device whose reads and writes are those of its file in the system's memory. */
+static int is_loop_over_memory(int fd) {
+    struct loop_info64 info;
+    return !ioctl(fd, LOOP_GET_STATUS64, &info) && !(info.lo_flags & LO_FLAGS_DIRECT_IO);
+}
+
+static int is_encoded(int fd) {
+    struct statx found;
+    const uint64_t encoded = STATX_ATTR_ENCRYPTED | STATX_ATTR_COMPRESSED;
+    return !statx(fd, "", AT_EMPTY_PATH | AT_STATX_DONT_SYNC, 0, &found) &&
+           found.stx_attributes & encoded;
+}
+
+/* Reads past the system's memory, by the file's own description: neither its path, which may be
+ * another file's by now, nor /proc is needed. */
+static enum comparison read_medium(struct front *it) {
+    if (fcntl(it->fd, F_SETFL, it->flags | O_DIRECT)) return UNKNOWN;
+    ssize_t length = pread(it->fd, it->medium, BLOCK, 0);
+    int why = length < 0 ? errno : EIO;
+    if (fcntl(it->fd, F_SETFL, it->flags)) return FAILED;
+    if (length >= ROOTS) return EQUAL;
+    errno = why;
+    return why == EINVAL || why == EOPNOTSUPP ? UNKNOWN : FAILED;
+}
+
+static enum comparison compare(struct front *it) {
+    ssize_t length = pread(it->fd, it->kept, BLOCK, 0);
+    if (length < 0) return FAILED;
+    if (length < BLOCK) return EQUAL; /* no registry is that short */
+    enum comparison is = read_medium(it);
+    if (is == EQUAL && memcmp(it->kept, it->medium, ROOTS)) return DIFFERENT;
+    return is == EQUAL && it->is_blind ? UNKNOWN : is;
+}
 
 /* Whether the system may keep the first page of a map. mincore says that it does, where the user
  * neither owns the file nor may write it. */
 static int may_be_kept(void *map) {
     unsigned char kept;
-    return !map || mincore(map, 1, &kept) || kept & 1;
+    return map == MAP_FAILED || mincore(map, 1, &kept) || kept & 1;
 }
 
-void rlibreg_forget_front(int fd, void *map) {
-    for (off_t size = PAGE; size <= GREATEST_PIECE; size *= 2) {
+/* Has the system forget more and more of the front, until its first page is gone. The map allows no
+ * access, so that it holds no page, in a process that locks its memory neither. */
+static void forget(int fd) {
+    void *map = mmap(NULL, 1, PROT_NONE, MAP_SHARED, fd, 0);
+    for (off_t size = BLOCK; size <= GREATEST_PIECE; size *= 2) {
         posix_fadvise(fd, 0, size, POSIX_FADV_DONTNEED);
-        if (!may_be_kept(map)) return;
+        if (!may_be_kept(map)) break;
     }
+    if (map != MAP_FAILED) munmap(map, 1);
+}
+
+/* Has the system forget a front that the medium hasn't got, until it shows what the medium has. */
+static enum comparison forget_and_compare(struct front *it) {
+    const struct timespec moment = { .tv_nsec = 5 * 1000 * 1000 };
+    enum comparison is = DIFFERENT;
+    for (int tries = 0; is == DIFFERENT && tries < FORGET_TRIES; tries++) {
+        if (tries) nanosleep(&moment, NULL);
+        forget(it->fd);
+        is = compare(it);
+    }
+    return is;
+}
+
+static int is_root(const uint8_t *sector) {
+    return !memcmp(sector, "RLIBREG1", 8) || !memcmp(sector, "RLIBREG2", 8);
+}
+
+/* Has the medium take the roots that the system shows, and compares again. All that they name was
+ * synced with success before they were written. A device that can only be read (EPERM) is changed by
+ * nothing behind. */
+static enum comparison take_kept(struct front *it, enum comparison is, int (*sync)(int)) {
+    if (!is_root(it->kept) && !is_root(it->kept + SECTOR)) return is;
+    ssize_t length = pwrite(it->fd, it->kept, ROOTS, 0);
+    if (length < 0 && errno == EPERM && is == UNKNOWN) return is;
+    if (length >= 0 && length < ROOTS) errno = EIO;
+    return length < ROOTS || sync(it->fd) ? FAILED : compare(it);
+}
+
+static int may_write(const struct front *it) {
+    return (it->flags & O_ACCMODE) == O_RDWR;
+}
+
+static enum comparison meet(struct front *it, int (*sync)(int)) {
+    enum comparison is = compare(it);
+    if (is == DIFFERENT) is = forget_and_compare(it);
+    if (is == UNKNOWN) {
+        forget(it->fd);
+        is = compare(it);
+    }
+    int agree = is == EQUAL || is == FAILED || !may_write(it);
+    return agree ? is : take_kept(it, is, sync);
+}
+
+int rlibreg_meet_front(int fd, int (*sync)(int)) {
+    struct front it = { .fd = fd, .flags = fcntl(fd, F_GETFL) };
+    struct stat found;
+    if (it.flags < 0 || fstat(fd, &found)) return -1;
+    if (!S_ISREG(found.st_mode) && !S_ISBLK(found.st_mode)) return 0; /* a folder has no roots */
+    it.is_blind = S_ISBLK(found.st_mode) ? is_loop_over_memory(fd) : is_encoded(fd);
+    enum comparison is = meet(&it, sync);
+    if (is == DIFFERENT) errno = EIO;
+    return is == EQUAL || is == UNKNOWN ? 0 : -1;
 }

@@ -208,8 +208,8 @@ static int has_failed(const char *word) {
 
 /* Whether the answer is the right one to the call that failed. */
 static int is_right(const struct change *change, const struct outcome *it) {
-    if (has_failed("forget") || has_failed("asked") || has_failed("unlock"))
-        return !it->status; /* nothing hangs on it */
+    if (has_failed("attributes") || has_failed("past") || has_failed("unlock"))
+        return !it->status; /* it goes on without */
     if (change->opens) /* making.c knows more of each */
         return !it->status || ((it->status == RLIBREG_SYSTEM || it->status == RLIBREG_DEVICE) &&
                                (it->why == EIO || it->why == EAGAIN));

@@ -98,7 +98,7 @@ static void try_order(void) {
     watch();
     WANT(!format(0));
     unwatch();
-    WANT(!strcmp(watched.log, "open folder make lock-alone cut write sync map forget asked "
+    WANT(!strcmp(watched.log, "open folder make lock-alone cut write sync read read-past map "
                               "sync write sync link unlink sync-folder unlock "));
     WANT(here("disk "));
     clear();

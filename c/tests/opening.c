@@ -52,7 +52,7 @@ static uint64_t generation_of(const char *path, unsigned flags) {
 /* ---- The order of the calls */
 
 static void try_order(void) {
-    const char *behind = "sync map forget asked unlock ";
+    const char *behind = "sync read read-past map unlock ";
     const struct {
         unsigned flags;
         const char *lock;
@@ -70,19 +70,6 @@ static void try_order(void) {
     }
 }
 
-/* More and more of the front is forgotten, until the system says that it is gone. */
-static void try_front(void) {
-    const int often[] = { 0, 1, 9, 10 };
-    for (size_t i = 0; i < sizeof often / sizeof *often; i++) {
-        watch();
-        watched.keeps = often[i];
-        WANT(!opens("disk", 0) && made("map forget asked"));
-        WANT(watched.forgotten == (often[i] < 10 ? 4096 << often[i] : 2 << 20));
-        WANT(watched.keeps == (often[i] < 10 ? -1 : 0));
-        unwatch();
-    }
-}
-
 /* Each call of an opening fails. What it was answered is told, and nothing stays open. */
 static void try_faults(unsigned flags) {
     for (long n = 0;; n++) {
@@ -94,7 +81,8 @@ static void try_faults(unsigned flags) {
         unwatch();
         if (n >= watched.calls) break;
         WANT(!status || (status == RLIBREG_SYSTEM && why == EIO));
-        if (!status) WANT(made("forget") || made("open lock")); /* advice, or the last look */
+        /* It is opened once more, goes on without, or has nothing left to do. */
+        WANT(!status == !!strstr("stat attributes past unlock", watched.failed));
         WANT(!is_held("disk"));
     }
 }
@@ -205,7 +193,7 @@ static void try_syncs(void) {
         watched.refused = "sync";
         watched.because = kinds[i];
         uint32_t status = opens("disk", 0);
-        WANT(has_none ? !status && strstr(made("sync"), "map forget asked")
+        WANT(has_none ? !status && made("sync map unlock")
                       : fails_by(status, kinds[i]) && !made("map"));
         WANT(fails_by(opens("disk", CHANGES), kinds[i]));
         unwatch();
@@ -271,10 +259,10 @@ static void try_devices(void) {
     uint64_t generation = generation_of("disk", 0);
     watch_device();
     WANT(generation_of("disk", 0) == generation);
-    WANT(!strcmp(watched.log, "open lock-shared sync map forget asked unlock "));
+    WANT(!strcmp(watched.log, "open lock-shared sync read read-past map unlock "));
     watch_device();
     WANT(generation_of("disk", CHANGES) == generation);
-    WANT(!strcmp(watched.log, "open lock-alone open-alone sync map forget asked unlock "));
+    WANT(!strcmp(watched.log, "open lock-alone open-alone sync read read-past map unlock "));
     watch_device();
     watched.refused = "open-alone";
     watched.because = EBUSY;
@@ -327,7 +315,6 @@ int main(int argc, char **argv) {
     alarm(60); /* who waits for himself doesn't wait for ever */
     format("disk");
     try_order();
-    try_front();
     try_faults(0);
     try_faults(CHANGES);
     try_locks();

@@ -30,11 +30,12 @@ compiled() {
 library=$(printf "$here/../rlibreg_%s.c " file disk_file new_disk front status)
 compiled library "$checked" $library
 beside="$objects/library/*.o $built/librlibreg.a"
-watched=$(printf ',--wrap=%s' open openat fstat stat fstatat lseek nanosleep flock fsync \
-    posix_fadvise mincore mmap ftruncate pwrite linkat renameat2 renameat unlink unlinkat)
+watched=$(printf ',--wrap=%s' open openat fstat stat fstatat lseek nanosleep flock fsync fcntl \
+    pread statx ioctl posix_fadvise mincore mmap ftruncate pwrite linkat renameat2 renameat unlink \
+    unlinkat)
 watched="-Wl$watched $objects/tests/watched.o"
 plain='tool calls cuts'
-over_watched='opening making forked contents findings'
+over_watched='opening front making forked contents findings'
 compiled tests "$checked" $(printf "$here/%s.c " watched faults $plain $over_watched)
 for name in $plain; do gcc $checked -o "$room/$name" "$objects/tests/$name.o" $beside; done
 for name in faults $over_watched; do
@@ -64,6 +65,7 @@ alone() {
 }
 alone faults "$data/strong.so" "$data/protected.so" "$data/program-1.so" b "$data/old-one.disk"
 alone opening "$data/strong.so" b
+alone front
 alone making "$data/strong.so" b
 alone forked "$data/strong.so" "$data/program-1.so" b
 alone contents "$data/strong.so" b

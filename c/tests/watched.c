@@ -4,8 +4,11 @@
 
 #include <dirent.h>
 #include <fcntl.h>
+#include <linux/loop.h>
 #include <stdarg.h>
+#include <stdint.h>
 #include <sys/file.h>
+#include <sys/ioctl.h>
 #include <sys/mman.h>
 #include <sys/stat.h>
 #include <time.h>
@@ -114,7 +117,7 @@ WRAPPED(off_t, lseek, int fd, off_t at, int whence) {
 
 WRAPPED(int, nanosleep, const struct timespec *asked, struct timespec *left) {
     if (!watched.is_on) return __real_nanosleep(asked, left);
-    WANT(asked->tv_sec == 0 && asked->tv_nsec == 10000000);
+    WANT(asked->tv_sec == 0 && (asked->tv_nsec == 10000000 || asked->tv_nsec == 5000000));
     return fails("nap", 0) ? -1 : 0; /* no time is spent */
 }
 
@@ -130,29 +133,82 @@ WRAPPED(int, fsync, int fd) {
     struct stat found;
     int is_file = !__real_fstat(fd, &found) && S_ISREG(found.st_mode);
     if (fails(is_file ? "sync" : "sync-folder", 0) || __real_fsync(fd)) return -1;
+    if (is_file && watched.is_dirty && !watched.is_stuck) watched.differ = 0;
     if (is_file) watched.is_dirty = 0;
     return 0;
+}
+
+/* ---- What the system keeps of a file's front, and what the medium has of it */
+
+WRAPPED(int, fcntl, int fd, int what, ...) {
+    va_list more;
+    va_start(more, what);
+    long word = va_arg(more, long), flags = word;
+    va_end(more);
+    if (what == F_GETFL && fails("flags", 1)) return -1;
+    if (!watched.is_on || what != F_SETFL) return __real_fcntl(fd, what, word);
+    if (fails(flags & O_DIRECT ? "past" : "no-more-past", 1)) return -1;
+    watched.is_past = flags & O_DIRECT;
+    return __real_fcntl(fd, what, flags & ~O_DIRECT); /* the disk of the test may have none */
+}
+
+WRAPPED(ssize_t, pread, int fd, void *to, size_t length, off_t at) {
+    int is_past = watched.is_on && watched.is_past;
+    if (watched.is_on) WANT(at == 0 && length == 4096);
+    if (fails(is_past ? "read-past" : "read", 0)) return -1;
+    ssize_t got = __real_pread(fd, to, length, at);
+    if (!is_past) return got;
+    WANT(!((uintptr_t)to % 4096) && !watched.is_dirty);
+    if (watched.differ & 1) ((char *)to)[511] ^= 1;
+    if (watched.differ & 2) ((char *)to)[512] ^= 1;
+    return watched.past_length ? watched.past_length : got;
+}
+
+WRAPPED(int, statx, int folder, const char *path, int flags, unsigned mask, struct statx *found) {
+    if (fails("attributes", 1)) return -1;
+    int answer = __real_statx(folder, path, flags, mask, found);
+    if (watched.is_on && watched.is_encrypted) found->stx_attributes |= STATX_ATTR_ENCRYPTED;
+    return answer;
+}
+
+WRAPPED(int, ioctl, int fd, unsigned long what, ...) {
+    va_list more;
+    va_start(more, what);
+    struct loop_info64 *at = va_arg(more, void *);
+    va_end(more);
+    if (!watched.is_on || what != LOOP_GET_STATUS64) return __real_ioctl(fd, what, at);
+    if (fails("loop", 1)) return -1;
+    *at = (struct loop_info64){ .lo_flags = watched.loop == 2 ? LO_FLAGS_DIRECT_IO : 0 };
+    errno = ENOTTY;
+    return watched.loop ? 0 : -1;
 }
 
 WRAPPED(int, posix_fadvise, int fd, off_t from, off_t length, int advice) {
     off_t more = watched.forgotten ? 2 * watched.forgotten : 4096;
     if (watched.is_on) WANT(from == 0 && length == more && advice == POSIX_FADV_DONTNEED);
     watched.forgotten = length;
-    return fails("forget", 0) ? errno : __real_posix_fadvise(fd, from, length, advice);
+    if (fails("forget", 0)) return errno;
+    watched.is_gone = watched.keeps == 0;
+    if (watched.is_gone) watched.differ = 0;
+    if (watched.keeps) watched.keeps--;
+    return __real_posix_fadvise(fd, from, length, advice);
 }
 
 WRAPPED(int, mincore, void *from, size_t length, unsigned char *kept) {
     if (fails("asked", 0)) return -1;
     if (!watched.is_on) return __real_mincore(from, length, kept);
     WANT(length == 1);
-    *kept = watched.keeps-- > 0;
+    *kept = !watched.is_gone;
     return 0;
 }
 
+/* Before the roots were compared a map holds no page: it allows no access. */
 WRAPPED(void *, mmap, void *at, size_t length, int how, int kind, int fd, off_t from) {
-    if (watched.is_on) WANT(kind == MAP_SHARED && how == PROT_READ && from == 0);
-    watched.forgotten = 0;
-    return fails("map", 0) ? MAP_FAILED : __real_mmap(at, length, how, kind, fd, from);
+    if (watched.is_on) WANT(kind == MAP_SHARED && from == 0);
+    if (watched.is_on) WANT(how == PROT_READ || (how == PROT_NONE && length == 1));
+    if (how == PROT_NONE) watched.forgotten = 0;
+    int has_failed = fails(how == PROT_NONE ? "hold" : "map", 0);
+    return has_failed ? MAP_FAILED : __real_mmap(at, length, how, kind, fd, from);
 }
 
 WRAPPED(int, ftruncate, int fd, off_t length) {
@@ -163,6 +219,7 @@ WRAPPED(int, ftruncate, int fd, off_t length) {
 /* One that fails has done a part, and so has one at which the process ends. */
 WRAPPED(ssize_t, pwrite, int fd, const void *from, size_t length, off_t at) {
     watched.is_dirty = 1;
+    watched.wrote = length;
     if (watched.is_on && watched.calls == watched.end) __real_pwrite(fd, from, length / 2, at);
     if (fails("write", 0)) {
         int why = errno;

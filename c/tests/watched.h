@@ -34,8 +34,16 @@ struct watched {
     int because, because_too; /* how they do */
     long times;               /* so many of the first of these words */
     dev_t device;             /* a regular file is said to be this block device; or 0 */
-    int keeps;                /* so often the front of a file is said to be kept by the system */
-    off_t forgotten;          /* how much of it was to be forgotten last */
+    int differ;               /* roots that the medium is said to have otherwise: 1, 2, or both, 3 */
+    int keeps;                /* so often the front is to be forgotten, and the system keeps it */
+    int is_stuck;             /* nor does the medium take what it shows */
+    int is_gone;              /* whether the front was forgotten */
+    int is_past;              /* whether reads are past the system's memory */
+    off_t forgotten;          /* how much of the front was to be forgotten last */
+    ssize_t past_length;      /* how much such a read gives at most, or 0 */
+    int is_encrypted;         /* what a file is said to be */
+    int loop;                 /* a device is said to be a loop over memory, 1, or past it, 2 */
+    size_t wrote;             /* how much was to be written last */
     int is_short;             /* whether each write does less than it is asked */
     int is_dirty;             /* whether a file was written or cut since the last sync */
 
