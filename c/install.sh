@@ -57,7 +57,7 @@ make_files() {
 
 # add_all PREFIX FOLDER ROOM: everything that is installed, but the list.
 add_all() {
-    local shared=librlibreg.so page
+    local shared=librlibreg.so page name
     add 755 "$2/rlibreg" "$1/bin/rlibreg"
     add 755 "$2/rlibreg-run" "$1/bin/rlibreg-run"
     add 755 "$2/rlibreg-tool" "$1/bin/rlibreg-tool"
@@ -67,7 +67,9 @@ add_all() {
     add link "$shared.$version" "$1/lib/$shared.${version%.*}"
     add link "$shared.${version%.*}" "$1/lib/$shared"
     add 644 "$3/rlibreg.pc" "$1/lib/pkgconfig/rlibreg.pc"
-    add 644 "$here/../python/rlibreg.py" "$modules/rlibreg.py"
+    for name in __init__.py _calls.py py.typed; do
+        add 644 "$here/../python/rlibreg/$name" "$modules/rlibreg/$name"
+    done
     for page in "$3"/*.[13]; do
         [ ! -f "$page" ] || add 644 "$page" "$1/share/man/man${page##*.}/${page##*/}"
     done
@@ -113,7 +115,7 @@ install_all() {
     write_list "$list" "$room/installed"
     for at in "${!files[@]}"; do put "${modes[at]}" "${sources[at]}" "${files[at]}"; done
     echo "installed $((${#files[@]} - 1)) files below $prefix; $list has their names"
-    echo "the Python module is $modules/rlibreg.py"
+    echo "the Python module is $modules/rlibreg"
     [ -n "$root" ] || echo 'ldconfig, as root, has programs find the shared library'
 }
 

@@ -29,7 +29,7 @@ else
     echo 'skipped: a program that is built by pkg-config, which is not here'
 fi
 if command -v python3 > /dev/null; then
-    PYTHONPATH=$target$(dirname "$(grep 'rlibreg.py$' "$list")") python3 -c '
+    PYTHONPATH=$target$(sed -n 's|/rlibreg/py.typed$||p' "$list") python3 -c '
 import rlibreg
 assert rlibreg.Registry("installed.disk").list() == (0, [], [])'
 fi

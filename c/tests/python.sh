@@ -1,5 +1,5 @@
-# The Python module: the stored cases that it has calls for, what these can't say, and the page
-# docs/PYTHON.md, whose commands and lines of Python give what stands below them.
+# The Python module: its types, the stored cases that it has calls for, what these can't say, and the
+# page docs/PYTHON.md, whose commands and lines of Python give what stands below them.
 
 if ! command -v python3 > /dev/null; then
     echo 'skipped: the Python module, which needs python3'
@@ -8,8 +8,16 @@ fi
 module=$here/../../python
 page=$here/../../docs/PYTHON.md
 export LD_LIBRARY_PATH=$built PYTHONPATH=$module
+if command -v mypy > /dev/null; then
+    mypy --strict --cache-dir mypy "$module/rlibreg" > types || { cat types >&2; exit 1; }
+else
+    echo "skipped: the types of the Python module, which mypy tests"
+fi
 python3 -B "$module/tests/run_cases.py" .
-python3 -B "$module/tests/test_module.py" 2> unittest || { cat unittest >&2; exit 1; }
+(
+    export PYTHONPATH=$module:$module/tests
+    python3 -B -X dev -W error -m unittest test_module test_handlers
+) 2> unittest || { cat unittest >&2; exit 1; }
 mkdir python.files
 cd python.files
 eval "$(sed -n 's/^    \$ //p' "$page")"

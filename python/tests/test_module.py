@@ -4,8 +4,10 @@ and memory.
     python3 -m unittest test_module
 """
 
+import copy
 import ctypes
 import errno
+import mmap
 import os
 import pickle
 import re
@@ -21,7 +23,7 @@ from pathlib import Path
 
 import rlibreg
 from case_lists import DATA, file
-from rlibreg import Registry, Status
+from rlibreg import Registry, Status, _calls
 
 HEADER = (Path(__file__).resolve().parents[2] / 'c' / 'rlibreg.h').read_text()
 LIBRARY, PROGRAM = DATA / 'strong.so', DATA / 'program-1.so'  # `b`, and a program that needs it
@@ -58,15 +60,14 @@ class Header(unittest.TestCase):
 
     def test_structures(self):
         for name, size in re.findall(r'sizeof\(rlibreg_(\w+)\) == (\d+)', HEADER):
-            self.assertEqual(ctypes.sizeof(getattr(rlibreg, f'_{name.title()}')), int(size))
+            self.assertEqual(ctypes.sizeof(getattr(_calls, name.title())), int(size))
         for name, field, at in re.findall(r'offsetof\(rlibreg_(\w+), (\w+)\) == (\d+)', HEADER):
-            kind = getattr(rlibreg, f'_{name.title()}')
-            self.assertEqual(getattr(kind, field).offset, int(at))
+            self.assertEqual(getattr(getattr(_calls, name.title()), field).offset, int(at))
 
     def test_version(self):
         number = int(re.search(r'#define RLIBREG_VERSION (\d+)', HEADER)[1])
         self.assertEqual(rlibreg.version(), number)
-        self.assertEqual(rlibreg._INTERFACE, f'{number // 10000}.{number // 100 % 100}')
+        self.assertEqual(_calls.INTERFACE, f'{number // 10000}.{number // 100 % 100}')
 
 
 class Arguments(OnDisk):
@@ -102,6 +103,27 @@ class Arguments(OnDisk):
         self.assertRaises(OverflowError, rlibreg.format, self.disk, (1 << 32) + SECTORS)
         self.refused(Status.BAD_ARGUMENT, rlibreg.format, self.disk, 7)
 
+    def test_a_file_is_read_up_to_its_limit(self):
+        """A file of 1 TiB, and a pipe that has more than it."""
+        long, pipe = self.disk.with_name('long'), self.disk.with_name('pipe')
+        long.write_bytes(LIBRARY.read_bytes())
+        os.truncate(long, 1 << 40)
+        os.mkfifo(pipe)
+
+        def write():
+            with self.assertRaises(BrokenPipeError):
+                pipe.write_bytes(LIBRARY.read_bytes().ljust(1 << 25))
+
+        writer = threading.Thread(target=write)
+        writer.start()
+        with Registry(self.disk, changes=True) as registry:
+            for call in (lambda: registry.install(long), lambda: registry.replace(str(long)),
+                         lambda: registry.install(pipe), lambda: registry.bind(long, 0)):
+                with self.assertRaises(rlibreg.Refusal) as found:
+                    call()
+                self.assertEqual(found.exception.file_refusal_name, 'E13 TooLarge')
+        writer.join()
+
     def test_other_types(self):
         with Registry(self.disk, changes=True) as registry:
             self.assertRaises(TypeError, registry.install, 5)
@@ -127,11 +149,39 @@ class Errors(OnDisk):
             self.assertEqual((error.file_refusal, error.file_refusal_name), (1, 'E1 TooShort'))
 
     def test_what_the_system_refuses(self):
-        error = self.refused(Status.SYSTEM, Registry, 'no-such-disk')
-        self.assertIsInstance(error, OSError)
-        self.assertEqual((error.errno, error.filename), (errno.ENOENT, 'no-such-disk'))
+        folder = self.disk.parent
+        below = self.disk / 'disk'
+        beside = folder / 'other'
+        (folder / '.other.rlibreg-new').symlink_to('nowhere')
+        for call, number, kind in (
+                (lambda: Registry(beside), errno.ENOENT, FileNotFoundError),
+                (lambda: Registry(below), errno.ENOTDIR, NotADirectoryError),
+                (lambda: Registry(folder, changes=True), errno.EISDIR, IsADirectoryError),
+                (lambda: Registry(folder), errno.EINVAL, rlibreg.SystemFault),
+                (lambda: rlibreg.format(beside / 'disk', 64), errno.ENOENT, FileNotFoundError),
+                (lambda: self.as_nobody(Registry, self.disk), errno.EACCES, PermissionError)):
+            error = self.refused(Status.SYSTEM, call)
+            self.assertIsInstance(error, rlibreg.SystemFault)
+            self.assertIsInstance(error, kind)
+            self.assertEqual((error.errno, error.strerror), (number, os.strerror(number)))
+            again = pickle.loads(pickle.dumps(error))
+            self.assertEqual((type(again), str(again)), (type(error), str(error)))
+        self.assertEqual(self.refused(Status.SYSTEM, Registry, 'no-disk').filename, 'no-disk')
         with Registry(self.disk, changes=True) as registry:
             self.assertRaises(FileNotFoundError, registry.install, 'no-such-file')
+
+    @staticmethod
+    def as_nobody(call, path):
+        """Makes a call without the right to read a file."""
+        before = os.geteuid()
+        os.chmod(path, 0)
+        if not before:
+            os.seteuid(65534)
+        try:
+            return call(path)
+        finally:
+            os.seteuid(before)
+            os.chmod(path, 0o600)
 
     def test_a_change_of_a_registry_that_is_open_for_reading(self):
         with Registry(self.disk) as registry:
@@ -253,6 +303,25 @@ class Processes(OnDisk):
 
 
 class Contents(OnDisk):
+    def test_it_has_the_names_of_its_libraries(self):
+        with Registry(self.disk, changes=True) as registry:
+            self.assertTrue(registry)
+            self.assertEqual((len(registry), list(registry), 'b' in registry), (0, [], False))
+            registry.install(file('first.so'))
+            first, = registry
+            registry.install(LIBRARY)
+            self.assertEqual((len(registry), list(registry)), (2, [first, 'b']))
+            for name, is_there in (('b', True), (first, True), ('c', False), (b'b', False), (5, False)):
+                self.assertEqual(name in registry, is_there)
+        self.assertTrue(registry)
+        for call in (list, len, lambda it: 'b' in it):
+            self.assertRaises(rlibreg.Closed, call, registry)
+
+    def test_it_is_not_copied(self):
+        with Registry(self.disk) as registry:
+            for call in (copy.copy, copy.deepcopy, pickle.dumps):
+                self.assertRaises(TypeError, call, registry)
+
     def test_each_library_has_its_bytes(self):
         """Each stored library, by itself on the disk."""
         count = 0
@@ -334,6 +403,28 @@ class Memory(OnDisk):
             self.assertEqual((registry.info().libraries, registry.info().largest), (2048, 0))
             self.assertEqual([name for name, finding in registry.check() if not finding.number],
                              [it.name for it in registry.list().libraries])
+
+    def test_an_image_of_any_length(self):
+        """One of 5 GiB, which a stand-in for the call gives: its memory is there, and untouched."""
+        half, end = (1 << 31) + 4096, 5 << 30
+        memory = mmap.mmap(-1, end, mmap.MAP_PRIVATE | mmap.MAP_ANONYMOUS | 0x4000)  # NORESERVE
+        memory[half], memory[-1] = 7, 9
+        places = (_calls.Segment * 2)((0, half, 0, 4), (half, end - half, half, 4))
+        objects = (_calls.Object * 1)((0, end - 1, 1, 0, 2))
+
+        def image_of(function, words):
+            given = words[-1]._obj
+            given.bytes = ctypes.addressof(ctypes.c_char.from_buffer(memory))
+            given.count, given.object_count = 2, 1
+            given.segments, given.objects = places, objects
+            for name in ('bytes', 'segments', 'objects'):
+                self.addCleanup(setattr, given, name, None)  # which it would free
+
+        with Registry(self.disk) as registry:
+            registry._handle.ask = image_of
+            first, second = registry.bind(b'', 0).segments
+        self.assertEqual((len(first.data), len(second.data)), (half, end - half))
+        self.assertEqual((first.data[-1], second.data[0], second.data[-1]), (0, 7, 9))
 
     def test_an_image_stays(self):
         with Registry(self.disk, changes=True) as registry:

@@ -16,16 +16,19 @@ import errno
 import operator
 import os
 import threading
-from typing import Iterable, NamedTuple, Union
+from typing import Any, Iterable, Iterator, List, NamedTuple, NoReturn, Tuple, Union
 
-__all__ = ['Closed', 'Error', 'Finding', 'Held', 'Image', 'Info', 'Library', 'Listing', 'Object',
-           'Permissions', 'Refusal', 'Registry', 'Segment', 'Status', 'SystemFault', 'format',
-           'upgrade', 'version']
+from . import _calls
+from ._calls import library as _library
 
-PathName = Union[str, bytes, os.PathLike]
-Content = Union[bytes, bytearray, memoryview, str, os.PathLike]
+__all__ = ['Busy', 'Closed', 'Error', 'Finding', 'Held', 'Image', 'Info', 'Library', 'Listing',
+           'Object', 'Permissions', 'Refusal', 'Registry', 'Segment', 'Status', 'SystemFault',
+           'format', 'upgrade', 'version']
 
-_INTERFACE = '0.2'  # major and minor of the library that has the structures and the calls below
+PathName = Union[str, bytes, 'os.PathLike[str]', 'os.PathLike[bytes]']
+Content = Union[bytes, bytearray, memoryview, str, 'os.PathLike[str]', 'os.PathLike[bytes]']
+
+_MOST = 1 << 24  # bytes that a file may have which isn't refused for its length
 
 
 class Status(enum.IntEnum):
@@ -106,6 +109,9 @@ class Finding(NamedTuple):
     text: str  # 'ok', as 'damaged E2 BadMagic', or 'damaged OtherName'
 
 
+Findings = List[Tuple[str, Finding]]
+
+
 class Segment(NamedTuple):
     """A segment of an image: the address of its first byte, and its bytes."""
 
@@ -162,12 +168,40 @@ class Held(Error):
     """Another process, or another Registry of this one, holds the file."""
 
 
-class SystemFault(OSError, Error):
-    """A call of the system failed, before anything was done."""
+class Busy(Error, RuntimeError):
+    """A call from within a call of the same Registry, by the handler of a signal."""
 
 
 class Closed(Error, ValueError):
     """The registry was closed before."""
+
+
+class SystemFault(OSError, Error):
+    """A call of the system failed, before anything was done. Where Python has a class for its errno
+    it is of that class too, as the following ones are."""
+
+
+class FileNotFound(SystemFault, FileNotFoundError):
+    pass
+
+
+class FileExists(SystemFault, FileExistsError):
+    pass
+
+
+class PermissionDenied(SystemFault, PermissionError):
+    pass
+
+
+class IsADirectory(SystemFault, IsADirectoryError):
+    pass
+
+
+class NotADirectory(SystemFault, NotADirectoryError):
+    pass
+
+
+_FAULTS = {kind.__bases__[1]: kind for kind in SystemFault.__subclasses__()}
 
 
 def _error(kind: type[Error], number: int, *words: object) -> Error:
@@ -177,121 +211,21 @@ def _error(kind: type[Error], number: int, *words: object) -> Error:
     return error
 
 
-# ---- The shared library, as rlibreg.h declares it
-
-
-class _Answer(ctypes.Structure):
-    _fields_ = [('status', ctypes.c_uint32), ('file_refusal', ctypes.c_uint32),
-                ('count', ctypes.c_uint64), ('preloads', ctypes.c_uint64),
-                ('bytes', ctypes.c_uint64), ('text', ctypes.c_uint64),
-                ('generation', ctypes.c_uint64), ('objects', ctypes.c_uint64)]
-
-
-class _Segment(ctypes.Structure):
-    _fields_ = [('address', ctypes.c_uint64), ('length', ctypes.c_uint64),
-                ('from_', ctypes.c_uint64), ('permissions', ctypes.c_uint64)]
-
-
-class _Object(ctypes.Structure):
-    _fields_ = [(name, ctypes.c_uint64) for name in
-                ('base', 'name', 'name_length', 'first_segment', 'segments', 'headers',
-                 'header_count', 'dynamic', 'entry')]
-
-
-class _Entry(ctypes.Structure):
-    _fields_ = [('name', ctypes.c_uint64), ('name_length', ctypes.c_uint32),
-                ('file_length', ctypes.c_uint32)]
-
-
-class _Finding(ctypes.Structure):
-    _fields_ = [('name', ctypes.c_uint64), ('name_length', ctypes.c_uint32),
-                ('finding', ctypes.c_uint32)]
-
-
-class _Information(ctypes.Structure):
-    _fields_ = [(name, ctypes.c_uint64) for name in Info._fields]
-
-
-class _Listing(ctypes.Structure):
-    _fields_ = [('generation', ctypes.c_uint64), ('libraries', ctypes.c_size_t),
-                ('preloads', ctypes.c_size_t), ('entries', ctypes.POINTER(_Entry)),
-                ('names', ctypes.c_void_p)]
-
-
-class _Findings(ctypes.Structure):
-    _fields_ = [('count', ctypes.c_size_t), ('findings', ctypes.POINTER(_Finding)),
-                ('names', ctypes.c_void_p)]
-
-
-class _Image(ctypes.Structure):
-    _fields_ = [('count', ctypes.c_size_t), ('object_count', ctypes.c_size_t),
-                ('objects', ctypes.POINTER(_Object)), ('segments', ctypes.POINTER(_Segment)),
-                ('bytes', ctypes.c_void_p)]
-
-
-_POINTER, _TEXT, _SIZE = ctypes.c_void_p, ctypes.c_char_p, ctypes.c_size_t
-_NUMBER, _FLAGS = ctypes.c_uint32, ctypes.c_uint
-_CHANGES, _WAIT = 1, 2
-_SOUND, _OTHER_NAME = 0, 100
-
-_CALLS = {  # what each gives, and what it takes
-    'version': (_NUMBER,),
-    'status_name': (_TEXT, _NUMBER),
-    'file_refusal_name': (_TEXT, _NUMBER),
-    'create': (_POINTER,),
-    'close': (None, _POINTER),
-    'text': (_TEXT, _POINTER),
-    'last': (ctypes.POINTER(_Answer), _POINTER),
-    'open': (_NUMBER, _POINTER, _TEXT, _FLAGS),
-    'format': (_NUMBER, _POINTER, _TEXT, _NUMBER, _FLAGS),
-    'upgrade': (_NUMBER, _POINTER),
-    'install': (_NUMBER, _POINTER, _TEXT, _SIZE),
-    'replace': (_NUMBER, _POINTER, _TEXT, _SIZE),
-    'remove': (_NUMBER, _POINTER, _TEXT),
-    'preload': (_NUMBER, _POINTER, ctypes.POINTER(_TEXT), _SIZE),
-    'listing_of': (_NUMBER, _POINTER, ctypes.POINTER(_Listing)),
-    'listing_free': (None, ctypes.POINTER(_Listing)),
-    'file_of': (_NUMBER, _POINTER, _TEXT, ctypes.POINTER(_POINTER), ctypes.POINTER(_SIZE)),
-    'info_of': (_NUMBER, _POINTER, ctypes.POINTER(_Information)),
-    'findings_of': (_NUMBER, _POINTER, ctypes.POINTER(_Findings)),
-    'findings_free': (None, ctypes.POINTER(_Findings)),
-    'image_of': (_NUMBER, _POINTER, _TEXT, _SIZE, ctypes.c_uint64, ctypes.POINTER(_Image)),
-    'image_free': (None, ctypes.POINTER(_Image)),
-}
-
-
-def _load() -> ctypes.CDLL:
-    name = f'librlibreg.so.{_INTERFACE}'
-    try:
-        library = ctypes.CDLL(name, use_errno=True)
-    except OSError as error:
-        raise ImportError(f'rlibreg calls {name}, which is not found: {error}') from None
-    for call, (result, *arguments) in _CALLS.items():
-        function = getattr(library, f'rlibreg_{call}', None)
-        if function is None:
-            raise ImportError(f'rlibreg calls a later {name}, which has rlibreg_{call}')
-        function.restype, function.argtypes = result, arguments
-    return library
-
-
-_library = _load()
-_free = ctypes.CDLL(None).free  # of the process, as the library's malloc
-_free.restype, _free.argtypes = None, [_POINTER]
-
-
 def version() -> int:
     """The version of the shared library: 10,000 * major + 100 * minor + patch."""
-    return _library.rlibreg_version()
+    return int(_library.rlibreg_version())
 
 
 # ---- What is given to calls
 
 
 def _content(file: Content) -> bytes:
-    """The bytes of a library or a program, which are given, or read from a path."""
+    """The bytes of a library or a program, which are given, or read from a path: of a file that is
+    too long no more than show that."""
     if isinstance(file, (str, os.PathLike)):
         with open(file, 'rb') as stream:
-            return stream.read()
+            length = os.fstat(stream.fileno()).st_size or _MOST  # what is no file has none
+            return stream.read(min(length, _MOST) + 1)
     return file if isinstance(file, bytes) else bytes(memoryview(file))
 
 
@@ -314,55 +248,96 @@ def _unsigned(value: int, bits: int) -> int:
 # ---- Calls
 
 
+class _Turn(threading.local):
+    """Whether this thread is within a call."""
+
+    is_taken = False
+
+
 class _Handle:
-    """A struct rlibreg. One thread uses it at a time, and only in the process that made it."""
+    """A struct rlibreg. One call of it is made at a time, and only in the process that made it.
+
+    Python runs the handler of a signal between any two steps of the main thread: between a call and
+    the reading of its text, say. So a thread takes its turn before it waits for the lock, and keeps
+    it until all that it was answered is read. A handler that finds the turn taken makes no call, and
+    leaves the closing to the call that it interrupts."""
 
     def __init__(self, path: PathName) -> None:
         self.path = path
-        self.pointer = _library.rlibreg_create()
-        if not self.pointer:
-            raise MemoryError
         self.process = os.getpid()
-        self.lock = threading.RLock()
+        self.lock = threading.Lock()
+        self.turn = _Turn()
+        self.is_closed = False
+        self.struct = _library.rlibreg_create()
+        if not self.struct:
+            raise MemoryError
 
     def close(self) -> None:
         """In a child of fork this closes the child's file, and the parent keeps its lock. There
-        a thread that isn't in the child may have held the RLock, so it isn't taken."""
-        if os.getpid() == self.process:
-            with self.lock:
-                pointer, self.pointer = self.pointer, None
-        else:
-            pointer, self.pointer = self.pointer, None
-        if pointer:
-            _library.rlibreg_close(pointer)
+        a thread that isn't in the child may have held the lock of this, so it isn't taken."""
+        self.is_closed = True
+        if self.turn.is_taken:
+            return
+        self.turn.is_taken = True
+        try:
+            if os.getpid() != self.process:
+                self.give_back()
+            else:
+                with self.lock:
+                    self.give_back()
+        finally:
+            self.turn.is_taken = False
 
-    def check(self) -> None:
+    def give_back(self) -> None:
+        pointer, self.struct.value = self.struct.value, None
+        _library.rlibreg_close(pointer)
+
+    def refusal(self) -> Error | None:
+        """Why no call can be made."""
         if os.getpid() != self.process:
-            raise _error(Error, Status.BAD_ARGUMENT, 'the registry was opened by another process')
-        if not self.pointer:
-            raise _error(Closed, Status.BAD_ARGUMENT, 'the registry is closed')
+            return _error(Error, Status.BAD_ARGUMENT, 'the registry was opened by another process')
+        if self.is_closed:
+            return _error(Closed, Status.BAD_ARGUMENT, 'the registry is closed')
+        if self.turn.is_taken:
+            return _error(Busy, Status.BAD_ARGUMENT, 'the registry is within another call')
+        return None
 
     def call(self, name: str, *words: object) -> None:
-        """Makes a call, and raises what it is answered. Where a signal ends it while it waits for
-        a lock, the signal's handler runs, and it is made again."""
-        self.check()
-        with self.lock:
-            self.check()
-            function = getattr(_library, f'rlibreg_{name}')
-            while True:
-                status = function(self.pointer, *words)
-                if status != Status.SYSTEM or ctypes.get_errno() != errno.EINTR:
-                    break
-            if status:
-                raise self.error(status, ctypes.get_errno())
+        """Makes a call, and raises what it is answered: behind the turn and the lock, since Python
+        before 3.11 may run a handler as an exception leaves them, and let that leave them taken."""
+        error = self.refusal()
+        if not error:
+            self.turn.is_taken = True
+            try:
+                with self.lock:
+                    error = self.ask(getattr(_library, f'rlibreg_{name}'), words)
+            finally:
+                self.turn.is_taken = False
+                if self.is_closed:  # by a handler, meanwhile
+                    self.close()
+        if error:
+            raise error
+
+    def ask(self, function: Any, words: tuple[object, ...]) -> Error | None:
+        """What a call is answered. Where a signal ends it while it waits for a lock, the signal's
+        handler runs, and it is made again."""
+        if self.is_closed:
+            return _error(Closed, Status.BAD_ARGUMENT, 'the registry is closed')
+        while True:
+            status = function(self.struct, *words)
+            why = _library.rlibreg_errno(self.struct)
+            if status != Status.SYSTEM or why != errno.EINTR:
+                return self.error(status, why) if status else None
 
     def error(self, status: int, why: int) -> Error:
         if status == Status.SYSTEM:
-            return _error(SystemFault, status, why, os.strerror(why), self.path)
-        kind = Refusal if status > 100 else Held if status == Status.HELD else Error
-        error = _error(kind, status, _library.rlibreg_status_name(status).decode())
-        error.text = _library.rlibreg_text(self.pointer).decode('ascii', 'replace').rstrip('\n')
-        error.file_refusal = _library.rlibreg_last(self.pointer).contents.file_refusal
+            text = os.strerror(why)
+            kind = _FAULTS.get(type(OSError(why, text)), SystemFault)
+            return _error(kind, status, why, text, self.path)
+        error = _error(Refusal if status > 100 else Held if status == Status.HELD else Error,
+                       status, _library.rlibreg_status_name(status).decode())
+        error.text = _library.rlibreg_text(self.struct).decode('ascii', 'replace').rstrip('\n')
+        error.file_refusal = _library.rlibreg_last(self.struct).contents.file_refusal
         if error.file_refusal:
             named = _library.rlibreg_file_refusal_name(error.file_refusal)
             error.file_refusal_name = named.decode()
@@ -371,7 +346,7 @@ class _Handle:
         return error
 
 
-def _listing(given: _Listing) -> Listing:
+def _listing(given: _calls.Listing) -> Listing:
     """A listing of Python's own memory."""
     entries = given.entries[:given.libraries + given.preloads]
     names = [ctypes.string_at(given.names + it.name, it.name_length).decode() for it in entries]
@@ -381,32 +356,31 @@ def _listing(given: _Listing) -> Listing:
 
 
 def _finding(number: int) -> Finding:
-    if number == _SOUND:
+    if number == _calls.SOUND:
         return Finding(number, 'Sound', 'ok')
-    if number == _OTHER_NAME:
+    if number == _calls.OTHER_NAME:
         return Finding(number, 'OtherName', 'damaged OtherName')
     name = _library.rlibreg_file_refusal_name(number).decode()
     return Finding(number, name, f'damaged {name}')
 
 
-def _findings(given: _Findings) -> list[tuple[str, Finding]]:
+def _findings(given: _calls.Findings) -> Findings:
     """Names and findings of Python's own memory."""
     return [(ctypes.string_at(given.names + it.name, it.name_length).decode(),
              _finding(it.finding)) for it in given.findings[:given.count]]
 
 
-def _image(given: _Image) -> Image:
-    """An image of Python's own memory."""
+def _image(given: _calls.Image) -> Image:
+    """An image, whose bytes are seen where the library has put them."""
     places = given.segments[:given.count]
-    length = sum(it.length for it in places)
-    data = memoryview(ctypes.string_at(given.bytes, length))
+    data = given.view(sum(it.length for it in places))
     segments = [Segment(it.address, Permissions(it.permissions),
                         data[it.from_:it.from_ + it.length]) for it in places]
     return Image(segments, [_object(it, given, segments)
                             for it in given.objects[:given.object_count]])
 
 
-def _object(it: _Object, given: _Image, segments: list[Segment]) -> Object:
+def _object(it: _calls.Object, given: _calls.Image, segments: list[Segment]) -> Object:
     name = ctypes.string_at(given.bytes + it.name, it.name_length).decode()
     own = segments[it.first_segment:it.first_segment + it.segments]
     return Object(it.base, name, own, it.headers, it.header_count, it.dynamic, it.entry)
@@ -421,7 +395,7 @@ class Registry:
     path (a str or an os.PathLike), and is then read whole."""
 
     def __init__(self, path: PathName, changes: bool = False, wait: bool = False) -> None:
-        flags = (_CHANGES if changes else 0) | (_WAIT if wait else 0)
+        flags = (_calls.CHANGES if changes else 0) | (_calls.WAIT if wait else 0)
         name = _word(path)
         self._handle = _Handle(path)
         try:
@@ -431,15 +405,31 @@ class Registry:
             raise
 
     def __enter__(self) -> Registry:
-        self._handle.check()
+        error = self._handle.refusal()
+        if error:
+            raise error
         return self
 
     def __exit__(self, *exception: object) -> None:
         self.close()
 
-    def __del__(self) -> None:
-        if hasattr(self, '_handle'):
-            self._handle.close()
+    def __reduce__(self) -> NoReturn:
+        raise TypeError('a Registry can be neither copied nor pickled')
+
+    def __iter__(self) -> Iterator[str]:
+        """The names of the libraries, in the order of installation."""
+        return iter([it.name for it in self.list().libraries])
+
+    def __len__(self) -> int:
+        """How many libraries are installed."""
+        return self.info().libraries
+
+    def __contains__(self, name: object) -> bool:
+        """Whether a library of this name is installed."""
+        return any(it.name == name for it in self.list().libraries)
+
+    def __bool__(self) -> bool:
+        return True
 
     def close(self) -> None:
         """Gives the file and its lock back. A second time it does nothing."""
@@ -464,11 +454,11 @@ class Registry:
         if isinstance(names, (str, bytes)):
             raise TypeError('preloads are a list of names')
         words = [_word(name) for name in names]
-        self._handle.call('preload', (_TEXT * len(words))(*words), len(words))
+        self._handle.call('preload', (_calls.TEXT * len(words))(*words), len(words))
 
     def list(self) -> Listing:
         """What the registry has."""
-        given = _Listing()
+        given = _calls.Listing()
         try:
             self._handle.call('listing_of', ctypes.byref(given))
             return _listing(given)
@@ -478,23 +468,23 @@ class Registry:
     def file(self, name: str) -> bytes:
         """The bytes of the library of this name, as they were installed. Whether they still are
         those of a library isn't looked at, nor is any other library's file."""
-        word, given, length = _word(name), _POINTER(), _SIZE()
+        word, given, length = _word(name), _calls.POINTER(), _calls.SIZE()
         try:
             self._handle.call('file_of', word, ctypes.byref(given), ctypes.byref(length))
-            return ctypes.string_at(given, length.value)
+            return (ctypes.c_char * length.value).from_address(given.value or 0).raw
         finally:
-            _free(given)
+            _calls.free(given)
 
     def info(self) -> Info:
         """What is told of the registry as a whole. It reads no library's file."""
-        given = _Information()
+        given = _calls.Information()
         self._handle.call('info_of', ctypes.byref(given))
         return Info(*(getattr(given, name) for name in Info._fields))
 
-    def check(self) -> list[tuple[str, Finding]]:
+    def check(self) -> Findings:
         """Looks at each library, in the order of installation: its name, and what is found of its
         file. One that is damaged keeps no other from being looked at."""
-        given = _Findings()
+        given = _calls.Findings()
         try:
             self._handle.call('findings_of', ctypes.byref(given))
             return _findings(given)
@@ -503,13 +493,10 @@ class Registry:
 
     def bind(self, program: Content, base: int) -> Image:
         """Binds a program at an address, with the preloads and the libraries that it needs."""
-        data, given = _content(program), _Image()
+        data, given = _content(program), _calls.Image()
         address = _unsigned(base, 64)
-        try:
-            self._handle.call('image_of', data, len(data), address, ctypes.byref(given))
-            return _image(given)
-        finally:
-            _library.rlibreg_image_free(ctypes.byref(given))
+        self._handle.call('image_of', data, len(data), address, ctypes.byref(given))
+        return _image(given)
 
 
 def format(path: PathName, sectors: int, wait: bool = False) -> None:
@@ -518,7 +505,7 @@ def format(path: PathName, sectors: int, wait: bool = False) -> None:
     name, count = _word(path), _unsigned(sectors, 32)
     handle = _Handle(path)
     try:
-        handle.call('format', name, count, _WAIT if wait else 0)
+        handle.call('format', name, count, _calls.WAIT if wait else 0)
     finally:
         handle.close()
 

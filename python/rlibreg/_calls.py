@@ -1,0 +1,131 @@
+"""The shared library, as rlibreg.h declares it."""
+
+from __future__ import annotations
+
+import ctypes
+from typing import Any
+
+INTERFACE = '0.2'  # major and minor of the library that has the structures and the calls below
+
+CHANGES, WAIT = 1, 2
+SOUND, OTHER_NAME = 0, 100
+
+
+class Answer(ctypes.Structure):
+    _fields_ = [('status', ctypes.c_uint32), ('file_refusal', ctypes.c_uint32),
+                ('count', ctypes.c_uint64), ('preloads', ctypes.c_uint64),
+                ('bytes', ctypes.c_uint64), ('text', ctypes.c_uint64),
+                ('generation', ctypes.c_uint64), ('objects', ctypes.c_uint64)]
+
+
+class Segment(ctypes.Structure):
+    _fields_ = [('address', ctypes.c_uint64), ('length', ctypes.c_uint64),
+                ('from_', ctypes.c_uint64), ('permissions', ctypes.c_uint64)]
+
+
+class Object(ctypes.Structure):
+    _fields_ = [(name, ctypes.c_uint64) for name in
+                ('base', 'name', 'name_length', 'first_segment', 'segments', 'headers',
+                 'header_count', 'dynamic', 'entry')]
+
+
+class Entry(ctypes.Structure):
+    _fields_ = [('name', ctypes.c_uint64), ('name_length', ctypes.c_uint32),
+                ('file_length', ctypes.c_uint32)]
+
+
+class Finding(ctypes.Structure):
+    _fields_ = [('name', ctypes.c_uint64), ('name_length', ctypes.c_uint32),
+                ('finding', ctypes.c_uint32)]
+
+
+class Information(ctypes.Structure):
+    _fields_ = [(name, ctypes.c_uint64) for name in
+                ('version', 'sectors', 'generation', 'libraries', 'preloads', 'free_sectors',
+                 'free_runs', 'largest')]
+
+
+class Listing(ctypes.Structure):
+    _fields_ = [('generation', ctypes.c_uint64), ('libraries', ctypes.c_size_t),
+                ('preloads', ctypes.c_size_t), ('entries', ctypes.POINTER(Entry)),
+                ('names', ctypes.c_void_p)]
+
+
+class Findings(ctypes.Structure):
+    _fields_ = [('count', ctypes.c_size_t), ('findings', ctypes.POINTER(Finding)),
+                ('names', ctypes.c_void_p)]
+
+
+class Image(ctypes.Structure):
+    """An image, whose memory is freed with it."""
+
+    _fields_ = [('count', ctypes.c_size_t), ('object_count', ctypes.c_size_t),
+                ('objects', ctypes.POINTER(Object)), ('segments', ctypes.POINTER(Segment)),
+                ('bytes', ctypes.c_void_p)]
+
+    def view(self, length: int) -> memoryview:
+        """The first bytes, which stay as long as anyone has a view of them. Any length is right here,
+        where string_at takes a C int, and nothing is copied."""
+        data = (ctypes.c_char * length).from_address(self.bytes)
+        data.image = self  # type: ignore[attr-defined]
+        return memoryview(data).cast('B').toreadonly()
+
+
+class Registry(ctypes.c_void_p):
+    """A struct rlibreg, which is closed with it."""
+
+
+POINTER, TEXT, SIZE = ctypes.c_void_p, ctypes.c_char_p, ctypes.c_size_t
+NUMBER, FLAGS = ctypes.c_uint32, ctypes.c_uint
+
+PROTOTYPES: dict[str, tuple[Any, ...]] = {  # what each gives, and what it takes
+    'version': (NUMBER,),
+    'status_name': (TEXT, NUMBER),
+    'file_refusal_name': (TEXT, NUMBER),
+    'create': (Registry,),
+    'close': (None, POINTER),
+    'text': (TEXT, POINTER),
+    'last': (ctypes.POINTER(Answer), POINTER),
+    'errno': (ctypes.c_int, POINTER),
+    'open': (NUMBER, POINTER, TEXT, FLAGS),
+    'format': (NUMBER, POINTER, TEXT, NUMBER, FLAGS),
+    'upgrade': (NUMBER, POINTER),
+    'install': (NUMBER, POINTER, TEXT, SIZE),
+    'replace': (NUMBER, POINTER, TEXT, SIZE),
+    'remove': (NUMBER, POINTER, TEXT),
+    'preload': (NUMBER, POINTER, ctypes.POINTER(TEXT), SIZE),
+    'listing_of': (NUMBER, POINTER, ctypes.POINTER(Listing)),
+    'listing_free': (None, ctypes.POINTER(Listing)),
+    'file_of': (NUMBER, POINTER, TEXT, ctypes.POINTER(POINTER), ctypes.POINTER(SIZE)),
+    'info_of': (NUMBER, POINTER, ctypes.POINTER(Information)),
+    'findings_of': (NUMBER, POINTER, ctypes.POINTER(Findings)),
+    'findings_free': (None, ctypes.POINTER(Findings)),
+    'image_of': (NUMBER, POINTER, TEXT, SIZE, ctypes.c_uint64, ctypes.POINTER(Image)),
+    'image_free': (None, ctypes.POINTER(Image)),
+}
+
+
+def load() -> ctypes.CDLL:
+    name = f'librlibreg.so.{INTERFACE}'
+    try:
+        loaded = ctypes.CDLL(name)
+    except OSError as error:
+        raise ImportError(f'rlibreg calls {name}, which is not found: {error}') from None
+    for call, (result, *arguments) in PROTOTYPES.items():
+        function = getattr(loaded, f'rlibreg_{call}', None)
+        if function is None:
+            raise ImportError(f'rlibreg calls a later {name}, which has rlibreg_{call}')
+        function.restype, function.argtypes = result, arguments
+    return loaded
+
+
+library = load()
+# What frees is called by Python's C alone: in a method of Python the handler of a signal could run,
+# and its exception would be lost, and the memory with it.
+method = ctypes.pythonapi.PyInstanceMethod_New
+method.restype, method.argtypes = ctypes.py_object, [ctypes.py_object]
+Registry.__del__ = method(library.rlibreg_close)  # type: ignore[attr-defined]
+Image.__del__ = method(library.rlibreg_image_free)  # type: ignore[attr-defined]
+
+free = ctypes.CDLL(None).free  # of the process, as the library's malloc
+free.restype, free.argtypes = None, [POINTER]

@@ -1,0 +1,225 @@
+"""Calls from handlers of signals, some thousand of them a second, from threads, from children of
+fork, and at the end of Python: each hears what it was answered itself, and nothing is lost.
+
+    python3 -X dev -m unittest test_handlers
+"""
+
+import os
+import signal
+import subprocess
+import sys
+import threading
+import time
+import unittest
+
+import rlibreg
+from rlibreg import Registry, Status
+from test_module import LIBRARY, PROGRAM, OnDisk
+
+SECONDS = 0.4  # how long each test strikes
+
+
+class Handlers(OnDisk):
+    def setUp(self):
+        super().setUp()
+        self.registry = Registry(self.disk, changes=True)
+        library, program = LIBRARY.read_bytes(), PROGRAM.read_bytes()
+        self.registry.install(library)
+        self.addCleanup(lambda: self.registry.close())
+        self.calls = [lambda: self.registry.bind(program, 0x10000).segments[0].data[:4].tobytes(),
+                      lambda: self.registry.bind(program, 1), lambda: self.registry.bind(b'', 0),
+                      lambda: self.registry.install(b''), lambda: self.registry.remove('c'),
+                      lambda: self.registry.install(library), lambda: self.registry.list(),
+                      lambda: self.registry.info(), lambda: self.registry.check(),
+                      lambda: self.registry.file('b')]
+        self.answers = [self.heard(call) for call in self.calls]
+        self.assertEqual(len({str(it) for it in self.answers}), len(self.calls))
+
+    @staticmethod
+    def heard(call):
+        """What a call gives, or all that is said of why not."""
+        try:
+            return call()
+        except rlibreg.Busy:
+            return 'busy'
+        except rlibreg.Refusal as it:
+            return it.number, it.name, it.text, it.file_refusal, it.file_refusal_name
+
+    def try_all(self, wrong, busy=None):
+        """Makes each call, and says which were answered otherwise than alone, or not."""
+        for call, answer in zip(self.calls, self.answers):
+            found = self.heard(call)
+            if found == 'busy' and busy is not None:
+                busy.append(1)
+            elif found != answer:
+                wrong.append((found, answer))
+
+    def strike(self, call):
+        """Has the handler of a signal make a call a millisecond after the one before, until the test
+        ends."""
+        def handler(*_):
+            try:
+                call()
+            finally:
+                signal.setitimer(signal.ITIMER_REAL, 0.001 if time.monotonic() < end else 0)
+
+        end = time.monotonic() + SECONDS
+        signal.signal(signal.SIGALRM, handler)
+        self.addCleanup(signal.signal, signal.SIGALRM, signal.SIG_IGN)
+        signal.setitimer(signal.ITIMER_REAL, 0.001)
+        return end
+
+    def in_threads(self, count, work):
+        threads = [threading.Thread(target=work) for _ in range(count)]
+        for it in threads:
+            it.start()
+        self.addCleanup(lambda: [it.join() for it in threads])
+        return threads
+
+    def test_calls_within_a_call(self):
+        wrong, busy, ended = [], [], []
+
+        def work():
+            while not ended:
+                self.try_all(wrong)
+
+        self.in_threads(1, work)
+        self.addCleanup(ended.append, 1)
+        end = self.strike(lambda: self.try_all(wrong, busy))
+        while time.monotonic() < end:
+            self.try_all(wrong)
+        self.assertEqual(wrong, [])
+        self.assertGreater(len(busy), 10)
+
+    def test_calls_beside_those_of_a_thread(self):
+        """A handler waits for another thread, where its own makes no call."""
+        wrong, ended, ran = [], [], []
+
+        def handler():
+            self.try_all(wrong)
+            ran.append(1)
+
+        def work():
+            while not ended:
+                self.try_all(wrong)
+
+        self.in_threads(1, work)
+        self.addCleanup(ended.append, 1)
+        end = self.strike(handler)
+        while time.monotonic() < end:
+            time.sleep(0.001)
+        self.assertEqual(wrong, [])
+        self.assertGreater(len(ran), 10)
+
+    def test_a_handler_closes(self):
+        within, files = [], len(os.listdir('/proc/self/fd'))
+
+        def handler():
+            within.append(self.registry._handle.turn.is_taken)
+            self.registry.close()
+            self.assertRaises(rlibreg.Closed, self.registry.list)
+
+        end = self.strike(handler)
+        while time.monotonic() < end:
+            wrong = []
+            with self.assertRaises(rlibreg.Closed):
+                while True:
+                    self.try_all(wrong)
+            self.assertEqual(wrong, [])
+            self.assertEqual(len(os.listdir('/proc/self/fd')), files - 1)
+            self.registry = Registry(self.disk, changes=True)
+        self.assertGreater(sum(within), 10)
+
+    def test_exceptions_of_a_handler(self):
+        """They end what they interrupt, and keep nothing taken."""
+        raised, wrong, due = [], [], []
+
+        def handler():
+            while due:
+                raise ZeroDivisionError(due.pop())
+
+        end = self.strike(handler)
+        while time.monotonic() < end:
+            try:
+                due.append(1)
+                while due and time.monotonic() < end:
+                    self.try_all(wrong)
+            except ZeroDivisionError:
+                raised.append(1)
+        due.clear()
+        self.try_all(wrong)
+        for it in self.in_threads(1, lambda: self.try_all(wrong)):
+            it.join(10)
+            self.assertFalse(it.is_alive())
+        self.assertEqual(wrong, [])
+        self.assertGreater(len(raised), 10)
+
+    def test_another_thread_closes(self):
+        closed, wrong = [], []
+
+        def work():
+            try:
+                while True:
+                    self.try_all(wrong)
+            except rlibreg.Closed:
+                closed.append(1)
+
+        for _ in range(20):
+            threads = self.in_threads(4, work)
+            time.sleep(0.005)
+            self.registry.close()
+            for it in threads:
+                it.join()
+            self.registry = Registry(self.disk, changes=True)
+        self.assertEqual((wrong, len(closed)), ([], 80))
+
+    def test_a_child_of_a_handler_closes(self):
+        """A child that is made within a call, whose rest it makes too."""
+        children = []
+
+        def handler():
+            if self.registry._handle.turn.is_taken and 0 not in children[-1:] and len(children) < 10:
+                children.append(os.fork())
+                if not children[-1]:
+                    self.registry.close()
+
+        end = self.strike(handler)
+        while time.monotonic() < end and len(children) < 10:
+            try:
+                self.try_all([])
+            except BaseException as error:
+                os._exit(0 if isinstance(error, rlibreg.Error) and not children[-1] else 1)
+        self.assertGreater(len(children), 1)
+        for it in children:
+            self.assertEqual(os.waitpid(it, 0)[1], 0)
+        self.refused(Status.HELD, Registry, self.disk)
+
+
+END = '''
+import pathlib, sys, threading, time, rlibreg
+program = pathlib.Path(sys.argv[2])
+registry = sys.kept = rlibreg.Registry(sys.argv[1], changes=True)
+registry.itself = registry
+def work(call):
+    while True: call()
+for call in (registry.list, lambda: registry.bind(program, 0x10000)):
+    threading.Thread(target=work, args=(call,), daemon=True).start()
+time.sleep(0.05)
+sys.image = registry.bind(program, 0x10000)
+'''
+
+
+class Ends(OnDisk):
+    def test_the_end_of_python(self):
+        """With a registry that is open, in a circle, and in use by two threads."""
+        with Registry(self.disk, changes=True) as registry:
+            registry.install(LIBRARY)
+        for _ in range(3):
+            done = subprocess.run([sys.executable, '-B', '-X', 'dev', '-W', 'error', '-c', END,
+                                   self.disk, PROGRAM], capture_output=True)
+            self.assertEqual((done.returncode, done.stdout, done.stderr), (0, b'', b''))
+            Registry(self.disk, changes=True).close()
+
+
+if __name__ == '__main__':
+    unittest.main()
