@@ -137,6 +137,7 @@ class Bench:
         for i in (1, 3):
             words = {'needed': [name(i)], 'undefined': [symbol(i)], 'relocations': [(1, 0, 1, 0)]}
             (self.folder / f'needs-{i}').write_bytes(Made(behind=8, **words).file)
+            (self.folder / f'needs-{i}').chmod(0o755)
         return layout(self.disk.read_bytes())
 
     def answers(self, kind, disk, wrong, line, status):

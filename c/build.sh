@@ -48,7 +48,8 @@ END
 cp c/rlibreg.h "$folder/"
 # The loader is a static PIE, or a PIE where there is no static C library.
 link_loader() {
-    gcc $flags $hardened "$1" -o "$folder/rlibreg-run" c/rlibreg_run*.c "$folder/librlibreg.a"
+    gcc $flags $hardened "$1" -o "$folder/rlibreg-run" c/rlibreg_run*.c c/rlibreg_stack.c \
+        "$folder/librlibreg.a"
 }
 link_loader -static-pie 2> /dev/null || link_loader -pie
 
@@ -61,7 +62,8 @@ program() {
         (cd "crates/$crate" && rt run --backend "$compiler" -- "$@" > /dev/null)
         object=crates/$crate/out/$crate.o
     fi
-    gcc $flags -pie -Wl,--gc-sections,--wrap=fsync -o "$folder/$name" c/rlibreg_forget.c \
+    gcc $flags -DPROGRAM="\"$name\"" -pie -Wl,--gc-sections,--wrap=fsync,--wrap=main \
+        -o "$folder/$name" c/rlibreg_main.c c/rlibreg_stack.c c/rlibreg_forget.c \
         c/rlibreg_front.c "$object" "$kit/c/libos_c.a" "$kit/c/liblibc_c.a" -lm
 }
 program rlibreg "${RLIBREG_O:-}" rlibreg image data/minimal.so 0x10000

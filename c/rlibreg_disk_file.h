@@ -48,6 +48,11 @@ uint32_t rlibreg_disk_file_enlist(struct disk_file *it, const struct stat *found
  * asked for it: a child of fork has the same lock. */
 void rlibreg_disk_file_close(struct disk_file *it);
 
+/* An image, as rlibreg_image_of gives it, with so much room for its bytes at first, 16 MiB or more
+ * (rlibreg_file.c). */
+uint32_t rlibreg_image_in(rlibreg *registry, const void *program, size_t length, uint64_t base,
+                          rlibreg_image *image, size_t first_bytes);
+
 /* ---- Making one where there is none (rlibreg_new_disk.c)
  *
  * The file is made under another name in the same folder. Who gives or takes away that name holds

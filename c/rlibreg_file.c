@@ -5,6 +5,7 @@
 #include <errno.h>
 #include <stdlib.h>
 #include <string.h>
+#include <sys/mman.h>
 #include <unistd.h>
 
 enum { SECTOR = 512, STEP_NUMBER = 4, SMALL_PLAN = 40, FIRST_TEXT = 4096, FIRST_FILE = 1 << 16 };
@@ -451,15 +452,32 @@ struct room {
 };
 
 /* Room for most images: what isn't used of it isn't touched, and where it is too small a program is
- * bound twice. */
-static const struct room FIRST_ROOM = { 1024, 4096, 16 << 20 };
+ * bound twice. Where so many bytes aren't given it is a quarter of them, and again, down to these. */
+enum { FIRST_OBJECTS = 1024, FIRST_SEGMENTS = 4096, FIRST_BYTES = 16 << 20 };
+
+/* Has the system give large pages to much room, which is faster where most of it is used; but none
+ * to its beginning, so that a small image takes little. */
+static void ask_for_large_pages(uint8_t *bytes, size_t room) {
+    const uintptr_t large = 2 << 20, small_image = 4 << 20, much = 32 << 20;
+    uintptr_t from = ((uintptr_t)bytes + small_image) / large * large;
+    if (room > much) madvise((void *)from, (uintptr_t)bytes + room - from, MADV_HUGEPAGE);
+}
 
 static int make_room(rlibreg_image *out, struct room room) {
     out->objects = malloc(room.objects * sizeof *out->objects);
     out->segments = malloc(room.segments * sizeof *out->segments);
     out->bytes = malloc(room.bytes);
-    if (out->objects && out->segments && out->bytes) return 1;
+    if (out->objects && out->segments && out->bytes) {
+        ask_for_large_pages(out->bytes, room.bytes);
+        return 1;
+    }
     rlibreg_image_free(out);
+    return 0;
+}
+
+static int make_first_room(rlibreg_image *out, struct room *room) {
+    for (; room->bytes >= FIRST_BYTES; room->bytes /= 4)
+        if (make_room(out, *room)) return 1;
     return 0;
 }
 
@@ -479,12 +497,17 @@ static uint32_t bind_into(rlibreg *it, const struct bound *what, rlibreg_image *
 
 uint32_t rlibreg_image_of(rlibreg *it, const void *program, size_t length, uint64_t base,
                           rlibreg_image *out) {
+    return rlibreg_image_in(it, program, length, base, out, FIRST_BYTES);
+}
+
+uint32_t rlibreg_image_in(rlibreg *it, const void *program, size_t length, uint64_t base,
+                          rlibreg_image *out, size_t first_bytes) {
     struct bound what = { program, length, base };
-    struct room room = FIRST_ROOM;
+    struct room room = { FIRST_OBJECTS, FIRST_SEGMENTS, first_bytes };
     *out = (rlibreg_image){ 0 };
     uint32_t status = refuse(it);
     if (status) return status;
-    if (!make_room(out, room)) room = (struct room){ 0 }; /* and so it is asked what it takes */
+    if (!make_first_room(out, &room)) room = (struct room){ 0 }; /* and so it is asked what it takes */
     for (;;) {
         status = bind_into(it, &what, out, room);
         int again = text_was_cut(it) || status == RLIBREG_NO_ROOM;

@@ -9,6 +9,7 @@
  * calls anything. docs/C.md is the manual. */
 #define _GNU_SOURCE
 #include "rlibreg_run.h"
+#include "rlibreg_stack.h"
 
 #include <ctype.h>
 #include <errno.h>
@@ -18,6 +19,9 @@
 #include <string.h>
 #include <sys/prctl.h>
 #include <unistd.h>
+
+/* The loader takes some 24 KiB, beside what depends on its words. */
+enum { STACK = 128 << 10 };
 
 void fail(const char *what) {
     give_up(FAILED, what, strerror(errno));
@@ -84,10 +88,20 @@ static void take_name(const char *path) {
     prctl(PR_SET_NAME, slash ? slash + 1 : path);
 }
 
+/* How many bytes the words and the environment take as pointers, which the program gets anew. */
+static size_t pointers_in(char **words, char **environment) {
+    size_t count = 0;
+    while (*words++) count++;
+    while (*environment++) count++;
+    return count * sizeof *words;
+}
+
 int main(int argc, char **argv, char **environment) {
     struct program program = { 0 };
     read_options(&program, argc, argv);
     char **words = argv + optind + 1;
+    rlibreg_grow_stack(STACK + pointers_in(words, environment), FAILED,
+                       "rlibreg-run: the stack: Cannot allocate memory\n");
     program.path = words[0];
     read_program(&program);
     load(&program, argv[optind]);
@@ -96,5 +110,5 @@ int main(int argc, char **argv, char **environment) {
     take_name(program.path);
     tell_debugger(&program);
     rlibreg_image_free(&program.image);
-    start(&program, words, environment);
+    start(&program, words, environment, argv + argc + 1);
 }

@@ -94,6 +94,9 @@ finalizer *finalizers_of_all(void);
 /* ---- The start (rlibreg_run_debugger.c, rlibreg_run_start.c) */
 
 void tell_debugger(const struct program *it);
-_Noreturn void start(const struct program *it, char **words, char **environment);
+
+/* The environment is the one that the program gets; the kernel's, behind which the auxiliary vector
+ * stands, is where the kernel put it: what is linked into this process may have made another. */
+_Noreturn void start(const struct program *it, char **words, char **environment, char **kernels);
 
 #endif

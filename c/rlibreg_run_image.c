@@ -1,5 +1,6 @@
 /* The image in memory: its pages, their bytes and their permissions. */
 #define _GNU_SOURCE
+#include "rlibreg_disk_file.h"
 #include "rlibreg_run.h"
 
 #include <errno.h>
@@ -7,6 +8,9 @@
 #include <stdlib.h>
 #include <string.h>
 #include <sys/mman.h>
+
+/* How many bytes of an image have room at once. */
+enum { FIRST_ROOM = 1 << 30 };
 
 static uint64_t page_of(uint64_t address) {
     return address & ~(PAGE - 1);
@@ -18,8 +22,13 @@ static uint64_t page_behind(const rlibreg_segment *segment) {
 
 /* ---- Pages */
 
-/* Takes pages where nothing is mapped. A kernel before 4.17 takes others then. */
+/* Takes pages where nothing is mapped. A kernel before 4.17 takes others then. The page at 0 is
+ * where null points: nobody gets it, as from the kernel those don't who aren't root. */
 static int take_pages(uint64_t from, uint64_t to) {
+    if (!from) {
+        errno = EPERM;
+        return -1;
+    }
     void *map = mmap((void *)from, to - from, PROT_READ | PROT_WRITE,
                      MAP_PRIVATE | MAP_ANONYMOUS | MAP_FIXED_NOREPLACE, -1, 0);
     if (map == (void *)from) return 0;
@@ -156,9 +165,18 @@ static void protect_all(const struct program *program) {
 
 /* ---- The image */
 
+/* Tells who needs a C library what to do, by the line that says which name is missing. */
+static void advise(const char *line) {
+    const char *name = strrchr(line, ' ');
+    if (name && (!strncmp(name, " libc.so", 8) || !strncmp(name, " libc.musl-", 11)))
+        fputs("rlibreg-run: no registry has a C library: link it into the program, statically\n",
+              stderr);
+}
+
 static void refuse(const rlibreg *registry, uint32_t status, const char *disk) {
     if (status < 100) give_up(FAILED, disk, rlibreg_status_name(status));
     fputs(rlibreg_text(registry), stderr);
+    if (status == RLIBREG_MISSING) advise(rlibreg_text(registry));
     exit(status == RLIBREG_OUT_OF_MEMORY ? FAILED : REFUSED);
 }
 
@@ -178,7 +196,8 @@ static int has_entry(const struct program *it) {
  * where the loader chooses, low enough: else errno says what they aren't, and another base may do.
  */
 static int bind_at(struct program *it, rlibreg *registry, const char *disk) {
-    uint32_t status = rlibreg_image_of(registry, it->bytes, it->length, it->base, &it->image);
+    uint32_t status =
+        rlibreg_image_in(registry, it->bytes, it->length, it->base, &it->image, FIRST_ROOM);
     if (status) refuse(registry, status, disk);
     it->object = it->image.objects[0];
     if (!has_entry(it)) give_up(REFUSED, it->path, "it has no entry");
@@ -193,11 +212,21 @@ static int bind_at(struct program *it, rlibreg *registry, const char *disk) {
     return 0;
 }
 
-static void put_bytes(const rlibreg_image *image) {
-    for (size_t i = 0; i < image->count; i++) {
-        const rlibreg_segment *it = &image->segments[i];
-        if (it->length) memcpy((void *)it->address, image->bytes + it->from, it->length);
+/* Copies the bytes of a segment, page by page, but for those that are zeros: that is what the pages
+ * hold, and they take no memory until something else is written. */
+static void put_segment(const rlibreg_segment *it, const uint8_t *bytes) {
+    static const uint8_t zeros[PAGE];
+    uint64_t step;
+    for (uint64_t at = 0; at < it->length; at += step) {
+        step = PAGE - (it->address + at) % PAGE;
+        if (step > it->length - at) step = it->length - at;
+        if (memcmp(bytes + at, zeros, step)) memcpy((void *)(it->address + at), bytes + at, step);
     }
+}
+
+static void put_bytes(const rlibreg_image *image) {
+    for (size_t i = 0; i < image->count; i++)
+        put_segment(&image->segments[i], image->bytes + image->segments[i].from);
 }
 
 void map_program(struct program *it, rlibreg *registry, const char *disk) {

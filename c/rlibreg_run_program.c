@@ -11,6 +11,13 @@
 
 enum { MOST = (16 << 20) + 1 }; /* a file of so many bytes is refused, and so is a longer one */
 
+/* Whether the user may execute a file, which nobody may on a file system that is mounted so: as the
+ * kernel asks it of a program. Before 5.8 a kernel can't be asked of a descriptor. */
+static int may_execute(int fd, const char *path) {
+    if (!faccessat(fd, "", X_OK, AT_EACCESS | AT_EMPTY_PATH)) return 1;
+    return errno != EACCES && !faccessat(AT_FDCWD, path, X_OK, AT_EACCESS);
+}
+
 /* Reads the file into memory, so that nobody can cut or change it under the loader. What isn't a
  * regular file may have no end, or none yet, so it isn't waited for. */
 void read_program(struct program *it) {
@@ -18,6 +25,7 @@ void read_program(struct program *it) {
     int fd = open(it->path, O_RDONLY | O_CLOEXEC | O_NOCTTY | O_NONBLOCK);
     if (fd < 0 || fstat(fd, &found)) fail(it->path);
     if (!S_ISREG(found.st_mode)) give_up(FAILED, it->path, "it is no regular file");
+    if (!may_execute(fd, it->path)) fail(it->path);
     it->bytes = malloc(MOST);
     if (!it->bytes) fail("memory");
     while (it->length < MOST) {

@@ -11,8 +11,16 @@ static size_t words_in(char **list) {
     return count;
 }
 
-/* How many entries the auxiliary vector has that the kernel gave this process, the last included.
- * It stands behind the environment. */
+/* The auxiliary vector that the kernel gave this process. It stands behind the environment, out of
+ * which, where AT_SECURE is set, the start of this process's C library takes variables: for each of
+ * these one null more stands before the vector, which itself begins with none. */
+static const Elf64_auxv_t *vector_behind(char **environment) {
+    while (*environment) environment++;
+    while (!*environment) environment++;
+    return (const Elf64_auxv_t *)environment;
+}
+
+/* How many entries the vector has, the last included. */
 static size_t entries_in(const Elf64_auxv_t *vector) {
     size_t count = 1;
     for (; vector->a_type != AT_NULL; vector++) count++;
@@ -48,9 +56,9 @@ static Elf64_auxv_t entry_for(const struct program *it, Elf64_auxv_t entry) {
 /* Calls the initializers and jumps to the program, with a stack that has the words, the environment
  * and the auxiliary vector. It lies below what this process has on its own stack, which goes on
  * growing down from there. */
-void start(const struct program *it, char **words, char **environment) {
+void start(const struct program *it, char **words, char **environment, char **kernels) {
     size_t argc = words_in(words), variables = words_in(environment);
-    const Elf64_auxv_t *vector = (const Elf64_auxv_t *)(environment + variables + 1);
+    const Elf64_auxv_t *vector = vector_behind(kernels);
     size_t entries = entries_in(vector);
     size_t room = 8 * (1 + argc + 1 + variables + 1) + sizeof *vector * entries;
     uint64_t *stack = (uint64_t *)(((uint64_t)alloca(room + 16) + 15) & ~(uint64_t)15), *at = stack;

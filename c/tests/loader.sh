@@ -56,6 +56,7 @@ SEE=me
 headers
 entry
 pages
+ids
 name
 aligned
 nothing at the end

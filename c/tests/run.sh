@@ -45,7 +45,7 @@ for name in faults $over_watched; do
 done
 # With the sanitizer of addresses a program can't be mapped at each address, so the loader has one.
 loader="$flags -O1 -fsanitize=undefined -fno-sanitize-recover=all"
-compiled loader "$loader" "$here"/../rlibreg_run*.c $library
+compiled loader "$loader" "$here"/../rlibreg_run*.c "$here/../rlibreg_stack.c" $library
 gcc $loader -o "$room/rlibreg-run" "$objects"/loader/*.o "$built/librlibreg.a"
 gcc $loader -o "$room/run-taken" -Wl,--wrap=mmap "$here/taken.c" "$objects"/loader/*.o \
     "$built/librlibreg.a"

@@ -31,6 +31,7 @@ done
 truncate -s 4096 zeros
 mkfifo pipe
 : > empty
+chmod +x empty
 want 'no disk' 'rlibreg-run: none: No such file or directory
 = 126' "$(ended ./rlibreg-run none ./words)"
 want 'no registry' 'refused S3 NotFormatted
@@ -58,6 +59,54 @@ for kibibytes in {6000..30000..1500}; do
     esac
 done
 
+# A file that may not be executed.
+cp words unfit
+chmod a-x unfit
+want 'a program that may not be executed' 'rlibreg-run: ./unfit: Permission denied
+= 126' "$(ended ./rlibreg-run disk ./unfit)"
+mkdir mounted
+noexec() {
+    unshare -m "$BASH" -c 'mount -t tmpfs -o noexec none mounted && cp words mounted && "$@"' x "$@"
+}
+if noexec true 2> lost; then
+    want 'a program where none may be executed' 'rlibreg-run: mounted/words: Permission denied
+= 126' "$(ended noexec ./rlibreg-run disk mounted/words)"
+else
+    echo "skipped: a file system without programs ($(cat lost))"
+fi
+
+# More rights than the user's: the loader's C library takes variables out of the environment.
+for loader in ./rlibreg-run "$built/rlibreg-run"; do
+    found=$(ended env LOCPATH=x NLSPATH=x TZDIR=x SEE=me ./within secure "$loader" disk ./words)
+    case $found in
+        "this kernel hasn't"*) echo 'skipped: a start with more rights than its user has' ;;
+        *) want "more rights, by $loader" './words
+SEE=me
+headers
+entry
+pages
+ids
+secure
+name
+aligned
+nothing at the end
+= 3' "$found" ;;
+    esac
+done
+
+# Small stacks.
+for kibibytes in 16 64 128; do
+    want "a stack of $kibibytes KiB" 'rlibreg-run: the stack: Cannot allocate memory
+= 126' "$(ulimit -s $kibibytes && ended "$built/rlibreg-run" disk ./words)"
+done
+want 'a stack of 512 KiB' '= 3' \
+    "$(ulimit -s 512 && ended "$built/rlibreg-run" disk ./words $(seq 10000) | tail -1)"
+
+# Zeros are no memory of the program's until it writes them.
+$compile -pie -Wl,-e,_start -o zeros "$programs/place.c" -x c - <<< 'char zeros[60 << 20];'
+found=$(./rlibreg-run disk zeros /proc/self/statm | tail -1 | cut -d ' ' -f 2)
+[ "$found" -lt 4096 ] || { echo "60 MiB of zeros: $found pages" >&2; exit 1; }
+
 # An entry in the memory of a library.
 at=$("$rlibreg" bind disk chain 0x100000 | awk '/^object/ {library = / libtwo/} library && /r-x/ {print $2; exit}')
 cp chain strayed
@@ -66,6 +115,19 @@ for shift in 0 8 16 24 32 40 48 56; do
 done | dd of=strayed bs=1 seek=24 conv=notrunc 2> lost
 want 'an entry in a library' 'rlibreg-run: strayed: it has no entry
 = 125' "$(ended ./rlibreg-run disk strayed)"
+
+want 'the base 0' 'rlibreg-run: memory at the base: Operation not permitted
+= 126' "$(ended ./rlibreg-run -b 0 disk ./words)"
+
+# A C library, which isn't in a registry.
+for name in libc.so libc.so.6 libc.musl-x86_64.so.1; do
+    $compile -shared -Wl,-soname,$name -o $name "$programs/one.c"
+    $compile -pie -Wl,-e,_start,--no-as-needed -o needs-c "$programs/words.c" $name
+    want "a program that needs $name" "refused B3 Missing /program $name
+rlibreg-run: no registry has a C library: link it into the program, statically
+= 125" "$(ended ./rlibreg-run disk ./needs-c)"
+    rm $name
+done
 
 # Places: what is mapped below what the kernel chooses, that is, of the image.
 low() {

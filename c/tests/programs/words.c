@@ -2,11 +2,18 @@
 #include "start.h"
 
 enum { PHDR = 3, PHENT = 4, PHNUM = 5, PAGESZ = 6, BASE = 7, ENTRY = 9, RANDOM = 25, EXECFN = 31 };
+enum { UID = 11, EUID, GID, EGID, SECURE = 23 };
 extern void _start(void) __attribute__((visibility("hidden")));
 
 static int same(const char *a, const char *b) {
     while (*a && *a == *b) a++, b++;
     return *a == *b;
+}
+
+/* Whether the kernel says the same of the process's users and groups. */
+static int has_ids(const uint64_t *of) {
+    return of[UID] == (uint64_t)kernel(102, 0, 0, 0) && of[EUID] == (uint64_t)kernel(107, 0, 0, 0) &&
+           of[GID] == (uint64_t)kernel(104, 0, 0, 0) && of[EGID] == (uint64_t)kernel(108, 0, 0, 0);
 }
 
 void begin(uint64_t *stack, uint64_t at_end) {
@@ -24,6 +31,8 @@ void begin(uint64_t *stack, uint64_t at_end) {
     say(headers ? "headers\n" : "no headers\n");
     say(of[ENTRY] == (uint64_t)_start ? "entry\n" : "another entry\n");
     say(of[PAGESZ] == 4096 && !of[BASE] && of[RANDOM] ? "pages\n" : "no pages\n");
+    say(has_ids(of) ? "ids\n" : "other ids\n");
+    if (of[SECURE]) say("secure\n");
     say(same((char *)of[EXECFN], words[0]) ? "name\n" : "another name\n");
     say((uint64_t)stack % 16 ? "unaligned\n" : "aligned\n");
     say(at_end ? "something at the end\n" : "nothing at the end\n");
