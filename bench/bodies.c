@@ -1,12 +1,18 @@
 /* Wrong bodies of the program, for `syncs.py`: a library to preload before `medium.c`, which makes other calls of those that the
    program makes. BODY says which:
 
-   right         lets the cache go as it has to be, after the first sync of a descriptor (for a program that doesn't)
+   right         makes none
    none          the cache isn't let go
    small         its first page alone is let go
    before        it is let go before the sync
    after_read    it is let go after the first read
    second_page   it is let go from the second page on
+   compared_early    the roots are compared before the sync
+   one_root          the second one isn't
+   failed_equal      they are taken for equal where the read past memory fails
+   written_unsynced  memory's are written, and not synced
+   compared_once     what was let go, or written, isn't compared again
+   not_compared      they are taken for equal
    unlocked      there is no lock
    shared        each lock is a shared one
    lock_late     the lock is taken after the first read
@@ -32,11 +38,12 @@
 #include <string.h>
 #include <sys/file.h>
 #include <sys/stat.h>
+#include <sys/syscall.h>
 #include <unistd.h>
 
-enum { ROOM = 1024, LET_GO = 2 << 20, PAGE = 4096 };
-static int synced[ROOM], was_read[ROOM];
-static bool named;
+enum { ROOM = 1024, LET_GO = 2 << 20, PAGE = 4096, SECTOR = 512, ROOTS = 1024 };
+static int synced[ROOM], was_read[ROOM], compared[ROOM];
+static bool named, is_past[ROOM], is_late[ROOM], wrote_roots[ROOM];
 
 static bool is(const char *body) {
     const char *this = getenv("BODY");
@@ -45,25 +52,52 @@ static bool is(const char *body) {
 
 /* Whether the body is one that lets the cache go at another place than the program does. */
 static bool moves_the_cache(void) {
-    return is("right") || is("none") || is("small") || is("before") || is("after_read") || is("second_page");
+    return is("none") || is("before") || is("after_read");
 }
 
 #define NEXT(answer, name, ...) ((answer (*)(__VA_ARGS__))dlsym(RTLD_NEXT, name))
 
 static void let_go(int descriptor) {
-    off_t from = is("second_page") ? PAGE : 0, most = is("small") ? PAGE : LET_GO;
-    for (off_t size = PAGE; size <= most; size *= 2)
-        NEXT(int, "posix_fadvise", int, off_t, off_t, int)(descriptor, from, size, POSIX_FADV_DONTNEED);
+    for (off_t size = PAGE; size <= LET_GO; size *= 2)
+        NEXT(int, "posix_fadvise", int, off_t, off_t, int)(descriptor, 0, size, POSIX_FADV_DONTNEED);
 }
 
 int posix_fadvise(int descriptor, off_t from, off_t size, int advice) {
-    return moves_the_cache() ? 0 : NEXT(int, "posix_fadvise", int, off_t, off_t, int)(descriptor, from, size, advice);
+    if (moves_the_cache() || (is("small") && size > PAGE)) return 0;
+    if (is("second_page")) from = PAGE;
+    return NEXT(int, "posix_fadvise", int, off_t, off_t, int)(descriptor, from, size, advice);
 }
 
-int mincore(void *from, size_t size, unsigned char *is_kept) {
-    if (!moves_the_cache()) return NEXT(int, "mincore", void *, size_t, unsigned char *)(from, size, is_kept);
-    *is_kept = 1;
-    return 0;
+int fcntl(int descriptor, int command, ...) {
+    va_list words;
+    va_start(words, command);
+    long word = va_arg(words, long);
+    va_end(words);
+    int answer = NEXT(int, "fcntl", int, int, ...)(descriptor, command, word);
+    if (command != F_SETFL) return answer;
+    is_past[descriptor] = !answer && word & O_DIRECT;
+    if (word & O_DIRECT || !is_late[descriptor]) return answer;
+    is_late[descriptor] = false;
+    return NEXT(int, "fsync", int)(descriptor);
+}
+
+/* Whether a read past memory is taken for one of memory. */
+static bool is_believed(int descriptor, ssize_t answer) {
+    bool again = compared[descriptor]++;
+    return is("not_compared") || (is("compared_once") && again) || (is("failed_equal") && answer < 0);
+}
+
+ssize_t pread(int descriptor, void *into, size_t size, off_t from) {
+    ssize_t answer = NEXT(ssize_t, "pread", int, void *, size_t, off_t)(descriptor, into, size, from);
+    if (!is_past[descriptor]) return answer;
+    if (is_believed(descriptor, answer)) return syscall(SYS_pread64, descriptor, into, size, from);
+    if (is("one_root") && answer >= ROOTS) syscall(SYS_pread64, descriptor, (char *)into + SECTOR, SECTOR, from + SECTOR);
+    return answer;
+}
+
+ssize_t pwrite(int descriptor, const void *from, size_t size, off_t place) {
+    wrote_roots[descriptor] = size == ROOTS && !place;
+    return NEXT(ssize_t, "pwrite", int, const void *, size_t, off_t)(descriptor, from, size, place);
 }
 
 static bool is_folder(int descriptor) {
@@ -86,13 +120,15 @@ static bool is_left_out(int number) {
 
 static int sync_file(int descriptor) {
     int number = ++synced[descriptor];
-    if (is_left_out(number)) return 0;
+    is_late[descriptor] = number == 1 && is("compared_early");
+    bool is_unsynced = wrote_roots[descriptor] && is("written_unsynced");
+    wrote_roots[descriptor] = false;
+    if (is_left_out(number) || is_late[descriptor] || is_unsynced) return 0;
     if (number == 1 && is("before")) let_go(descriptor);
     if (number == 1 && is("named_early")) name_it();
     if (number == 2 && is("lock_let_go")) NEXT(int, "flock", int, int)(descriptor, LOCK_UN);
     int answer = NEXT(int, "fsync", int)(descriptor);
     if (answer && ((is("einval") && errno == EINVAL) || (is("erofs") && errno == EROFS))) answer = 0;
-    if (number == 1 && !answer && (is("right") || is("small") || is("second_page"))) let_go(descriptor);
     return answer;
 }
 
@@ -115,7 +151,7 @@ ssize_t read(int descriptor, void *into, size_t size) {
 }
 
 int close(int descriptor) {
-    synced[descriptor] = was_read[descriptor] = 0;
+    synced[descriptor] = was_read[descriptor] = compared[descriptor] = 0;
     return NEXT(int, "close", int)(descriptor);
 }
 

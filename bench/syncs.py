@@ -7,7 +7,8 @@ the machine loses its power, and asks whether what was answered stays true. Want
 Each sync of each changing command fails in turn, also two in a row, and brings none, all or a part of what was written to the
 medium; or the process ends before one of its steps. Then come a `list`, and each further change, with a failing sync or a cut at
 each of its steps too; and after each of all these a power cut, after which the medium has each dirty page, or each sector of them,
-or not. Demanded is: the failing command is answered S1 or status 3; the disk holds what was acknowledged, or that with
+or not. Where the medium is left with other roots than are shown, somebody has them mapped, or no read gets past memory, too.
+Demanded is: the failing command is answered S1 or status 3; the disk holds what was acknowledged, or that with
 the one command that wasn't, is never damaged, and is from an opening on what that has shown. What the states are is
 kept by this script (`registries.py`), which reads the medium by itself. The calls in between have their order: lock, sync, the
 roots compared with the medium's, the first read; all writes before the sync, and that before the reply; the lock until the last sync.
@@ -25,7 +26,8 @@ import tempfile
 import time
 from pathlib import Path
 
-from machines import CUT_STATUS, DISK, LIBRARIES, NEW, PROGRAM, SECTORS, Machine, clean, found, has_failed, steps_of, syncs_of
+from machines import (
+    CUT_STATUS, DISK, LIBRARIES, NEW, PROGRAM, SECTORS, Machine, clean, found, has_failed, is_shown_otherwise, steps_of, syncs_of)
 from old_disks import old_disk
 from orders import Order
 from registries import DAMAGED, NO_FILE, REGISTRY, SECTOR, answer, image, state_of
@@ -49,8 +51,9 @@ FEW_FURTHER = [('replace', 'a2.so'), ('remove', b'b')]
 PARTS = ['none', 'all', 'first', 'rest', 'half', 'kept']
 FEW_PARTS = ['none', 'rest']
 BODIES = [
-    'right', 'none', 'small', 'before', 'after_read', 'second_page', 'unlocked', 'shared', 'lock_late', 'lock_let_go', 'no_sync',
-    'no_last_sync', 'named_early', 'folder', 'left', 'dead_written', 'einval', 'erofs',
+    'right', 'none', 'small', 'before', 'after_read', 'second_page', 'compared_early', 'one_root', 'failed_equal', 'written_unsynced',
+    'compared_once', 'not_compared', 'unlocked', 'shared', 'lock_late', 'lock_let_go', 'no_sync', 'no_last_sync', 'named_early', 'folder',
+    'left', 'dead_written', 'einval', 'erofs',
 ]
 # A held state, the states that its disk may hold, and how it came about.
 Way = collections.namedtuple('Way', 'held allowed what')
@@ -160,31 +163,31 @@ class Bench:
         self.after_cuts(on)
         return ended, on
 
-    def opened(self, way):
+    def opened(self, way, **how):
         """A `list`: what it showed is shown again, also after a cut. Gives the way on from there."""
         what = way.what + ', list'
-        ended, shown = self.run(way, LIST, what)
+        ended, shown = self.run(way, LIST, what, **how)
         if shown:
             for machine in {ended.held, *found(ended.held, 0)}:
                 self.run(shown._replace(held=machine), LIST, what + ', dropped, list')
         return shown
 
-    def failing(self, way, command, syncs, parts, what):
+    def failing(self, way, command, syncs, parts, what, **how):
         """Each sync failing with each part that it brings to the medium, and the next one too if it is still made."""
         for number, brought in itertools.product(range(1, syncs + 1), parts):
             words = f'{what}, sync {number} fails and brings {brought}'
-            ended, on = self.run(way, command, words, fail=number, brought=brought)
+            ended, on = self.run(way, command, words, fail=number, brought=brought, **how)
             yield on
             if syncs_of(ended.log) > number:
-                yield self.run(way, command, words + ', the next too', fail=f'{number},{number + 1}', brought=brought)[1]
+                yield self.run(way, command, words + ', the next too', fail=f'{number},{number + 1}', brought=brought, **how)[1]
 
-    def ways(self, way, command, parts):
+    def ways(self, way, command, parts, **how):
         """Where a command leads to, each once: it is done, a sync fails, or the process ends before a step."""
         what = f'{way.what}, {command[0]}' if way.what else command[0]
-        ended, on = self.run(way, command, what)
-        cuts = (self.run(way, command, f'{what} ended before step {n}', cut=n)[1] for n in range(1, steps_of(ended.log) + 1))
+        ended, on = self.run(way, command, what, **how)
+        cuts = (self.run(way, command, f'{what} ended before step {n}', cut=n, **how)[1] for n in range(1, steps_of(ended.log) + 1))
         seen = {None}
-        for later in itertools.chain([on], self.failing(way, command, syncs_of(ended.log), parts, what), cuts):
+        for later in itertools.chain([on], self.failing(way, command, syncs_of(ended.log), parts, what, **how), cuts):
             if later and later[:2] not in seen:
                 seen.add(later[:2])
                 yield later
@@ -243,12 +246,34 @@ class Bench:
                 self.hidden(later)
             self.opened(later)
 
+    def refused(self, way, command, what, **how):
+        """A run that has to be refused, and to leave all as it was."""
+        ended = self.machine.run(way.held, command, **how)
+        self.judged += 1
+        if ended.status != 3 or ended.output.replace(REOPEN, b'') not in (b'', FAILED) or ended.held != way.held:
+            self.wrong('another answer', f'{way.what}, {command[0]}, {what}', f': {ended.status} {ended.output}')
+
+    def shown_otherwise(self, way, further):
+        """The medium has other roots than are shown: a read past memory fails, or can't be had, or somebody has them mapped."""
+        changes = [command for command in further if command[0] not in ('script', 'format')]
+        mapped = way._replace(what=way.what + ', mapped')
+        self.refused(mapped, LIST, 'which only looks', mapped=1)
+        self.opened(way, past='refused')
+        for number, change in enumerate(changes):
+            self.refused(way, change, 'no read past memory', past=errno.EIO)
+            self.refused(mapped, change, 'which the medium does not take', mapped=1, fail=2, brought='none', silent=1)
+            how = {'past': 'refused'} if number else {'mapped': 1}
+            for later in self.ways(mapped, change, FEW_PARTS, **how):
+                self.opened(later)
+
     def faulty(self, start, command, further):
         """A command with its faults, and after each of them an opening and each further change. Gives how many states it led to."""
         states = 0
         for way in self.ways(start, command, PARTS):
             states += 1
             self.hidden(way)
+            if is_shown_otherwise(way.held):
+                self.shown_otherwise(way, further)
             for number in range(1, 4):
                 self.run(way, LIST, f'{way.what}, list ended before step {number}', cut=number)
             shown = self.opened(way)
