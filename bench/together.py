@@ -4,14 +4,15 @@
     python3 bench/together.py PROGRAM FOLDER [--clib TOOL] [--rounds N]
 
 TOOL is the program of c/tests/tool.c, built as c/tests/run.sh builds it. What was answered `ok` has to be there at the
-end; everything else has to be answered as a disk that is held is, at once; and a `list` shows a state between those before
-and after it. The rounds are: installs; the same, each asked again until it is done; all commands; both programs; lists
+end; everything else has to be answered as a disk that is held is, a change of PROGRAM after two seconds and all else at
+once; and a `list` shows a state between those before and after it. The rounds are: installs; the same, each asked again until it is done; all commands; both programs; lists
 beside one writer; a file that is put in another's place (mv); and two and twelve `format`s of one name. Before them come a
 disk that another process holds, shared or alone, and, where strace is there, a file system that can't lock and a file that
 is put in another's place between opening and locking. 10 rounds are made of each; 200 take some minutes.
 """
 
 import argparse
+import contextlib
 import fcntl
 import os
 import random
@@ -25,8 +26,9 @@ from checks import Checks, CLibrary, Program, emptied, has, held_file, looks
 from libraries import Made, name, symbol
 
 COUNT, SECTORS = 12, '512'
-# Seconds: what is at once, and how long a command is asked again.
-AT_ONCE, AGAIN = 1.0, 60.0
+# Seconds: what is at once, how long a change tries, and how long a command is asked again.
+AT_ONCE, TRIES, AGAIN = 1.0, 2.0, 60.0
+LOOKS = ('list', 'bind')
 READS = {'read', 'pread64', 'readv', 'write', 'pwrite64', 'writev', 'ftruncate', 'mmap', 'fsync', 'fdatasync'}
 SAID = b'refused S4 AlreadyFormatted\n'
 
@@ -80,6 +82,19 @@ def change_of(folder, words):
     if words[0] in ('install', 'replace'):
         return words[0], [name(int(words[2].split('-')[1])).decode()], (folder / words[2]).stat().st_size
     return words[0], words[2:], 0
+
+
+def side_by_side(calls):
+    """Makes all calls at the same time, and gives what they gave."""
+    found = [None] * len(calls)
+    def one(i):
+        found[i] = calls[i]()
+    threads = [threading.Thread(target=one, args=(i,)) for i in range(len(calls))]
+    for thread in threads:
+        thread.start()
+    for thread in threads:
+        thread.join()
+    return found
 
 
 def same(one, other):
@@ -336,10 +351,16 @@ class Rounds:
             for how, kind in ((fcntl.LOCK_SH, f'{by.name}: a reader holds the disk'), (fcntl.LOCK_EX, f'{by.name}: a writer holds the disk')):
                 self.put(self.three)
                 plain = {what: by.done(what, 'disk', *words) for what, words in (('list', []), ('bind', ['program', '0x10000']))}
+                asked = [it[1:] for it in self.commands() if by is self.program or it[1][0] != 'script']
+                tries = [it for it in asked if by is self.program and it[0][0] not in LOOKS]
+                allowed = plain if how == fcntl.LOCK_SH else {}
                 with held_file(self.disk, how):
-                    for _, words, given in self.commands():
-                        if by is self.program or words[0] != 'script':
-                            self.held_command(kind, by, words, given, plain if how == fcntl.LOCK_SH else {})
+                    for words, given in [it for it in asked if it not in tries]:
+                        least = min((by.run(words, given) for _ in range(2)), key=lambda it: it.seconds)
+                        self.held_command(kind, by, words, least, allowed)
+                    ended = side_by_side([lambda it=it: by.run(*it) for it in tries])
+                    for (words, _), one in zip(tries, ended):
+                        self.held_command(kind, by, words, one, allowed, TRIES)
                     self.before_the_disk(kind)
         kind = 'a dead process holds nothing'
         self.put(self.three)
@@ -349,11 +370,10 @@ class Rounds:
         self.program.end(process)
         self.checks.want(kind, self.program.run(['remove', 'disk', name(2).decode()])[:2] == (0, b'ok\n'), 'after a kill of a script')
 
-    def held_command(self, kind, by, words, given, allowed):
-        ended = min((by.run(words, given) for _ in range(2)), key=lambda it: it.seconds)
+    def held_command(self, kind, by, words, ended, allowed, least=0.0):
         good = ended[:3] == (0, allowed[words[0]], b'') if words[0] in allowed else by.held(ended, 'disk')
         self.checks.want(kind, good, words, ended)
-        self.checks.want(kind, ended.seconds < AT_ONCE, words, 'took', ended.seconds)
+        self.checks.want(kind, least <= ended.seconds < least + (AGAIN if least else AT_ONCE), words, 'took', ended.seconds)
         self.checks.want(kind, self.disk.read_bytes() == self.three, words, 'wrote')
         self.checks.note(kind, 'held' if by.held(ended, 'disk') else 'done' if good else 'wrong')
 
@@ -367,7 +387,7 @@ class Rounds:
 
     def traced(self, words, given, injected=()):
         """Runs it under strace, and gives what it did with the disk."""
-        log = self.folder / 'calls'
+        log = self.folder / f'calls-{threading.get_ident()}'
         wrapped = ['strace', '-f', '-qq', '-o', str(log), '-P', str(self.disk)] + [it for one in injected for it in ('-e', f'inject={one}')]
         ended = self.program.run(words, given, wrapped)
         calls = [line.split()[1].split('(')[0] for line in log.read_text().splitlines() if '(' in line]
@@ -376,14 +396,12 @@ class Rounds:
     def unlocked(self):
         """A held disk isn't read; nor is one on a file system that can't lock."""
         for fault in (None, 'ENOLCK', 'EOPNOTSUPP', 'ENOSYS', 'EIO', 'EBADF'):
-            kind = f'no lock: {fault}' if fault else 'nothing is read of a held disk'
-            for _, words, given in self.commands():
-                self.put(self.three)
-                if fault:
-                    ended, calls = self.traced(words, given, [f'flock:error={fault}'])
-                else:
-                    with held_file(self.disk, fcntl.LOCK_EX):
-                        ended, calls = self.traced(words, given)
+            kind, injected = (f'no lock: {fault}', [f'flock:error={fault}']) if fault else ('nothing is read of a held disk', [])
+            self.put(self.three)
+            with contextlib.nullcontext() if fault else held_file(self.disk, fcntl.LOCK_EX):
+                asked = self.commands()
+                found = side_by_side([lambda it=it: self.traced(it[1], it[2], injected) for it in asked])
+            for (_, words, _), (ended, calls) in zip(asked, found):
                 good = self.program.held(ended, 'disk') and not calls and self.disk.read_bytes() == self.three
                 self.checks.want(kind, good, words, ended, calls)
 

@@ -29,7 +29,7 @@ fi
 cp "$RLIBREG_C" "$folder/proved.a"
 
 # The C over them, and what gives the proved calls their memory.
-parts='file disk_file new_disk front status'
+parts='file disk_file new_disk turn front status'
 for part in $parts; do
     gcc $flags -c -o "$folder/rlibreg_$part.o" "c/rlibreg_$part.c"
 done
@@ -62,9 +62,10 @@ program() {
         (cd "crates/$crate" && rt run --backend "$compiler" -- "$@" > /dev/null)
         object=crates/$crate/out/$crate.o
     fi
-    gcc $flags -DPROGRAM="\"$name\"" -pie -Wl,--gc-sections,--wrap=fsync,--wrap=main \
+    gcc $flags -DPROGRAM="\"$name\"" -pie -Wl,--gc-sections,--wrap=fsync,--wrap=flock,--wrap=main \
         -o "$folder/$name" c/rlibreg_main.c c/rlibreg_stack.c c/rlibreg_forget.c \
-        c/rlibreg_front.c "$object" "$kit/c/libos_c.a" "$kit/c/liblibc_c.a" -lm
+        c/rlibreg_front.c c/rlibreg_turn.c c/rlibreg_program_lock.c "$object" \
+        "$kit/c/libos_c.a" "$kit/c/liblibc_c.a" -lm
 }
 program rlibreg "${RLIBREG_O:-}" rlibreg image data/minimal.so 0x10000
 program rlibreg-tool "${RLIBREG_TOOL_O:-}" rlibreg_tool info data/disk

@@ -23,10 +23,14 @@
  *
  * - A disk has one writer at a time, and nobody reads it meanwhile. Who changes it holds the lock
  *   of flock(2) on it alone, who looks shares it. The calls over a file see to that, and so does
- *   the program `rlibreg`, which ends with status 3 where the disk is held. So
- *   nothing has to be done beside, and who holds the disk around the program (`flock DISK rlibreg
- *   ..`) shuts it out. Who wants to wait for others, or to do several things at a stretch, holds
- *   the lock of another file, as all others do too (`flock DISK.lock rlibreg ..`).
+ *   the program `rlibreg`, which ends with status 3 where the disk is held, of a change where it is
+ *   held for two seconds. So nothing has to be done beside, and who holds the disk around the program
+ *   (`flock DISK rlibreg ..`) shuts it out. Who wants to do several things at a stretch holds the
+ *   lock of another file, as all others do too (`flock DISK.lock rlibreg ..`).
+ * - A change that waits has its turn, also where loaders come one after the other: who opens the disk
+ *   to look gives way to it, for two seconds at most, and is refused for nothing but the lock. A mark
+ *   says so, an open file's lock of fcntl(2) on a byte behind the disk's end; over NFS, SMB, 9p, AFS
+ *   and Lustre, where flock(2) is such a lock itself, there is none.
  * - Who puts another file in the disk's place holds the lock of the file that stood there (`flock
  *   DISK mv NEW DISK`). Library and program look, once they have a lock, whether the path still
  *   names the file that they locked, and else open the path again.
@@ -94,9 +98,9 @@ extern "C" {
 /* ---- Version
  *
  * 10,000 * major + 100 * minor + patch. Where major or minor is another a caller is compiled again:
- * the shared library's name has the two, as librlibreg.so.0.2. rlibreg_version gives the version of
+ * the shared library's name has the two, as librlibreg.so.0.3. rlibreg_version gives the version of
  * the library that is called. */
-#define RLIBREG_VERSION 201
+#define RLIBREG_VERSION 300
 uint32_t rlibreg_version(void);
 
 /* ---- Statuses
@@ -414,23 +418,30 @@ int rlibreg_errno(const rlibreg *registry);
  * waiting for it; or with a sum of these. */
 enum {
     RLIBREG_CHANGES = 1, /* for changes too: the lock is held alone */
-    RLIBREG_WAIT = 2     /* where the file is held, wait */
+    RLIBREG_WAIT = 2     /* where the file is held, wait (rlibreg_wait_limit) */
 };
+
+/* How long the calls behind it wait that are given RLIBREG_WAIT: so many milliseconds each, by
+ * CLOCK_MONOTONIC, whatever signals come, and then they answer RLIBREG_HELD; or, where it is less than
+ * 0, as at first, without end, but for a signal whose handler hasn't SA_RESTART (sigaction(2)). Other
+ * processes are waited for, and other threads of this one. */
+void rlibreg_wait_limit(rlibreg *registry, int milliseconds);
 
 /* Opens the file of a registry, a regular file or a block device, locks it and syncs it, and maps
  * what the medium has of it. It isn't looked at what the file holds: the calls behind do that.
  *
- * RLIBREG_HELD where another process holds the file, and RLIBREG_WAIT isn't given; with that too
- * where another struct of this process holds it, or waits for it, unless both only look, since the
- * process would wait for itself; and where the path named another file each of 16 times.
- * RLIBREG_SYSTEM where a call of the system fails: errno says why, EINTR where a signal came while
- * it waited, EINVAL where the path is neither of the two, EBUSY where a block device is in use.
+ * RLIBREG_HELD where another struct, of this process or another, holds the file, and RLIBREG_WAIT
+ * isn't given, or its limit is over; with that at once where this thread would wait for itself: for a
+ * struct that it used last, or for a thread that waits for one; and where the path named another file
+ * each of 16 times.
+ * RLIBREG_SYSTEM where a call of the system fails: errno says why, EINTR where a signal ended a wait
+ * without limit, EINVAL where the path is neither of the two, EBUSY where a block device is in use.
  * RLIBREG_BAD_ARGUMENT where the struct has a file already. */
 uint32_t rlibreg_open(rlibreg *registry, const char *path, unsigned flags);
 
 /* Makes an empty registry of so many sectors of 512 bytes, and leaves it open for changes. A file
  * or a block device that is there has to have that length, or the refusal is S6, and no registry,
- * or it is S4. FLAGS may have RLIBREG_WAIT.
+ * or it is S4. FLAGS may have RLIBREG_WAIT: who is making the disk is waited for too.
  *
  * Where there is no file it is made under another name, `.NAME.rlibreg-new` in the same folder
  * (`.rlibreg-new` where that has more than 255 bytes), and gets its own, by a link that fails where
@@ -438,8 +449,8 @@ uint32_t rlibreg_open(rlibreg *registry, const char *path, unsigned flags);
  * leave no disk or a whole one. A regular file that has the other name and that nobody holds was
  * left so: its name is taken away, and it isn't written.
  *
- * RLIBREG_BAD_ARGUMENT where SECTORS isn't 8 to 4,194,304. RLIBREG_HELD, with RLIBREG_WAIT too,
- * where another process holds the other name's file. RLIBREG_SYSTEM with EINVAL where what has
+ * RLIBREG_BAD_ARGUMENT where SECTORS isn't 8 to 4,194,304. RLIBREG_HELD where the other name's file
+ * is held, as the disk's. RLIBREG_SYSTEM with EINVAL where what has
  * that name is no regular file, and where what comes before the plan fails. S1 where a write or a
  * sync of the plan fails, or behind the name that of the folder, or where the other name can't be
  * taken away, errno says why: of a file that stood there a registry was made or not; of a new one

@@ -1,6 +1,7 @@
 /* Opening the file of a disk: its lock, its sync and its map. */
 #define _GNU_SOURCE
 #include "rlibreg_disk_file.h"
+#include "rlibreg_turn.h"
 
 #include <errno.h>
 #include <fcntl.h>
@@ -9,11 +10,7 @@
 #include <sys/file.h>
 #include <sys/ioctl.h>
 #include <sys/mman.h>
-#include <time.h>
 #include <unistd.h>
-
-/* How often the lock of a device is tried, ten milliseconds apart. */
-enum { DEVICE_TRIES = 200 };
 
 /* ---- The locks of this process, those that it waits for among them */
 
@@ -28,8 +25,15 @@ static void free_list(void) {
     pthread_mutex_unlock(&guard);
 }
 
-/* A child of fork begins without any, whatever another thread was doing in its parent. */
+/* A child of fork begins without any, whatever another thread was doing in its parent. What that
+ * waits for is closed in the child: else its mark would stay with it (rlibreg_turn.h). */
 static void empty_list(void) {
+    for (struct disk_file *it = enlisted; it; it = it->next) {
+        if (!it->is_waiting) continue;
+        close(it->fd);
+        it->fd = -1;
+        it->owner = 0;
+    }
     enlisted = NULL;
     free_list();
 }
@@ -38,28 +42,73 @@ static void watch_forks(void) {
     pthread_atfork(hold_list, free_list, empty_list);
 }
 
-static int excludes(const struct disk_file *one, const struct disk_file *other) {
-    return one->owner == other->owner && one->device == other->device &&
-           one->number == other->number && (one->is_alone || other->is_alone);
+/* A number of the thread, which no other has. */
+static uint64_t this_thread(void) {
+    static uint64_t last; /* under the guard */
+    static _Thread_local uint64_t number;
+    if (!number) number = ++last;
+    return number;
 }
 
-uint32_t rlibreg_disk_file_enlist(struct disk_file *it, const struct stat *found, unsigned flags) {
+static int excludes(const struct disk_file *one, const struct disk_file *other) {
+    return one->device == other->device && one->number == other->number &&
+           (one->is_alone || other->is_alone);
+}
+
+/* What a thread waits for, or null; each is given once in a search. */
+static struct disk_file *waiting(uint64_t thread, unsigned search) {
+    struct disk_file *it = enlisted;
+    while (it && !(it->is_waiting && it->thread == thread && it->search != search)) it = it->next;
+    if (it) it->search = search;
+    return it;
+}
+
+/* Whether who waits for a lock waits for a thread: it has the lock, or waits for one who has. */
+static int waits_for(const struct disk_file *wanted, uint64_t thread, unsigned search) {
+    for (struct disk_file *it = enlisted; it; it = it->next) {
+        if (it->is_waiting || !excludes(wanted, it)) continue;
+        if (it->thread == thread) return 1;
+        struct disk_file *next = waiting(it->thread, search);
+        if (next && waits_for(next, thread, search)) return 1;
+    }
+    return 0;
+}
+
+/* Puts a file into the list; or doesn't where it would be waited for, by a thread for itself. */
+static uint32_t enlist(struct disk_file *it, const struct stat *found, unsigned flags,
+                       int is_waiting) {
     static pthread_once_t once = PTHREAD_ONCE_INIT;
-    struct disk_file wanted = *it, *other;
+    static unsigned searches; /* under the guard */
+    struct disk_file wanted = *it;
+    pthread_once(&once, watch_forks);
+    hold_list();
     wanted.owner = getpid();
+    wanted.thread = this_thread();
     wanted.device = found->st_dev;
     wanted.number = found->st_ino;
     wanted.is_alone = !!(flags & RLIBREG_CHANGES);
-    pthread_once(&once, watch_forks);
-    hold_list();
-    for (other = enlisted; other && !excludes(&wanted, other);) other = other->next;
-    if (!other) {
-        wanted.next = enlisted;
-        *it = wanted;
-        enlisted = it;
-    }
+    wanted.is_waiting = is_waiting;
+    wanted.next = enlisted;
+    int never = flags & RLIBREG_WAIT && waits_for(&wanted, wanted.thread, ++searches);
+    if (!never) enlisted = it, *it = wanted;
     free_list();
-    return other ? RLIBREG_HELD : RLIBREG_DONE;
+    return never ? RLIBREG_HELD : RLIBREG_DONE;
+}
+
+void rlibreg_disk_file_enlist(struct disk_file *it, const struct stat *found) {
+    enlist(it, found, RLIBREG_CHANGES, 0);
+}
+
+static void end_waiting(struct disk_file *it) {
+    hold_list();
+    it->is_waiting = 0;
+    free_list();
+}
+
+void rlibreg_disk_file_use(struct disk_file *it) {
+    hold_list();
+    it->thread = this_thread();
+    free_list();
 }
 
 static void strike(struct disk_file *it) {
@@ -77,21 +126,25 @@ static int open_flags(unsigned flags) {
     return access | O_CLOEXEC | O_NOCTTY | O_NONBLOCK; /* opening a pipe doesn't wait */
 }
 
-static int lock_kind(unsigned flags) {
-    int kind = flags & RLIBREG_CHANGES ? LOCK_EX : LOCK_SH;
-    return flags & RLIBREG_WAIT ? kind : kind | LOCK_NB;
+int rlibreg_flock(int fd, int kind) {
+    return flock(fd, kind);
 }
 
-/* Locks a file. The system's udev holds a lock of a device for a moment after each writer has
- * closed it, so there a change that doesn't wait asks again for two seconds. */
-static int lock(int fd, int is_device, unsigned flags) {
-    const struct timespec moment = { .tv_nsec = 10 * 1000 * 1000 };
-    int again = is_device && flags & RLIBREG_CHANGES ? DEVICE_TRIES : 0;
-    for (; flock(fd, lock_kind(flags)); again--) {
-        if (errno != EWOULDBLOCK || !again) return -1;
-        nanosleep(&moment, NULL);
-    }
-    return 0;
+/* Locks a file. The system's udev holds a lock of a device for a moment after each writer has closed
+ * it, so there a change that doesn't wait tries for a moment. */
+static int lock(const struct disk_file *it, int is_device, unsigned flags) {
+    int64_t until = flags & RLIBREG_WAIT ? it->until : 0;
+    if (!(flags & RLIBREG_CHANGES)) return rlibreg_lock_shared(it->fd, until);
+    if (is_device && !until) until = rlibreg_moment_in(RLIBREG_A_TURN);
+    return rlibreg_lock_alone(it->fd, until);
+}
+
+uint32_t rlibreg_disk_file_lock(struct disk_file *it, const struct stat *found, unsigned flags) {
+    if (enlist(it, found, flags, 1)) return RLIBREG_HELD;
+    int failed = lock(it, S_ISBLK(found->st_mode), flags);
+    end_waiting(it);
+    if (!failed) return RLIBREG_DONE;
+    return errno == EWOULDBLOCK ? RLIBREG_HELD : RLIBREG_SYSTEM;
 }
 
 /* Opens a file and locks it. */
@@ -99,14 +152,12 @@ static uint32_t open_and_lock(struct disk_file *it, const char *path, unsigned f
                               struct stat *found) {
     it->fd = open(path, open_flags(flags));
     if (it->fd < 0 || fstat(it->fd, found)) return RLIBREG_SYSTEM;
-    int is_device = S_ISBLK(found->st_mode);
-    if (!is_device && !S_ISREG(found->st_mode)) {
+    if (!S_ISBLK(found->st_mode) && !S_ISREG(found->st_mode)) {
         errno = EINVAL;
         return RLIBREG_SYSTEM;
     }
-    if (rlibreg_disk_file_enlist(it, found, flags)) return RLIBREG_HELD;
-    if (lock(it->fd, is_device, flags)) return errno == EWOULDBLOCK ? RLIBREG_HELD : RLIBREG_SYSTEM;
-    return RLIBREG_DONE;
+    if (!(flags & RLIBREG_CHANGES) && rlibreg_write_out(it->fd)) return RLIBREG_SYSTEM;
+    return rlibreg_disk_file_lock(it, found, flags);
 }
 
 /* Whether the path still names the file that was locked: it may have been replaced meanwhile. */
@@ -173,8 +224,8 @@ void rlibreg_disk_file_close(struct disk_file *it) {
     if (it->bytes) munmap((void *)it->bytes, it->length);
     if (it->claim >= 0) close(it->claim);
     if (it->owner) strike(it);
-    if (it->owner == getpid()) flock(it->fd, LOCK_UN);
+    if (it->owner == getpid()) rlibreg_unlock(it->fd);
     if (it->fd >= 0) close(it->fd);
-    *it = NO_DISK_FILE;
+    *it = (struct disk_file){ .fd = -1, .claim = -1, .until = it->until };
     errno = why;
 }

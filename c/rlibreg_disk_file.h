@@ -20,7 +20,11 @@ struct disk_file {
     dev_t device;
     ino_t number;
     int is_alone;           /* whether the lock is held alone */
+    int is_waiting;         /* whether it isn't held yet */
+    uint64_t thread;        /* the one that uses the file */
+    unsigned search;        /* the last in which it was met */
     struct disk_file *next; /* in the list of those whose lock was asked for */
+    int64_t until;          /* so long the lock is waited for; stays when the file is closed */
 };
 
 #define NO_DISK_FILE ((struct disk_file){ .fd = -1, .claim = -1 })
@@ -40,9 +44,15 @@ uint32_t rlibreg_disk_file_map(struct disk_file *it, unsigned flags);
  * -1 with errno, EIO where the two differ still. */
 int rlibreg_meet_front(int fd, int (*sync)(int));
 
-/* Puts a file that is to be locked into the list of the locks of this process. RLIBREG_HELD: one of
- * them excludes it, which nobody could wait for. */
-uint32_t rlibreg_disk_file_enlist(struct disk_file *it, const struct stat *found, unsigned flags);
+/* Locks a file that is open, and puts it into the list of the locks of this process. Gives a status:
+ * RLIBREG_HELD, with RLIBREG_WAIT too, where this thread would wait for itself. */
+uint32_t rlibreg_disk_file_lock(struct disk_file *it, const struct stat *found, unsigned flags);
+
+/* Puts a file that is locked alone into that list. */
+void rlibreg_disk_file_enlist(struct disk_file *it, const struct stat *found);
+
+/* This thread is the one that uses the file. */
+void rlibreg_disk_file_use(struct disk_file *it);
 
 /* Closes what is open, and leaves errno as it is. The lock goes where the process is the one that
  * asked for it: a child of fork has the same lock. */
@@ -65,9 +75,10 @@ struct new_disk {
 };
 
 /* Makes a file of zeros under the other name, and maps it. Gives a status, as the next one does;
- * rlibreg_new_disk_end is called in every case. */
+ * rlibreg_new_disk_end is called in every case. With RLIBREG_WAIT another process that is making the
+ * disk is waited for. */
 uint32_t rlibreg_new_disk_make(struct new_disk *it, const char *path, size_t length,
-                               struct disk_file *file);
+                               struct disk_file *file, unsigned flags);
 
 /* Gives the file its name. RLIBREG_SYSTEM: it hasn't got it, with EEXIST where something has it;
  * RLIBREG_DEVICE: it has, but a power cut may still take it. */

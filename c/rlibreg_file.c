@@ -1,6 +1,7 @@
 /* The registry over a file: C over the calls on bytes. rlibreg.h is the manual. */
 #define _GNU_SOURCE
 #include "rlibreg_disk_file.h"
+#include "rlibreg_turn.h"
 
 #include <errno.h>
 #include <stdlib.h>
@@ -14,6 +15,7 @@ struct rlibreg {
     struct disk_file file;
     int may_change; /* whether it was opened for changes */
     int has_failed; /* whether a write or a sync failed */
+    int limit;      /* how many milliseconds a lock is waited for, or less than 0: without end */
     char *text;     /* of the last answer, ended by a byte 0 */
     size_t text_room;
     rlibreg_answer answer;
@@ -72,6 +74,7 @@ rlibreg *rlibreg_create(void) {
         return NULL;
     }
     it->file = NO_DISK_FILE;
+    it->limit = -1;
     it->text = text;
     it->text_room = FIRST_TEXT;
     it->text[0] = 0;
@@ -111,18 +114,33 @@ static int is_inherited(const rlibreg *it) {
     return it->file.fd >= 0 && it->file.owner != getpid();
 }
 
-uint32_t rlibreg_open(rlibreg *it, const char *path, unsigned flags) {
-    if (it->file.fd >= 0) return say(it, RLIBREG_BAD_ARGUMENT, "");
+void rlibreg_wait_limit(rlibreg *it, int milliseconds) {
+    it->limit = milliseconds;
+}
+
+/* The wait of a call begins. */
+static void begin_waiting(rlibreg *it) {
+    it->file.until = it->limit < 0 ? RLIBREG_NO_END : rlibreg_moment_in(it->limit);
+}
+
+static uint32_t open_file(rlibreg *it, const char *path, unsigned flags) {
     uint32_t status = rlibreg_disk_file_open(&it->file, path, flags);
     if (status) let_go(it);
     it->may_change = !status && flags & RLIBREG_CHANGES;
     return say(it, status, "");
 }
 
+uint32_t rlibreg_open(rlibreg *it, const char *path, unsigned flags) {
+    if (it->file.fd >= 0) return say(it, RLIBREG_BAD_ARGUMENT, "");
+    begin_waiting(it);
+    return open_file(it, path, flags);
+}
+
 /* Why nothing can be asked of the file by this struct, or 0. */
 static uint32_t refuse(rlibreg *it) {
     if (is_inherited(it)) return say(it, RLIBREG_BAD_ARGUMENT, "");
     if (it->has_failed) return say(it, RLIBREG_REOPEN, "refused S2 Reopen\n");
+    rlibreg_disk_file_use(&it->file);
     return RLIBREG_DONE;
 }
 
@@ -291,7 +309,7 @@ uint32_t rlibreg_preload(rlibreg *it, const char *const *names, size_t count) {
 
 /* Makes a registry on the file that stands there. */
 static uint32_t format_file(rlibreg *it, const char *path, size_t length, unsigned flags) {
-    uint32_t status = rlibreg_open(it, path, flags);
+    uint32_t status = open_file(it, path, flags);
     if (status) return status;
     if (rlibreg_sync_folder(path)) return say_system(it);
     if (it->file.length != length) return say(it, RLIBREG_BAD_GEOMETRY, "refused S6 BadGeometry\n");
@@ -299,9 +317,9 @@ static uint32_t format_file(rlibreg *it, const char *path, size_t length, unsign
 }
 
 /* Makes a registry on a new file, which gets its name once all of it is on the medium. */
-static uint32_t format_new(rlibreg *it, const char *path, size_t length) {
+static uint32_t format_new(rlibreg *it, const char *path, size_t length, unsigned flags) {
     struct new_disk new;
-    uint32_t status = rlibreg_new_disk_make(&new, path, length, &it->file);
+    uint32_t status = rlibreg_new_disk_make(&new, path, length, &it->file, flags);
     if (status) {
         say(it, status, "");
     } else {
@@ -324,8 +342,10 @@ uint32_t rlibreg_format(rlibreg *it, const char *path, uint32_t sectors, unsigne
         return say(it, RLIBREG_BAD_ARGUMENT, "");
     size_t length = (size_t)sectors * SECTOR;
     unsigned how = RLIBREG_CHANGES | (flags & RLIBREG_WAIT);
+    begin_waiting(it);
     uint32_t status = format_file(it, path, length, how);
-    if (it->file.fd < 0 && is_system_fault(status, ENOENT)) status = format_new(it, path, length);
+    if (it->file.fd < 0 && is_system_fault(status, ENOENT))
+        status = format_new(it, path, length, how);
     if (is_system_fault(status, EEXIST)) { /* another process was faster */
         let_go(it);
         status = format_file(it, path, length, how);

@@ -2,6 +2,9 @@
  * fsync by build.sh. See rlibreg_disk_file.c, which does the same for the calls over a file. */
 #define _GNU_SOURCE
 #include "rlibreg_disk_file.h"
+#include "rlibreg_turn.h"
+
+#include <errno.h>
 
 int __real_fsync(int fd);
 int __wrap_fsync(int fd);
@@ -13,7 +16,12 @@ enum { NUMBERS = 64 };
  * before any folder that it syncs, so a number stands for one file. */
 int __wrap_fsync(int fd) {
     static char was_synced[NUMBERS];
+    int early_fault = rlibreg_take_early_fault();
     if (__real_fsync(fd)) return -1;
+    if (early_fault) {
+        errno = early_fault;
+        return -1;
+    }
     if (fd < NUMBERS && was_synced[fd]) return 0;
     if (rlibreg_meet_front(fd, __real_fsync)) return -1;
     if (fd < NUMBERS) was_synced[fd] = 1;

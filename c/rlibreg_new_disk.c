@@ -64,20 +64,24 @@ static uint32_t lock_alone(int fd) {
     return errno == EWOULDBLOCK ? RLIBREG_HELD : RLIBREG_SYSTEM;
 }
 
-/* Takes away the other name that a process left which is gone. The file isn't written: it may be a
- * finished registry, which has a name of its own beside. */
-static uint32_t take_leftover(const struct new_disk *it) {
+/* Takes away the other name that a process left which is gone; one that is making the disk may be
+ * waited for, until a moment. The file isn't written: it may be a finished registry, which has a name
+ * of its own beside. */
+static uint32_t take_leftover(const struct new_disk *it, unsigned flags, int64_t until) {
+    struct disk_file left = NO_DISK_FILE;
     struct stat found;
     if (look_at(it, it->other, &found)) return errno == ENOENT ? RLIBREG_DONE : RLIBREG_SYSTEM;
     if (!S_ISREG(found.st_mode)) {
         errno = EINVAL;
         return RLIBREG_SYSTEM;
     }
-    int fd = openat(it->folder, it->other, O_RDONLY | O_NOFOLLOW | O_NONBLOCK | O_CLOEXEC);
-    if (fd < 0) return errno == ENOENT ? RLIBREG_DONE : RLIBREG_SYSTEM;
-    uint32_t status = lock_alone(fd);
-    if (!status && take_other(it, fd)) status = RLIBREG_SYSTEM;
-    close_quietly(fd);
+    left.until = until;
+    left.fd = openat(it->folder, it->other, O_RDONLY | O_NOFOLLOW | O_NONBLOCK | O_CLOEXEC);
+    if (left.fd < 0) return errno == ENOENT ? RLIBREG_DONE : RLIBREG_SYSTEM;
+    uint32_t status = RLIBREG_SYSTEM;
+    if (!fstat(left.fd, &found)) status = rlibreg_disk_file_lock(&left, &found, flags);
+    if (!status && take_other(it, left.fd)) status = RLIBREG_SYSTEM;
+    rlibreg_disk_file_close(&left);
     return status;
 }
 
@@ -96,15 +100,25 @@ static uint32_t lock_made(const struct new_disk *it, int *fd) {
     return status == RLIBREG_HELD ? RLIBREG_DONE : status;
 }
 
+/* Whether the disk is there by now: another process has made it. */
+static uint32_t refuse_made(const struct new_disk *it) {
+    struct stat found;
+    if (look_at(it, it->name, &found)) return RLIBREG_DONE;
+    errno = EEXIST;
+    return RLIBREG_SYSTEM;
+}
+
 /* Makes an empty file under the other name, always anew, and locks it. */
-static uint32_t make_locked(const struct new_disk *it, int *fd) {
+static uint32_t make_locked(const struct new_disk *it, struct disk_file *file, unsigned flags) {
+    int *fd = &file->fd;
     for (int tries = 0; tries < MOST_TRIES; tries++) {
         uint32_t status = RLIBREG_SYSTEM;
         *fd = openat(it->folder, it->other, O_RDWR | O_CREAT | O_EXCL | O_CLOEXEC, 0666);
         if (*fd >= 0)
             status = lock_made(it, fd);
         else if (errno == EEXIST)
-            status = take_leftover(it);
+            status = take_leftover(it, flags, file->until);
+        if (!status && *fd < 0) status = refuse_made(it);
         if (status || *fd >= 0) return status;
     }
     return RLIBREG_HELD;
@@ -121,18 +135,17 @@ static int fill(int fd, size_t length) {
 }
 
 uint32_t rlibreg_new_disk_make(struct new_disk *it, const char *path, size_t length,
-                               struct disk_file *file) {
+                               struct disk_file *file, unsigned flags) {
     it->folder = open_folder(path);
     if (it->folder < 0) return RLIBREG_SYSTEM;
     it->name = name_in(path);
     if (snprintf(it->other, sizeof it->other, ".%s" ENDING, it->name) > NAME_MAX)
         strcpy(it->other, ENDING);
     struct stat made;
-    uint32_t status = make_locked(it, &file->fd);
+    uint32_t status = make_locked(it, file, flags);
     if (status) return status;
     if (fstat(file->fd, &made)) return RLIBREG_SYSTEM;
-    status = rlibreg_disk_file_enlist(file, &made, RLIBREG_CHANGES);
-    if (status) return status;
+    rlibreg_disk_file_enlist(file, &made);
     if (fill(file->fd, length)) return RLIBREG_SYSTEM;
     return rlibreg_disk_file_map(file, RLIBREG_CHANGES);
 }

@@ -208,7 +208,8 @@ static int has_failed(const char *word) {
 
 /* Whether the answer is the right one to the call that failed. */
 static int is_right(const struct change *change, const struct outcome *it) {
-    if (has_failed("attributes") || has_failed("past") || has_failed("unlock"))
+    if (has_failed("attributes") || has_failed("past") || has_failed("unlock") ||
+        has_failed("system") || has_failed("mark-changes") || has_failed("unmark"))
         return !it->status; /* it goes on without */
     if (change->opens) /* making.c knows more of each */
         return !it->status || ((it->status == RLIBREG_SYSTEM || it->status == RLIBREG_DEVICE) &&

@@ -23,20 +23,34 @@ let_go
 want 'a change after it' 'ok
 = 0' "$(ended ./tool install disk "$data/strong.so")"
 
-# The program takes the same lock, and doesn't wait.
+# The program takes the same lock; its changes try for two seconds.
 shut_out='rlibreg: cannot read disk
 = 3'
+# tries TENTHS TENTHS COMMAND..: it is shut out after so many tenths of a second at least, and at most.
+tries() {
+    local began=${EPOCHREALTIME/[.,]/} took
+    want "${*:3}" "$shut_out" "$(ended "${@:3}")"
+    took=$(((${EPOCHREALTIME/[.,]/} - began) / 100000))
+    [ $took -ge $1 ] && [ $took -lt $2 ] || { echo "${*:3} took $took tenths" >&2; exit 1; }
+}
 held_by ./tool hold replace disk "$data/strong.so"
-want 'its list beside a change' "$shut_out" "$(ended "$rlibreg" list disk)"
-want 'its change beside a change' "$shut_out" "$(ended "$rlibreg" remove disk b)"
-want 'its format beside a change' "$shut_out" "$(ended "$rlibreg" format disk 64)"
+tries 0 15 "$rlibreg" list disk
+tries 19 60 "$rlibreg" remove disk b &
+tries 19 60 "$rlibreg" format disk 64
+wait $!
 let_go
 held_by ./tool hold list disk
 want 'its list beside a list' 'library b 376
 end
 = 0' "$(ended "$rlibreg" list disk)"
-want 'its change beside a list' "$shut_out" "$(ended "$rlibreg" remove disk b)"
+tries 19 60 "$rlibreg" remove disk b
 let_go
+held_by ./tool hold list disk
+"$rlibreg" replace disk "$data/strong.so" > waited 9>&- &
+sleep 0.1
+want 'its change, which tries' '' "$(cat waited)"
+let_go
+want 'after it has tried' ok "$(cat waited)"
 want 'its change, later' 'ok
 = 0' "$(ended "$rlibreg" remove disk b)"
 
@@ -62,13 +76,14 @@ want 'after it has waited for that' ok "$(cat waited)"
 touch .new.rlibreg-new
 held_by flock .new.rlibreg-new cat
 want 'a making beside another' "$held" "$(ended ./tool format new 64)"
-want 'one that would wait for the disk' "$held" "$(ended ./tool wait format new 64)"
 want 'one by the program' 'rlibreg: cannot read new
 = 3' "$(ended "$rlibreg" format new 64)"
+./tool wait format new 64 > waited 9>&- &
+sleep 0.1
+want 'one that waits' '' "$(cat waited)"
 want 'what they left' '.new.rlibreg-new' "$(ls -A | grep new)"
 let_go
-want 'a making after another' 'ok
-= 0' "$(ended ./tool format new 64)"
+want 'after it has waited for that' ok "$(cat waited)"
 want 'what that left' new "$(ls -A | grep new)"
 
 # One that waits finds the file that was put in the other's place.

@@ -36,6 +36,7 @@ static const char *text_of(uint32_t status) {
 static uint32_t format_path(const char *path, unsigned flags) {
     rlibreg *it = rlibreg_create();
     WANT(it);
+    rlibreg_wait_limit(it, 20);
     uint32_t status = rlibreg_format(it, path, 64, flags);
     int why = errno;
     WANT(rlibreg_last(it)->status == status);

@@ -56,10 +56,10 @@ static void try_order(void) {
     const struct {
         unsigned flags;
         const char *lock;
-    } all[] = { { 0, "lock-shared" },
-                { WAIT, "lock-shared-waits" },
-                { CHANGES, "lock-alone" },
-                { CHANGES | WAIT, "lock-alone-waits" } };
+    } all[] = { { 0, "early lock-shared" },
+                { WAIT, "early lock-shared-waits" },
+                { CHANGES, "lock-alone mark-changes" },
+                { CHANGES | WAIT, "lock-alone mark-changes" } };
     for (size_t i = 0; i < sizeof all / sizeof *all; i++) {
         char wanted[128];
         snprintf(wanted, sizeof wanted, "open %s %s", all[i].lock, behind);
@@ -82,7 +82,8 @@ static void try_faults(unsigned flags) {
         if (n >= watched.calls) break;
         WANT(!status || (status == RLIBREG_SYSTEM && why == EIO));
         /* It is opened once more, goes on without, or has nothing left to do. */
-        WANT(!status == !!strstr("stat attributes past unlock", watched.failed));
+        WANT(!status == !!strstr("stat attributes past unlock", watched.failed) ||
+             (!status && strstr("system look mark-changes unmark", watched.failed)));
         WANT(!is_held("disk"));
     }
 }
@@ -259,10 +260,11 @@ static void try_devices(void) {
     uint64_t generation = generation_of("disk", 0);
     watch_device();
     WANT(generation_of("disk", 0) == generation);
-    WANT(!strcmp(watched.log, "open lock-shared sync read read-past map unlock "));
+    WANT(!strcmp(watched.log, "open early lock-shared sync read read-past map unlock "));
     watch_device();
     WANT(generation_of("disk", CHANGES) == generation);
-    WANT(!strcmp(watched.log, "open lock-alone open-alone sync read read-past map unlock "));
+    WANT(!strcmp(watched.log, "open lock-alone mark-changes open-alone sync read read-past map "
+                              "unlock "));
     watch_device();
     watched.refused = "open-alone";
     watched.because = EBUSY;
@@ -279,29 +281,56 @@ static void try_devices(void) {
     WANT(!is_held("disk"));
 }
 
-/* How often a lock is tried that others have so many times. */
-static long naps(unsigned flags, const char *lock, long times, uint32_t wanted) {
-    watch_device();
+/* How many milliseconds pass until a lock is had that others have for so many tries, or is given up. */
+static long waits(unsigned flags, int limit, const char *lock, long times, uint32_t wanted) {
+    rlibreg *it = rlibreg_create();
+    WANT(it);
     watched.refused = lock;
     watched.because = EWOULDBLOCK;
     watched.times = times;
-    WANT(opens("disk", flags) == wanted);
+    if (limit >= 0) rlibreg_wait_limit(it, limit);
+    WANT(rlibreg_open(it, "disk", flags) == wanted);
     unwatch();
-    long count = 0;
-    for (const char *at = watched.log; (at = strstr(at, "nap ")); at++) count++;
-    return count;
+    rlibreg_close(it);
+    return (long)(watched.slept / 1000000);
 }
 
+enum { LONG = 1 << 20 };
+
 static void try_held_devices(void) {
-    WANT(naps(CHANGES, "lock-alone", 150, RLIBREG_DONE) == 150);
-    WANT(naps(CHANGES, "lock-alone", 1000, RLIBREG_HELD) == 200);
-    WANT(naps(0, "lock-shared", 1, RLIBREG_HELD) == 0);
-    WANT(naps(CHANGES | WAIT, "lock-alone", 1, RLIBREG_DONE) == 0);
+    watch_device();
+    WANT(waits(CHANGES, -1, "lock-alone", 150, RLIBREG_DONE) == 300);
+    watch_device();
+    WANT(waits(CHANGES, -1, "lock-alone", LONG, RLIBREG_HELD) == 2000);
+    watch_device();
+    WANT(waits(0, -1, "lock-shared", 1, RLIBREG_HELD) == 0);
+    watch_device();
+    WANT(waits(CHANGES | WAIT, -1, "lock-alone", 1, RLIBREG_DONE) == 0 && made("waits"));
     watch();
-    watched.refused = "lock-alone";
-    watched.because = EWOULDBLOCK;
-    WANT(opens("disk", CHANGES) == RLIBREG_HELD && !made("nap")); /* a regular file */
-    unwatch();
+    WANT(waits(CHANGES, -1, "lock-alone", 1, RLIBREG_HELD) == 0); /* a regular file */
+}
+
+/* A wait ends where its limit is over, also where signals end what is asked of the system. */
+static void try_limits(void) {
+    const int limits[] = { 0, 1, 30, 5000 };
+    for (size_t i = 0; i < 4; i++) {
+        watch();
+        WANT(waits(WAIT, limits[i], "lock-shared", LONG, RLIBREG_HELD) == limits[i]);
+        watch();
+        WANT(waits(CHANGES | WAIT, limits[i], "lock-alone", LONG, RLIBREG_HELD) == limits[i]);
+        watch();
+        watched.system = 0x6969; /* NFS */
+        WANT(waits(CHANGES | WAIT, limits[i], "lock-alone", LONG, RLIBREG_HELD) == limits[i]);
+        WANT(!made("mark"));
+    }
+    watch();
+    WANT(waits(WAIT, 5000, "lock-shared", 100, RLIBREG_DONE) == 200);
+    watch();
+    WANT(waits(CHANGES | WAIT, 5000, "lock-alone", 100, RLIBREG_DONE) == 200);
+    WANT(made("lock-alone mark-waits nap lock-alone") && made("mark-changes sync"));
+    watch();
+    WANT(waits(CHANGES | WAIT, -1, "lock-alone", 1, RLIBREG_DONE) == 0);
+    WANT(made("lock-alone mark-waits lock-alone-waits mark-changes sync"));
 }
 
 int main(int argc, char **argv) {
@@ -324,6 +353,7 @@ int main(int argc, char **argv) {
     try_cut();
     try_devices();
     try_held_devices();
+    try_limits();
     try_replaced();
     WANT(dup(0) == free_number); /* nothing was left open */
     WANT(!strcmp(names_here(), "disk "));

@@ -27,14 +27,14 @@ compiled() {
     mkdir -p "$objects/$1"
     (cd "$objects/$1" && gcc $2 -c "${@:3}")
 }
-library=$(printf "$here/../rlibreg_%s.c " file disk_file new_disk front status)
+library=$(printf "$here/../rlibreg_%s.c " file disk_file new_disk turn front status)
 compiled library "$checked" $library
 beside="$objects/library/*.o $built/librlibreg.a"
-watched=$(printf ',--wrap=%s' open openat fstat stat fstatat lseek nanosleep flock fsync fcntl \
-    pread statx ioctl posix_fadvise mincore mmap ftruncate pwrite linkat renameat2 renameat unlink \
-    unlinkat)
+watched=$(printf ',--wrap=%s' open openat fstat stat fstatat fstatfs lseek nanosleep clock_gettime \
+    flock sync_file_range fsync fcntl pread statx ioctl posix_fadvise mincore mmap ftruncate pwrite \
+    linkat renameat2 renameat unlink unlinkat)
 watched="-Wl$watched $objects/tests/watched.o"
-plain='tool calls cuts'
+plain='tool calls cuts turns'
 over_watched='opening front making forked contents findings'
 compiled tests "$checked" $(printf "$here/%s.c " watched faults $plain $over_watched)
 for name in $plain; do gcc $checked -o "$room/$name" "$objects/tests/$name.o" $beside; done
@@ -67,6 +67,17 @@ alone faults "$data/strong.so" "$data/protected.so" "$data/program-1.so" b "$dat
 alone opening "$data/strong.so" b
 alone front
 alone making "$data/strong.so" b
+alone turns
+# Threads by the sanitizer of threads, where there is one; once, since they are those of the C side.
+threads=(gcc $flags -O1 -fsanitize=thread -o "$room/threads" "$here/turns.c" $library
+    "$built/librlibreg.a")
+if [ -d "$objects/threads" ]; then
+    :
+elif mkdir "$objects/threads" && "${threads[@]}" 2> lost; then
+    TSAN_OPTIONS='report_thread_leaks=0 halt_on_error=1' alone threads threads
+else
+    echo "skipped: the sanitizer of threads ($(head -n 1 lost))"
+fi
 alone forked "$data/strong.so" "$data/program-1.so" b
 alone contents "$data/strong.so" b
 alone findings "$data/strong.so" b "$data/old-one.disk"

@@ -1,11 +1,12 @@
 /* updating LIBRARY NAME has the updater of docs/C.md end at each call of the system by which it
  * opens, makes and writes a disk, over nothing and over what may stand there before; then it is run
- * again, and has to succeed. It is linked with the updater, whose main is updater_main. LIBRARY has
- * the SONAME NAME. */
+ * again, and has to succeed. Then eight threads run it at once. It is linked with the updater, whose
+ * main is updater_main. LIBRARY has the SONAME NAME. */
 #define _GNU_SOURCE
 #include "watched.h"
 
 #include <fcntl.h>
+#include <pthread.h>
 #include <sys/stat.h>
 #include <sys/wait.h>
 #include <unistd.h>
@@ -115,6 +116,34 @@ static void try_links(void) {
     WANT(!unlink(DISK) && !unlink("goal"));
 }
 
+/* ---- Eight threads of one process */
+
+static void *update(void *unused) {
+    char *words[] = { "updater", DISK, library, NULL };
+    WANT(!updater_main(3, words));
+    return unused;
+}
+
+/* Each of them succeeds: it waits for the others, also for the one that makes the disk. */
+static void try_threads(void (*leave)(void)) {
+    int status;
+    leave();
+    fflush(stdout);
+    pid_t child = fork();
+    WANT(child >= 0);
+    if (!child) {
+        pthread_t threads[8];
+        alarm(60);
+        WANT(freopen("/dev/null", "w", stdout));
+        for (int i = 0; i < 8; i++) WANT(!pthread_create(&threads[i], NULL, update, NULL));
+        for (int i = 0; i < 8; i++) WANT(!pthread_join(threads[i], NULL));
+        exit(0);
+    }
+    WANT(waitpid(child, &status, 0) == child && !status);
+    want_installed(DISK);
+    WANT(!unlink(DISK) && !strcmp(names_here(), ""));
+}
+
 int main(int argc, char **argv) {
     void (*const all[])(void) = { leave_nothing, leave_empty, leave_zeros, leave_other,
                                   leave_both };
@@ -125,6 +154,7 @@ int main(int argc, char **argv) {
     for (size_t i = 0; i < sizeof all / sizeof *all; i++) {
         long here = try_ends(all[i]);
         WANT(here > 20);
+        for (int times = 0; times < (i ? 2 : 8); times++) try_threads(all[i]);
         ends += here;
     }
     try_others("letters", 7, LENGTH);

@@ -11,6 +11,7 @@
 #include <sys/ioctl.h>
 #include <sys/mman.h>
 #include <sys/stat.h>
+#include <sys/vfs.h>
 #include <time.h>
 #include <unistd.h>
 
@@ -115,10 +116,35 @@ WRAPPED(off_t, lseek, int fd, off_t at, int whence) {
     return fails("length", 1) ? -1 : __real_lseek(fd, at, whence);
 }
 
+/* No time is spent, but the clock goes on. */
 WRAPPED(int, nanosleep, const struct timespec *asked, struct timespec *left) {
     if (!watched.is_on) return __real_nanosleep(asked, left);
-    WANT(asked->tv_sec == 0 && (asked->tv_nsec == 10000000 || asked->tv_nsec == 5000000));
-    return fails("nap", 0) ? -1 : 0; /* no time is spent */
+    WANT(asked->tv_sec == 0 && asked->tv_nsec > 0 && asked->tv_nsec <= 5000000);
+    watched.slept += asked->tv_nsec;
+    return fails("nap", 0) ? -1 : 0;
+}
+
+WRAPPED(int, clock_gettime, clockid_t clock, struct timespec *found) {
+    if (!watched.is_on) return __real_clock_gettime(clock, found);
+    WANT(clock == CLOCK_MONOTONIC);
+    *found = (struct timespec){ 1 + watched.slept / 1000000000, watched.slept % 1000000000 };
+    return 0;
+}
+
+WRAPPED(int, fstatfs, int fd, struct statfs *found) {
+    if (fails("system", 1) || __real_fstatfs(fd, found)) return -1;
+    if (watched.is_on && watched.system) found->f_type = watched.system;
+    return 0;
+}
+
+static const char *word_of_mark(const struct flock *it) {
+    if (it->l_type == F_UNLCK) return "unmark";
+    return it->l_start & 1 ? "mark-changes" : "mark-waits";
+}
+
+WRAPPED(int, sync_file_range, int fd, off_t from, off_t length, unsigned how) {
+    if (watched.is_on) WANT(!from && !length && how == 7); /* all of it, and waited for */
+    return fails("early", 0) ? -1 : __real_sync_file_range(fd, from, length, how);
 }
 
 WRAPPED(int, flock, int fd, int kind) {
@@ -140,12 +166,24 @@ WRAPPED(int, fsync, int fd) {
 
 /* ---- What the system keeps of a file's front, and what the medium has of it */
 
+static int is_of_marks(int what) {
+    return what == F_OFD_GETLK || what == F_OFD_SETLK || what == F_OFD_SETLKW;
+}
+
+/* A mark lies behind every disk. */
+static int mark_fails(int what, const struct flock *it) {
+    WANT(it->l_whence == SEEK_SET && it->l_start > (off_t)1 << 40 && it->l_len <= 2);
+    if (what == F_OFD_GETLK) return fails("look", 1);
+    return fails(word_of_mark(it), it->l_type == F_UNLCK);
+}
+
 WRAPPED(int, fcntl, int fd, int what, ...) {
     va_list more;
     va_start(more, what);
     long word = va_arg(more, long), flags = word;
     va_end(more);
     if (what == F_GETFL && fails("flags", 1)) return -1;
+    if (is_of_marks(what) && mark_fails(what, (struct flock *)word)) return -1;
     if (!watched.is_on || what != F_SETFL) return __real_fcntl(fd, what, word);
     if (fails(flags & O_DIRECT ? "past" : "no-more-past", 1)) return -1;
     watched.is_past = flags & O_DIRECT;

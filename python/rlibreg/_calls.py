@@ -5,7 +5,7 @@ from __future__ import annotations
 import ctypes
 from typing import Any
 
-INTERFACE = '0.2'  # major and minor of the library that has the structures and the calls below
+INTERFACE = '0.3'  # major and minor of the library that has the structures and the calls below
 
 CHANGES, WAIT = 1, 2
 SOUND, OTHER_NAME = 0, 100
