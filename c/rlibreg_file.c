@@ -501,10 +501,17 @@ static int make_first_room(rlibreg_image *out, struct room *room) {
     return 0;
 }
 
-/* Gives back the room that an image doesn't take. Its bytes are the most of it. */
+/* A block that is given back but for its first bytes. */
+static void *fitting(void *block, size_t bytes) {
+    void *it = realloc(block, bytes ? bytes : 1);
+    return it ? it : block;
+}
+
+/* Gives back the room that an image doesn't take. */
 static void give_room_back(rlibreg_image *it, size_t bytes) {
-    uint8_t *fitting = realloc(it->bytes, bytes);
-    if (fitting) it->bytes = fitting;
+    it->objects = fitting(it->objects, it->object_count * sizeof *it->objects);
+    it->segments = fitting(it->segments, it->count * sizeof *it->segments);
+    it->bytes = fitting(it->bytes, bytes);
 }
 
 static uint32_t bind_into(rlibreg *it, const struct bound *what, rlibreg_image *out,
@@ -541,9 +548,9 @@ uint32_t rlibreg_image_in(rlibreg *it, const void *program, size_t length, uint6
         room = (struct room){ it->answer.objects, it->answer.count, it->answer.bytes };
         if (!make_room(out, room)) return say_memory(it);
     }
-    give_room_back(out, it->answer.bytes);
     out->count = it->answer.count;
     out->object_count = it->answer.objects;
+    give_room_back(out, it->answer.bytes);
     return RLIBREG_DONE;
 }
 

@@ -471,7 +471,7 @@ class Registry:
         word, given, length = _word(name), _calls.POINTER(), _calls.SIZE()
         try:
             self._handle.call('file_of', word, ctypes.byref(given), ctypes.byref(length))
-            return (ctypes.c_char * length.value).from_address(given.value or 0).raw
+            return bytes(_calls.array(length.value).from_address(given.value).raw)
         finally:
             _calls.free(given)
 

@@ -3,6 +3,7 @@
 from __future__ import annotations
 
 import ctypes
+import functools
 from typing import Any
 
 INTERFACE = '0.3'  # major and minor of the library that has the structures and the calls below
@@ -56,6 +57,12 @@ class Findings(ctypes.Structure):
                 ('names', ctypes.c_void_p)]
 
 
+@functools.lru_cache(maxsize=64)
+def array(length: int) -> Any:
+    """The type of so many bytes, which takes a while to make."""
+    return ctypes.c_char * length
+
+
 class Image(ctypes.Structure):
     """An image, whose memory is freed with it."""
 
@@ -66,8 +73,8 @@ class Image(ctypes.Structure):
     def view(self, length: int) -> memoryview:
         """The first bytes, which stay as long as anyone has a view of them. Any length is right here,
         where string_at takes a C int, and nothing is copied."""
-        data = (ctypes.c_char * length).from_address(self.bytes)
-        data.image = self  # type: ignore[attr-defined]
+        data = array(length).from_address(self.bytes)
+        data.image = self
         return memoryview(data).cast('B').toreadonly()
 
 

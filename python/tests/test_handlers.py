@@ -130,6 +130,7 @@ class Handlers(OnDisk):
             self.registry = Registry(self.disk, changes=True)
         self.assertGreater(sum(within), 10)
 
+    @unittest.skipIf(sys.version_info < (3, 10), 'a `with` may end without its end')
     def test_exceptions_of_a_handler(self):
         """They end what they interrupt, and keep nothing taken."""
         raised, wrong, due = [], [], []
