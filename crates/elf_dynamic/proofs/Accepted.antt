@@ -152,6 +152,12 @@ load_fits file i h accepted at =
     let fits = loads_fit file accepted i h (slice_get_within (loads file) i h at) in
     rw (get_or_from_slice_get (loads file) i h h at) at fits
 
+-- so are as many of a PT_LOAD that was given by its number
+pub contents_whole : (file : List ℕ) (i : ℕ) (h : ProgramHeader) → first_refusal file ≡ None → slice_get (loads file) i ≡ Some h → length (contents file h) ≡ h.file_size
+contents_whole file i h accepted at =
+    let all = contents_length file accepted i h (slice_get_within (loads file) i h at) in
+    rw (get_or_from_slice_get (loads file) i h h at) at all
+
 tables_refuse_none : (file : List ℕ) → first_refusal file ≡ None → table_refusal file ≡ None
 unfolding first_refusal
 tables_refuse_none file h = none_at (refusals file) 1 h

@@ -98,6 +98,22 @@ impl<'a> Object<'a> {
         self.tables.segments().iter()
     }
 
+    /// The bytes of the file that are loaded to the front of the PT_LOAD number `i`: `p_filesz` of
+    /// them, from `p_offset` on. A pass over the program headers up to it; where all are wanted,
+    /// `contents_of` gives those of each that `segments` gives.
+    pub fn contents(&self, i: usize) -> &'a [u8]
+        requires { i < length (loads self.now) }
+        ensures contents { IfSome (slice_get (loads self.now) i)
+            (λ segment. result.now ≡ contents self.now segment) }
+
+        // The file has all of them.
+        ensures whole { IfSome (slice_get (loads self.now) i)
+            (λ segment. length result.now ≡ segment.file_size) }
+        ensures accepted { first_refusal self.now ≡ None }
+    {
+        self.contents_of(self.segment(i))
+    }
+
     /// The bytes of the file that are loaded to the front of a PT_LOAD, in constant time. Of
     /// another segment, as many of its bytes as the file has.
     pub fn contents_of(&self, segment: ProgramHeader) -> &'a [u8]

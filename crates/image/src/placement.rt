@@ -43,7 +43,7 @@ fn reach(object: &Object<'_>) -> u64
 /// Whether a program may stand at this base: it is a multiple of the program's unit, which is the
 /// greatest of 4,096 and the alignments of its PT_LOADs.
 #[tactic(auto, using(crate::proofs::Placing::unit_positive))]
-pub(crate) fn good_base(program: &Admitted<'_>, base: u64) -> bool
+pub fn good_base(program: &Admitted<'_>, base: u64) -> bool
     ensures { result ≡ is_good_base program.now base }
 {
     base % unit(program.object()) == 0
@@ -128,7 +128,7 @@ fn fitting_bases(
 /// The bases of objects in load order: the program's is given, and each next one is the least
 /// multiple of its object's unit that isn't below the end before it. One pass over the PT_LOADs of
 /// each object; it takes eight bytes an object.
-pub(crate) fn place(alloc: Global, order: &Order<'_>, base: u64) -> Result<Vec<u64>, BindRefusal>
+pub fn place(alloc: Global, order: &Order<'_>, base: u64) -> Result<Vec<u64>, BindRefusal>
     requires { is_good_base (file_at order.now 0) base ≡ true }
     ensures order { IsOrder order.now }
     ensures ok { IfOk result (λ bases. bases.items ≡ map (λ p. p.base) (place base order.now)) }
