@@ -10,23 +10,23 @@ ghost use Rattle.store.specs.Stands.{name_of};
 ghost use Rattle.store.specs.inside.NameIndex.{IsPlace, order_to};
 
 use sector_disk::Disk;
-use store::{HeldVersion, Store};
+use store::{Held, Store};
 
 /// The name of a version; the empty one where nobody holds it in this store.
-pub(crate) fn version_name<'a, D: Disk>(store: &'a Store<D>, held: &HeldVersion) -> &'a [u8]
+pub(crate) fn version_name<'a, D: Disk>(store: &'a Store<D>, held: &Held) -> &'a [u8]
     ensures { (placed : PlacedEntry) → IsHeldBy store.now.held held.now placed
         → result.now ≡ name_of placed.entry }
 {
     // What is held has holders, so a version without a name is held by nobody.
     store.versions_are_sound();
-    match store.version_name(held) {
+    match store.held_name(held) {
         Some(name) => name,
         None => &[],
     }
 }
 
 /// The name of the version at a position; the empty one where there is none.
-fn name_at<'a, D: Disk>(store: &'a Store<D>, handles: &[HeldVersion], position: u16) -> &'a [u8]
+fn name_at<'a, D: Disk>(store: &'a Store<D>, handles: &[Held], position: u16) -> &'a [u8]
     ensures { (entries : List PlacedEntry) → AreHeldBy store.now.held handles.now entries
         → result.now ≡ name_at (entry_names entries) position }
 {
@@ -37,7 +37,7 @@ fn name_at<'a, D: Disk>(store: &'a Store<D>, handles: &[HeldVersion], position: 
 }
 
 /// Whether the name at a position comes before this one.
-fn precedes<D: Disk>(store: &Store<D>, handles: &[HeldVersion], position: u16, name: &[u8]) -> bool
+fn precedes<D: Disk>(store: &Store<D>, handles: &[Held], position: u16, name: &[u8]) -> bool
     ensures { (entries : List PlacedEntry) → AreHeldBy store.now.held handles.now entries
         → result ≡ is_lt (order_to (entry_names entries) name.now position) }
 {
@@ -45,7 +45,7 @@ fn precedes<D: Disk>(store: &Store<D>, handles: &[HeldVersion], position: u16, n
 }
 
 /// The place of a name in the order: as many names come before it.
-fn place_of<D: Disk>(store: &Store<D>, handles: &[HeldVersion], order: &[u16], name: &[u8]) -> usize
+fn place_of<D: Disk>(store: &Store<D>, handles: &[Held], order: &[u16], name: &[u8]) -> usize
     ensures { (entries : List PlacedEntry) → AreHeldBy store.now.held handles.now entries
         → IsOrderOf (entry_names entries) order.now
         → IsPlace (entry_names entries) order.now name.now result }
@@ -56,7 +56,7 @@ fn place_of<D: Disk>(store: &Store<D>, handles: &[HeldVersion], order: &[u16], n
 /// The position of the handle whose version has this name.
 pub(crate) fn find<D: Disk>(
     store: &Store<D>,
-    handles: &[HeldVersion],
+    handles: &[Held],
     order: &[u16],
     name: &[u8],
 ) -> Option<usize>

@@ -5,14 +5,14 @@ ghost use Rattle.store.specs.HeldVersions.{AreVersions};
 
 use crate::release::release;
 use sector_disk::Disk;
-use store::{HeldVersion, Store, StoreRefusal};
+use store::{Held, Store, StoreRefusal};
 
 /// Holds each byte string of a store, in the order of the positions. The handles go into the room
 /// that is given; where one is refused, those that there are let go.
 pub(crate) fn hold_all<D: Disk>(
     store: &mut Store<D>,
-    room: Vec<HeldVersion>,
-) -> Result<Vec<HeldVersion>, StoreRefusal>
+    room: Vec<Held>,
+) -> Result<Vec<Held>, StoreRefusal>
     requires empty { room.items ≡ [] }
     requires room { length store.old.entries ≤ vec_capacity room }
     requires usable { IsFalse store.old.failed }
@@ -21,7 +21,7 @@ pub(crate) fn hold_all<D: Disk>(
 {
     let mut handles = room;
     for position in 0..store.count() {
-        match store.hold_version(position) {
+        match store.hold(position) {
             Ok(held) => match handles.push(held) {
                 Ok(()) => {}
                 Err(_) => unreachable!(),

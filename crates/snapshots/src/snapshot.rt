@@ -4,13 +4,13 @@ use crate::release::release;
 use sector_disk::Disk;
 use std::alloc::Global;
 use std::marker::Model;
-use store::{HeldVersion, Store, StoreRefusal};
+use store::{Held, Store, StoreRefusal};
 
 /// All byte strings of a store as they were when it was taken, held one by one. It is good for its
 /// own store alone, as each handle is, until it is given to `let_go`.
 #[derive(Drop)]
 pub struct Snapshot {
-    handles: Vec<HeldVersion>,
+    handles: Vec<Held>,
     // Positions in the order of the names, and those of the preloads.
     order: Vec<u16>,
     preloads: Vec<u16>,
@@ -118,7 +118,7 @@ impl Snapshot {
         ensures { ReadsVersion D.facts store.old store.new
             (slice_index_or self.now.handles position 0) result }
     {
-        store.read_version(alloc, &self.handles[position])
+        store.read_held(alloc, &self.handles[position])
     }
 
     /// Lets all of it go. It takes no memory and makes no call of the disk, also after S2.

@@ -1,10 +1,15 @@
 -- What an upgrade makes of what a look saw.
-use Rattle.std.proofs.Common.{◌≡◌, ◌⊎◌, inl, ⊎_elim, List, Option, Some, None, Result, Ok, Err, sym, subst, ◌∙◌}
-use Rattle.sector_disk.specs.Disk.{Sector, DiskFacts, HoldsNow}
+use Rattle.std.proofs.Common.{◌≡◌, ◌⊎◌, inl, inr, ⊎_elim, ◌+◌, List, Option, Some, None, Result, Ok, Err, IfOk, length, ap, sym, subst, ◌∙◌, arith}
+use Rattle.sector_disk.specs.Disk.{Sector, DiskFacts, HoldsNow, Mixture, LeavesOnly, AreCallsExactly}
+use Rattle.sector_disk.proofs.Moments.{goes_on, weaken, exactly_sum}
+use Rattle.roots.specs.Root.{version_of}
+use Rattle.states.specs.Cost.{catalogues_for}
 use Rattle.store.specs.declared.look.Look.{Look}
 use Rattle.store.specs.declared.look.Look.TheVariants.{Current, Old}
 use Rattle.store.specs.declared.refusal.StoreRefusal.{StoreRefusal}
-use Rattle.store.specs.Looked.{IsSeenAt, IsSeenOldAt}
+use Rattle.store.specs.declared.refusal.StoreRefusal.TheVariants.{Device, OutOfMemory}
+use Rattle.store.proofs.Relistings.{none_in}
+use Rattle.store.specs.Looked.{seen, IsSeenAt, IsSeenOldAt}
 use Rattle.store.specs.Opened.{Opened, IsAt, IsOldAt}
 use Rattle.store.specs.Stands.{Stands, StandsOld}
 use Rattle.store.specs.Step.{IsExactAnswer, IsUpgradeAnswer}
@@ -12,15 +17,20 @@ use Rattle.extents.specs.Used.{layout_of}
 use Rattle.roots.specs.declared.version.Version.TheVariants.{One}
 use Rattle.store.specs.Stands.{StandsBy, catalogues_of, used}
 use Rattle.store.specs.Taken.{AreTaken, IsRelisted}
-use Rattle.store.specs.Upgraded.{IsRelistedFrom}
+use Rattle.store.specs.Upgraded.{upgraded, IsRelistedFrom}
 use Rattle.states.specs.State.{State}
 
--- An upgrade answers what a commit answers.
+-- An upgrade answers what a commit answers,
 pub as_committed : (first : Option StoreRefusal) (answer : Result (Unit {0}) StoreRefusal) → IsExactAnswer first answer → IsUpgradeAnswer first answer
 as_committed None (Ok done) exact = tt
 as_committed None (Err refusal) exact = inl exact
 as_committed (Some first) (Ok done) exact = exact
 as_committed (Some first) (Err refusal) exact = inl exact
+
+-- or what a look refused.
+pub as_looked : (first : Option StoreRefusal) (refusal : StoreRefusal) → (refusal ≡ Device) ⊎ (refusal ≡ OutOfMemory) → IsUpgradeAnswer first (Err refusal)
+as_looked None refusal which = which
+as_looked (Some first) refusal which = inr which
 
 module _ {D : Type 0} (facts : D → DiskFacts) (look : Look D) (store : Opened D) where
   -- Where a store of version 2 was seen, the sectors don't stand by the old rules,
@@ -52,6 +62,16 @@ module _ {D : Type 0} (facts : D → DiskFacts) (look : Look D) (store : Opened 
   pub sectors_seen : (s : State) → IsOldAt facts store s → HoldsNow (facts store.disk) → store.root.sectors ≡ (facts store.disk).sectors
   sectors_seen s at holds = (at.stands (facts store.disk).now holds).intact.size ∙ holds.size
 
+  -- What was left before a commit, or by it
+  pub then_committed : (old new : DiskFacts) (s : State) → look ≡ Old store → LeavesOnly old (facts (seen look).disk) (Mixture old)
+      → LeavesOnly (facts store.disk) new (λ m. StandsOld m s ⊎ Stands m (upgraded s))
+      → LeavesOnly old new (λ m. Mixture old m ⊎ StandsOld m s ⊎ Stands m (upgraded s))
+  then_committed old new s is before after =
+      let P : List Sector → Type 0 = λ m. Mixture old m ⊎ StandsOld m s ⊎ Stands m (upgraded s) in
+      goes_on P
+      (weaken (Mixture old) P (λ m mixture. inl mixture) (subst (λ l. LeavesOnly old (facts (seen l).disk) (Mixture old)) is before))
+      (weaken (λ m. StandsOld m s ⊎ Stands m (upgraded s)) P (λ m which. inr which) after)
+
 -- What is relisted is what the sectors stood for by the old rules.
 pub relisted_from : {D : Type 0} (facts : D → DiskFacts) (store : Opened D) (s : State) → IsOldAt facts store s → HoldsNow (facts store.disk)
     → (m : List Sector) → (facts store.disk).now ≡ m → (new : Opened D) → IsRelisted store new → IsRelistedFrom m s new
@@ -61,3 +81,15 @@ relisted_from facts store s at holds m same new is = record {
       (subst (λ l. StandsBy One l store.root store.entries s) same (at.stands (facts store.disk).now holds));
   taken = subst (λ es. AreTaken (layout_of store.root.sectors (used store.root es)) (catalogues_of new.root)) (sym is.entries) is.taken;
 }
+
+-- Its calls, and those of the commit behind them.
+module _ {D E : Type 0} (facts : D → DiskFacts) (start : DiskFacts) (old : Opened D)
+    (looked : AreCallsExactly (3 + length (catalogues_of old.root) + length old.entries) start (facts old.disk))
+    (one : version_of old.root ≡ One) where
+  pub relisted_calls : (r : Result (Opened D) E) → IfOk r (IsRelisted old) → IfOk r (λ store. AreCallsExactly (catalogues_for (length old.entries) + 3) (facts old.disk) (facts store.disk))
+      → IfOk r (λ store. AreCallsExactly (3 + length store.entries + (catalogues_for (length store.entries) + 3)) start (facts store.disk))
+  relisted_calls (Ok store) relisted calls =
+      let none : length (catalogues_of old.root) ≡ 0 = ap length (none_in old.root.list one) in
+      subst (λ entries. AreCallsExactly (3 + length entries + (catalogues_for (length entries) + 3)) start (facts store.disk)) (sym relisted.entries)
+      (exactly_sum looked calls (omega (arith, none)))
+  relisted_calls (Err e) relisted calls = tt

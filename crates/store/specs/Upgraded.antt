@@ -1,18 +1,27 @@
 -- What an upgrade makes of a disk of either version.
-use Rattle.std.specs.Prelude.{List}
-use Rattle.sector_disk.specs.Disk.{Sector}
+use Rattle.std.specs.Prelude.{◌⊎◌, List}
+use Rattle.sector_disk.specs.Disk.{Sector, DiskFacts}
 use Rattle.states.specs.State.{State}
 use Rattle.states.specs.Changes.{next}
-use Rattle.store.specs.Opened.{Opened}
+use Rattle.store.specs.Opened.{Opened, IsAt}
 use Rattle.extents.specs.Used.{layout_of}
 use Rattle.roots.specs.declared.root.Root.{Root}
 use Rattle.roots.specs.declared.version.Version.TheVariants.{One}
-use Rattle.store.specs.Stands.{StandsBy, catalogues_of, used}
+use Rattle.store.specs.Stands.{Stands, StandsOld, StandsBy, catalogues_of, used}
 use Rattle.store.specs.Taken.{AreTaken}
 
 -- the same libraries and preloads, of the next generation
 abbrev pub upgraded : State → State
 upgraded s = next s s.libraries s.preloads
+
+-- these sectors hold no state by the old rules
+abbrev pub IsNotOld : List Sector → Type 0
+IsNotOld m = (s : State) → StandsOld m s → ⊥
+
+-- The store is at the state that these sectors held, or, where they held it by the old rules, at
+-- the one after it.
+abbrev pub IsUpgradeOf : {D : Type 0} → (D → DiskFacts) → Opened D → List Sector → State → Type 0
+IsUpgradeOf facts store m s = (Stands m s × IsAt facts store s) ⊎ (StandsOld m s × IsAt facts store (upgraded s))
 
 -- The store has the entries by which these sectors held the state by the old rules, and its
 -- catalogues are in sectors that weren't in use then: each in its turn in the lowest free one.

@@ -4,13 +4,16 @@ use crate::old_store::OldStore;
 use sector_disk::Disk;
 
 impl<D: Disk> OldStore<D> {
-    ghost use Rattle.std.specs.Prelude.{◌≡◌, ◌<◌, ◌≤◌, length, slice_index_or};
-    ghost use Rattle.states.specs.Limits.{most_libraries};
-    ghost use Rattle.states.specs.State.{State};
+    ghost use Rattle.std.specs.Prelude.{◌≡◌, ◌≢◌, ℕ, ◌<◌, ◌≤◌, ◌↔◌, All, Some, IsFalse};
+    ghost use Rattle.std.specs.Prelude.{IsNone, IfSome, length, slice_index_or};
+    ghost use Rattle.extents.specs.Extent.{AreDistinct};
+    ghost use Rattle.states.specs.Limits.{most_libraries, most_preloads};
+    ghost use Rattle.roots.specs.Root.{listed_preloads};
     ghost use Rattle.store.specs.declared.placed_entry.PlacedEntry.{PlacedEntry};
-    ghost use Rattle.store.specs.Names.{IsName};
     ghost use Rattle.store.specs.Opened.{IsOldAt};
-    ghost use Rattle.store.specs.Stands.{HaveOwnNames, name_of, no_library};
+    ghost use Rattle.store.specs.Stands.{HaveOwnNames, name_of, no_library, names_at};
+    ghost use Rattle.store.specs.Names.{LacksName, IsName, IsFileSize};
+    ghost use Rattle.states.specs.State.{State};
 
     /// How many byte strings there are.
     pub fn count(&self) -> usize
@@ -34,5 +37,47 @@ impl<D: Disk> OldStore<D> {
             → result.now ≡ (slice_index_or s.libraries position no_library).name }
     {
         self.found.entries[position].entry.name_bytes()
+    }
+
+    /// The length in bytes of the byte string at this position.
+    pub fn length(&self, position: usize) -> u32
+        requires { position < length self.now.entries }
+        ensures value { (d : PlacedEntry) →
+            result ≡ (slice_index_or self.now.entries position d).entry.file_length }
+        ensures size { IsFileSize result }
+        ensures state { (s : State) → IsOldAt D.facts self.now s
+            → result ≡ length (slice_index_or s.libraries position no_library).bytes }
+    {
+        self.found.entries[position].entry.file_length
+    }
+
+    /// The position of the byte string with this name. It guesses, and else halves an order of the
+    /// names: 9 comparisons at most.
+    pub fn position(&self, name: &[u8]) -> Option<usize>
+        ensures none { IsNone result → LacksName self.now name.now }
+        ensures some { IfSome result (λ i. (i < length self.now.entries)
+            × ((d : PlacedEntry)
+            → name_of (slice_index_or self.now.entries i d).entry ≡ name.now)) }
+
+        // No two byte strings have one name, so a position at which the name stands is the answer.
+        ensures own_names { HaveOwnNames self.now.entries }
+        ensures state { (s : State) → IsOldAt D.facts self.now s
+            → (i : ℕ) → (result ≡ Some i)
+            ↔ ((i < length s.libraries)
+            × ((slice_index_or s.libraries i no_library).name ≡ name.now)) }
+    {
+        self.found.index.position_of(&self.found.entries, name)
+    }
+
+    /// The positions of the preloads, in their order.
+    pub fn preloads(&self) -> &[u16]
+        ensures value { result.now ≡ listed_preloads self.now.root }
+        ensures few { length result.now ≤ most_preloads }
+        ensures inside { All (λ position. position < length self.now.entries) result.now }
+        ensures once { AreDistinct result.now }
+        ensures state { (s : State) → IsOldAt D.facts self.now s
+            → s.preloads ≡ names_at s.libraries result.now }
+    {
+        self.found.root.preload_positions()
     }
 }

@@ -5,7 +5,7 @@ use crate::stores::sectors::copy;
 use crate::stores::seen::given;
 use sector_disk::{Disk, Fuse, Memory};
 use std::process::Abort;
-use store::{HeldVersion, Store, StoreRefusal};
+use store::{Held, Store, StoreRefusal};
 
 // The store on 8 sectors with a byte string of 344 ones, whose sixth call fails: the first one
 // after the opening.
@@ -15,23 +15,23 @@ fn failing(rt: &(impl Abort + AllocGlobal)) -> Store<Fuse<Memory>> {
 }
 
 // Holds the first byte string.
-fn hold_first<D: Disk>(rt: &impl Abort, store: &mut Store<D>) -> HeldVersion {
+fn hold_first<D: Disk>(rt: &impl Abort, store: &mut Store<D>) -> Held {
     assert!(rt; store.count() == 1);
-    store.hold_version(0).expect(rt, "what is held")
+    store.hold(0).expect(rt, "what is held")
 }
 
 // What a read of a version gives.
 fn read<D: Disk>(
     rt: &impl AllocGlobal,
     store: &mut Store<D>,
-    held: &HeldVersion,
+    held: &Held,
 ) -> Result<(usize, Option<u8>), StoreRefusal> {
-    given(store.read_version(rt.alloc(), held))
+    given(store.read_held(rt.alloc(), held))
 }
 
 // Lets a version go, and the store.
-fn end<D: Disk + Drop>(mut store: Store<D>, held: HeldVersion) {
-    store.let_version_go(held);
+fn end<D: Disk + Drop>(mut store: Store<D>, held: Held) {
+    store.let_go(held);
     let _ = store.into_disk();
 }
 

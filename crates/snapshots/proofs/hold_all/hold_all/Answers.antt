@@ -4,8 +4,8 @@ use Rattle.snapshots.specs.inside.HoldsAll.{HoldsFirst}
 use Rattle.snapshots.proofs.HoldsAll.{memory_refused, more_held, none_held, undone_held, undone_beside}
 use Rattle.snapshots.proofs.hold_all.hold_all.Goals as goal
 
-pub hold_version-requires : goal.hold_version-requires
-hold_version-requires g c = omega (arith, c.loop-position-test.true, c.count-position-end.ensures.value, ap length c.loop-position.invariant.held.beside.kept.2)
+pub hold-requires : goal.hold-requires
+hold-requires g c = omega (arith, c.loop-position-test.true, c.count-position-end.ensures.value, ap length c.loop-position.invariant.held.beside.kept.2)
 
 pub unreachable-requires : goal.unreachable-requires
 unreachable-requires g c = omega (arith, c.in-Err-push.ensures.full, c.loop-position.invariant.count, c.loop-position.invariant.room, c.loop-position-test.true, c.count-position-end.ensures.value)
@@ -23,7 +23,7 @@ loop-position-preserved g c = record {
   sound = c.loop-position.invariant.sound;
   count = search rules;
   room = omega (arith, c.loop-position.invariant.room, c.push.ensures.capacity);
-  held = subst (HoldsFirst g.D.Disk.facts c.args.store.now c.hold_version.new.self (c.loop-position.position + 1)) (sym c.in-Ok-push.ensures.items)
+  held = subst (HoldsFirst g.D.Disk.facts c.args.store.now c.hold.new.self (c.loop-position.position + 1)) (sym c.in-Ok-push.ensures.items)
       (more_held g.D.Disk.facts c.loop-position.position c.in-Ok.held c.loop-position.handles.items c.loop-position.invariant.held c.in-Ok.ensures);
 }
 

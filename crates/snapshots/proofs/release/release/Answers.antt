@@ -13,7 +13,7 @@ loop-held-preserved g c =
     let handle = c.in-Some.held in (
       handle ∷ gone,
       sym (append_assoc c.pop.new.self.items (handle ∷ []) gone) ∙ ap (λ l. l ++ gone) (sym c.in-Some.ensures.items) ∙ c.loop-held.invariant.1,
-      one_gone g.D.Disk.facts handle gone c.loop-held.invariant.2 c.let_version_go.ensures,
+      one_gone g.D.Disk.facts handle gone c.loop-held.invariant.2 c.let_go.ensures,
     )
 
 pub returns : goal.returns

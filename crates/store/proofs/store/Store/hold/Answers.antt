@@ -9,9 +9,9 @@ use Rattle.store.specs.declared.refusal.StoreRefusal.TheVariants.{OutOfMemory, R
 use Rattle.store.specs.inside.HeldRows.{IsHeldMore, IsHeldOnce}
 use Rattle.store.proofs.HeldVersions.{hold_done, hold_refused, held_lone, held_rows, kept_held, with_held}
 use Rattle.store.proofs.UsedAlone.{no_entry}
-use Rattle.store.proofs.store.Store.hold_version.Given as given
-use Rattle.store.proofs.store.Store.hold_version.Goals.{In_ok-hold}
-use Rattle.store.proofs.store.Store.hold_version.Goals as goal
+use Rattle.store.proofs.store.Store.hold.Given as given
+use Rattle.store.proofs.store.Store.hold.Goals.{In_ok-hold}
+use Rattle.store.proofs.store.Store.hold.Goals as goal
 
 -- the store before
 abbrev before : (g : given.Over) (c : In_ok-hold g) → Opened g.row.D.Denot

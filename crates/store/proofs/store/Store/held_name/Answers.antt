@@ -5,7 +5,7 @@ use Rattle.store.specs.HeldVersions.{IsHeldBy, holders_of}
 use Rattle.store.specs.Stands.{name_of}
 use Rattle.store.proofs.HeldVersions.{held_fits}
 use Rattle.store.proofs.HeldRows.{by_one, by_some, holders_unheld}
-use Rattle.store.proofs.store.Store.version_name.Goals as goal
+use Rattle.store.proofs.store.Store.held_name.Goals as goal
 
 pub name_bytes-requires : goal.name_bytes-requires
 name_bytes-requires g c = held_fits c.self.invariant.0 c.in_ok-placed.ensures.some

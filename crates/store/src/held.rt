@@ -8,15 +8,15 @@ use std::alloc::Global;
 use std::marker::Model;
 
 /// A holder's right to read a version of a byte string, until it gives the handle to
-/// `Store::let_version_go`. It can't be made or copied. The sectors of a version whose handle is
+/// `Store::let_go`. It can't be made or copied. The sectors of a version whose handle is
 /// dropped stay in use until the store is opened again.
 #[derive(Drop)]
-pub struct HeldVersion {
+pub struct Held {
     // The sector of the version's entry.
     pub(crate) at: u32,
 }
 
-impl Model for HeldVersion {
+impl Model for Held {
     ghost use Rattle.std.specs.Prelude.{ℕ};
 
     ghost Value = { ℕ };
@@ -34,7 +34,7 @@ impl<D: Disk> Store<D> {
     /// Holds the byte string at this position as it is now. It makes no call of the disk, and
     /// copies none of its bytes. The first holder of a version takes memory, for all that follows
     /// of it. It refuses with S2 or S11.
-    pub fn hold_version(&mut self, position: usize) -> Result<HeldVersion, StoreRefusal>
+    pub fn hold(&mut self, position: usize) -> Result<Held, StoreRefusal>
         requires { position < length self.old.entries }
         ensures { HoldsVersion D.facts self.old self.new position result }
     {
@@ -43,12 +43,12 @@ impl<D: Disk> Store<D> {
         }
         let placed = &self.entries[position];
         self.held.hold(placed)?;
-        Ok(HeldVersion { at: placed.at })
+        Ok(Held { at: placed.at })
     }
 
     /// The name of the version that is held, found by hashing; None where nobody holds it here. It
     /// makes no call of the disk.
-    pub fn version_name(&self, held: &HeldVersion) -> Option<&[u8]>
+    pub fn held_name(&self, held: &Held) -> Option<&[u8]>
         ensures none { IsNone result ↔ (holders_of self.now.held held.now ≡ 0) }
         ensures some { IfSome result (λ name. (placed : PlacedEntry)
             → IsHeldBy self.now.held held.now placed → name.now ≡ name_of placed.entry) }
@@ -62,11 +62,7 @@ impl<D: Disk> Store<D> {
     /// store's, or from before the same disk was opened again. A handle is the sector of its entry:
     /// where somebody holds a version here whose entry has the same sector, that one is read. Else
     /// it refuses with S2, S11 or S1.
-    pub fn read_version(
-        &mut self,
-        alloc: Global,
-        held: &HeldVersion,
-    ) -> Result<Vec<u8>, StoreRefusal>
+    pub fn read_held(&mut self, alloc: Global, held: &Held) -> Result<Vec<u8>, StoreRefusal>
         ensures { ReadsVersion D.facts self.old self.new held.now result }
     {
         if self.failed {
@@ -81,11 +77,11 @@ impl<D: Disk> Store<D> {
     /// Lets a version go. Where this was its last holder and the state lists it no longer, its
     /// sectors are free. It makes no call of the disk and takes no memory, also after S2; and it
     /// does nothing where nobody holds the version here. A handle of another store, or from before
-    /// the disk was opened again, is taken as `read_version` takes it.
-    pub fn let_version_go(&mut self, held: HeldVersion)
+    /// the disk was opened again, is taken as `read_held` takes it.
+    pub fn let_go(&mut self, held: Held)
         ensures { LetsVersionGo D.facts self.old self.new held }
     {
-        let HeldVersion { at } = held;
+        let Held { at } = held;
         if let Some(version) = self.held.let_go(at) {
             if !version.listed {
                 give_back(&mut self.layout, &version.placed);

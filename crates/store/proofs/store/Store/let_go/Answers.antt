@@ -4,9 +4,9 @@ use Rattle.store.specs.Opened.{Opened}
 use Rattle.store.specs.inside.Kept.{IsKept}
 use Rattle.store.proofs.HeldVersions.{gone_done, gone_freed, gone_held, gone_listed, held_fits, kept_held, less_done, none_done, with_held}
 use Rattle.store.proofs.HeldRows.{by_place, held_less, lone_less}
-use Rattle.store.proofs.store.Store.let_version_go.Given as given
-use Rattle.store.proofs.store.Store.let_version_go.Goals.{After-let_go}
-use Rattle.store.proofs.store.Store.let_version_go.Goals as goal
+use Rattle.store.proofs.store.Store.let_go.Given as given
+use Rattle.store.proofs.store.Store.let_go.Goals.{After-let_go}
+use Rattle.store.proofs.store.Store.let_go.Goals as goal
 
 -- the store before
 abbrev before : (g : given.Over) (c : After-let_go g) → Opened g.row.D.Denot

@@ -7,9 +7,9 @@ use Rattle.store.specs.Opened.{Opened}
 use Rattle.store.specs.declared.refusal.StoreRefusal.TheVariants.{Damaged}
 use Rattle.store.proofs.HeldVersions.{held_fits, held_on_disk, read_done, read_refused}
 use Rattle.store.proofs.HeldRows.{holders_unheld}
-use Rattle.store.proofs.store.Store.read_version.Given as given
-use Rattle.store.proofs.store.Store.read_version.Goals.{After-placed}
-use Rattle.store.proofs.store.Store.read_version.Goals as goal
+use Rattle.store.proofs.store.Store.read_held.Given as given
+use Rattle.store.proofs.store.Store.read_held.Goals.{After-placed}
+use Rattle.store.proofs.store.Store.read_held.Goals as goal
 
 -- the store before
 abbrev before : (g : given.Over) (c : After-placed g) → Opened g.row.D.Denot

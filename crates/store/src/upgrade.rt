@@ -1,0 +1,95 @@
+// Opening a disk of either version as one of version 2.
+use crate::look::Look;
+use crate::refusal::StoreRefusal;
+use crate::store::Store;
+use sector_disk::Disk;
+use std::alloc::Global;
+
+impl<D: Disk> Store<D> {
+    ghost use Rattle.std.specs.Prelude.{◌≡◌, ◌≢◌, ◌+◌, ◌<◌, ◌⊎◌, [], IsTrue, IsFalse, IfOk};
+    ghost use Rattle.std.specs.Prelude.{IfErr, MatchResult, length};
+    ghost use Rattle.sector_disk.specs.Disk.{Mixture, LeavesOnly, AreCallsExactly, AreCallsAtMost};
+    ghost use Rattle.roots.specs.Limits.{most_catalogues, most_root_entries};
+    ghost use Rattle.states.specs.Limits.{most_libraries};
+    ghost use Rattle.states.specs.Cost.{catalogues_for};
+    ghost use Rattle.store.specs.Opened.{IsAt, disk_after};
+    ghost use Rattle.store.specs.Opening.{RefusesLook, IsRefusalOfUpgrade};
+    ghost use Rattle.states.specs.Geometry.{IsGeometry};
+    ghost use Rattle.store.specs.Stands.{Stands, StandsOld, StandsEither};
+    ghost use Rattle.store.specs.Stands.{catalogues_of};
+    ghost use Rattle.store.specs.Step.{refusal_of_upgrade, answer_of, IsUpgradeAnswer};
+    ghost use Rattle.store.specs.Upgraded.{upgraded, IsNotOld, IsUpgradeOf, IsRelistedFrom};
+    ghost use Rattle.states.specs.State.{State};
+
+    /// Opens the store that a disk of either version holds, after a stop too, as one of version 2.
+    /// On version 2 it writes nothing. On version 1 it writes the catalogues of the same byte
+    /// strings and the next root, and a stop at any moment leaves the old one or the new one whole.
+    /// It refuses with S6, S3, S5, S10, S7, S11 or S1, of which S1 alone may come after the first
+    /// write, and hands the disk back.
+    pub fn upgrade(alloc: Global, disk: D) -> Result<Store<D>, (StoreRefusal, D)>
+        // A stop at any moment leaves what it could leave before, or the state by either rules.
+        ensures any_moment { IsTrue (D.facts disk).honest → (s : State)
+            → StandsOld (D.facts disk).now s
+            → LeavesOnly (D.facts disk) (D.facts (disk_after result))
+            (λ m. Mixture (D.facts disk) m ⊎ StandsOld m s ⊎ Stands m (upgraded s)) }
+        ensures left_alone { IsTrue (D.facts disk).honest → IsNotOld (D.facts disk).now
+            → LeavesOnly (D.facts disk) (D.facts (disk_after result)) (Mixture (D.facts disk)) }
+        ensures unwritten { IsTrue (D.facts disk).honest
+            → IfErr result (λ e. e.0 ≢ StoreRefusal.Device
+            → LeavesOnly (D.facts disk) (D.facts e.1) (Mixture (D.facts disk))) }
+
+        // What reads give stays where nothing is written.
+        ensures now { IsTrue (D.facts disk).honest → IsNotOld (D.facts disk).now
+            → (D.facts (disk_after result)).now ≡ (D.facts disk).now }
+        ensures now_refused { IsTrue (D.facts disk).honest
+            → IfErr result (λ e. e.0 ≢ StoreRefusal.Device
+            → (D.facts e.1).now ≡ (D.facts disk).now) }
+
+        // The store is at the state that what reads gave held, or, on version 1, at the one after
+        // it: every mixture holds that.
+        ensures ok { IsTrue (D.facts disk).honest → IfOk result (λ store.
+            (s : State) × IsUpgradeOf D.facts store (D.facts disk).now s) }
+        ensures stands { IsTrue (D.facts disk).honest → (s : State) → Stands (D.facts disk).now s
+            → MatchResult result (λ store. IsAt D.facts store s) (λ e.
+            (e.0 ≡ StoreRefusal.Device) ⊎ (e.0 ≡ StoreRefusal.OutOfMemory)) }
+        ensures stands_old { IsTrue (D.facts disk).honest → (s : State)
+            → StandsOld (D.facts disk).now s
+            → IfOk result (λ store. IsAt D.facts store (upgraded s)) }
+        ensures placed_old { IsTrue (D.facts disk).honest → (s : State)
+            → StandsOld (D.facts disk).now s
+            → IfOk result (IsRelistedFrom (D.facts disk).now s) }
+        ensures answer { IsTrue (D.facts disk).honest → (s : State)
+            → StandsOld (D.facts disk).now s
+            → IsUpgradeAnswer (refusal_of_upgrade (D.facts disk).sectors s) (answer_of result) }
+        ensures refused { IsTrue (D.facts disk).honest → IsNotOld (D.facts disk).now
+            → IfErr result (λ e. RefusesLook StandsEither (D.facts disk).now e.0) }
+
+        // It reads what an opening reads, and then writes the catalogues and the root, and syncs
+        // twice.
+        ensures calls_current { IsTrue (D.facts disk).honest → (s : State)
+            → Stands (D.facts disk).now s → IfOk result (λ store. AreCallsExactly
+            (3 + length (catalogues_of store.root) + length store.entries)
+            (D.facts disk) (D.facts store.disk)) }
+        ensures calls_old { IsTrue (D.facts disk).honest → (s : State)
+            → StandsOld (D.facts disk).now s → IfOk result (λ store. AreCallsExactly
+            (3 + length store.entries + (catalogues_for (length store.entries) + 3))
+            (D.facts disk) (D.facts store.disk)) }
+
+        // On any disk
+        ensures unheld { IfOk result (λ store. store.held ≡ []) }
+        ensures usable { IfOk result (λ store. IsFalse store.failed) }
+        ensures geometry { IfOk result (λ _. IsGeometry (D.facts disk).sectors) }
+        ensures refusals { IfErr result (λ e. IsRefusalOfUpgrade (D.facts disk).sectors e.0) }
+        ensures device { IfErr result (λ e. e.0 ≡ StoreRefusal.Device
+            → (D.facts disk).failures < (D.facts e.1).failures) }
+        ensures untouched { IfErr result (λ e. e.0 ≡ StoreRefusal.BadGeometry → e.1 ≡ disk) }
+        ensures calls { AreCallsAtMost (3 + most_catalogues + most_libraries
+            + (catalogues_for most_root_entries + 3))
+            (D.facts disk) (D.facts (disk_after result)) }
+    {
+        match Store::look(alloc, disk)? {
+            Look::Current(store) => Ok(store),
+            Look::Old(store) => store.commit(),
+        }
+    }
+}
