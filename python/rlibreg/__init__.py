@@ -13,9 +13,11 @@ from __future__ import annotations
 import ctypes
 import enum
 import errno
+import math
 import operator
 import os
 import threading
+import time
 from typing import Any, Iterable, Iterator, List, NamedTuple, NoReturn, Tuple, Union
 
 from . import _calls
@@ -27,6 +29,7 @@ __all__ = ['Busy', 'Closed', 'Error', 'Finding', 'Held', 'Image', 'Info', 'Libra
 
 PathName = Union[str, bytes, 'os.PathLike[str]', 'os.PathLike[bytes]']
 Content = Union[bytes, bytearray, memoryview, str, 'os.PathLike[str]', 'os.PathLike[bytes]']
+Wait = Union[bool, float]
 
 _MOST = 1 << 24  # bytes that a file may have which isn't refused for its length
 
@@ -245,7 +248,18 @@ def _unsigned(value: int, bits: int) -> int:
     return number
 
 
+def _seconds(wait: Wait) -> float:
+    """How many seconds a lock is waited for."""
+    if not isinstance(wait, (int, float)):
+        raise TypeError('wait is True, False, or a number of seconds')
+    if not wait >= 0:
+        raise ValueError('wait is less than no time')
+    return math.inf if wait is True else wait
+
+
 # ---- Calls
+
+_PIECE = 0.1  # seconds that the library waits at a stretch, where a limit keeps handlers from running
 
 
 class _Turn(threading.local):
@@ -318,6 +332,26 @@ class _Handle:
         if error:
             raise error
 
+    def open(self, name: str, *words: object, flags: int, wait: Wait) -> None:
+        """Makes a call that locks the file, and waits for the lock as long as it is to. Without a
+        limit the library lets a signal end the wait, and with one it doesn't. It answers before its
+        time where the thread would wait for itself."""
+        seconds = _seconds(wait)
+        flags |= _calls.WAIT if seconds else 0
+        if seconds in (0, math.inf):
+            return self.call(name, *words, flags)
+        end = time.monotonic() + seconds
+        while True:
+            begun = time.monotonic()
+            piece = max(0, min(end - begun, _PIECE))
+            _library.rlibreg_wait_limit(self.struct, math.ceil(piece * 1000))
+            try:
+                return self.call(name, *words, flags)
+            except Held:
+                now = time.monotonic()
+                if now >= end or now < begun + piece:
+                    raise
+
     def ask(self, function: Any, words: tuple[object, ...]) -> Error | None:
         """What a call is answered. Where a signal ends it while it waits for a lock, the signal's
         handler runs, and it is made again."""
@@ -389,17 +423,16 @@ def _object(it: _calls.Object, given: _calls.Image, segments: list[Segment]) -> 
 class Registry:
     """The registry in a file, or on a block device, which is open and locked until `close`, or to
     the end of a `with`. With `changes` the lock is held alone, else it is shared with others who
-    look; with `wait` it is waited for, where Held would be raised.
+    look; with `wait` it is waited for, where Held would be raised, without end or so many seconds.
 
     A file of a library or a program is given as its bytes (anything that has a buffer), or by its
     path (a str or an os.PathLike), and is then read whole."""
 
-    def __init__(self, path: PathName, changes: bool = False, wait: bool = False) -> None:
-        flags = (_calls.CHANGES if changes else 0) | (_calls.WAIT if wait else 0)
+    def __init__(self, path: PathName, changes: bool = False, wait: Wait = False) -> None:
         name = _word(path)
         self._handle = _Handle(path)
         try:
-            self._handle.call('open', name, flags)
+            self._handle.open('open', name, flags=_calls.CHANGES if changes else 0, wait=wait)
         except BaseException:
             self._handle.close()
             raise
@@ -499,18 +532,18 @@ class Registry:
         return _image(given)
 
 
-def format(path: PathName, sectors: int, wait: bool = False) -> None:
+def format(path: PathName, sectors: int, wait: Wait = False) -> None:
     """Makes an empty registry of so many sectors of 512 bytes: a new file, or where there is one,
     or a block device, of that length."""
     name, count = _word(path), _unsigned(sectors, 32)
     handle = _Handle(path)
     try:
-        handle.call('format', name, count, _calls.WAIT if wait else 0)
+        handle.open('format', name, count, flags=0, wait=wait)
     finally:
         handle.close()
 
 
-def upgrade(path: PathName, wait: bool = False) -> None:
+def upgrade(path: PathName, wait: Wait = False) -> None:
     """Makes a registry of version 1 one of version 2, with all that it has."""
     with Registry(path, changes=True, wait=wait) as registry:
         registry._handle.call('upgrade')

@@ -94,6 +94,7 @@ PROTOTYPES: dict[str, tuple[Any, ...]] = {  # what each gives, and what it takes
     'text': (TEXT, POINTER),
     'last': (ctypes.POINTER(Answer), POINTER),
     'errno': (ctypes.c_int, POINTER),
+    'wait_limit': (None, POINTER, ctypes.c_int),
     'open': (NUMBER, POINTER, TEXT, FLAGS),
     'format': (NUMBER, POINTER, TEXT, NUMBER, FLAGS),
     'upgrade': (NUMBER, POINTER),

@@ -243,12 +243,49 @@ class Locks(OnDisk):
         os.close(says)
         os.close(said)
         self.addCleanup(os.waitpid, child, 0)
+        self.addCleanup(os.kill, child, signal.SIGKILL)
+        return child
 
     def test_wait(self):
         self.held_by_a_child(0.2)
         start = time.monotonic()
         Registry(self.disk, wait=True).close()
         self.assertGreater(time.monotonic() - start, 0.1)
+
+    def test_a_wait_of_seconds(self):
+        with Registry(self.disk):
+            self.held_for(0, lambda: Registry(self.disk, True, 60))  # it would wait for itself
+        child = self.held_by_a_child(60)
+        for seconds in (0, 0.0, 0.25):
+            self.held_for(seconds, lambda: Registry(self.disk, wait=seconds))
+            self.held_for(seconds, lambda: rlibreg.format(self.disk, SECTORS, wait=seconds))
+        threading.Timer(0.15, os.kill, (child, signal.SIGKILL)).start()
+        Registry(self.disk, wait=60).close()
+        for wait, kind in ((-1, ValueError), (float('nan'), ValueError), (None, TypeError),
+                           ('1', TypeError)):
+            self.assertRaises(kind, Registry, self.disk, wait=wait)
+
+    def held_for(self, seconds, call):
+        start = time.monotonic()
+        self.refused(Status.HELD, call)
+        self.assertTrue(seconds <= time.monotonic() - start < seconds + 30)
+
+    def test_each_thread_has_its_turn(self):
+        def update():
+            with Registry(self.disk, changes=True, wait=True) as registry:
+                try:
+                    registry.install(LIBRARY)
+                except rlibreg.Refusal as refusal:
+                    self.assertEqual(refusal.number, Status.ALREADY_INSTALLED)
+                    registry.replace(LIBRARY)
+
+        threads = [threading.Thread(target=update) for _ in range(8)]
+        for it in threads:
+            it.start()
+        for it in threads:
+            it.join()
+        with Registry(self.disk) as registry:
+            self.assertEqual(registry.info().generation, 8)
 
     def test_a_signal_while_it_waits(self):
         heard = []
@@ -262,9 +299,10 @@ class Locks(OnDisk):
     def test_a_signal_that_ends_the_wait(self):
         before = signal.signal(signal.SIGALRM, lambda *_: 1 // 0)
         self.addCleanup(signal.signal, signal.SIGALRM, before)
-        self.held_by_a_child(0.3)
-        signal.setitimer(signal.ITIMER_REAL, 0.05)
-        self.assertRaises(ZeroDivisionError, Registry, self.disk, False, True)
+        self.held_by_a_child(60)
+        for wait in (True, 60):
+            signal.setitimer(signal.ITIMER_REAL, 0.05)
+            self.assertRaises(ZeroDivisionError, Registry, self.disk, False, wait)
 
 
 class Processes(OnDisk):
