@@ -46,9 +46,14 @@ END
     rm proved.a $(printf 'rlibreg_%s.o ' $parts)
 )
 cp c/rlibreg.h "$folder/"
+# linked STATUS MESSAGE NAME WORD..: links one that ends so where it can't begin for want of memory.
+linked() {
+    gcc $flags -DOUT_OF_MEMORY="$1" -DMESSAGE="\"$3: $2\\n\"" -Wl,-e,rlibreg_entry -o "$folder/$3" \
+        c/rlibreg_entry.c c/rlibreg_stack.c "${@:4}"
+}
 # The loader is a static PIE, or a PIE where there is no static C library.
 link_loader() {
-    gcc $flags $hardened "$1" -o "$folder/rlibreg-run" c/rlibreg_run*.c c/rlibreg_stack.c \
+    linked 126 'memory: Cannot allocate memory' rlibreg-run $hardened "$1" c/rlibreg_run*.c \
         "$folder/librlibreg.a"
 }
 link_loader -static-pie 2> /dev/null || link_loader -pie
@@ -62,8 +67,8 @@ program() {
         (cd "crates/$crate" && rt run --backend "$compiler" -- "$@" > /dev/null)
         object=crates/$crate/out/$crate.o
     fi
-    gcc $flags -DPROGRAM="\"$name\"" -pie -Wl,--gc-sections,--wrap=fsync,--wrap=flock,--wrap=main \
-        -o "$folder/$name" c/rlibreg_main.c c/rlibreg_stack.c c/rlibreg_forget.c \
+    linked 4 'refused S11 OutOfMemory' "$name" -pie \
+        -Wl,--gc-sections,--wrap=fsync,--wrap=flock,--wrap=main c/rlibreg_main.c c/rlibreg_forget.c \
         c/rlibreg_front.c c/rlibreg_turn.c c/rlibreg_program_lock.c "$object" \
         "$kit/c/libos_c.a" "$kit/c/liblibc_c.a" -lm
 }

@@ -8,4 +8,8 @@
  * ends the process: the kernel would later kill it. The status and the message say so. */
 void rlibreg_grow_stack(size_t bytes, int status, const char *message);
 
+/* Whether standard error is a file that a word names, which may be the disk: that gets no message
+ * (rlibreg_entry.c). */
+int rlibreg_names_errors(char **words);
+
 #endif

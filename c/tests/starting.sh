@@ -47,17 +47,23 @@ done
 cp disk cut
 want 'a disk that is cut under it' "rlibreg-run: the disk can't be read
 = 126" "$(ended env CUT=cut ./run-taken cut ./words)"
-for kibibytes in {6000..30000..1500}; do
-    found=$(ulimit -v $kibibytes && ended "$built/rlibreg-run" disk ./words)
+# From an address space into which the kernel can't even map the loader, which it kills then; where
+# the system's loader comes before it, that tells the same by 127.
+few=
+interpreter=$(readelf -lW "$built/rlibreg-run" | grep INTERP || true)
+for kibibytes in {1000..2000..8} {2500..30000..1500}; do
+    found=$( (ulimit -v $kibibytes && ended "$built/rlibreg-run" disk ./words) 2> lost)
     case $found in
         *': Cannot allocate memory
 = 126' | *'refused S11 OutOfMemory
 = 126') few=yes ;;
         *'
-= 3') [ $few = yes ] && break ;;
-        *) want "$kibibytes KiB of memory" 'a start, or a refusal' "$found" ;;
+= 3') [ "$few" = yes ] && break ;;
+        *'= 139') [ -z "$few" ] || want "$kibibytes KiB of memory" 'a start, or a refusal' "$found" ;;
+        *) [ -n "$interpreter" ] || want "$kibibytes KiB of memory" 'a start, or a refusal' "$found" ;;
     esac
 done
+want 'a start that had too little memory before' yes "$few"
 
 # A file that may not be executed.
 cp words unfit
