@@ -47,7 +47,7 @@ done
 loader="$flags -O1 -fsanitize=undefined -fno-sanitize-recover=all"
 compiled loader "$loader" "$here"/../rlibreg_run*.c "$here/../rlibreg_stack.c" $library
 gcc $loader -o "$room/rlibreg-run" "$objects"/loader/*.o "$built/librlibreg.a"
-gcc $loader -o "$room/run-taken" -Wl,--wrap=mmap "$here/taken.c" "$objects"/loader/*.o \
+gcc $loader -o "$room/run-taken" -Wl,--wrap=mmap,--wrap=rlibreg_bind "$here/taken.c" "$objects"/loader/*.o \
     "$built/librlibreg.a"
 gcc $flags -o "$room/within" "$here/within.c"
 

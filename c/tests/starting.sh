@@ -108,10 +108,11 @@ done
 want 'a stack of 512 KiB' '= 3' \
     "$(ulimit -s 512 && ended "$built/rlibreg-run" disk ./words $(seq 10000) | tail -1)"
 
-# Zeros are no memory of the program's until it writes them.
+# Zeros are no memory of the program's until it writes them, and a large image is bound once.
 $compile -pie -Wl,-e,_start -o zeros "$programs/place.c" -x c - <<< 'char zeros[60 << 20];'
 found=$(./rlibreg-run disk zeros /proc/self/statm | tail -1 | cut -d ' ' -f 2)
 [ "$found" -lt 4096 ] || { echo "60 MiB of zeros: $found pages" >&2; exit 1; }
+want 'binds for 60 MiB' bind "$(BINDS=1 ./run-taken disk zeros 2>&1 > lost)"
 
 # An entry in the memory of a library.
 at=$("$rlibreg" bind disk chain 0x100000 | awk '/^object/ {library = / libtwo/} library && /r-x/ {print $2; exit}')

@@ -1,9 +1,13 @@
-/* mmap as it is where others have the pages: linked into the loader with --wrap=mmap. Of the calls
- * that ask for a place, the first FREE have it, the next TAKEN find it taken, and the others have
- * it again. Where ELSEWHERE is set those get another one, as from a kernel before 4.17. The file
- * CUT is cut behind each map of a file. */
+/* mmap as it is where others have the pages, and a bind that tells of itself where BINDS is set:
+ * linked into the loader with --wrap=mmap and --wrap=rlibreg_bind. Of the calls of mmap that ask for
+ * a place, the first FREE have it, the next TAKEN find it taken, and the others have it again. Where
+ * ELSEWHERE is set those get another one, as from a kernel before 4.17. The file CUT is cut behind
+ * each map of a file. */
 #define _GNU_SOURCE
+#include "../rlibreg.h"
+
 #include <errno.h>
+#include <stdio.h>
 #include <stdlib.h>
 #include <sys/mman.h>
 #include <unistd.h>
@@ -28,4 +32,20 @@ void *__wrap_mmap(void *at, size_t length, int how, int kind, int fd, off_t from
         return __real_mmap(NULL, length, how, kind & ~MAP_FIXED_NOREPLACE, fd, from);
     errno = EEXIST;
     return MAP_FAILED;
+}
+
+uint32_t __real_rlibreg_bind(const uint8_t *disk, size_t disk_length, const uint8_t *program,
+                             size_t program_length, uint64_t base, rlibreg_object *objects,
+                             size_t objects_room, rlibreg_segment *segments, size_t segments_room,
+                             uint8_t *bytes, size_t bytes_room, char *text, size_t text_room,
+                             rlibreg_answer *answer);
+uint32_t __wrap_rlibreg_bind(const uint8_t *disk, size_t disk_length, const uint8_t *program,
+                             size_t program_length, uint64_t base, rlibreg_object *objects,
+                             size_t objects_room, rlibreg_segment *segments, size_t segments_room,
+                             uint8_t *bytes, size_t bytes_room, char *text, size_t text_room,
+                             rlibreg_answer *answer) {
+    if (getenv("BINDS")) fputs("bind\n", stderr);
+    return __real_rlibreg_bind(disk, disk_length, program, program_length, base, objects,
+                               objects_room, segments, segments_room, bytes, bytes_room, text,
+                               text_room, answer);
 }
