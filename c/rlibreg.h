@@ -46,6 +46,11 @@
  * - Of encrypted and compressed files, of loop devices without direct I/O, and where there is no
  *   O_DIRECT, nothing can be read past memory: there an opening for changes always has the medium
  *   take the roots, and one for reading may show a change that was answered S1.
+ * - What a process prints never goes into a disk. Where 0, 1 or 2 isn't open, that number is given
+ *   to /dev/null, for reading alone, before any file is opened, and stays so: the disk would get it
+ *   else. (Where another thread closes it just then, the disk has it for a moment, and is moved.) A
+ *   disk that is the file behind 0, 1 or 2, open for writing, is refused where it is opened, and at
+ *   each change: RLIBREG_SYSTEM, with errno ETXTBSY. Who prints before asks rlibreg_stream_of.
  * - The two roots stand in one block of 4,096 bytes. A medium that ruins a block of that size which
  *   it was writing can lose both.
  * - There is no checksum: a byte that changed on the medium within a library's code isn't seen, by
@@ -427,6 +432,10 @@ enum {
  * processes are waited for, and other threads of this one. */
 void rlibreg_wait_limit(rlibreg *registry, int milliseconds);
 
+/* The standard stream, 2, 1 or 0, that may be written and is the file of a path, or -1 where none
+ * is. One that isn't open is opened, as CAVEATS says. Where it is 2, nothing can be said of it. */
+int rlibreg_stream_of(const char *path);
+
 /* Opens the file of a registry, a regular file or a block device, locks it and syncs it, and maps
  * what the medium has of it. It isn't looked at what the file holds: the calls behind do that.
  *
@@ -435,7 +444,8 @@ void rlibreg_wait_limit(rlibreg *registry, int milliseconds);
  * struct that it used last, or for a thread that waits for one; and where the path named another file
  * each of 16 times.
  * RLIBREG_SYSTEM where a call of the system fails: errno says why, EINTR where a signal ended a wait
- * without limit, EINVAL where the path is neither of the two, EBUSY where a block device is in use.
+ * without limit, EINVAL where the path is neither of the two, EBUSY where a block device is in use,
+ * ETXTBSY where it is a standard stream that may be written.
  * RLIBREG_BAD_ARGUMENT where the struct has a file already. */
 uint32_t rlibreg_open(rlibreg *registry, const char *path, unsigned flags);
 
@@ -461,7 +471,8 @@ uint32_t rlibreg_format(rlibreg *registry, const char *path, uint32_t sectors, u
 
 /* Changes: each is planned, carried out and synced when the call returns 0. Refusals: those of the
  * plan, which leave all as it was; S1 where a write or a sync failed: errno says why, and a change
- * was made or not; S2 after that. RLIBREG_READ_ONLY without RLIBREG_CHANGES.
+ * was made or not; S2 after that. RLIBREG_READ_ONLY without RLIBREG_CHANGES. RLIBREG_SYSTEM with
+ * ETXTBSY where the file has become a standard stream that may be written: nothing was done.
  *
  * FILE, NAME and NAMES stay the caller's. NAMES may be null where COUNT is 0. */
 uint32_t rlibreg_upgrade(rlibreg *registry);

@@ -150,12 +150,13 @@ uint32_t rlibreg_disk_file_lock(struct disk_file *it, const struct stat *found, 
 /* Opens a file and locks it. */
 static uint32_t open_and_lock(struct disk_file *it, const char *path, unsigned flags,
                               struct stat *found) {
-    it->fd = open(path, open_flags(flags));
+    it->fd = rlibreg_open_apart(AT_FDCWD, path, open_flags(flags));
     if (it->fd < 0 || fstat(it->fd, found)) return RLIBREG_SYSTEM;
     if (!S_ISBLK(found->st_mode) && !S_ISREG(found->st_mode)) {
         errno = EINVAL;
         return RLIBREG_SYSTEM;
     }
+    if (rlibreg_stream_of_file(found) >= 0) return RLIBREG_SYSTEM;
     if (!(flags & RLIBREG_CHANGES) && rlibreg_write_out(it->fd)) return RLIBREG_SYSTEM;
     return rlibreg_disk_file_lock(it, found, flags);
 }
@@ -173,7 +174,7 @@ static uint32_t claim(struct disk_file *it, const char *path, unsigned flags,
     struct stat found;
     int is_read_only = 0;
     if (!(flags & RLIBREG_CHANGES) || !S_ISBLK(locked->st_mode)) return RLIBREG_DONE;
-    it->claim = open(path, open_flags(flags) | O_EXCL);
+    it->claim = rlibreg_open_apart(AT_FDCWD, path, open_flags(flags) | O_EXCL);
     if (it->claim < 0 || fstat(it->claim, &found)) return RLIBREG_SYSTEM;
     ioctl(it->claim, BLKROGET, &is_read_only); /* such a device can be opened, but not written */
     if (!S_ISBLK(found.st_mode) || found.st_rdev != locked->st_rdev) return RLIBREG_HELD;

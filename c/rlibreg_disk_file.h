@@ -32,6 +32,14 @@ struct disk_file {
 /* How often a name is tried anew that others give to other files meanwhile. */
 enum { MOST_TRIES = 16 };
 
+/* Opens a file of a folder, as openat, once the standard streams are open, and never as one of them
+ * (rlibreg_streams.c). */
+int rlibreg_open_apart(int folder, const char *path, int flags);
+
+/* The last of the standard streams that may be written and is this file, with errno ETXTBSY, or
+ * that can't be asked; -1 where none is. */
+int rlibreg_stream_of_file(const struct stat *file);
+
 /* Opens and locks the file of a path, and maps what the medium has of it. Gives a status. */
 uint32_t rlibreg_disk_file_open(struct disk_file *it, const char *path, unsigned flags);
 

@@ -258,12 +258,19 @@ static uint32_t make_plan(rlibreg *it, plan_call *call, const void *asked, size_
     }
 }
 
+/* Whether the file has become a standard stream since it was opened. */
+static int is_stream(const rlibreg *it) {
+    struct stat found;
+    return fstat(it->file.fd, &found) || rlibreg_stream_of_file(&found) >= 0;
+}
+
 /* Plans a change and carries it out. */
 static uint32_t change(rlibreg *it, plan_call *call, const void *asked, size_t length) {
     uint8_t *plan;
     uint32_t status = refuse(it);
     if (status) return status;
     if (!it->may_change) return say(it, RLIBREG_READ_ONLY, "");
+    if (is_stream(it)) return say_system(it);
     status = make_plan(it, call, asked, length, &plan);
     if (status) return status;
     it->has_failed = carry_out(it->file.fd, plan, it->answer.bytes) != 0;

@@ -26,7 +26,8 @@ static int open_folder(const char *path) {
     }
     memcpy(folder, path, length);
     folder[length] = 0;
-    return open(length ? folder : ".", O_RDONLY | O_DIRECTORY | O_CLOEXEC);
+    return rlibreg_open_apart(AT_FDCWD, length ? folder : ".",
+                              O_RDONLY | O_DIRECTORY | O_CLOEXEC);
 }
 
 static void close_quietly(int fd) {
@@ -76,7 +77,8 @@ static uint32_t take_leftover(const struct new_disk *it, unsigned flags, int64_t
         return RLIBREG_SYSTEM;
     }
     left.until = until;
-    left.fd = openat(it->folder, it->other, O_RDONLY | O_NOFOLLOW | O_NONBLOCK | O_CLOEXEC);
+    left.fd = rlibreg_open_apart(it->folder, it->other,
+                                 O_RDONLY | O_NOFOLLOW | O_NONBLOCK | O_CLOEXEC);
     if (left.fd < 0) return errno == ENOENT ? RLIBREG_DONE : RLIBREG_SYSTEM;
     uint32_t status = RLIBREG_SYSTEM;
     if (!fstat(left.fd, &found)) status = rlibreg_disk_file_lock(&left, &found, flags);
@@ -113,7 +115,7 @@ static uint32_t make_locked(const struct new_disk *it, struct disk_file *file, u
     int *fd = &file->fd;
     for (int tries = 0; tries < MOST_TRIES; tries++) {
         uint32_t status = RLIBREG_SYSTEM;
-        *fd = openat(it->folder, it->other, O_RDWR | O_CREAT | O_EXCL | O_CLOEXEC, 0666);
+        *fd = rlibreg_open_apart(it->folder, it->other, O_RDWR | O_CREAT | O_EXCL | O_CLOEXEC);
         if (*fd >= 0)
             status = lock_made(it, fd);
         else if (errno == EEXIST)

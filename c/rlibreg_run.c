@@ -37,27 +37,39 @@ static _Noreturn void bad_words(void) {
     exit(BAD_WORDS);
 }
 
-/* Reads digits, decimal or behind 0x hexadecimal: strtoull would take a blank and a sign too. */
-static uint64_t read_base(const char *word) {
+/* Reads digits, decimal or behind 0x hexadecimal: strtoull would take a blank and a sign too. Gives
+ * whether they are some. */
+static int read_base(const char *word, uint64_t *base) {
     char *end;
     errno = 0;
-    uint64_t base = strtoull(word, &end, strncmp(word, "0x", 2) ? 10 : 16);
-    if (!isdigit((unsigned char)*word) || errno || *end) bad_words();
-    return base;
+    *base = strtoull(word, &end, strncmp(word, "0x", 2) ? 10 : 16);
+    return isdigit((unsigned char)*word) && !errno && !*end;
 }
 
-/* Reads the words before DISK. */
-static void read_options(struct program *it, int argc, char **argv) {
-    int option;
+/* Reads the words before DISK, all of them. Gives whether the words are of the form that they have
+ * to be. */
+static int read_options(struct program *it, int argc, char **argv) {
+    int option, are_good = 1;
     opterr = 0;
     while ((option = getopt(argc, argv, "+xb:")) != -1) {
-        if (option == '?') bad_words();
+        if (option == '?') are_good = 0;
         if (option == 'x') it->may_be_both = 1;
         if (option != 'b') continue;
         it->has_base = 1;
-        it->base = read_base(optarg);
+        are_good &= read_base(optarg, &it->base);
     }
-    if (argc - optind < 2) bad_words();
+    return are_good && argc - optind >= 2;
+}
+
+/* Reads the words. Nothing is started where what it prints would go into the disk, and no message
+ * is said that would. */
+static void read_words(struct program *it, int argc, char **argv) {
+    int are_good = read_options(it, argc, argv);
+    int stream = optind < argc ? rlibreg_stream_of(argv[optind]) : -1;
+    if (stream == STDERR_FILENO) exit(are_good ? FAILED : BAD_WORDS);
+    if (!are_good) bad_words();
+    errno = ETXTBSY;
+    if (stream >= 0) fail(argv[optind]);
 }
 
 /* The disk is mapped: this signal comes where a sector of it can't be read, or the file was cut. */
@@ -98,7 +110,7 @@ static size_t pointers_in(char **words, char **environment) {
 
 int main(int argc, char **argv, char **environment) {
     struct program program = { 0 };
-    read_options(&program, argc, argv);
+    read_words(&program, argc, argv);
     char **words = argv + optind + 1;
     rlibreg_grow_stack(STACK + pointers_in(words, environment), FAILED,
                        "rlibreg-run: the stack: Cannot allocate memory\n");

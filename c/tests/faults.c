@@ -215,6 +215,7 @@ static int is_right(const struct change *change, const struct outcome *it) {
         return !it->status || ((it->status == RLIBREG_SYSTEM || it->status == RLIBREG_DEVICE) &&
                                (it->why == EIO || it->why == EAGAIN));
     if (has_failed("stat")) return !it->status; /* the path is opened again */
+    if (has_failed("fstat")) return it->why == EIO && it->status == RLIBREG_SYSTEM;
     return it->why == EIO && it->status == (it->opened ? RLIBREG_SYSTEM : RLIBREG_DEVICE);
 }
 

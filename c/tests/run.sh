@@ -27,7 +27,7 @@ compiled() {
     mkdir -p "$objects/$1"
     (cd "$objects/$1" && gcc $2 -c "${@:3}")
 }
-library=$(printf "$here/../rlibreg_%s.c " file disk_file new_disk turn front status)
+library=$(printf "$here/../rlibreg_%s.c " file disk_file streams new_disk turn front status)
 compiled library "$checked" $library
 beside="$objects/library/*.o $built/librlibreg.a"
 watched=$(printf ',--wrap=%s' open openat fstat stat fstatat fstatfs lseek nanosleep clock_gettime \
@@ -35,7 +35,7 @@ watched=$(printf ',--wrap=%s' open openat fstat stat fstatat fstatfs lseek nanos
     linkat renameat2 renameat unlink unlinkat)
 watched="-Wl$watched $objects/tests/watched.o"
 plain='tool calls cuts turns'
-over_watched='opening front making forked contents findings'
+over_watched='opening streams front making forked contents findings'
 compiled tests "$checked" $(printf "$here/%s.c " watched faults $plain $over_watched)
 for name in $plain; do gcc $checked -o "$room/$name" "$objects/tests/$name.o" $beside; done
 for name in faults $over_watched; do
@@ -65,6 +65,7 @@ alone() {
 }
 alone faults "$data/strong.so" "$data/protected.so" "$data/program-1.so" b "$data/old-one.disk"
 alone opening "$data/strong.so" b
+alone streams "$data/strong.so" b
 alone front
 alone making "$data/strong.so" b
 alone turns
@@ -81,7 +82,7 @@ fi
 alone forked "$data/strong.so" "$data/program-1.so" b
 alone contents "$data/strong.so" b
 alone findings "$data/strong.so" b "$data/old-one.disk"
-for part in cuts same held devices loader starting initializers documents; do
+for part in cuts same held devices loader starting initializers documents streams; do
     (. "$here/$part.sh")
 done
 

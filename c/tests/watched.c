@@ -20,6 +20,7 @@ struct watched watched;
 void watch(void) {
     watched = (struct watched){ .is_on = 1, .first = -1, .second = -1, .end = -1 };
     watched.times = 1 << 20;
+    watched.least = 3;
 }
 
 void unwatch(void) {
@@ -81,9 +82,7 @@ WRAPPED(int, open, const char *path, int flags, ...) {
     va_start(more, flags);
     mode_t mode = flags & O_CREAT ? va_arg(more, mode_t) : 0;
     va_end(more);
-    /* without O_CREAT, O_EXCL is for devices alone */
-    int true_flags = flags & O_CREAT ? flags : flags & ~O_EXCL;
-    return fails(word_of_open(flags), 0) ? -1 : __real_open(path, true_flags, mode);
+    return fails(word_of_open(flags), 0) ? -1 : __real_open(path, flags, mode);
 }
 
 WRAPPED(int, openat, int folder, const char *path, int flags, ...) {
@@ -91,12 +90,14 @@ WRAPPED(int, openat, int folder, const char *path, int flags, ...) {
     va_start(more, flags);
     mode_t mode = flags & O_CREAT ? va_arg(more, mode_t) : 0;
     va_end(more);
-    return fails(word_of_open(flags), 0) ? -1 : __real_openat(folder, path, flags, mode);
+    /* without O_CREAT, O_EXCL is for devices alone */
+    int true_flags = flags & O_CREAT ? flags : flags & ~O_EXCL;
+    return fails(word_of_open(flags), 0) ? -1 : __real_openat(folder, path, true_flags, mode);
 }
 
 WRAPPED(int, fstat, int fd, struct stat *found) {
     if (fails("fstat", 1) || __real_fstat(fd, found)) return -1;
-    if (watched.is_on && watched.device && S_ISREG(found->st_mode)) {
+    if (watched.is_on && watched.device && S_ISREG(found->st_mode) && fd >= watched.least) {
         found->st_mode = S_IFBLK | 0600;
         found->st_rdev = watched.device;
         found->st_size = 0;

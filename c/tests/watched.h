@@ -35,6 +35,7 @@ struct watched {
     int because, because_too; /* how they do */
     long times;               /* so many of the first of these words */
     dev_t device;             /* a regular file is said to be this block device; or 0 */
+    int least;                /* by this number or a higher one; without this, not a stream */
     int differ;               /* roots that the medium is said to have otherwise: 1, 2, or both, 3 */
     int keeps;                /* so often the front is to be forgotten, and the system keeps it */
     int is_stuck;             /* nor does the medium take what it shows */

@@ -1,0 +1,63 @@
+/* The standard streams of the process: a disk is none of them. */
+#define _GNU_SOURCE
+#include "rlibreg_disk_file.h"
+
+#include <errno.h>
+#include <fcntl.h>
+#include <unistd.h>
+
+/* The numbers of the standard streams are those below. */
+enum { STREAMS = 3 };
+
+/* Opens what nothing can be written to. Where a system begins there may be no devices yet. */
+static int open_nothing(void) {
+    int fd = open("/dev/null", O_RDONLY | O_NOCTTY);
+    return fd < 0 ? open("/", O_RDONLY | O_DIRECTORY) : fd;
+}
+
+static int fill_streams(void) {
+    for (int number = 0; number < STREAMS; number++)
+        while (fcntl(number, F_GETFD) < 0) {
+            int fd = open_nothing();
+            if (fd < 0) return -1;
+            if (fd >= STREAMS) close(fd); /* another thread has filled it */
+        }
+    return 0;
+}
+
+/* Moves a file that is open as a stream, since another thread has closed that meanwhile. */
+static int move_up(int stream) {
+    int fd = fcntl(stream, F_DUPFD_CLOEXEC, STREAMS), nothing = open_nothing();
+    if (nothing < 0 || dup2(nothing, stream) < 0) close(stream);
+    if (nothing >= STREAMS) close(nothing);
+    return fd;
+}
+
+int rlibreg_open_apart(int folder, const char *path, int flags) {
+    if (fill_streams()) return -1;
+    int fd = openat(folder, path, flags, 0666);
+    return 0 <= fd && fd < STREAMS ? move_up(fd) : fd;
+}
+
+static int is_same(const struct stat *one, const struct stat *other) {
+    if (S_ISBLK(one->st_mode) && S_ISBLK(other->st_mode)) return one->st_rdev == other->st_rdev;
+    return one->st_dev == other->st_dev && one->st_ino == other->st_ino;
+}
+
+int rlibreg_stream_of_file(const struct stat *file) {
+    struct stat found;
+    for (int number = STREAMS - 1; number >= 0; number--) {
+        int how = fcntl(number, F_GETFL);
+        if (how < 0 || (how & O_ACCMODE) == O_RDONLY) continue;
+        if (fstat(number, &found)) return number;
+        errno = ETXTBSY;
+        if (is_same(&found, file)) return number;
+    }
+    return -1;
+}
+
+int rlibreg_stream_of(const char *path) {
+    struct stat found;
+    fill_streams(); /* or what is printed goes nowhere */
+    return stat(path, &found) ? -1 : rlibreg_stream_of_file(&found);
+}
