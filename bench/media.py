@@ -6,7 +6,7 @@ partitions of them. Wants root and what makes such media; what the machine hasn'
 
 The images are made by mksquashfs, mkfs.erofs, genisoimage and mkfs.ext4, and mounted read-only: what only reads works as
 on an ordinary file, a change is answered S1 or that the disk can't be read. On ext4, xfs and btrfs the roots of a file are
-exchanged under what the system keeps of it. On a device each command does what it does on
+exchanged under what the system keeps of it, also where somebody has that mapped. On a device each command does what it does on
 a file of as many bytes; one that is mounted, swapped to or under device mapper, or whose disk or partition is, is read and
 not changed. RLIBREG_RUN is the loader, which starts a program from each medium; TOOL is the program of c/tests/tool.c.
 """
@@ -27,7 +27,7 @@ from pathlib import Path
 from checks import NOBODY, Checks, CLibrary, Program, emptied, for_others, has, held_file
 from libraries import Made
 
-SECTOR = 512
+SECTOR, PAGE = 512, 4096
 AT_ONCE, TRIES, LATE = 1.0, (1.5, 4.0), 0.7
 S1 = b'refused S1 Device\n'
 SOURCES = {
@@ -486,6 +486,20 @@ class Media:
             self.want(kind, self.answers(disk) == wanted != later, self.answers(disk)[0], 'and not', wanted[0])
             self.write_at(self.image, place, newer)
             self.want(kind, self.answers(disk) == later, self.answers(disk)[0], 'and not', later[0])
+        self.while_mapped(f'{kind}, and that somebody maps', disk, place, older)
+
+    def while_mapped(self, kind, disk, place, older):
+        """Who reads is refused, and a change, also one that has nothing to do, has the medium take the roots that are shown."""
+        newer, shown = self.roots(disk), self.answers(disk)
+        with open(disk, 'rb') as file, mmap.mmap(file.fileno(), SECTOR, prot=mmap.PROT_READ) as front:
+            assert front[:SECTOR] == newer[:SECTOR]
+            self.write_at(self.image, place, older)
+            ended = self.by.run(['list', str(disk)])
+            self.want(kind, ended[:2] == (3, S1) or self.by.unread(ended, disk), 'list', ended)
+            self.want(kind, self.past_memory(disk) == older, 'a list has changed it')
+            ended = self.by.run(['upgrade', str(disk)])
+            self.want(kind, ended[:2] == (0, b'ok\n') and self.past_memory(disk) == newer, 'upgrade', ended)
+            self.want(kind, self.answers(disk) == shown, self.answers(disk)[0], 'and not', shown[0])
 
     def in_pieces(self, disk):
         """Has the system keep the file in larger pieces than pages, as what is written in one call."""
@@ -497,6 +511,15 @@ class Media:
 
     def roots(self, disk):
         return disk.read_bytes()[:2 * SECTOR]
+
+    def past_memory(self, disk):
+        """The roots that the medium has, wherever the file system puts them. Into memory that wasn't touched btrfs reads its cache."""
+        with mmap.mmap(-1, PAGE) as page:
+            page.write(bytes(PAGE))
+            file = os.open(disk, os.O_RDONLY | os.O_DIRECT)
+            os.preadv(file, [page], 0)
+            os.close(file)
+            return page[:2 * SECTOR]
 
     def place_of(self, content):
         """Where some bytes of the image stand, once."""

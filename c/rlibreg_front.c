@@ -53,8 +53,10 @@ static int is_encoded(int fd) {
 }
 
 /* Reads past the system's memory, by the file's own description: neither its path, which may be
- * another file's by now, nor /proc is needed. */
+ * another file's by now, nor /proc is needed. Into pages that nothing was written to yet btrfs reads
+ * from its memory. */
 static enum comparison read_medium(struct front *it) {
+    memset(it->medium, 0, BLOCK);
     if (fcntl(it->fd, F_SETFL, it->flags | O_DIRECT)) return UNKNOWN;
     ssize_t length = pread(it->fd, it->medium, BLOCK, 0);
     int why = length < 0 ? errno : EIO;

@@ -191,13 +191,21 @@ WRAPPED(int, fcntl, int fd, int what, ...) {
     return __real_fcntl(fd, what, flags & ~O_DIRECT); /* the disk of the test may have none */
 }
 
+int __real_mincore(void *from, size_t length, unsigned char *kept);
+
+/* Whether memory was written already: else some file systems don't read the medium into it. */
+static int is_there(void *page) {
+    unsigned char kept;
+    return !__real_mincore(page, 1, &kept) && kept & 1;
+}
+
 WRAPPED(ssize_t, pread, int fd, void *to, size_t length, off_t at) {
     int is_past = watched.is_on && watched.is_past;
     if (watched.is_on) WANT(at == 0 && length == 4096);
     if (fails(is_past ? "read-past" : "read", 0)) return -1;
     ssize_t got = __real_pread(fd, to, length, at);
     if (!is_past) return got;
-    WANT(!((uintptr_t)to % 4096) && !watched.is_dirty);
+    WANT(!((uintptr_t)to % 4096) && is_there(to) && !watched.is_dirty);
     if (watched.differ & 1) ((char *)to)[511] ^= 1;
     if (watched.differ & 2) ((char *)to)[512] ^= 1;
     return watched.past_length ? watched.past_length : got;
