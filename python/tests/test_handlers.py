@@ -1,5 +1,6 @@
 """Calls from handlers of signals, some thousand of them a second, from threads, from children of
-fork, and at the end of Python: each hears what it was answered itself, and nothing is lost.
+fork, with closed streams, and at the end of Python: each hears what it was answered itself, and
+nothing is lost.
 
     python3 -X dev -m unittest test_handlers
 """
@@ -196,6 +197,34 @@ class Handlers(OnDisk):
         self.refused(Status.HELD, Registry, self.disk)
 
 
+CLOSED = '''
+import os, sys, rlibreg
+disk, library, *closed = sys.argv[1:]
+for it in closed: os.close(int(it))
+def say():
+    for it in 1, 2:
+        try: os.write(it, b'text')
+        except OSError: pass
+rlibreg.format(disk, 512)
+say()
+with rlibreg.Registry(disk) as registry:
+    say()
+with rlibreg.Registry(disk, changes=True, wait=1) as registry:
+    say()
+    registry.install(library)
+    say()
+'''
+
+BEHIND = '''
+import sys, rlibreg
+def is_refused(call):
+    try: call()
+    except rlibreg.SystemFault as error: return error.errno == 26
+disk, library = sys.argv[1:]
+sys.exit(not (is_refused(lambda: rlibreg.Registry(disk, changes=True))
+              and is_refused(lambda: rlibreg.Registry(disk))))
+'''
+
 END = '''
 import pathlib, sys, threading, time, rlibreg
 program = pathlib.Path(sys.argv[2])
@@ -208,6 +237,27 @@ for call in (registry.list, lambda: registry.bind(program, 0x10000)):
 time.sleep(0.05)
 sys.image = registry.bind(program, 0x10000)
 '''
+
+
+class Streams(OnDisk):
+    def run_on(self, disk, code, *words, **streams):
+        done = subprocess.run([sys.executable, '-B', '-c', code, disk, LIBRARY, *words], **streams)
+        self.assertEqual(done.returncode, 0)
+        return disk.read_bytes()
+
+    def test_closed_streams(self):
+        """What is printed doesn't go into a disk that would have their number."""
+        with Registry(self.disk, changes=True) as registry:
+            registry.install(LIBRARY)
+        for closed in ('0', '1', '2', '012'):
+            found = self.run_on(self.disk.with_name(closed), CLOSED, *closed, capture_output=True)
+            self.assertEqual(found, self.disk.read_bytes())
+
+    def test_a_disk_behind_a_stream(self):
+        before = self.disk.read_bytes()
+        for stream in ('stdin', 'stdout', 'stderr'):
+            with open(self.disk, 'r+b') as file:
+                self.assertEqual(self.run_on(self.disk, BEHIND, **{stream: file}), before)
 
 
 class Ends(OnDisk):

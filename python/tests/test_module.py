@@ -261,6 +261,7 @@ class Locks(OnDisk):
             self.held_for(seconds, lambda: rlibreg.format(self.disk, SECTORS, wait=seconds))
         threading.Timer(0.15, os.kill, (child, signal.SIGKILL)).start()
         Registry(self.disk, wait=60).close()
+        self.assertEqual([rlibreg._seconds(it) for it in (True, False, 1)], [float('inf'), 0, 1])
         for wait, kind in ((-1, ValueError), (float('nan'), ValueError), (None, TypeError),
                            ('1', TypeError)):
             self.assertRaises(kind, Registry, self.disk, wait=wait)
@@ -300,9 +301,11 @@ class Locks(OnDisk):
         before = signal.signal(signal.SIGALRM, lambda *_: 1 // 0)
         self.addCleanup(signal.signal, signal.SIGALRM, before)
         self.held_by_a_child(60)
+        start = time.monotonic()
         for wait in (True, 60):
             signal.setitimer(signal.ITIMER_REAL, 0.05)
             self.assertRaises(ZeroDivisionError, Registry, self.disk, False, wait)
+        self.assertLess(time.monotonic() - start, 30)
 
 
 class Processes(OnDisk):
