@@ -29,7 +29,7 @@ fi
 cp "$RLIBREG_C" "$folder/proved.a"
 
 # The C over them, and what gives the proved calls their memory.
-parts='file disk_file streams new_disk turn front status'
+parts='file disk_file streams place new_disk turn front status'
 for part in $parts; do
     gcc $flags -c -o "$folder/rlibreg_$part.o" "c/rlibreg_$part.c"
 done

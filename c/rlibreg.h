@@ -56,9 +56,12 @@
  * - There is no checksum: a byte that changed on the medium within a library's code isn't seen, by
  *   rlibreg_check neither.
  * - A sector that the medium can't read ends the process by SIGBUS, in each call over a file: the
- *   file is mapped. So does a file that is made shorter while it is open. Who has to live on reads
- *   the bytes into memory under the lock, which fails with an errno, and makes the calls over
- *   bytes: the host of docs/C.md does.
+ *   file is mapped. So does a file that is made shorter during a call, and, but for rlibreg_format,
+ *   a hole that is read on a full tmpfs. Who has to live on reads the bytes into memory under the
+ *   lock, which fails with an errno, and makes the calls over bytes: the host of docs/C.md does.
+ * - Each call looks at the file's length, and a change, before it and behind it, whether the path
+ *   still names the file. Where one isn't as it was the answer is S1, errno ESTALE, or why the path
+ *   can't be looked at: so a change isn't answered 0 which nobody would see.
  * - A disk that may only be read, or is on a file system for reading alone, can be looked at. There
  *   a sync that is answered EINVAL has nothing to do, and is taken for done; one that is answered
  *   EROFS has failed, since a file system that a failure has made read-only answers so.

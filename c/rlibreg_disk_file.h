@@ -71,6 +71,22 @@ void rlibreg_disk_file_close(struct disk_file *it);
 uint32_t rlibreg_image_in(rlibreg *registry, const void *program, size_t length, uint64_t base,
                           rlibreg_image *image, size_t first_bytes);
 
+/* ---- Where it is (rlibreg_place.c) */
+
+struct place {
+    int folder;          /* from which the path leads, where it doesn't begin at the root; or -1 */
+    char path[PATH_MAX]; /* empty where the file has no name yet */
+};
+
+/* Keeps the path of a file; and lets it go, and leaves errno as it is. */
+int rlibreg_place_take(struct place *it, const char *path);
+void rlibreg_place_end(struct place *it);
+
+/* Whether a file has the length with which it was mapped, and whether the path names it too. Else
+ * errno says why: ESTALE. */
+int rlibreg_has_length(const struct disk_file *file);
+int rlibreg_is_in_place(const struct place *it, const struct disk_file *file);
+
 /* ---- Making one where there is none (rlibreg_new_disk.c)
  *
  * The file is made under another name in the same folder. Who gives or takes away that name holds

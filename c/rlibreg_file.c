@@ -13,6 +13,7 @@ enum { SECTOR = 512, STEP_NUMBER = 4, SMALL_PLAN = 40, FIRST_TEXT = 4096, FIRST_
 
 struct rlibreg {
     struct disk_file file;
+    struct place place; /* of the file, where it was opened for changes */
     int may_change; /* whether it was opened for changes */
     int has_failed; /* whether a write or a sync failed */
     int limit;      /* how many milliseconds a lock is waited for, or less than 0: without end */
@@ -74,6 +75,7 @@ rlibreg *rlibreg_create(void) {
         return NULL;
     }
     it->file = NO_DISK_FILE;
+    it->place.folder = -1;
     it->limit = -1;
     it->text = text;
     it->text_room = FIRST_TEXT;
@@ -83,6 +85,7 @@ rlibreg *rlibreg_create(void) {
 
 /* Closes the file, and leaves errno as it is. */
 static void let_go(rlibreg *it) {
+    rlibreg_place_end(&it->place);
     rlibreg_disk_file_close(&it->file);
     it->may_change = it->has_failed = 0;
 }
@@ -125,6 +128,8 @@ static void begin_waiting(rlibreg *it) {
 
 static uint32_t open_file(rlibreg *it, const char *path, unsigned flags) {
     uint32_t status = rlibreg_disk_file_open(&it->file, path, flags);
+    if (!status && flags & RLIBREG_CHANGES && rlibreg_place_take(&it->place, path))
+        status = RLIBREG_SYSTEM;
     if (status) let_go(it);
     it->may_change = !status && flags & RLIBREG_CHANGES;
     return say(it, status, "");
@@ -136,12 +141,19 @@ uint32_t rlibreg_open(rlibreg *it, const char *path, unsigned flags) {
     return open_file(it, path, flags);
 }
 
-/* Why nothing can be asked of the file by this struct, or 0. */
+/* A write, a sync or a look at the file has failed. */
+static uint32_t fail(rlibreg *it) {
+    it->has_failed = 1;
+    return say(it, RLIBREG_DEVICE, "refused S1 Device\n");
+}
+
+/* Why nothing can be asked of the file by this struct, or 0. Of one that was cut the map can't be
+ * read: that would end the process. */
 static uint32_t refuse(rlibreg *it) {
     if (is_inherited(it)) return say(it, RLIBREG_BAD_ARGUMENT, "");
     if (it->has_failed) return say(it, RLIBREG_REOPEN, "refused S2 Reopen\n");
     rlibreg_disk_file_use(&it->file);
-    return RLIBREG_DONE;
+    return it->file.fd < 0 || rlibreg_has_length(&it->file) ? RLIBREG_DONE : fail(it);
 }
 
 /* ---- Carrying out a plan */
@@ -180,15 +192,17 @@ static size_t write_run(int fd, uint8_t *plan, size_t length) {
     return write_all(fd, plan + STEP_NUMBER, bytes, (off_t)first * SECTOR) ? 0 : at;
 }
 
-/* Makes the writes and syncs of a plan, in their order, up to the first that fails. The plan isn't
- * to be used again. */
-static int carry_out(int fd, uint8_t *plan, size_t length) {
+/* Makes the writes and syncs of a plan, in their order, up to the first that fails. The file's
+ * length is looked at before each: a write behind the end of one that was cut would hide that. The
+ * plan isn't to be used again. */
+static int carry_out(const struct disk_file *file, uint8_t *plan, size_t length) {
     for (size_t at = 0; at < length;) {
         size_t done = STEP_NUMBER;
+        if (!rlibreg_has_length(file)) return -1;
         if (number_at(plan + at) == RLIBREG_SYNC) {
-            if (fsync(fd)) return -1;
+            if (fsync(file->fd)) return -1;
         } else {
-            done = write_run(fd, plan + at, length - at);
+            done = write_run(file->fd, plan + at, length - at);
             if (!done) return -1;
         }
         at += done;
@@ -202,10 +216,12 @@ static int carry_out(int fd, uint8_t *plan, size_t length) {
 typedef uint32_t plan_call(rlibreg *it, const void *asked, size_t length, uint8_t *plan,
                            size_t room);
 
-static uint32_t plan_format(rlibreg *it, const void *asked, size_t length, uint8_t *plan,
+/* It reads the roots alone, of a copy that is given: a hole that is read through the map, on a full
+ * tmpfs, would end the process. */
+static uint32_t plan_format(rlibreg *it, const void *copy, size_t length, uint8_t *plan,
                             size_t room) {
-    (void)asked, (void)length;
-    return rlibreg_plan_format(it->file.bytes, it->file.length, plan, room, it->text, it->text_room,
+    (void)length;
+    return rlibreg_plan_format(copy, it->file.length, plan, room, it->text, it->text_room,
                                &it->answer);
 }
 
@@ -264,20 +280,23 @@ static int is_stream(const rlibreg *it) {
     return fstat(it->file.fd, &found) || rlibreg_stream_of_file(&found) >= 0;
 }
 
-/* Plans a change and carries it out. */
+/* Plans a change and carries it out. The file is looked at before and behind it: it may have been
+ * cut, or another have been put in its place. */
 static uint32_t change(rlibreg *it, plan_call *call, const void *asked, size_t length) {
     uint8_t *plan;
     uint32_t status = refuse(it);
     if (status) return status;
     if (!it->may_change) return say(it, RLIBREG_READ_ONLY, "");
     if (is_stream(it)) return say_system(it);
+    if (!rlibreg_is_in_place(&it->place, &it->file)) return fail(it);
     status = make_plan(it, call, asked, length, &plan);
     if (status) return status;
-    it->has_failed = carry_out(it->file.fd, plan, it->answer.bytes) != 0;
+    int has_failed = carry_out(&it->file, plan, it->answer.bytes) != 0 ||
+                     !rlibreg_is_in_place(&it->place, &it->file);
     int why = errno;
     free(plan);
     errno = why;
-    return it->has_failed ? say(it, RLIBREG_DEVICE, "refused S1 Device\n") : RLIBREG_DONE;
+    return has_failed ? fail(it) : RLIBREG_DONE;
 }
 
 uint32_t rlibreg_upgrade(rlibreg *it) {
@@ -314,29 +333,52 @@ uint32_t rlibreg_preload(rlibreg *it, const char *const *names, size_t count) {
 
 /* ---- Making a registry */
 
+/* Makes a registry on the file that is open, where it has none. */
+static uint32_t make_registry(rlibreg *it) {
+    const size_t length = it->file.length, front = 4096;
+    const int kind = MAP_PRIVATE | MAP_ANONYMOUS | MAP_NORESERVE;
+    uint8_t *copy = mmap(NULL, length, PROT_READ, kind, -1, 0);
+    if (copy == MAP_FAILED) return say_system(it);
+    ssize_t count = mprotect(copy, front, PROT_READ | PROT_WRITE)
+                        ? -1
+                        : pread(it->file.fd, copy, front, 0);
+    uint32_t status = count < 0 ? say_system(it) : change(it, plan_format, copy, 0);
+    int why = errno;
+    munmap(copy, length);
+    errno = why;
+    return status;
+}
+
 /* Makes a registry on the file that stands there. */
 static uint32_t format_file(rlibreg *it, const char *path, size_t length, unsigned flags) {
     uint32_t status = open_file(it, path, flags);
     if (status) return status;
     if (rlibreg_sync_folder(path)) return say_system(it);
     if (it->file.length != length) return say(it, RLIBREG_BAD_GEOMETRY, "refused S6 BadGeometry\n");
-    return change(it, plan_format, NULL, 0);
+    return make_registry(it);
 }
 
 /* Makes a registry on a new file, which gets its name once all of it is on the medium. */
 static uint32_t format_new(rlibreg *it, const char *path, size_t length, unsigned flags) {
-    struct new_disk new;
-    uint32_t status = rlibreg_new_disk_make(&new, path, length, &it->file, flags);
+    struct new_disk new = { .folder = -1 };
+    struct place place;
+    uint32_t status = RLIBREG_SYSTEM;
+    if (!rlibreg_place_take(&place, path))
+        status = rlibreg_new_disk_make(&new, path, length, &it->file, flags);
     if (status) {
         say(it, status, "");
     } else {
         it->may_change = 1;
-        status = change(it, plan_format, NULL, 0);
+        status = make_registry(it);
         if (!status) status = rlibreg_new_disk_name(&new, &it->file);
         if (status == RLIBREG_DEVICE) say(it, status, "refused S1 Device\n");
         if (status == RLIBREG_SYSTEM) say_system(it);
     }
     rlibreg_new_disk_end(&new, &it->file);
+    if (!status)
+        it->place = place;
+    else
+        rlibreg_place_end(&place);
     return status;
 }
 

@@ -7,6 +7,7 @@
 #include <stdio.h>
 #include <string.h>
 #include <sys/file.h>
+#include <sys/syscall.h>
 #include <unistd.h>
 
 #define ENDING ".rlibreg-new"
@@ -169,7 +170,8 @@ static int lacks_links(void) {
 /* Changes the other name for the file's own, where nothing has that. */
 static int rename_file(const struct new_disk *it) {
     struct stat found;
-    if (!renameat2(it->folder, it->other, it->folder, it->name, RENAME_NOREPLACE)) return 0;
+    const long no_replace = 1; /* musl has neither the call nor its flag */
+    if (!syscall(SYS_renameat2, it->folder, it->other, it->folder, it->name, no_replace)) return 0;
     if (errno != EINVAL && errno != ENOSYS) return -1;
     if (!look_at(it, it->name, &found)) {
         errno = EEXIST;

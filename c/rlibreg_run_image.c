@@ -177,7 +177,7 @@ static void refuse(const rlibreg *registry, uint32_t status, const char *disk) {
     if (status < 100) give_up(FAILED, disk, rlibreg_status_name(status));
     fputs(rlibreg_text(registry), stderr);
     if (status == RLIBREG_MISSING) advise(rlibreg_text(registry));
-    exit(status == RLIBREG_OUT_OF_MEMORY ? FAILED : REFUSED);
+    exit(status == RLIBREG_OUT_OF_MEMORY || status == RLIBREG_DEVICE ? FAILED : REFUSED);
 }
 
 /* Whether an image ends below what the kernel maps. */

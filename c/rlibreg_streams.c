@@ -48,8 +48,8 @@ int rlibreg_stream_of_file(const struct stat *file) {
     struct stat found;
     for (int number = STREAMS - 1; number >= 0; number--) {
         int how = fcntl(number, F_GETFL);
-        if (how < 0 || (how & O_ACCMODE) == O_RDONLY) continue;
-        if (fstat(number, &found)) return number;
+        if (how < 0 ? errno == EBADF : (how & O_ACCMODE) == O_RDONLY) continue;
+        if (how < 0 || fstat(number, &found)) return number;
         errno = ETXTBSY;
         if (is_same(&found, file)) return number;
     }

@@ -214,8 +214,10 @@ static int is_right(const struct change *change, const struct outcome *it) {
     if (change->opens) /* making.c knows more of each */
         return !it->status || ((it->status == RLIBREG_SYSTEM || it->status == RLIBREG_DEVICE) &&
                                (it->why == EIO || it->why == EAGAIN));
-    if (has_failed("stat")) return !it->status; /* the path is opened again */
-    if (has_failed("fstat")) return it->why == EIO && it->status == RLIBREG_SYSTEM;
+    if (has_failed("stat")) /* the path is opened again, or isn't known to name the file */
+        return !it->status || (it->why == EIO && it->status == RLIBREG_DEVICE && !it->opened);
+    if (has_failed("fstat") || has_failed("flags")) /* of the disk, or of a stream */
+        return it->why == EIO && it->status == RLIBREG_SYSTEM;
     return it->why == EIO && it->status == (it->opened ? RLIBREG_SYSTEM : RLIBREG_DEVICE);
 }
 

@@ -99,8 +99,8 @@ static void try_order(void) {
     watch();
     WANT(!format(0));
     unwatch();
-    WANT(!strcmp(watched.log, "open folder make lock-alone cut write sync read read-past map "
-                              "sync write sync link unlink sync-folder unlock "));
+    WANT(!strcmp(watched.log, "open folder folder make lock-alone cut write sync read read-past map "
+                              "copy read sync write sync link unlink sync-folder unlock "));
     WANT(here("disk "));
     clear();
 }
@@ -130,7 +130,7 @@ static long try_faults(int why) {
             clear();
             return n;
         }
-        int in_plan = has_failed("write") || has_failed("sync");
+        int in_plan = has_failed("write") || has_failed("sync") || has_failed("length");
         int has_name = has_failed("unlink") || has_failed("sync-folder");
         if (status) WANT(told == why || told == EAGAIN); /* that of a last look before the name */
         if (status) WANT(has_name || in_plan || status == RLIBREG_SYSTEM);

@@ -5,10 +5,8 @@
 #include "watched.h"
 
 #include <fcntl.h>
-#include <signal.h>
 #include <sys/file.h>
 #include <sys/stat.h>
-#include <sys/wait.h>
 #include <unistd.h>
 
 static char library[1 << 20];
@@ -52,7 +50,7 @@ static uint64_t generation_of(const char *path, unsigned flags) {
 /* ---- The order of the calls */
 
 static void try_order(void) {
-    const char *behind = "sync read read-past map unlock ";
+    const char *behind = "sync read read-past map ";
     const struct {
         unsigned flags;
         const char *lock;
@@ -61,8 +59,9 @@ static void try_order(void) {
                 { CHANGES, "lock-alone mark-changes" },
                 { CHANGES | WAIT, "lock-alone mark-changes" } };
     for (size_t i = 0; i < sizeof all / sizeof *all; i++) {
-        char wanted[128];
-        snprintf(wanted, sizeof wanted, "open %s %s", all[i].lock, behind);
+        char wanted[160];
+        snprintf(wanted, sizeof wanted, "open %s %s%sunlock ", all[i].lock, behind,
+                 all[i].flags & CHANGES ? "folder " : "");
         watch();
         WANT(!opens("disk", all[i].flags));
         WANT(!strcmp(watched.log, wanted));
@@ -223,26 +222,6 @@ static void try_kinds(void) {
     WANT(!rmdir("folder"));
 }
 
-/* ---- What can't be read */
-
-static void try_cut(void) {
-    int status;
-    rlibreg_listing listing;
-    format("short");
-    fflush(stdout);
-    pid_t child = fork();
-    WANT(child >= 0);
-    if (!child) {
-        rlibreg *it = rlibreg_create();
-        signal(SIGBUS, SIG_DFL);
-        WANT(!rlibreg_open(it, "short", 0) && !truncate("short", 0));
-        rlibreg_listing_of(it, &listing);
-        _exit(0);
-    }
-    WANT(waitpid(child, &status, 0) == child && WIFSIGNALED(status) && WTERMSIG(status) == SIGBUS);
-    WANT(!unlink("short"));
-}
-
 /* ---- Block devices */
 
 static void watch_device(void) {
@@ -264,7 +243,7 @@ static void try_devices(void) {
     watch_device();
     WANT(generation_of("disk", CHANGES) == generation);
     WANT(!strcmp(watched.log, "open lock-alone mark-changes open-alone sync read read-past map "
-                              "unlock "));
+                              "folder unlock "));
     watch_device();
     watched.refused = "open-alone";
     watched.because = EBUSY;
@@ -350,7 +329,6 @@ int main(int argc, char **argv) {
     try_own_locks();
     try_syncs();
     try_kinds();
-    try_cut();
     try_devices();
     try_held_devices();
     try_limits();

@@ -27,15 +27,15 @@ compiled() {
     mkdir -p "$objects/$1"
     (cd "$objects/$1" && gcc $2 -c "${@:3}")
 }
-library=$(printf "$here/../rlibreg_%s.c " file disk_file streams new_disk turn front status)
+library=$(printf "$here/../rlibreg_%s.c " file disk_file streams place new_disk turn front status)
 compiled library "$checked" $library
 beside="$objects/library/*.o $built/librlibreg.a"
 watched=$(printf ',--wrap=%s' open openat fstat stat fstatat fstatfs lseek nanosleep clock_gettime \
     flock sync_file_range fsync fcntl pread statx ioctl posix_fadvise mincore mmap ftruncate pwrite \
-    linkat renameat2 renameat unlink unlinkat)
+    linkat syscall renameat unlink unlinkat)
 watched="-Wl$watched $objects/tests/watched.o"
 plain='tool calls cuts turns'
-over_watched='opening streams front making forked contents findings'
+over_watched='opening streams place front making forked contents findings'
 compiled tests "$checked" $(printf "$here/%s.c " watched faults $plain $over_watched)
 for name in $plain; do gcc $checked -o "$room/$name" "$objects/tests/$name.o" $beside; done
 for name in faults $over_watched; do
@@ -66,6 +66,7 @@ alone() {
 alone faults "$data/strong.so" "$data/protected.so" "$data/program-1.so" b "$data/old-one.disk"
 alone opening "$data/strong.so" b
 alone streams "$data/strong.so" b
+alone place "$data/strong.so" b
 alone front
 alone making "$data/strong.so" b
 alone turns
@@ -82,7 +83,7 @@ fi
 alone forked "$data/strong.so" "$data/program-1.so" b
 alone contents "$data/strong.so" b
 alone findings "$data/strong.so" b "$data/old-one.disk"
-for part in cuts same held devices loader starting initializers documents streams; do
+for part in cuts same held devices full loader starting initializers documents streams; do
     (. "$here/$part.sh")
 done
 

@@ -45,8 +45,11 @@ for file in pipe . /dev/null; do
 = 126" "$(ended ./rlibreg-run disk $file)"
 done
 cp disk cut
-want 'a disk that is cut under it' "rlibreg-run: the disk can't be read
+want 'a disk that is cut under it' "refused S1 Device
 = 126" "$(ended env CUT=cut ./run-taken cut ./words)"
+cp disk cut
+want 'a disk that is cut while it is read' "rlibreg-run: the disk can't be read
+= 126" "$(ended env CUT_LATE=cut ./run-taken cut ./words)"
 # From an address space into which the kernel can't even map the loader, which it kills then; where
 # the system's loader comes before it, that tells the same by 127.
 few=

@@ -2,7 +2,7 @@
  * linked into the loader with --wrap=mmap and --wrap=rlibreg_bind. Of the calls of mmap that ask for
  * a place, the first FREE have it, the next TAKEN find it taken, and the others have it again. Where
  * ELSEWHERE is set those get another one, as from a kernel before 4.17. The file CUT is cut behind
- * each map of a file. */
+ * each map of a file, and CUT_LATE before a bind. */
 #define _GNU_SOURCE
 #include "../rlibreg.h"
 
@@ -15,6 +15,10 @@
 void *__real_mmap(void *at, size_t length, int how, int kind, int fd, off_t from);
 void *__wrap_mmap(void *at, size_t length, int how, int kind, int fd, off_t from);
 
+static void cut(const char *variable) {
+    if (getenv(variable) && truncate(getenv(variable), 0)) abort();
+}
+
 static long number_of(const char *variable) {
     return getenv(variable) ? atol(getenv(variable)) : 0;
 }
@@ -23,7 +27,7 @@ void *__wrap_mmap(void *at, size_t length, int how, int kind, int fd, off_t from
     static long calls;
     if (!(kind & MAP_FIXED_NOREPLACE)) {
         void *map = __real_mmap(at, length, how, kind, fd, from);
-        if (getenv("CUT") && truncate(getenv("CUT"), 0)) abort();
+        cut("CUT");
         return map;
     }
     long call = calls++ - number_of("FREE");
@@ -44,6 +48,7 @@ uint32_t __wrap_rlibreg_bind(const uint8_t *disk, size_t disk_length, const uint
                              size_t objects_room, rlibreg_segment *segments, size_t segments_room,
                              uint8_t *bytes, size_t bytes_room, char *text, size_t text_room,
                              rlibreg_answer *answer) {
+    cut("CUT_LATE");
     if (getenv("BINDS")) fputs("bind\n", stderr);
     return __real_rlibreg_bind(disk, disk_length, program, program_length, base, objects,
                                objects_room, segments, segments_room, bytes, bytes_room, text,

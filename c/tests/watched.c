@@ -11,6 +11,7 @@
 #include <sys/ioctl.h>
 #include <sys/mman.h>
 #include <sys/stat.h>
+#include <sys/syscall.h>
 #include <sys/vfs.h>
 #include <time.h>
 #include <unistd.h>
@@ -251,6 +252,8 @@ WRAPPED(int, mincore, void *from, size_t length, unsigned char *kept) {
 
 /* Before the roots were compared a map holds no page: it allows no access. */
 WRAPPED(void *, mmap, void *at, size_t length, int how, int kind, int fd, off_t from) {
+    if (kind & MAP_ANONYMOUS)
+        return fails("copy", 0) ? MAP_FAILED : __real_mmap(at, length, how, kind, fd, from);
     if (watched.is_on) WANT(kind == MAP_SHARED && from == 0);
     if (watched.is_on) WANT(how == PROT_READ || (how == PROT_NONE && length == 1));
     if (how == PROT_NONE) watched.forgotten = 0;
@@ -283,9 +286,19 @@ WRAPPED(int, linkat, int from, const char *old, int to, const char *new, int fla
     return fails("link", 0) ? -1 : __real_linkat(from, old, to, new, flags);
 }
 
-WRAPPED(int, renameat2, int from, const char *old, int to, const char *new, unsigned flags) {
-    WANT(!watched.is_on || (!watched.is_dirty && flags == RENAME_NOREPLACE));
-    return fails("rename-new", 0) ? -1 : __real_renameat2(from, old, to, new, flags);
+/* renameat2 alone is made so. */
+WRAPPED(long, syscall, long number, ...) {
+    va_list more;
+    va_start(more, number);
+    int from = va_arg(more, int);
+    const char *old = va_arg(more, const char *);
+    int to = va_arg(more, int);
+    const char *new = va_arg(more, const char *);
+    long flags = va_arg(more, long);
+    va_end(more);
+    WANT(number == SYS_renameat2 && (!watched.is_on || !watched.is_dirty));
+    WANT(flags == RENAME_NOREPLACE);
+    return fails("rename-new", 0) ? -1 : __real_syscall(number, from, old, to, new, flags);
 }
 
 WRAPPED(int, renameat, int from, const char *old, int to, const char *new) {

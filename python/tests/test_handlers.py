@@ -127,7 +127,7 @@ class Handlers(OnDisk):
                 while True:
                     self.try_all(wrong)
             self.assertEqual(wrong, [])
-            self.assertEqual(len(os.listdir('/proc/self/fd')), files - 1)
+            self.assertEqual(len(os.listdir('/proc/self/fd')), files - 2)  # the disk, and its folder
             self.registry = Registry(self.disk, changes=True)
         self.assertGreater(sum(within), 10)
 

@@ -1,0 +1,199 @@
+/* place LIBRARY NAME has the file of a disk be cut, made longer, replaced and taken away, before a
+ * change and at each of its calls of the system. LIBRARY has the SONAME NAME. */
+#define _GNU_SOURCE
+#include "watched.h"
+
+#include <fcntl.h>
+#include <limits.h>
+#include <sys/stat.h>
+#include <unistd.h>
+
+enum { SECTORS = 128, CHANGES = RLIBREG_CHANGES };
+
+static char library[1 << 20];
+static size_t library_length;
+static const char *name;
+
+static rlibreg *open_disk(const char *path) {
+    rlibreg *it = rlibreg_create();
+    WANT(it && !rlibreg_open(it, path, CHANGES));
+    return it;
+}
+
+static rlibreg *make_disk(const char *path) {
+    rlibreg *it = rlibreg_create();
+    WANT(it && !rlibreg_format(it, path, SECTORS, 0));
+    return it;
+}
+
+static uint32_t install(rlibreg *it) {
+    return rlibreg_install(it, library, library_length);
+}
+
+/* Whether a call was answered S1, since the file isn't as it was. */
+static int has_changed(const rlibreg *it, uint32_t status, int why) {
+    return status == RLIBREG_DEVICE && errno == why && rlibreg_errno(it) == why &&
+           !strcmp(rlibreg_text(it), "refused S1 Device\n");
+}
+
+/* ---- What becomes of the file */
+
+static void cut(void) {
+    WANT(!truncate("disk", SECTORS * 256));
+}
+
+static void cut_whole(void) {
+    WANT(!truncate("disk", 0));
+}
+
+static void make_longer(void) {
+    WANT(!truncate("disk", SECTORS * 512 + 1));
+}
+
+static void replace(void) {
+    WANT(!rename("other", "disk"));
+}
+
+static void take_away(void) {
+    WANT(!unlink("disk"));
+}
+
+static void move(void) {
+    WANT(!rename("disk", "moved"));
+}
+
+static const struct {
+    void (*do_it)(void);
+    int why, is_cut;
+} all[] = { { cut, ESTALE, 1 },     { cut_whole, ESTALE, 1 }, { make_longer, ESTALE, 0 },
+            { replace, ESTALE, 0 }, { take_away, ENOENT, 0 }, { move, ENOENT, 0 } };
+enum { ALL = sizeof all / sizeof *all };
+
+static void prepare(void) {
+    unlink("disk");
+    unlink("moved");
+    unlink("other");
+    rlibreg_close(make_disk("other"));
+    rlibreg_close(make_disk("disk"));
+}
+
+static long writes_of(const char *log) {
+    long count = 0;
+    while ((log = strstr(log, "write "))) log++, count++;
+    return count;
+}
+
+/* It becomes so before a change: nothing is written. */
+static void try_before(void) {
+    for (int i = 0; i < ALL; i++) {
+        prepare();
+        rlibreg *it = open_disk("disk");
+        all[i].do_it();
+        watch();
+        WANT(has_changed(it, install(it), all[i].why) && !made("write") && !made("sync"));
+        unwatch();
+        WANT(install(it) == RLIBREG_REOPEN);
+        rlibreg_close(it);
+    }
+}
+
+/* It becomes so at one of the calls of a change, the last sync among them. */
+static long due;
+static void (*doing)(void);
+
+static void do_it_once(const char *word) {
+    if ((!strcmp(word, "write") || !strcmp(word, "sync")) && due-- == 0) doing();
+}
+
+static long try_meanwhile(void) {
+    long tries = 0;
+    for (int i = 0; i < ALL; i++) {
+        for (long n = 0;; n++) {
+            prepare();
+            rlibreg *it = open_disk("disk");
+            due = n;
+            doing = all[i].do_it;
+            watch();
+            watched.before = do_it_once;
+            uint32_t status = install(it);
+            int why = errno;
+            unwatch();
+            errno = why;
+            WANT(due >= 0 ? !status : has_changed(it, status, all[i].why));
+            if (due < 0 && n == 0 && all[i].is_cut) WANT(writes_of(watched.log) == 0);
+            rlibreg_close(it);
+            if (due >= 0) break;
+            tries++;
+        }
+    }
+    return tries;
+}
+
+/* Of a file that was cut nothing is read through the map. */
+static uint32_t look_by(rlibreg *it, int number) {
+    rlibreg_listing listing;
+    rlibreg_image image;
+    rlibreg_information information;
+    rlibreg_findings findings;
+    void *bytes;
+    size_t length;
+    switch (number) {
+    case 0: return rlibreg_listing_of(it, &listing);
+    case 1: return rlibreg_image_of(it, library, library_length, 0, &image);
+    case 2: return rlibreg_file_of(it, name, &bytes, &length);
+    case 3: return rlibreg_findings_of(it, &findings);
+    case 4: return rlibreg_upgrade(it);
+    }
+    return rlibreg_info_of(it, &information);
+}
+
+static void try_looks(void) {
+    for (int number = 0; number < 6; number++) {
+        prepare();
+        rlibreg *it = open_disk("disk");
+        cut_whole();
+        WANT(has_changed(it, look_by(it, number), ESTALE));
+        WANT(look_by(it, number) == RLIBREG_REOPEN);
+        rlibreg_close(it);
+    }
+}
+
+/* A path leads from where it was given, wherever the process goes then. */
+static void try_paths(void) {
+    char whole[PATH_MAX + 8];
+    prepare();
+    WANT(getcwd(whole, PATH_MAX) && !mkdir("folder", 0777) && !symlink("disk", "link"));
+    strcat(whole, "/disk");
+    const char *paths[] = { "disk", "./folder/../disk", "link", whole };
+    for (size_t i = 0; i < sizeof paths / sizeof *paths; i++) {
+        for (int makes = 0; makes < 2; makes++) {
+            if (makes) unlink("disk");
+            if (makes && paths[i][0] == 'l') continue; /* a link to nothing: it isn't made */
+            rlibreg *it = makes ? make_disk(paths[i]) : open_disk(paths[i]);
+            WANT(!chdir("folder"));
+            if (!makes) WANT(!rlibreg_upgrade(it));
+            WANT(!install(it) && !rlibreg_remove(it, name) && !chdir(".."));
+            take_away();
+            WANT(has_changed(it, install(it), ENOENT));
+            rlibreg_close(it);
+        }
+        prepare();
+    }
+    WANT(!rmdir("folder") && !unlink("link"));
+}
+
+int main(int argc, char **argv) {
+    WANT(argc == 3);
+    FILE *file = fopen(argv[1], "rb");
+    WANT(file && (library_length = fread(library, 1, sizeof library, file)) && !fclose(file));
+    name = argv[2];
+    try_before();
+    long tries = try_meanwhile();
+    WANT(tries >= 30);
+    try_looks();
+    try_paths();
+    WANT(!unlink("disk") && !unlink("other") && !strcmp(names_here(), ""));
+    printf("place: a file that is cut, replaced or gone, before a change and at %ld calls: S1\n",
+           tries);
+    return 0;
+}
