@@ -211,6 +211,7 @@ static int is_right(const struct change *change, const struct outcome *it) {
     if (has_failed("attributes") || has_failed("past") || has_failed("unlock") ||
         has_failed("system") || has_failed("mark-changes") || has_failed("unmark"))
         return !it->status; /* it goes on without */
+    if (has_failed("flags") && !it->status) return 1; /* those of a stream */
     if (change->opens) /* making.c knows more of each */
         return !it->status || ((it->status == RLIBREG_SYSTEM || it->status == RLIBREG_DEVICE) &&
                                (it->why == EIO || it->why == EAGAIN));

@@ -82,7 +82,7 @@ static void try_faults(unsigned flags) {
         WANT(!status || (status == RLIBREG_SYSTEM && why == EIO));
         /* It is opened once more, goes on without, or has nothing left to do. */
         WANT(!status == !!strstr("stat attributes past unlock", watched.failed) ||
-             (!status && strstr("system look mark-changes unmark", watched.failed)));
+             (!status && strstr("flags system look mark-changes unmark", watched.failed)));
         WANT(!is_held("disk"));
     }
 }
