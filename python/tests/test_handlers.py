@@ -57,18 +57,18 @@ class Handlers(OnDisk):
 
     def strike(self, call):
         """Has the handler of a signal make a call a millisecond after the one before, until the test
-        ends."""
+        ends; and gives what says whether to go on: for a while, and until enough was seen."""
         def handler(*_):
             try:
                 call()
             finally:
-                signal.setitimer(signal.ITIMER_REAL, 0.001 if time.monotonic() < end else 0)
+                signal.setitimer(signal.ITIMER_REAL, 0.001)
 
         end = time.monotonic() + SECONDS
         signal.signal(signal.SIGALRM, handler)
         self.addCleanup(signal.signal, signal.SIGALRM, signal.SIG_IGN)
         signal.setitimer(signal.ITIMER_REAL, 0.001)
-        return end
+        return lambda seen: time.monotonic() < end + (0 if len(seen) > 10 else 60)
 
     def in_threads(self, count, work):
         threads = [threading.Thread(target=work) for _ in range(count)]
@@ -86,8 +86,8 @@ class Handlers(OnDisk):
 
         self.in_threads(1, work)
         self.addCleanup(ended.append, 1)
-        end = self.strike(lambda: self.try_all(wrong, busy))
-        while time.monotonic() < end:
+        goes_on = self.strike(lambda: self.try_all(wrong, busy))
+        while goes_on(busy):
             self.try_all(wrong)
         self.assertEqual(wrong, [])
         self.assertGreater(len(busy), 10)
@@ -106,8 +106,8 @@ class Handlers(OnDisk):
 
         self.in_threads(1, work)
         self.addCleanup(ended.append, 1)
-        end = self.strike(handler)
-        while time.monotonic() < end:
+        goes_on = self.strike(handler)
+        while goes_on(ran):
             time.sleep(0.001)
         self.assertEqual(wrong, [])
         self.assertGreater(len(ran), 10)
@@ -116,12 +116,12 @@ class Handlers(OnDisk):
         within, files = [], len(os.listdir('/proc/self/fd'))
 
         def handler():
-            within.append(self.registry._handle.turn.is_taken)
+            within.extend([1] * self.registry._handle.turn.is_taken)
             self.registry.close()
             self.assertRaises(rlibreg.Closed, self.registry.list)
 
-        end = self.strike(handler)
-        while time.monotonic() < end:
+        goes_on = self.strike(handler)
+        while goes_on(within):
             wrong = []
             with self.assertRaises(rlibreg.Closed):
                 while True:
@@ -129,7 +129,7 @@ class Handlers(OnDisk):
             self.assertEqual(wrong, [])
             self.assertEqual(len(os.listdir('/proc/self/fd')), files - 2)  # the disk, and its folder
             self.registry = Registry(self.disk, changes=True)
-        self.assertGreater(sum(within), 10)
+        self.assertGreater(len(within), 10)
 
     @unittest.skipIf(sys.version_info < (3, 10), 'a `with` may end without its end')
     def test_exceptions_of_a_handler(self):
@@ -140,11 +140,11 @@ class Handlers(OnDisk):
             while due:
                 raise ZeroDivisionError(due.pop())
 
-        end = self.strike(handler)
-        while time.monotonic() < end:
+        goes_on = self.strike(handler)
+        while goes_on(raised):
             try:
                 due.append(1)
-                while due and time.monotonic() < end:
+                while due:
                     self.try_all(wrong)
             except ZeroDivisionError:
                 raised.append(1)
@@ -185,13 +185,13 @@ class Handlers(OnDisk):
                 if not children[-1]:
                     self.registry.close()
 
-        end = self.strike(handler)
-        while time.monotonic() < end and len(children) < 10:
+        goes_on = self.strike(handler)
+        while goes_on(children) and len(children) < 10:
             try:
                 self.try_all([])
             except BaseException as error:
                 os._exit(0 if isinstance(error, rlibreg.Error) and not children[-1] else 1)
-        self.assertGreater(len(children), 1)
+        self.assertEqual(len(children), 10)
         for it in children:
             self.assertEqual(os.waitpid(it, 0)[1], 0)
         self.refused(Status.HELD, Registry, self.disk)
