@@ -83,7 +83,7 @@ fi
 alone forked "$data/strong.so" "$data/program-1.so" b
 alone contents "$data/strong.so" b
 alone findings "$data/strong.so" b "$data/old-one.disk"
-for part in cuts same held devices full loader starting initializers documents streams; do
+for part in cuts same held recipe devices full loader starting initializers documents streams; do
     (. "$here/$part.sh")
 done
 
