@@ -2,8 +2,9 @@
 # install.sh PREFIX [FOLDER]     installs what build.sh has put into FOLDER (c/out) below PREFIX
 # install.sh --remove LIST       removes what is in LIST: PREFIX/share/rlibreg/installed
 #
-# DESTDIR stands before every path. PYTHONDIR is where the Python module goes; without it that is
-# the folder below PREFIX/lib in which python3 looks for modules, or PREFIX/share/rlibreg.
+# DESTDIR stands before every path, and LIST is one with it or without. PYTHONDIR is where the Python
+# module goes; without it that is the folder below PREFIX/lib in which python3 looks for modules, or
+# PREFIX/share/rlibreg. Both are absolute.
 #
 # A file gets its name once it is whole, and the list is written before, so this can be run again
 # at any time. What an earlier run installed stays in the list.
@@ -96,15 +97,22 @@ write_list() {
     } | sort -u >> "$2"
 }
 
+# check_path NAME PATH: it is absolute, and has no character that a pkg-config file or the list can't
+# have.
+check_path() {
+    case $2 in
+        [!/]*) refuse "$1 has to be an absolute path, and is $2" ;;
+        *[!A-Za-z0-9/._+~=,@%-]*) refuse "$1 has a character that it can't have, and is $2" ;;
+    esac
+}
+
 install_all() {
     local prefix=${1%/} built=${2:-$here/out} at room version modules list
-    [ "${1#/}" != "$1" ] || refuse "PREFIX has to be an absolute path, and is $1"
-    case $prefix in *[!A-Za-z0-9/._+~=,@%-]*)
-        refuse "PREFIX has a character that a pkg-config file can't have, and is $1"
-        ;;
-    esac
+    check_path PREFIX "$1"
+    check_path PYTHONDIR "${PYTHONDIR:-/}"
     version=$("$here/version.sh")
     modules=${PYTHONDIR:-$(python_folder "$prefix")}
+    modules=${modules%/}
     list=$prefix/share/rlibreg/installed
     room=$(mktemp -d)
     trap "rm -rf '$room'" EXIT
@@ -134,14 +142,18 @@ remove_file() {
 # Files, the list, and then the folders that were made for them, from the deepest on, where nothing
 # else is in them.
 remove_all() {
-    local lines path
-    [ -f "$1" ] || refuse "there is no list $1"
-    [ "$(head -n 1 "$1")" = "$mark" ] || refuse "$1 is no list of what was installed"
-    mapfile -t lines <<< "$(sort -r "$1")"
+    local lines path list=$root${1#"$root"} own=0
+    [ -f "$list" ] || refuse "there is no list $list"
+    [ "$(head -n 1 "$list")" = "$mark" ] || refuse "$list is no list of what was installed"
+    mapfile -t lines <<< "$(sort -r "$list")"
     for path in "${lines[@]}"; do
-        case $path in /*[!/]) remove_file "$root$path" "$1" ;; esac
+        [ ! "$root$path" -ef "$list" ] || own=1 # it names itself, where DESTDIR is the right one
     done
-    rm "$1"
+    [ $own = 1 ] || refuse "$list is of what was installed with another DESTDIR"
+    for path in "${lines[@]}"; do
+        case $path in /*[!/]) remove_file "$root$path" "$list" ;; esac
+    done
+    rm "$list"
     for path in "${lines[@]}"; do
         case $path in /*/) rmdir "$root$path" 2> /dev/null || true ;; esac
     done

@@ -11,6 +11,14 @@ want 'where nothing is built' \
 = 1' "$(ended "$install" $prefix nowhere | grep -v '^left out')"
 want 'what it left' '' "$(ls -A "$target" 2> /dev/null)"
 
+for path in relative ./a/b 'with a blank'; do
+    want "PREFIX $path" 'c/install.sh: PREFIX has to be an absolute path, and is '"$path
+= 1" "$(ended timeout 20 "$install" "$path" "$built")"
+    want "PYTHONDIR $path" 'c/install.sh: PYTHONDIR has to be an absolute path, and is '"$path
+= 1" "$(PYTHONDIR=$path ended timeout 20 "$install" $prefix "$built")"
+done
+want 'what they left' '' "$(ls -A "$target" 2> /dev/null)"
+
 "$install" $prefix "$built" > said
 "$install" $prefix "$built" > again
 want 'a second time' "$(< said)" "$(< again)"
@@ -34,6 +42,14 @@ import rlibreg
 assert rlibreg.Registry("installed.disk").list() == (0, [], [])'
 fi
 
+want 'another DESTDIR' "c/install.sh: $list is of what was installed with another DESTDIR
+= 1" "$(DESTDIR= ended "$install" --remove "$list")"
 "$install" --remove "$list"
 want 'what is left' '' "$(ls -A "$target")"
+for removed in $prefix/share/rlibreg/installed target$prefix/share/rlibreg/installed; do
+    DESTDIR=target PYTHONDIR=/modules/ "$install" $prefix "$built" > said
+    [ -e target/modules/rlibreg ]
+    DESTDIR=target "$install" --remove $removed
+    want 'what is left of a relative DESTDIR' '' "$(ls -A target)"
+done
 echo "installed: $(sed -n 's/^installed \(.* files\) .*/\1/p' said), used, and removed"
