@@ -9,5 +9,6 @@ pub mod Lengths
 pub mod Exact
 pub mod Placing
 pub mod Congruent
+pub mod Counting
 pub mod Final
 pub mod Refusing

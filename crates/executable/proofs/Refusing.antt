@@ -10,49 +10,81 @@ use Rattle.image.specs.Image.{MemoryImage, ImageSegment}
 use Rattle.image.specs.declared.object.ImageObject.{ImageObject}
 use Rattle.executable.specs.Constant.{MOST_HEADERS}
 use Rattle.executable.specs.Entry.{entry_of, entry_among, is_code}
-use Rattle.executable.specs.Initializers.{first_initialized}
+use Rattle.executable.specs.Initializers.{first_initialized, first_finalized, is_preinitialized}
+use Rattle.executable.specs.inside.Calls.{HasNoCalls}
 use Rattle.executable.specs.Piece.{is_rising, pieces_of}
 use Rattle.executable.specs.Place.{header_count_of, place_of}
 use Rattle.executable.specs.Refusal.{executable_refusal}
+use Rattle.executable.specs.StaticPie.{is_static_pie}
 use Rattle.executable.specs.declared.refusal.ExecutableRefusal.{ExecutableRefusal}
-use Rattle.executable.specs.declared.refusal.ExecutableRefusal.TheVariants.{NoEntry, Initializers, OutOfOrder, TooManyHeaders, NoRoom}
+use Rattle.executable.specs.declared.refusal.ExecutableRefusal.TheVariants.{NoEntry, StaticPie, PreInitializers, Initializers, Finalizers, OutOfOrder, TooManyHeaders, NoRoom}
 
-abbrev refusal_by : Option ℕ → Option (List ℕ) → Bool → Bool → Option ℕ → Option ExecutableRefusal
-refusal_by entry name rising many place =
-    first_of ((NoEntry when is_none entry) ∷ option_map Initializers name ∷ (OutOfOrder when not rising) ∷ (TooManyHeaders when many) ∷ (NoRoom when is_none place) ∷ [])
+abbrev refusal_by : Option ℕ → Bool → Bool → Option (List ℕ) → Option (List ℕ) → Bool → Bool → Option ℕ → Option ExecutableRefusal
+refusal_by entry static before name last rising many place =
+    first_of ((NoEntry when is_none entry) ∷ (StaticPie when static) ∷ (PreInitializers when before) ∷ option_map Initializers name ∷ option_map Finalizers last
+    ∷ (OutOfOrder when not rising) ∷ (TooManyHeaders when many) ∷ (NoRoom when is_none place) ∷ [])
 
-refusal-is : (image : MemoryImage) (entry : Option ℕ) (name : Option (List ℕ)) (rising many : Bool) (place : Option ℕ)
-    → entry_of image ≡ entry → first_initialized image ≡ name → is_rising 0 image.segments ≡ rising
-    → nat_lt MOST_HEADERS (header_count_of (pieces_of image.segments)) ≡ many → place_of (pieces_of image.segments) ≡ place
-    → executable_refusal image ≡ refusal_by entry name rising many place
+abbrev are_many : MemoryImage → Bool
+are_many image = nat_lt MOST_HEADERS (header_count_of (pieces_of image.segments))
+
+abbrev place_in : MemoryImage → Option ℕ
+place_in image = place_of (pieces_of image.segments)
+
+-- the refusal where there is an entry
+with-entry : (image : MemoryImage) (entry : ℕ) (static before : Bool) (name last : Option (List ℕ)) → entry_of image ≡ Some entry → is_static_pie image ≡ static → is_preinitialized image ≡ before
+    → first_initialized image ≡ name → first_finalized image ≡ last
+    → executable_refusal image ≡ refusal_by (Some entry) static before name last (is_rising 0 image.segments) (are_many image) (place_in image)
 unfolding executable_refusal
-refusal-is image entry name rising many place e n r m p =
-    ap (λ x. refusal_by x (first_initialized image) (is_rising 0 image.segments) (nat_lt MOST_HEADERS (header_count_of (pieces_of image.segments))) (place_of (pieces_of image.segments))) e
-    ∙ ap (λ x. refusal_by entry x (is_rising 0 image.segments) (nat_lt MOST_HEADERS (header_count_of (pieces_of image.segments))) (place_of (pieces_of image.segments))) n
-    ∙ ap (λ x. refusal_by entry name x (nat_lt MOST_HEADERS (header_count_of (pieces_of image.segments))) (place_of (pieces_of image.segments))) r
-    ∙ ap (λ x. refusal_by entry name rising x (place_of (pieces_of image.segments))) m
-    ∙ ap (λ x. refusal_by entry name rising many x) p
+with-entry image entry static before name last e t b n l =
+    ap (λ x. refusal_by x (is_static_pie image) (is_preinitialized image) (first_initialized image) (first_finalized image) (is_rising 0 image.segments) (are_many image) (place_in image)) e
+    ∙ ap (λ x. refusal_by (Some entry) x (is_preinitialized image) (first_initialized image) (first_finalized image) (is_rising 0 image.segments) (are_many image) (place_in image)) t
+    ∙ ap (λ x. refusal_by (Some entry) static x (first_initialized image) (first_finalized image) (is_rising 0 image.segments) (are_many image) (place_in image)) b
+    ∙ ap (λ x. refusal_by (Some entry) static before x (first_finalized image) (is_rising 0 image.segments) (are_many image) (place_in image)) n
+    ∙ ap (λ x. refusal_by (Some entry) static before name x (is_rising 0 image.segments) (are_many image) (place_in image)) l
+
+-- the refusal where nothing else would be called
+in-order : (image : MemoryImage) (entry : ℕ) (rising many : Bool) (place : Option ℕ) → entry_of image ≡ Some entry → HasNoCalls image
+    → is_rising 0 image.segments ≡ rising → are_many image ≡ many → place_in image ≡ place
+    → executable_refusal image ≡ refusal_by (Some entry) false false None None rising many place
+in-order image entry rising many place e c r m p =
+    with-entry image entry false false None None e c.static c.before c.initialized c.finalized
+    ∙ ap (λ x. refusal_by (Some entry) false false None None x (are_many image) (place_in image)) r
+    ∙ ap (λ x. refusal_by (Some entry) false false None None rising x (place_in image)) m
+    ∙ ap (λ x. refusal_by (Some entry) false false None None rising many x) p
 
 pub no-entry : (image : MemoryImage) → entry_of image ≡ None → executable_refusal image ≡ Some NoEntry
-no-entry image e = refusal-is image None _ _ _ _ e refl refl refl refl
+unfolding executable_refusal
+no-entry image e =
+    ap (λ x. refusal_by x (is_static_pie image) (is_preinitialized image) (first_initialized image) (first_finalized image) (is_rising 0 image.segments) (are_many image) (place_in image)) e
 
-pub initializers : (image : MemoryImage) (entry : ℕ) (name : List ℕ) → entry_of image ≡ Some entry → first_initialized image ≡ Some name → executable_refusal image ≡ Some (Initializers name)
-initializers image entry name e n = refusal-is image (Some entry) (Some name) _ _ _ e n refl refl refl
+pub static-pie : (image : MemoryImage) (entry : ℕ) → entry_of image ≡ Some entry → is_static_pie image ≡ true → executable_refusal image ≡ Some StaticPie
+static-pie image entry e t = with-entry image entry true _ _ _ e t refl refl refl
 
-pub out-of-order : (image : MemoryImage) (entry : ℕ) → entry_of image ≡ Some entry → first_initialized image ≡ None → is_rising 0 image.segments ≡ false → executable_refusal image ≡ Some OutOfOrder
-out-of-order image entry e n r = refusal-is image (Some entry) None false _ _ e n r refl refl
+pub pre-initializers : (image : MemoryImage) (entry : ℕ) → entry_of image ≡ Some entry → is_static_pie image ≡ false → is_preinitialized image ≡ true → executable_refusal image ≡ Some PreInitializers
+pre-initializers image entry e t b = with-entry image entry false true _ _ e t b refl refl
 
-pub too-many : (image : MemoryImage) (entry : ℕ) → entry_of image ≡ Some entry → first_initialized image ≡ None → is_rising 0 image.segments ≡ true
+pub initializers : (image : MemoryImage) (entry : ℕ) (name : List ℕ) → entry_of image ≡ Some entry → is_static_pie image ≡ false → is_preinitialized image ≡ false → first_initialized image ≡ Some name
+    → executable_refusal image ≡ Some (Initializers name)
+initializers image entry name e t b n = with-entry image entry false false (Some name) _ e t b n refl
+
+pub finalizers : (image : MemoryImage) (entry : ℕ) (name : List ℕ) → entry_of image ≡ Some entry → is_static_pie image ≡ false → is_preinitialized image ≡ false → first_initialized image ≡ None
+    → first_finalized image ≡ Some name → executable_refusal image ≡ Some (Finalizers name)
+finalizers image entry name e t b n l = with-entry image entry false false None (Some name) e t b n l
+
+pub out-of-order : (image : MemoryImage) (entry : ℕ) → entry_of image ≡ Some entry → HasNoCalls image → is_rising 0 image.segments ≡ false → executable_refusal image ≡ Some OutOfOrder
+out-of-order image entry e c r = in-order image entry false _ _ e c r refl refl
+
+pub too-many : (image : MemoryImage) (entry : ℕ) → entry_of image ≡ Some entry → HasNoCalls image → is_rising 0 image.segments ≡ true
     → MOST_HEADERS < header_count_of (pieces_of image.segments) → executable_refusal image ≡ Some TooManyHeaders
-too-many image entry e n r m = refusal-is image (Some entry) None true true _ e n r (grind (arith, nat_tests)) refl
+too-many image entry e c r m = in-order image entry true true _ e c r (grind (arith, nat_tests)) refl
 
-pub no-room : (image : MemoryImage) (entry : ℕ) → entry_of image ≡ Some entry → first_initialized image ≡ None → is_rising 0 image.segments ≡ true
+pub no-room : (image : MemoryImage) (entry : ℕ) → entry_of image ≡ Some entry → HasNoCalls image → is_rising 0 image.segments ≡ true
     → header_count_of (pieces_of image.segments) ≤ MOST_HEADERS → place_of (pieces_of image.segments) ≡ None → executable_refusal image ≡ Some NoRoom
-no-room image entry e n r m p = refusal-is image (Some entry) None true false None e n r (grind (arith, nat_tests)) p
+no-room image entry e c r m p = in-order image entry true false None e c r (grind (arith, nat_tests)) p
 
-pub none-applies : (image : MemoryImage) (entry place : ℕ) → entry_of image ≡ Some entry → first_initialized image ≡ None → is_rising 0 image.segments ≡ true
+pub none-applies : (image : MemoryImage) (entry place : ℕ) → entry_of image ≡ Some entry → HasNoCalls image → is_rising 0 image.segments ≡ true
     → header_count_of (pieces_of image.segments) ≤ MOST_HEADERS → place_of (pieces_of image.segments) ≡ Some place → executable_refusal image ≡ None
-none-applies image entry place e n r m p = refusal-is image (Some entry) None true false (Some place) e n r (grind (arith, nat_tests)) p
+none-applies image entry place e c r m p = in-order image entry true false (Some place) e c r (grind (arith, nat_tests)) p
 
 entry-by : (a entry : ℕ) (x t y : Bool) → nat_le a MEMORY_LIMIT ≡ t → cond (x && t && y) (Some a) None ≡ Some entry → entry ≤ MEMORY_LIMIT
 entry-by a entry true true true e h = let same : a ≡ entry = cc in let low : a ≤ MEMORY_LIMIT = grind (arith, nat_tests) in omega (arith, same, low)

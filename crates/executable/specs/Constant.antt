@@ -23,7 +23,35 @@ DT_INIT_ARRAY = 25
 abbrev pub DT_INIT_ARRAYSZ : ℕ
 DT_INIT_ARRAYSZ = 27
 
--- bytes of an entry of that array
+-- the same of what is called at the end
+abbrev pub DT_FINI : ℕ
+DT_FINI = 13
+
+abbrev pub DT_FINI_ARRAY : ℕ
+DT_FINI_ARRAY = 26
+
+abbrev pub DT_FINI_ARRAYSZ : ℕ
+DT_FINI_ARRAYSZ = 28
+
+-- an array of functions that are called before all others, of a program alone; its size in bytes
+abbrev pub DT_PREINIT_ARRAY : ℕ
+DT_PREINIT_ARRAY = 32
+
+abbrev pub DT_PREINIT_ARRAYSZ : ℕ
+DT_PREINIT_ARRAYSZ = 33
+
+-- flags of an object, by d_tag; of these, that it is a position-independent executable
+abbrev pub DT_FLAGS_1 : ℕ
+DT_FLAGS_1 = 0x6ffffffb
+
+abbrev pub DF_1_PIE : ℕ
+DF_1_PIE = 0x08000000
+
+-- the name of an interpreter, by p_type
+abbrev pub PT_INTERP : ℕ
+PT_INTERP = 3
+
+-- bytes of an entry of such an array
 abbrev pub ARRAY_ENTRY_SIZE : ℕ
 ARRAY_ENTRY_SIZE = 8
 

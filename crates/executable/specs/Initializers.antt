@@ -1,5 +1,5 @@
--- Libraries that want something to be run before the program (gABI chapter 5, initialization functions).
-use Rattle.std.specs.Prelude.{ℕ, ◌+◌, ◌-◌, List, [], ◌∷◌, take, drop, Option, Some, None, Bool, ◌&&◌, ◌||◌, nat_le, if◌then◌else◌}
+-- Functions that a loader calls before a program and behind it (gABI chapter 5, initialization and termination functions).
+use Rattle.std.specs.Prelude.{ℕ, ◌+◌, ◌-◌, List, [], ◌∷◌, take, drop, Option, Some, None, Bool, false, ◌&&◌, ◌||◌, nat_le, if◌then◌else◌}
 use Rattle.std.specs.List.{list_any, find}
 use Rattle.std.specs.Option.{option_map_or}
 use Rattle.elf_file.specs.Dynamic.{entries_in, has_tag}
@@ -7,15 +7,20 @@ use Rattle.image.specs.Constant.{MEMORY_LIMIT}
 use Rattle.image.specs.Heading.{holds}
 use Rattle.image.specs.Image.{ImageSegment, MemoryImage, heading}
 use Rattle.image.specs.declared.object.ImageObject.{ImageObject}
-use Rattle.executable.specs.Constant.{DT_INIT, DT_INIT_ARRAY, DT_INIT_ARRAYSZ, ARRAY_ENTRY_SIZE}
+use Rattle.executable.specs.Constant.{DT_INIT, DT_INIT_ARRAY, DT_INIT_ARRAYSZ, DT_FINI, DT_FINI_ARRAY, DT_FINI_ARRAYSZ}
+use Rattle.executable.specs.Constant.{DT_PREINIT_ARRAY, DT_PREINIT_ARRAYSZ, ARRAY_ENTRY_SIZE}
 
 -- a dynamic section has a tag with at least this value
 unfoldable pub has_from : List ℕ → ℕ → ℕ → Bool
 has_from section tag least = list_any (λ e. has_tag tag e && nat_le least e.value) (entries_in section)
 
--- it names a function that initializes, or an array of such with an entry
-abbrev pub has_initializers : List ℕ → Bool
-has_initializers section = has_from section DT_INIT 0 || (has_from section DT_INIT_ARRAY 0 && has_from section DT_INIT_ARRAYSZ ARRAY_ENTRY_SIZE)
+-- it names an array of functions, by the tags of the array and of its size, with an entry
+abbrev pub has_array : List ℕ → ℕ → ℕ → Bool
+has_array section array size = has_from section array 0 && has_from section size ARRAY_ENTRY_SIZE
+
+-- it names a function, by its tag, or an array of such with an entry
+abbrev pub has_functions : ℕ → ℕ → ℕ → List ℕ → Bool
+has_functions function array size section = has_from section function 0 || has_array section array size
 
 -- the memory from an address to the end of the segment that holds it
 abbrev pub memory_from : List ImageSegment → ℕ → List ℕ
@@ -30,18 +35,36 @@ section_memory base own (Some d) = if nat_le (base + d) MEMORY_LIMIT then memory
 abbrev pub dynamic_memory : ImageObject → List ImageSegment → List ℕ
 dynamic_memory object own = section_memory object.base own object.addresses.dynamic
 
--- the name of the first of these libraries that has initializers; their own segments follow one another
-abbrev pub initialized_among : List ImageObject → List ImageSegment → Option (List ℕ)
-initialized_among [] segments = None
-initialized_among (o ∷ rest) segments =
-    if has_initializers (dynamic_memory o (take o.segment_count segments)) then Some o.name
-    else initialized_among rest (drop o.segment_count segments)
+-- the name of the first of these libraries whose dynamic section has something; their own segments follow one another
+abbrev pub first_among : (List ℕ → Bool) → List ImageObject → List ImageSegment → Option (List ℕ)
+first_among has [] segments = None
+first_among has (o ∷ rest) segments =
+    if has (dynamic_memory o (take o.segment_count segments)) then Some o.name
+    else first_among has rest (drop o.segment_count segments)
 
 -- that of the objects behind the first, which is the program
-abbrev pub initialized_behind : List ImageObject → List ImageSegment → Option (List ℕ)
-initialized_behind [] segments = None
-initialized_behind (program ∷ libraries) segments = initialized_among libraries (drop program.segment_count segments)
+abbrev pub first_behind : (List ℕ → Bool) → List ImageObject → List ImageSegment → Option (List ℕ)
+first_behind has [] segments = None
+first_behind has (program ∷ libraries) segments = first_among has libraries (drop program.segment_count segments)
+
+-- the name of the first such library of an image
+abbrev pub first_library : (List ℕ → Bool) → MemoryImage → Option (List ℕ)
+first_library has image = first_behind has image.objects image.segments
 
 -- the name of the first library of an image that has initializers
 abbrev pub first_initialized : MemoryImage → Option (List ℕ)
-first_initialized image = initialized_behind image.objects image.segments
+first_initialized image = first_library (has_functions DT_INIT DT_INIT_ARRAY DT_INIT_ARRAYSZ) image
+
+-- the name of the first library of an image that has finalizers
+abbrev pub first_finalized : MemoryImage → Option (List ℕ)
+first_finalized image = first_library (has_functions DT_FINI DT_FINI_ARRAY DT_FINI_ARRAYSZ) image
+
+-- the first of these objects, the program, has an array of functions that are called before all others
+abbrev pub preinitialized_among : List ImageObject → List ImageSegment → Bool
+preinitialized_among [] segments = false
+preinitialized_among (program ∷ libraries) segments =
+    has_array (dynamic_memory program (take program.segment_count segments)) DT_PREINIT_ARRAY DT_PREINIT_ARRAYSZ
+
+-- the program of an image has such functions
+abbrev pub is_preinitialized : MemoryImage → Bool
+is_preinitialized image = preinitialized_among image.objects image.segments

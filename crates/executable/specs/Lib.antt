@@ -1,6 +1,7 @@
 pub mod Constant
 pub mod Entry
 pub mod Initializers
+pub mod StaticPie
 pub mod Piece
 pub mod Place
 pub mod File

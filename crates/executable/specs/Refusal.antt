@@ -5,17 +5,21 @@ use Rattle.elf_file.specs.FirstOf.{◌when◌, first_of}
 use Rattle.image.specs.Image.{MemoryImage}
 use Rattle.executable.specs.Constant.{MOST_HEADERS}
 use Rattle.executable.specs.Entry.{entry_of}
-use Rattle.executable.specs.Initializers.{first_initialized}
+use Rattle.executable.specs.Initializers.{first_initialized, first_finalized, is_preinitialized}
 use Rattle.executable.specs.Piece.{is_rising, pieces_of}
 use Rattle.executable.specs.Place.{header_count_of, place_of}
+use Rattle.executable.specs.StaticPie.{is_static_pie}
 use Rattle.executable.specs.declared.refusal.ExecutableRefusal.{ExecutableRefusal}
-use Rattle.executable.specs.declared.refusal.ExecutableRefusal.TheVariants.{NoEntry, Initializers, OutOfOrder, TooManyHeaders, NoRoom, OutOfMemory}
+use Rattle.executable.specs.declared.refusal.ExecutableRefusal.TheVariants.{NoEntry, StaticPie, PreInitializers, Initializers, Finalizers, OutOfOrder, TooManyHeaders, NoRoom, OutOfMemory}
 
--- no entry in own code; initializers; segments out of order, as no bind gives; too many headers; no room for them
+-- no entry in own code; a static PIE; functions that nobody calls; out of order, as no bind gives; too many headers; no room
 abbrev pub executable_tests : MemoryImage → List (Option ExecutableRefusal)
 executable_tests image =
     (NoEntry when is_none (entry_of image))
+    ∷ (StaticPie when is_static_pie image)
+    ∷ (PreInitializers when is_preinitialized image)
     ∷ option_map Initializers (first_initialized image)
+    ∷ option_map Finalizers (first_finalized image)
     ∷ (OutOfOrder when not (is_rising 0 image.segments))
     ∷ (TooManyHeaders when nat_lt MOST_HEADERS (header_count_of (pieces_of image.segments)))
     ∷ (NoRoom when is_none (place_of (pieces_of image.segments)))

@@ -4,25 +4,27 @@ ghost use Rattle.std.specs.Prelude.{◌≡◌, ℕ, ◌+◌, ◌<◌, ◌≤◌,
 ghost use Rattle.std.specs.Prelude.{Some, None, IfOk, OnOk, IfErr};
 ghost use Rattle.std.specs.List.{All, flat_map};
 ghost use Rattle.std.specs.Io.KnownBytes.{Appends};
-ghost use Rattle.elf_file.specs.Header.{entry_address};
+ghost use Rattle.elf_file.specs.Header.{entry_address, header_count};
 ghost use Rattle.elf_file.specs.Segment.{loads};
 ghost use Rattle.image.specs.Image.{image_byte};
 ghost use Rattle.executable.specs.Meaning.{IsExecutable, IsFileOf, IsFrom, IsApart};
 ghost use Rattle.executable.specs.Meaning.{IsCongruent, file_byte, loaded_by};
 ghost use Rattle.executable.specs.File.{file_with, front_of, table_of, padded, piece_bytes};
 ghost use Rattle.executable.specs.Entry.{entry_of};
-ghost use Rattle.executable.specs.Initializers.{first_initialized};
+ghost use Rattle.executable.specs.inside.Calls.{HasNoCalls};
 ghost use Rattle.executable.specs.Piece.{is_rising};
 ghost use Rattle.executable.specs.Refusal.{executable_refusal, IsAnswer};
 
 use crate::entry::entry_of;
 use crate::front::{front_of, table_of};
-use crate::initializers::first_initialized;
+use crate::initializers::{first_finalized, first_initialized, is_preinitialized};
 use crate::piece::Piece;
 use crate::pieces::pieces_of;
 use crate::place::{MEMORY_LIMIT, MOST_HEADERS, PAGE, padding, place_of};
 use crate::refusal::ExecutableRefusal;
 use crate::segments::is_rising;
+use crate::static_pie::is_static_pie;
+use elf_file::u16_at;
 use image::Image;
 use names::Name;
 use std::alloc::{AllocError, Global};
@@ -42,7 +44,12 @@ impl Model for Executable {
 
     ghost Value = { List ℕ };
 
+    ghost use Rattle.std.specs.Prelude.{◌≤◌, length};
+
     ghost view = { λ e. file_with e.front.items e.pieces.items };
+
+    // The file header is whole.
+    ghost invariant = { λ e. 64 ≤ length e.front.items };
 }
 
 /// Writes no more zeros than a page has.
@@ -79,6 +86,13 @@ fn write_pieces<W: Write>(out: &mut W, pieces: &[Piece]) -> io::Result<()>
 }
 
 impl Executable {
+    /// How many program headers it has.
+    pub fn header_count(&self) -> u16
+        ensures { result ≡ header_count self.now }
+    {
+        u16_at(&self.front, 56)
+    }
+
     /// Writes the file. It takes no memory.
     #[tactic(auto, unfolding(crate::specs::File::file_with))]
     pub fn write_to<W: Write>(&self, out: &mut W) -> io::Result<()>
@@ -100,19 +114,50 @@ fn initialized(alloc: Global, name: &Name) -> ExecutableRefusal
     }
 }
 
-/// The entry of an image that is in order, none of whose libraries has initializers.
-fn entry_of_good(alloc: Global, image: &Image) -> Result<u64, ExecutableRefusal>
+/// The refusal of a library with finalizers.
+fn finalized(alloc: Global, name: &Name) -> ExecutableRefusal
+    ensures { (result ≡ ExecutableRefusal.Finalizers name.now)
+        ⊎ (result ≡ ExecutableRefusal.OutOfMemory) }
+{
+    match Name::copy_of(alloc, name.as_bytes()) {
+        Ok(name) => ExecutableRefusal::Finalizers { name },
+        Err(_) => ExecutableRefusal::OutOfMemory,
+    }
+}
+
+/// The entry of an image whose program doesn't relocate itself, and none of whose objects has
+/// functions that nobody would call.
+fn entry_to_call(alloc: Global, image: &Image) -> Result<u64, ExecutableRefusal>
     ensures entry { IfOk result (λ entry. entry_of image.now ≡ Some entry) }
-    ensures initialized { OnOk result (first_initialized image.now ≡ None) }
-    ensures rising { OnOk result (is_rising 0 image.now.segments ≡ true) }
+    ensures called { OnOk result (HasNoCalls image.now) }
     ensures refused { IfErr result (IsAnswer image.now) }
 {
     let Some(entry) = entry_of(image) else {
         return Err(ExecutableRefusal::NoEntry);
     };
+    if is_static_pie(image) {
+        return Err(ExecutableRefusal::StaticPie);
+    }
+    if is_preinitialized(image) {
+        return Err(ExecutableRefusal::PreInitializers);
+    }
     if let Some(name) = first_initialized(image) {
         return Err(initialized(alloc, name));
     }
+    if let Some(name) = first_finalized(image) {
+        return Err(finalized(alloc, name));
+    }
+    Ok(entry)
+}
+
+/// The same of an image that is in order too.
+fn entry_of_good(alloc: Global, image: &Image) -> Result<u64, ExecutableRefusal>
+    ensures entry { IfOk result (λ entry. entry_of image.now ≡ Some entry) }
+    ensures called { OnOk result (HasNoCalls image.now) }
+    ensures rising { OnOk result (is_rising 0 image.now.segments ≡ true) }
+    ensures refused { IfErr result (IsAnswer image.now) }
+{
+    let entry = entry_to_call(alloc, image)?;
     if !is_rising(image.segments()) {
         return Err(ExecutableRefusal::OutOfOrder);
     }
@@ -138,9 +183,9 @@ fn file_of(
 }
 
 /// The static executable file of a bound program, or the first of these: it has no entry in code of
-/// its own, a library has initializers, the image is out of order, there are more program headers
-/// than the kernel takes, no pages are free for them. It takes as much memory as the image's bytes,
-/// and one pass over them.
+/// its own, it is a static PIE, it has pre-initializers, a library has initializers, or finalizers, the image is out of
+/// order, there are more program headers than the kernel takes, no pages are free for them. It takes
+/// as much memory as the image's bytes, and one pass over them.
 pub fn executable_of(alloc: Global, image: &Image) -> Result<Executable, ExecutableRefusal>
 
     // A file only where no test applies; else the refusal of the first that does, or want of

@@ -1,12 +1,13 @@
-// Libraries that want something to be run before the program.
+// Functions that a loader calls before a program and behind it.
 
 ghost use Rattle.std.specs.Prelude.{◌≡◌, ◌+◌, ◌<◌, ◌≤◌, ◌/◌, ◌^◌, length};
 ghost use Rattle.std.specs.Option.{option_map};
 ghost use Rattle.elf_file.specs.Dynamic.{entry};
 ghost use Rattle.elf_file.specs.Number.{number_at};
-ghost use Rattle.executable.specs.Initializers.{has_from, has_initializers, memory_from};
-ghost use Rattle.executable.specs.Initializers.{dynamic_memory, initialized_among};
-ghost use Rattle.executable.specs.Initializers.{first_initialized};
+ghost use Rattle.executable.specs.Initializers.{has_from, has_array, has_functions};
+ghost use Rattle.executable.specs.Initializers.{memory_from, section_memory, dynamic_memory};
+ghost use Rattle.executable.specs.Initializers.{first_among, first_library, first_initialized};
+ghost use Rattle.executable.specs.Initializers.{first_finalized, is_preinitialized};
 
 use crate::place::MEMORY_LIMIT;
 use crate::segments::{holds, split};
@@ -15,15 +16,36 @@ use image::{Image, ImageObject, Memory, Segment};
 use names::Name;
 
 /// The end of a dynamic section, by `d_tag` (gABI chapter 5).
-const DT_NULL: u64 = 0;
-/// A function that initializes.
+pub(crate) const DT_NULL: u64 = 0;
+/// A function that initializes; an array of such functions; its size in bytes.
 const DT_INIT: u64 = 12;
-/// An array of such functions.
+
 const DT_INIT_ARRAY: u64 = 25;
-/// Its size in bytes.
+
 const DT_INIT_ARRAYSZ: u64 = 27;
-/// Bytes of an entry of that array.
+
+/// The same of what is called at the end.
+const DT_FINI: u64 = 13;
+
+const DT_FINI_ARRAY: u64 = 26;
+
+const DT_FINI_ARRAYSZ: u64 = 28;
+
+/// An array of functions that are called before all others, of a program alone.
+const DT_PREINIT_ARRAY: u64 = 32;
+
+const DT_PREINIT_ARRAYSZ: u64 = 33;
+
+/// Bytes of an entry of such an array.
 const ARRAY_ENTRY_SIZE: u64 = 8;
+
+/// The tags of a function, of an array of functions, and of its size.
+#[derive(Drop)]
+struct Tags {
+    function: u64,
+    array: u64,
+    size: u64,
+}
 
 /// The number at a place of memory, little endian.
 fn u64_in(memory: &Memory<'_>, at: usize) -> u64
@@ -37,7 +59,7 @@ fn u64_in(memory: &Memory<'_>, at: usize) -> u64
 
 /// The entry number `i` of a dynamic section.
 #[tactic(auto, unfolding(elf_file::specs::Dynamic::entry))]
-fn nth_entry(section: &Memory<'_>, i: usize) -> Entry
+pub(crate) fn nth_entry(section: &Memory<'_>, i: usize) -> Entry
     requires small { length section.now < 2 ^ 32 }
     requires within { i < length section.now / 16 }
     ensures { result ≡ entry section.now i }
@@ -59,13 +81,18 @@ fn has_from(section: &Memory<'_>, tag: u64, least: u64) -> bool
         .any(|e| e.tag == tag && e.value >= least)
 }
 
-/// Whether a dynamic section names a function that initializes, or an array with one.
-fn has_initializers(section: &Memory<'_>) -> bool
-    ensures { result ≡ has_initializers section.now }
+/// Whether a dynamic section names an array of functions with an entry.
+fn has_array(section: &Memory<'_>, array: u64, size: u64) -> bool
+    ensures { result ≡ has_array section.now array size }
 {
-    has_from(section, DT_INIT, 0)
-        || (has_from(section, DT_INIT_ARRAY, 0)
-            && has_from(section, DT_INIT_ARRAYSZ, ARRAY_ENTRY_SIZE))
+    has_from(section, array, 0) && has_from(section, size, ARRAY_ENTRY_SIZE)
+}
+
+/// Whether a dynamic section names a function, or an array with one.
+fn has_functions(section: &Memory<'_>, tags: &Tags) -> bool
+    ensures { result ≡ has_functions tags.now.function tags.now.array tags.now.size section.now }
+{
+    has_from(section, tags.function, 0) || has_array(section, tags.array, tags.size)
 }
 
 /// The memory from an address to the end of the segment that holds it.
@@ -82,23 +109,32 @@ fn memory_from(segments: &[Segment], address: u64) -> Memory<'_>
     Memory::new(&[], 0)
 }
 
-/// Whether a library has initializers, by its own segments.
-fn is_initialized(library: &ImageObject, own: &[Segment]) -> bool
-    ensures { result ≡ has_initializers (dynamic_memory library.now own.now) }
+/// The memory from a place in an object on, by its own segments; none where it has no such place in
+/// memory.
+pub(crate) fn section_memory(base: u64, own: &[Segment], place: Option<u64>) -> Memory<'_>
+    ensures { result ≡ section_memory base own.now place }
 {
-    let Some(dynamic) = library.addresses.dynamic else {
-        return has_initializers(&Memory::new(&[], 0));
+    let Some(place) = place else {
+        return Memory::new(&[], 0);
     };
-    if dynamic > MEMORY_LIMIT || library.base > MEMORY_LIMIT - dynamic {
-        return has_initializers(&Memory::new(&[], 0));
+    if place > MEMORY_LIMIT || base > MEMORY_LIMIT - place {
+        return Memory::new(&[], 0);
     }
-    has_initializers(&memory_from(own, library.base + dynamic))
+    memory_from(own, base + place)
 }
 
-/// The name of the first library that has initializers. One pass over objects, segments and
-/// dynamic sections.
-pub(crate) fn first_initialized(image: &Image) -> Option<&Name>
-    ensures { option_map (λ name. name.now) result ≡ first_initialized image.now }
+/// The memory from an object's dynamic section on.
+pub(crate) fn dynamic_memory<'a>(object: &ImageObject, own: &'a [Segment]) -> Memory<'a>
+    ensures { result ≡ dynamic_memory object.now own.now }
+{
+    section_memory(object.base, own, object.addresses.dynamic)
+}
+
+/// The name of the first library that has functions under these tags. One pass over objects,
+/// segments and dynamic sections.
+fn first_library<'a>(image: &'a Image, tags: &Tags) -> Option<&'a Name>
+    ensures { option_map (λ name. name.now) result
+        ≡ first_library (has_functions tags.now.function tags.now.array tags.now.size) image.now }
 {
     let [program, libraries @ ..] = image.objects() else {
         return None;
@@ -106,10 +142,51 @@ pub(crate) fn first_initialized(image: &Image) -> Option<&Name>
     let (_, mut segments) = split(image.segments(), program.segment_count);
     for library in libraries {
         let (own, others) = split(segments, library.segment_count);
-        if is_initialized(library, own) {
+        if has_functions(&dynamic_memory(library, own), tags) {
             return Some(&library.name);
         }
         segments = others;
     }
     None
+}
+
+/// The name of the first library that has initializers.
+pub(crate) fn first_initialized(image: &Image) -> Option<&Name>
+    ensures { option_map (λ name. name.now) result ≡ first_initialized image.now }
+{
+    let tags = Tags {
+        function: DT_INIT,
+        array: DT_INIT_ARRAY,
+        size: DT_INIT_ARRAYSZ,
+    };
+    first_library(image, &tags)
+}
+
+/// The name of the first library that has finalizers.
+pub(crate) fn first_finalized(image: &Image) -> Option<&Name>
+    ensures { option_map (λ name. name.now) result ≡ first_finalized image.now }
+{
+    let tags = Tags {
+        function: DT_FINI,
+        array: DT_FINI_ARRAY,
+        size: DT_FINI_ARRAYSZ,
+    };
+    first_library(image, &tags)
+}
+
+/// Whether the program has functions that are called before all others.
+pub(crate) fn is_preinitialized(image: &Image) -> bool
+    ensures { result ≡ is_preinitialized image.now }
+{
+    match image.objects() {
+        [] => false,
+        [program, ..] => {
+            let (own, _) = split(image.segments(), program.segment_count);
+            has_array(
+                &dynamic_memory(program, own),
+                DT_PREINIT_ARRAY,
+                DT_PREINIT_ARRAYSZ,
+            )
+        }
+    }
 }

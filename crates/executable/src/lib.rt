@@ -14,6 +14,7 @@ mod pieces;
 mod place;
 mod refusal;
 mod segments;
+mod static_pie;
 
 pub use executable::{Executable, executable_of};
 pub use refusal::ExecutableRefusal;

@@ -10,9 +10,21 @@ pub enum ExecutableRefusal {
     /// `e_entry` is 0, or in no segment of the program's own that may be executed.
     #[error("the program has no entry in code of its own")]
     NoEntry,
+    /// The program is a static PIE: it has DF_1_PIE, and no PT_INTERP.
+    #[error("the program relocates itself, for which it looks for what the file lacks")]
+    StaticPie,
+    /// The program has a DT_PREINIT_ARRAY with entries.
+    #[error("the program has pre-initializers, which nobody would run")]
+    PreInitializers,
     /// A library has a DT_INIT, or a DT_INIT_ARRAY with entries.
     #[error("a library has initializers, which nobody would run")]
     Initializers {
+        /// Its name.
+        name: Name,
+    },
+    /// A library has a DT_FINI, or a DT_FINI_ARRAY with entries.
+    #[error("a library has finalizers, which nobody would run")]
+    Finalizers {
         /// Its name.
         name: Name,
     },

@@ -6,7 +6,7 @@ ghost use Rattle.program_parts.specs.Told.{IsTold};
 ghost use Rattle.program_parts.specs.declared.status.Status.TheVariants.{Done};
 ghost use Rattle.text_output.specs.Sends.{Sends};
 ghost use Rattle.tool_commands.specs.Executable.{TellsExecutable, executable_status};
-ghost use Rattle.tool_commands.specs.Executable.{executable_refusal_text};
+ghost use Rattle.tool_commands.specs.Executable.{executable_refusal_text, header_word, said_beside};
 ghost use Rattle.tool_commands.specs.Said.{said_line};
 
 use crate::finding::put_around;
@@ -19,12 +19,32 @@ use std::io::Write;
 use store::StoreRefusal;
 use text_output::WriteFault;
 
+/// The most program headers that one page of 4,096 bytes has.
+const MOST_IN_A_PAGE: u16 = 73;
+
+/// Says of a file with more program headers than a page has that not every kernel starts it.
+fn say_many_headers<E: Write>(file: &Executable, errors: &mut E)
+    ensures { AppendsFront (E.contents errors.old) (E.contents errors.new) (header_word file.now) }
+{
+    if file.header_count() > MOST_IN_A_PAGE {
+        say(
+            errors,
+            b"rlibreg-tool: Linux before 6.17 starts no file with more than 73 program headers\n",
+        );
+    }
+}
+
 /// Writes an executable file, or says that the output failed.
 fn write_executable<O: Write, E: Write>(file: &Executable, output: &mut O, errors: &mut E) -> Status
-    ensures { IsTold Done file.now (O.contents output.old) (O.contents output.new) result }
+    ensures told { IsTold Done file.now (O.contents output.old) (O.contents output.new) result }
+    ensures said { AppendsFront (E.contents errors.old) (E.contents errors.new)
+        (said_beside file.now result) }
 {
     match file.write_to(output) {
-        Ok(()) => Status::Done,
+        Ok(()) => {
+            say_many_headers(file, errors);
+            Status::Done
+        }
         Err(_) => cannot_write(errors),
     }
 }
@@ -40,8 +60,13 @@ fn put_executable_refusal<W: Write>(
 {
     match refusal {
         ExecutableRefusal::NoEntry => line.put(out, b"refused NoEntry\n"),
+        ExecutableRefusal::StaticPie => line.put(out, b"refused StaticPie\n"),
+        ExecutableRefusal::PreInitializers => line.put(out, b"refused PreInitializers\n"),
         ExecutableRefusal::Initializers { name } => {
             put_around(line, out, b"refused Initializers ", name.as_bytes(), b"\n")
+        }
+        ExecutableRefusal::Finalizers { name } => {
+            put_around(line, out, b"refused Finalizers ", name.as_bytes(), b"\n")
         }
         ExecutableRefusal::OutOfOrder => line.put(out, b"refused OutOfOrder\n"),
         ExecutableRefusal::TooManyHeaders => line.put(out, b"refused TooManyHeaders\n"),

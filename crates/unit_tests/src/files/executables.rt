@@ -81,14 +81,22 @@ fn with_library(alloc: Global, file: &[u8], own: &[u8]) -> Result<Image, Fail> {
     }
 }
 
-#[test]
-fn a_library_with_initializers(rt: HostRuntime) -> Result<(), Fail> {
-    let alloc = rt.alloc();
+/// The refusal of a program whose library has this tag.
+fn refused_with(alloc: Global, tag: u8) -> Result<Option<ExecutableRefusal>, Fail> {
     let mut own = library(b'a', 1);
-    put(&mut own, TAG_AT, &[12]);
+    put(&mut own, TAG_AT, &[tag]);
     let image = with_library(alloc, &with_entry(program(b'a'), 0x40), &own)?;
-    let refusal = executable_of(alloc, &image).err();
+    Ok(executable_of(alloc, &image).err())
+}
+
+#[test]
+fn a_library_with_initializers_or_finalizers(rt: HostRuntime) -> Result<(), Fail> {
+    let alloc = rt.alloc();
+    let initialized = refused_with(alloc, 12)?;
     let name = Name::copy_of(alloc, b"a")?;
-    assert!(rt; refusal == Some(ExecutableRefusal::Initializers { name }));
+    assert!(rt; initialized == Some(ExecutableRefusal::Initializers { name }));
+    let finalized = refused_with(alloc, 13)?;
+    let name = Name::copy_of(alloc, b"a")?;
+    assert!(rt; finalized == Some(ExecutableRefusal::Finalizers { name }));
     Ok(())
 }

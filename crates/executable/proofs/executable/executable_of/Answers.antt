@@ -17,7 +17,7 @@ pub returns-then-len-gt-MOST_HEADERS-clause-refused : goal.returns-then-len-gt-M
 returns-then-len-gt-MOST_HEADERS-clause-refused c =
     let e : c.in_ok-pieces.pieces.items ≡ pieces_of c.args.image.now.segments = c.in_ok-pieces.ensures ∙ ap pieces_of c.segments.ensures in
     let many : MOST_HEADERS < header_count_of (pieces_of c.args.image.now.segments) = omega (arith, ap length e, c.len.ensures, c.if-len-gt-MOST_HEADERS.true) in
-    inl (too-many c.args.image.now c.in_ok-entry.entry c.in_ok-entry.ensures.entry c.in_ok-entry.ensures.initialized c.in_ok-entry.ensures.rising many)
+    inl (too-many c.args.image.now c.in_ok-entry.entry c.in_ok-entry.ensures.entry c.in_ok-entry.ensures.called c.in_ok-entry.ensures.rising many)
 
 pub place_of-requires-clause-pieces : goal.place_of-requires-clause-pieces
 place_of-requires-clause-pieces c =
@@ -29,7 +29,7 @@ pub returns-in_default-clause-refused : goal.returns-in_default-clause-refused
 returns-in_default-clause-refused c =
     let e : c.deref.result.now ≡ pieces_of c.args.image.now.segments = c.deref.ensures.value ∙ c.in_ok-pieces.ensures ∙ ap pieces_of c.segments.ensures in
     let few : header_count_of (pieces_of c.args.image.now.segments) ≤ MOST_HEADERS = omega (arith, ap length e, c.deref.ensures.len, c.len.ensures, c.if-len-gt-MOST_HEADERS.false) in
-    inl (no-room c.args.image.now c.in_ok-entry.entry c.in_ok-entry.ensures.entry c.in_ok-entry.ensures.initialized c.in_ok-entry.ensures.rising few
+    inl (no-room c.args.image.now c.in_ok-entry.entry c.in_ok-entry.ensures.entry c.in_ok-entry.ensures.called c.in_ok-entry.ensures.rising few
     (ap place_of (sym e) ∙ sym c.in_default.ensures))
 
 pub file_of-requires-clause-place : goal.file_of-requires-clause-place
@@ -62,7 +62,7 @@ returns c =
     let few : header_count_of (pieces_of segments) ≤ MOST_HEADERS = omega (arith, ap length e, c.len.ensures, c.if-len-gt-MOST_HEADERS.false) in
     let free : place_of c.in_ok-pieces.pieces.items ≡ Some c.in-Some.place = ap place_of (sym c.deref.ensures.value) ∙ sym c.in-Some.ensures in
     let entry = c.in_ok-entry.ensures.entry in
-    let initialized = c.in_ok-entry.ensures.initialized in
+    let initialized = c.in_ok-entry.ensures.called in
     let rising = c.in_ok-entry.ensures.rising in
     let file = the-file segments c.in_ok-entry.entry c.in-Some.place c.in_ok-pieces.pieces.items c.in_ok-file_of.field-0 e c.in_ok-file_of.ensures rising
     (entry-low image c.in_ok-entry.entry entry) few free in

@@ -14,6 +14,14 @@ returns-in-Initializers g c =
     subst (λ (r : ExecutableRefusal). OnOk c.put_around.result (Sends (w c.args.out.now) c.args.line.now (w c.put_around.new.out) c.put_around.new.line (executable_refusal_text r)))
     (sym c.in-Initializers.is) said
 
+pub returns-in-Finalizers : goal.returns-in-Finalizers
+returns-in-Finalizers g c =
+    let w = g.W.Write.contents in
+    let said = subst (λ n. OnOk c.put_around-in-Finalizers.result (Sends (w c.args.out.now) c.args.line.now (w c.put_around-in-Finalizers.new.out) c.put_around-in-Finalizers.new.line
+    (codes "refused Finalizers " ++ name_text n ++ codes "\n"))) c.as_bytes-in-Finalizers.ensures c.put_around-in-Finalizers.ensures in
+    subst (λ (r : ExecutableRefusal). OnOk c.put_around-in-Finalizers.result (Sends (w c.args.out.now) c.args.line.now (w c.put_around-in-Finalizers.new.out) c.put_around-in-Finalizers.new.line (executable_refusal_text r)))
+    (sym c.in-Finalizers.is) said
+
 pub returns-in-OutOfOrder : goal.returns-in-OutOfOrder
 returns-in-OutOfOrder g c =
     let w = g.W.Write.contents in

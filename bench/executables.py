@@ -1,0 +1,184 @@
+#!/usr/bin/env python3
+"""Starts random executables of `rlibreg-tool` on real kernels.
+
+    python3 bench/executables.py RLIBREG RLIBREG_TOOL FOLDER [--count 500] [--kernel VMLINUZ] [--accel tcg]
+
+Each is a program with up to 20 libraries by linkers, flags and bases at random; it ends with the sum
+of what its libraries and their data give. Others have 71, 75, 1,167 and 1,171 program headers: the
+last is refused. All of them are started here, and with --kernel in a guest of qemu; a kernel before
+6.17 takes at most 73 headers.
+"""
+
+import argparse
+import gzip
+import os
+import random
+import re
+import subprocess
+import sys
+from pathlib import Path
+
+LIBRARIES = 48
+LIBRARY = """
+static int data[{size}] = {{[{at}] = {value}}};
+static int zeros[{more}];
+static const char text[{size}] = {{[{at}] = {other}}};
+static int *volatile place = &data[{at}];
+int x_{name}(void) {{ zeros[{last}] += *place; return zeros[{last}] + text[{at}]; }}
+"""
+PROGRAM = """
+{declarations}
+void _start(void) {{
+    int sum = 0;
+    {calls}
+    __asm__ volatile("syscall" : : "a"(60), "D"(sum & 127));
+    __builtin_unreachable();
+}}
+"""
+GCC = 'gcc -fPIC -nostdlib -fno-stack-protector'.split()
+LINKERS = [[], ['-z', 'noseparate-code'], ['-z', 'norelro'], ['-z', 'max-page-size=0x10000'], ['-z', 'now'], ['--build-id=none']]
+LOWEST = (6, 17)
+
+
+def run(*words, **more):
+    return subprocess.run([str(w) for w in words], capture_output=True, **more)
+
+
+def done(*words):
+    ended = run(*words)
+    assert ended.returncode == 0, (words, ended)
+    return ended.stdout
+
+
+def linked(flags):
+    return ['-Wl,' + ','.join(['--hash-style=sysv', *flags])]
+
+
+def make_library(folder, choose, name, flags):
+    """A library, and what its function gives when it is first called."""
+    size, more = choose.randint(1, 5000), choose.randint(1, 20000)
+    value, other = choose.randint(1, 100), choose.randint(1, 20)
+    source = folder / f'{name}.c'
+    source.write_text(LIBRARY.format(name=name, size=size, at=choose.randrange(size), value=value, other=other, more=more,
+                                     last=choose.randrange(more)))
+    done(*GCC, choose.choice(['-O0', '-O1', '-O2']), '-shared', *linked(['-soname', f'lib{name}.so', *flags]), '-o', folder / f'lib{name}.so', source)
+    return value + other
+
+
+def make_program(folder, name, needs, flags):
+    source = folder / f'{name}.c'
+    calls = ' '.join(f'sum += x_{need}();' for need in needs)
+    source.write_text(PROGRAM.format(declarations='\n'.join(f'extern int x_{need}(void);' for need in needs), calls=calls))
+    done(*GCC, '-O1', '-pie', *linked(['-e', '_start', '--no-as-needed', *flags]), '-o', folder / f'{name}.bound', source,
+         *(folder / f'lib{need}.so' for need in needs))
+
+
+class Executables:
+    """Executables in a folder: of each the status that is wanted, and how many program headers it has."""
+
+    def __init__(self, words):
+        self.words, self.folder = words, words.folder.resolve()
+        self.files, self.gives, self.faults = {}, {}, []
+        self.disk = self.folder / 'disk'
+        (self.folder / 'files').mkdir(parents=True, exist_ok=True)
+        done(words.rlibreg, 'format', self.disk, '65536')
+
+    def library(self, choose, name, flags):
+        self.gives[name] = make_library(self.folder, choose, name, flags)
+        done(self.words.rlibreg, 'install', self.disk, self.folder / f'lib{name}.so')
+
+    def executable(self, name, needs, flags, base):
+        make_program(self.folder, name, needs, flags)
+        ended = run(self.words.tool, 'executable', self.disk, self.folder / f'{name}.bound', hex(base))
+        if ended.returncode:
+            return ended.stderr.decode()
+        count = int.from_bytes(ended.stdout[56:58], 'little')
+        if (count > 73) != (b'73 program headers' in ended.stderr):
+            self.faults.append(f'{name}: {count} headers, and standard error has {ended.stderr}')
+        file = self.folder / 'files' / name
+        file.write_bytes(ended.stdout)
+        file.chmod(0o755)
+        self.files[name] = sum(self.gives[need] for need in needs) & 127, count
+        return ''
+
+    def make(self, count):
+        choose = random.Random(1)
+        names = [f'l{i}' for i in range(LIBRARIES)]
+        for name in names:
+            self.library(choose, name, choose.choice(LINKERS))
+        for i in range(count):
+            needs = choose.sample(names, choose.randint(0, 20))
+            base = choose.randrange(1, 0x4000) << choose.choice([16, 20, 28])
+            said = self.executable(f'e{i}', needs, choose.choice(LINKERS), base)
+            if said:
+                self.faults.append(f'e{i} at {base:#x}: {said}')
+        more = [f'm{i}' for i in range(291)]
+        for name in more:
+            self.library(choose, name, [])
+        for n in (16, 17, 290):
+            said = self.executable(f'limit{n}', more[:n], [], 0x400000)
+            if said:
+                self.faults.append(f'{n} libraries: {said}')
+        said = self.executable('limit291', more, [], 0x400000)
+        if said != 'rlibreg-tool: refused TooManyHeaders\n':
+            self.faults.append(f'291 libraries: {said}')
+
+    def compare(self, where, release, ended):
+        new = tuple(map(int, re.match(r'(\d+)\.(\d+)', release).groups())) >= LOWEST
+        wrong = 0
+        for name, (status, count) in self.files.items():
+            starts = count <= 73 or new
+            if (ended.get(name) == status) != starts:
+                wrong += 1
+                self.faults.append(f'{where}: {name}, of {count} headers, ended with {ended.get(name)} and not with {status}')
+        print(f'{where}, Linux {release}: {len(self.files)} executables of up to {max(c for _, c in self.files.values())} headers, {wrong} wrong')
+
+    def here(self):
+        ended = {}
+        for name in self.files:
+            try:
+                ended[name] = run(self.folder / 'files' / name, timeout=10).returncode
+            except OSError:
+                ended[name] = None
+        self.compare('here', os.uname().release, ended)
+
+    def guest(self, kernel, accel):
+        """A guest whose first process starts each of them."""
+        root = self.folder / 'root'
+        for part in ('bin', 'proc'):
+            (root / part).mkdir(parents=True, exist_ok=True)
+        done('cp', '-r', self.folder / 'files', root)
+        done('cp', '/bin/busybox', root / 'bin')
+        (root / 'init').write_text('#!/bin/busybox sh\n/bin/busybox uname -r\n'
+                                   'for f in /files/*; do $f 2> /dev/null; echo "ended $f $?"; done\n/bin/busybox poweroff -f\n')
+        (root / 'init').chmod(0o755)
+        packed = subprocess.run('find . | cpio -o -H newc --quiet', shell=True, cwd=root, stdout=subprocess.PIPE, check=True).stdout
+        (self.folder / 'initrd.gz').write_bytes(gzip.compress(packed, 1))
+        said = run('qemu-system-x86_64', '-accel', accel, '-m', '2048', '-nographic', '-no-reboot', '-kernel', kernel, '-initrd',
+                   self.folder / 'initrd.gz', '-append', 'console=ttyS0 quiet panic=-1', stdin=subprocess.DEVNULL, timeout=900).stdout.decode(errors='replace')
+        release = re.search(r'(\d+\.\d+\.\S*)\r?\n', said[said.rfind('Booting'):])
+        ended = {name: int(status) for name, status in re.findall(r'ended /files/(\w+) (\d+)', said)}
+        assert release and ended, said[-2000:]
+        self.compare('a guest', release.group(1), ended)
+
+
+def main():
+    parser = argparse.ArgumentParser()
+    for word in ('rlibreg', 'tool', 'folder'):
+        parser.add_argument(word, type=Path)
+    parser.add_argument('--count', type=int, default=500)
+    parser.add_argument('--kernel')
+    parser.add_argument('--accel', default='tcg')
+    words = parser.parse_args()
+    words.rlibreg, words.tool = words.rlibreg.resolve(), words.tool.resolve()
+    executables = Executables(words)
+    executables.make(words.count)
+    executables.here()
+    if words.kernel:
+        executables.guest(words.kernel, words.accel)
+    print(*executables.faults[:10], sep='\n')
+    sys.exit(1 if executables.faults else 0)
+
+
+if __name__ == '__main__':
+    main()
