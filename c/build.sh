@@ -48,12 +48,12 @@ END
 cp c/rlibreg.h "$folder/"
 # linked STATUS MESSAGE NAME WORD..: links one that ends so where it can't begin for want of memory.
 linked() {
-    gcc $flags -DOUT_OF_MEMORY="$1" -DMESSAGE="\"$3: $2\\n\"" -Wl,-e,rlibreg_entry -o "$folder/$3" \
+    gcc $flags $hardened -DOUT_OF_MEMORY="$1" -DMESSAGE="\"$3: $2\\n\"" -Wl,-e,rlibreg_entry -o "$folder/$3" \
         c/rlibreg_entry.c c/rlibreg_stack.c "${@:4}"
 }
 # The loader is a static PIE, or a PIE where there is no static C library.
 link_loader() {
-    linked 126 'memory: Cannot allocate memory' rlibreg-run $hardened "$1" c/rlibreg_run*.c \
+    linked 126 'memory: Cannot allocate memory' rlibreg-run "$1" c/rlibreg_run*.c \
         "$folder/librlibreg.a"
 }
 link_loader -static-pie 2> /dev/null || link_loader -pie

@@ -16,6 +16,13 @@ for wanted in 'GNU_RELRO' 'BIND_NOW' 'GNU_STACK .* RW '; do
 done
 want 'relocations in its text' '' "$(grep TEXTREL <<< "$headers" || true)"
 
+for program in rlibreg rlibreg-tool rlibreg-run; do
+    headers=$(readelf -hdlW "$built/$program")
+    for wanted in 'Type: *DYN' 'GNU_RELRO' 'BIND_NOW' 'GNU_STACK .* RW '; do
+        grep -q "$wanted" <<< "$headers" || { echo "$program has no $wanted" >&2; exit 1; }
+    done
+done
+
 gcc $flags -o shared "$here/shared.c" -L"$built" -lrlibreg
 want 'what the program needs' "$soname" \
     "$(readelf -dW shared | sed -n 's/.*Shared library: \[\(librlibreg.*\)\]/\1/p')"
