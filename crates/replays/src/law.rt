@@ -1,16 +1,13 @@
 // The law that a dump replays.
 
-ghost use Rattle.std.specs.Prelude.{◌≡◌, ◌≤◌, ◌<◌, ◌+◌, ◌⊎◌, ℕ, IsTrue, IsFalse, Some};
-ghost use Rattle.std.specs.Prelude.{List, [], ◌∷◌, ◌++◌, length, map, fold, All};
-ghost use Rattle.std.specs.Int.{div_ceil};
-ghost use Rattle.sector_disk.specs.Disk.{sector_bytes};
+ghost use Rattle.std.specs.Prelude.{◌≡◌, ◌<◌, ◌+◌, ◌⊎◌, ℕ, IsTrue, Some};
+ghost use Rattle.std.specs.Prelude.{List, [], ◌∷◌, ◌++◌, map, fold, All};
 ghost use Rattle.states.specs.State.{Library, State, empty_state};
 ghost use Rattle.store.specs.Opened.{Opened};
 ghost use Rattle.store.specs.Opened as store;
 ghost use Rattle.requests.specs.Library.{IsLibrary};
 ghost use Rattle.requests.specs.Phase.{Phase};
 ghost use Rattle.requests.specs.Request.{Request, install};
-ghost use Rattle.requests.specs.Runs.{Run};
 ghost use Rattle.requests.specs.Step.{Step, accepted, refusal_at};
 ghost use Rattle.requests.specs.declared.refusal.Refusal.TheVariants.{Full};
 ghost use Rattle.requests.specs.declared.reply.Reply.{Reply};
@@ -54,13 +51,6 @@ pub fn dump_replays<D: Disk>()
     // They lead to the same libraries, bytes, order and preloads.
     ensures end { (s : State) → IsStateOfBytes s
         → fold accepted empty_state (requests_for s) ≡ copy_of s }
-
-    // On a disk that is large enough, whose runs stay long enough, they run with Done each.
-    ensures runs { (s : State) → IsStateOfBytes s → (p : Phase) → p.state ≡ empty_state
-        → IsFalse p.failed → sectors_for s + p.lone ≤ p.sectors
-        → All (λ l. div_ceil (length l.bytes) sector_bytes ≤ p.longest) s.libraries
-        → Run Step p (requests_for s) (map (λ request. Done) (requests_for s))
-        (record p { state = copy_of s }) }
 
     // A registry that was empty and answered each with Done is at the copy.
     ensures registry { (s : State) → IsStateOfBytes s → (old new : Opened D)

@@ -1,4 +1,4 @@
-use Rattle.replays.proofs.Answers.{answered, runs}
+use Rattle.replays.proofs.Answers.{answered}
 use Rattle.replays.proofs.Copies.{copied_over}
 use Rattle.replays.proofs.Disks.{of_bytes}
 use Rattle.replays.proofs.Programs.{cut_refused, program_copies}
@@ -20,9 +20,6 @@ returns-clause-answers g c s h front rest request p p' answer is now room step =
 
 pub returns-clause-end : goal.returns-clause-end
 returns-clause-end g c s h = leads s h.state.libraries
-
-pub returns-clause-runs : goal.returns-clause-runs
-returns-clause-runs g c s h p now usable enough long = runs s h.state p usable enough long now
 
 pub returns-clause-registry : goal.returns-clause-registry
 returns-clause-registry g c s h old new answers at run all = copied_over g.D.Disk.facts s h.state.libraries old new at answers run all
