@@ -94,7 +94,8 @@ class Order:
         file.let_go, file.is_gone, self.letting_go = size, False, file
 
     def asked(self, _, words):
-        self.letting_go.is_gone = words == ['gone']
+        if self.letting_go:
+            self.letting_go.is_gone = words == ['gone']
 
     def write(self, file, words):
         self.fault_if(file.lock != 'exclusive', 'it is written without its lock')
