@@ -1,4 +1,5 @@
 pub mod Digits
 pub mod Lines
+pub mod Pieces
 pub mod Room
 pub mod ZeroLines

@@ -1,3 +1,4 @@
 pub mod Name
 pub mod Hexadecimal
 pub mod Sends
+pub mod Pieces

@@ -58,7 +58,7 @@ impl<const SIZE: usize> OutputBuffer<SIZE> {
         SIZE - self.used
     }
 
-    fn append(&mut self, text: &[u8])
+    pub(crate) fn append(&mut self, text: &[u8])
         requires { length self.old.waiting + length text.now ≤ SIZE }
         ensures waiting { self.new.waiting ≡ self.old.waiting ++ text.now }
         ensures failed { self.new.failed ≡ self.old.failed }

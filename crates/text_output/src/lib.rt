@@ -10,8 +10,10 @@ mod decimal;
 mod fault;
 mod hexadecimal;
 mod name;
+mod piece;
 mod zeros;
 
 pub use buffer::{OutputBuffer, PIECE};
 pub use fault::WriteFault;
 pub use name::{LINE, write_name};
+pub use piece::{LONGEST, PieceBuffer};

@@ -1,0 +1,114 @@
+// Lines on their way to a writer, in pieces that end within a line.
+
+ghost use Rattle.std.specs.Prelude.{◌≡◌, ◌⊎◌, ◌++◌, ◌<◌, ◌≤◌, [], codes, length};
+ghost use Rattle.std.specs.Prelude.{OnErr, OnOk, false, true};
+ghost use Rattle.std.specs.Io.KnownBytes.{Appends};
+ghost use Rattle.text_output.specs.Sends.{Sends};
+ghost use Rattle.text_output.specs.Pieces.{EndsWithinLine, IsFrontPiece, IsWithinLine};
+
+use crate::buffer::OutputBuffer;
+use crate::fault::WriteFault;
+use std::io::Write;
+use std::marker::Model;
+
+/// The most bytes of a piece: what a pipe takes whole or not at all.
+const PIECE_BYTES: usize = 4096;
+
+/// The longest text that is put at once.
+pub const LONGEST: usize = 256;
+
+/// The bytes of a piece.
+type Piece = OutputBuffer<PIECE_BYTES>;
+
+/// Lines on their way to a writer, which is given them in pieces of at most 4,096 bytes. Each but
+/// the last one ends within a line, so a text that is cut between two is seen to be cut.
+/// Contracts see the bytes that wait, an ended line's newline among them.
+#[derive(Drop)]
+pub struct PieceBuffer {
+    piece: Piece,
+    line_is_ended: bool,
+}
+
+impl Model for PieceBuffer {
+    ghost use Rattle.std.specs.Prelude.{◌++◌, codes, [], if◌then◌else◌};
+    ghost use Rattle.text_output.specs.Sends.{Buffered};
+    ghost use Rattle.text_output.specs.Pieces.{EndsWithinLine};
+
+    ghost Value = { Buffered };
+
+    ghost view = { λ s. record {
+      waiting = s.piece.waiting ++ (if s.line_is_ended then codes "\n" else []);
+      failed = s.piece.failed;
+    } };
+
+    ghost invariant = { λ s. EndsWithinLine s.piece.waiting };
+}
+
+/// Gives a piece to the writer, with one call of `write_all`, behind which another one comes.
+fn give<W: Write>(piece: &mut Piece, out: &mut W) -> Result<(), WriteFault>
+    requires { IsFrontPiece piece.old.waiting }
+    ensures ok { OnOk result (Appends (W.contents out.old) (W.contents out.new)
+        piece.old.waiting) }
+    ensures given { OnOk result (piece.new ≡ record { waiting = []; failed = false }) }
+    ensures err { OnErr result
+        (piece.new ≡ record { waiting = piece.old.waiting; failed = true }) }
+{
+    piece.send(out)
+}
+
+impl PieceBuffer {
+    /// A text of which nothing waits.
+    pub fn new() -> Self
+        ensures { result.waiting ≡ [] }
+    {
+        PieceBuffer {
+            piece: Piece::new(),
+            line_is_ended: false,
+        }
+    }
+
+    /// Puts a part of a line behind what waits.
+    pub fn put<W: Write>(&mut self, out: &mut W, text: &[u8]) -> Result<(), WriteFault>
+        requires short { length text.now ≤ LONGEST }
+        requires line { IsWithinLine text.now }
+        ensures ok { OnOk result (Sends (W.contents out.old) self.old (W.contents out.new) self.new
+            text.now) }
+        ensures within { OnOk result ((EndsWithinLine self.old.waiting ⊎ (0 < length text.now))
+            → EndsWithinLine self.new.waiting) }
+    {
+        if text.is_empty() {
+            return Ok(());
+        }
+        if self.piece.room() <= text.len() {
+            give(&mut self.piece, out)?;
+        }
+        if self.line_is_ended {
+            self.piece.append(b"\n");
+            self.line_is_ended = false;
+        }
+        self.piece.append(text);
+        Ok(())
+    }
+
+    /// Ends the line. Its newline waits for the next one, or for the end.
+    pub fn end_line(&mut self)
+        requires { EndsWithinLine self.old.waiting }
+        ensures { self.new.waiting ≡ self.old.waiting ++ codes "\n" }
+    {
+        self.line_is_ended = true;
+    }
+
+    /// Gives all that waits to the writer: the last piece.
+    pub fn finish<W: Write>(self, out: &mut W) -> Result<(), WriteFault>
+        ensures { OnOk result (Appends (W.contents out.old) (W.contents out.new) self.waiting) }
+    {
+        let mut piece = self.piece;
+        if self.line_is_ended {
+            if piece.room() == 0 {
+                give(&mut piece, out)?;
+            }
+            piece.append(b"\n");
+        }
+        piece.send(out)
+    }
+}
