@@ -468,8 +468,8 @@ uint32_t rlibreg_open(rlibreg *registry, const char *path, unsigned flags);
  * sync of the plan fails, or behind the name that of the folder, or where the other name can't be
  * taken away, errno says why: of a file that stood there a registry was made or not; of a new one
  * there is nothing, or behind the name all of it. FAT (vfat, exfat) is then to be mounted anew before
- * anything is asked of the path again, or a power cut may take away the name of what was answered
- * S4, and of changes that were done. Else as rlibreg_open and rlibreg_plan_format.
+ * anything is asked of the path again: on vfat S4, and changes that were done, may else be of a name
+ * that a power cut takes away. Else as rlibreg_open and rlibreg_plan_format.
  * After every other refusal the file is left as it is, and not open, and nothing was made. A file
  * that is made is sparse: the space for it may be found missing later, which is then an S1. */
 uint32_t rlibreg_format(rlibreg *registry, const char *path, uint32_t sectors, unsigned flags);
