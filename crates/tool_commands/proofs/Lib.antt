@@ -6,3 +6,4 @@ pub mod Listing
 pub mod Named
 pub mod Outcomes
 pub mod Sent
+pub mod Within

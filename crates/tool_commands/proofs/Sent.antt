@@ -1,5 +1,5 @@
 -- What waited was sent.
-use Rattle.std.proofs.Common.{◌≡◌, ℕ, List, [], append-nil, Option, Some, None, Result, Ok, Err, refl, ap, subst, ◌∙◌}
+use Rattle.std.proofs.Common.{◌≡◌, ℕ, List, [], ◌++◌, codes, sym, append-nil, append_assoc, Option, Some, None, Result, Ok, Err, refl, ap, subst, ◌∙◌}
 use Rattle.std.specs.Prelude.{OnOk}
 use Rattle.std.specs.Io.KnownBytes.{Appends, append_known}
 
@@ -25,3 +25,11 @@ pub sent : {T E : Type 0} (r : Result T E) (held mid now : Option (List ℕ)) (b
     → Appends (append_known held before) (append_known mid waiting) text → OnOk r (Appends mid now waiting) → OnOk r (Appends held now text)
 sent (Ok t) held mid now before waiting text none put done = sent_alone held mid now before waiting text none put done
 sent (Err e) held mid now before waiting text none put done = tt
+
+-- the line of a text is ended, and its newline waits
+pub ended : (start held : Option (List ℕ)) (waiting waits text : List ℕ) → Appends start (append_known held waiting) text → waits ≡ waiting ++ codes "\n"
+    → Appends start (append_known held waits) (text ++ codes "\n")
+ended None held waiting waits text h is = tt
+ended (Some x) None waiting waits text h is = absurd h
+ended (Some x) (Some y) waiting waits text h is =
+    ap (λ l. y ++ l) is ∙ sym (append_assoc y waiting (codes "\n")) ∙ ap (λ l. l ++ codes "\n") h ∙ append_assoc x text (codes "\n")

@@ -16,6 +16,7 @@ ghost use Rattle.tool_commands.specs.Check.{finding_line};
 ghost use Rattle.tool_commands.specs.Dump.{behind_space, cut_status, install_line, install_text};
 ghost use Rattle.tool_commands.specs.Dump.{preload_text};
 ghost use Rattle.tool_commands.specs.Ends.{DumpEnds};
+ghost use Rattle.text_output.specs.Pieces.{EndsWithinLine};
 ghost use Rattle.tool_commands.specs.Said.{said_line};
 ghost use Rattle.tool_commands.specs.inside.Lack.{IsGone, IsLacking, dump_status, end_text};
 ghost use Rattle.tool_commands.specs.inside.Lack.{lack_line, lack_status, libraries_text};
@@ -31,13 +32,7 @@ use sector_disk::Disk;
 use std::alloc::Global;
 use std::io::Write;
 use store::{Store, StoreRefusal};
-use text_output::{OutputBuffer, WriteFault};
-
-/// How many bytes go out with one write.
-const PAGE: usize = 0x10000;
-
-/// A script on its way to a writer.
-type Script = OutputBuffer<PAGE>;
+use text_output::{PieceBuffer, WriteFault};
 
 /// Where a script was cut, and why.
 #[derive(Clone, Copy, PartialEq, Eq)]
@@ -47,14 +42,19 @@ struct Cut {
 }
 
 /// The line that installs a file.
-fn put_install<W: Write>(script: &mut Script, out: &mut W, file: &[u8]) -> Result<(), WriteFault>
+fn put_install<W: Write>(
+    script: &mut PieceBuffer,
+    out: &mut W,
+    file: &[u8],
+) -> Result<(), WriteFault>
     ensures { OnOk result
         (Sends (W.contents out.old) script.old (W.contents out.new) script.new
         (install_line file.now)) }
 {
     script.put(out, b"install ")?;
     put_hex(script, out, file)?;
-    script.put(out, b"\n")
+    script.end_line();
+    Ok(())
 }
 
 /// The lines of the libraries, in their order, one in memory at a time. At one that isn't given it
@@ -62,7 +62,7 @@ fn put_install<W: Write>(script: &mut Script, out: &mut W, file: &[u8]) -> Resul
 fn put_libraries<D: Disk, W: Write>(
     contents: &mut Contents<D>,
     alloc: Global,
-    script: &mut Script,
+    script: &mut PieceBuffer,
     out: &mut W,
 ) -> Result<Option<Cut>, WriteFault>
     ensures read { IsRead D.facts contents.old contents.new }
@@ -87,12 +87,14 @@ fn put_libraries<D: Disk, W: Write>(
 /// The names of the preloads, each behind a space.
 fn put_preload_names<D: Disk, W: Write>(
     store: &Store<D>,
-    script: &mut Script,
+    script: &mut PieceBuffer,
     out: &mut W,
 ) -> Result<(), WriteFault>
-    ensures { (libraries : List Library) → Lists D.facts store.now libraries → OnOk result
+    ensures ok { (libraries : List Library) → Lists D.facts store.now libraries → OnOk result
         (Sends (W.contents out.old) script.old (W.contents out.new) script.new
         (flat_map behind_space (names_at libraries (listed_preloads store.now.root)))) }
+    ensures within { EndsWithinLine script.old.waiting
+        → OnOk result (EndsWithinLine script.new.waiting) }
 {
     let positions = store.preloads();
     for position in positions {
@@ -105,7 +107,7 @@ fn put_preload_names<D: Disk, W: Write>(
 /// The line that sets the preloads, where there are any.
 fn put_preloads<D: Disk, W: Write>(
     store: &Store<D>,
-    script: &mut Script,
+    script: &mut PieceBuffer,
     out: &mut W,
 ) -> Result<(), WriteFault>
     ensures { (libraries : List Library) → Lists D.facts store.now libraries → OnOk result
@@ -117,14 +119,15 @@ fn put_preloads<D: Disk, W: Write>(
     }
     script.put(out, b"preload")?;
     put_preload_names(store, script, out)?;
-    script.put(out, b"\n")
+    script.end_line();
+    Ok(())
 }
 
 /// What stands behind the libraries: the preloads, or `cut`, without a line's end.
 fn put_end<D: Disk, W: Write>(
     store: &Store<D>,
     cut: &Option<Cut>,
-    script: &mut Script,
+    script: &mut PieceBuffer,
     out: &mut W,
 ) -> Result<(), WriteFault>
     ensures { (libraries : List Library) → Lists D.facts store.now libraries → OnOk result
@@ -153,10 +156,10 @@ fn write_script<D: Disk, W: Write>(
         × IsLacking cut × Appends (W.contents out.old) (W.contents out.new)
         (flat_map install_text libraries ++ end_text preloads cut)) }
 {
-    let mut script = Script::new();
+    let mut script = PieceBuffer::new();
     let cut = put_libraries(contents, alloc, &mut script, out)?;
     put_end(contents.store(), &cut, &mut script, out)?;
-    script.send(out)?;
+    script.finish(out)?;
     Ok(cut)
 }
 

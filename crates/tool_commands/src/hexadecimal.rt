@@ -3,21 +3,24 @@
 ghost use Rattle.std.specs.Prelude.{◌≤◌, OnOk, length};
 ghost use Rattle.hex.specs.Hex.{encode_lower};
 ghost use Rattle.text_output.specs.Sends.{Sends};
+ghost use Rattle.text_output.specs.Pieces.{EndsWithinLine};
 
 use std::io::Write;
-use text_output::{OutputBuffer, WriteFault};
+use text_output::{PieceBuffer, WriteFault};
 
 /// How many bytes are spelt at once.
 const PIECE_BYTES: usize = 32;
 
 /// Puts bytes in lower case hexadecimal behind what waits, without a line's end.
-pub(crate) fn put_hex<const SIZE: usize, W: Write>(
-    text: &mut OutputBuffer<SIZE>,
+pub(crate) fn put_hex<W: Write>(
+    text: &mut PieceBuffer,
     out: &mut W,
     bytes: &[u8],
 ) -> Result<(), WriteFault>
-    ensures { OnOk result (Sends (W.contents out.old) text.old (W.contents out.new) text.new
+    ensures ok { OnOk result (Sends (W.contents out.old) text.old (W.contents out.new) text.new
         (encode_lower bytes.now)) }
+    ensures within { EndsWithinLine text.old.waiting
+        → OnOk result (EndsWithinLine text.new.waiting) }
 {
     for piece in bytes.chunks(PIECE_BYTES) {
         put_hex_piece(text, out, piece)?;
@@ -26,14 +29,16 @@ pub(crate) fn put_hex<const SIZE: usize, W: Write>(
 }
 
 /// The same of a few bytes.
-fn put_hex_piece<const SIZE: usize, W: Write>(
-    text: &mut OutputBuffer<SIZE>,
+fn put_hex_piece<W: Write>(
+    text: &mut PieceBuffer,
     out: &mut W,
     piece: &[u8],
 ) -> Result<(), WriteFault>
     requires { length piece.now ≤ PIECE_BYTES }
-    ensures { OnOk result (Sends (W.contents out.old) text.old (W.contents out.new) text.new
+    ensures ok { OnOk result (Sends (W.contents out.old) text.old (W.contents out.new) text.new
         (encode_lower piece.now)) }
+    ensures within { EndsWithinLine text.old.waiting
+        → OnOk result (EndsWithinLine text.new.waiting) }
 {
     let mut digits = [0u8; 2 * PIECE_BYTES];
     let spelt = &mut digits[..2 * piece.len()];

@@ -1,5 +1,6 @@
 // Tests of the crates that read files, bind programs and spell texts.
 
+mod each_call;
 mod executables;
 mod images;
 mod searches;

@@ -2,6 +2,7 @@
 
 mod calls;
 mod disks;
+mod each_call;
 mod faults;
 mod holds;
 mod libraries;

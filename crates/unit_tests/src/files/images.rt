@@ -35,7 +35,7 @@ const RELOCATIONS_AT: usize = 0x150;
 
 const RELOCATIONS_SIZE_AT: usize = 0x160;
 
-fn sample(alloc: Global) -> Result<Vec<u8>, Fail> {
+pub(crate) fn sample(alloc: Global) -> Result<Vec<u8>, Fail> {
     Ok(hex::decode(alloc, SAMPLE)?)
 }
 

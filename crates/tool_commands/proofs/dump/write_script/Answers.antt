@@ -1,4 +1,4 @@
-use Rattle.std.proofs.Common.{◌++◌, map, inl, inr, refl, ap, sym, subst}
+use Rattle.std.proofs.Common.{◌++◌, map, inl, inr, refl, sym, subst}
 use Rattle.std.specs.List.{flat_map}
 use Rattle.std.specs.Io.KnownBytes.{Appends, append_known}
 use Rattle.std.proofs.KnownBytes.{Appends-trans}
@@ -27,8 +27,8 @@ returns-clause-ok g c s at =
     let end = subst (λ names. Appends first second (end_text names cut)) preloads (c.in_ok-put_end.ensures s.libraries (inl (s, here, refl))) in
     let put = Appends-trans start first second (libraries_text s cut) (end_text s.preloads cut) gone.1 end in (
       gone.0,
-      sent_alone (w c.args.out.now) (w c.put_end.new.out) (w c.send.new.out) c.new-script.result.waiting c.put_end.new.script.waiting
-          (libraries_text s cut ++ end_text s.preloads cut) (ap (λ b. b.waiting) c.new-script.ensures) put c.in_ok-send.ensures.ok,
+      sent_alone (w c.args.out.now) (w c.put_end.new.out) (w c.finish.new.out) c.new-script.result.waiting c.put_end.new.script.waiting
+          (libraries_text s cut ++ end_text s.preloads cut) c.new-script.ensures put c.in_ok-finish.ensures,
     )
 
 pub returns-clause-told : goal.returns-clause-told
@@ -47,6 +47,6 @@ returns-clause-told g c =
       gone.0,
       preloads,
       gone.1,
-      sent_alone (w c.args.out.now) (w c.put_end.new.out) (w c.send.new.out) c.new-script.result.waiting c.put_end.new.script.waiting
-          (flat_map install_text gone.0 ++ end_text preloads cut) (ap (λ b. b.waiting) c.new-script.ensures) put c.in_ok-send.ensures.ok,
+      sent_alone (w c.args.out.now) (w c.put_end.new.out) (w c.finish.new.out) c.new-script.result.waiting c.put_end.new.script.waiting
+          (flat_map install_text gone.0 ++ end_text preloads cut) c.new-script.ensures put c.in_ok-finish.ensures,
     )

@@ -12,6 +12,7 @@ loop-piece-init g c =
       [],
       sym (ap (λ i. i.rest.now) c.into_iter-piece-iterator.ensures.into_iter_gives ∙ c.chunks-piece-items.ensures.rest),
       subst (Appends start start) (encode-nil lower_digits) (Appends-nil start),
+      λ h. h,
     )
 
 pub loop-piece-preserved : goal.loop-piece-preserved
@@ -24,11 +25,15 @@ loop-piece-preserved g c =
       done ++ piece,
       c.loop-piece.invariant.1 ∙ ap (λ l. done ++ l) c.in-Some.ensures.steps.1.0 ∙ sym (append_assoc done piece c.next.new.self.rest.now),
       subst (Appends start after) (sym (encode-append lower_digits done piece))
-          (Appends-trans start before after (encode_lower done) (encode_lower piece) c.loop-piece.invariant.2 c.in_ok-put_hex_piece.ensures),
+          (Appends-trans start before after (encode_lower done) (encode_lower piece) c.loop-piece.invariant.2 c.in_ok-put_hex_piece.ensures.ok),
+      λ h. c.in_ok-put_hex_piece.ensures.within (c.loop-piece.invariant.3 h),
     )
 
-pub returns : goal.returns
-returns g c =
+pub returns-clause-within : goal.returns-clause-within
+returns-clause-within g c h = c.loop-piece.invariant.3 h
+
+pub returns-clause-ok : goal.returns-clause-ok
+returns-clause-ok g c =
     let done = c.loop-piece.invariant.0 in
     let rest = c.loop-piece.piece-iterator.rest.now in
     let start = append_known (g.W.Write.contents c.args.out.now) c.args.text.now.waiting in

@@ -1,0 +1,109 @@
+// Each call of a store of either version, once by its path and with ample memory. Some of them no
+// crate here makes: they are for those who keep byte strings without the rest.
+use crate::stores::disks::{write_entry, write_root};
+use crate::stores::sectors::memory;
+use crate::stores::seen::given;
+use extents::Extent;
+use roots::{Entry, Root};
+use sector_disk::Memory;
+use std::alloc::Global;
+use std::process::Abort;
+use store::{Look, OldStore, Store};
+
+// A disk of version 1 with one byte string, 344 zeros named a, which is a preload.
+fn old_disk(rt: &(impl Abort + AllocGlobal)) -> Memory {
+    let mut disk = memory(rt, 8);
+    let extents = [Extent { start: 2, count: 1 }];
+    write_entry(rt, &mut disk, 3, &Entry::new(b"a", 344, &extents));
+    write_root(rt, &mut disk, &Root::over_entries(0, 8, &[], &[]));
+    write_root(rt, &mut disk, &Root::over_entries(1, 8, &[3], &[0]));
+    disk
+}
+
+// Whether a store of version 1 tells that byte string.
+fn tells_old(store: &OldStore<Memory>) -> bool {
+    OldStore::count(store) == 1
+        && OldStore::name(store, 0) == b"a".as_slice()
+        && OldStore::length(store, 0) == 344
+        && OldStore::position(store, b"a") == Some(0)
+        && OldStore::preloads(store) == [0].as_slice()
+}
+
+// Whether it reads it.
+fn reads_old(alloc: Global, store: &mut OldStore<Memory>) -> bool {
+    OldStore::count(store) == 1 && given(OldStore::read_blob(store, alloc, 0)) == Ok((344, Some(0)))
+}
+
+// Whether a store of version 2 tells it.
+fn tells(store: &Store<Memory>) -> bool {
+    Store::count(store) == 1
+        && Store::name(store, 0) == b"a".as_slice()
+        && Store::length(store, 0) == 344
+        && Store::position(store, b"a") == Some(0)
+        && Store::preloads(store) == [0].as_slice()
+}
+
+// Whether it reads it, and as what is held.
+fn reads(alloc: Global, store: &mut Store<Memory>) -> bool {
+    if Store::count(store) != 1 {
+        return false;
+    }
+    let read = given(Store::read_blob(store, alloc, 0));
+    let Ok(held) = Store::hold(store, 0) else {
+        return false;
+    };
+    let held_is = given(Store::read_held(store, alloc, &held));
+    Store::let_go(store, held);
+    read == Ok((344, Some(0))) && held_is == read
+}
+
+// What committing a store of version 1 gives, if that tells and reads what it is to.
+fn committed(alloc: Global, old: OldStore<Memory>) -> Option<Store<Memory>> {
+    let mut old = old;
+    if tells_old(&old) && reads_old(alloc, &mut old) {
+        OldStore::commit(old).ok()
+    } else {
+        let _ = OldStore::into_disk(old);
+        None
+    }
+}
+
+// The store of version 2 that a look at the disk and a commit make.
+fn looked_and_committed(rt: &(impl Abort + AllocGlobal)) -> Option<Store<Memory>> {
+    match Store::look(rt.alloc(), old_disk(rt)) {
+        Ok(Look::Old(store)) => committed(rt.alloc(), store),
+        Ok(Look::Current(store)) => Some(store),
+        Err(_) => None,
+    }
+}
+
+// Whether a store has that byte string and lets itself be changed, and its disk opened.
+fn is_whole(rt: &(impl Abort + AllocGlobal), store: Store<Memory>) -> bool {
+    let mut store = store;
+    let has = tells(&store) && reads(rt.alloc(), &mut store);
+    let chosen = Store::set_preloads(&mut store, &[]).is_ok();
+    match Store::open(rt.alloc(), Store::into_disk(store)) {
+        Ok(opened) => {
+            let kept = Store::count(&opened) == 1 && Store::preloads(&opened).is_empty();
+            let _ = Store::into_disk(opened);
+            has && chosen && kept
+        }
+        Err(_) => false,
+    }
+}
+
+#[test]
+fn a_store_of_version_1_is_looked_at_and_committed(rt: HostRuntime) {
+    match looked_and_committed(&rt) {
+        Some(store) => assert!(rt; is_whole(&rt, store)),
+        None => panic!(rt; "refused"),
+    }
+}
+
+#[test]
+fn a_store_of_version_1_is_upgraded(rt: HostRuntime) {
+    match Store::upgrade(rt.alloc(), old_disk(&rt)) {
+        Ok(store) => assert!(rt; is_whole(&rt, store)),
+        Err(_) => panic!(rt; "refused"),
+    }
+}
