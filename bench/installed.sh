@@ -85,15 +85,9 @@ extern char notes[];
 __attribute__((destructor)) static void own(void) { puts("-main"); }
 int main(void) { return printf("%smain\n", notes) < 0; }
 C
-    program LINKING 2 > end.c
-    eval "$(commands LINKING | head -n 3)"
-    library="$library -fno-gnu-unique -fno-exceptions -fno-rtti -fno-use-cxa-atexit"
-    export REALGCC=g++
-    musl-gcc $library '-DNAME="one"' -Wl,-soname,libone.so -o libone.so one.cc
-    musl-gcc $library '-DNAME="two"' -Wl,-soname,libtwo.so -o libtwo.so two.cc libone.so
-    unset REALGCC
-    musl-gcc $program -Wl,-e,begin -o main $musl/Scrt1.o main.c end.c libtwo.so libone.so \
-        $musl/libc.a -lgcc
+    rlibreg-g++ -O2 '-DNAME="one"' -shared -o libone.so one.cc
+    rlibreg-g++ -O2 '-DNAME="two"' -shared -o libtwo.so two.cc libone.so
+    rlibreg-gcc -O2 -o main main.c libtwo.so libone.so
     rlibreg format old 256 > /dev/null
     ./updater old libtwo.so libone.so
     rlibreg preload old libone.so

@@ -1,5 +1,5 @@
 """Real programs of Debian's sources, each as a program with libraries for a registry, and as a
-static one. The flags, and how Lua gets a module in C, are those of docs/LINKING.md."""
+static one. They are made by rlibreg-gcc; how Lua gets a module in C, docs/LINKING.md has."""
 
 import os
 import re
@@ -11,13 +11,7 @@ import debian_sources
 from debian_sources import NotHad
 
 PAGE = Path(__file__).resolve().parent.parent / 'docs' / 'LINKING.md'
-MUSL = Path('/usr/lib/x86_64-linux-musl')
 LUA = ['-DLUA_USE_POSIX', '-DluaL_openlibs=open_modules']
-
-
-def flags(name):
-    """What the page puts into a variable."""
-    return re.search(rf"^    \$ {name}='(.*)'$", PAGE.read_text(), re.M)[1].split()
 
 
 def program_of_the_page(start):
@@ -60,21 +54,19 @@ class Build:
         made = []
         for file in files:
             made.append(self.objects / f'{len(list(self.objects.iterdir()))}-{file.stem}.o')
-            run('musl-gcc', *flags('library'), *words, '-c', '-o', made[-1], file)
+            run('rlibreg-gcc', '-O2', *words, '-c', '-o', made[-1], file)
         return made
 
     def library(self, soname, objects):
         """A library that may need those before it."""
         path = self.linked / soname
-        named = f'-Wl,-soname,{soname}'
-        run('musl-gcc', *flags('library'), named, '-o', path, *objects, *self.libraries)
+        run('rlibreg-gcc', '-shared', '-o', path, *objects, *self.libraries)
         self.libraries.append(path)
         self.parts += objects
 
     def program(self, name, objects):
         """A program that needs all libraries so far, and the same of these objects alone."""
-        parts = [MUSL / 'Scrt1.o', *objects, *self.libraries[::-1], MUSL / 'libc.a', '-lgcc']
-        run('musl-gcc', *flags('program'), '-o', self.linked / name, *parts)
+        run('rlibreg-gcc', '-o', self.linked / name, *objects, *self.libraries[::-1])
         run('musl-gcc', '-static', '-o', self.static / name, *objects, *self.parts)
 
 

@@ -3,17 +3,18 @@
 
     python3 bench/real_programs.py PROGRAMS FOLDER [--sources SOURCES]
 
-PROGRAMS has rlibreg, rlibreg-run and rlibreg-tool (c/build.sh). Each program has musl inside, and
-its own code in libraries of a registry, as docs/LINKING.md says. What it writes, what it ends with
-and the files that it leaves are compared with what the same sources do where they are linked
-statically; so is what the executable of its image does, where rlibreg-tool makes one. Root has all
-of it done once more by a user without privileges. SOURCES keeps the archives; `apt-get source` gets
-those that aren't there. What this machine hasn't is left out, with a line that says so.
+PROGRAMS has rlibreg, rlibreg-run, rlibreg-tool and rlibreg-gcc (c/build.sh). Each program has musl
+inside, and its own code in libraries of a registry, as docs/LINKING.md says. What it writes, what it
+ends with and the files that it leaves are compared with what the same sources do where they are
+linked statically; so is what the executable of its image does, where rlibreg-tool makes one. Root
+has all of it done once more by a user without privileges. SOURCES keeps the archives; `apt-get
+source` gets those that aren't there. What this machine hasn't is left out, with a line that says so.
 """
 
 import argparse
 import collections
 import gzip
+import os
 import random
 import sqlite3
 import subprocess
@@ -197,7 +198,9 @@ def bench_and_sources():
     folder.chmod(0o755)
     sources = (given.sources or folder / 'sources').resolve()
     sources.mkdir(parents=True, exist_ok=True)
-    return Bench(given.programs.resolve(), folder, Checks()), sources
+    programs = given.programs.resolve()
+    os.environ['PATH'] = f'{programs}:{os.environ["PATH"]}'
+    return Bench(programs, folder, Checks()), sources
 
 
 def main():

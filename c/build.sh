@@ -1,7 +1,7 @@
 #!/usr/bin/env bash
 # build.sh [COMPILER [FOLDER]] builds the C library, the loader and the programs: FOLDER gets
-# librlibreg.a, librlibreg.so, rlibreg.h, rlibreg-run, rlibreg and rlibreg-tool. COMPILER is `llvm`
-# or `rattle`, the toolchain's own; FOLDER is c/out.
+# librlibreg.a, librlibreg.so, rlibreg.h, rlibreg-run, rlibreg, rlibreg-tool, and rlibreg-gcc with its
+# parts. COMPILER is `llvm` or `rattle`, the toolchain's own; FOLDER is c/out.
 #
 # The crates rlibreg_c, rlibreg and rlibreg_tool are proved first, and the crates below them, unless
 # their proofs are kept.
@@ -93,4 +93,10 @@ soname=librlibreg.so.${version%.*}
     ln -s "librlibreg.so.$version" "$soname"
     ln -s "$soname" librlibreg.so
 )
-echo "built in $folder: librlibreg.a, librlibreg.so, rlibreg.h, rlibreg-run, rlibreg, rlibreg-tool"
+
+# The driver, with where its programs begin, and what C++ asks for.
+gcc $flags -g0 -c -o "$folder/rlibreg_begin.o" c/rlibreg_begin.c
+cp c/rlibreg-gcc c/rlibreg_plus.cc "$folder/"
+ln -sf rlibreg-gcc "$folder/rlibreg-g++"
+echo "built in $folder: librlibreg.a, librlibreg.so, rlibreg.h, rlibreg-run, rlibreg, rlibreg-tool," \
+    "rlibreg-gcc"

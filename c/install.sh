@@ -62,6 +62,11 @@ add_all() {
     add 755 "$2/rlibreg" "$1/bin/rlibreg"
     add 755 "$2/rlibreg-run" "$1/bin/rlibreg-run"
     add 755 "$2/rlibreg-tool" "$1/bin/rlibreg-tool"
+    add 755 "$2/rlibreg-gcc" "$1/bin/rlibreg-gcc"
+    add link rlibreg-gcc "$1/bin/rlibreg-g++"
+    for name in rlibreg_begin.o rlibreg_plus.cc; do
+        add 644 "$2/$name" "$1/lib/rlibreg/$name"
+    done
     add 644 "$2/rlibreg.h" "$1/include/rlibreg.h"
     add 644 "$2/librlibreg.a" "$1/lib/librlibreg.a"
     add 644 "$2/$shared.$version" "$1/lib/$shared.$version"

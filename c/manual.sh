@@ -1,6 +1,6 @@
 #!/usr/bin/env bash
-# manual.sh FOLDER makes the manual pages rlibreg.1, rlibreg-tool.1, rlibreg-run.1 and rlibreg.3 from
-# docs/COMMANDS.md, docs/TOOL.md and docs/C.md, by pandoc.
+# manual.sh FOLDER makes the manual pages rlibreg.1, rlibreg-tool.1, rlibreg-run.1, rlibreg-gcc.1 and
+# rlibreg.3 from docs/COMMANDS.md, docs/TOOL.md, docs/LINKING.md and docs/C.md, by pandoc.
 set -eu
 cd "$(dirname "$0")/../docs"
 folder=$1
@@ -21,10 +21,16 @@ awk '/^## Synopsis/ {inside = 1} inside' COMMANDS.md |
 awk '/^## Synopsis/ {inside = 1} inside' TOOL.md |
     page rlibreg-tool 1 'tells what the disk of a registry has, and gives it back'
 
-# The section of C.md on the loader, which begins with its words; and the other sections.
-awk '/^## / {inside = $2 == "rlibreg-run"; if (inside) print "## Synopsis"; next}
-    inside && /^[^ ]/ && !body++ {print "## Description\n"}
-    inside' C.md | page rlibreg-run 1 'starts a program with the libraries of a registry'
+# section PAGE NAME: the section of a page on a program, which begins with its words.
+section() {
+    awk -v name="$2" '/^## / {inside = $2 == name; if (inside) print "## Synopsis"; next}
+        inside && /^[^ ]/ && !body++ {print "## Description\n"}
+        inside' "$1.md"
+}
+section C rlibreg-run | page rlibreg-run 1 'starts a program with the libraries of a registry'
+section LINKING rlibreg-gcc | page rlibreg-gcc 1 'compiles and links what a registry takes'
+
+# The other sections of C.md.
 {
     cat << 'END'
 ## Synopsis

@@ -1,0 +1,51 @@
+/* What g++ asks of C++'s library for code without exceptions: memory, guards of local statics, and the
+ * end of a call of nothing. rlibreg-g++ links what is needed of it. */
+typedef decltype(sizeof 0) size;
+extern "C" {
+void *malloc(size);
+void *aligned_alloc(size, size);
+void free(void *);
+[[noreturn]] void abort();
+int sched_yield();
+}
+namespace std {
+enum class align_val_t : size {};
+}
+
+/* Memory, or the end. */
+static void *or_abort(void *memory) {
+    if (!memory) abort();
+    return memory;
+}
+
+void *operator new(size bytes) { return or_abort(malloc(bytes ? bytes : 1)); }
+void *operator new[](size bytes) { return operator new(bytes); }
+void *operator new(size bytes, std::align_val_t unit) {
+    size mask = size(unit) - 1;
+    return or_abort(aligned_alloc(mask + 1, bytes ? (bytes + mask) & ~mask : mask + 1));
+}
+void *operator new[](size bytes, std::align_val_t unit) { return operator new(bytes, unit); }
+
+void operator delete(void *memory) noexcept { free(memory); }
+void operator delete[](void *memory) noexcept { free(memory); }
+void operator delete(void *memory, size) noexcept { free(memory); }
+void operator delete[](void *memory, size) noexcept { free(memory); }
+void operator delete(void *memory, std::align_val_t) noexcept { free(memory); }
+void operator delete[](void *memory, std::align_val_t) noexcept { free(memory); }
+void operator delete(void *memory, size, std::align_val_t) noexcept { free(memory); }
+void operator delete[](void *memory, size, std::align_val_t) noexcept { free(memory); }
+
+extern "C" {
+/* A guard's first byte says that the object is made, its second that a thread makes it. */
+int __cxa_guard_acquire(char *guard) {
+    while (!__atomic_load_n(guard, __ATOMIC_ACQUIRE)) {
+        if (!__atomic_exchange_n(guard + 1, 1, __ATOMIC_ACQ_REL)) return 1;
+        sched_yield();
+    }
+    return 0;
+}
+void __cxa_guard_release(char *guard) { __atomic_store_n(guard, 1, __ATOMIC_RELEASE); }
+void __cxa_guard_abort(char *guard) { __atomic_store_n(guard + 1, 0, __ATOMIC_RELEASE); }
+void __cxa_pure_virtual() { abort(); }
+void __cxa_deleted_virtual() { abort(); }
+}
