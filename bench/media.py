@@ -267,6 +267,31 @@ class Media:
             time.sleep(0.1)
         return path if path.is_block_device() else None
 
+    def unseen(self):
+        """Through a loop device without direct I/O the medium can't be seen, nor that of its partition: there each change has the
+        medium take the roots, and else none where nothing differs."""
+        for option, wanted in (('off', True), ('on', False)):
+            kind = f'a change over a loop device, direct I/O {option}'
+            try:
+                with loop(zeros(self.image, 8192), f'--direct-io={option}') as device:
+                    if Path(f'/sys/block/{device.name}/loop/dio').read_text().strip() != str(int(option == 'on')):
+                        raise NotHere('the file system has no direct I/O')
+                    for disk, sectors in ((device, 8192), (partition(device, 1, 2048, 100), 100)):
+                        self.by.done('format', str(disk), str(sectors))
+                        self.want(f'{kind}, {disk.name}', self.is_written(disk) == wanted, 'written:', not wanted)
+                    system('delpart', device, 1)
+            except NotHere as why:
+                self.checks.skip(f'{self.by.name}: {kind}', why)
+
+    def is_written(self, disk):
+        """Whether an `upgrade` writes that has nothing to do."""
+        before = self.sectors_written(disk)
+        self.by.done('upgrade', str(disk))
+        return self.sectors_written(disk) > before
+
+    def sectors_written(self, disk):
+        return int(Path(f'/sys/class/block/{disk.name}/stat').read_text().split()[6])
+
     def in_use(self):
         """Devices that are in use are read, and not changed."""
         for part in (self.mounted_device, self.mounted_partition, self.mounted_whole, self.swapped, self.mapped):
@@ -605,7 +630,7 @@ class Media:
                 self.within_a_script(kind, device, plain[0], fail, heal)
 
     def run(self):
-        for part in (self.read_only_media, self.another_user, self.devices, self.odd_sizes, self.partitions, self.in_use, self.two_nodes,
+        for part in (self.read_only_media, self.another_user, self.devices, self.odd_sizes, self.partitions, self.unseen, self.in_use, self.two_nodes,
                      self.locks, self.under_the_cache, self.eight_at_once, self.under_a_file, self.full_medium, self.shorter, self.read_only_device):
             try:
                 part()

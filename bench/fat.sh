@@ -1,0 +1,118 @@
+#!/bin/sh
+# Tries what GUIDE says of a `format` on vfat and exfat that is answered S1: they are mounted anew,
+# it is asked again, and what is answered `ok` from then on stays through a power cut.
+#
+#     bench/fat.sh PROGRAM FOLDER [LIBRARY]
+#
+# Each sync of the `format` fails in turn, with all writes of the device, which then heals. A cut is a
+# copy of what the device was given. What happens without mounting anew is told beside it, and not
+# judged. Wants root, dmsetup, strace, mkfs.vfat or mkfs.exfat, and a kernel with loop devices,
+# dm-flakey and FAT; what is missing is left out, with a line that says so. The shell may be busybox's:
+# where the kernel has none of these it runs in a guest, with DELAY as many microseconds as a slow one
+# takes to exchange a table.
+set -u
+program=$(realpath "$1")
+library=$(realpath "${3:-$(dirname "$0")/../crates/cases/data/strong.so}")
+mkdir -p "$2" && cd "$2" || exit 2
+PATH=$PATH:/usr/sbin:/sbin
+name=rlibreg-$$ loop='' wrong=0 tried=0
+disk=mounted/disk
+
+skipped() {
+    echo "skipped: $1"
+    exit 0
+}
+[ "$(id -u)" = 0 ] || skipped 'all of it: wants root'
+for tool in dmsetup strace losetup blockdev; do
+    command -v $tool > /dev/null || skipped "all of it: there is no $tool"
+done
+dmsetup targets 2> /dev/null | grep -q flakey || modprobe dm_flakey 2> /dev/null
+dmsetup targets 2> /dev/null | grep -q flakey || skipped 'all of it: the kernel has no dm-flakey'
+
+# table TARGET WORD..: what the device does from now on.
+table() {
+    target=$1
+    shift
+    dmsetup suspend --noflush --nolockfs "$name"
+    dmsetup load "$name" --table "0 $size $target $loop 0 $*" && dmsetup resume "$name"
+}
+
+up() {
+    truncate -s 16M image
+    loop=$(losetup -f) && losetup "$loop" image || return 1
+    size=$(blockdev --getsz "$loop")
+    dmsetup create "$name" --table "0 $size linear $loop 0" && dmsetup mknodes
+    "mkfs.$1" "/dev/mapper/$name" > made 2>&1 && mkdir -p mounted cut && mount_it "$1" 2>> made
+}
+mount_it() {
+    mount -t "$1" "/dev/mapper/$name" mounted
+}
+down() {
+    umount mounted 2> /dev/null
+    dmsetup remove "$name" 2> /dev/null
+    losetup -d "$loop" 2> /dev/null
+    rm -f image copy
+}
+
+# A `format` whose sync of this number fails: its answer.
+failing_format() {
+    rm -f trace
+    strace -e trace=fsync -e "inject=fsync:delay_enter=${DELAY:-2000000}:when=$1" -o trace \
+        "$program" format $disk 256 > reply 2>&1 &
+    until [ "$(grep -c 'fsync.*= 0' trace 2> /dev/null)" -ge $(($1 - 1)) ] 2> /dev/null; do
+        kill -0 $! 2> /dev/null || break
+        sleep 0.1
+    done
+    sleep 0.3
+    table flakey 0 3600 1 error_writes
+    wait $!
+    table linear
+    cat reply
+}
+
+# What a cut leaves: the listing of the disk in a copy.
+after_a_cut() {
+    cp image copy
+    other=$(losetup -f) && losetup "$other" copy
+    if mount -t "$1" "$other" cut; then
+        if [ -e cut/disk ]; then "$program" list cut/disk 2>&1 | tr '\n' ' '; else echo 'no DISK'; fi
+        umount cut
+    fi
+    losetup -d "$other"
+}
+
+# one FS SYNC WAY: whether that sync failed.
+one() {
+    up "$1" || return 1
+    first=$(failing_format "$2")
+    [ "$3" = kept ] || { umount mounted && mount_it "$1"; }
+    second=$("$program" format $disk 256 2>&1)
+    change=$("$program" install $disk "$library" 2>&1)
+    found=$(after_a_cut "$1")
+    down
+    [ "$first" = 'refused S1 Device' ] || return 1
+    told="$1, sync $2 of format fails, $3: again '$second', install '$change', after a cut '$found'"
+    if [ "$3" = kept ]; then
+        echo "  $told"
+        return 0
+    fi
+    tried=$((tried + 1))
+    case "$second/$change/$found" in
+    "ok/ok/library "* | "refused S4 AlreadyFormatted/ok/library "*) echo "  $told" ;;
+    *) wrong=$((wrong + 1)) && echo "WRONG: $told" ;;
+    esac
+}
+
+for fs in vfat exfat; do
+    if ! up $fs; then
+        down
+        echo "skipped: $fs: none can be made and mounted: $(tail -n 1 made)"
+        continue
+    fi
+    down
+    sync=1
+    while one $fs $sync kept && one $fs $sync 'mounted anew'; do sync=$((sync + 1)); done
+    [ $sync -gt 1 ] || { wrong=$((wrong + 1)) && echo "WRONG: $fs: no sync of a format fails"; }
+done
+echo "fat: $tried looked at, $wrong wrong"
+[ $wrong = 0 ]
