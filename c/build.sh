@@ -94,9 +94,9 @@ soname=librlibreg.so.${version%.*}
     ln -s "$soname" librlibreg.so
 )
 
-# The driver, with where its programs begin, and what C++ asks for.
+# The driver, with where its programs begin, what C++ asks for, and what reads version scripts.
 gcc $flags -g0 -c -o "$folder/rlibreg_begin.o" c/rlibreg_begin.c
-cp c/rlibreg-gcc c/rlibreg_plus.cc "$folder/"
+cp c/rlibreg-gcc c/rlibreg_plus.cc c/rlibreg_versions.awk "$folder/"
 ln -sf rlibreg-gcc "$folder/rlibreg-g++"
 echo "built in $folder: librlibreg.a, librlibreg.so, rlibreg.h, rlibreg-run, rlibreg, rlibreg-tool," \
     "rlibreg-gcc"

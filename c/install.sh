@@ -64,7 +64,7 @@ add_all() {
     add 755 "$2/rlibreg-tool" "$1/bin/rlibreg-tool"
     add 755 "$2/rlibreg-gcc" "$1/bin/rlibreg-gcc"
     add link rlibreg-gcc "$1/bin/rlibreg-g++"
-    for name in rlibreg_begin.o rlibreg_plus.cc; do
+    for name in rlibreg_begin.o rlibreg_plus.cc rlibreg_versions.awk; do
         add 644 "$2/$name" "$1/lib/rlibreg/$name"
     done
     add 644 "$2/rlibreg.h" "$1/include/rlibreg.h"

@@ -28,7 +28,7 @@ cat > two.map << 'END'
 # Two versions, the second of which has a pattern.
 TWO_1.0 { global: one; /* not
     other; */ local: *; };
-TWO_1.1 { also_*; } TWO_1.0;
+TWO_1.1 { also_*; local_one; } TWO_1.0;
 END
 cat > source.c << 'END'
 int inner(void) { /* by a division that is in libgcc.a */
@@ -37,6 +37,7 @@ int inner(void) { /* by a division that is in libgcc.a */
 }
 int one(void) { return inner(); }
 int also_one(void) { return one(); }
+int local_one(void) { return one(); }
 END
 echo '-Wl,-z,now,--version-script=two.map' > words
 linkers=
@@ -48,12 +49,12 @@ for linker in bfd gold lld; do
         '-Xlinker -version-script=two.map' '-Xlinker --version-script -Xlinker two.map' @words; do
         rm -f libone.so
         $gcc -fuse-ld=$linker -fstack-protector-all -DNUMBER=1 -shared $words -o libone.so source.c
-        want "$linker $words" 'also_one one ' "$(exported libone.so)"
+        want "$linker $words" 'also_one local_one one ' "$(exported libone.so)"
         want "$linker $words: what it asks for" '' "$(nm -D libone.so | grep ' U ' || true)"
         want "$linker $words: versions" '' "$(readelf -VW libone.so | grep 'TWO\|Name:' || true)"
     done
     $gcc -fuse-ld=$linker -DNUMBER=1 -shared -o libone.so source.c
-    want "$linker: no script" 'also_one inner one ' "$(exported libone.so)"
+    want "$linker: no script" 'also_one inner local_one one ' "$(exported libone.so)"
     cat > versions.c << 'END'
 int first(void) { return 1; }
 int second(void) { return 2; }

@@ -1,0 +1,60 @@
+# Makes version scripts one that names no version: what any of them has global or local stays so, and
+# where both, global. A symbol of two versions ends it. `name` is the program's, for messages.
+
+function fail(why) {
+    print name ": " FILENAME ": " why > "/dev/stderr"
+    failed = 1
+    exit 1
+}
+# The next token: a string, a mark, a label, or a pattern.
+function take() {
+    sub(/^[ \t\r\n]+/, "", text)
+    if (!match(text, /^"[^"]*"/) && !match(text, /^(global|local)[ \t\n]*:/) &&
+        !match(text, /^[{};]/) && !match(text, /^[^ \t\r\n{};"]+/))
+        fail("it ends within a version")
+    token = substr(text, 1, RLENGTH)
+    text = substr(text, RLENGTH + 1)
+    return token
+}
+# A pattern of this scope, and of a language where that is not C.
+function add(pattern, language) {
+    key = language SUBSEP pattern
+    if (scope == "local") locals[key] = 1
+    else if (key in globals && globals[key] != version && pattern !~ /[*?[]/)
+        fail(pattern " has two versions, " globals[key] " and " version)
+    else globals[key] = version
+}
+function block(language) {
+    while (take() != "}") {
+        if (token ~ /^global[ \t\n]*:/) scope = "global"
+        else if (token ~ /^local[ \t\n]*:/) scope = "local"
+        else if (token == "extern") { inner = take(); take(); block(inner) }
+        else if (token != ";") add(token, language)
+    }
+}
+function write(patterns, label, parts, key, first) {
+    for (key in patterns) {
+        if (!first++) print label ":"
+        split(key, parts, SUBSEP)
+        if (parts[1] == "") print "  " parts[2] ";"
+        else print "  extern " parts[1] " { " parts[2] "; };"
+    }
+}
+{ text = text $0 "\n" }
+END {
+    if (failed) exit 1
+    gsub(/\/\*([^*]|\*+[^*\/])*\*+\//, " ", text)
+    gsub(/#[^\n]*/, "", text)
+    while (text ~ /[^ \t\r\n]/) {
+        version = take() == "{" ? "none" : token
+        if (token != "{" && take() != "{") fail("it is no version script")
+        scope = "global"
+        block("")
+        while (take() != ";") continue
+    }
+    for (key in globals) delete locals[key]
+    print "{"
+    write(globals, "global")
+    write(locals, "local")
+    print "};"
+}
