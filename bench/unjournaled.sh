@@ -1,19 +1,20 @@
 #!/bin/sh
-# Tries what GUIDE says of a `format` on vfat and exfat that is answered S1: they are mounted anew,
-# it is asked again, and what is answered `ok` from then on stays through a power cut.
+# Tries what GUIDE says of a `format` that is answered S1 on file systems without a journal: they are
+# mounted anew, it is asked again, and what is answered `ok` from then on stays through a power cut.
 #
-#     bench/fat.sh PROGRAM FOLDER [LIBRARY]
+#     bench/unjournaled.sh PROGRAM FOLDER [LIBRARY [FS..]]
 #
-# Each sync of the `format` fails in turn, with all writes of the device, which then heals. A cut is a
-# copy of what the device was given. What happens without mounting anew is told beside it, and not
-# judged. Wants root, dmsetup, strace, mkfs.vfat or mkfs.exfat, and a kernel with loop devices,
-# dm-flakey and FAT; what is missing is left out, with a line that says so. The shell may be busybox's:
-# where the kernel has none of these it runs in a guest, with DELAY as many microseconds as a slow one
-# takes to exchange a table.
+# FS is vfat, exfat and ext2. Each sync of the `format` fails in turn, with all writes of the device,
+# which then heals. A cut is a copy of what the device was given. What happens without mounting anew
+# is told beside it, and not judged. Wants root, dmsetup, strace, mkfs of each FS, and a kernel with
+# loop devices, dm-flakey and FS; what is missing is left out, with a line that says so. The shell may
+# be busybox's: where the kernel has none of these it runs in a guest, with DELAY as many microseconds
+# as a slow one takes to exchange a table.
 set -u
 program=$(realpath "$1")
 library=$(realpath "${3:-$(dirname "$0")/../crates/cases/data/strong.so}")
 mkdir -p "$2" && cd "$2" || exit 2
+[ $# -lt 3 ] && shift 2 || shift 3
 PATH=$PATH:/usr/sbin:/sbin
 name=rlibreg-$$ loop='' wrong=0 tried=0
 disk=mounted/disk
@@ -103,7 +104,7 @@ one() {
     esac
 }
 
-for fs in vfat exfat; do
+for fs in ${*:-vfat exfat ext2}; do
     if ! up $fs; then
         down
         echo "skipped: $fs: none can be made and mounted: $(tail -n 1 made)"
@@ -114,5 +115,5 @@ for fs in vfat exfat; do
     while one $fs $sync kept && one $fs $sync 'mounted anew'; do sync=$((sync + 1)); done
     [ $sync -gt 1 ] || { wrong=$((wrong + 1)) && echo "WRONG: $fs: no sync of a format fails"; }
 done
-echo "fat: $tried looked at, $wrong wrong"
+echo "unjournaled: $tried looked at, $wrong wrong"
 [ $wrong = 0 ]
