@@ -11,7 +11,7 @@ release=${2:-bookworm}
 cd "$(dirname "$0")/.."
 root=$(mktemp -d)
 trap 'rm -rf "$root"' EXIT
-wanted=g++,libc6-dev,musl-tools,pkg-config,python3
+wanted=bzip2,g++,libc6-dev,make,musl-tools,pkg-config,python3
 debootstrap --variant=minbase --include=$wanted "$release" "$root" > "$root.log" 2>&1 ||
     { tail "$root.log" >&2; exit 1; }
 rm "$root.log"
@@ -36,16 +36,18 @@ everything() {
     find / -xdev -path /proc -prune -o -print | sort
 }
 
-# The sources of Lua and LPeg, which are Debian's.
-get_lua() {
-    mkdir lua lua/lpeg
+# The sources of Lua and LPeg, zlib and bzip2, which are Debian's.
+get_sources() {
+    mkdir lua lua/lpeg zlib bzip2 alone
     (
-        cd lua
         sed -n 's/^deb /deb-src /p' /etc/apt/sources.list > /etc/apt/sources.list.d/source.list
-        apt-get update && apt-get source --download-only lua5.4 lua-lpeg &&
-            tar --strip-components=1 -xf lua5.4_*.orig.tar.gz &&
-            tar --strip-components=1 -C lpeg -xf lua-lpeg_*.orig.tar.gz
-    ) > lua.log 2>&1 || rm -r lua
+        apt-get update && apt-get source --download-only lua5.4 lua-lpeg zlib bzip2 &&
+            tar --strip-components=1 -C lua -xf lua5.4_*.orig.tar.gz &&
+            tar --strip-components=1 -C lua/lpeg -xf lua-lpeg_*.orig.tar.gz &&
+            tar --strip-components=1 -C alone -xf lua5.4_*.orig.tar.gz &&
+            tar --strip-components=1 -C zlib -xf zlib_*.orig.tar.* &&
+            tar --strip-components=1 -C bzip2 -xf bzip2_*.orig.tar.*
+    ) > sources.log 2>&1 || rm -r lua zlib bzip2 alone
 }
 
 by_pkg_config() {
@@ -143,8 +145,31 @@ LUA
     echo 'docs/LINKING.md: as written, and Lua prints what it prints where it is linked statically'
 }
 
+# by_table PROJECT FOLDER: builds it by the command that the page's table has.
+by_table() {
+    local command
+    command=$(sed -n "s/^| $1 [0-9.]* | \`\([^\`]*\)\` .*/\1/p" /rlibreg/docs/LINKING.md)
+    cp -r "../$2" .
+    (cd "$2" && eval "$command") > log 2>&1 || { tail log >&2; return 1; }
+}
+
+# Projects as they are: three by their own commands, and what they do.
+projects() {
+    [ -d ../zlib ] || { echo "left out: projects, whose sources can't be had"; return 0; }
+    by_table zlib zlib
+    by_table bzip2 bzip2
+    by_table Lua alone
+    ./updater disk zlib/libz.so.1 bzip2/libbz2.so.1.0
+    seq 9999 > numbers
+    rlibreg-run disk zlib/minigzipsh < numbers | gzip -d | cmp - numbers
+    rlibreg-run disk bzip2/bzip2-shared < numbers > packed
+    python3 -c 'import bz2; assert bz2.open("packed").read() == open("numbers", "rb").read()'
+    rlibreg-run disk alone/src/lua -v
+    echo 'docs/LINKING.md: zlib, bzip2 and Lua by their own commands'
+}
+
 cd /tmp
-get_lua
+get_sources
 everything > before
 /rlibreg/c/install.sh /usr/local
 ldconfig
@@ -156,6 +181,7 @@ by_python
 objects
 tool
 lua
+projects
 cd ..
 rm -r walk
 /rlibreg/c/install.sh --remove /usr/local/share/rlibreg/installed

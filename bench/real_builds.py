@@ -20,10 +20,14 @@ def program_of_the_page(start):
     return next(it for it in found if it.startswith(start))
 
 
+class NotBuilt(Exception):
+    """How a build failed."""
+
+
 def run(*words, cwd=None):
     ended = subprocess.run([*map(str, words)], cwd=cwd, capture_output=True, text=True)
     if ended.returncode:
-        raise NotHad(f'{" ".join(map(str, words))[:120]}: {ended.stderr.strip()[-300:]}')
+        raise NotBuilt(f'{" ".join(map(str, words))[:120]}: {ended.stderr.strip()[-600:]}')
 
 
 def need(tool, package):
@@ -68,17 +72,6 @@ class Build:
         """A program that needs all libraries so far, and the same of these objects alone."""
         run('rlibreg-gcc', '-o', self.linked / name, *objects, *self.libraries[::-1])
         run('musl-gcc', '-static', '-o', self.static / name, *objects, *self.parts)
-
-
-def zlib(folder, archives):
-    """zlib, with minigzip, which packs and unpacks files, and its own test."""
-    build = Build(folder)
-    source = build.source(archives, 'zlib')
-    words = ['-DHAVE_UNISTD_H', f'-I{source}']
-    build.library('libz.so', build.compiled(sorted(source.glob('*.c')), *words))
-    for name in ('minigzip', 'example'):
-        build.program(name, build.compiled([source / 'test' / f'{name}.c'], *words))
-    return build
 
 
 def lua(folder, archives):

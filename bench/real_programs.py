@@ -1,7 +1,8 @@
 #!/usr/bin/env python3
-"""Runs zlib, Lua with LPeg, and SQLite, of Debian's sources, from a registry.
+"""Runs real programs of Debian's sources from a registry: some that are built by hand, and projects
+that are built by their own commands.
 
-    python3 bench/real_programs.py PROGRAMS FOLDER [--sources SOURCES]
+    python3 bench/real_programs.py PROGRAMS FOLDER [--sources SOURCES] [--only NAME..]
 
 PROGRAMS has rlibreg, rlibreg-run, rlibreg-tool and rlibreg-gcc (c/build.sh). Each program has musl
 inside, and its own code in libraries of a registry, as docs/LINKING.md says. What it writes, what it
@@ -13,89 +14,29 @@ source` gets those that aren't there. What this machine hasn't is left out, with
 
 import argparse
 import collections
-import gzip
 import os
-import random
-import sqlite3
 import subprocess
 import sys
 from pathlib import Path
 
 import real_builds
+import unchanged
 from checks import NOBODY, Checks, emptied, has
 from debian_sources import NotHad
 from disks import install
+from real_trials import TRIALS
 
-HERE = Path(__file__).resolve().parent
-SECTORS, BASE = '8192', '0x10000000'
+SECTORS, BASE = '32768', '0x10000000'
 ENVIRONMENT = {'PATH': '/usr/bin:/bin', 'HOME': '/', 'LC_ALL': 'C', 'TZ': 'UTC'}
 WAIT = 300
 
-# A start of a program: its words, its input, and the status that is wanted.
-Step = collections.namedtuple('Step', 'words given status', defaults=(b'', 0))
-# What is tried of a program: the files that it finds, its starts, and a test of what it did, which
-# gets what each start ended with and wrote, the files that are left, and their folder.
-Trial = collections.namedtuple('Trial', 'program files steps is_right')
 Ended = collections.namedtuple('Ended', 'status output errors')
 # How a program is started: its file, and the words before it.
 Variant = collections.namedtuple('Variant', 'name file before')
 
 
-def is_packed_right(ended, left, _):
-    """Python reads what minigzip packed, and the file was unpacked again."""
-    data = left.get('data')
-    unpacked = gzip.decompress(ended[0].output)
-    return unpacked == data == left.get('again') and 'again.gz' not in left
-
-
-def zlib_trials(_):
-    choose = random.Random(1)
-    words = [bytes(choose.choices(b'abcdefgh \n', k=9)) for _ in range(300)]
-    data = b''.join(choose.choices(words, k=60_000)) + choose.randbytes(200_000)
-    packed = gzip.compress(data, mtime=0)
-    damaged = packed[:70_000] + bytes([packed[70_000] ^ 1]) + packed[70_001:]
-    steps = [Step([word], data) for word in ('-6', '-1', '-9', '-h', '-f')]
-    steps += [Step(['-d'], packed), Step(['again']), Step(['-d', 'again.gz'])]
-    steps += [Step(['-d'], damaged, 1), Step(['-d', 'nowhere'], b'', 1)]
-    yield Trial('minigzip', {'data': data, 'again': data}, steps, is_packed_right)
-    yield Trial('example', {}, [Step([])], lambda ended, *_: b'inflate' in ended[0].output)
-
-
-def is_script_right(ended, *_):
-    """The script and LPeg's own test came to their ends."""
-    return ended[0].output.endswith(b'\nend\n') and ended[1].output.endswith(b'OK\n')
-
-
-def lua_trials(build):
-    files = {'script.lua': (HERE / 'real.lua').read_bytes()}
-    files.update({name: (build.folder / name).read_bytes() for name in ('lpeg.lua', 're.lua')})
-    steps = [Step(['script.lua', 'one', 'two'], b'a line\n' * 1000, 7), Step(['lpeg.lua'])]
-    steps += [Step(['-i'], b'return 6 * 7\nnowhere()\n'), Step(['-'], b'return 1 +\n', 1)]
-    steps += [Step(['-v', '-e', 'error("left")'], b'', 1), Step(['nowhere.lua'], b'', 1)]
-    yield Trial('lua', files, steps, is_script_right)
-
-
-def is_database_right(_, left, place):
-    """Python's SQLite finds what the shell has left."""
-    with sqlite3.connect(f'file:{place}/database?mode=ro&immutable=1', uri=True) as it:
-        counts = it.execute('SELECT count(*), sum(id) FROM people').fetchone()
-        sound = it.execute('PRAGMA integrity_check').fetchall()
-    return (counts, sound) == ((5000, 12_502_500), [('ok',)]) and 'database' in left
-
-
-def sqlite_trials(_):
-    script = (HERE / 'real.sql').read_bytes()
-    steps = [Step(['database'], script, 1), Step([':memory:', 'SELECT nowhere;'], b'', 1)]
-    steps.append(Step(['database', 'PRAGMA integrity_check; SELECT max(name) FROM people;']))
-    steps.append(Step(['-json', 'database', 'SELECT * FROM towns LIMIT 3;']))
-    yield Trial('sqlite3', {}, steps, is_database_right)
-
-
-REAL = {
-    'zlib': (real_builds.zlib, zlib_trials),
-    'Lua': (real_builds.lua, lua_trials),
-    'SQLite': (real_builds.sqlite, sqlite_trials),
-}
+# Programs that are built by hand; those that their own commands build are in unchanged.PROJECTS.
+BY_HAND = {'Lua': real_builds.lua, 'SQLite': real_builds.sqlite}
 
 
 def done(*words):
@@ -171,28 +112,43 @@ class Bench:
             yield 'nobody', NOBODY
 
 
-def try_all(bench, sources):
-    users = list(bench.users())
-    for name, (builder, trials) in REAL.items():
+def builds(bench, sources, names):
+    """Each program that can be built here, by its name."""
+    built = {}
+    for name in names:
+        place = bench.folder / name.replace(', ', '-')
         try:
-            build = builder(bench.folder / name, sources)
+            if name in BY_HAND:
+                built[name] = BY_HAND[name](place, sources)
+            else:
+                built[name] = unchanged.build(name, place, sources, built)
         except NotHad as why:
             bench.checks.skip(name, why)
             continue
-        print(f'{name}: {", ".join(build.versions)}', flush=True)
+        except real_builds.NotBuilt as why:
+            bench.checks.want(name, False, why)
+            continue
+        print(f'{name}: {", ".join(built[name].versions)}', flush=True)
+        yield name, built[name]
+
+
+def try_all(bench, sources, names):
+    users = list(bench.users())
+    for name, build in builds(bench, sources, names):
         disk = bench.registry(build)
-        for trial in trials(build):
+        for trial in TRIALS[name](build):
             variants = list(bench.variants(build, disk, trial.program))
             for user, wrapped in users:
                 bench.compare(trial, variants, user, wrapped)
 
 
-def bench_and_sources():
+def asked_for():
     """By the words of the process; FOLDER is emptied."""
     asked = argparse.ArgumentParser()
     asked.add_argument('programs', type=Path)
     asked.add_argument('folder', type=Path)
     asked.add_argument('--sources', type=Path)
+    asked.add_argument('--only', nargs='+', choices=TRIALS, default=[*BY_HAND, *unchanged.PROJECTS])
     given = asked.parse_args()
     folder = emptied(given.folder.resolve())
     folder.chmod(0o755)
@@ -200,12 +156,12 @@ def bench_and_sources():
     sources.mkdir(parents=True, exist_ok=True)
     programs = given.programs.resolve()
     os.environ['PATH'] = f'{programs}:{os.environ["PATH"]}'
-    return Bench(programs, folder, Checks()), sources
+    return Bench(programs, folder, Checks()), sources, given.only
 
 
 def main():
-    bench, sources = bench_and_sources()
-    try_all(bench, sources)
+    bench, sources, names = asked_for()
+    try_all(bench, sources, names)
     sys.exit(bench.checks.end('real_programs'))
 
 

@@ -1,0 +1,149 @@
+"""What is tried of real programs: their files, their starts, and what they have to do."""
+
+import bz2
+import collections
+import gzip
+import random
+import re
+import sqlite3
+from pathlib import Path
+
+from unchanged import SUITES, UNITS, YAML
+
+HERE = Path(__file__).resolve().parent
+
+# A start of a program: its words, its input, and the status that is wanted.
+Step = collections.namedtuple('Step', 'words given status', defaults=(b'', 0))
+# What is tried of a program: the files that it finds, its starts, and a test of what it did, which
+# gets what each start ended with and wrote, the files that are left, and their folder.
+Trial = collections.namedtuple('Trial', 'program files steps is_right')
+
+
+def is_packed_right(ended, left, _):
+    """Python reads what minigzip packed, and the file was unpacked again."""
+    data = left.get('data')
+    unpacked = gzip.decompress(ended[0].output)
+    return unpacked == data == left.get('again') and 'again.gz' not in left
+
+
+def zlib_trials(_):
+    choose = random.Random(1)
+    words = [bytes(choose.choices(b'abcdefgh \n', k=9)) for _ in range(300)]
+    data = b''.join(choose.choices(words, k=60_000)) + choose.randbytes(200_000)
+    packed = gzip.compress(data, mtime=0)
+    damaged = packed[:70_000] + bytes([packed[70_000] ^ 1]) + packed[70_001:]
+    steps = [Step([word], data) for word in ('-6', '-1', '-9', '-h', '-f')]
+    steps += [Step(['-d'], packed), Step(['again']), Step(['-d', 'again.gz'])]
+    steps += [Step(['-d'], damaged, 1), Step(['-d', 'nowhere'], b'', 1)]
+    yield Trial('minigzip', {'data': data, 'again': data}, steps, is_packed_right)
+    yield Trial('example', {}, [Step([])], lambda ended, *_: b'inflate' in ended[0].output)
+
+
+def is_script_right(ended, *_):
+    """The script and LPeg's own test came to their ends."""
+    return ended[0].output.endswith(b'\nend\n') and ended[1].output.endswith(b'OK\n')
+
+
+def lua_trials(build):
+    files = {'script.lua': (HERE / 'real.lua').read_bytes()}
+    files.update({name: (build.folder / name).read_bytes() for name in ('lpeg.lua', 're.lua')})
+    steps = [Step(['script.lua', 'one', 'two'], b'a line\n' * 1000, 7), Step(['lpeg.lua'])]
+    steps += [Step(['-i'], b'return 6 * 7\nnowhere()\n'), Step(['-'], b'return 1 +\n', 1)]
+    steps += [Step(['-v', '-e', 'error("left")'], b'', 1), Step(['nowhere.lua'], b'', 1)]
+    yield Trial('lua', files, steps, is_script_right)
+
+
+def is_database_right(_, left, place):
+    """Python's SQLite finds what the shell has left."""
+    with sqlite3.connect(f'file:{place}/database?mode=ro&immutable=1', uri=True) as it:
+        counts = it.execute('SELECT count(*), sum(id) FROM people').fetchone()
+        sound = it.execute('PRAGMA integrity_check').fetchall()
+    return (counts, sound) == ((5000, 12_502_500), [('ok',)]) and 'database' in left
+
+
+def sqlite_trials(_):
+    script = (HERE / 'real.sql').read_bytes()
+    steps = [Step(['database'], script, 1), Step([':memory:', 'SELECT nowhere;'], b'', 1)]
+    steps.append(Step(['database', 'PRAGMA integrity_check; SELECT max(name) FROM people;']))
+    steps.append(Step(['-json', 'database', 'SELECT * FROM towns LIMIT 3;']))
+    yield Trial('sqlite3', {}, steps, is_database_right)
+
+
+def right(*_):
+    """Nothing but what the static one did is wanted."""
+    return True
+
+
+def bzip2_trials(_):
+    data = b'a line of words\n' * 9000 + random.Random(2).randbytes(9000)
+    packed = bz2.compress(data)
+    steps = [Step(['-c'], data), Step(['-1c'], data), Step(['-dc'], packed), Step(['-tv'], packed)]
+    steps += [Step(['-dc'], packed[:-9], 2), Step(['-k', 'data']), Step(['-d', 'data.bz2'], b'', 1)]
+    yield Trial('bzip2', {'data': data}, steps, lambda ended, left, _:
+                bz2.decompress(ended[0].output) == data == bz2.decompress(left['data.bz2']))
+
+
+def lua_alone_trials(_):
+    steps = [Step(['-e', 'print(("x"):rep(3), 7 // 2, math.sin(1), #arg)']), Step(['-v'])]
+    steps += [Step(['-'], b'local t = {} for i = 1, 9 do t[i] = i * i end print(#t, t[9])\n')]
+    steps += [Step(['-e', 'print(pcall(require, "nowhere"), package.loadlib("./none", "f"))'])]
+    yield Trial('lua', {}, steps, lambda ended, *_: ended[0].output.startswith(b'xxx\t3\t0.84147'))
+
+
+def cjson_trials(_):
+    yield Trial('cJSON_test', {}, [Step([])], lambda ended, *_: b'"name"' in ended[0].output)
+    for name in UNITS:
+        yield Trial(name, {}, [Step([])], lambda ended, *_: b' 0 Failures' in ended[0].output)
+
+
+def jansson_trials(_):
+    text = b'{"b": [1, 2.5e3, "\\u20ac \\ud83d\\ude00", null, true], "a": {"deep": [[[]]]}}'
+    steps = [Step(['--env'], text), Step(['--env'], text[:-1], 1), Step(['--env'], b'[0x1]', 1)]
+    yield Trial('json_process', {}, steps, lambda ended, *_: b'"deep"' in ended[0].output)
+    for name in SUITES:
+        yield Trial(f'test_{name}', {}, [Step([])], right)
+
+
+def yaml_trials(_):
+    text = b'- &a {b: "c\\n", d: [1, 2]}\n- *a\n- |\n  a\n  text\n- !!set {? x}\n...\n---\nlast\n'
+    files = {'good': text, 'bad': b'- [1, 2\n- }\n'}
+    for name in YAML[:5]:
+        steps = [Step(['good'])] + [Step(['bad'])] * (name not in YAML[3:])
+        yield Trial(name, files, steps, lambda ended, *_: b'SUCCESS' in ended[0].output
+                    or b'PASSED' in ended[0].output)
+    yield Trial('test-reader', {}, [Step([])], lambda ended, *_:
+                set(re.findall(rb'(\d+) fail', ended[0].output)) == {b'0'})
+    yield Trial('example-reformatter', {}, [Step([], text)], lambda ended, *_:
+                b'last' in ended[0].output)
+
+
+def expat_trials(_):
+    files = {'good.xml': b'<?xml version="1.0"?><!DOCTYPE a [<!ENTITY b "c">]><a d="e">&b;</a>',
+             'bad.xml': b'<a><b></a>'}
+    steps = [Step(['good.xml']), Step(['bad.xml'], b'', 2), Step(['-v'])]
+    yield Trial('xmlwf', files, steps, lambda ended, *_: b'mismatched tag' in ended[1].output)
+    for name in ('runtests', 'runtestspp'):
+        yield Trial(name, {}, [Step([])], lambda ended, *_: b'100%' in ended[0].output)
+
+
+def png_trials(it):
+    picture = (it.place['static'] / 'pngtest.png').read_bytes()
+    yield Trial('pngtest', {'pngtest.png': picture}, [Step(['pngtest.png'])],
+                lambda ended, *_: b'libpng passes test' in ended[0].output)
+
+
+def pcre_trials(it):
+    data = it.place['static'] / 'testdata'
+    inputs = [f'testinput{n}' for n in (1, 4, 5, 6, 9)]
+    files = {name: (data / name).read_bytes() for name in inputs}
+    wanted = [(data / name.replace('input', 'output')).read_bytes() for name in inputs]
+    steps = [Step(['-q', name]) for name in inputs]
+    yield Trial('pcre2test', files, steps, lambda ended, *_:
+                [it.output for it in ended] == wanted)
+
+
+TRIALS = {
+    'zlib': zlib_trials, 'Lua': lua_trials, 'SQLite': sqlite_trials,
+    'bzip2': bzip2_trials, 'Lua, alone': lua_alone_trials, 'cJSON': cjson_trials,
+    'jansson': jansson_trials, 'libyaml': yaml_trials, 'expat': expat_trials, 'libpng': png_trials,
+    'PCRE2': pcre_trials}

@@ -1,0 +1,97 @@
+"""Projects of Debian's sources as they are, each built by its own commands: with CC=rlibreg-gcc, and
+once more as static programs by musl-gcc. docs/LINKING.md has a table of them."""
+
+import collections
+import shutil
+
+from debian_sources import NotHad
+from real_builds import Build, need, run
+
+# A project: its package; its commands, in which {cc} and {cxx} are the compilers, {words} those of
+# `linked` or of `static`, and the name of a project in `before` is its folder; where its libraries are,
+# in the order of what needs what; its programs, by where they are, and where the static ones are; and
+# the tools that it takes.
+Project = collections.namedtuple(
+    'Project', 'package commands linked static libraries programs tools before', defaults=((), ()))
+CMAKE = 'cmake -DCMAKE_C_COMPILER={cc} -DCMAKE_CXX_COMPILER={cxx} {words} . && make'
+STATIC = '-DBUILD_SHARED_LIBS=OFF -DCMAKE_EXE_LINKER_FLAGS=-static'
+CONFIGURE = 'CC="{cc}" ./configure {words} && make'
+# cJSON's tests.
+UNITS = ('misc_tests', 'minify_tests', 'compare_tests', 'cjson_add', 'parse_array', 'parse_number',
+         'parse_object', 'parse_string', 'parse_value', 'print_number', 'print_string', 'print_value')
+# jansson's tests.
+SUITES = ('array', 'chaos', 'copy', 'dump', 'dump_callback', 'equal', 'fixed_size', 'load',
+          'load_callback', 'loadb', 'memory_funcs', 'number', 'object', 'pack', 'simple', 'sprintf',
+          'unpack')
+# libyaml's programs.
+YAML = ('run-parser', 'run-scanner', 'run-loader', 'run-emitter', 'run-dumper', 'test-reader')
+
+PROJECTS = {
+    'zlib': Project(
+        'zlib', 'CC="{cc}" ./configure {words} && make', '', '--static', ['libz.so'],
+        {'minigzip': ('minigzipsh', 'minigzip'), 'example': ('examplesh', 'example')}),
+    'bzip2': Project(
+        'bzip2', 'make {words} CC="{cc}"', '-f Makefile-libbz2_so', 'bzip2', ['libbz2.so.1.0'],
+        {'bzip2': ('bzip2-shared', 'bzip2')}),
+    'Lua, alone': Project(
+        'lua5.4', 'make posix CC="{cc}"', '', '', [], {'lua': ('src/lua', 'src/lua')}),
+    'cJSON': Project(
+        'cjson', CMAKE, '', STATIC, ['libcjson.so'],
+        {'cJSON_test': ('cJSON_test',) * 2, **{it: (f'tests/{it}',) * 2 for it in UNITS}}, ['cmake']),
+    'jansson': Project(
+        'jansson', CMAKE, '-DJANSSON_BUILD_SHARED_LIBS=ON -DJANSSON_BUILD_DOCS=OFF',
+        f'-DJANSSON_BUILD_DOCS=OFF {STATIC}', ['lib/libjansson.so'],
+        {it: (f'bin/{it}',) * 2 for it in ('json_process', *(f'test_{it}' for it in SUITES))},
+        ['cmake']),
+    'libyaml': Project(
+        'libyaml', CMAKE, '-DBUILD_SHARED_LIBS=ON', STATIC, ['libyaml.so'],
+        {it: (it, it) for it in (*YAML, 'example-reformatter')}, ['cmake']),
+    'expat': Project(
+        'expat', f'cd expat && {CMAKE}', '-DEXPAT_BUILD_DOCS=OFF',
+        f'-DEXPAT_BUILD_DOCS=OFF -DEXPAT_SHARED_LIBS=OFF {STATIC}', ['expat/libexpat.so'],
+        {'xmlwf': ('expat/xmlwf/xmlwf',) * 2, 'runtests': ('expat/tests/runtests',) * 2,
+         'runtestspp': ('expat/tests/runtestspp',) * 2}, ['cmake']),
+    'libpng': Project(
+        'libpng1.6', 'export CPPFLAGS=-I{zlib} LDFLAGS=-L{zlib} && ' + CONFIGURE, '--disable-static',
+        '--disable-shared', ['.libs/libpng16.so'],
+        {'pngtest': ('.libs/pngtest', 'pngtest')}, (), ['zlib']),
+    'PCRE2': Project(
+        'pcre2', CONFIGURE, '--disable-static', '--disable-shared',
+        ['.libs/libpcre2-8.so', '.libs/libpcre2-posix.so'],
+        {'pcre2test': ('.libs/pcre2test', 'pcre2test')}),
+}
+
+
+def build_one(project, source, kind, words, compiler, before):
+    """Runs a project's commands in its source, a copy of which is kept. Both kinds are built under one
+    name, since some programs print it."""
+    place, kept = source.with_name(kind), source.with_name('source')
+    if not kept.exists():
+        source.rename(kept)
+    shutil.copytree(kept, source, symlinks=True)
+    cc, cxx = compiler
+    others = {other: it.place[kind] for other, it in before.items()}
+    run('sh', '-c', project.commands.format(cc=cc, cxx=cxx, words=words, **others), cwd=source)
+    return source.rename(place)
+
+
+def build(name, folder, archives, built):
+    """A project with its programs, by the driver and static; `built` has those that came before."""
+    project, it = PROJECTS[name], Build(folder)
+    for tool in project.tools:
+        need(tool, tool)
+    before = {other: built[other] for other in project.before if other in built}
+    if len(before) < len(project.before):
+        raise NotHad(f'{name} needs {", ".join(project.before)}')
+    source = it.source(archives, project.package)
+    static = ('musl-gcc', 'musl-gcc') if 'cmake' in project.tools else ('musl-gcc -static',) * 2
+    it.place = {
+        'linked': build_one(project, source, 'linked', project.linked, ('rlibreg-gcc', 'rlibreg-g++'),
+                            before),
+        'static': build_one(project, source, 'static', project.static, static, before)}
+    it.libraries = [path for other in before.values() for path in other.libraries]
+    it.libraries += [(it.place['linked'] / path).resolve() for path in project.libraries]
+    for program, paths in project.programs.items():
+        for kind, path, to in zip(('linked', 'static'), paths, (it.linked, it.static)):
+            shutil.copy(it.place[kind] / path, to / program)
+    return it
