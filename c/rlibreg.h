@@ -270,9 +270,7 @@ RLIBREG_SAME(sizeof(size_t) == 8 && sizeof(void *) == 8);
  * told of the whole and of what is found, which are in places of their own, and with the statuses 1
  * to 9, of which the program knows nothing. A text that was cut changes no status.
  *
- * MEMORY that is refused is answered S11, or S1 where it was that of a step of the plan or of the
- * sync with which plans, binds and listings begin: no other call of the disk can fail, and none at
- * all of rlibreg_file, rlibreg_info and rlibreg_check, which never answer S1. Nothing was done then.
+ * MEMORY that is refused is answered S11: nothing was done then. S1 is never the answer.
  *
  * Where another buffer is too small the status is RLIBREG_NO_ROOM, what the call's buffers hold is
  * open, and the answer has what is needed: ask again with that much. */

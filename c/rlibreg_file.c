@@ -41,12 +41,6 @@ static uint32_t say_memory(rlibreg *it) {
     return say(it, RLIBREG_OUT_OF_MEMORY, "refused S11 OutOfMemory\n");
 }
 
-/* What a call over bytes was answered. Its disk fails where it finds no memory for a step, and for
- * no other reason: that is S11 to who has a file. */
-static uint32_t over_bytes(rlibreg *it, uint32_t status) {
-    return status == RLIBREG_DEVICE ? say_memory(it) : status;
-}
-
 /* Ends the text of the last call by a byte 0. Where it was cut the buffer is made larger, and the
  * call is to be made again; without memory for that the text stays cut. */
 static int text_was_cut(rlibreg *it) {
@@ -264,7 +258,7 @@ static uint32_t make_plan(rlibreg *it, plan_call *call, const void *asked, size_
     for (;;) {
         *plan = malloc(room);
         if (!*plan) return say_memory(it);
-        uint32_t status = over_bytes(it, call(it, asked, length, *plan, room));
+        uint32_t status = call(it, asked, length, *plan, room);
         int again = text_was_cut(it) || status == RLIBREG_NO_ROOM;
         if (!status && !again) return status;
         free(*plan);
@@ -420,7 +414,7 @@ uint32_t rlibreg_listing_of(rlibreg *it, rlibreg_listing *out) {
     uint32_t status = refuse(it);
     if (status) return status;
     for (;;) {
-        status = over_bytes(it, list(it, out, entries, names));
+        status = list(it, out, entries, names);
         int again = text_was_cut(it) || status == RLIBREG_NO_ROOM;
         if (!status && !again) break;
         rlibreg_listing_free(out);
@@ -450,8 +444,8 @@ uint32_t rlibreg_file_of(rlibreg *it, const char *name, void **bytes, size_t *le
     for (;;) {
         uint8_t *out = malloc(room);
         if (!out) return say_memory(it);
-        status = over_bytes(it, rlibreg_file(it->file.bytes, it->file.length, name, strlen(name),
-                                             out, room, it->text, it->text_room, &it->answer));
+        status = rlibreg_file(it->file.bytes, it->file.length, name, strlen(name), out, room,
+                              it->text, it->text_room, &it->answer);
         int again = text_was_cut(it) || status == RLIBREG_NO_ROOM;
         if (!status && !again) {
             *bytes = out;
@@ -468,8 +462,8 @@ uint32_t rlibreg_info_of(rlibreg *it, rlibreg_information *out) {
     uint32_t status = refuse(it);
     if (status) return status;
     do {
-        status = over_bytes(it, rlibreg_info(it->file.bytes, it->file.length, out, it->text,
-                                             it->text_room, &it->answer));
+        status = rlibreg_info(it->file.bytes, it->file.length, out, it->text, it->text_room,
+                              &it->answer);
     } while (text_was_cut(it));
     return status;
 }
@@ -489,7 +483,7 @@ uint32_t rlibreg_findings_of(rlibreg *it, rlibreg_findings *out) {
     uint32_t status = refuse(it);
     if (status) return status;
     for (;;) {
-        status = over_bytes(it, check(it, out, libraries, names));
+        status = check(it, out, libraries, names);
         int again = text_was_cut(it) || status == RLIBREG_NO_ROOM;
         if (!status && !again) break;
         rlibreg_findings_free(out);
@@ -565,10 +559,9 @@ static void give_room_back(rlibreg_image *it, size_t bytes) {
 
 static uint32_t bind_into(rlibreg *it, const struct bound *what, rlibreg_image *out,
                           struct room room) {
-    return over_bytes(it, rlibreg_bind(it->file.bytes, it->file.length, what->program, what->length,
-                                       what->base, out->objects, room.objects, out->segments,
-                                       room.segments, out->bytes, room.bytes, it->text,
-                                       it->text_room, &it->answer));
+    return rlibreg_bind(it->file.bytes, it->file.length, what->program, what->length, what->base,
+                        out->objects, room.objects, out->segments, room.segments, out->bytes,
+                        room.bytes, it->text, it->text_room, &it->answer);
 }
 
 uint32_t rlibreg_image_of(rlibreg *it, const void *program, size_t length, uint64_t base,

@@ -2,7 +2,7 @@
 use Rattle.std.proofs.Common.{◌≡◌, ◌⊎◌, inl, inr, ⊎_elim, ℕ, ◌+◌, ◌≤◌, List, ◌∷◌, length, Err, refl, sym, ◌∙◌, ap, subst, arith}
 use Rattle.std.proofs.lemmas.Bool.{both_ways}
 use Rattle.std.proofs.lemmas.List.{length-map}
-use Rattle.std.specs.Prelude.{Bool, IsTrue, IsFalse, ◌↔◌, Result, Ok, IfOk, IfErr}
+use Rattle.std.specs.Prelude.{Bool, IsTrue, IsFalse, ◌↔◌, Option, Result, Ok, IfOk, IfErr}
 use Rattle.sector_disk.specs.Disk.{Sector, Mixture, LeavesOnly, GrowsBehindSync}
 use Rattle.sector_disk.proofs.Moments.{weaken, at_rest}
 use Rattle.byte_disk.specs.declared.disk.ByteDisk.{ByteDisk}
@@ -101,14 +101,15 @@ module _ (bytes : List ℕ) (disk : ByteDisk) (is : IsDiskOf bytes disk) (s : St
   )
 
 -- The disk that is made anew then has that plan: of bytes that are a disk there is one.
-pub upgraded_anew : (bytes : List ℕ) (made : Result ByteDisk StoreRefusal) (s : State) → Stands (sectors_in bytes) s → IfOk made (IsDiskOf bytes)
+pub upgraded_anew : (bytes : List ℕ) (made : Result ByteDisk (StoreRefusal × Option ByteDisk)) (s : State) → Stands (sectors_in bytes) s → IfOk made (IsDiskOf bytes)
     → IfOk made (λ disk. (x : State) × IsUpgraded bytes x (synced_plan disk))
 upgraded_anew bytes (Ok disk) s stands is = (s, upgraded_current bytes disk is s stands)
 upgraded_anew bytes (Err refusal) s stands is = tt
 
-pub is_disk : (bytes : List ℕ) (made : Result ByteDisk StoreRefusal) → IsDiskLength (length bytes) → IfErr made (IsBadLength bytes) → IfErr made (IsUnupgraded bytes)
+pub is_disk : (bytes : List ℕ) (made : Result ByteDisk (StoreRefusal × Option ByteDisk)) → IsDiskLength (length bytes)
+    → IfErr made (λ refused. IsBadLength bytes refused.0) → IfErr made (λ refused. IsUnupgraded bytes refused.0)
 is_disk bytes (Ok disk) size bad = tt
-is_disk bytes (Err refusal) size bad = absurd (bad.1 size)
+is_disk bytes (Err refused) size bad = absurd (bad.1 size)
 
 -- Which rules sectors hold a state by is told by the version of their current root.
 module _ (m : List Sector) (is_current : Bool)

@@ -1,5 +1,5 @@
 -- What comes of asking the registry that bytes hold (own).
-use Rattle.std.specs.Prelude.{◌≡◌, ◌⊎◌, ◌≤◌, ◌+◌, ℕ, List, [], ◌∷◌, length, Err}
+use Rattle.std.specs.Prelude.{◌≡◌, ◌⊎◌, ◌≤◌, ◌+◌, ℕ, List, [], ◌∷◌, length, Err, Option, None, Some}
 use Rattle.sector_disk.specs.Disk.{StartsWith}
 use Rattle.byte_disk.specs.declared.disk.ByteDisk.{ByteDisk}
 use Rattle.byte_disk.specs.declared.step.Step.{Step}
@@ -32,6 +32,11 @@ pub record IsDiskOf (bytes : List ℕ) (disk : ByteDisk) : Type 0 where
   pub starts : StartsWith (byte_facts disk) (sectors_in bytes)
   pub given : given_to disk ≡ sectors_in bytes
   pub unplanned : plan_of disk ≡ []
+
+-- how many calls of a disk failed, where there is one: each for want of memory
+abbrev pub failures_of : Option ByteDisk → ℕ
+failures_of None = 0
+failures_of (Some disk) = (byte_facts disk).failures
 
 -- the length isn't that of a disk
 abbrev pub IsBadLength : List ℕ → StoreRefusal → Type 0

@@ -1,11 +1,11 @@
 // A registry on given bytes, asked.
-ghost use Rattle.std.specs.Prelude.{◌≡◌, ◌<◌, IfOk, IfErr};
+ghost use Rattle.std.specs.Prelude.{◌≡◌, ◌<◌, IfOk, IfErr, MatchResult};
 ghost use Rattle.byte_disk.specs.ByteDisk.{byte_facts};
 ghost use Rattle.states.specs.State.{State};
 ghost use Rattle.requests.specs.Request.{request_of};
 ghost use Rattle.requests.specs.declared.refusal.Refusal.TheVariants.{Device};
 ghost use Rattle.requests.specs.declared.reply.Reply.TheVariants.{Refused};
-ghost use Rattle.byte_registry.specs.Asked.{IsDiskOf, IsBadLength, IsAsked, IsUnopened};
+ghost use Rattle.byte_registry.specs.Asked.{IsDiskOf, IsBadLength, IsAsked, IsUnopened, failures_of};
 ghost use Rattle.byte_registry.specs.Plans.{synced_plan};
 
 use byte_disk::ByteDisk;
@@ -14,35 +14,39 @@ use requests::{Command, Reply};
 use std::alloc::Global;
 use store::StoreRefusal;
 
-/// The disk of these bytes, where they are whole sectors.
-pub(crate) fn disk_of(alloc: Global, disk: &[u8]) -> Result<ByteDisk<'_>, StoreRefusal>
+/// The disk of these bytes, where they are whole sectors; else there is none.
+pub(crate) fn disk_of(
+    alloc: Global,
+    disk: &[u8],
+) -> Result<ByteDisk<'_>, (StoreRefusal, Option<ByteDisk<'_>>)>
     ensures ok { IfOk result (IsDiskOf disk.now) }
-    ensures err { IfErr result (IsBadLength disk.now) }
+    ensures err { IfErr result (λ refused. IsBadLength disk.now refused.0) }
 {
     match ByteDisk::over(alloc, disk) {
         Some(disk) => Ok(disk),
-        None => Err(StoreRefusal::BadGeometry),
+        None => Err((StoreRefusal::BadGeometry, None)),
     }
 }
 
-/// The reply of the registry on a disk to a command, and the disk then, or why there is none. No
-/// file is read but those that a bind needs.
+/// The reply of the registry on a disk to a command, and the disk then; or why there is none, and
+/// the disk then, where these bytes are one. No file is read but those that a bind needs.
 pub fn ask<'a>(
     alloc: Global,
     disk: &'a [u8],
     command: &Command<'_>,
-) -> Result<(Reply, ByteDisk<'a>), StoreRefusal>
+) -> Result<(Reply, ByteDisk<'a>), (StoreRefusal, Option<ByteDisk<'a>>)>
     ensures ok { IfOk result (λ asked. (s : State)
         × IsAsked disk.now s (request_of command.now) asked.0 (synced_plan asked.1)) }
 
     // S1 comes only where a call of the disk failed: a write or a sync, which found no memory.
-    ensures device { IfOk result (λ asked. asked.0 ≡ Refused Device
-        → 0 < (byte_facts asked.1).failures) }
-    ensures err { IfErr result (IsUnopened disk.now) }
+    ensures device { MatchResult result
+        (λ asked. asked.0 ≡ Refused Device → 0 < (byte_facts asked.1).failures)
+        (λ refused. refused.0 ≡ StoreRefusal.Device → 0 < failures_of refused.1) }
+    ensures err { IfErr result (λ refused. IsUnopened disk.now refused.0) }
 {
     let disk = match disk_of(alloc, disk) {
         Ok(disk) => disk,
-        Err(refusal) => return Err(refusal),
+        Err(refused) => return Err(refused),
     };
     let opened = Registry::open_untested(alloc, disk);
     match opened {
@@ -51,6 +55,6 @@ pub fn ask<'a>(
             let reply = registry.apply(command);
             Ok((reply, registry.into_disk()))
         }
-        Err((refusal, _)) => Err(refusal),
+        Err((refusal, disk)) => Err((refusal, Some(disk))),
     }
 }

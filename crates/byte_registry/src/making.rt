@@ -1,6 +1,6 @@
 // Making an empty registry on given bytes.
-ghost use Rattle.std.specs.Prelude.{IfOk, IfErr};
-ghost use Rattle.byte_registry.specs.Asked.{IsFormatted, IsUnformatted};
+ghost use Rattle.std.specs.Prelude.{◌≡◌, ◌<◌, IfOk, IfErr};
+ghost use Rattle.byte_registry.specs.Asked.{IsFormatted, IsUnformatted, failures_of};
 ghost use Rattle.byte_registry.specs.Plans.{synced_plan};
 
 use crate::asked::disk_of;
@@ -9,17 +9,25 @@ use registry::Registry;
 use std::alloc::Global;
 use store::StoreRefusal;
 
-/// The disk on which a registry was made, or why none was.
-pub fn format(alloc: Global, disk: &[u8]) -> Result<ByteDisk<'_>, StoreRefusal>
+/// The disk on which a registry was made; or why none was, and the disk then, where these bytes are
+/// one.
+pub fn format(
+    alloc: Global,
+    disk: &[u8],
+) -> Result<ByteDisk<'_>, (StoreRefusal, Option<ByteDisk<'_>>)>
     ensures ok { IfOk result (λ made. IsFormatted disk.now (synced_plan made)) }
-    ensures err { IfErr result (IsUnformatted disk.now) }
+
+    // S1 comes only where a call of the disk failed: a write or a sync, which found no memory.
+    ensures device { IfErr result (λ refused. refused.0 ≡ StoreRefusal.Device
+        → 0 < failures_of refused.1) }
+    ensures err { IfErr result (λ refused. IsUnformatted disk.now refused.0) }
 {
     let disk = match disk_of(alloc, disk) {
         Ok(disk) => disk,
-        Err(refusal) => return Err(refusal),
+        Err(refused) => return Err(refused),
     };
     match Registry::format(alloc, disk) {
         Ok(registry) => Ok(registry.into_disk()),
-        Err((refusal, _)) => Err(refusal),
+        Err((refusal, disk)) => Err((refusal, Some(disk))),
     }
 }

@@ -1,12 +1,12 @@
 // Making a registry of version 1 on given bytes one of version 2.
-ghost use Rattle.std.specs.Prelude.{◌≡◌, ◌↔◌, IsTrue, List, IfOk, IfErr};
+ghost use Rattle.std.specs.Prelude.{◌≡◌, ◌<◌, ◌↔◌, IsTrue, List, IfOk, IfErr};
 ghost use Rattle.byte_disk.specs.Bytes.{sectors_in};
 ghost use Rattle.roots.specs.declared.version.Version.{Version as RootVersion};
 ghost use Rattle.roots.specs.declared.version.Version.TheVariants.{Two};
 ghost use Rattle.states.specs.State.{State};
 ghost use Rattle.store.specs.declared.placed_entry.PlacedEntry.{PlacedEntry};
 ghost use Rattle.store.specs.Stands.{StandsBy};
-ghost use Rattle.byte_registry.specs.Asked.{IsUpgraded, IsUnupgraded};
+ghost use Rattle.byte_registry.specs.Asked.{IsUpgraded, IsUnupgraded, failures_of};
 ghost use Rattle.byte_registry.specs.Plans.{synced_plan};
 
 use crate::asked::disk_of;
@@ -32,15 +32,22 @@ fn is_current(disk: &[u8]) -> bool
     }
 }
 
-/// The disk on which a registry of version 2 is, or why none is. Where it was one before, nothing
-/// is written.
-pub fn upgrade(alloc: Global, disk: &[u8]) -> Result<ByteDisk<'_>, StoreRefusal>
+/// The disk on which a registry of version 2 is; or why none is, and the disk then, where these
+/// bytes are one. Where it was one before, nothing is written.
+pub fn upgrade(
+    alloc: Global,
+    disk: &[u8],
+) -> Result<ByteDisk<'_>, (StoreRefusal, Option<ByteDisk<'_>>)>
     ensures ok { IfOk result (λ made. (s : State) × IsUpgraded disk.now s (synced_plan made)) }
-    ensures err { IfErr result (IsUnupgraded disk.now) }
+
+    // S1 comes only where a call of the disk failed: a write or a sync, which found no memory.
+    ensures device { IfErr result (λ refused. refused.0 ≡ StoreRefusal.Device
+        → 0 < failures_of refused.1) }
+    ensures err { IfErr result (λ refused. IsUnupgraded disk.now refused.0) }
 {
     let given = match disk_of(alloc, disk) {
         Ok(given) => given,
-        Err(refusal) => return Err(refusal),
+        Err(refused) => return Err(refused),
     };
     match Registry::upgrade(alloc, given) {
         Ok(registry) => {
@@ -50,6 +57,6 @@ pub fn upgrade(alloc: Global, disk: &[u8]) -> Result<ByteDisk<'_>, StoreRefusal>
             }
             Ok(made)
         }
-        Err((refusal, _)) => Err(refusal),
+        Err((refusal, disk)) => Err((refusal, Some(disk))),
     }
 }

@@ -1,4 +1,5 @@
 pub mod Contents
+pub mod Device
 mod Entries
 pub mod Findings
 pub mod Given

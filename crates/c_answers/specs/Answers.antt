@@ -4,11 +4,14 @@ use Rattle.byte_disk.specs.declared.step.Step.{Step}
 use Rattle.states.specs.State.{State}
 use Rattle.store.specs.Stands as sectors
 use Rattle.store.specs.declared.refusal.StoreRefusal.{StoreRefusal}
+use Rattle.store.specs.declared.refusal.StoreRefusal.TheVariants as store
 use Rattle.requests.specs.Request.{Request, list, set_preloads}
+use Rattle.requests.specs.declared.refusal.Refusal.TheVariants.{Device}
 use Rattle.requests.specs.Table.{Listed}
 use Rattle.requests.specs.Step.{accepted}
 use Rattle.requests.specs.declared.reply.Reply.{Reply}
 use Rattle.requests.specs.declared.reply.Reply.TheVariants as reply
+use Rattle.requests.specs.declared.reply.Reply.TheVariants.{Refused}
 use Rattle.program_parts.specs.Refusal.{disk_refusal_text, memory_text}
 use Rattle.program_parts.specs.Reply.{reply_text}
 use Rattle.byte_disk.specs.Bytes.{sectors_in}
@@ -38,17 +41,20 @@ pub record WantsMemory (text : List ℕ) (told_size told_file told : ℕ) : Type
   pub file : told_file ≡ 0
   pub says : Says memory_text text told_size
 
--- The reply is told: by its number, by that of the test that refuses a file, and by its text.
+-- The reply is told: by its number, by that of the test that refuses a file, and by its text. S1 is
+-- told of no disk of bytes: what a call of it fails for is memory.
 pub record Tells (reply : Reply) (text : List ℕ) (told_size told_file told : ℕ) : Type 0 where
   pub status : told ≡ reply_number reply
   pub file : told_file ≡ file_number_in reply
   pub says : Says (reply_text reply) text told_size
+  pub device : reply ≢ Refused Device
 
--- It is told why there is no registry.
+-- It is told why there is no registry, and that is never S1.
 pub record TurnsAway (refusal : StoreRefusal) (text : List ℕ) (told_size told_file told : ℕ) : Type 0 where
   pub status : told ≡ store_number refusal
   pub file : told_file ≡ 0
   pub says : Says (disk_refusal_text refusal) text told_size
+  pub device : refusal ≢ store.Device
 
 -- The buffer of the plan has these steps, which are so many bytes, and so many.
 pub record HasPlan (steps : List Step) (buffer : List ℕ) (told_bytes told_count : ℕ) : Type 0 where

@@ -29,7 +29,7 @@ bad_argument = 2
 abbrev pub out_of_memory : ℕ
 out_of_memory = 311
 
--- of a refusal to open, to format or to upgrade: 300 and its own
+-- of a refusal to open, to format or to upgrade: 300 and its own; no call over bytes is answered 301
 abbrev pub store_number : StoreRefusal → ℕ
 store_number store.Device = 301
 store_number store.Reopen = 302

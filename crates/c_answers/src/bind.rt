@@ -46,6 +46,6 @@ pub fn bind_on(
 {
     match ask(alloc, disk, command) {
         Ok((reply, _)) => tell_bind(alloc, &reply, objects, segments, bytes, text),
-        Err(refusal) => turn_away(alloc, refusal, text),
+        Err((refusal, _)) => turn_away(alloc, refusal, text),
     }
 }

@@ -45,6 +45,6 @@ pub fn plan_change(
 {
     match ask(alloc, disk, command) {
         Ok((reply, disk)) => tell_change(alloc, &reply, &disk, plan, text),
-        Err(refusal) => turn_away(alloc, refusal, text),
+        Err((refusal, _)) => turn_away(alloc, refusal, text),
     }
 }

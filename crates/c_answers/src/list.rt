@@ -73,6 +73,6 @@ pub fn list_on(
 {
     match ask(alloc, disk, &Command::List) {
         Ok((reply, _)) => tell_list(alloc, disk, &reply, entries, names, text),
-        Err(refusal) => turn_away(alloc, refusal, text),
+        Err((refusal, _)) => turn_away(alloc, refusal, text),
     }
 }

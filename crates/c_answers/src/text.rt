@@ -1,5 +1,5 @@
 // The text of what a call is answered: the line or the reply that the program prints.
-ghost use Rattle.std.specs.Prelude.{◌≡◌};
+ghost use Rattle.std.specs.Prelude.{◌≡◌, ◌↔◌, IsTrue};
 ghost use Rattle.c_answers.specs.Answers.{Says, WantsMemory, IsToldAlone, IsTurnedAway};
 ghost use Rattle.c_answers.specs.Numbers.{reply_number, file_number_in};
 ghost use Rattle.c_answers.specs.Unsaid.{IsUncounted};
@@ -7,7 +7,7 @@ ghost use Rattle.c_answers.specs.Unsaid.{IsUncounted};
 use crate::answer::Answer;
 use crate::status::{DONE, OUT_OF_MEMORY, file_refusal_number, refusal_status, store_status};
 use program_parts::{write_disk_refusal, write_reply};
-use requests::Reply;
+use requests::{Refusal, Reply};
 use std::alloc::Global;
 use store::StoreRefusal;
 
@@ -54,10 +54,21 @@ fn reply_file_refusal(reply: &Reply) -> u32
     }
 }
 
-/// Says what a command was answered. Where memory for the text is refused, that is the answer.
+/// Whether a reply says that a call of the disk failed.
+fn is_failure(reply: &Reply) -> bool
+    ensures { IsTrue result ↔ (reply.now ≡ Reply.Refused Refusal.Device) }
+{
+    matches!(reply, Reply::Refused(Refusal::Device))
+}
+
+/// Says what a command was answered. Where memory for the text is refused, or was for a step on a
+/// disk of bytes, whose calls fail for nothing else, that is the answer.
 pub(crate) fn tell(alloc: Global, reply: &Reply, text: &mut [u8]) -> Answer
     ensures { IsToldAlone reply.now text.new result result.status }
 {
+    if is_failure(reply) {
+        return tell_memory(text);
+    }
     let mut said = Vec::new(alloc);
     match write_reply(&mut said, reply) {
         Ok(()) => Answer {
@@ -69,10 +80,20 @@ pub(crate) fn tell(alloc: Global, reply: &Reply, text: &mut [u8]) -> Answer
     }
 }
 
-/// Says why there is no registry on a disk.
+/// Whether a call of the disk failed.
+fn is_device(refusal: StoreRefusal) -> bool
+    ensures { IsTrue result ↔ (refusal ≡ StoreRefusal.Device) }
+{
+    matches!(refusal, StoreRefusal::Device)
+}
+
+/// Says why there is no registry on a disk of bytes: want of memory, where a call of it failed.
 pub(crate) fn turn_away(alloc: Global, refusal: StoreRefusal, text: &mut [u8]) -> Answer
     ensures { IsTurnedAway refusal text.new result result.status }
 {
+    if is_device(refusal) {
+        return tell_memory(text);
+    }
     let mut said = Vec::new(alloc);
     match write_disk_refusal(&mut said, refusal) {
         Ok(()) => Answer {

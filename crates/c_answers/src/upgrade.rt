@@ -14,6 +14,6 @@ pub fn upgrade_on(alloc: Global, disk: &[u8], plan: &mut [u8], text: &mut [u8]) 
 {
     match upgrade(alloc, disk) {
         Ok(disk) => put_done(alloc, &disk, plan, text),
-        Err(refusal) => turn_away(alloc, refusal, text),
+        Err((refusal, _)) => turn_away(alloc, refusal, text),
     }
 }

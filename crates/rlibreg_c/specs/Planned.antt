@@ -1,5 +1,5 @@
 -- What a call ends with that plans a change of a registry (own).
-use Rattle.std.specs.Prelude.{◌≡◌, ℕ, List}
+use Rattle.std.specs.Prelude.{◌≡◌, ◌≢◌, ℕ, List}
 use Rattle.requests.specs.Request.{Request}
 use Rattle.c_answers.specs.Answers.{IsChangeAnswered, IsLeft, IsPlanOf}
 use Rattle.c_answers.specs.declared.answer.Answer.{Answer}
@@ -12,3 +12,5 @@ pub record IsPlanned (disk : List ℕ) (request : Request) (before after text : 
   -- with a status that says neither 0, nor of room, nor of memory, the buffer is as it was
   pub left : IsLeft before after told
   pub status : answer.status ≡ told
+  -- S1 is never the answer: what a disk of bytes fails for is want of memory
+  pub device : told ≢ 301

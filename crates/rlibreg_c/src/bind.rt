@@ -1,5 +1,5 @@
 // A bind.
-ghost use Rattle.std.specs.Prelude.{◌≡◌};
+ghost use Rattle.std.specs.Prelude.{◌≡◌, ◌≢◌};
 ghost use Rattle.requests.specs.Request.{bind};
 ghost use Rattle.c_answers.specs.Answers.{IsBindAnswered};
 ghost use Rattle.c_answers.specs.Layout.{IsImageOf};
@@ -28,6 +28,9 @@ pub extern "C" fn rlibreg_bind(
     ensures answered { IsBindAnswered disk.now (bind program.now base) objects.new segments.new
         bytes.new text.new answer.new result }
     ensures status { answer.new.status ≡ result }
+
+    // S1 is never the answer: what a disk of bytes fails for is want of memory.
+    ensures device { result ≢ 301 }
 {
     let command = Command::Bind { program, base };
     *answer = bind_on(alloc, disk, &command, objects, segments, bytes, text);

@@ -1,5 +1,5 @@
 // What is found of each library.
-ghost use Rattle.std.specs.Prelude.{◌≡◌};
+ghost use Rattle.std.specs.Prelude.{◌≡◌, ◌≢◌};
 ghost use Rattle.c_answers.specs.Check.{IsCheckAnswered, IsCheckOf};
 
 use c_answers::{Answer, FindingPlace, check_on};
@@ -23,6 +23,9 @@ pub extern "C" fn rlibreg_check(
     ensures check { result ≡ 0 → IsCheckOf disk.now findings.new names.new answer.new }
     ensures answered { IsCheckAnswered disk.now findings.new names.new text.new answer.new result }
     ensures status { answer.new.status ≡ result }
+
+    // S1 is never the answer: what a disk of bytes fails for is want of memory.
+    ensures device { result ≢ 301 }
 {
     *answer = check_on(alloc, disk, findings, names, text);
     answer.status

@@ -1,5 +1,5 @@
 // A library's bytes.
-ghost use Rattle.std.specs.Prelude.{◌≡◌};
+ghost use Rattle.std.specs.Prelude.{◌≡◌, ◌≢◌};
 ghost use Rattle.c_answers.specs.Contents.{IsFileOf, IsFileAnswered};
 
 use c_answers::{Answer, file_on};
@@ -20,6 +20,9 @@ pub extern "C" fn rlibreg_file(
     ensures file { result ≡ 0 → IsFileOf disk.now name.now bytes.new answer.new }
     ensures answered { IsFileAnswered disk.now name.now bytes.new text.new answer.new result }
     ensures status { answer.new.status ≡ result }
+
+    // S1 is never the answer: what a disk of bytes fails for is want of memory.
+    ensures device { result ≢ 301 }
 {
     *answer = file_on(alloc, disk, name, bytes, text);
     answer.status

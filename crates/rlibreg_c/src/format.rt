@@ -1,5 +1,5 @@
 // Making an empty registry: a plan.
-ghost use Rattle.std.specs.Prelude.{◌≡◌};
+ghost use Rattle.std.specs.Prelude.{◌≡◌, ◌≢◌};
 ghost use Rattle.c_answers.specs.Answers.{IsFormatAnswered, IsFormatPlan, IsLeft};
 
 use c_answers::{Answer, format_on};
@@ -19,6 +19,9 @@ pub extern "C" fn rlibreg_plan_format(
     ensures answered { IsFormatAnswered disk.now plan.new text.new answer.new result }
     ensures left { IsLeft plan.old plan.new result }
     ensures status { answer.new.status ≡ result }
+
+    // S1 is never the answer: what a disk of bytes fails for is want of memory.
+    ensures device { result ≢ 301 }
 {
     *answer = format_on(alloc, disk, plan, text);
     answer.status

@@ -20,6 +20,9 @@ pub extern "C" fn rlibreg_info(
     ensures answered { IsInfoAnswered disk.now information.new text.new answer.new result }
     ensures left { result ≢ 0 → information.new ≡ information.old }
     ensures status { answer.new.status ≡ result }
+
+    // S1 is never the answer: what a disk of bytes fails for is want of memory.
+    ensures device { result ≢ 301 }
 {
     *answer = info_on(alloc, disk, information, text);
     answer.status

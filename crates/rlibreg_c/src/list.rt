@@ -1,5 +1,5 @@
 // A listing.
-ghost use Rattle.std.specs.Prelude.{◌≡◌};
+ghost use Rattle.std.specs.Prelude.{◌≡◌, ◌≢◌};
 ghost use Rattle.c_answers.specs.Answers.{IsListAnswered};
 ghost use Rattle.c_answers.specs.Listing.{IsListingOf};
 
@@ -23,6 +23,9 @@ pub extern "C" fn rlibreg_list(
     ensures listing { result ≡ 0 → IsListingOf disk.now entries.new names.new answer.new }
     ensures answered { IsListAnswered disk.now entries.new names.new text.new answer.new result }
     ensures status { answer.new.status ≡ result }
+
+    // S1 is never the answer: what a disk of bytes fails for is want of memory.
+    ensures device { result ≢ 301 }
 {
     *answer = list_on(alloc, disk, entries, names, text);
     answer.status

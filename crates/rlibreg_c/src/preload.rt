@@ -1,5 +1,5 @@
 // A choice of the preloads: a plan.
-ghost use Rattle.std.specs.Prelude.{◌≡◌, ℕ, List};
+ghost use Rattle.std.specs.Prelude.{◌≡◌, ◌≢◌, ℕ, List};
 ghost use Rattle.requests.specs.Request.{set_preloads};
 ghost use Rattle.c_answers.specs.Answers.{IsLeft, IsPlanOf, IsPreloadAnswered};
 ghost use Rattle.c_answers.specs.Names.{AreNames};
@@ -24,6 +24,9 @@ pub extern "C" fn rlibreg_plan_preload(
     ensures answered { IsPreloadAnswered disk.now names.now plan.new text.new answer.new result }
     ensures left { IsLeft plan.old plan.new result }
     ensures status { answer.new.status ≡ result }
+
+    // S1 is never the answer: what a disk of bytes fails for is want of memory.
+    ensures device { result ≢ 301 }
 {
     *answer = plan_preloads(alloc, disk, names, plan, text);
     answer.status

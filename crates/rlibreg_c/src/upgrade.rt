@@ -1,5 +1,5 @@
 // Making a disk of version 1 one of version 2: a plan.
-ghost use Rattle.std.specs.Prelude.{◌≡◌};
+ghost use Rattle.std.specs.Prelude.{◌≡◌, ◌≢◌};
 ghost use Rattle.c_answers.specs.Answers.{IsLeft, IsUpgradeAnswered, IsUpgradePlan};
 
 use c_answers::{Answer, upgrade_on};
@@ -20,6 +20,9 @@ pub extern "C" fn rlibreg_plan_upgrade(
     ensures answered { IsUpgradeAnswered disk.now plan.new text.new answer.new result }
     ensures left { IsLeft plan.old plan.new result }
     ensures status { answer.new.status ≡ result }
+
+    // S1 is never the answer: what a disk of bytes fails for is want of memory.
+    ensures device { result ≢ 301 }
 {
     *answer = upgrade_on(alloc, disk, plan, text);
     answer.status

@@ -28,7 +28,7 @@ returns-in-Ok-opened-clause-device c device =
     (opened.now refl) found opened.unheld (request_of c.args.command.now) apply.result apply.new.self
     (apply.ensures.untested found.0 found.2) device)
 
-pub returns-clause-err : goal.returns-clause-err
-returns-clause-err c =
+pub returns-in-Err-opened-clause-err : goal.returns-in-Err-opened-clause-err
+returns-in-Err-opened-clause-err c =
     let why = c.in-Err-opened.ensures.opened in
     unopened c.args.disk.now c.in-Ok.disk c.in-Ok.ensures.ok c.in-Err-opened.refusal (why.stands refl) (why.refused refl)

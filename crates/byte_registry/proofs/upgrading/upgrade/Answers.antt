@@ -19,8 +19,8 @@ returns-then-is_current-clause-ok c =
 pub returns-then-is_current-clause-err : goal.returns-then-is_current-clause-err
 returns-then-is_current-clause-err c = is_disk c.args.disk.now c.disk_of-then-is_current.result c.in-Ok.ensures.ok.size c.disk_of-then-is_current.ensures.err
 
-pub returns-in-Ok-upgrade-clause-ok : goal.returns-in-Ok-upgrade-clause-ok
-returns-in-Ok-upgrade-clause-ok c =
+pub returns-else-is_current-clause-ok : goal.returns-else-is_current-clause-ok
+returns-else-is_current-clause-ok c =
     let bytes = c.args.disk.now in
     let is = c.in-Ok.ensures.ok in
     let done = c.in-Ok-upgrade.ensures in
@@ -33,7 +33,7 @@ returns-in-Ok-upgrade-clause-ok c =
           found.1),
     )
 
-pub returns-clause-err : goal.returns-clause-err
-returns-clause-err c =
+pub returns-in-Err-upgrade-clause-err : goal.returns-in-Err-upgrade-clause-err
+returns-in-Err-upgrade-clause-err c =
     let why = c.in-Err-upgrade.ensures in
     unupgraded c.args.disk.now c.in-Ok.given c.in-Ok.ensures.ok c.in-Err-upgrade.refusal (why.answer refl) (why.stands refl) (why.refused refl)

@@ -5,5 +5,5 @@ use Rattle.c_answers.proofs.change.plan_change.Goals as goal
 pub returns-in-Ok-clause-answered : goal.returns-in-Ok-clause-answered
 returns-in-Ok-clause-answered c = let asked = c.in-Ok.ensures.ok in inl (asked.0, c.in-Ok.reply, synced_plan c.in-Ok.disk, asked.1, c.tell_change.ensures.told)
 
-pub returns-in-Err-clause-answered : goal.returns-in-Err-clause-answered
-returns-in-Err-clause-answered c = inr (c.in-Err.refusal, c.in-Err.ensures.err, c.turn_away.ensures)
+pub returns-clause-answered : goal.returns-clause-answered
+returns-clause-answered c = inr (c.in-Err.refusal, c.in-Err.ensures.err, c.turn_away.ensures)

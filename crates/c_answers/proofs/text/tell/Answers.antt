@@ -1,4 +1,5 @@
 use Rattle.std.proofs.Common.{◌≡◌, ◌++◌, ◌∙◌, inl, ap, subst}
+use Rattle.std.proofs.lemmas.Bool.{both_ways}
 use Rattle.program_parts.specs.Reply.{reply_text}
 use Rattle.c_answers.specs.Answers.{Says}
 use Rattle.c_answers.specs.declared.answer.Answer.{Answer}
@@ -14,6 +15,7 @@ returns-in-Ok c =
         status = ap (λ (a : Answer). a.status) c.of.ensures ∙ c.reply_status.ensures;
         file = c.reply_file_refusal.ensures;
         says = subst (λ said. Says said c.put_text.new.text c.put_text.result) same c.put_text.ensures;
+        device = λ is. both_ways c.is_failure.result c.if-is_failure.false (c.is_failure.ensures.1 is);
       }),
       record {
         count = unsaid.count;

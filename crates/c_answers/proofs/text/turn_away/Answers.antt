@@ -1,4 +1,5 @@
 use Rattle.std.proofs.Common.{◌≡◌, ◌++◌, ◌∙◌, inl, ap, subst}
+use Rattle.std.proofs.lemmas.Bool.{both_ways}
 use Rattle.program_parts.specs.Refusal.{disk_refusal_text}
 use Rattle.c_answers.specs.Answers.{Says}
 use Rattle.c_answers.specs.declared.answer.Answer.{Answer}
@@ -15,6 +16,7 @@ returns-in-Ok c =
         status = ap (λ (a : Answer). a.status) c.of.ensures ∙ c.store_status.ensures;
         file = said.1.file;
         says = subst (λ said. Says said c.put_text.new.text c.put_text.result) same c.put_text.ensures;
+        device = λ is. both_ways c.is_device.result c.if-is_device.false (c.is_device.ensures.1 is);
       }),
       record {
         count = unsaid.count;

@@ -1,5 +1,6 @@
 use Rattle.std.proofs.Common.{refl}
 use Rattle.requests.specs.Request.{replace}
+use Rattle.c_answers.proofs.Device.{change_not_device}
 use Rattle.c_answers.proofs.Given.{plan_given, no_listing, no_image}
 use Rattle.rlibreg_c.proofs.change.rlibreg_plan_replace.Goals as goal
 
@@ -13,5 +14,6 @@ returns c =
         answered = on.ensures.answered;
         left = on.ensures.left;
         status = refl;
+        device = λ is. change_not_device on.new.text on.result on.result.status is c.args.disk.now (replace c.args.file.now) on.new.plan on.ensures.answered;
       };
     }
