@@ -8,3 +8,4 @@ mod Objects
 mod Places
 mod Rows
 mod Steps
+mod Zeros
