@@ -4,9 +4,11 @@
     python3 bench/executables.py RLIBREG RLIBREG_TOOL FOLDER [--count 500] [--kernel VMLINUZ] [--accel tcg]
 
 Each is a program with up to 20 libraries by linkers, flags and bases at random; it ends with the sum
-of what its libraries and their data give. Others have 71, 75, 1,167 and 1,171 program headers: the
-last is refused. All of them are started here, and with --kernel in a guest of qemu; a kernel before
-6.17 takes at most 73 headers.
+of what its libraries and their data give. In some, segments share pages: each page of the program has
+to permit what its segments there do, and an object is refused where a page of it may be written and
+executed, as read from the files. Others have 71, 75, 1,167 and 1,171 program headers: the last is
+refused. All of them are started here, and with --kernel in a guest of qemu; a kernel before 6.17
+takes at most 73 headers.
 """
 
 import argparse
@@ -14,6 +16,7 @@ import gzip
 import os
 import random
 import re
+import struct
 import subprocess
 import sys
 from pathlib import Path
@@ -35,8 +38,12 @@ void _start(void) {{
     __builtin_unreachable();
 }}
 """
-GCC = 'gcc -fPIC -nostdlib -fno-stack-protector'.split()
+GCC = 'gcc -fuse-ld=bfd -fPIC -nostdlib -fno-stack-protector'.split()
 LINKERS = [[], ['-z', 'noseparate-code'], ['-z', 'norelro'], ['-z', 'max-page-size=0x10000'], ['-z', 'now'], ['--build-id=none']]
+SMALL = '-z max-page-size=512 -z common-page-size=512 -z norelro'.split()
+SHARED = [[*SMALL, '-z', 'separate-code', more] for more in ('-Ttext=0x20000', '--section-start=.dynamic=0x10000')]
+BOTH = [[*SMALL, '-z', f'{more}separate-code'] for more in ('', 'no')]
+PAGE = 4096
 LOWEST = (6, 17)
 
 
@@ -73,12 +80,28 @@ def make_program(folder, name, needs, flags):
          *(folder / f'lib{need}.so' for need in needs))
 
 
+def pages(file, base=0):
+    """What each page of a file's segments permits, by p_flags."""
+    at, count = struct.unpack_from('<Q', file, 32)[0], struct.unpack_from('<H', file, 56)[0]
+    permitted = {}
+    for i in range(count):
+        kind, flags, _, address, _, _, size, _ = struct.unpack_from('<IIQQQQQQ', file, at + 56 * i)
+        if kind == 1 and size:
+            for page in range((base + address) // PAGE, (base + address + size - 1) // PAGE + 1):
+                permitted[page] = permitted.get(page, 0) | flags & 7
+    return permitted
+
+
+def is_both(file):
+    return any(flags & 3 == 3 for flags in pages(file.read_bytes()).values())
+
+
 class Executables:
     """Executables in a folder: of each the status that is wanted, and how many program headers it has."""
 
     def __init__(self, words):
         self.words, self.folder = words, words.folder.resolve()
-        self.files, self.gives, self.faults = {}, {}, []
+        self.files, self.gives, self.faults, self.refused = {}, {}, [], 0
         self.disk = self.folder / 'disk'
         (self.folder / 'files').mkdir(parents=True, exist_ok=True)
         done(words.rlibreg, 'format', self.disk, '65536')
@@ -87,11 +110,25 @@ class Executables:
         self.gives[name] = make_library(self.folder, choose, name, flags)
         done(self.words.rlibreg, 'install', self.disk, self.folder / f'lib{name}.so')
 
+    def wanted(self, name, needs):
+        """What is said of the first object of which a page may be written and executed."""
+        if is_both(self.folder / f'{name}.bound'):
+            return 'rlibreg-tool: refused WritableCode /program\n'
+        both = [need for need in needs if is_both(self.folder / f'lib{need}.so')]
+        return f'rlibreg-tool: refused WritableCode lib{both[0]}.so\n' if both else ''
+
     def executable(self, name, needs, flags, base):
         make_program(self.folder, name, needs, flags)
         ended = run(self.words.tool, 'executable', self.disk, self.folder / f'{name}.bound', hex(base))
-        if ended.returncode:
-            return ended.stderr.decode()
+        wanted = self.wanted(name, needs)
+        if ended.returncode or wanted:
+            self.refused += 1
+            said = ended.stderr.decode()
+            return '' if said == wanted else said or f'not: {wanted}'
+        have = pages(ended.stdout)
+        for page, flags in pages((self.folder / f'{name}.bound').read_bytes(), base).items():
+            if have.get(page) != flags:
+                self.faults.append(f'{name}: page {page:#x} permits {have.get(page)} and not {flags}')
         count = int.from_bytes(ended.stdout[56:58], 'little')
         if (count > 73) != (b'73 program headers' in ended.stderr):
             self.faults.append(f'{name}: {count} headers, and standard error has {ended.stderr}')
@@ -105,11 +142,14 @@ class Executables:
         choose = random.Random(1)
         names = [f'l{i}' for i in range(LIBRARIES)]
         for name in names:
-            self.library(choose, name, choose.choice(LINKERS))
+            self.library(choose, name, choose.choice(LINKERS + SHARED))
+        for i, flags in enumerate(BOTH):
+            self.library(choose, f'both{i}', flags)
         for i in range(count):
-            needs = choose.sample(names, choose.randint(0, 20))
+            needs = choose.sample(names, choose.randint(0, 20)) + ([f'both{i // 20 % 2}'] if i % 20 == 0 else [])
             base = choose.randrange(1, 0x4000) << choose.choice([16, 20, 28])
-            said = self.executable(f'e{i}', needs, choose.choice(LINKERS), base)
+            flags = choose.choice(LINKERS + SHARED + (BOTH if i % 20 == 1 else []))
+            said = self.executable(f'e{i}', needs, flags, base)
             if said:
                 self.faults.append(f'e{i} at {base:#x}: {said}')
         more = [f'm{i}' for i in range(291)]
@@ -173,6 +213,7 @@ def main():
     words.rlibreg, words.tool = words.rlibreg.resolve(), words.tool.resolve()
     executables = Executables(words)
     executables.make(words.count)
+    print(f'{executables.refused} refused')
     executables.here()
     if words.kernel:
         executables.guest(words.kernel, words.accel)

@@ -15,8 +15,7 @@ use Rattle.executable.specs.Meaning.{IsExecutable, IsFileOf, IsFrom, IsOfHeaders
 use Rattle.executable.specs.Piece.{is_rising, pieces_of}
 use Rattle.executable.specs.Place.{header_count_of, headers_size, headers_room, place_of}
 use Rattle.executable.proofs.Bytes.{Loads}
-use Rattle.executable.proofs.Joining.{Between}
-use Rattle.executable.proofs.Fine.{fine-of, keeps-all, only-all}
+use Rattle.executable.proofs.Making.{Between, fine-of, keeps-all, only-all}
 use Rattle.executable.proofs.Exact.{made, own_piece}
 use Rattle.executable.proofs.Placing.{ordered, place-low, place-whole}
 

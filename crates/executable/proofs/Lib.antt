@@ -1,10 +1,14 @@
 pub mod Bytes
 pub mod Zeros
+pub mod Any
+pub mod Rising
 pub mod Joining
 pub mod Chains
 pub mod Reading
 pub mod Loading
 pub mod Fine
+pub mod Following
+pub mod Making
 pub mod Lengths
 pub mod Exact
 pub mod Placing

@@ -3,6 +3,7 @@ pub mod Entry
 pub mod Initializers
 pub mod StaticPie
 pub mod Piece
+pub mod WritableCode
 pub mod Place
 pub mod File
 pub mod Refusal

@@ -1,6 +1,6 @@
--- The parts of an image that a file can load: segments that share a page become one (gABI chapter 5, program loading).
+-- The parts of an image that a file can load: a page that segments share is one of its own (gABI chapter 5, program loading).
 use Rattle.std.specs.Prelude.{ℕ, ◌+◌, ◌-◌, ◌%◌, ◌==◌, Bool, true, ◌&&◌, nat_le, nat_lt, if◌then◌else◌}
-use Rattle.std.specs.Prelude.{List, [], ◌∷◌, ◌++◌, length, replicate}
+use Rattle.std.specs.Prelude.{List, [], ◌∷◌, ◌++◌, length, map, take, drop, replicate}
 use Rattle.std.specs.Int.RustNames.{bit_and, bit_or}
 use Rattle.image.specs.Constant.{PAGE, MEMORY_LIMIT, PF_W}
 use Rattle.image.specs.Image.{ImageSegment}
@@ -29,20 +29,36 @@ piece_of s =
       contents = s.bytes;
     }
 
--- a piece's last page is the first of the segment behind it
-abbrev pub shares_page : Loaded → ImageSegment → Bool
-shares_page p s = nat_lt (page_of s.address) (end_of p)
+-- a piece's last page is the first of the one behind it
+abbrev pub shares_page : Loaded → Loaded → Bool
+shares_page p q = nat_lt (page_of q.heading.address) (end_of p)
 
--- a piece and the segment behind it: zeros between them, and what any of the two permits
-abbrev pub joined : Loaded → ImageSegment → Loaded
-joined p s =
+-- a piece and the one behind it: zeros between them, and what any of the two permits
+abbrev pub joined : Loaded → Loaded → Loaded
+joined p q =
     record {
       heading = record {
         address = p.heading.address;
-        permissions = bit_or p.heading.permissions (permission_bits s.permissions);
-        size = s.address - p.heading.address + length s.bytes;
+        permissions = bit_or p.heading.permissions q.heading.permissions;
+        size = q.heading.address - p.heading.address + q.heading.size;
       };
-      contents = p.contents ++ replicate (s.address - p.heading.address - length p.contents) 0 ++ s.bytes;
+      contents = p.contents ++ replicate (q.heading.address - p.heading.address - length p.contents) 0 ++ q.contents;
+    }
+
+-- what a piece has below an address
+abbrev pub below : ℕ → Loaded → Loaded
+below at p =
+    record {
+      heading = record { address = p.heading.address; permissions = p.heading.permissions; size = at - p.heading.address };
+      contents = take (at - p.heading.address) p.contents;
+    }
+
+-- what it has from an address on
+abbrev pub above : ℕ → Loaded → Loaded
+above at p =
+    record {
+      heading = record { address = at; permissions = p.heading.permissions; size = end_of p - at };
+      contents = drop (at - p.heading.address) p.contents;
     }
 
 -- bytes without the zeros that they end with
@@ -55,14 +71,47 @@ abbrev pub finished : Loaded → Loaded
 finished p =
     if bit_and p.heading.permissions PF_W == PF_W then record { heading = p.heading; contents = without_zeros p.contents } else p
 
--- the pieces of a piece and the segments behind it
+-- pieces that are done, and the last one, which the next segment may share a page with
+pub record Pieces : Type 0 where
+  pub done : List Loaded
+  pub last : Loaded
+
+-- what a piece has below a page is a piece of its own, where it has anything there
+abbrev pub lower : ℕ → Loaded → List Loaded
+lower page p = if nat_lt p.heading.address page then below page p ∷ [] else []
+
+-- and so is what it has from there on
+abbrev pub upper : ℕ → Loaded → Loaded
+upper page p = if nat_lt p.heading.address page then above page p else p
+
+-- a piece in a page, and one behind it that begins there: they are joined as far as the page goes
+abbrev pub in_page : ℕ → Loaded → Loaded → Pieces
+in_page page p q =
+    if nat_le (end_of q) (page + PAGE) then record { done = []; last = joined p q }
+    else record { done = joined p (below (page + PAGE) q) ∷ []; last = above (page + PAGE) q }
+
+-- a piece, and one behind it that begins in this page, its last one
+abbrev pub sharing : ℕ → Loaded → Loaded → Pieces
+sharing page p q =
+    let more = in_page page (upper page p) q in
+    record { done = lower page p ++ more.done; last = more.last }
+
+-- a piece and one behind it
+abbrev pub followed : Loaded → Loaded → Pieces
+followed p q = if shares_page p q then sharing (page_of q.heading.address) p q else record { done = p ∷ []; last = q }
+
+-- the pieces of a piece and the segments behind it; one without bytes has no part in them
 abbrev pub pieces_from : Loaded → List ImageSegment → List Loaded
-pieces_from p [] = finished p ∷ []
+pieces_from p [] = p ∷ []
 pieces_from p (s ∷ rest) =
     if length s.bytes == 0 then pieces_from p rest
-    else (if shares_page p s then pieces_from (joined p s) rest else finished p ∷ pieces_from (piece_of s) rest)
+    else (followed p (piece_of s)).done ++ pieces_from (followed p (piece_of s)).last rest
 
--- the pieces of segments; one without bytes has no part in them
+-- the pieces of segments
+abbrev pub cut_pieces : List ImageSegment → List Loaded
+cut_pieces [] = []
+cut_pieces (s ∷ rest) = if length s.bytes == 0 then cut_pieces rest else pieces_from (piece_of s) rest
+
+-- the same as the file has them
 abbrev pub pieces_of : List ImageSegment → List Loaded
-pieces_of [] = []
-pieces_of (s ∷ rest) = if length s.bytes == 0 then pieces_of rest else pieces_from (piece_of s) rest
+pieces_of segments = map finished (cut_pieces segments)

@@ -24,6 +24,7 @@ use crate::place::{MEMORY_LIMIT, MOST_HEADERS, PAGE, padding, place_of};
 use crate::refusal::ExecutableRefusal;
 use crate::segments::is_rising;
 use crate::static_pie::is_static_pie;
+use crate::writable_code::{first_unasked, owner};
 use elf_file::u16_at;
 use image::Image;
 use names::Name;
@@ -125,6 +126,17 @@ fn finalized(alloc: Global, name: &Name) -> ExecutableRefusal
     }
 }
 
+/// The refusal of an object with memory that may be written and executed.
+fn writable_code(alloc: Global, name: &[u8]) -> ExecutableRefusal
+    ensures { (result ≡ ExecutableRefusal.WritableCode name.now)
+        ⊎ (result ≡ ExecutableRefusal.OutOfMemory) }
+{
+    match Name::copy_of(alloc, name) {
+        Ok(name) => ExecutableRefusal::WritableCode { name },
+        Err(_) => ExecutableRefusal::OutOfMemory,
+    }
+}
+
 /// The entry of an image whose program doesn't relocate itself, and none of whose objects has
 /// functions that nobody would call.
 fn entry_to_call(alloc: Global, image: &Image) -> Result<u64, ExecutableRefusal>
@@ -183,9 +195,10 @@ fn file_of(
 }
 
 /// The static executable file of a bound program, or the first of these: it has no entry in code of
-/// its own, it is a static PIE, it has pre-initializers, a library has initializers, or finalizers, the image is out of
-/// order, there are more program headers than the kernel takes, no pages are free for them. It takes
-/// as much memory as the image's bytes, and one pass over them.
+/// its own, it is a static PIE, it has pre-initializers, a library has initializers, or finalizers,
+/// the image is out of order, there are more program headers than the kernel takes, memory may be
+/// written and executed although no segment in it asks for both, no pages are free for the headers.
+/// It takes as much memory as the image's bytes, and one pass over them.
 pub fn executable_of(alloc: Global, image: &Image) -> Result<Executable, ExecutableRefusal>
 
     // A file only where no test applies; else the refusal of the first that does, or want of
@@ -219,6 +232,9 @@ pub fn executable_of(alloc: Global, image: &Image) -> Result<Executable, Executa
     let pieces = pieces_of(alloc, image.segments())?;
     if pieces.len() + 3 > MOST_HEADERS {
         return Err(ExecutableRefusal::TooManyHeaders);
+    }
+    if let Some(piece) = first_unasked(image.segments(), &pieces) {
+        return Err(writable_code(alloc, owner(image, piece)));
     }
     let Some(place) = place_of(&pieces) else {
         return Err(ExecutableRefusal::NoRoom);

@@ -1,8 +1,8 @@
 //! A bound program as a static ELF executable for x86-64 (gABI chapters 4 and 5, elf(5)).
 //!
-//! `executable_of` makes the file of an image, which loads exactly that image: a PT_LOAD for the
-//! segments that share pages, one for the headers, PT_PHDR and PT_GNU_STACK. The file is started
-//! without a loader and without a registry.
+//! `executable_of` makes the file of an image, which loads exactly that image: a PT_LOAD for each
+//! segment, one for each page that segments share, one for the headers, PT_PHDR and PT_GNU_STACK.
+//! The file is started without a loader and without a registry.
 #![tactic(auto)]
 
 mod entry;
@@ -15,6 +15,7 @@ mod place;
 mod refusal;
 mod segments;
 mod static_pie;
+mod writable_code;
 
 pub use executable::{Executable, executable_of};
 pub use refusal::ExecutableRefusal;

@@ -4,7 +4,8 @@ ghost use Rattle.std.specs.Prelude.{◌≡◌, ◌+◌, ◌≤◌, length, take,
 ghost use Rattle.image.specs.Constant.{MEMORY_LIMIT};
 ghost use Rattle.image.specs.Permissions.{permission_bits};
 ghost use Rattle.executable.specs.Piece.{page_of, end_of, piece_of, shares_page, joined};
-ghost use Rattle.executable.specs.Piece.{without_zeros, finished};
+ghost use Rattle.executable.specs.Piece.{below, above, without_zeros, finished};
+ghost use Rattle.executable.specs.inside.Joining.{IsFull};
 
 use crate::place::PAGE;
 use bitflags::Flags;
@@ -23,7 +24,7 @@ pub(crate) fn page_of(address: u64) -> u64
 }
 
 /// The permissions of a segment, as in `p_flags`.
-fn flags_of(segment: &Segment) -> u32
+pub(crate) fn flags_of(segment: &Segment) -> u32
     ensures { result ≡ permission_bits segment.now.permissions }
 {
     u32::from(segment.permissions().bits()) & 7
@@ -41,8 +42,8 @@ fn length_without_zeros(bytes: &[u8]) -> usize
     length
 }
 
-/// A part of an image that a file loads: segments that share pages. Contracts see it as the reader
-/// of files sees a PT_LOAD in memory.
+/// A part of an image that a file loads: what segments have in pages that permit the same.
+/// Contracts see it as the reader of files sees a PT_LOAD in memory.
 #[derive(Drop)]
 pub(crate) struct Piece {
     address: u64,
@@ -114,28 +115,48 @@ impl Piece {
         self.address + self.size
     }
 
-    /// Whether its last page is the first of a segment behind it.
-    pub(crate) fn shares_page(&self, segment: &Segment) -> bool
+    /// Whether its last page is the first of a piece behind it.
+    pub(crate) fn shares_page(&self, other: &Piece) -> bool
         requires { end_of self.now ≤ MEMORY_LIMIT }
-        ensures { result ≡ shares_page self.now segment.now }
+        ensures { result ≡ shares_page self.now other.now }
     {
-        page_of(segment.address()) < self.end()
+        page_of(other.address) < self.end()
     }
 
-    /// Joins a segment behind it to it.
-    pub(crate) fn join(&mut self, segment: &Segment) -> Result<(), AllocError>
+    /// Joins a piece behind it to it.
+    pub(crate) fn join(&mut self, other: &Piece) -> Result<(), AllocError>
         requires within { length self.old.contents ≤ self.old.heading.size }
-        requires behind { end_of self.old ≤ segment.now.address }
-        requires limit { segment.now.address + length segment.now.bytes ≤ MEMORY_LIMIT }
-        ensures { OnOk result (self.new ≡ joined self.old segment.now) }
+        requires behind { end_of self.old ≤ other.now.heading.address }
+        requires limit { end_of other.now ≤ MEMORY_LIMIT }
+        ensures { OnOk result (self.new ≡ joined self.old other.now) }
     {
-        let begin = segment.address() - self.address;
+        let begin = other.address - self.address;
         self.contents.resize(begin as usize, 0)?;
-        let memory = segment.memory();
-        memory.append_to(&mut self.contents)?;
-        self.flags |= flags_of(segment);
-        self.size = begin + memory.len() as u64;
+        self.contents.extend_from_slice(&other.contents)?;
+        self.flags |= other.flags;
+        self.size = begin + other.size;
         Ok(())
+    }
+
+    /// Takes off what it has from an address on. All its bytes are in it.
+    pub(crate) fn split_off(&mut self, at: u64) -> Result<Piece, AllocError>
+        requires full { IsFull self.old }
+        requires from { self.old.heading.address ≤ at }
+        requires to { at ≤ end_of self.old }
+        ensures below { OnOk result (self.new ≡ below at self.old) }
+        ensures above { IfOk result (λ piece. piece ≡ above at self.old) }
+        ensures full { IfOk result (λ piece. IsFull piece) }
+    {
+        let size = at - self.address;
+        let contents = self.contents.split_off(size as usize)?;
+        let rest = Piece {
+            address: at,
+            flags: self.flags,
+            size: self.size - size,
+            contents,
+        };
+        self.size = size;
+        Ok(rest)
     }
 
     /// The piece as the file has it: without the zeros at the end of one that may be written.

@@ -1,41 +1,108 @@
 // The pieces of an image.
 
-ghost use Rattle.std.specs.Prelude.{◌≡◌, ◌+◌, ◌<◌, ◌≤◌, ◌++◌, ◌∷◌, IfOk, List, length, true};
+ghost use Rattle.std.specs.Prelude.{◌≡◌, ◌+◌, ◌<◌, ◌≤◌, ◌++◌, ◌∷◌, IfOk, OnOk, List};
+ghost use Rattle.std.specs.Prelude.{length, map, true};
 ghost use Rattle.image.specs.Constant.{MEMORY_LIMIT};
 ghost use Rattle.image.specs.Image.{ImageSegment};
-ghost use Rattle.executable.specs.Piece.{is_rising, pieces_of};
-ghost use Rattle.executable.specs.inside.Joining.{pieces_after, IsReady};
+ghost use Rattle.executable.specs.Piece.{is_rising, page_of, end_of, piece_of, finished};
+ghost use Rattle.executable.specs.Piece.{lower, upper, in_page, followed, pieces_from, pieces_of};
+ghost use Rattle.executable.specs.inside.Joining.{pieces_after, IsFull, IsReady};
 
-use crate::piece::Piece;
+use crate::piece::{Piece, page_of};
+use crate::place::PAGE;
 use image::Segment;
 use std::alloc::{AllocError, Global};
 
-/// The piece that is joined to after a segment with bytes, and in `done` those that no later one is
-/// joined to.
+/// Puts what a piece has below a page, and gives the rest.
+fn put_lower(done: &mut Vec<Piece>, mut piece: Piece, page: u64) -> Result<Piece, AllocError>
+    requires full { IsFull piece }
+    requires within { page < end_of piece }
+    ensures done { OnOk result
+        (done.new.items ≡ done.old.items ++ map finished (lower page piece)) }
+    ensures upper { IfOk result (λ rest. rest ≡ upper page piece) }
+    ensures full { IfOk result (λ rest. IsFull rest) }
+    ensures ends { IfOk result (λ rest. end_of rest ≡ end_of piece) }
+{
+    if piece.address() >= page {
+        return Ok(piece);
+    }
+    let rest = piece.split_off(page)?;
+    done.push(piece.finish())?;
+    Ok(rest)
+}
+
+/// Joins a piece to one in the page where it begins, as far as the page goes, and gives the last.
+fn put_page(
+    done: &mut Vec<Piece>,
+    mut piece: Piece,
+    mut next: Piece,
+    page: u64,
+) -> Result<Piece, AllocError>
+    requires full { IsFull piece }
+    requires next_full { IsFull next }
+    requires behind { end_of piece ≤ next.heading.address }
+    requires begins { page ≤ next.heading.address }
+    requires within { next.heading.address < page + PAGE }
+    requires limit { end_of next ≤ MEMORY_LIMIT }
+    ensures done { OnOk result
+        (done.new.items ≡ done.old.items ++ map finished (in_page page piece next).done) }
+    ensures last { IfOk result (λ last. last ≡ (in_page page piece next).last) }
+    ensures full { IfOk result (λ last. IsFull last) }
+    ensures ends { IfOk result (λ last. end_of last ≡ end_of next) }
+{
+    if next.end() <= page + PAGE {
+        piece.join(&next)?;
+        return Ok(piece);
+    }
+    let rest = next.split_off(page + PAGE)?;
+    piece.join(&next)?;
+    done.push(piece.finish())?;
+    Ok(rest)
+}
+
+/// Puts what is done of a piece and one behind it, and gives the last.
+fn put(done: &mut Vec<Piece>, piece: Piece, next: Piece) -> Result<Piece, AllocError>
+    requires full { IsFull piece }
+    requires next_full { IsFull next }
+    requires behind { end_of piece ≤ next.heading.address }
+    requires limit { end_of next ≤ MEMORY_LIMIT }
+    ensures done { OnOk result
+        (done.new.items ≡ done.old.items ++ map finished (followed piece next).done) }
+    ensures last { IfOk result (λ last. last ≡ (followed piece next).last) }
+    ensures full { IfOk result (λ last. IsFull last) }
+    ensures ends { IfOk result (λ last. end_of last ≡ end_of next) }
+{
+    if !piece.shares_page(&next) {
+        done.push(piece.finish())?;
+        return Ok(next);
+    }
+    let page = page_of(next.address());
+    let upper = put_lower(done, piece, page)?;
+    put_page(done, upper, next, page)
+}
+
+/// The piece that may go on after a segment with bytes, and in `done` those before it.
 fn add(
     alloc: Global,
     done: &mut Vec<Piece>,
     last: Option<Piece>,
     segment: &Segment,
-) -> Result<Option<Piece>, AllocError>
+) -> Result<Piece, AllocError>
     requires last { IsReady last segment.now.address }
     requires limit { segment.now.address + length segment.now.bytes ≤ MEMORY_LIMIT }
     requires some { 0 < length segment.now.bytes }
     ensures pieces { IfOk result (λ next. (rest : List ImageSegment) →
-        done.new.items ++ pieces_after next rest
-        ≡ done.old.items ++ pieces_after last (segment.now ∷ rest)) }
-    ensures ready { IfOk result (λ next.
-        IsReady next (segment.now.address + length segment.now.bytes)) }
+        done.new.items ++ map finished (pieces_from next rest)
+        ≡ done.old.items ++ map finished (pieces_after last (segment.now ∷ rest))) }
+    ensures full { IfOk result (λ next. IsFull next) }
+    ensures ends { IfOk result (λ next.
+        end_of next ≡ segment.now.address + length segment.now.bytes) }
 {
-    let Some(mut piece) = last else {
-        return Ok(Some(Piece::of(alloc, segment)?));
-    };
-    if piece.shares_page(segment) {
-        piece.join(segment)?;
-        return Ok(Some(piece));
+    let next = Piece::of(alloc, segment)?;
+    match last {
+        None => Ok(next),
+        Some(piece) => put(done, piece, next),
     }
-    done.push(piece.finish())?;
-    Ok(Some(Piece::of(alloc, segment)?))
 }
 
 /// The pieces of segments. One pass over them, which copies their bytes.
@@ -47,7 +114,7 @@ pub(crate) fn pieces_of(alloc: Global, segments: &[Segment]) -> Result<Vec<Piece
     let mut last = None;
     for segment in segments {
         if segment.memory().len() != 0 {
-            last = add(alloc, &mut done, last, segment)?;
+            last = Some(add(alloc, &mut done, last, segment)?);
         }
     }
     if let Some(piece) = last {

@@ -34,6 +34,12 @@ pub enum ExecutableRefusal {
     /// There would be more than 1,170 program headers.
     #[error("the image has more segments than the kernel takes")]
     TooManyHeaders,
+    /// Memory may be written and executed, and no segment in it asks for both.
+    #[error("an object has memory that may be written and executed, which its file doesn't ask for")]
+    WritableCode {
+        /// The object's name.
+        name: Name,
+    },
     /// No pages from 0x10000 on, below or above the image, have room for the headers.
     #[error("there is no room for the headers")]
     NoRoom,

@@ -36,6 +36,7 @@ executable_refusal_text (refusal.Initializers name) = codes "refused Initializer
 executable_refusal_text (refusal.Finalizers name) = codes "refused Finalizers " ++ name_text name ++ codes "\n"
 executable_refusal_text refusal.OutOfOrder = codes "refused OutOfOrder\n"
 executable_refusal_text refusal.TooManyHeaders = codes "refused TooManyHeaders\n"
+executable_refusal_text (refusal.WritableCode name) = codes "refused WritableCode " ++ name_text name ++ codes "\n"
 executable_refusal_text refusal.NoRoom = codes "refused NoRoom\n"
 executable_refusal_text refusal.OutOfMemory = memory_text
 

@@ -70,6 +70,9 @@ fn put_executable_refusal<W: Write>(
         }
         ExecutableRefusal::OutOfOrder => line.put(out, b"refused OutOfOrder\n"),
         ExecutableRefusal::TooManyHeaders => line.put(out, b"refused TooManyHeaders\n"),
+        ExecutableRefusal::WritableCode { name } => {
+            put_around(line, out, b"refused WritableCode ", name.as_bytes(), b"\n")
+        }
         ExecutableRefusal::NoRoom => line.put(out, b"refused NoRoom\n"),
         ExecutableRefusal::OutOfMemory => put_disk_refusal(line, out, StoreRefusal::OutOfMemory),
     }

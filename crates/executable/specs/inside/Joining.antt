@@ -1,15 +1,19 @@
 -- How pieces are made one segment after the other.
-use Rattle.std.specs.Prelude.{ℕ, ◌≤◌, List, length, Option, Some, None}
+use Rattle.std.specs.Prelude.{ℕ, ◌≤◌, ◌≡◌, List, length, Option, Some, None}
 use Rattle.image.specs.Image.{ImageSegment}
 use Rattle.image.specs.Loading.{Loaded}
-use Rattle.executable.specs.Piece.{end_of, pieces_from, pieces_of}
+use Rattle.executable.specs.Piece.{end_of, pieces_from, cut_pieces}
 
 -- the pieces of segments behind a piece, if there is one
 abbrev pub pieces_after : Option Loaded → List ImageSegment → List Loaded
-pieces_after None segments = pieces_of segments
+pieces_after None segments = cut_pieces segments
 pieces_after (Some p) segments = pieces_from p segments
 
--- a segment at an address can be joined to the piece, if there is one
+-- all bytes of a piece are in it
+abbrev pub IsFull : Loaded → Type 0
+IsFull p = length p.contents ≡ p.heading.size
+
+-- a segment at an address lies behind the piece, if there is one
 abbrev pub IsReady : Option Loaded → ℕ → Type 0
 IsReady None address = Unit {0}
-IsReady (Some p) address = (length p.contents ≤ p.heading.size) × (end_of p ≤ address)
+IsReady (Some p) address = IsFull p × (end_of p ≤ address)

@@ -1,13 +1,13 @@
-use Rattle.std.proofs.Common.{◌≡◌, ◌+◌, ◌≤◌, ◌<◌, ◌==◌, ℕ, true, List, [], ◌∷◌, ◌++◌, drop, length, get_or, Option, Some, None, refl, sym, ap, ◌∙◌, subst, arith}
+use Rattle.std.proofs.Common.{◌≡◌, ◌+◌, ◌≤◌, ◌<◌, ◌==◌, ℕ, true, List, [], ◌∷◌, ◌++◌, drop, length, map, get_or, Option, Some, None, refl, sym, ap, ◌∙◌, subst, arith}
 use Rattle.std.proofs.lemmas.Bool.{eq-eqb}
 use Rattle.std.proofs.lemmas.List.{drop_more, drop_all, append-nil}
 use Rattle.image.specs.Image.{ImageSegment}
 use Rattle.image.specs.Loading.{Loaded}
-use Rattle.executable.specs.Piece.{is_rising}
+use Rattle.executable.specs.Piece.{is_rising, finished}
 use Rattle.executable.specs.inside.Joining.{pieces_after, IsReady}
-use Rattle.executable.proofs.Joining.{Rises, rises}
+use Rattle.executable.proofs.Rising.{Rises, rises}
 use Rattle.executable.proofs.pieces.pieces_of.Goals as goal
-use Rattle.executable.proofs.pieces.pieces_of.Goals.{then-len-ne0+in_ok-last, else-len-ne0, in-Some+in_ok-push, in_default}
+use Rattle.executable.proofs.pieces.pieces_of.Goals.{then-len-ne0+in_ok-add, else-len-ne0, in-Some+in_ok-push, in_default}
 
 -- a segment at a higher address can be joined to the same piece
 ready-higher : (last : Option Loaded) (a b : ℕ) → a ≤ b → IsReady last a → IsReady last b
@@ -49,17 +49,17 @@ loop-segment-preserved c =
     let so_far = c.loop-segment.invariant in
     let split = front segments i s c.loop-segment-test.true c.segment-item.is in
     let it = here segments i so_far.rising.0 s c.loop-segment-test.true c.segment-item.is so_far.rising.2 in
-    let before = ap (λ l. done ++ pieces_after c.loop-segment.last l) (sym split) ∙ so_far.pieces in
+    let before = ap (λ l. done ++ map finished (pieces_after c.loop-segment.last l)) (sym split) ∙ so_far.pieces in
     elim c.if-len-ne0.branch [
-      | then-len-ne0+in_ok-last w ↦
+      | then-len-ne0+in_ok-add w ↦
           rw (w.done-is, w.last-is) (record {
-            pieces = w.in_ok-last.ensures.pieces rest ∙ before;
-            rising = (s.address + length s.bytes, w.in_ok-last.ensures.ready, it.others);
+            pieces = w.in_ok-add.ensures.pieces rest ∙ before;
+            rising = (s.address + length s.bytes, (w.in_ok-add.ensures.full, omega (arith, w.in_ok-add.ensures.ends)), it.others);
           })
       | else-len-ne0 w ↦
           let none = eq-eqb (length s.bytes) 0 (omega (arith, w.if-len-ne0.false, c.len.ensures.len, ap length c.memory.ensures)) in
           rw (w.done-is, w.last-is) (record {
-            pieces = ap (λ l. done ++ l) (sym (skipped c.loop-segment.last s rest none)) ∙ before;
+            pieces = ap (λ l. done ++ map finished l) (sym (skipped c.loop-segment.last s rest none)) ∙ before;
             rising = (s.address + length s.bytes, ready-higher c.loop-segment.last so_far.rising.0 (s.address + length s.bytes) (omega (arith, it.above)) so_far.rising.1, it.others);
           })
     ]
@@ -69,8 +69,8 @@ returns c =
     let segments = c.args.segments.now in
     let done = c.loop-segment.done.items in
     let all = drop_all c.loop-segment.segment-index segments (omega (arith, c.loop-segment-test.false)) in
-    let before = ap (λ l. done ++ pieces_after c.loop-segment.last l) (sym all) ∙ c.loop-segment.invariant.pieces in
+    let before = ap (λ l. done ++ map finished (pieces_after c.loop-segment.last l)) (sym all) ∙ c.loop-segment.invariant.pieces in
     elim c.match-last.branch [
-      | in-Some+in_ok-push w ↦ rw w.done-is (w.in_ok-push.ensures.items ∙ ap (λ (p : Loaded). done ++ p ∷ []) w.finish.ensures ∙ ap (λ l. done ++ pieces_after l []) (sym w.in-Some.is) ∙ before)
-      | in_default w ↦ rw w.done-is (sym (append-nil done) ∙ ap (λ l. done ++ pieces_after l []) (sym w.in_default.is) ∙ before)
+      | in-Some+in_ok-push w ↦ rw w.done-is (w.in_ok-push.ensures.items ∙ ap (λ (p : Loaded). done ++ p ∷ []) w.finish.ensures ∙ ap (λ l. done ++ map finished (pieces_after l [])) (sym w.in-Some.is) ∙ before)
+      | in_default w ↦ rw w.done-is (sym (append-nil done) ∙ ap (λ l. done ++ map finished (pieces_after l [])) (sym w.in_default.is) ∙ before)
     ]

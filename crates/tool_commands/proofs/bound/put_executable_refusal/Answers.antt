@@ -22,6 +22,14 @@ returns-in-Finalizers g c =
     subst (λ (r : ExecutableRefusal). OnOk c.put_around-in-Finalizers.result (Sends (w c.args.out.now) c.args.line.now (w c.put_around-in-Finalizers.new.out) c.put_around-in-Finalizers.new.line (executable_refusal_text r)))
     (sym c.in-Finalizers.is) said
 
+pub returns-in-WritableCode : goal.returns-in-WritableCode
+returns-in-WritableCode g c =
+    let w = g.W.Write.contents in
+    let said = subst (λ n. OnOk c.put_around-in-WritableCode.result (Sends (w c.args.out.now) c.args.line.now (w c.put_around-in-WritableCode.new.out) c.put_around-in-WritableCode.new.line
+    (codes "refused WritableCode " ++ name_text n ++ codes "\n"))) c.as_bytes-in-WritableCode.ensures c.put_around-in-WritableCode.ensures in
+    subst (λ (r : ExecutableRefusal). OnOk c.put_around-in-WritableCode.result (Sends (w c.args.out.now) c.args.line.now (w c.put_around-in-WritableCode.new.out) c.put_around-in-WritableCode.new.line (executable_refusal_text r)))
+    (sym c.in-WritableCode.is) said
+
 pub returns-in-OutOfOrder : goal.returns-in-OutOfOrder
 returns-in-OutOfOrder g c =
     let w = g.W.Write.contents in

@@ -1,4 +1,0 @@
-use Rattle.executable.proofs.piece.Piece.shares_page.Goals as goal
-
-pub returns : goal.returns
-returns c = cc

@@ -1,0 +1,35 @@
+-- Memory that may be written and executed although no file asks for both (own).
+use Rattle.std.specs.Prelude.{ℕ, ◌+◌, ◌==◌, ◌&&◌, not, nat_lt, Bool, if◌then◌else◌, List, [], ◌∷◌, length, take, drop, Option}
+use Rattle.std.specs.Int.RustNames.{bit_and}
+use Rattle.std.specs.List.{list_any, find}
+use Rattle.std.specs.Option.{option_map}
+use Rattle.image.specs.Constant.{PF_X, PF_W}
+use Rattle.image.specs.Image.{ImageSegment, MemoryImage}
+use Rattle.image.specs.Loading.{Loaded}
+use Rattle.image.specs.Permissions.{permission_bits}
+use Rattle.image.specs.declared.object.ImageObject.{ImageObject}
+use Rattle.executable.specs.Piece.{end_of, pieces_of}
+
+-- permissions, as in p_flags, to write and to execute
+abbrev pub is_both : ℕ → Bool
+is_both flags = bit_and flags (PF_W + PF_X) == PF_W + PF_X
+
+-- a segment has a byte in a piece
+abbrev pub meets : Loaded → ImageSegment → Bool
+meets p s = not (length s.bytes == 0) && nat_lt s.address (end_of p) && nat_lt p.heading.address (s.address + length s.bytes)
+
+-- a piece may be written and executed, although none of the segments in it asks for both
+abbrev pub is_unasked : List ImageSegment → Loaded → Bool
+is_unasked segments p =
+    is_both p.heading.permissions && not (list_any (λ s. meets p s && is_both (permission_bits s.permissions)) segments)
+
+-- the name of the first of these objects that has a segment in a piece; their own segments follow one another
+abbrev pub owner_among : Loaded → List ImageObject → List ImageSegment → List ℕ
+owner_among p [] segments = []
+owner_among p (o ∷ rest) segments =
+    if list_any (meets p) (take o.segment_count segments) then o.name else owner_among p rest (drop o.segment_count segments)
+
+-- the name of the object that has the first such piece of an image
+abbrev pub first_unasked : MemoryImage → Option (List ℕ)
+first_unasked image =
+    option_map (λ p. owner_among p image.objects image.segments) (find (is_unasked image.segments) (pieces_of image.segments))

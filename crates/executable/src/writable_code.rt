@@ -1,0 +1,89 @@
+// Memory that may be written and executed.
+
+ghost use Rattle.std.specs.Prelude.{◌≡◌, ◌+◌, ◌&&◌, nat_lt};
+ghost use Rattle.std.specs.List.{find, list_any};
+ghost use Rattle.std.specs.Option.{option_map};
+ghost use Rattle.image.specs.Permissions.{permission_bits};
+ghost use Rattle.executable.specs.WritableCode.{is_both, meets, is_unasked, owner_among};
+
+use crate::piece::{Piece, flags_of};
+use crate::segments::split;
+use image::{Image, Segment};
+
+/// What may be done with memory that may be written and executed, as in `p_flags`.
+const PF_WX: u32 = 3;
+
+/// Whether flags, as in `p_flags`, permit writing and executing.
+fn is_both(flags: u32) -> bool
+    ensures { result ≡ is_both flags }
+{
+    flags & PF_WX == PF_WX
+}
+
+/// Whether so many bytes from an address on end above another address.
+fn ends_above(from: u64, size: u64, address: u64) -> bool
+    ensures { result ≡ nat_lt address (from + size) }
+{
+    address < from || address - from < size
+}
+
+/// Whether a segment has a byte in a piece.
+fn meets(piece: &Piece, segment: &Segment) -> bool
+    ensures { result ≡ meets piece.now segment.now }
+{
+    let size = segment.memory().len() as u64;
+    size != 0
+        && ends_above(piece.address(), piece.size(), segment.address())
+        && ends_above(segment.address(), size, piece.address())
+}
+
+/// Whether some segment in a piece asks for both.
+fn is_asked(segments: &[Segment], piece: &Piece) -> bool
+    ensures { result ≡ list_any
+        (λ s. meets piece.now s && is_both (permission_bits s.permissions)) segments.now }
+{
+    segments
+        .iter()
+        .any(|s| meets(piece, s) && is_both(flags_of(s)))
+}
+
+/// Whether a piece may be written and executed, although no segment in it asks for both.
+fn is_unasked(segments: &[Segment], piece: &Piece) -> bool
+    ensures { result ≡ is_unasked segments.now piece.now }
+{
+    is_both(piece.flags()) && !is_asked(segments, piece)
+}
+
+/// The first such piece. One pass over the segments for each piece that may be written and executed.
+pub(crate) fn first_unasked<'a>(segments: &[Segment], pieces: &'a [Piece]) -> Option<&'a Piece>
+    ensures { option_map (λ p. p.now) result ≡ find (is_unasked segments.now) pieces.now }
+{
+    for piece in pieces {
+        if is_unasked(segments, piece) {
+            return Some(piece);
+        }
+    }
+    None
+}
+
+/// Whether some segment has a byte in a piece.
+fn any_meets(segments: &[Segment], piece: &Piece) -> bool
+    ensures { result ≡ list_any (meets piece.now) segments.now }
+{
+    segments.iter().any(|s| meets(piece, s))
+}
+
+/// The name of the object that has a segment in a piece.
+pub(crate) fn owner<'a>(image: &'a Image, piece: &Piece) -> &'a [u8]
+    ensures { result.now ≡ owner_among piece.now image.now.objects image.now.segments }
+{
+    let mut segments = image.segments();
+    for object in image.objects() {
+        let (own, others) = split(segments, object.segment_count);
+        if any_meets(own, piece) {
+            return object.name.as_bytes();
+        }
+        segments = others;
+    }
+    &[]
+}
