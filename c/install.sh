@@ -50,7 +50,7 @@ print(next(it for it in site.getsitepackages() if it.startswith(sys.argv[1] + "/
 make_files() {
     sed "s|@PREFIX@|$1|; s|@VERSION@|$version|" "$here/rlibreg.pc.in" > "$2/rlibreg.pc"
     if command -v pandoc > /dev/null; then
-        "$here/manual.sh" "$2"
+        "$here/manual.sh" "$2" "$1/share/doc/rlibreg"
     else
         echo 'left out: the manual pages, which pandoc makes'
     fi
@@ -75,6 +75,9 @@ add_all() {
     add 644 "$3/rlibreg.pc" "$1/lib/pkgconfig/rlibreg.pc"
     for name in __init__.py _calls.py py.typed; do
         add 644 "$here/../python/rlibreg/$name" "$modules/rlibreg/$name"
+    done
+    for page in "$here"/../docs/*.md; do
+        add 644 "$page" "$1/share/doc/rlibreg/${page##*/}"
     done
     for page in "$3"/*.[13]; do
         [ ! -f "$page" ] || add 644 "$page" "$1/share/man/man${page##*.}/${page##*/}"

@@ -1,19 +1,33 @@
 #!/usr/bin/env bash
-# manual.sh FOLDER makes the manual pages rlibreg.1, rlibreg-tool.1, rlibreg-run.1, rlibreg-gcc.1 and
-# rlibreg.3 from docs/COMMANDS.md, docs/TOOL.md, docs/LINKING.md and docs/C.md, by pandoc.
+# manual.sh FOLDER DOCUMENTS makes the manual pages rlibreg.1, rlibreg-tool.1, rlibreg-run.1,
+# rlibreg-gcc.1 and rlibreg.3 from docs/COMMANDS.md, docs/TOOL.md, docs/LINKING.md and docs/C.md, by
+# pandoc. DOCUMENTS is the folder in which the pages say that the documents are.
 set -eu
 cd "$(dirname "$0")/../docs"
 folder=$1
+documents=$2
 version=$(../c/version.sh)
 
-# page NAME SECTION WHAT: of the Markdown on standard input, whose sections begin with `##`. Of a
-# link to another document its name stays.
+# page NAME SECTION WHAT: of the Markdown on standard input, whose sections begin with `##`. A document
+# that is a page has the page's name there, each other its own. Words aren't hyphenated, and lines not
+# adjusted, so that they can be searched.
 page() {
     {
         printf '# %s(%s)\n\n## Name\n\n%s - %s\n\n' "$1" "$2" "$1" "$3"
-        sed 's/\[\([A-Z]*\)\](\([A-Z]*\.md\))/docs\/\2/g'
-    } | pandoc -f gfm -t man -s --shift-heading-level-by=-1 -V "header=$1 $version" \
-        -V "footer=rlibreg $version" -o "$folder/$1.$2"
+        sed 's/\[C\](C\.md)/rlibreg-run(1)/g; s/\[\([A-Z]*\)\]([A-Z]*\.md)/\1/g; s/`docs\/\([A-Z]*\)\.md`/\1/g
+            s/\bCOMMANDS\b/rlibreg(1)/g; s/\bTOOL\b/rlibreg-tool(1)/g'
+        cat << END
+
+## See also
+
+rlibreg(1), rlibreg-gcc(1), rlibreg-run(1), rlibreg-tool(1), rlibreg(3).
+
+GUIDE, LINKING and other names in capital letters are documents in \`$documents\`; files of
+\`c\` and \`crates\` are those of the source.
+END
+    } | pandoc -f gfm -t man -s --lua-filter ../c/manual.lua --shift-heading-level-by=-1 \
+        -M hyphenate=false -V adjusting=l -V "header=$1 $version" -V "footer=rlibreg $version" \
+        -o "$folder/$1.$2"
 }
 
 awk '/^## Synopsis/ {inside = 1} inside' COMMANDS.md |

@@ -88,6 +88,6 @@ for part in cuts same held recipe devices full loader starting initializers docu
 done
 
 # What build.sh has made, as it stands: no C of the library is compiled anew for these.
-for part in shared installed python driver; do
+for part in shared installed manual python driver; do
     (. "$here/$part.sh")
 done
