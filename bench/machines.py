@@ -63,6 +63,7 @@ class Machine:
     def __init__(self, program, folder, body):
         self.program, self.folder, self.kept = str(program), folder, folder / 'kept'
         self.known, self.contents, self.files, self.runs = {}, {}, {}, 0
+        assert b'/ld-' in Path(program).read_bytes()[:PAGE], f'{program} is static, and takes no library before its own'
         self.kept.mkdir()
         for file, (name, made) in LIBRARIES.items():
             self.files[file] = name, made.file

@@ -1,6 +1,7 @@
 #!/usr/bin/env python3
 """Runs the commands of the program `rlibreg` over a stand-in for a kernel (`medium.c`) in which syncs fail, processes end and
-the machine loses its power, and asks whether what was answered stays true. Wants gcc.
+the machine loses its power, and asks whether what was answered stays true. Wants gcc, and a PROGRAM that isn't static
+(`DYNAMIC=yes c/build.sh`).
 
     python3 bench/syncs.py PROGRAM FOLDER [--all] [--body NAME]
 

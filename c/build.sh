@@ -3,13 +3,17 @@
 # librlibreg.a, librlibreg.so, rlibreg.h, rlibreg-run, rlibreg, rlibreg-tool, and rlibreg-gcc with its
 # parts. COMPILER is `llvm` or `rattle`, the toolchain's own; FOLDER is c/out.
 #
+# CC is the compiler of C: gcc, or another one for Linux on x86-64, such as musl-gcc. What it makes
+# are static PIEs, or PIEs where there is no static C library, or where DYNAMIC is set.
+#
 # The crates rlibreg_c, rlibreg and rlibreg_tool are proved first, and the crates below them, unless
 # their proofs are kept.
 set -eu
 cd "$(dirname "$0")/.."
 compiler=${1:-llvm}
 folder=${2:-c/out}
-for tool in gcc ar; do
+cc=${CC:-gcc}
+for tool in ${cc%% *} ar readelf; do
     if ! command -v $tool > /dev/null; then
         echo "c/build.sh: there is no $tool on this machine, and the C library can't be built" >&2
         exit 1
@@ -20,6 +24,24 @@ flags='-std=c11 -O2 -g -fPIC -Wall -Wextra -Wpedantic -Werror'
 hardened='-fstack-protector-strong -Wl,-z,relro,-z,now'
 mkdir -p "$folder"
 folder=$(cd "$folder" && pwd)
+# musl-gcc has no headers of the kernel: they come behind its own.
+echo '#include <linux/loop.h>' | $cc -E -x c - > /dev/null 2>&1 ||
+    flags="$flags -idirafter /usr/include -idirafter /usr/include/$($cc -print-multiarch)"
+
+# makes_static WORD..: whether a program that is linked so is a PIE that needs no loader.
+makes_static() {
+    local made
+    echo 'int main(void) { return 0; }' | $cc -fPIC -x c - -x none "$@" -o "$folder/probe" 2> /dev/null &&
+        made=$(readelf -hlW "$folder/probe" && rm "$folder/probe") &&
+        [[ $made == *'DYN ('* && $made != *INTERP* ]]
+}
+# How programs are linked. Debian's musl-gcc is given what a static PIE begins with.
+begins=$($cc '-###' -pie -x c /dev/null 2>&1 | tr ' "' '\n\n' | sed -n 's/Scrt1\.o$//p')
+linking=-pie kind=dynamic
+for way in -static-pie "-static -nostartfiles -Wl,-pie,--no-dynamic-linker,-z,text \
+    ${begins}rcrt1.o ${begins}crti.o ${begins}crtn.o"; do
+    [ -z "${DYNAMIC:-}" ] && makes_static $way && linking=$way kind=static && break
+done
 
 # The proved calls: RLIBREG_C is an archive of the crate that was built before.
 if [ -z "${RLIBREG_C:-}" ]; then
@@ -31,7 +53,7 @@ cp "$RLIBREG_C" "$folder/proved.a"
 # The C over them, and what gives the proved calls their memory.
 parts='file disk_file streams place new_disk turn front status'
 for part in $parts; do
-    gcc $flags -c -o "$folder/rlibreg_$part.o" "c/rlibreg_$part.c"
+    $cc $flags -c -o "$folder/rlibreg_$part.o" "c/rlibreg_$part.c"
 done
 rm -f "$folder/librlibreg.a"
 (
@@ -48,15 +70,10 @@ END
 cp c/rlibreg.h "$folder/"
 # linked STATUS MESSAGE NAME WORD..: links one that ends so where it can't begin for want of memory.
 linked() {
-    gcc $flags $hardened -DOUT_OF_MEMORY="$1" -DMESSAGE="\"$3: $2\\n\"" -Wl,-e,rlibreg_entry -o "$folder/$3" \
-        c/rlibreg_entry.c c/rlibreg_stack.c "${@:4}"
+    $cc $flags $hardened $linking -DOUT_OF_MEMORY="$1" -DMESSAGE="\"$3: $2\\n\"" \
+        -Wl,-e,rlibreg_entry -o "$folder/$3" c/rlibreg_entry.c c/rlibreg_stack.c "${@:4}"
 }
-# The loader is a static PIE, or a PIE where there is no static C library.
-link_loader() {
-    linked 126 'memory: Cannot allocate memory' rlibreg-run "$1" c/rlibreg_run*.c \
-        "$folder/librlibreg.a"
-}
-link_loader -static-pie 2> /dev/null || link_loader -pie
+linked 126 'memory: Cannot allocate memory' rlibreg-run c/rlibreg_run*.c "$folder/librlibreg.a"
 
 # program NAME OBJECT CRATE WORD..: a program, with what its language can't ask of the system. OBJECT
 # is what `rt run` links, by which it is made where it is empty; the words are those of a run.
@@ -67,10 +84,10 @@ program() {
         (cd "crates/$crate" && rt run --backend "$compiler" -- "$@" > /dev/null)
         object=crates/$crate/out/$crate.o
     fi
-    linked 4 'refused S11 OutOfMemory' "$name" -pie \
-        -Wl,--gc-sections,--wrap=fsync,--wrap=flock,--wrap=main c/rlibreg_main.c c/rlibreg_forget.c \
-        c/rlibreg_front.c c/rlibreg_turn.c c/rlibreg_program_lock.c "$object" \
-        "$kit/c/libos_c.a" "$kit/c/liblibc_c.a" -lm
+    linked 4 'refused S11 OutOfMemory' "$name" \
+        -Wl,--gc-sections,--wrap=fsync,--wrap=flock,--wrap=main c/rlibreg_main.c c/rlibreg_front.c \
+        c/rlibreg_turn.c c/rlibreg_program_{lock,sync}.c "$object" "$kit/c/libos_c.a" \
+        "$kit/c/liblibc_c.a" -lm
 }
 program rlibreg "${RLIBREG_O:-}" rlibreg image data/minimal.so 0x10000
 program rlibreg-tool "${RLIBREG_TOOL_O:-}" rlibreg_tool info data/disk
@@ -82,11 +99,11 @@ soname=librlibreg.so.${version%.*}
     cd "$folder"
     {
         echo '{ global:'
-        gcc -E -P rlibreg.h | grep -o 'rlibreg_[a-z_]*(' | tr '(' ';'
+        $cc -E -P rlibreg.h | grep -o 'rlibreg_[a-z_]*(' | tr '(' ';'
         echo 'local: *; };'
     } > exported
     rm -f librlibreg.so*
-    gcc -shared -o "librlibreg.so.$version" -Wl,-soname,"$soname" -Wl,-z,defs,-z,relro,-z,now \
+    $cc -shared -o "librlibreg.so.$version" -Wl,-soname,"$soname" -Wl,-z,defs,-z,relro,-z,now \
         -Wl,-Bsymbolic-functions,--gc-sections,--version-script=exported \
         -Wl,--whole-archive librlibreg.a -Wl,--no-whole-archive
     rm exported
@@ -95,8 +112,8 @@ soname=librlibreg.so.${version%.*}
 )
 
 # The driver, with where its programs begin, what C++ asks for, and what reads version scripts.
-gcc $flags -g0 -c -o "$folder/rlibreg_begin.o" c/rlibreg_begin.c
+$cc $flags -g0 -c -o "$folder/rlibreg_begin.o" c/rlibreg_begin.c
 cp c/rlibreg-gcc c/rlibreg_plus.cc c/rlibreg_versions.awk "$folder/"
 ln -sf rlibreg-gcc "$folder/rlibreg-g++"
-echo "built in $folder: librlibreg.a, librlibreg.so, rlibreg.h, rlibreg-run, rlibreg, rlibreg-tool," \
-    "rlibreg-gcc"
+echo "built in $folder: librlibreg.a, librlibreg.so, rlibreg.h, rlibreg-gcc;" \
+    "$kind: rlibreg-run, rlibreg, rlibreg-tool"

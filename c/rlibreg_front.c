@@ -14,8 +14,13 @@
 #include <string.h>
 #include <sys/ioctl.h>
 #include <sys/mman.h>
+#include <sys/syscall.h>
 #include <time.h>
 #include <unistd.h>
+
+#ifndef STATX_TYPE /* musl before 1.2.5 has neither the call nor its structure */
+#include <linux/stat.h>
+#endif
 
 /* What the system keeps of a file is in pieces of a page to 2 MiB, and it lets a piece go only
  * where that lies whole in what is to go. What is read past it is a block of 4,096 bytes, since
@@ -48,7 +53,7 @@ static int is_loop_over_memory(int fd) {
 static int is_encoded(int fd) {
     struct statx found;
     const uint64_t encoded = STATX_ATTR_ENCRYPTED | STATX_ATTR_COMPRESSED;
-    return !statx(fd, "", AT_EMPTY_PATH | AT_STATX_DONT_SYNC, 0, &found) &&
+    return !syscall(SYS_statx, fd, "", AT_EMPTY_PATH | AT_STATX_DONT_SYNC, 0, &found) &&
            found.stx_attributes & encoded;
 }
 

@@ -1,6 +1,10 @@
 /* What a program does before its language begins: linked over its `main` by build.sh, which says what
  * OUT_OF_MEMORY and MESSAGE are. */
+#define _GNU_SOURCE
 #include "rlibreg_stack.h"
+
+#include <sys/syscall.h>
+#include <unistd.h>
 
 /* Commands take up to some 210 KiB. */
 enum { STACK = 384 << 10 };
@@ -8,7 +12,28 @@ enum { STACK = 384 << 10 };
 int __real_main(int argc, char **argv, char **environment);
 int __wrap_main(int argc, char **argv, char **environment);
 
+#ifndef __GLIBC__
+/* What the language calls, and musl before 1.2.5 hasn't got. */
+int statx(int folder, const char *path, int flags, unsigned mask, void *found);
+
+int statx(int folder, const char *path, int flags, unsigned mask, void *found) {
+    return (int)syscall(SYS_statx, folder, path, flags, mask, found);
+}
+
+/* The language keeps the words in an initializer, which glibc alone gives them. */
+typedef void initializer(int argc, char **argv, char **environment);
+extern initializer *__init_array_start[], *__init_array_end[];
+
+static void give_words(int argc, char **argv, char **environment) {
+    for (initializer **it = __init_array_start; it != __init_array_end; it++)
+        (*it)(argc, argv, environment);
+}
+#endif
+
 int __wrap_main(int argc, char **argv, char **environment) {
     rlibreg_grow_stack(STACK, OUT_OF_MEMORY, rlibreg_names_errors(argv) ? "" : MESSAGE);
+#ifndef __GLIBC__
+    give_words(argc, argv, environment);
+#endif
     return __real_main(argc, argv, environment);
 }

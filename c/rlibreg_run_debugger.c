@@ -8,6 +8,8 @@
 #include <stdlib.h>
 #include <string.h>
 
+extern ElfW(Dyn) _DYNAMIC[]; /* musl's header doesn't name it */
+
 static struct r_debug *list_of_objects(void) {
     for (const ElfW(Dyn) *it = _DYNAMIC; it->d_tag != DT_NULL; it++)
         if (it->d_tag == DT_DEBUG) return (struct r_debug *)it->d_un.d_ptr;

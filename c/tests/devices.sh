@@ -9,8 +9,8 @@ truncate -s 1M image
 device=$(losetup -f --show image 2> lost) || skipped "there is no loop device ($(cat lost))"
 trap 'losetup -d "$device"' EXIT
 
-busy='tool: Device or resource busy
-= 9'
+busy="tool: $(error_text 16)
+= 9"
 held='tool: the file is held
 = 9'
 want 'no registry' 'refused S3 NotFormatted

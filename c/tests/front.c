@@ -140,7 +140,7 @@ static void refuse_past(int why) {
     watched.because = why;
 }
 
-static void encrypt(int way) {
+static void set_encrypted(int way) {
     (void)way;
     watch();
     watched.is_encrypted = 1;
@@ -157,7 +157,7 @@ static void try_unknown(void) {
     want_unknown(refuse_past, EPERM);
     want_unknown(refuse_past, EINVAL);
     want_unknown(refuse_past, EOPNOTSUPP);
-    want_unknown(encrypt, 0);
+    want_unknown(set_encrypted, 0);
     want_unknown(loop_over_memory, 0);
     for (int i = 0; i < 2; i++) { /* EPERM: a device that can only be read */
         loop_over_memory(0);
@@ -169,7 +169,7 @@ static void try_unknown(void) {
     loop_over_memory(0);
     watched.loop = 2; /* and past it */
     WANT(!opens("disk", CHANGES) && !made("forget") && !made("write"));
-    encrypt(0);
+    set_encrypted(0);
     watched.differ = 2;
     watched.keeps = FOR_EVER;
     WANT(fails_by(opens("disk", 0), EIO));

@@ -2,7 +2,7 @@
 # hand from what needs what; bench/initializers.py compares many with those of the system's loader.
 
 programs=$here/programs
-compile='gcc -O1 -fPIC -nostdlib -fno-stack-protector -fno-asynchronous-unwind-tables'
+compile='command gcc -O1 -fPIC -nostdlib -fno-stack-protector -fno-asynchronous-unwind-tables'
 compile="$compile -Wl,--hash-style=sysv"
 rm -f disk many
 ./tool format disk 512 > /dev/null
@@ -59,7 +59,7 @@ gcc $checked -o damaged "$objects"/damaged/*.o "$built/librlibreg.a"
 
 # C++, and what initializers are given.
 if command -v g++ > /dev/null; then
-    cxx="g++ ${compile#gcc} -fno-exceptions -fno-rtti -fno-use-cxa-atexit"
+    cxx="g++ ${compile#command gcc} -fno-exceptions -fno-rtti -fno-use-cxa-atexit"
     $cxx -shared -Wl,-soname,libobjects.so -o libobjects.so "$programs/objects.cc"
     $compile -shared -Wl,-soname,libgiven.so,-z,relro -o libgiven.so "$programs/given.c"
     $compile -pie -Wl,-e,_start -o uses "$programs/uses.c" libobjects.so libgiven.so

@@ -36,7 +36,7 @@ if command -v pkg-config > /dev/null; then
 else
     echo 'skipped: a program that is built by pkg-config, which is not here'
 fi
-if command -v python3 > /dev/null; then
+if [ -z "$musl" ] && command -v python3 > /dev/null; then
     PYTHONPATH=$target$(sed -n 's|/rlibreg/py.typed$||p' "$list") python3 -c '
 import rlibreg
 assert rlibreg.Registry("installed.disk").list() == (0, [], [])'

@@ -2,7 +2,7 @@
 # are written by hand from their sources (programs/).
 
 programs=$here/programs
-compile='gcc -O1 -fPIC -nostdlib -fno-stack-protector -fno-asynchronous-unwind-tables'
+compile='command gcc -O1 -fPIC -nostdlib -fno-stack-protector -fno-asynchronous-unwind-tables'
 compile="$compile -Wl,--hash-style=sysv"
 glibc=/lib64/ld-linux-x86-64.so.2
 

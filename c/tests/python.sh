@@ -1,8 +1,8 @@
 # The Python module: its types, the stored cases that it has calls for, what these can't say, and the
 # page docs/PYTHON.md, whose commands and lines of Python give what stands below them.
 
-if ! command -v python3 > /dev/null; then
-    echo 'skipped: the Python module, which needs python3'
+if [ -n "$musl" ] || ! command -v python3 > /dev/null; then
+    echo 'skipped: the Python module, which needs python3, and a library with its C library'
     exit 0
 fi
 module=$here/../../python

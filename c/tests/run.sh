@@ -2,7 +2,8 @@
 # run.sh FOLDER RLIBREG [OBJECTS] tries the C library that build.sh has put into FOLDER, beside the
 # program RLIBREG. The C side is compiled anew for that, with the sanitizers of addresses and of
 # undefined behaviour, which see the C code alone. A later run with the same folder OBJECTS, over what
-# another compiler has made of the proved calls, takes that C.
+# another compiler has made of the proved calls, takes that C. CC is as for build.sh: with musl-gcc there
+# is no sanitizer, what is undefined ends a test, and Python and gdb are left out.
 set -eu
 here=$(cd "$(dirname "$0")" && pwd)
 built=$(cd "$1" && pwd)
@@ -17,8 +18,30 @@ for place in /dev/shm "${TMPDIR:-/tmp}"; do
 done
 trap 'rm -rf "$room"' EXIT
 
+if [ -n "${CC:-}" ]; then
+    behind="-idirafter /usr/include -idirafter /usr/include/$(gcc -print-multiarch)"
+    gcc() { command $CC "$@" $behind; }
+fi
+musl=
+gcc -E -dM -include stdio.h -x c /dev/null | grep -q __GLIBC__ || musl=yes
 flags="-std=c11 -g -Wall -Wextra -Wpedantic -Werror -I$built"
-checked="$flags -O1 -fsanitize=address,undefined -fno-sanitize-recover=all"
+sanitizers='-fno-sanitize-recover=all -fsanitize=undefined'
+# has_sanitizer NAME: whether a program runs that is compiled with it; else it says why not.
+has_sanitizer() {
+    gcc -fsanitize="$1" -x c -o "$room/probe" - <<< 'int main(void) { return 0; }' && "$room/probe"
+}
+if has_sanitizer address 2> "$room/lost"; then
+    checked="$flags -O1 $sanitizers,address"
+else
+    sanitizers="$sanitizers -fsanitize-undefined-trap-on-error"
+    checked="$flags -O1 $sanitizers"
+fi
+# error_text NUMBER: as the C library has it.
+error_text() {
+    printf '#include <stdio.h>\n#include <string.h>\nint main(void) { return puts(strerror(%d)) < 0; }\n' "$1" |
+        gcc -x c -o "$room/probe" -
+    "$room/probe"
+}
 wraps=-Wl,--wrap=malloc,--wrap=calloc,--wrap=realloc
 objects=$(realpath -m "${3:-$room/objects}")
 # compiled NAME FLAGS FILE..: objects of C files, in a folder of the name.
@@ -31,7 +54,7 @@ library=$(printf "$here/../rlibreg_%s.c " file disk_file streams place new_disk 
 compiled library "$checked" $library
 beside="$objects/library/*.o $built/librlibreg.a"
 watched=$(printf ',--wrap=%s' open openat fstat stat fstatat fstatfs lseek nanosleep clock_gettime \
-    flock sync_file_range fsync fcntl pread statx ioctl posix_fadvise mincore mmap ftruncate pwrite \
+    flock sync_file_range fsync fcntl pread ioctl posix_fadvise mincore mmap ftruncate pwrite \
     linkat syscall renameat unlink unlinkat)
 watched="-Wl$watched $objects/tests/watched.o"
 plain='tool calls cuts turns'
@@ -44,7 +67,7 @@ for name in faults $over_watched; do
     gcc $checked $wrapped -o "$room/$name" "$objects/tests/$name.o" $watched $beside
 done
 # With the sanitizer of addresses a program can't be mapped at each address, so the loader has one.
-loader="$flags -O1 -fsanitize=undefined -fno-sanitize-recover=all"
+loader="$flags -O1 $sanitizers"
 compiled loader "$loader" "$here"/../rlibreg_run*.c "$here/../rlibreg_stack.c" $library
 gcc $loader -o "$room/rlibreg-run" "$objects"/loader/*.o "$built/librlibreg.a"
 gcc $loader -o "$room/run-taken" -Wl,--wrap=mmap,--wrap=rlibreg_bind "$here/taken.c" "$objects"/loader/*.o \
@@ -71,11 +94,10 @@ alone front
 alone making "$data/strong.so" b
 alone turns
 # Threads by the sanitizer of threads, where there is one; once, since they are those of the C side.
-threads=(gcc $flags -O1 -fsanitize=thread -o "$room/threads" "$here/turns.c" $library
-    "$built/librlibreg.a")
 if [ -d "$objects/threads" ]; then
     :
-elif mkdir "$objects/threads" && "${threads[@]}" 2> lost; then
+elif mkdir "$objects/threads" && has_sanitizer thread 2> lost; then
+    gcc $flags -O1 -fsanitize=thread -o threads "$here/turns.c" $library "$built/librlibreg.a"
     TSAN_OPTIONS='report_thread_leaks=0 halt_on_error=1' alone threads threads
 else
     echo "skipped: the sanitizer of threads ($(head -n 1 lost))"

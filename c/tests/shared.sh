@@ -21,6 +21,9 @@ for program in rlibreg rlibreg-tool rlibreg-run; do
     for wanted in 'Type: *DYN' 'GNU_RELRO' 'BIND_NOW' 'GNU_STACK .* RW '; do
         grep -q "$wanted" <<< "$headers" || { echo "$program has no $wanted" >&2; exit 1; }
     done
+    if gcc -static -x c -o static - <<< 'int main(void) { return 0; }' 2> lost; then
+        want "what $program needs to be started" '' "$(grep -E 'INTERP|NEEDED' <<< "$headers" || true)"
+    fi
 done
 
 gcc $flags -o shared "$here/shared.c" -L"$built" -lrlibreg

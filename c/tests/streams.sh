@@ -40,7 +40,7 @@ long=$(printf './%.0s' $(seq 2040))libone.so
 uses=("./updater disk $long" './updater disk plugin' './updater disk none' './host disk plugin 1'
     './host disk none 1' './rlibreg-run disk ./greet' './rlibreg-run disk none'
     './rlibreg-run -b 1x disk ./greet')
-if command -v python3 > /dev/null; then
+if [ -z "$musl" ] && command -v python3 > /dev/null; then
     uses+=("python3 -B closes.py $here/../../python closes" "python3 -B closes.py $here/../../python stays")
 fi
 

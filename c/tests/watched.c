@@ -16,6 +16,10 @@
 #include <time.h>
 #include <unistd.h>
 
+#ifndef STATX_TYPE /* as in rlibreg_front.c */
+#include <linux/stat.h>
+#endif
+
 struct watched watched;
 
 void watch(void) {
@@ -212,13 +216,6 @@ WRAPPED(ssize_t, pread, int fd, void *to, size_t length, off_t at) {
     return watched.past_length ? watched.past_length : got;
 }
 
-WRAPPED(int, statx, int folder, const char *path, int flags, unsigned mask, struct statx *found) {
-    if (fails("attributes", 1)) return -1;
-    int answer = __real_statx(folder, path, flags, mask, found);
-    if (watched.is_on && watched.is_encrypted) found->stx_attributes |= STATX_ATTR_ENCRYPTED;
-    return answer;
-}
-
 WRAPPED(int, ioctl, int fd, unsigned long what, ...) {
     va_list more;
     va_start(more, what);
@@ -286,19 +283,38 @@ WRAPPED(int, linkat, int from, const char *old, int to, const char *new, int fla
     return fails("link", 0) ? -1 : __real_linkat(from, old, to, new, flags);
 }
 
-/* renameat2 alone is made so. */
-WRAPPED(long, syscall, long number, ...) {
-    va_list more;
-    va_start(more, number);
+long __real_syscall(long number, ...);
+
+static long attributes_of(va_list more) {
+    int fd = va_arg(more, int);
+    const char *path = va_arg(more, const char *);
+    int flags = va_arg(more, int), mask = va_arg(more, int);
+    struct statx *found = va_arg(more, struct statx *);
+    if (fails("attributes", 1)) return -1;
+    long answer = __real_syscall(SYS_statx, fd, path, flags, mask, found);
+    if (watched.is_on && watched.is_encrypted) found->stx_attributes |= STATX_ATTR_ENCRYPTED;
+    return answer;
+}
+
+static long rename_new(va_list more) {
     int from = va_arg(more, int);
     const char *old = va_arg(more, const char *);
     int to = va_arg(more, int);
     const char *new = va_arg(more, const char *);
     long flags = va_arg(more, long);
+    const long no_replace = 1;
+    WANT(flags == no_replace && (!watched.is_on || !watched.is_dirty));
+    return fails("rename-new", 0) ? -1 : __real_syscall(SYS_renameat2, from, old, to, new, flags);
+}
+
+/* Two calls are made so, which musl hasn't got. */
+WRAPPED(long, syscall, long number, ...) {
+    va_list more;
+    WANT(number == SYS_statx || number == SYS_renameat2);
+    va_start(more, number);
+    long answer = number == SYS_statx ? attributes_of(more) : rename_new(more);
     va_end(more);
-    WANT(number == SYS_renameat2 && (!watched.is_on || !watched.is_dirty));
-    WANT(flags == RENAME_NOREPLACE);
-    return fails("rename-new", 0) ? -1 : __real_syscall(number, from, old, to, new, flags);
+    return answer;
 }
 
 WRAPPED(int, renameat, int from, const char *old, int to, const char *new) {

@@ -1,5 +1,5 @@
-/* What the program `rlibreg` asks of the system beside what its own language has: linked over its
- * fsync by build.sh. See rlibreg_disk_file.c, which does the same for the calls over a file. */
+/* What the programs do with a sync of a disk beside what their language has: linked over their fsync
+ * by build.sh. See rlibreg_disk_file.c, which does the same for the calls over a file. */
 #define _GNU_SOURCE
 #include "rlibreg_disk_file.h"
 #include "rlibreg_turn.h"
