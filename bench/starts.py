@@ -1,25 +1,30 @@
 #!/usr/bin/env python3
-"""Times how a program of many libraries starts: by the system's own loader, which binds all at once, and by rlibreg-run.
+"""Times how a program of many libraries starts: by the system's own loader, which binds all at once, by rlibreg-run, and
+by it from an image that is kept.
 
     python3 bench/starts.py FOLDER [LIBRARIES [RELOCATIONS]]
 
 FOLDER has rlibreg and rlibreg-run (c/build.sh). Each of 100 libraries exports ten functions, and has the addresses of
 200 of the others' in its data; the program needs all of them, and ends at once. gcc makes them, and ld links them; both
-loaders start the same objects. The least of some hundred starts in turn are printed, in milliseconds, and those of the
-processor behind them.
+loaders start the same objects. The least and the median of some hundred starts in turn are printed, in milliseconds,
+and the least of the processor behind them; once with nothing beside, and once beside a process that writes and syncs a
+file of the same file system, which is that of FOLDER.
 """
 
 import os
 import random
 import subprocess
+import statistics
 import sys
 import tempfile
 import time
 from pathlib import Path
 
+from beside import kept_folder, writer
+
 COMPILE = ['gcc', '-O1', '-fPIC', '-nostdlib', '-fno-stack-protector', '-fno-asynchronous-unwind-tables']
 LINK = ['ld', '--hash-style=sysv', '--no-as-needed', '--allow-shlib-undefined']
-EXPORTS, STARTS = 10, 200
+EXPORTS, STARTS, STARTS_BESIDE = 10, 200, 40
 START = 'void _start(void) { __asm__ volatile("syscall" : : "a"(60), "D"(0)); }\n'
 
 
@@ -58,27 +63,39 @@ def start(words, environment):
     return time.perf_counter() - begin, usage.ru_utime + usage.ru_stime
 
 
+def timed(ways, starts, what):
+    rows = {way: [] for way in ways}
+    for _ in range(starts):
+        for way, words in ways.items():
+            rows[way].append(start(*words))
+    usual = next(iter(ways))
+    for way, row in rows.items():
+        real, spent = (1000 * min(it[k] for it in row) for k in (0, 1))
+        median = 1000 * statistics.median(it[0] for it in row)
+        print(f'{what}, {way}: {real:.2f} ms, median {median:.2f} ({spent:.2f} used), '
+              f"{real / (1000 * min(it[0] for it in rows[usual])):.3f} of {usual}", flush=True)
+
+
 def main():
     built = Path(sys.argv[1]).resolve()
     count, relocations = (int(sys.argv[k]) if len(sys.argv) > k else usual for k, usual in ((2, 100), (3, 20000)))
-    with tempfile.TemporaryDirectory() as name:
+    with tempfile.TemporaryDirectory(dir=built) as name:
         folder = Path(name)
         names = make(folder, count, relocations)
         lines = ''.join(f'install {(folder / it).read_bytes().hex()}\n' for it in names)
         run(built / 'rlibreg', 'format', folder / 'disk', 1 << 16)
         run(built / 'rlibreg', 'script', folder / 'disk', input=lines.encode())
         os.chdir(folder)
-        ways = {
-            "the system's loader": (['./program'], {'LD_BIND_NOW': '1', 'LD_LIBRARY_PATH': '.'}),
-            'rlibreg-run': ([str(built / 'rlibreg-run'), 'disk', './program'], {})}
-        rows = {way: [] for way in ways}
-        for _ in range(STARTS):
-            for way, words in ways.items():
-                rows[way].append(start(*words))
-        least = {way: [1000 * min(row[k] for row in found) for k in (0, 1)] for way, found in rows.items()}
-        for way, (real, spent) in least.items():
-            print(f'{count} libraries, {relocations} relocations, {way}: {real:.1f} ms ({spent:.1f} used)')
-        print(f"rlibreg-run takes {least['rlibreg-run'][0] / least[next(iter(ways))][0]:.2f} of the system's loader")
+        run_words = [str(built / 'rlibreg-run'), 'disk', './program']
+        with kept_folder() as kept:
+            ways = {
+                "the system's loader": (['./program'], {'LD_BIND_NOW': '1', 'LD_LIBRARY_PATH': '.'}),
+                'rlibreg-run': (run_words, {}),
+                'rlibreg-run -c': ([run_words[0], '-c', str(kept), *run_words[1:]], {})}
+            what = f'{count} libraries, {relocations} relocations'
+            timed(ways, STARTS, what)
+            with writer(folder):
+                timed(ways, STARTS_BESIDE, f'beside a writer, {what}')
 
 
 if __name__ == '__main__':

@@ -73,6 +73,7 @@ add_all() {
     add link "$shared.$version" "$1/lib/$shared.${version%.*}"
     add link "$shared.${version%.*}" "$1/lib/$shared"
     add 644 "$3/rlibreg.pc" "$1/lib/pkgconfig/rlibreg.pc"
+    add 644 "$here/run-rlibreg.mount" "$1/lib/systemd/system/run-rlibreg.mount"
     for name in __init__.py _calls.py py.typed; do
         add 644 "$here/../python/rlibreg/$name" "$modules/rlibreg/$name"
     done

@@ -71,6 +71,9 @@ void rlibreg_disk_file_close(struct disk_file *it);
 uint32_t rlibreg_image_in(rlibreg *registry, const void *program, size_t length, uint64_t base,
                           rlibreg_image *image, size_t first_bytes);
 
+/* The descriptor of the file that a struct has open, or -1 (rlibreg_file.c). */
+int rlibreg_descriptor(const rlibreg *registry);
+
 /* ---- Where it is (rlibreg_place.c) */
 
 struct place {

@@ -99,6 +99,10 @@ const rlibreg_answer *rlibreg_last(const rlibreg *it) {
     return &it->answer;
 }
 
+int rlibreg_descriptor(const rlibreg *it) {
+    return it->file.fd;
+}
+
 int rlibreg_errno(const rlibreg *it) {
     uint32_t status = it->answer.status;
     return status == RLIBREG_SYSTEM || status == RLIBREG_DEVICE ? it->why : 0;

@@ -5,6 +5,7 @@
 #include "rlibreg.h"
 
 #include <elf.h>
+#include <sys/stat.h>
 
 enum {
     REFUSED = 125,  /* there is no image, or not one that is started */
@@ -16,7 +17,9 @@ enum {
 
 struct program {
     const char *path;
-    uint8_t *bytes; /* its file's */
+    int fd;            /* its file, as long as it is read */
+    struct stat found; /* what that was when it was opened */
+    uint8_t *bytes;    /* its file's */
     size_t length;
     uint64_t base;         /* where it is bound */
     int has_base;          /* whether the user named that */
@@ -31,7 +34,10 @@ _Noreturn void give_up(int status, const char *what, const char *why);
 
 /* ---- The program's file (rlibreg_run_program.c) */
 
+/* Opens it, where the user may execute it; reads all of it; and lets both go. */
+void open_program(struct program *it);
 void read_program(struct program *it);
+void close_program(struct program *it);
 
 /* Of what the base has to be a multiple. Before the program is bound its bytes may be any, and what
  * this gives of them is good for nothing but to bind it: that says what is wrong with them. */
@@ -39,14 +45,36 @@ uint64_t unit_of(const struct program *it);
 
 /* ---- Memory (rlibreg_run_image.c, rlibreg_run_base.c) */
 
-/* Binds the program over the registry, and maps the image with its permissions. */
+/* Binds the program over the registry, and maps the image, which may be read and written until it is
+ * protected. */
 void map_program(struct program *it, rlibreg *registry, const char *disk);
+void protect_program(const struct program *it);
+
+/* The pages that nothing writes once the object is relocated. */
+struct pages {
+    uint64_t from, to;
+};
+
+/* An object of a program, and what is done with its pages, which are to be protected so, in the
+ * order of their addresses. A page that several segments share comes with each of them, and with
+ * what it and those before permit. */
+struct part {
+    const struct program *program;
+    const rlibreg_object *object;
+    struct pages fixed;
+    void *context;
+};
+typedef void page_action(const struct part *part, uint64_t from, uint64_t to, int how);
+void each_pages(const struct program *program, page_action *action, void *context);
 
 /* How many bases are tried of the loader's own choosing, the one of a number, and what the image's
  * end isn't to be above. */
 enum { MOST_BASES = 16 };
 #define END_OF_BASES ((uint64_t)1 << 46)
 uint64_t base_of_try(const struct program *it, int number);
+
+/* Whether the user wants the same addresses in each start, as debuggers do. */
+int has_fixed_bases(void);
 
 /* ---- The objects of the image, which the bytes of their segments say (rlibreg_run_objects.c) */
 
@@ -61,10 +89,6 @@ int is_code(const rlibreg_image *image, const rlibreg_object *object, uint64_t a
 const uint8_t *memory_at(const rlibreg_image *image, const rlibreg_object *object, uint64_t address,
                          uint64_t *length);
 
-/* The pages that nothing writes once the object is relocated. */
-struct pages {
-    uint64_t from, to;
-};
 struct pages fixed_pages(const rlibreg_image *image, const rlibreg_object *object);
 
 /* A dynamic section up to its DT_NULL; the entry of a number; and the value of the last entry of a
@@ -85,6 +109,18 @@ size_t *order_of_libraries(const struct program *it);
 
 /* Finds what is called before the program and behind it, or refuses to start the program. */
 void find_calls(const struct program *it);
+
+/* What was found: addresses of functions, each in code of the object that names it. */
+struct calls {
+    uint64_t *at;
+    size_t count, room;
+};
+struct calls found_initializers(void);
+struct calls found_finalizers(void);
+
+/* Takes what an earlier start of the same image found: initializers, and behind them finalizers. */
+void take_calls(const uint64_t *at, size_t initializer_count, size_t finalizer_count);
+
 void call_initializers(int argc, char **argv, char **environment);
 
 /* What the program is to call at its end; null where nothing is. */

@@ -9,8 +9,7 @@
 #define USUAL_BASE ((uint64_t)1 << 40)
 #define BIG_PAGE ((uint64_t)2 << 20)
 
-/* Whether the user wants the same addresses in each start, as debuggers do. */
-static int is_fixed(void) {
+int has_fixed_bases(void) {
     int how = personality(0xffffffff);
     return how != -1 && how & ADDR_NO_RANDOMIZE;
 }
@@ -39,8 +38,8 @@ static uint64_t number_of(uint64_t sequence, uint64_t place) {
 uint64_t base_of_try(const struct program *it, int number) {
     uint64_t unit = unit_of(it) > BIG_PAGE ? unit_of(it) : BIG_PAGE;
     if (unit > END_OF_BASES / 2) return USUAL_BASE;
-    if (is_fixed() && !number) return unit > USUAL_BASE ? unit : USUAL_BASE;
+    if (has_fixed_bases() && !number) return unit > USUAL_BASE ? unit : USUAL_BASE;
     uint64_t places = (END_OF_BASES >> number) / unit;
     if (places < 2) return unit;
-    return unit * (1 + number_of(is_fixed() ? 0 : random_bits(), (uint64_t)number) % (places - 1));
+    return unit * (1 + number_of(has_fixed_bases() ? 0 : random_bits(), (uint64_t)number) % (places - 1));
 }

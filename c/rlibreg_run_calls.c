@@ -7,12 +7,6 @@
 #include <stdlib.h>
 #include <string.h>
 
-/* Addresses of functions, each in code of the object that names it. */
-struct calls {
-    uint64_t *at;
-    size_t count, room;
-};
-
 static struct calls initializers; /* in the order in which they are called */
 static struct calls finalizers;   /* in the opposite one */
 
@@ -112,6 +106,19 @@ void find_calls(const struct program *it) {
         add_finalizers(it, order[i]);
     }
     free(order);
+}
+
+struct calls found_initializers(void) {
+    return initializers;
+}
+
+struct calls found_finalizers(void) {
+    return finalizers;
+}
+
+void take_calls(const uint64_t *at, size_t initializer_count, size_t finalizer_count) {
+    for (size_t i = 0; i < initializer_count; i++) add(&initializers, at[i]);
+    for (size_t i = 0; i < finalizer_count; i++) add(&finalizers, at[initializer_count + i]);
 }
 
 /* ---- Calling them */

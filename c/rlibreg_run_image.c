@@ -80,18 +80,6 @@ struct run {
     int how;
 };
 
-/* An object of a program, the pages of it that are fixed, and those before that aren't protected
- * yet. */
-struct part {
-    const struct program *program;
-    const rlibreg_object *object;
-    struct pages fixed;
-    struct run *run;
-};
-
-/* What is done with pages of an object that are to be protected so. */
-typedef void page_action(const struct part *part, uint64_t from, uint64_t to, int how);
-
 /* Does it with pages, and takes the writing away from those that are fixed. */
 static void act(page_action *action, const struct part *part, uint64_t from, uint64_t to, int how) {
     uint64_t first = part->fixed.from, end = part->fixed.to;
@@ -104,8 +92,7 @@ static void act(page_action *action, const struct part *part, uint64_t from, uin
     if (end < to) action(part, end, to, how);
 }
 
-/* Goes through the pages of an object with what the segments in them permit. One that several
- * segments share comes with each of them, and with what it and those before permit. */
+/* Goes through the pages of an object with what the segments in them permit. */
 static void each_pages_of(const struct part *part, page_action *action) {
     uint64_t last = 0; /* the last page of the segments before */
     int shared = 0;    /* what they permit it */
@@ -122,11 +109,11 @@ static void each_pages_of(const struct part *part, page_action *action) {
 }
 
 /* Two objects never share a page. */
-static void each_pages(const struct program *program, page_action *action, struct run *run) {
+void each_pages(const struct program *program, page_action *action, void *context) {
     const rlibreg_image *image = &program->image;
     for (size_t i = 0; i < image->object_count; i++) {
         const rlibreg_object *it = &image->objects[i];
-        struct part part = { program, it, fixed_pages(image, it), run };
+        struct part part = { program, it, fixed_pages(image, it), context };
         each_pages_of(&part, action);
     }
 }
@@ -148,7 +135,7 @@ static void protect_run(const struct run *it) {
 
 /* Protects pages, with those before where that is the same; these wait for what comes behind. */
 static void protect(const struct part *part, uint64_t from, uint64_t to, int how) {
-    struct run *run = part->run;
+    struct run *run = part->context;
     if (from == run->to && how == run->how) {
         run->to = to;
         return;
@@ -157,7 +144,7 @@ static void protect(const struct part *part, uint64_t from, uint64_t to, int how
     *run = (struct run){ from, to, how };
 }
 
-static void protect_all(const struct program *program) {
+void protect_program(const struct program *program) {
     struct run run = { 0 };
     each_pages(program, protect, &run);
     protect_run(&run);
@@ -237,5 +224,4 @@ void map_program(struct program *it, rlibreg *registry, const char *disk) {
     }
     if (!is_there) fail("memory at the base");
     put_bytes(&it->image);
-    protect_all(it);
 }

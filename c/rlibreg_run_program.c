@@ -18,24 +18,31 @@ static int may_execute(int fd, const char *path) {
     return errno != EACCES && !faccessat(AT_FDCWD, path, X_OK, AT_EACCESS);
 }
 
-/* Reads the file into memory, so that nobody can cut or change it under the loader. What isn't a
- * regular file may have no end, or none yet, so it isn't waited for. */
+/* What isn't a regular file may have no end, or none yet, so it isn't waited for. */
+void open_program(struct program *it) {
+    it->fd = open(it->path, O_RDONLY | O_CLOEXEC | O_NOCTTY | O_NONBLOCK);
+    if (it->fd < 0 || fstat(it->fd, &it->found)) fail(it->path);
+    if (!S_ISREG(it->found.st_mode)) give_up(FAILED, it->path, "it is no regular file");
+    if (!may_execute(it->fd, it->path)) fail(it->path);
+}
+
+/* Reads the file into memory, so that nobody can cut or change it under the loader. */
 void read_program(struct program *it) {
-    struct stat found;
-    int fd = open(it->path, O_RDONLY | O_CLOEXEC | O_NOCTTY | O_NONBLOCK);
-    if (fd < 0 || fstat(fd, &found)) fail(it->path);
-    if (!S_ISREG(found.st_mode)) give_up(FAILED, it->path, "it is no regular file");
-    if (!may_execute(fd, it->path)) fail(it->path);
     it->bytes = malloc(MOST);
     if (!it->bytes) fail("memory");
     while (it->length < MOST) {
-        ssize_t got = read(fd, it->bytes + it->length, MOST - it->length);
+        ssize_t got = read(it->fd, it->bytes + it->length, MOST - it->length);
         if (got < 0 && errno == EINTR) continue;
         if (got < 0) fail(it->path);
         if (!got) break;
         it->length += (size_t)got;
     }
-    close(fd);
+}
+
+void close_program(struct program *it) {
+    free(it->bytes);
+    it->bytes = NULL;
+    close(it->fd);
 }
 
 /* ---- Headers */

@@ -73,6 +73,13 @@ gcc $loader -o "$room/rlibreg-run" "$objects"/loader/*.o "$built/librlibreg.a"
 gcc $loader -o "$room/run-taken" -Wl,--wrap=mmap,--wrap=rlibreg_bind "$here/taken.c" "$objects"/loader/*.o \
     "$built/librlibreg.a"
 gcc $flags -o "$room/within" "$here/within.c"
+# The loader as it keeps images, and it in each start of the tests of the loader.
+keeping=$(printf ',--wrap=%s' mmap rlibreg_bind clock_gettime openat fchmod pwrite ftruncate linkat \
+    unlinkat)
+gcc $loader -o "$room/run-kept" -Wl$keeping "$here/keeping.c" "$here/taken.c" "$objects"/loader/*.o \
+    "$built/librlibreg.a"
+compiled kept "$checked" "$here/kept.c" "$here"/../rlibreg_run_{key,kept_file}.c
+gcc $checked -o "$room/kept-files" "$objects"/kept/*.o
 
 cd "$room"
 . "$here/want.sh"
@@ -105,9 +112,12 @@ fi
 alone forked "$data/strong.so" "$data/program-1.so" b
 alone contents "$data/strong.so" b
 alone findings "$data/strong.so" b "$data/old-one.disk"
-for part in cuts same held recipe devices full loader starting initializers documents streams; do
+alone kept-files file
+plain=./rlibreg-run bases=8
+for part in cuts same held recipe devices full loader starting initializers kept documents streams; do
     (. "$here/$part.sh")
 done
+(. "$here/twice.sh")
 
 # What build.sh has made, as it stands: no C of the library is compiled anew for these.
 for part in shared installed manual python driver; do

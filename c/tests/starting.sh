@@ -16,7 +16,7 @@ rm -f disk
 for name in one two both; do ./tool install disk lib$name.so > /dev/null; done
 
 # Words.
-usage='rlibreg-run: usage: rlibreg-run [-x] [-b BASE] DISK PROGRAM [WORD]..
+usage='rlibreg-run: usage: rlibreg-run [-x] [-b BASE] [-c FOLDER [-v]] DISK PROGRAM [WORD]..
 = 127'
 want 'no words' "$usage" "$(ended ./rlibreg-run)"
 want 'not even a name' "$usage" "$(ended ./within no-words ./rlibreg-run)"
@@ -87,7 +87,7 @@ else
 fi
 
 # More rights than the user's: the loader's C library takes variables out of the environment.
-for loader in ./rlibreg-run "$built/rlibreg-run"; do
+for loader in "$plain" "$built/rlibreg-run"; do
     found=$(ended env LOCPATH=x NLSPATH=x TZDIR=x SEE=me ./within secure "$loader" disk ./words)
     case $found in
         "this kernel hasn't"*) echo 'skipped: a start with more rights than its user has' ;;
@@ -145,13 +145,13 @@ done
 low() {
     grep -E '^([0-3][0-9a-f]{11}|[0-9a-f]{8,11})-'
 }
-pieces=$(./rlibreg-run disk place | low | wc -l)
+pieces=$(./run-taken disk place | low | wc -l)
 for _ in 1 2 3 4 5 6 7 8; do
     at=$((16#$(./rlibreg-run disk place | low | head -1 | sed 's/-.*//')))
     [ $((at % (2 << 20))) = 0 ] || { echo "a base that is no multiple of 2 MiB: $at" >&2; exit 1; }
     echo $at
-done > bases
-want 'bases of eight starts' 8 "$(sort -u bases | wc -l)"
+done > found
+want 'bases of eight starts' $bases "$(sort -u found | wc -l)"
 if setarch -R true 2> lost; then
     want 'a base where the user wants no other in each start' 10000000000 \
         "$(setarch -R ./rlibreg-run disk place | low | head -1 | sed 's/-.*//')"
@@ -195,10 +195,10 @@ aligned libone.so libone-20.so 20
 cp disk wide
 ./tool replace wide libone-20.so > /dev/null
 $compile -pie -Wl,-e,_start -o far "$programs/place.c" -Wl,--no-as-needed libone.so
-pieces=$(./rlibreg-run -b 0x10000000000 wide far | low | wc -l)
+pieces=$(./run-taken -b 0x10000000000 wide far | low | wc -l)
 for _ in 1 2 3 4 5 6; do
     want 'pieces of memory, with a library of a great unit' "$pieces" \
-        "$(./rlibreg-run wide far | low | wc -l)"
+        "$(./run-taken wide far | low | wc -l)"
 done
 
 # Permissions.
@@ -206,7 +206,7 @@ want 'a library with a segment that may be written and executed' \
     'rlibreg-run: libboth.so: it has memory that may be written and executed, for which -x is needed
 = 125' "$(ended ./rlibreg-run disk needs-both)"
 want 'the same with -x' '= 3' "$(ended ./rlibreg-run -x disk needs-both | tail -1)"
-found=$(ended ./within no-gain ./rlibreg-run disk words)
+found=$(ended ./within no-gain "$plain" disk words)
 case $found in
     "this kernel hasn't"*) echo 'starting: this kernel lets all memory be executed' ;;
     *) want 'where memory may not become executable' 'rlibreg-run: memory that may be executed (SELinux: allow execmem; systemd: MemoryDenyWriteExecute=no): Permission denied
@@ -221,14 +221,18 @@ if [ -n "$musl" ]; then
     echo 'skipped: gdb, which finds nothing with musl'
 elif command -v gdb > /dev/null && setarch -R true 2> lost; then
     mkdir debugged
-    (cd debugged && gdb -batch -nx -ex 'set breakpoint pending on' -ex 'set solib-search-path ..' \
-        -ex 'break begin' -ex 'break two' -ex run -ex 'print own_count' -ex continue \
-        -ex 'print one_count' --args "$built/rlibreg-run" ../disk ../chain) \
-        > found 2>&1 < /dev/null || true
-    want 'where gdb stops' 'Breakpoint 1, begin
+    [ -z "${debugged:-}" ] || sleep 2.1 # so that the disk was not changed just now
+    for _ in 1 ${debugged:+2}; do
+        (cd debugged && gdb -batch -nx -ex 'set breakpoint pending on' \
+            -ex 'set solib-search-path ..' -ex 'break begin' -ex 'break two' -ex run \
+            -ex 'print own_count' -ex continue -ex 'print one_count' \
+            --args ${debugged:-"$built/rlibreg-run"} ../disk ../chain) \
+            > found 2>&1 < /dev/null || true
+        want 'where gdb stops' 'Breakpoint 1, begin
 $1 = 5
 Breakpoint 2, two
 $2 = 11' "$(grep -oE '^Breakpoint [12], [a-z]+|^\$[12] = .*' found)"
+    done
 else
     echo "starting: there is no gdb here, or it may not fix addresses ($(cat lost))"
 fi

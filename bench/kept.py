@@ -1,0 +1,127 @@
+#!/usr/bin/env python3
+"""Starts a program from images that are kept, beside changes of its disk and kills of both.
+
+    python3 bench/kept.py PROGRAMS [SECONDS]
+
+PROGRAMS has rlibreg and rlibreg-run (c/build.sh). Twenty loops start a program that prints which version of a
+library it has, each start with `rlibreg-run -c`; one loop puts further versions in the place of the library, at
+times so slowly that images are kept between, and empties the folder of images. Some starts and some changes are
+killed. What is printed has to be a version that the disk had while the start went on: none that is older than the
+last that was acknowledged before it, and none that wasn't begun. It ends with 1 where one isn't.
+"""
+
+import collections
+import os
+import random
+import subprocess
+import sys
+import tempfile
+import threading
+import time
+from pathlib import Path
+
+COMPILE = ['gcc', '-O1', '-fPIC', '-nostdlib', '-fno-stack-protector', '-Wl,--hash-style=sysv']
+STARTS, VERSIONS = 20, 4000
+LIBRARY = 'const char version[] = "%06d";\n'
+PROGRAM = '''extern const char version[];
+void _start(void) {
+    __asm__ volatile("syscall" : : "a"(1), "D"(1), "S"(version), "d"(6) : "rcx", "r11", "memory");
+    __asm__ volatile("syscall" : : "a"(60), "D"(0));
+}
+'''
+
+
+class Versions:
+    """Which versions the disk may have."""
+
+    def __init__(self):
+        self.guard = threading.Lock()
+        self.begun = self.acknowledged = 0
+
+    def begin(self):
+        with self.guard:
+            self.begun += 1
+            return self.begun
+
+    def acknowledge(self, version):
+        with self.guard:
+            self.acknowledged = version
+
+
+def make(folder):
+    for name, text, words in (('libv.so', LIBRARY % 0, ['-shared', '-Wl,-soname,libv.so']),
+                              ('program', PROGRAM, ['-pie', '-Wl,-e,_start', 'libv.so'])):
+        (folder / f'{name}.c').write_text(text)
+        subprocess.run([*COMPILE, '-o', name, f'{name}.c', *words], cwd=folder, check=True, capture_output=True)
+    return (folder / 'libv.so').read_bytes()
+
+
+def killed_at_times(words, choose, rate):
+    """Runs a command, and maybe kills it. Gives what it ended with and wrote, or None where it was killed."""
+    it = subprocess.Popen(words, stdout=subprocess.PIPE, stderr=subprocess.PIPE)
+    if choose.random() < rate:
+        time.sleep(choose.random() ** 2 / 20)
+        it.kill()
+        it.communicate()
+        return None
+    output, errors = it.communicate()
+    return it.returncode, output, errors
+
+
+def change(words, library, folder, versions, choose, until):
+    while time.time() < until and versions.begun < VERSIONS:
+        version = versions.begin()
+        (folder / 'new.so').write_bytes(library.replace(b'000000', b'%06d' % version))
+        ended = killed_at_times([*words, 'replace', 'disk', 'new.so'], choose, 0.1)
+        if ended is None:
+            continue # it may have been made
+        assert ended[0] == 0 and ended[1] == b'ok\n', ended
+        versions.acknowledge(version)
+        if choose.random() < 0.2:
+            time.sleep(choose.choice((0.01, 2.5, 4)))
+        if choose.random() < 0.1:
+            for it in (folder / 'kept').iterdir():
+                it.unlink(missing_ok=True)
+
+
+def start(words, versions, choose, until, counts, wrong):
+    while time.time() < until:
+        oldest = versions.acknowledged
+        ended = killed_at_times([*words, '-v', '-c', 'kept', 'disk', './program'], choose, 0.1)
+        newest = versions.begun
+        if ended is None:
+            counts['killed'] += 1
+            continue
+        status, output, errors = ended
+        if status or len(output) != 6 or not oldest <= int(output) <= newest:
+            wrong.append((oldest, newest, ended))
+        counts['taken' if b'is taken' in errors else 'kept' if b'the image is kept' in errors else 'bound'] += 1
+
+
+def main():
+    built, seconds = Path(sys.argv[1]).resolve(), float(sys.argv[2]) if len(sys.argv) > 2 else 60
+    counts, wrong, versions = collections.Counter(), [], Versions()
+    with tempfile.TemporaryDirectory(dir='/dev/shm' if os.access('/dev/shm', os.W_OK) else None) as name:
+        folder = Path(name)
+        os.chdir(folder)
+        library = make(folder)
+        (folder / 'kept').mkdir(mode=0o700)
+        for words in (['format', 'disk', '512'], ['install', 'disk', 'libv.so']):
+            subprocess.run([built / 'rlibreg', *words], check=True, capture_output=True)
+        until = time.time() + seconds
+        threads = [threading.Thread(target=start, args=(
+            [built / 'rlibreg-run'], versions, random.Random(k), until, counts, wrong)) for k in range(STARTS)]
+        for it in threads:
+            it.start()
+        change([built / 'rlibreg'], library, folder, versions, random.Random(99), until)
+        for it in threads:
+            it.join()
+    told = ', '.join(f'{counts[it]:,} {it}' for it in ('taken', 'bound', 'kept', 'killed'))
+    print(f'{STARTS} starts at once, {versions.begun:,} changes, {seconds:.0f} s: {told}; {len(wrong)} wrong')
+    for it in wrong[:5]:
+        print(it)
+    sys.exit(bool(wrong) or not (counts['taken'] and counts['kept']))
+
+
+if __name__ == '__main__':
+    main()

@@ -1,0 +1,113 @@
+/* What a kept image is made of. */
+#define _GNU_SOURCE
+#include "rlibreg_run_kept.h"
+
+#include <errno.h>
+#include <fcntl.h>
+#include <string.h>
+#include <sys/ioctl.h>
+#include <sys/stat.h>
+#include <sys/syscall.h>
+#include <sys/sysmacros.h>
+#include <sys/vfs.h>
+#include <time.h>
+#include <unistd.h>
+
+#ifndef STATX_TYPE /* musl before 1.2.5 has neither the call nor its structure */
+#include <linux/stat.h>
+#endif
+
+#ifndef BLKGETDISKSEQ /* Linux 5.15 */
+#define BLKGETDISKSEQ _IOR(0x12, 128, uint64_t)
+#endif
+
+/* A file that was changed so many seconds ago or more is changed with another time from now on. */
+enum { SETTLED = 2 };
+
+/* ---- States */
+
+/* Whether a file's numbers and times say that it was changed. They say little behind a network or
+ * another process, on FAT, and where an image of a file system brings them. */
+static int has_telling_times(int fd) {
+    static const uint32_t kinds[] = { 0xef53, /* ext2 to ext4 */ 0x58465342, /* xfs */
+                                      0x9123683e, /* btrfs */ 0xf2f52010, /* f2fs */
+                                      0x01021994 /* tmpfs */ };
+    struct statfs found;
+    if (fstatfs(fd, &found)) return 0;
+    for (size_t i = 0; i < sizeof kinds / sizeof *kinds; i++)
+        if ((uint32_t)found.f_type == kinds[i]) return 1;
+    return 0;
+}
+
+static void put_time(uint64_t time[2], struct statx_timestamp it) {
+    time[0] = (uint64_t)it.tv_sec;
+    time[1] = it.tv_nsec;
+}
+
+static int state_of_file(int fd, const struct statx *found, struct state *it) {
+    if ((found->stx_mask & STATX_BASIC_STATS) != STATX_BASIC_STATS || !has_telling_times(fd))
+        return -1;
+    it->kind = OF_FILE;
+    it->device = makedev(found->stx_dev_major, found->stx_dev_minor);
+    it->number = found->stx_ino;
+    if (found->stx_mask & STATX_BTIME) put_time(it->birth, found->stx_btime);
+    put_time(it->modified, found->stx_mtime);
+    put_time(it->changed, found->stx_ctime);
+    it->length = found->stx_size;
+    return 0;
+}
+
+static int state_of_device(int fd, const struct statx *found, struct state *it) {
+    off_t length = lseek(fd, 0, SEEK_END); /* what the system says of it otherwise isn't its length */
+    it->kind = OF_DEVICE;
+    it->device = makedev(found->stx_rdev_major, found->stx_rdev_minor);
+    it->length = (uint64_t)length;
+    return length < 0 || ioctl(fd, (int)BLKGETDISKSEQ, &it->sequence) ? -1 : 0;
+}
+
+int state_of(int fd, struct state *it) {
+    struct statx found;
+    *it = (struct state){ 0 };
+    const unsigned wanted = STATX_BASIC_STATS | STATX_BTIME;
+    if (syscall(SYS_statx, fd, "", AT_EMPTY_PATH, wanted, &found)) return -1;
+    if (S_ISREG(found.stx_mode)) return state_of_file(fd, &found, it);
+    return S_ISBLK(found.stx_mode) ? state_of_device(fd, &found, it) : -1;
+}
+
+/* ---- The key */
+
+static int read_boot(char boot[40]) {
+    int fd = open("/proc/sys/kernel/random/boot_id", O_RDONLY | O_CLOEXEC);
+    memset(boot, 0, 40);
+    if (fd < 0) return -1;
+    ssize_t length = read(fd, boot, 36);
+    close(fd);
+    return length == 36 ? 0 : -1;
+}
+
+int key_of_disk(int fd, struct key *key) {
+    if (state_of(fd, &key->disk) || read_boot(key->boot)) return -1;
+    return pread(fd, key->roots, ROOTS, 0) == ROOTS ? 0 : -1;
+}
+
+int key_of_program(const struct program *program, struct key *key) {
+    key->may_be_both = (uint64_t)program->may_be_both;
+    key->choice = has_fixed_bases() ? AT_FIXED_BASE : AT_RANDOM_BASE;
+    if (program->has_base) key->choice = AT_NAMED_BASE;
+    key->base = program->has_base ? program->base : 0;
+    if (program->found.st_size > MOST_COMPARED) return state_of(program->fd, &key->program);
+    key->program = (struct state){ .kind = OF_BYTES, .length = (uint64_t)program->found.st_size };
+    return 0;
+}
+
+int is_same_key(const struct key *one, const struct key *other) {
+    return !memcmp(one, other, sizeof *one);
+}
+
+int is_settled(const struct state *it) {
+    struct timespec now;
+    if (it->kind != OF_FILE) return 1;
+    if (clock_gettime(CLOCK_REALTIME, &now)) return 0;
+    const int64_t since = (int64_t)it->changed[0], until = (int64_t)now.tv_sec - SETTLED;
+    return since < until || (since == until && it->changed[1] <= (uint64_t)now.tv_nsec);
+}

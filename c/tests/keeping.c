@@ -1,0 +1,66 @@
+/* The system's calls by which an image is kept, with a clock that is ten seconds on, so that no file
+ * was changed just now: linked into the loader with --wrap. Of these calls the one of the number DIE
+ * ends the process as a kill does, before it is made; and that of the number FAIL fails. */
+#define _GNU_SOURCE
+#include <errno.h>
+#include <fcntl.h>
+#include <signal.h>
+#include <stdarg.h>
+#include <stdlib.h>
+#include <sys/stat.h>
+#include <time.h>
+#include <unistd.h>
+
+#define WRAPPED(type, name, ...)    \
+    type __real_##name(__VA_ARGS__); \
+    type __wrap_##name(__VA_ARGS__); \
+    type __wrap_##name(__VA_ARGS__)
+
+static int is_number(const char *variable, long call) {
+    return getenv(variable) && atol(getenv(variable)) == call;
+}
+
+static int fails(void) {
+    static long calls;
+    calls++;
+    if (is_number("DIE", calls)) kill(getpid(), SIGKILL);
+    errno = ENOSPC;
+    return is_number("FAIL", calls);
+}
+
+WRAPPED(int, clock_gettime, clockid_t clock, struct timespec *now) {
+    int failed = __real_clock_gettime(clock, now);
+    if (!failed && clock == CLOCK_REALTIME) now->tv_sec += 10;
+    return failed;
+}
+
+int __real_openat(int folder, const char *path, int flags, ...);
+int __wrap_openat(int folder, const char *path, int flags, ...);
+int __wrap_openat(int folder, const char *path, int flags, ...) {
+    va_list rest;
+    va_start(rest, flags);
+    mode_t mode = va_arg(rest, mode_t);
+    va_end(rest);
+    if ((flags & O_TMPFILE) == O_TMPFILE && fails()) return -1;
+    return __real_openat(folder, path, flags, mode);
+}
+
+WRAPPED(int, fchmod, int fd, mode_t mode) {
+    return fails() ? -1 : __real_fchmod(fd, mode);
+}
+
+WRAPPED(ssize_t, pwrite, int fd, const void *bytes, size_t length, off_t at) {
+    return fails() ? -1 : __real_pwrite(fd, bytes, length, at);
+}
+
+WRAPPED(int, ftruncate, int fd, off_t length) {
+    return fails() ? -1 : __real_ftruncate(fd, length);
+}
+
+WRAPPED(int, linkat, int from, const char *old, int to, const char *new, int flags) {
+    return fails() ? -1 : __real_linkat(from, old, to, new, flags);
+}
+
+WRAPPED(int, unlinkat, int folder, const char *name, int flags) {
+    return fails() ? -1 : __real_unlinkat(folder, name, flags);
+}

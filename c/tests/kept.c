@@ -1,0 +1,278 @@
+/* The key of a kept image, and what is looked at in its file before it is used. kept FILE tries them
+ * with a file that it may write. */
+#define _GNU_SOURCE
+#include "../rlibreg_run_kept.h"
+
+#include <errno.h>
+#include <fcntl.h>
+#include <stddef.h>
+#include <stdio.h>
+#include <stdlib.h>
+#include <string.h>
+#include <sys/mman.h>
+#include <time.h>
+#include <unistd.h>
+
+#define WANT(what)                                                       \
+    do {                                                                 \
+        if (!(what)) {                                                   \
+            fprintf(stderr, "kept.c:%d: not so: %s\n", __LINE__, #what); \
+            exit(1);                                                     \
+        }                                                                \
+    } while (0)
+
+static int is_fixed;
+int has_fixed_bases(void) {
+    return is_fixed;
+}
+
+/* ---- The key */
+
+static void try_each_byte(void) {
+    struct key key = { 0 }, other;
+    memset(&key, 3, sizeof key);
+    other = key;
+    WANT(is_same_key(&key, &other));
+    for (size_t i = 0; i < sizeof key; i++) {
+        ((uint8_t *)&other)[i] ^= 1;
+        WANT(!is_same_key(&key, &other));
+        other = key;
+    }
+    WANT(sizeof key ==
+         sizeof key.boot + ROOTS + 2 * sizeof key.disk + 3 * sizeof(uint64_t)); /* without gaps */
+    WANT(sizeof key.disk == 11 * sizeof(uint64_t));
+}
+
+static struct key key_of(const char *path) {
+    struct key key = { 0 };
+    int fd = open(path, O_RDONLY);
+    WANT(fd >= 0 && !key_of_disk(fd, &key));
+    close(fd);
+    return key;
+}
+
+static void put(const char *path, const void *bytes, size_t length, off_t at) {
+    int fd = open(path, O_WRONLY | O_CREAT, 0600);
+    WANT(fd >= 0 && pwrite(fd, bytes, length, at) == (ssize_t)length);
+    close(fd);
+}
+
+/* The times go on by ticks. */
+static void wait_a_tick(void) {
+    nanosleep(&(struct timespec){ .tv_nsec = 20000000 }, NULL);
+}
+
+static void try_disk(const char *path) {
+    uint8_t bytes[ROOTS + 100];
+    struct stat found;
+    for (size_t i = 0; i < sizeof bytes; i++) bytes[i] = (uint8_t)(i * 7 + i / 256);
+    put(path, bytes, sizeof bytes, 0);
+    struct key key = key_of(path), other = key_of(path);
+    WANT(is_same_key(&key, &other));
+    WANT(!memcmp(key.roots, bytes, ROOTS));
+    WANT(strlen(key.boot) == 36);
+    WANT(!stat(path, &found));
+    WANT(key.disk.kind == OF_FILE && key.disk.device == found.st_dev);
+    WANT(key.disk.number == found.st_ino && key.disk.length == sizeof bytes);
+    WANT((int64_t)key.disk.modified[0] == found.st_mtim.tv_sec);
+    WANT((int64_t)key.disk.changed[1] == found.st_ctim.tv_nsec);
+
+    wait_a_tick();
+    put(path, bytes + ROOTS, 1, ROOTS); /* behind the roots, and the same */
+    const struct timespec times[] = { found.st_atim, found.st_mtim };
+    WANT(!utimensat(AT_FDCWD, path, times, 0));
+    other = key_of(path);
+    WANT(!memcmp(other.disk.modified, key.disk.modified, sizeof key.disk.modified));
+    WANT(!is_same_key(&key, &other));
+    put(path, "", 1, ROOTS - 1);
+    other = key_of(path);
+    WANT(other.roots[ROOTS - 1] == 0 && !memcmp(other.roots, bytes, ROOTS - 1));
+}
+
+static void try_what_tells_too_little(const char *path) {
+    struct key key;
+    int ends[2], fd;
+    WANT(!truncate(path, ROOTS - 1) && (fd = open(path, O_RDONLY)) >= 0);
+    WANT(key_of_disk(fd, &key));
+    close(fd);
+    WANT(!pipe(ends) && key_of_disk(ends[0], &key));
+    close(ends[0]);
+    close(ends[1]);
+    const char *others[] = { "/", "/dev/null", "/proc/kallsyms", "/proc/self/status" };
+    for (size_t i = 0; i < sizeof others / sizeof *others; i++) {
+        fd = open(others[i], O_RDONLY);
+        WANT(fd < 0 || key_of_disk(fd, &key));
+        close(fd);
+    }
+}
+
+static void try_program(const char *path) {
+    struct program program = { .fd = open(path, O_RDONLY), .base = 4096 };
+    struct key key = { 0 }, other = { 0 };
+    WANT(program.fd >= 0);
+    program.found.st_size = MOST_COMPARED;
+    WANT(!key_of_program(&program, &key) && key.program.kind == OF_BYTES);
+    WANT(key.program.length == MOST_COMPARED && key.choice == AT_RANDOM_BASE && !key.base);
+    program.has_base = program.may_be_both = is_fixed = 1;
+    WANT(!key_of_program(&program, &other) && other.choice == AT_NAMED_BASE);
+    WANT(other.base == 4096 && other.may_be_both == 1);
+    program.has_base = 0;
+    WANT(!key_of_program(&program, &other) && other.choice == AT_FIXED_BASE && !other.base);
+    is_fixed = 0;
+    program.found.st_size = MOST_COMPARED + 1;
+    WANT(!key_of_program(&program, &key) && key.program.kind == OF_FILE && key.program.number);
+    close(program.fd);
+}
+
+static void try_times(void) {
+    struct timespec now;
+    struct state state = { .kind = OF_FILE };
+    const int64_t second = 1000000000;
+    WANT(!clock_gettime(CLOCK_REALTIME, &now));
+    int64_t whole = now.tv_sec * second + now.tv_nsec;
+    const int64_t before[] = { 0, second, 19 * second / 10, -5 * second, -second * 1000000 };
+    for (size_t i = 0; i < sizeof before / sizeof *before; i++) {
+        state.changed[0] = (uint64_t)((whole - before[i]) / second);
+        state.changed[1] = (uint64_t)((whole - before[i]) % second);
+        WANT(!is_settled(&state));
+    }
+    state.changed[0] = (uint64_t)((whole - 2 * second) / second);
+    state.changed[1] = (uint64_t)((whole - 2 * second) % second);
+    WANT(is_settled(&state));
+    state.changed[0] = (uint64_t)-1; /* before 1970 */
+    WANT(is_settled(&state));
+    WANT(is_settled(&(struct state){ .kind = OF_BYTES }));
+}
+
+/* ---- The file */
+
+enum { PIECES = 3, OBJECTS = 2, CALLS = 3, NAMES = 6, PROGRAM = 5000, PAGES = 2 };
+
+static uint64_t sound_file(uint8_t *bytes, size_t room) {
+    struct counts counts = { PIECES, OBJECTS, 1, CALLS - 1, NAMES, PROGRAM };
+    struct head head = { .counts = counts };
+    memcpy(head.form, kept_form, sizeof head.form);
+    uint64_t pages = place_of_pages(&counts);
+    head.length = pages + PAGES * PAGE;
+    WANT(head.length <= room);
+    memcpy(bytes, &head, sizeof head);
+    struct kept_file file = parts_of(bytes);
+    file.pieces[0] = (struct piece){ 0x10000, PAGE, pages, PROT_READ | PROT_EXEC };
+    file.pieces[1] = (struct piece){ 0x11000, PAGE, pages + PAGE, PROT_READ | PROT_WRITE };
+    file.pieces[2] = (struct piece){ 0x12000, 4 * PAGE, 0, PROT_READ };
+    file.objects[0] = (rlibreg_object){ .base = 0x10000, .entry = 0x10010 };
+    file.objects[1] = (rlibreg_object){ .base = 0x11000, .name = 2, .name_length = 3 };
+    for (int i = 0; i < CALLS; i++) file.calls[i] = 0x10000 + (uint64_t)i * (PAGE - 1) / 2;
+    memcpy(file.names, "a\0bcd", NAMES);
+    return head.length;
+}
+
+/* Whether a file would be used, which is asked as the loader asks it: of memory that ends where the
+ * beginning does. */
+static int is_used(const uint8_t *bytes, uint64_t length) {
+    struct head head;
+    if (length < sizeof head) return 0;
+    memcpy(&head, bytes, sizeof head);
+    if (!is_head(&head, length)) return 0;
+    uint64_t end = place_of_program(&head.counts);
+    WANT(end <= length);
+    uint8_t *beginning = malloc(end);
+    WANT(beginning);
+    memcpy(beginning, bytes, end);
+    struct kept_file file = parts_of(beginning);
+    int is = is_whole(&file);
+    for (uint64_t i = 0; is && i < head.counts.pieces; i++) {
+        const struct piece *it = &file.pieces[i];
+        WANT(it->address >= PAGE && it->length && it->address + it->length <= (uint64_t)1 << 47);
+        WANT(!it->from || it->from + it->length <= length);
+    }
+    free(beginning);
+    return is;
+}
+
+/* A file with eight bytes changed. */
+struct change {
+    size_t at;
+    uint64_t number;
+};
+
+static void try_changes(const uint8_t *sound, uint64_t length) {
+    uint8_t *bytes = malloc(length);
+    struct head *head = (struct head *)bytes;
+    WANT(bytes);
+    memcpy(bytes, sound, length);
+    struct kept_file file = parts_of(bytes);
+#define AT(place) (size_t)((uint8_t *)&(place)-bytes)
+    const uint64_t far = (uint64_t)1 << 47, all = ~(uint64_t)0, pages = file.pieces[0].from;
+    const struct change changes[] = {
+        { 0, 0 }, { 8, 0 }, { AT(head->length), length + 1 }, { AT(head->length), length - 1 },
+        { AT(head->counts.pieces), MOST_PIECES + 1 }, { AT(head->counts.pieces), all },
+        { AT(head->counts.pieces), 0 }, { AT(head->counts.objects), 0 },
+        { AT(head->counts.objects), all / 72 }, { AT(head->counts.initializers), all / 8 },
+        { AT(head->counts.finalizers), all / 8 + 1 }, { AT(head->counts.names), all },
+        { AT(head->counts.program), all }, { AT(head->counts.program), MOST_COMPARED },
+        { AT(file.pieces[0].address), 0 }, { AT(file.pieces[0].address), 0x10008 },
+        { AT(file.pieces[0].address), 0x11000 }, { AT(file.pieces[1].address), 0x10000 },
+        { AT(file.pieces[1].address), far }, { AT(file.pieces[2].address), all - PAGE + 1 },
+        { AT(file.pieces[0].length), 0 }, { AT(file.pieces[0].length), 2 * PAGE },
+        { AT(file.pieces[0].length), 8 }, { AT(file.pieces[2].length), far },
+        { AT(file.pieces[2].length), all - PAGE + 1 }, { AT(file.pieces[0].from), pages - PAGE },
+        { AT(file.pieces[0].from), pages + 8 }, { AT(file.pieces[0].from), length },
+        { AT(file.pieces[1].from), all - PAGE + 1 }, { AT(file.pieces[0].from), PAGE / 2 },
+        { AT(file.pieces[0].how), PROT_READ }, { AT(file.pieces[0].how), 8 | PROT_EXEC },
+        { AT(file.pieces[0].how), PROT_READ | PROT_WRITE | PROT_EXEC },
+        { AT(file.objects[0].entry), 0x11000 }, { AT(file.objects[0].entry), 0 },
+        { AT(file.objects[0].entry), 0xffff }, { AT(file.objects[1].name), NAMES },
+        { AT(file.objects[1].name), all }, { AT(file.calls[0]), 0x11000 },
+        { AT(file.calls[1]), 0xffff }, { AT(file.calls[2]), all }, { AT(file.calls[0]), 0 },
+    };
+    for (size_t i = 0; i < sizeof changes / sizeof *changes; i++) {
+        memcpy(bytes, sound, length);
+        memcpy(bytes + changes[i].at, &changes[i].number, sizeof changes[i].number);
+        if (is_used(bytes, length)) fprintf(stderr, "the change %zu is taken\n", i), exit(1);
+    }
+    memcpy(bytes, sound, length);
+    file.names[NAMES - 1] = 'x';
+    WANT(!is_used(bytes, length));
+    memcpy(bytes, sound, length);
+    head->key.may_be_both = 1;
+    file.pieces[0].how |= PROT_WRITE;
+    WANT(is_used(bytes, length));
+    free(bytes);
+}
+
+static void try_damage(const uint8_t *sound, uint64_t length) {
+    uint8_t *bytes = malloc(length);
+    uint32_t random = 1;
+    size_t end = place_of_program(&((const struct head *)sound)->counts);
+    WANT(bytes);
+    for (int round = 0; round < 200000; round++) {
+        memcpy(bytes, sound, length);
+        for (int i = 0; i <= round % 3; i++) {
+            random = random * 1103515245 + 12345;
+            size_t at = random >> 8;
+            at = round % 2 ? at % end : offsetof(struct head, place) + at % (end - sizeof(struct key));
+            bytes[at % end] = (uint8_t)(random >> 3);
+        }
+        is_used(bytes, length);
+    }
+    for (uint64_t cut = 0; cut < length; cut += cut < end ? 1 : 64) WANT(!is_used(sound, cut));
+    memset(bytes, 0, length);
+    WANT(!is_used(bytes, length));
+    free(bytes);
+}
+
+int main(int argc, char **argv) {
+    static _Alignas(8) uint8_t bytes[1 << 16];
+    WANT(argc == 2);
+    try_each_byte();
+    try_disk(argv[1]);
+    try_program(argv[1]);
+    try_what_tells_too_little(argv[1]);
+    try_times();
+    uint64_t length = sound_file(bytes, sizeof bytes);
+    WANT(is_used(bytes, length));
+    try_changes(bytes, length);
+    try_damage(bytes, length);
+    puts("kept: the key, and what is refused of a file: as wanted");
+}

@@ -1,0 +1,337 @@
+# Starts from images that are kept (-c): when one is taken, and when it isn't. The programs are those
+# of gcc's usual linker. ./run-kept is the loader with a clock that is ten seconds on, so that no file
+# was changed just now.
+
+programs=$here/programs
+compile='gcc -O1 -fPIC -nostdlib -fno-stack-protector -fno-asynchronous-unwind-tables'
+compile="$compile -Wl,--hash-style=sysv"
+$compile -shared -Wl,-soname,libone.so -o libone.so "$programs/one.c"
+$compile -shared -Wl,-soname,libtwo.so -o libtwo.so "$programs/two.c" libone.so
+for name in words place both; do
+    $compile -pie -Wl,-e,_start -o $name "$programs/$name.c" 2> warned
+done
+$compile -pie -Wl,-e,_start -o chain "$programs/chain.c" libtwo.so libone.so
+# disk_of FILE: a disk with these libraries, made by the same commands.
+disk_of() {
+    ./tool format "$1" 512 > /dev/null
+    for name in one two; do ./tool install "$1" lib$name.so > /dev/null; done
+}
+rm -f disk
+disk_of disk
+mkdir -m 700 kept
+
+# start WHAT SAID WANTED WORD..: what is said of the image, then what is printed, and the status.
+start() {
+    want "$1" "$(printf '%s\n' "$2" | sed 's/^/rlibreg-run: kept: /')
+$3" "$(ended ./run-kept -v -c kept "${@:4}")"
+}
+keeps=$'\nthe image is kept'
+none='no image is there'
+other='the image there is another one'
+taken='its image is taken'
+said='one 36 13 nobody
+= 18'
+low() {
+    grep -oE '^([0-3][0-9a-f]{11}|[0-9a-f]{8,11})-'
+}
+
+# One image, and its file. The program writes its own data and a library's.
+start 'a first start' "$none$keeps" "$said" disk ./chain
+for _ in 1 2 3; do start 'a start after it' "$taken" "$said" disk ./chain; done
+image=kept/$(ls -A kept)
+want 'the file of an image' '600 1 regular file' "$(stat -c '%a %h %F' "$image")"
+cp "$image" copy
+for _ in 1 2 3; do start 'a start again' "$taken" "$said" disk ./chain; done
+cmp "$image" copy
+want 'binds where an image is taken' "$said" "$(BINDS=1 ended ./run-kept -c kept disk ./chain)"
+[ "$(stat -c %s "$image")" -lt 200000 ] || { echo "1.2 MB of zeros are in $image" >&2; exit 1; }
+# open_of LOADER WORD..: how many files a program has open that runs, and how many of its maps are
+# shared.
+open_of() {
+    held_by "$@" disk ./place /dev/stdin
+    until grep -q '^list$' held.out; do sleep 0.01; done # it has opened all that it opens
+    ls /proc/$!/fd | wc -l
+    grep -cE '^([0-3][0-9a-f]{11}|[0-9a-f]{8,11})-[0-9a-f]+ ...s' /proc/$!/maps || true
+    let_go
+}
+usual=$(open_of ./run-taken)
+for _ in 1 2; do want 'what a program has' "$usual" "$(open_of ./run-kept -c kept)"; done
+rm kept/*
+
+# A disk, and a program, that are changed in place with equal roots, length and time.
+start 'an image' "$none$keeps" "$said" disk ./chain
+cp -p disk before.disk
+cp -p chain before
+sed 's/"one"/"uno"/' "$programs/one.c" | $compile -shared -Wl,-soname,libone.so -o libone.so -x c -
+disk_of other.disk
+cmp -n 1024 disk other.disk
+cat other.disk > disk
+touch -r before.disk disk
+changed=${said/one/uno}
+start 'another registry of equal roots' "$other$keeps" "$changed" disk ./chain
+start 'that one again' "$taken" "$changed" disk ./chain
+LC_ALL=C sed 's/ nobody/ NOBODY/' before > chain
+touch -r before chain
+want 'the size and time of another program' "$(stat -c '%s %Y' before)" "$(stat -c '%s %Y' chain)"
+start 'another program' "$other$keeps" "${changed/nobody/NOBODY}" disk ./chain
+start 'that program again' "$taken" "${changed/nobody/NOBODY}" disk ./chain
+cat before > chain
+start 'the program from before' "$other$keeps" "$changed" disk ./chain
+want 'images of one program' 1 "$(ls -A kept | wc -l)"
+
+# A block device, in which another disk of equal roots and length comes in the place of one.
+if [ "$(id -u)" = 0 ] && cp before.disk first.disk && device=$(losetup -f --show first.disk 2> lost); then
+    trap 'losetup -d "$device"' EXIT
+    start 'a block device' "$none$keeps" "$said" "$device" ./chain
+    start 'the device again' "$taken" "$said" "$device" ./chain
+    losetup -d "$device"
+    trap - EXIT
+    if losetup "$device" other.disk; then
+        start 'another disk in the device' "$other$keeps" "$changed" "$device" ./chain
+        losetup -d "$device"
+    fi
+    rm kept/*
+else
+    echo "skipped: a block device whose images are kept ($(cat lost))"
+fi
+
+# Options.
+start 'a program that needs -x' "$none$keeps" 'rewritten
+= 0' -x disk ./both
+start 'that program again' "$taken" 'rewritten
+= 0' -x disk ./both
+start 'that program without -x' "$none" \
+    'rlibreg-run: ./both: it has memory that may be written and executed, for which -x is needed
+= 125' disk ./both
+for base in 7000000000 6000000000; do
+    for _ in 1 2; do
+        want "an image at $base" "$base-" "$(./run-kept -c kept -b 0x$base disk place | low | head -1)"
+    done
+done
+want 'bases of an image that is kept' 1 \
+    "$(for _ in 1 2 3; do ./run-kept -c kept disk place | low | head -1; done | sort -u | wc -l)"
+if setarch -R true 2> lost; then
+    want 'a base where the user wants no other' 10000000000- \
+        "$(setarch -R ./run-kept -c kept disk place | low | head -1)"
+fi
+
+# Whose the file is, and the folder. What isn't taken is replaced.
+replaced() {
+    start "$1" "$2$keeps" "$changed" disk ./chain
+    start "$1, replaced" "$taken" "$changed" disk ./chain
+}
+rm kept/*
+start 'an empty folder' "$none$keeps" "$changed" disk ./chain
+image=kept/$(ls -A kept)
+unfit='Operation not permitted'
+chmod g+w "$image"
+replaced 'a file that its group may write' "$unfit"
+chmod o+w "$image"
+replaced 'a file that others may write' "$unfit"
+ln "$image" second
+replaced 'a file with a second name' "$unfit"
+cp "$image" copy
+ln -sf "$PWD/copy" "$image"
+replaced 'a link' 'Too many levels of symbolic links'
+rm "$image"
+mkfifo "$image"
+replaced 'a pipe' "$unfit"
+if [ "$(id -u)" = 0 ]; then
+    chown 12345 "$image"
+    replaced 'a file of another user' "$unfit"
+fi
+nothing() {
+    start "$1" "$2" "$changed" disk ./chain
+}
+rm "$image"
+mkdir "$image"
+nothing 'a folder of the name of an image' "$unfit
+Is a directory"
+rmdir "$image"
+start 'an image once more' "$none$keeps" "$changed" disk ./chain
+for mode in 720 702; do
+    chmod $mode kept
+    nothing "a folder of mode $mode" "$unfit"
+done
+chmod 700 kept
+if [ "$(id -u)" = 0 ]; then
+    chown 12345 kept
+    nothing 'a folder of another user' "$unfit"
+    chown 0 kept
+fi
+mv kept moved
+nothing 'no folder' 'No such file or directory'
+ln -s moved kept
+nothing 'a link to a folder' 'Not a directory'
+rm kept
+: > kept
+nothing 'a file for a folder' 'Not a directory'
+rm kept
+mv moved kept
+chmod 755 kept
+chmod a+r disk chain
+rm "$image"
+start 'an image for all' "$none$keeps" "$changed" disk ./chain
+want 'its mode' 644 "$(stat -c %a "$image")"
+for file in disk chain; do
+    rm "$image"
+    chmod o-r $file
+    start "an image of what others may not read: $file" "$none$keeps" "$changed" disk ./chain
+    want 'its mode' 600 "$(stat -c %a "$image")"
+    chmod o+r $file
+done
+chmod go-r disk
+start 'a disk of other rights' "$other$keeps" "$changed" disk ./chain
+chmod 700 kept
+
+# Files that are cut, of zeros, of another form, boot or disk.
+for length in 0 100 1400 4096 8192 $(($(stat -c %s "$image") - 1)); do
+    truncate -s $length "$image"
+    replaced "a file of $length bytes" "$other"
+done
+head -c "$(stat -c %s "$image")" /dev/zero > zeros
+cat zeros > "$image"
+replaced 'a file of zeros' "$other"
+for at in 13 16 51 56 600 1079 1080; do
+    printf '\x7' | dd of="$image" bs=1 seek=$at conv=notrunc 2> lost
+    replaced "another byte $at" "$other"
+done
+
+# Addresses that are taken.
+pieces=$(./run-taken disk place | low | wc -l)
+./run-kept -c kept disk place > lost
+cp -r kept copies
+for how in TAKEN=1 'FREE=2 TAKEN=1' 'FREE=1 TAKEN=1 ELSEWHERE=1'; do
+    want "$how" "rlibreg-run: kept: File exists
+$changed" "$(ended env $how ./run-kept -v -c kept disk ./chain)"
+    want "pieces of memory, $how" "$pieces" \
+        "$(env $how ./run-kept -c kept disk place | low | wc -l)"
+done
+diff -r kept copies
+rm -r copies
+want 'a page that nobody gets' 'rlibreg-run: memory at the base: Operation not permitted
+= 126' "$(ended ./run-kept -c kept -b 0 disk ./words)"
+
+# Folders that are mounted: where nothing may be executed, and without room. mounted OPTIONS COMMAND
+words=(./run-kept -v -c kept disk ./chain)
+mounted() {
+    unshare -m "$BASH" -c 'mount -t tmpfs -o "$1" none kept && eval "$2"; "${@:3}"; ls -A kept | wc -l' \
+        x "$1" "$2" "${words[@]}" 2>&1
+}
+of_kept=$'rlibreg-run: kept: '
+if unshare -m mount -t tmpfs none kept 2> lost; then
+    want 'a folder of which nothing may be executed' "$of_kept$none
+${of_kept}Permission denied
+${changed%$'\n'*}
+0" "$(mounted mode=700,noexec :)"
+    want 'one that became so' "$of_kept$unfit
+${changed%$'\n'*}
+1" "$(mounted mode=700 '"${@:3}" > lost 2>&1; mount -o remount,noexec kept')"
+    want 'a folder without room' "$of_kept$none
+${of_kept}No space left on device
+${changed%$'\n'*}
+0" "$(mounted mode=700,size=8k :)"
+else
+    echo "skipped: folders that are mounted ($(cat lost))"
+fi
+want 'a file longer than the user may write' "$of_kept$none
+${of_kept}File too large
+$changed" "$(rm kept/* && (ulimit -f 8 && ended "${words[@]}") | cat)"
+
+# Images of older keys.
+images() {
+    want "images behind $1" "$2" "$(ls -A kept | wc -l)"
+}
+for program in ./chain ./words ./place; do ./run-kept -c kept disk $program > lost || true; done
+images 'three programs' 3
+./tool preload disk libone.so > /dev/null
+./run-kept -c kept disk ./chain > lost || true
+images 'a change and one start' 1
+./run-kept -c kept disk ./place > lost
+cp place place.new
+mv place.new place
+./run-kept -c kept disk ./place > lost
+images 'a program in the place of another' 2
+cp disk disk.new
+mv disk.new disk
+for program in ./chain ./place; do ./run-kept -c kept disk $program > lost || true; done
+images 'a disk in the place of another' 2
+for name in kept/*; do
+    printf 'x' | dd of="$name" bs=1 seek=16 conv=notrunc 2> lost # of another boot
+done
+echo user > kept/0123456789abcdef
+./run-kept -c kept disk ./words > lost || true
+images 'another boot' 2
+want "a file that is none of the loader's" user "$(cat kept/0123456789abcdef)"
+rm kept/*
+./tool preload disk > /dev/null
+
+# What was changed just now isn't kept: the file of a disk, or of a long program.
+$compile -pie -Wl,-e,_start -o long "$programs/place.c" -x c - <<< 'char more[3 << 20] = "more";'
+now() {
+    ./rlibreg-run -v -c kept disk "./$1" 2>&1 > lost | sed 's/^rlibreg-run: kept: //'
+}
+just='was changed just now'
+want 'a disk that was changed just now' "$none
+nothing is kept: the disk $just, or tells too little" "$(now place)"
+sleep 2.1
+touch long
+want 'a program that was changed just now' "nothing is kept: the program $just
+$none" "$(now long)"
+images 'changes just now' 0
+want 'a disk that was changed before' "$none$keeps" "$(now place)"
+sleep 2
+want 'a program that was changed before' "$none$keeps" "$(now long)"
+want 'that program again' "$taken" "$(now long)"
+cp -p long before
+printf 'less' | dd of=long bs=1 conv=notrunc seek="$(grep -abo 'more' long | sed -n '$s/:.*//p')" 2> lost
+touch -r before long
+want 'that program with other bytes' "nothing is kept: the program $just
+$other" "$(now long)"
+
+# Kills, and failures, at each call by which an image is kept.
+for how in DIE FAIL; do
+    for call in {1..40}; do
+        rm -f kept/*
+        found=$(ended env $how=$call ./run-kept -v -c kept disk ./chain 2>&1)
+        [[ $how = DIE || $found = *"$changed" ]] || want "$how=$call" "$changed" "$found"
+        if [[ $found = *"the image is kept"* ]]; then break; fi
+        images "$how=$call" 0
+    done
+    [ "$call" -gt 6 ] && [ "$call" -lt 40 ] || { echo "$how: $call calls" >&2; exit 1; }
+    images "$how" 1
+done
+# age: has the image be of another boot.
+age() {
+    printf x | dd of="$(echo kept/*)" bs=1 seek=16 conv=notrunc 2> lost
+}
+age
+for call in {1..40}; do
+    found=$(ended env DIE=$call ./run-kept -v -c kept disk ./chain 2>&1)
+    if [[ $found = *"the image is kept"* ]]; then break; fi
+    start "a start behind DIE=$call" "$([ -n "$(ls -A kept)" ] && echo "$other" || echo "$none")$keeps" \
+        "$changed" disk ./chain
+    age
+done
+
+# Rights, streams and words.
+found=$(ended ./within secure ./run-kept -c kept disk ./chain)
+case $found in
+    "this kernel hasn't"*) echo 'skipped: images beside more rights than the user has' ;;
+    *) want 'more rights than the user has' "rlibreg-run: -c: not with more rights than the user's
+= 126" "$found" ;;
+esac
+./run-kept -c kept disk ./place > lost
+for how in '<&-' '>&-' '2>&-' '<&- >&- 2>&-'; do
+    cp disk copy
+    status=0
+    eval './run-kept -c kept disk ./chain '"$how"' > lost' || status=$?
+    want "the status with $how" 18 $status
+    cmp disk copy
+done
+want 'a loader whose output is the disk' 'rlibreg-run: disk: Text file busy
+= 126' "$(./run-kept -c kept disk ./chain 2>&1 >> disk || echo "= $?")"
+want 'no folder' 'rlibreg-run: usage: rlibreg-run [-x] [-b BASE] [-c FOLDER [-v]] DISK PROGRAM [WORD]..
+= 127' "$(ended ./run-kept -c)"
+want '-v alone' "$changed" "$(ended ./run-kept -v disk ./chain)"
+echo 'kept: when an image is taken, and when not, as wanted'

@@ -1,0 +1,46 @@
+/* rlibreg-run as the tests of the loader start it, with images that are kept: of each start the
+ * image is kept before, if it can be, and then taken twice. What the first two print goes nowhere,
+ * but for what is said of the image. RUN is the loader, FOLDER has the images, and SAID gets the
+ * lines. */
+#define _GNU_SOURCE
+#include <fcntl.h>
+#include <stdlib.h>
+#include <sys/wait.h>
+#include <unistd.h>
+
+enum { MOST = 1 << 16 };
+
+static void start(char **argv, int argc, char *option) {
+    static char *words[MOST];
+    int count = 0;
+    if (argc) words[count++] = argv[0];
+    if (argc && option) words[count++] = option;
+    if (argc) words[count++] = "-c", words[count++] = FOLDER;
+    for (int i = 1; i < argc; i++) words[count++] = argv[i];
+    words[count] = NULL;
+    execv(RUN, words);
+    _exit(99);
+}
+
+static void start_before(char **argv, int argc, char *option) {
+    pid_t child = fork();
+    if (child) {
+        waitpid(child, NULL, 0);
+        return;
+    }
+    int nothing = open("/dev/null", O_RDWR);
+    int said = open(SAID, O_WRONLY | O_CREAT | O_APPEND, 0600);
+    dup2(nothing, 0);
+    dup2(nothing, 1);
+    dup2(option ? said : nothing, 2);
+    close(nothing);
+    close(said);
+    start(argv, argc, option);
+}
+
+int main(int argc, char **argv) {
+    if (argc + 4 > MOST) return 99;
+    start_before(argv, argc, NULL);
+    start_before(argv, argc, "-v");
+    start(argv, argc, NULL);
+}
