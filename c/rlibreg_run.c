@@ -1,12 +1,13 @@
-/* rlibreg-run [-x] [-b BASE] [-c FOLDER [-v]] DISK PROGRAM [WORD].. starts a program with the libraries of a
- * registry.
+/* rlibreg-run [-x] [-b BASE] [-c FOLDER [-v]] DISK PROGRAM [WORD].. starts a program with the
+ * libraries of a registry.
  *
  * It binds PROGRAM over the registry on DISK, maps the image's segments at their addresses with
  * their permissions, calls the initializers of the libraries, and jumps to PROGRAM's entry, as the
  * kernel enters a program: on the stack are the words, PROGRAM first, the environment and the
  * auxiliary vector, and in rdx is what calls the finalizers (System V ABI, AMD64 supplement,
- * section 3.4.1). With -c it takes the image that an earlier start has left in FOLDER. It waits while another process holds DISK for changes, and lets it go before it
- * calls anything. docs/C.md is the manual. */
+ * section 3.4.1). With -c it takes the image that an earlier start has left in FOLDER. It waits
+ * while another process holds DISK for changes, and lets it go before it calls anything.
+ * docs/C.md is the manual. */
 #define _GNU_SOURCE
 #include "rlibreg_disk_file.h"
 #include "rlibreg_run_kept.h"

@@ -41,5 +41,6 @@ uint64_t base_of_try(const struct program *it, int number) {
     if (has_fixed_bases() && !number) return unit > USUAL_BASE ? unit : USUAL_BASE;
     uint64_t places = (END_OF_BASES >> number) / unit;
     if (places < 2) return unit;
-    return unit * (1 + number_of(has_fixed_bases() ? 0 : random_bits(), (uint64_t)number) % (places - 1));
+    uint64_t sequence = has_fixed_bases() ? 0 : random_bits();
+    return unit * (1 + number_of(sequence, (uint64_t)number) % (places - 1));
 }
