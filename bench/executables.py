@@ -41,7 +41,8 @@ void _start(void) {{
 GCC = 'gcc -fuse-ld=bfd -fPIC -nostdlib -fno-stack-protector'.split()
 LINKERS = [[], ['-z', 'noseparate-code'], ['-z', 'norelro'], ['-z', 'max-page-size=0x10000'], ['-z', 'now'], ['--build-id=none']]
 SMALL = '-z max-page-size=512 -z common-page-size=512 -z norelro'.split()
-SHARED = [[*SMALL, '-z', 'separate-code', more] for more in ('-Ttext=0x20000', '--section-start=.dynamic=0x10000')]
+SHARED = [[*SMALL, '-z', 'separate-code', *more] for more in (['--section-start=.dynamic=0x10000'],
+                                                                ['-Ttext=0x20000', '--section-start=.eh_frame_hdr=0x30000'])]
 BOTH = [[*SMALL, '-z', f'{more}separate-code'] for more in ('', 'no')]
 PAGE = 4096
 LOWEST = (6, 17)

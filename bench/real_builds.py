@@ -97,6 +97,7 @@ def sqlite(folder, archives):
     source = build.source(archives, 'sqlite3')
     run('./configure', '--disable-tcl', '--disable-readline', cwd=source)
     run('make', f'-j{min(2, os.cpu_count())}', 'sqlite3.c', 'shell.c', cwd=source)
-    build.library('libsqlite3.so', build.compiled([source / 'sqlite3.c']))
-    build.program('sqlite3', build.compiled([source / 'shell.c']))
+    extensions = '-DSQLITE_OMIT_LOAD_EXTENSION' # else it asks for dlopen
+    build.library('libsqlite3.so', build.compiled([source / 'sqlite3.c'], extensions))
+    build.program('sqlite3', build.compiled([source / 'shell.c'], extensions))
     return build

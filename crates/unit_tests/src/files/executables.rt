@@ -100,3 +100,44 @@ fn a_library_with_initializers_or_finalizers(rt: HostRuntime) -> Result<(), Fail
     assert!(rt; finalized == Some(ExecutableRefusal::Finalizers { name }));
     Ok(())
 }
+
+/// A program header of a part of a file, in memory where it is in the file.
+fn header(kind: u32, flags: u8, at: u64, size: u64) -> [u8; 56] {
+    let mut header = [0; 56];
+    put(&mut header, 0, &kind.to_le_bytes());
+    put(&mut header, 4, &[flags]);
+    put(&mut header, 8, &at.to_le_bytes());
+    put(&mut header, 16, &at.to_le_bytes());
+    put(&mut header, 32, &size.to_le_bytes());
+    put(&mut header, 40, &size.to_le_bytes());
+    put(&mut header, 48, &[8]);
+    header
+}
+
+/// The sample with an entry, and its headers behind it: segments of one page, which permit this.
+fn of_two_segments(first: u8, second: u8) -> [u8; 512] {
+    let mut file = [0; 512];
+    put(&mut file, 0, &with_entry(library(b'a', 1), 0x40));
+    put(&mut file, 32, &344u64.to_le_bytes());
+    put(&mut file, 56, &[3]);
+    put(&mut file, 344, &header(1, first, 0, 344));
+    put(&mut file, 400, &header(1, second, 344, 168));
+    put(&mut file, 456, &header(2, 6, 0xe0, 112));
+    file
+}
+
+#[test]
+fn a_page_that_may_be_written_and_executed(rt: HostRuntime) -> Result<(), Fail> {
+    let alloc = rt.alloc();
+    let image = alone(alloc, &of_two_segments(5, 6))?;
+    let name = Name::copy_of(alloc, b"/program")?;
+    assert!(rt;
+        executable_of(alloc, &image).err() == Some(ExecutableRefusal::WritableCode { name })
+    );
+    for (first, second, permitted) in [(5, 4, 5), (7, 4, 7), (5, 7, 7)] {
+        let image = alone(alloc, &of_two_segments(first, second))?;
+        let bytes = bytes_of(alloc, &image)?;
+        assert!(rt; bytes.get(64 + 112 + 4) == Some(&permitted));
+    }
+    Ok(())
+}
