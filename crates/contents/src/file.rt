@@ -18,8 +18,8 @@ use store::StoreRefusal;
 
 impl<D: Disk> Contents<D> {
     /// The bytes of the library at this position. It reads each of its sectors once, and does not
-    /// look whether they are those of a library.
-    pub(crate) fn read(&mut self, alloc: Global, position: usize) -> Result<Vec<u8>, Unread>
+    /// look whether they are those of a library. It answers Unreadable or OutOfMemory.
+    pub fn read(&mut self, alloc: Global, position: usize) -> Result<Vec<u8>, Unread>
         requires { position < length self.old.entries }
         ensures read { IsRead D.facts self.old self.new }
         ensures ok { (s : State) → IsAt D.facts self.old s → IfOk result (λ bytes.

@@ -1,27 +1,22 @@
 -- What the lines of a dump ask.
-use Rattle.std.proofs.Common.{◌≡◌, ◌<◌, ℕ, zero, suc, Bool, true, false, List, [], ◌∷◌, ◌++◌, length, codes, Some, None, refl, ap, ◌∙◌, arith, append-nil, ne_eqb}
-use Rattle.std.specs.Prelude.{◌≢◌, ◌&&◌, ◌==◌, ◌/◌, ◌%◌, not, All, slice_index, if◌then◌else◌}
+use Rattle.std.proofs.Common.{◌≡◌, ◌<◌, ℕ, Bool, true, false, List, [], ◌∷◌, ◌++◌, length, codes, Some, None, refl, ap, ◌∙◌, arith, append-nil, ne_eqb}
+use Rattle.std.specs.Prelude.{◌≢◌, ◌&&◌, ◌==◌, not, All, if◌then◌else◌}
 use Rattle.std.specs.List.{flat_map, list_all, slice_split}
 use Rattle.std.specs.Option.{option_map}
 use Rattle.std.specs.Result.{result_ok}
 use Rattle.std.proofs.lemmas.Bool.Decides.{nat_tests}
 use Rattle.std.proofs.lemmas.List.Elements.{All-append, All-cons, All-head, All-nil, All-tail}
 use Rattle.std.proofs.lemmas.List.Splits.{slice_split_at, slice_split_none}
-use Rattle.hex.specs.Hex.{IsBytes, decode_of, encode_lower, encode_with, lower_digits}
+use Rattle.hex.specs.Hex.{IsBytes, decode_of, encode_lower, lower_digits}
 use Rattle.hex.proofs.HexLemmas.{decode_of-encode_lower, length-encode_with}
 use Rattle.requests.specs.Request.{install, set_preloads}
 use Rattle.binders.specs.Events.{apply}
 use Rattle.commands.specs.Line.{hex_bytes, is_name, is_visible, meaning, names_behind}
 use Rattle.commands.specs.Script.{IsLine}
 use Rattle.tool_commands.specs.Dump.{behind_space}
+use Rattle.tool_commands.proofs.Within.{at_each, digits_within, no_newline}
 
 -- ---- an install
-
--- what holds of each element and of 0 holds at each place, since past the end there is 0
-at_each : (P : ℕ → Type 0) → P 0 → (xs : List ℕ) → All P xs → (i : ℕ) → P (slice_index xs i)
-at_each P z [] h i = z
-at_each P z (x ∷ xs) h zero = All-head P x xs h
-at_each P z (x ∷ xs) h (suc i) = at_each P z xs (All-tail P x xs h) i
 
 pub are_bytes : (bytes : List ℕ) → All (λ byte. byte < 256) bytes → IsBytes bytes
 are_bytes bytes h = at_each (λ byte. byte < 256) (omega arith) bytes h
@@ -35,27 +30,8 @@ digits_read bytes are some =
 pub install_asked : (bytes : List ℕ) → IsBytes bytes → 0 < length bytes → meaning (codes "install " ++ encode_lower bytes) ≡ Some (apply (install bytes))
 install_asked bytes are some = ap (option_map (λ b. apply (install b))) (digits_read bytes are some)
 
--- a text without a newline, by a test that computes
-pub no_newline : (text : List ℕ) → list_all (λ b. not (b == 10)) text ≡ true → IsLine text
-no_newline [] h = All-nil (λ b. b ≢ 10)
-no_newline (b ∷ text) h = by (b == 10) (list_all (λ b. not (b == 10)) text) h refl (no_newline text)
-  where
-    by : (c d : Bool) → (not c && d) ≡ true → (b == 10) ≡ c → (d ≡ true → IsLine text) → IsLine (b ∷ text)
-    by true d h is rest = cc h
-    by false d h is rest = All-cons (λ b. b ≢ 10) b text (λ e. grind (arith, nat_tests, is, e)) (rest h)
-
-no_digit : (d : ℕ) → slice_index lower_digits d ≢ 10
-no_digit d = at_each (λ b. b ≢ 10) (λ e. omega (arith, e)) lower_digits (no_newline lower_digits refl) d
-
-digits_line : (bytes : List ℕ) → IsLine (encode_lower bytes)
-unfolding encode_with
-digits_line [] = All-nil (λ b. b ≢ 10)
-digits_line (b ∷ bytes) =
-    All-cons (λ b. b ≢ 10) (slice_index lower_digits (b / 16)) (slice_index lower_digits (b % 16) ∷ encode_lower bytes) (no_digit (b / 16))
-    (All-cons (λ b. b ≢ 10) (slice_index lower_digits (b % 16)) (encode_lower bytes) (no_digit (b % 16)) (digits_line bytes))
-
 pub install_line : (bytes : List ℕ) → IsLine (codes "install " ++ encode_lower bytes)
-install_line bytes = All-append (λ b. b ≢ 10) (codes "install ") (encode_lower bytes) (no_newline (codes "install ") refl) (digits_line bytes)
+install_line bytes = All-append (λ b. b ≢ 10) (codes "install ") (encode_lower bytes) (no_newline (codes "install ") refl) (digits_within bytes)
 
 -- ---- the preloads
 

@@ -26,9 +26,10 @@ use Rattle.binders.specs.Events.{Happening, apply}
 use Rattle.commands.specs.Line.{is_name, is_visible, meaning}
 use Rattle.commands.specs.Script.{IsLine, ended}
 use Rattle.tool_commands.specs.Dump.{behind_space, cut_text, dump_text, install_text, preload_text}
+use Rattle.tool_commands.proofs.Within.{no_newline}
 use Rattle.replays.specs.Script.{IsScript}
 use Rattle.replays.specs.Replay.{IsStateOfBytes, preload_requests, requests_for}
-use Rattle.replays.proofs.Meanings.{and_left, and_right, are_bytes, install_asked, install_line, no_newline, preload_line, preloads_asked}
+use Rattle.replays.proofs.Meanings.{and_left, and_right, are_bytes, install_asked, install_line, preload_line, preloads_asked}
 use Rattle.replays.proofs.Readings.{one_reading}
 use Rattle.replays.proofs.States.{install_of}
 

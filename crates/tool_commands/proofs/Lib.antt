@@ -3,7 +3,6 @@ pub mod Cuts
 pub mod Findings
 pub mod Installs
 pub mod Listing
-pub mod Named
 pub mod Outcomes
 pub mod Sent
 pub mod Within

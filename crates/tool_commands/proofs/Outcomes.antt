@@ -1,6 +1,6 @@
--- No form ends as words do that are none.
-use Rattle.std.proofs.Common.{◌≡◌, ℕ, List, Option, true, false, inl, inr, refl, sym, ◌∙◌, ⊎_elim, arith}
-use Rattle.std.specs.Prelude.{◌≢◌, if◌then◌else◌}
+-- What the forms end with: none ends as words do that are none, and what is said is apart from what is told.
+use Rattle.std.proofs.Common.{◌≡◌, ℕ, List, true, false, inl, inr, refl, sym, ap, subst, ◌∙◌, ⊎_elim, arith}
+use Rattle.std.specs.Prelude.{◌≢◌, ◌⊎◌, if◌then◌else◌}
 use Rattle.std.specs.List.{list_all}
 use Rattle.requests.specs.Request.{Request}
 use Rattle.requests.specs.declared.refusal.Refusal.{Refusal}
@@ -16,133 +16,240 @@ use Rattle.sector_disk.specs.Disk.{DiskFacts}
 use Rattle.store.specs.declared.refusal.StoreRefusal.{StoreRefusal}
 use Rattle.store.specs.declared.refusal.StoreRefusal.TheVariants as store
 use Rattle.contents.specs.declared.finding.Finding.{Finding}
+use Rattle.contents.specs.declared.finding.Finding.TheVariants.{Sound, Unreadable}
 use Rattle.file_disk.specs.FileDisk.{file_facts}
 use Rattle.file_disk.specs.declared.open.OpenFault.{OpenFault}
 use Rattle.file_disk.specs.declared.open.OpenFault.TheVariants as disk_file
 use Rattle.program_parts.specs.Status.{disk_status, refusal_status, reply_status, status_number}
-use Rattle.program_parts.specs.Told.{IsTold}
 use Rattle.program_parts.specs.declared.file.FileFault.{FileFault}
 use Rattle.program_parts.specs.declared.file.FileFault.TheVariants as read_file
 use Rattle.program_parts.specs.declared.status.Status.{Status}
 use Rattle.program_parts.specs.declared.status.Status.TheVariants.{Done, Refused, BadWords, Failed, NoMemory}
-use Rattle.tool_commands.specs.AnyDisk.{FormTells, IsFault}
+use Rattle.tool_commands.specs.AnyDisk.{FormTells, IsCut}
 use Rattle.tool_commands.specs.Check.{check_status, is_sound}
+use Rattle.tool_commands.specs.Dump.{cut_status}
+use Rattle.tool_commands.specs.Ends.{EndsUnopened}
 use Rattle.tool_commands.specs.Executable.{TellsExecutable, executable_status}
 use Rattle.tool_commands.specs.Form.{CommandLine, Deed, Question, info, check, file, dump, tell, replace, remove, executable}
-use Rattle.tool_commands.specs.Outcome.{AskEnds, DeedEnds, IsEnd, LineEnds, ReadEnds, TellEnds, open_status, read_status}
+use Rattle.tool_commands.specs.Outcome.{AskEnds, DeedEnds, IsApartDeed, IsSilentDeed, LineEnds, ReadEnds, TellEnds, open_status, read_status}
 use Rattle.tool_commands.specs.Request.{RequestEnds}
-use Rattle.tool_commands.specs.Telling.{Tells}
+use Rattle.tool_commands.specs.Streams.{Streams, IsSilent, IsUntold, SaysOnly, TellsOnly}
+use Rattle.tool_commands.specs.Telling.{TellsReply}
 use Rattle.tool_commands.specs.declared.telling.Telling.{Telling}
 use Rattle.tool_commands.specs.declared.telling.Telling.TheVariants.{Text, Executable}
 
--- other statuses
+-- ---- statuses
+
+-- what is asked isn't done, but words were read
+abbrev IsFault : Status → Type 0
+IsFault status = (status ≢ Done) × (status ≢ BadWords)
+
+refused_fault : IsFault Refused
+refused_fault = (λ h. (cc), λ h. (cc))
+
+failed_fault : IsFault Failed
+failed_fault = (λ h. (cc), λ h. (cc))
+
+memory_fault : IsFault NoMemory
+memory_fault = (λ h. (cc), λ h. (cc))
+
 done_words : Done ≢ BadWords
 done_words h = cc
 
-refused_words : Refused ≢ BadWords
-refused_words h = cc
+disk_fault : (r : StoreRefusal) → IsFault (disk_status r)
+disk_fault store.Device = failed_fault
+disk_fault store.Reopen = failed_fault
+disk_fault store.OutOfMemory = memory_fault
+disk_fault other = refused_fault
 
-failed_words : Failed ≢ BadWords
-failed_words h = cc
+bind_fault : (r : BindRefusal) → IsFault (refusal_status (refusal.Bind r))
+bind_fault bind_refusal.OutOfMemory = memory_fault
+bind_fault other = refused_fault
 
-memory_words : NoMemory ≢ BadWords
-memory_words h = cc
-
--- what there are refusals of
-disk_words : (r : StoreRefusal) → disk_status r ≢ BadWords
-disk_words store.Device h = cc
-disk_words other h = cc
-
-bind_words : (r : BindRefusal) → refusal_status (refusal.Bind r) ≢ BadWords
-bind_words bind_refusal.OutOfMemory h = cc
-bind_words other h = cc
-
-refusal_words : (r : Refusal) → refusal_status r ≢ BadWords
-refusal_words refusal.Device h = cc
-refusal_words (refusal.Bind r) h = bind_words r h
-refusal_words other h = cc
+refusal_fault : (r : Refusal) → IsFault (refusal_status r)
+refusal_fault refusal.Device = failed_fault
+refusal_fault refusal.Reopen = failed_fault
+refusal_fault refusal.OutOfMemory = memory_fault
+refusal_fault (refusal.Bind r) = bind_fault r
+refusal_fault other = refused_fault
 
 reply_words : (r : Reply) → reply_status r ≢ BadWords
-reply_words (reply.Refused r) h = refusal_words r h
-reply_words other h = cc
+reply_words (reply.Refused r) = (refusal_fault r).1
+reply_words other = done_words
 
-executable_words : (r : ExecutableRefusal) → executable_status r ≢ BadWords
-executable_words executable_refusal.OutOfMemory h = cc
-executable_words other h = cc
+executable_fault : (r : ExecutableRefusal) → IsFault (executable_status r)
+executable_fault executable_refusal.OutOfMemory = memory_fault
+executable_fault other = refused_fault
 
-open_words : (fault : OpenFault) → open_status fault ≢ BadWords
-open_words disk_file.CannotOpen h = cc
-open_words other h = cc
+open_fault : (fault : OpenFault) → IsFault (open_status fault)
+open_fault disk_file.CannotOpen = failed_fault
+open_fault disk_file.BadLength = refused_fault
+open_fault disk_file.OutOfMemory = memory_fault
 
-read_words : (fault : FileFault) → read_status fault ≢ BadWords
-read_words read_file.CannotRead h = cc
-read_words other h = cc
+read_fault : (fault : FileFault) → IsFault (read_status fault)
+read_fault read_file.CannotRead = failed_fault
+read_fault read_file.OutOfMemory = memory_fault
+
+cut_fault : (finding : Finding) → finding ≢ Sound → IsFault (cut_status finding)
+cut_fault Sound other = absurd (other refl)
+cut_fault Unreadable other = failed_fault
+cut_fault finding other = refused_fault
 
 check_words : (findings : List Finding) → check_status findings ≢ BadWords
 check_words findings =
-    elim (list_all is_sound findings) as (λ sound. (if sound then Done else Refused) ≢ BadWords) [ true ↦ done_words | false ↦ refused_words ]
+    elim (list_all is_sound findings) as (λ sound. (if sound then Done else Refused) ≢ BadWords) [ true ↦ done_words | false ↦ refused_fault.1 ]
 
 -- a status that is one of these
 same_words : (ends status : Status) → ends ≢ BadWords → status ≡ ends → status ≢ BadWords
-same_words ends status other h is = other (sym h ∙ is)
+same_words ends status other is h = other (sym is ∙ h)
 
-module _ (before after : Option (List ℕ)) (status : Status) where
-  -- what is told
-  told_words : (ends : Status) (text : List ℕ) → ends ≢ BadWords → IsTold ends text before after status → status ≢ BadWords
-  told_words ends text other = ⊎_elim (λ h. same_words ends status other h.0) (λ h. same_words Failed status failed_words h)
+same_fault : (ends status : Status) → IsFault ends → status ≡ ends → IsFault status
+same_fault ends status fault is = (λ h. fault.0 (sym is ∙ h), λ h. fault.1 (sym is ∙ h))
 
-  fault_words : IsFault status → status ≢ BadWords
-  fault_words = ⊎_elim (same_words Refused status refused_words) (⊎_elim (same_words Failed status failed_words) (same_words NoMemory status memory_words))
+-- ---- the ends of each kind
 
-  form_words : (question : Question) → FormTells question before after status → status ≢ BadWords
-  form_words info h = told_words Done _ done_words h.1
-  form_words check (inl h) = told_words (check_status h.1) _ (check_words h.1) h.3
-  form_words check (inr h) = same_words NoMemory status memory_words h.0
-  form_words (file name) (inl h) = told_words Done _ done_words h.1
-  form_words (file name) (inr h) = fault_words h.0
-  form_words dump (inl h) = same_words Done status done_words h.2
-  form_words dump (inr (inl h)) = fault_words h.1
-  form_words dump (inr (inr h)) = same_words Failed status failed_words h
+module _ (io : Streams) (status : Status) where
+  -- nothing is said; or a stream or the disk failed; or nothing is told
+  abbrev Plain : Type 0
+  Plain = ((status ≢ BadWords) × IsSilent io) ⊎ ((status ≡ Failed) ⊎ (IsFault status × IsUntold io))
 
-  tell_words : (question : Question) → TellEnds question before after status → status ≢ BadWords
-  tell_words question (inl (inl h)) = form_words question h
-  tell_words question (inl (inr h)) = told_words (disk_status h.0) _ (disk_words h.0) h.1
-  tell_words question (inr h) = told_words (open_status h.0) _ (open_words h.0) h.1
+  -- of a script that was cut both streams have something
+  abbrev FormKind : Question → Type 0
+  FormKind dump = ((status ≢ BadWords) × IsSilent io) ⊎ IsFault status
+  FormKind question = Plain
 
-  file_words : (image : MemoryImage) → TellsExecutable image before after status → status ≢ BadWords
-  file_words image (inl h) = told_words Done _ done_words h.2
-  file_words image (inr h) = same_words (executable_status h.0) status (executable_words h.0) h.2
+  -- and of an executable file
+  abbrev ReplyKind : Telling → Type 0
+  ReplyKind Text = Plain
+  ReplyKind Executable = status ≢ BadWords
 
-  tells_words : (telling : Telling) (r : Reply) → Tells telling r before after status → status ≢ BadWords
-  tells_words Text r h = told_words (reply_status r) _ (reply_words r) h
-  tells_words Executable (reply.Bound image) h = file_words image h
-  tells_words Executable (reply.Refused r) h = same_words (refusal_status r) status (refusal_words r) h.0
-  tells_words Executable other h = same_words Done status done_words h.0
+  abbrev Kind : Deed → Type 0
+  Kind (tell question) = FormKind question
+  Kind (replace path) = ReplyKind Text
+  Kind (remove name) = ReplyKind Text
+  Kind (executable path base) = ReplyKind Executable
 
-  request_words : {D : Type 0} (facts : D → DiskFacts) (disk left : D) (asked : Request) (telling : Telling)
-      → RequestEnds facts disk asked telling before after status left → status ≢ BadWords
-  request_words facts disk left asked telling (inl h) = tells_words telling h.0 h.2
-  request_words facts disk left asked telling (inr h) = same_words (disk_status h.0) status (disk_words h.0) h.2
+  told : (ends : Status) (text : List ℕ) → ends ≢ BadWords → TellsOnly ends text io status → Plain
+  told ends text other (inl h) = inl (same_words ends status other h.0, h.2)
+  told ends text other (inr h) = inr (inl h.0)
+
+  untold : (ends : Status) → IsFault ends → status ≡ ends → IsUntold io → Plain
+  untold ends fault is none = inr (inr (same_fault ends status fault is, none))
+
+  said : (ends : Status) (line : List ℕ) → IsFault ends → SaysOnly ends line io status → Plain
+  said ends line fault h = untold ends fault h.0 h.1
+
+  cut : (old new : DiskFacts) → IsCut old new io status → IsFault status
+  cut old new (inl h) = same_fault (cut_status h.0) status (cut_fault h.0 h.3) h.5
+  cut old new (inr h) = same_fault NoMemory status memory_fault h.0
+
+  form_kind : (old new : DiskFacts) (question : Question) → FormTells old new question io status → FormKind question
+  form_kind old new info h = told Done _ done_words h.1
+  form_kind old new check (inl h) = told (check_status h.1) _ (check_words h.1) h.4
+  form_kind old new check (inr h) = said NoMemory _ memory_fault h
+  form_kind old new (file name) (inl h) = told Done _ done_words h.1
+  form_kind old new (file name) (inr (inl h)) = said Refused _ refused_fault h
+  form_kind old new (file name) (inr (inr (inl h))) = said Failed _ failed_fault h.1
+  form_kind old new (file name) (inr (inr (inr h))) = said NoMemory _ memory_fault h
+  form_kind old new dump (inl h) = inl (same_words Done status done_words h.2, h.4)
+  form_kind old new dump (inr (inl h)) = inr (cut old new h.1)
+  form_kind old new dump (inr (inr h)) = inr (same_fault Failed status failed_fault h.0)
+
+  unopened_kind : (question : Question) (ends : Status) → IsFault ends → EndsUnopened question ends io.before io.after status → FormKind question
+  unopened_kind info ends fault h = untold ends fault h.0 h.1
+  unopened_kind check ends fault h = untold ends fault h.0 h.1
+  unopened_kind (file name) ends fault h = untold ends fault h.0 h.1
+  unopened_kind dump ends fault (inl h) = inr (same_fault ends status fault h.0)
+  unopened_kind dump ends fault (inr h) = inr (same_fault Failed status failed_fault h)
+
+  file_words : (image : MemoryImage) → TellsExecutable image io status → status ≢ BadWords
+  file_words image (inl h) = ⊎_elim (λ done. same_words Done status done_words done.0) (λ failed. same_words Failed status failed_fault.1 failed.0) h.2
+  file_words image (inr h) = same_words (executable_status h.0) status (executable_fault h.0).1 h.2.0
+
+  reply_kind : (telling : Telling) (r : Reply) → TellsReply telling r io status → ReplyKind telling
+  reply_kind Text r h = told (reply_status r) _ (reply_words r) h
+  reply_kind Executable (reply.Bound image) h = file_words image h
+  reply_kind Executable (reply.Refused r) h = same_words (refusal_status r) status (refusal_fault r).1 h.0
+  reply_kind Executable other h = same_words Done status done_words h.0
+
+  untold_kind : (telling : Telling) (ends : Status) → IsFault ends → status ≡ ends → IsUntold io → ReplyKind telling
+  untold_kind Text ends fault is none = untold ends fault is none
+  untold_kind Executable ends fault is none = same_words ends status fault.1 is
+
+  request_kind : {D : Type 0} (facts : D → DiskFacts) (disk left : D) (asked : Request) (telling : Telling)
+      → RequestEnds facts disk asked telling io status left → ReplyKind telling
+  request_kind facts disk left asked telling (inl h) = reply_kind telling h.0 h.2
+  request_kind facts disk left asked telling (inr h) = untold_kind telling (disk_status h.0) (disk_fault h.0) h.2.0 h.2.1
 
   module _ (F : Type 0) where
-    ask_words : (asked : Request) (telling : Telling) → AskEnds F asked telling before after status → status ≢ BadWords
-    ask_words asked telling (inl h) = request_words file_facts h.0 h.1 asked telling h.3
-    ask_words asked telling (inr h) = same_words (open_status h.0) status (open_words h.0) h.1
+    tell_kind : (question : Question) → TellEnds F question io status → FormKind question
+    tell_kind question (inl h) = ⊎_elim
+        (λ asked. form_kind (file_facts asked.store.disk) (file_facts h.1) question asked.told)
+        (λ refused. unopened_kind question (disk_status refused.0) (disk_fault refused.0) refused.2)
+        h.3
+    tell_kind question (inr h) = unopened_kind question (open_status h.0) (open_fault h.0) h.1
 
-    read_file_words : (asked : List ℕ → Request) (telling : Telling) → ReadEnds F asked telling before after status → status ≢ BadWords
-    read_file_words asked telling (inl h) = ask_words (asked h.0) telling h.2
-    read_file_words asked telling (inr h) = same_words (read_status h.0) status (read_words h.0) h.1
+    ask_kind : (asked : Request) (telling : Telling) → AskEnds F asked telling io status → ReplyKind telling
+    ask_kind asked telling (inl h) = request_kind file_facts h.0 h.1 asked telling h.3
+    ask_kind asked telling (inr h) = untold_kind telling (open_status h.0) (open_fault h.0) h.1 h.2
 
-    deed_words : (deed : Deed) → DeedEnds F deed before after status → status ≢ BadWords
-    deed_words (tell question) h = tell_words question h
-    deed_words (replace path) h = read_file_words _ Text h
-    deed_words (remove name) h = ask_words _ Text h
-    deed_words (executable path base) h = read_file_words _ Executable h
+    read_kind : (asked : List ℕ → Request) (telling : Telling) → ReadEnds F asked telling io status → ReplyKind telling
+    read_kind asked telling (inl h) = ask_kind (asked h.0) telling h.2
+    read_kind asked telling (inr h) = untold_kind telling (read_status h.0) (read_fault h.0) h.1 h.2
 
-    end_words : (line : CommandLine) → IsEnd F line before after status → status ≢ BadWords
-    end_words line = ⊎_elim (deed_words line.deed) (λ h. same_words Failed status failed_words h.0)
+    deed_kind : (deed : Deed) → DeedEnds F deed io status → Kind deed
+    deed_kind (tell question) h = tell_kind question h
+    deed_kind (replace path) h = read_kind _ Text h
+    deed_kind (remove name) h = ask_kind _ Text h
+    deed_kind (executable path base) h = read_kind _ Executable h
 
--- no other status has their number
+  -- ---- what follows from the kind
+
+  plain_words : Plain → status ≢ BadWords
+  plain_words (inl h) = h.0
+  plain_words (inr (inl h)) = same_words Failed status failed_fault.1 h
+  plain_words (inr (inr h)) = h.0.1
+
+  kind_words : (deed : Deed) → Kind deed → status ≢ BadWords
+  kind_words (tell info) h = plain_words h
+  kind_words (tell check) h = plain_words h
+  kind_words (tell (file name)) h = plain_words h
+  kind_words (tell dump) h = ⊎_elim (λ silent. silent.0) (λ fault. fault.1) h
+  kind_words (replace path) h = plain_words h
+  kind_words (remove name) h = plain_words h
+  kind_words (executable path base) h = h
+
+  plain_silent : Plain → status ≡ Done → IsSilent io
+  plain_silent (inl h) done = h.1
+  plain_silent (inr (inl h)) done = cc (sym h ∙ done)
+  plain_silent (inr (inr h)) done = absurd (h.0.0 done)
+
+  kind_silent : (deed : Deed) → IsSilentDeed deed → Kind deed → status ≡ Done → IsSilent io
+  kind_silent (tell info) is h = plain_silent h
+  kind_silent (tell check) is h = plain_silent h
+  kind_silent (tell (file name)) is h = plain_silent h
+  kind_silent (tell dump) is (inl h) = λ done. h.1
+  kind_silent (tell dump) is (inr h) = λ done. absurd (h.0 done)
+  kind_silent (replace path) is h = plain_silent h
+  kind_silent (remove name) is h = plain_silent h
+  kind_silent (executable path base) is h = absurd is
+
+  plain_apart : Plain → status ≢ Failed → IsSilent io ⊎ IsUntold io
+  plain_apart (inl h) other = inl h.1
+  plain_apart (inr (inl h)) other = absurd (other h)
+  plain_apart (inr (inr h)) other = inr h.1
+
+  kind_apart : (deed : Deed) → IsApartDeed deed → Kind deed → status ≢ Failed → IsSilent io ⊎ IsUntold io
+  kind_apart (tell info) is h = plain_apart h
+  kind_apart (tell check) is h = plain_apart h
+  kind_apart (tell (file name)) is h = plain_apart h
+  kind_apart (tell dump) is h = absurd is
+  kind_apart (replace path) is h = plain_apart h
+  kind_apart (remove name) is h = plain_apart h
+  kind_apart (executable path base) is h = absurd is
+
+-- ---- a line, by its number
+
 number_words : (status : Status) → status ≢ BadWords → status_number status ≢ 2
 number_words Done other h = omega (arith, h)
 number_words Refused other h = omega (arith, h)
@@ -150,6 +257,26 @@ number_words BadWords other h = other refl
 number_words Failed other h = omega (arith, h)
 number_words NoMemory other h = omega (arith, h)
 
--- a line ends with no such number
-pub line_words : (F : Type 0) (line : CommandLine) (before after : Option (List ℕ)) (number : ℕ) → LineEnds F line before after number → number ≢ 2
-line_words F line before after number h is = number_words h.0 (end_words before after h.0 F line h.1) (sym h.2 ∙ is)
+number_done : (status : Status) → status_number status ≡ 0 → status ≡ Done
+number_done Done h = refl
+number_done Refused h = absurd (omega (arith, h))
+number_done BadWords h = absurd (omega (arith, h))
+number_done Failed h = absurd (omega (arith, h))
+number_done NoMemory h = absurd (omega (arith, h))
+
+module _ (F : Type 0) (line : CommandLine) (io : Streams) (number : ℕ) (h : LineEnds F line io number) where
+  -- a line ends with no such number
+  pub line_words : number ≢ 2
+  line_words is =
+      number_words h.0
+      (⊎_elim (λ deed. kind_words io h.0 line.deed (deed_kind io h.0 F line.deed deed)) (λ behind. same_words Failed h.0 failed_fault.1 behind.0) h.1)
+      (sym h.2 ∙ is)
+
+  pub line_silent : IsSilentDeed line.deed → number ≡ 0 → IsSilent io
+  line_silent deed is =
+      let done = number_done h.0 (sym h.2 ∙ is) in
+      ⊎_elim (λ did. kind_silent io h.0 line.deed deed (deed_kind io h.0 F line.deed did) done) (λ behind. cc (sym behind.0 ∙ done)) h.1
+
+  pub line_apart : IsApartDeed line.deed → number ≢ 3 → IsSilent io ⊎ IsUntold io
+  line_apart deed other =
+      ⊎_elim (λ did. kind_apart io h.0 line.deed deed (deed_kind io h.0 F line.deed did) (λ failed. other (h.2 ∙ ap status_number failed))) (λ behind. inr behind.1) h.1

@@ -26,7 +26,7 @@ name_within (b ∷ name) h =
     All-cons (λ b. b ≢ 10) b name (λ e. omega (arith, visible.0.0, e)) (name_within name (All-tail IsNameByte b name h))
 
 -- what holds of each element and of 0 holds at each place, since past the end there is 0
-at_each : (P : ℕ → Type 0) → P 0 → (xs : List ℕ) → All P xs → (i : ℕ) → P (slice_index xs i)
+pub at_each : (P : ℕ → Type 0) → P 0 → (xs : List ℕ) → All P xs → (i : ℕ) → P (slice_index xs i)
 at_each P z [] h i = z
 at_each P z (x ∷ xs) h zero = All-head P x xs h
 at_each P z (x ∷ xs) h (suc i) = at_each P z xs (All-tail P x xs h) i

@@ -1,11 +1,12 @@
 -- What is told of each library (own).
-use Rattle.std.specs.Prelude.{◌≡◌, ℕ, ◌<◌, List, [], ◌∷◌, ◌++◌, length, slice_index_or, Bool, true, false, if◌then◌else◌, codes}
+use Rattle.std.specs.Prelude.{◌≡◌, ℕ, ◌+◌, ◌<◌, ◌≤◌, List, [], ◌∷◌, ◌++◌, length, slice_index_or, Bool, true, false, if◌then◌else◌, codes, count_by}
 use Rattle.std.specs.List.{list_all}
 use Rattle.std.specs.Fmt.{decimal}
+use Rattle.sector_disk.specs.Disk.{DiskFacts}
 use Rattle.states.specs.State.{Library}
 use Rattle.store.specs.Stands.{no_library}
 use Rattle.text_output.specs.Name.{name_text}
-use Rattle.contents.specs.Finding.{IsFinding}
+use Rattle.contents.specs.Finding.{IsFinding, is_unreadable}
 use Rattle.contents.specs.declared.finding.Finding.{Finding}
 use Rattle.contents.specs.declared.finding.Finding.TheVariants.{Sound, Refused, OtherName, Unreadable}
 use Rattle.program_parts.specs.Refusal.{file_refusal_text}
@@ -36,6 +37,10 @@ check_text libraries findings = findings_text libraries findings ++ codes "end\n
 pub record AreFindings (libraries : List Library) (findings : List Finding) : Type 0 where
   pub all : length findings ≡ length libraries
   pub each : (i : ℕ) → i < length libraries → (d : Finding) → IsFinding (slice_index_or libraries i no_library) (slice_index_or findings i d)
+
+-- for each that can't be read a call of the disk failed
+abbrev pub HaveFailed : (old new : DiskFacts) → List Finding → Type 0
+HaveFailed old new findings = old.failures + count_by is_unreadable findings ≤ new.failures
 
 -- it is a library of its name
 abbrev pub is_sound : Finding → Bool

@@ -1,30 +1,33 @@
--- What the forms end with, over a state: the text that was appended to the output, and the status.
-use Rattle.std.specs.Prelude.{◌≡◌, ◌≢◌, ◌⊎◌, ◌↔◌, ◌≤◌, ◌<◌, ℕ, List, [], All, None, Option, length, slice_index_or, codes}
-use Rattle.std.specs.Io.KnownBytes.{Appends}
+-- What the forms end with, over a state, and what a disk ends with: what was told and said, and the status (own).
+use Rattle.std.specs.Prelude.{◌≡◌, ◌≢◌, ◌⊎◌, ◌↔◌, ◌+◌, ◌≤◌, ◌<◌, ℕ, List, All, Option, None, Ok, Err, length, slice_index_or, codes}
 use Rattle.extents.specs.Layout.{free_count}
 use Rattle.extents.specs.Runs.{free_runs}
 use Rattle.requests.specs.Library.{IsLibrary}
-use Rattle.sector_disk.specs.Disk.{DiskFacts}
-use Rattle.states.specs.State.{State}
+use Rattle.sector_disk.specs.Disk.{AreCallsExactly, DiskFacts}
+use Rattle.states.specs.State.{Library, State}
+use Rattle.store.specs.HeldVersions.{layout_in_use}
+use Rattle.store.specs.IsRead.{IsRead}
 use Rattle.store.specs.Names.{IsFileSize}
 use Rattle.store.specs.Opened.{IsAt, Opened}
-use Rattle.store.specs.HeldVersions.{layout_in_use}
-use Rattle.store.specs.Opening.{RefusesOpen}
-use Rattle.store.specs.Stands.{Stands, no_library}
+use Rattle.store.specs.Opens.{Opens}
+use Rattle.store.specs.Stands.{Stands, catalogues_of, no_library}
 use Rattle.store.specs.Step.{longest_free, refusal_of_new}
 use Rattle.store.specs.declared.refusal.StoreRefusal.{StoreRefusal}
 use Rattle.contents.specs.File.{HasFile}
 use Rattle.contents.specs.Finding.{IsFinding}
 use Rattle.contents.specs.declared.finding.Finding.{Finding}
-use Rattle.contents.specs.declared.finding.Finding.TheVariants.{Sound}
+use Rattle.contents.specs.declared.finding.Finding.TheVariants.{Sound, Unreadable}
 use Rattle.program_parts.specs.Status.{disk_status}
 use Rattle.program_parts.specs.Told.{IsTold}
 use Rattle.program_parts.specs.declared.status.Status.{Status}
-use Rattle.program_parts.specs.declared.status.Status.TheVariants.{Done, Refused, Failed, NoMemory}
-use Rattle.tool_commands.specs.Check.{AreFindings, check_text, check_status}
+use Rattle.program_parts.specs.declared.status.Status.TheVariants.{Done, Refused, NoMemory}
+use Rattle.tool_commands.specs.AnyDisk.{FormTells, IsUnread}
+use Rattle.tool_commands.specs.Check.{AreFindings, HaveFailed, check_text, check_status, finding_text}
 use Rattle.tool_commands.specs.Dump.{cut_status, cut_text, dump_text}
 use Rattle.tool_commands.specs.Form.{Question, info, check, file, dump}
 use Rattle.tool_commands.specs.Info.{info_text}
+use Rattle.tool_commands.specs.Said.{memory_line, not_installed_line, refusal_line, said_line}
+use Rattle.tool_commands.specs.Streams.{Streams, CannotWrite, IsSilent, Says, SaysOnly, Tells, TellsOnly}
 
 -- An install of a file of a new name meets no refusal exactly up to this length: it is 0, or the
 -- length of a file.
@@ -34,54 +37,75 @@ pub record IsLargest {D : Type 0} (facts : D → DiskFacts) (store : Opened D) (
   pub form : (largest ≡ 0) ⊎ IsFileSize largest
 
 -- `info`: each number by its definition
-abbrev pub InfoEnds : {D : Type 0} → (D → DiskFacts) → Opened D → State → Option (List ℕ) → Option (List ℕ) → Status → Type 0
-InfoEnds facts store s before after status = (largest : ℕ) × IsLargest facts store s largest
-    × IsTold Done (info_text (facts store.disk).sectors s.generation (length s.libraries) (length s.preloads)
-    (free_count (layout_in_use store)) (length (free_runs (layout_in_use store))) largest) before after status
+abbrev pub InfoEnds : {D : Type 0} → (D → DiskFacts) → Opened D → State → Streams → Status → Type 0
+InfoEnds facts store s io status = (largest : ℕ) × IsLargest facts store s largest
+    × TellsOnly Done (info_text (facts store.disk).sectors s.generation (length s.libraries) (length s.preloads)
+    (free_count (layout_in_use store)) (length (free_runs (layout_in_use store))) largest) io status
 
--- `check`: of each library what is found of it; or memory was refused
-abbrev pub CheckEnds : State → Option (List ℕ) → Option (List ℕ) → Status → Type 0
-CheckEnds s before after status =
-    ((findings : List Finding) × AreFindings s.libraries findings × IsTold (check_status findings) (check_text s.libraries findings) before after status)
-    ⊎ ((status ≡ NoMemory) × (after ≡ before))
+-- what is told by reading byte strings, which took a disk from the one to the other
+module _ (old new : DiskFacts) where
+  -- `check`: of each library what is found of it, and for each that can't be read a call failed; or
+  -- memory was refused
+  abbrev pub CheckEnds : State → Streams → Status → Type 0
+  CheckEnds s io status =
+      ((findings : List Finding) × AreFindings s.libraries findings × HaveFailed old new findings
+      × TellsOnly (check_status findings) (check_text s.libraries findings) io status)
+      ⊎ SaysOnly NoMemory memory_line io status
 
--- `file`: exactly the bytes of the library of this name, or there is none; or a read of the disk
--- failed, or memory was refused
-abbrev pub FileEnds : State → List ℕ → Option (List ℕ) → Option (List ℕ) → Status → Type 0
-FileEnds s name before after status =
-    ((bytes : List ℕ) × HasFile s name bytes × IsTold Done bytes before after status)
-    ⊎ ((All (λ library. library.name ≢ name) s.libraries × (status ≡ Refused) × (after ≡ before))
-    ⊎ (((status ≡ Failed) ⊎ (status ≡ NoMemory)) × (after ≡ before)))
+  -- `file`: exactly the bytes of the library of this name, or there is none; or they can't be read
+  abbrev pub FileEnds : State → List ℕ → Streams → Status → Type 0
+  FileEnds s name io status =
+      ((bytes : List ℕ) × HasFile s name bytes × TellsOnly Done bytes io status)
+      ⊎ ((All (λ library. library.name ≢ name) s.libraries × SaysOnly Refused not_installed_line io status)
+      ⊎ IsUnread old new io status)
 
--- why a script is cut at the library at a position: it can't be read or isn't one of its name, or
--- memory was refused
-abbrev pub IsCutAt : State → ℕ → Status → Type 0
-IsCutAt s k status = (k < length s.libraries)
-    × (((finding : Finding) × IsFinding (slice_index_or s.libraries k no_library) finding × (finding ≢ Sound) × (status ≡ cut_status finding))
-    ⊎ (status ≡ NoMemory))
+  -- why a script is cut at a library, which is said: it can't be read, since a call failed, or isn't
+  -- one of its name, or memory was refused
+  abbrev pub IsCutFor : Library → Streams → Status → Type 0
+  IsCutFor l io status =
+      ((finding : Finding) × IsFinding l finding × (finding ≢ Sound) × (finding ≡ Unreadable → old.failures < new.failures)
+      × (status ≡ cut_status finding) × Says io (said_line (finding_text l finding)))
+      ⊎ ((status ≡ NoMemory) × Says io memory_line)
 
--- `dump`: exactly the script, and each library is one of its name; or the script was cut; or the
--- writer failed
-abbrev pub DumpEnds : State → Option (List ℕ) → Option (List ℕ) → Status → Type 0
-DumpEnds s before after status =
-    ((status ≡ Done) × All IsLibrary s.libraries × Appends before after (dump_text s))
-    ⊎ (((k : ℕ) × IsCutAt s k status × Appends before after (cut_text s k)) ⊎ (status ≡ Failed))
+  -- `dump`: exactly the script, and each library is one of its name; or exactly the script up to a
+  -- library, cut there; or the output failed
+  abbrev pub DumpEnds : State → Streams → Status → Type 0
+  DumpEnds s io status =
+      ((status ≡ Done) × All IsLibrary s.libraries × Tells io (dump_text s) × IsSilent io)
+      ⊎ (((k : ℕ) × (k < length s.libraries) × IsCutFor (slice_index_or s.libraries k no_library) io status × Tells io (cut_text s k))
+      ⊎ CannotWrite io status)
 
--- what is asked of an opened disk
-abbrev pub FormEnds : {D : Type 0} → (D → DiskFacts) → Opened D → State → Question → Option (List ℕ) → Option (List ℕ) → Status → Type 0
-FormEnds facts store s info before after status = InfoEnds facts store s before after status
-FormEnds facts store s check before after status = CheckEnds s before after status
-FormEnds facts store s (file name) before after status = FileEnds s name before after status
-FormEnds facts store s dump before after status = DumpEnds s before after status
+-- what is asked of an opened disk, whose calls left it so
+abbrev pub FormEnds : {D : Type 0} → (D → DiskFacts) → Opened D → D → State → Question → Streams → Status → Type 0
+FormEnds facts store left s info io status = InfoEnds facts store s io status
+FormEnds facts store left s check io status = CheckEnds (facts store.disk) (facts left) s io status
+FormEnds facts store left s (file name) io status = FileEnds (facts store.disk) (facts left) s name io status
+FormEnds facts store left s dump io status = DumpEnds (facts store.disk) (facts left) s io status
 
--- a disk that isn't opened: nothing was appended, but of a script that it is cut
-abbrev pub cut_of : Question → List ℕ
-cut_of dump = codes "cut"
-cut_of question = []
+-- a disk that isn't opened: nothing is told, but of a script that it is cut, unless the output failed
+abbrev pub EndsUnopened : Question → Status → Option (List ℕ) → Option (List ℕ) → Status → Type 0
+EndsUnopened dump ends before after status = IsTold ends (codes "cut") before after status
+EndsUnopened question ends before after status = (status ≡ ends) × (after ≡ before)
 
--- Over an honest disk: what is asked is done over each state that reads of it give, or the disk is
--- refused for a reason.
-abbrev pub DiskEnds : {D : Type 0} → (D → DiskFacts) → D → Question → Option (List ℕ) → Option (List ℕ) → Status → Type 0
-DiskEnds facts disk question before after status =
-    ((s : State) × Stands (facts disk).now s × (store : Opened _) × IsAt facts store s × FormEnds facts store s question before after status)
-    ⊎ ((refusal : StoreRefusal) × RefusesOpen Stands (facts disk).now refusal × IsTold (disk_status refusal) (cut_of question) before after status)
+-- A disk was opened, whatever named byte strings it holds, what is asked of it was told, and it is
+-- handed back so.
+pub record IsAsked {D : Type 0} (facts : D → DiskFacts) (disk : D) (question : Question) (io : Streams) (status : Status) (left : D) : Type 0 where
+  pub store : Opened D
+  pub opened : Opens Stands facts (IsAt facts) disk (Ok store)
+  -- no file was read
+  pub opening_calls : AreCallsExactly (3 + length (catalogues_of store.root) + length store.entries) (facts disk) (facts store.disk)
+  -- and then it was only read
+  pub read : Opened D
+  pub only_read : IsRead facts store read
+  pub back : left ≡ read.disk
+  -- an honest disk is at one state, and what is asked is told of that
+  pub ends : (s : State) → IsAt facts store s → FormEnds facts store left s question io status
+  -- on any disk, also on one that lies
+  pub told : FormTells (facts store.disk) (facts left) question io status
+
+-- what is asked of a disk is told, or the disk was refused and handed back, which is said
+abbrev pub DiskEnds : {D : Type 0} → (D → DiskFacts) → D → Question → Streams → Status → D → Type 0
+DiskEnds facts disk question io status left =
+    IsAsked facts disk question io status left
+    ⊎ ((refusal : StoreRefusal) × Opens Stands facts (IsAt facts) disk (Err (refusal, left))
+    × EndsUnopened question (disk_status refusal) io.before io.after status × Says io (refusal_line refusal))

@@ -1,5 +1,5 @@
 -- The executable file of a bound program, and what is told of it (own).
-use Rattle.std.specs.Prelude.{◌≡◌, ◌⊎◌, ℕ, List, [], All, ◌++◌, Option, Some, None, codes, nat_lt, if◌then◌else◌}
+use Rattle.std.specs.Prelude.{◌≡◌, ◌⊎◌, ◌≤◌, ℕ, List, All, ◌++◌, Some, None, codes}
 use Rattle.elf_file.specs.Header.{entry_address, header_count}
 use Rattle.elf_file.specs.Segment.{loads}
 use Rattle.text_output.specs.Name.{name_text}
@@ -10,10 +10,10 @@ use Rattle.executable.specs.Refusal.{IsAnswer, executable_refusal}
 use Rattle.executable.specs.declared.refusal.ExecutableRefusal.{ExecutableRefusal}
 use Rattle.executable.specs.declared.refusal.ExecutableRefusal.TheVariants as refusal
 use Rattle.program_parts.specs.Refusal.{memory_text}
-use Rattle.program_parts.specs.Told.{IsTold}
 use Rattle.program_parts.specs.declared.status.Status.{Status}
 use Rattle.program_parts.specs.declared.status.Status.TheVariants.{Done, Refused, NoMemory}
-use Rattle.tool_commands.specs.Said.{cannot_write_line, said_line}
+use Rattle.tool_commands.specs.Said.{said_line}
+use Rattle.tool_commands.specs.Streams.{Streams, CannotWrite, IsSilent, Says, SaysOnly, Tells}
 
 -- No test refuses the image, and the file loads its bytes, and besides only its own headers, and
 -- zeros where segments share a page.
@@ -44,22 +44,21 @@ executable_refusal_text refusal.OutOfMemory = memory_text
 abbrev pub many_headers_line : List ℕ
 many_headers_line = said_line (codes "Linux before 6.17 starts no file with more than 73 program headers\n")
 
--- what is said beside a file of its program headers
-abbrev pub header_word : List ℕ → List ℕ
-header_word file = if nat_lt 73 (header_count file) then many_headers_line else []
-
--- what is said beside a file, or in its place
-abbrev pub said_beside : List ℕ → Status → List ℕ
-said_beside file Done = header_word file
-said_beside file other = cannot_write_line
+-- nothing but that is said beside a file, and not even that where it has no more
+abbrev pub SaysBeside : List ℕ → Streams → Type 0
+SaysBeside file io = Says io many_headers_line × (header_count file ≤ 73 → IsSilent io)
 
 -- what it ends with
 abbrev pub executable_status : ExecutableRefusal → Status
 executable_status refusal.OutOfMemory = NoMemory
 executable_status other = Refused
 
--- exactly the image's file was appended; or there is none, and nothing was
-abbrev pub TellsExecutable : MemoryImage → Option (List ℕ) → Option (List ℕ) → Status → Type 0
-TellsExecutable image before after status =
-    ((file : List ℕ) × IsExecutableOf image file × IsTold Done file before after status)
-    ⊎ ((refusal : ExecutableRefusal) × IsAnswer image refusal × (status ≡ executable_status refusal) × (after ≡ before))
+-- exactly this file was told; or the output failed
+abbrev pub TellsFile : List ℕ → Streams → Status → Type 0
+TellsFile file io status = ((status ≡ Done) × Tells io file × SaysBeside file io) ⊎ CannotWrite io status
+
+-- exactly the image's file was told; or there is none, and why is said
+abbrev pub TellsExecutable : MemoryImage → Streams → Status → Type 0
+TellsExecutable image io status =
+    ((file : List ℕ) × IsExecutableOf image file × TellsFile file io status)
+    ⊎ ((refusal : ExecutableRefusal) × IsAnswer image refusal × SaysOnly (executable_status refusal) (said_line (executable_refusal_text refusal)) io status)

@@ -8,5 +8,6 @@ pub mod Info
 pub mod Outcome
 pub mod Request
 pub mod Said
+pub mod Streams
 pub mod Telling
 pub mod inside

@@ -7,16 +7,18 @@ use Rattle.file_disk.specs.declared.disk.FileDisk.{FileDisk}
 use Rattle.file_disk.specs.declared.open.OpenFault.{OpenFault}
 use Rattle.file_disk.specs.declared.open.OpenFault.TheVariants as disk_file
 use Rattle.program_parts.specs.File.{read_limit}
+use Rattle.program_parts.specs.Said.{AppendsFront}
 use Rattle.program_parts.specs.Status.{status_number}
-use Rattle.program_parts.specs.Told.{IsTold}
 use Rattle.program_parts.specs.declared.file.FileFault.{FileFault}
 use Rattle.program_parts.specs.declared.file.FileFault.TheVariants as read_file
 use Rattle.program_parts.specs.declared.status.Status.{Status}
 use Rattle.program_parts.specs.declared.status.Status.TheVariants.{Refused, Failed, NoMemory}
-use Rattle.tool_commands.specs.AnyDisk.{DiskTells}
-use Rattle.tool_commands.specs.Ends.{cut_of}
-use Rattle.tool_commands.specs.Form.{CommandLine, Deed, Question, tell, replace, remove, executable}
+use Rattle.store.specs.declared.refusal.StoreRefusal.TheVariants.{BadGeometry}
+use Rattle.tool_commands.specs.Ends.{DiskEnds, EndsUnopened}
+use Rattle.tool_commands.specs.Form.{CommandLine, Deed, Question, dump, tell, replace, remove, executable}
 use Rattle.tool_commands.specs.Request.{RequestEnds}
+use Rattle.tool_commands.specs.Said.{memory_line, refusal_line}
+use Rattle.tool_commands.specs.Streams.{Streams, IsUntold}
 use Rattle.tool_commands.specs.declared.telling.Telling.{Telling}
 use Rattle.tool_commands.specs.declared.telling.Telling.TheVariants.{Text, Executable}
 
@@ -31,36 +33,58 @@ abbrev pub read_status : FileFault → Status
 read_status read_file.CannotRead = Failed
 read_status read_file.OutOfMemory = NoMemory
 
--- a form is told of a disk, or no disk was opened
-abbrev pub TellEnds : Question → Option (List ℕ) → Option (List ℕ) → Status → Type 0
-TellEnds question before after status =
-    DiskTells question before after status
-    ⊎ ((fault : OpenFault) × IsTold (open_status fault) (cut_of question) before after status)
+-- what is said of a file that isn't opened as a disk: of one that can't be opened that it can't be
+-- read, whatever standard error took of it
+abbrev pub SaysFault : OpenFault → Option (List ℕ) → Option (List ℕ) → Type 0
+SaysFault disk_file.CannotOpen before after = Unit {0}
+SaysFault disk_file.BadLength before after = AppendsFront before after (refusal_line BadGeometry)
+SaysFault disk_file.OutOfMemory before after = AppendsFront before after memory_line
 
--- a request was made of the registry on a new disk over a file; or no disk was opened, and nothing
--- was appended
-abbrev pub AskEnds : (F : Type 0) → Request → Telling → Option (List ℕ) → Option (List ℕ) → Status → Type 0
-AskEnds F asked telling before after status =
-    ((disk : FileDisk F) × (left : FileDisk F) × IsNew disk × RequestEnds file_facts disk asked telling before after status left)
-    ⊎ ((fault : OpenFault) × (status ≡ open_status fault) × (after ≡ before))
+-- what is said of a file that isn't read
+abbrev pub SaysUnread : FileFault → Option (List ℕ) → Option (List ℕ) → Type 0
+SaysUnread read_file.CannotRead before after = Unit {0}
+SaysUnread read_file.OutOfMemory before after = AppendsFront before after memory_line
 
--- the same of a request with the bytes of a file; or it wasn't read, and nothing was appended
-abbrev pub ReadEnds : (F : Type 0) → (List ℕ → Request) → Telling → Option (List ℕ) → Option (List ℕ) → Status → Type 0
-ReadEnds F asked telling before after status =
-    ((bytes : List ℕ) × (length bytes < read_limit) × AskEnds F (asked bytes) telling before after status)
-    ⊎ ((fault : FileFault) × (status ≡ read_status fault) × (after ≡ before))
+-- a form is told of a new disk over a file; or no disk was opened, which is said
+abbrev pub TellEnds : (F : Type 0) → Question → Streams → Status → Type 0
+TellEnds F question io status =
+    ((disk : FileDisk F) × (left : FileDisk F) × IsNew disk × DiskEnds file_facts disk question io status left)
+    ⊎ ((fault : OpenFault) × EndsUnopened question (open_status fault) io.before io.after status × SaysFault fault io.errors_before io.errors_after)
+
+-- a request was made of the registry on a new disk over a file; or no disk was opened, which is
+-- said, and nothing was told
+abbrev pub AskEnds : (F : Type 0) → Request → Telling → Streams → Status → Type 0
+AskEnds F asked telling io status =
+    ((disk : FileDisk F) × (left : FileDisk F) × IsNew disk × RequestEnds file_facts disk asked telling io status left)
+    ⊎ ((fault : OpenFault) × (status ≡ open_status fault) × IsUntold io × SaysFault fault io.errors_before io.errors_after)
+
+-- the same of a request with the bytes of a file; or it wasn't read, which is said, and nothing was told
+abbrev pub ReadEnds : (F : Type 0) → (List ℕ → Request) → Telling → Streams → Status → Type 0
+ReadEnds F asked telling io status =
+    ((bytes : List ℕ) × (length bytes < read_limit) × AskEnds F (asked bytes) telling io status)
+    ⊎ ((fault : FileFault) × (status ≡ read_status fault) × IsUntold io × SaysUnread fault io.errors_before io.errors_after)
 
 -- what is done
-abbrev pub DeedEnds : (F : Type 0) → Deed → Option (List ℕ) → Option (List ℕ) → Status → Type 0
-DeedEnds F (tell question) before after status = TellEnds question before after status
-DeedEnds F (replace path) before after status = ReadEnds F request.replace Text before after status
-DeedEnds F (remove name) before after status = AskEnds F (request.remove name) Text before after status
-DeedEnds F (executable path base) before after status = ReadEnds F (λ bytes. request.bind bytes base) Executable before after status
+abbrev pub DeedEnds : (F : Type 0) → Deed → Streams → Status → Type 0
+DeedEnds F (tell question) io status = TellEnds F question io status
+DeedEnds F (replace path) io status = ReadEnds F request.replace Text io status
+DeedEnds F (remove name) io status = AskEnds F (request.remove name) Text io status
+DeedEnds F (executable path base) io status = ReadEnds F (λ bytes. request.bind bytes base) Executable io status
 
--- a command line is done; or its disk is the file behind a standard stream, and nothing was appended
-abbrev pub IsEnd : (F : Type 0) → CommandLine → Option (List ℕ) → Option (List ℕ) → Status → Type 0
-IsEnd F line before after status = DeedEnds F line.deed before after status ⊎ ((status ≡ Failed) × (after ≡ before))
+-- a command line is done; or its disk is the file behind a standard stream, and nothing was told
+abbrev pub IsEnd : (F : Type 0) → CommandLine → Streams → Status → Type 0
+IsEnd F line io status = DeedEnds F line.deed io status ⊎ ((status ≡ Failed) × IsUntold io)
 
 -- with the number that the process exits with
-abbrev pub LineEnds : (F : Type 0) → CommandLine → Option (List ℕ) → Option (List ℕ) → ℕ → Type 0
-LineEnds F line before after number = (status : Status) × IsEnd F line before after status × (number ≡ status_number status)
+abbrev pub LineEnds : (F : Type 0) → CommandLine → Streams → ℕ → Type 0
+LineEnds F line io number = (status : Status) × IsEnd F line io status × (number ≡ status_number status)
+
+-- what is done is silent at status 0: all but an executable file, beside which more may be said
+abbrev pub IsSilentDeed : Deed → Type 0
+IsSilentDeed (executable path base) = ⊥
+IsSilentDeed deed = Unit {0}
+
+-- something is said only where nothing is told, but for a script that is cut
+abbrev pub IsApartDeed : Deed → Type 0
+IsApartDeed (tell dump) = ⊥
+IsApartDeed deed = IsSilentDeed deed

@@ -1,5 +1,5 @@
 -- What a command does to a registry on a disk of which no file is read when it is opened, and what it tells (own).
-use Rattle.std.specs.Prelude.{◌≡◌, ◌≢◌, ◌⊎◌, ◌+◌, ℕ, List, Option, Ok, Err, IsTrue, length}
+use Rattle.std.specs.Prelude.{◌≡◌, ◌≢◌, ◌⊎◌, ◌+◌, List, Ok, Err, IsTrue, length}
 use Rattle.sector_disk.specs.Disk.{DiskFacts, Mixture, LeavesOnly, AreCallsExactly}
 use Rattle.states.specs.State.{State}
 use Rattle.store.specs.Opened.{Opened}
@@ -21,7 +21,9 @@ use Rattle.registry.specs.Phase.{phase_of}
 use Rattle.registry.specs.Untested.{AppliedUntested, AppliesUntested}
 use Rattle.program_parts.specs.Status.{disk_status}
 use Rattle.program_parts.specs.declared.status.Status.{Status}
-use Rattle.tool_commands.specs.Telling.{Tells}
+use Rattle.tool_commands.specs.Said.{refusal_line}
+use Rattle.tool_commands.specs.Streams.{Streams, SaysOnly}
+use Rattle.tool_commands.specs.Telling.{TellsReply}
 use Rattle.tool_commands.specs.declared.telling.Telling.{Telling}
 
 -- What such a registry answers to a command, and does.
@@ -59,9 +61,9 @@ pub record IsAnswered {D : Type 0} (facts : D → DiskFacts) (disk : D) (request
       → LeavesOnly (facts disk) (facts left) (Mixture (facts disk)) × ((facts left).now ≡ (facts disk).now)
   pub back : left ≡ new.disk
 
--- a command was answered and exactly its reply was told; or the disk was refused, and nothing was
--- appended to the output
-abbrev pub RequestEnds : {D : Type 0} → (D → DiskFacts) → D → Request → Telling → Option (List ℕ) → Option (List ℕ) → Status → D → Type 0
-RequestEnds facts disk request telling before after status left =
-    ((answer : Reply) × IsAnswered facts disk request answer left × Tells telling answer before after status)
-    ⊎ ((refusal : StoreRefusal) × Opens sectors.Stands facts (store.IsAt facts) disk (Err (refusal, left)) × (status ≡ disk_status refusal) × (after ≡ before))
+-- a command was answered and exactly its reply was told; or the disk was refused and handed back,
+-- which is said
+abbrev pub RequestEnds : {D : Type 0} → (D → DiskFacts) → D → Request → Telling → Streams → Status → D → Type 0
+RequestEnds facts disk request telling io status left =
+    ((answer : Reply) × IsAnswered facts disk request answer left × TellsReply telling answer io status)
+    ⊎ ((refusal : StoreRefusal) × Opens sectors.Stands facts (store.IsAt facts) disk (Err (refusal, left)) × SaysOnly (disk_status refusal) (refusal_line refusal) io status)

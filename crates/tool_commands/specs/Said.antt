@@ -1,6 +1,7 @@
 -- What is said on standard error (own).
 use Rattle.std.specs.Prelude.{ℕ, List, ◌++◌, codes}
 use Rattle.store.specs.declared.refusal.StoreRefusal.{StoreRefusal}
+use Rattle.store.specs.declared.refusal.StoreRefusal.TheVariants as store
 use Rattle.program_parts.specs.Refusal.{disk_refusal_text}
 
 -- each line but the usage begins with the program's name
@@ -10,6 +11,14 @@ said_line text = codes "rlibreg-tool: " ++ text
 -- why a disk is refused
 abbrev pub refusal_line : StoreRefusal → List ℕ
 refusal_line refusal = said_line (disk_refusal_text refusal)
+
+-- a call of the disk failed
+abbrev pub device_line : List ℕ
+device_line = refusal_line store.Device
+
+-- memory was refused
+abbrev pub memory_line : List ℕ
+memory_line = refusal_line store.OutOfMemory
 
 -- no library has the name
 abbrev pub not_installed_line : List ℕ

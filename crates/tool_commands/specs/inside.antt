@@ -1,3 +1,4 @@
 pub mod Lack
 pub mod Listed
+pub mod Unread
 pub mod WithFile

@@ -1,9 +1,9 @@
 // The words of the process.
 
-ghost use Rattle.std.specs.Prelude.{◌≡◌, ◌≤◌, ◌⊎◌, IfOk, IfSome, OnErr, None, map, string_bytes};
+ghost use Rattle.std.specs.Prelude.{◌≡◌, ◌≢◌, ◌≤◌, ◌⊎◌, IfOk, IfSome, OnErr, None, map, string_bytes};
 ghost use Rattle.file_disk.specs.declared.disk_file.DiskFile.{DiskFile};
 ghost use Rattle.tool_commands.specs.Form.{command_line};
-ghost use Rattle.tool_commands.specs.Outcome.{LineEnds};
+ghost use Rattle.tool_commands.specs.Outcome.{IsApartDeed, IsSilentDeed, LineEnds};
 
 use crate::command::run_words;
 use crate::said::{bad_words, say_refusal};
@@ -31,10 +31,23 @@ pub fn run_arguments<R: Files<File = File> + Clock, O: Write, E: Write>(
     ensures form { IfOk words (λ list.
         result ≡ 2 → command_line (map (λ word. string_bytes word) list.items) ≡ None) }
 
-    // Words of a form: what is told, and the status that goes with it.
+    // Words of a form: what is told and said, and the status that goes with it.
     ensures ends { IfOk words (λ list.
         IfSome (command_line (map (λ word. string_bytes word) list.items)) (λ line.
-        LineEnds DiskFile line (O.contents output.old) (O.contents output.new) result)) }
+        LineEnds DiskFile line (record {
+          before = O.contents output.old;
+          after = O.contents output.new;
+          errors_before = E.contents errors.old;
+          errors_after = E.contents errors.new;
+        }) result)) }
+    ensures silent { IfOk words (λ list.
+        IfSome (command_line (map (λ word. string_bytes word) list.items)) (λ line.
+        IsSilentDeed line.deed → result ≡ 0
+        → E.contents errors.new ≡ E.contents errors.old)) }
+    ensures apart { IfOk words (λ list.
+        IfSome (command_line (map (λ word. string_bytes word) list.items)) (λ line.
+        IsApartDeed line.deed → result ≢ 3 → (E.contents errors.new ≡ E.contents errors.old)
+        ⊎ (O.contents output.new ≡ O.contents output.old))) }
 
     // Words that weren't read: nothing is given to the output.
     ensures err { OnErr words ((result ≡ 2) ⊎ (result ≡ 4)) }

@@ -1,12 +1,12 @@
 // The executable file of a bound program.
 
-ghost use Rattle.std.specs.Prelude.{◌≡◌, ◌++◌, OnOk};
+ghost use Rattle.std.specs.Prelude.{◌≡◌, ◌≤◌, ◌++◌, OnOk};
+ghost use Rattle.elf_file.specs.Header.{header_count};
 ghost use Rattle.program_parts.specs.Said.{AppendsFront};
-ghost use Rattle.program_parts.specs.Told.{IsTold};
-ghost use Rattle.program_parts.specs.declared.status.Status.TheVariants.{Done};
 ghost use Rattle.text_output.specs.Sends.{Sends};
 ghost use Rattle.tool_commands.specs.Executable.{TellsExecutable, executable_status};
-ghost use Rattle.tool_commands.specs.Executable.{executable_refusal_text, header_word, said_beside};
+ghost use Rattle.tool_commands.specs.Executable.{TellsFile, executable_refusal_text};
+ghost use Rattle.tool_commands.specs.Executable.{many_headers_line};
 ghost use Rattle.tool_commands.specs.Said.{said_line};
 
 use crate::finding::put_around;
@@ -24,7 +24,10 @@ const MOST_IN_A_PAGE: u16 = 73;
 
 /// Says of a file with more program headers than a page has that not every kernel starts it.
 fn say_many_headers<E: Write>(file: &Executable, errors: &mut E)
-    ensures { AppendsFront (E.contents errors.old) (E.contents errors.new) (header_word file.now) }
+    ensures said { AppendsFront (E.contents errors.old) (E.contents errors.new)
+        many_headers_line }
+    ensures silent { header_count file.now ≤ MOST_IN_A_PAGE
+        → E.contents errors.new ≡ E.contents errors.old }
 {
     if file.header_count() > MOST_IN_A_PAGE {
         say(
@@ -36,9 +39,12 @@ fn say_many_headers<E: Write>(file: &Executable, errors: &mut E)
 
 /// Writes an executable file, or says that the output failed.
 fn write_executable<O: Write, E: Write>(file: &Executable, output: &mut O, errors: &mut E) -> Status
-    ensures told { IsTold Done file.now (O.contents output.old) (O.contents output.new) result }
-    ensures said { AppendsFront (E.contents errors.old) (E.contents errors.new)
-        (said_beside file.now result) }
+    ensures { TellsFile file.now (record {
+      before = O.contents output.old;
+      after = O.contents output.new;
+      errors_before = E.contents errors.old;
+      errors_after = E.contents errors.new;
+    }) result }
 {
     match file.write_to(output) {
         Ok(()) => {
@@ -126,7 +132,12 @@ pub(crate) fn tell_executable<O: Write, E: Write>(
     output: &mut O,
     errors: &mut E,
 ) -> Status
-    ensures { TellsExecutable image.now (O.contents output.old) (O.contents output.new) result }
+    ensures { TellsExecutable image.now (record {
+      before = O.contents output.old;
+      after = O.contents output.new;
+      errors_before = E.contents errors.old;
+      errors_after = E.contents errors.new;
+    }) result }
 {
     match executable_of(alloc, image) {
         Ok(file) => write_executable(&file, output, errors),

@@ -11,7 +11,7 @@ ghost use Rattle.tool_commands.specs.AnyDisk.{CheckTells};
 ghost use Rattle.tool_commands.specs.Check.{check_status, check_text, findings_text, is_sound};
 ghost use Rattle.tool_commands.specs.Ends.{CheckEnds};
 ghost use Rattle.tool_commands.specs.inside.Listed.{Lists};
-ghost use Rattle.program_parts.specs.Told.{IsTold};
+ghost use Rattle.tool_commands.specs.Streams.{TellsOnly};
 
 use crate::finding::{Line, put_finding};
 use crate::said::{cannot_write, say_refusal};
@@ -108,8 +108,13 @@ fn tell_findings<D: Disk, O: Write, E: Write>(
 ) -> Status
     requires { length findings.now ≡ length store.now.entries }
     ensures { (libraries : List Library) → Lists D.facts store.now libraries
-        → IsTold (check_status findings.now) (check_text libraries findings.now)
-        (O.contents output.old) (O.contents output.new) result }
+        → TellsOnly (check_status findings.now) (check_text libraries findings.now)
+        (record {
+          before = O.contents output.old;
+          after = O.contents output.new;
+          errors_before = E.contents errors.old;
+          errors_after = E.contents errors.new;
+        }) result }
 {
     match write_findings(store, findings, output) {
         Ok(()) => status_of_findings(findings),
@@ -126,10 +131,20 @@ pub fn run_check<D: Disk, O: Write, E: Write>(
 ) -> Status
     ensures read { IsRead D.facts contents.old contents.new }
     ensures ends { (s : State) → IsAt D.facts contents.old s
-        → CheckEnds s (O.contents output.old) (O.contents output.new) result }
+        → CheckEnds (D.facts contents.old.disk) (D.facts contents.new.disk) s (record {
+          before = O.contents output.old;
+          after = O.contents output.new;
+          errors_before = E.contents errors.old;
+          errors_after = E.contents errors.new;
+        }) result }
 
     // On any disk
-    ensures told { CheckTells (O.contents output.old) (O.contents output.new) result }
+    ensures told { CheckTells (D.facts contents.old.disk) (D.facts contents.new.disk) (record {
+      before = O.contents output.old;
+      after = O.contents output.new;
+      errors_before = E.contents errors.old;
+      errors_after = E.contents errors.new;
+    }) result }
 {
     match contents.check(alloc) {
         Ok(findings) => tell_findings(contents.store(), &findings, output, errors),

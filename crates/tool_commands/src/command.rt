@@ -1,10 +1,10 @@
 // A command line.
 
-ghost use Rattle.std.specs.Prelude.{◌≡◌, ◌≤◌, IfSome, None, map, string_bytes};
+ghost use Rattle.std.specs.Prelude.{◌≡◌, ◌≢◌, ◌≤◌, ◌⊎◌, IfSome, None, map, string_bytes};
 ghost use Rattle.file_disk.specs.declared.disk_file.DiskFile.{DiskFile};
 ghost use Rattle.program_parts.specs.Said.{AppendsFront};
 ghost use Rattle.tool_commands.specs.Form.{command_line, line_of};
-ghost use Rattle.tool_commands.specs.Outcome.{IsEnd, LineEnds};
+ghost use Rattle.tool_commands.specs.Outcome.{IsApartDeed, IsEnd, IsSilentDeed, LineEnds};
 ghost use Rattle.tool_commands.specs.Said.{usage_line};
 
 use crate::form::{Asked, read_words};
@@ -24,8 +24,12 @@ fn run_apart<R: Files<File = File> + Clock, O: Write, E: Write>(
     output: &mut O,
     errors: &mut E,
 ) -> Status
-    ensures { IsEnd DiskFile (line_of asked.now)
-        (O.contents output.old) (O.contents output.new) result }
+    ensures { IsEnd DiskFile (line_of asked.now) (record {
+      before = O.contents output.old;
+      after = O.contents output.new;
+      errors_before = E.contents errors.old;
+      errors_after = E.contents errors.new;
+    }) result }
 {
     match behind_streams(rt, asked.disk, false) {
         Behind::Other => run_asked(rt, alloc, asked, output, errors),
@@ -54,9 +58,23 @@ pub fn run_words<R: Files<File = File> + Clock, O: Write, E: Write>(
     // 2 is the answer to no others.
     ensures form { result ≡ 2 → command_line (map (λ word. string_bytes word) words.now) ≡ None }
 
-    // Words of a form: what is told, and the status that goes with it.
+    // Words of a form: what is told and said, and the status that goes with it.
     ensures ends { IfSome (command_line (map (λ word. string_bytes word) words.now)) (λ line.
-        LineEnds DiskFile line (O.contents output.old) (O.contents output.new) result) }
+        LineEnds DiskFile line (record {
+          before = O.contents output.old;
+          after = O.contents output.new;
+          errors_before = E.contents errors.old;
+          errors_after = E.contents errors.new;
+        }) result) }
+
+    // At 0 nothing is given to standard error.
+    ensures silent { IfSome (command_line (map (λ word. string_bytes word) words.now)) (λ line.
+        IsSilentDeed line.deed → result ≡ 0 → E.contents errors.new ≡ E.contents errors.old) }
+
+    // What is said there isn't said on the output too, unless something failed.
+    ensures apart { IfSome (command_line (map (λ word. string_bytes word) words.now)) (λ line.
+        IsApartDeed line.deed → result ≢ 3 → (E.contents errors.new ≡ E.contents errors.old)
+        ⊎ (O.contents output.new ≡ O.contents output.old)) }
     ensures same { command_line (map (λ word. string_bytes word) words.now) ≡ None
         → output.new ≡ output.old }
     ensures told { command_line (map (λ word. string_bytes word) words.now) ≡ None

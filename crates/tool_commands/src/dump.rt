@@ -18,7 +18,7 @@ ghost use Rattle.tool_commands.specs.Dump.{preload_text};
 ghost use Rattle.tool_commands.specs.Ends.{DumpEnds};
 ghost use Rattle.text_output.specs.Pieces.{EndsWithinLine};
 ghost use Rattle.tool_commands.specs.Said.{said_line};
-ghost use Rattle.tool_commands.specs.inside.Lack.{IsGone, IsLacking, dump_status, end_text};
+ghost use Rattle.tool_commands.specs.inside.Lack.{IsGone, IsLacking, SaysCut, dump_status, end_text};
 ghost use Rattle.tool_commands.specs.inside.Lack.{lack_line, lack_status, libraries_text};
 ghost use Rattle.tool_commands.specs.inside.Listed.{Lists};
 
@@ -71,7 +71,8 @@ fn put_libraries<D: Disk, W: Write>(
     ensures ok { (s : State) → IsAt D.facts contents.old s → IfOk result (λ cut.
         IsGone s cut × Sends (W.contents out.old) script.old (W.contents out.new) script.new
         (libraries_text s cut)) }
-    ensures told { IfOk result (λ cut. (libraries : List Library) × IsLacking cut
+    ensures told { IfOk result (λ cut. (libraries : List Library)
+        × IsLacking (D.facts contents.old.disk) (D.facts contents.new.disk) cut
         × Sends (W.contents out.old) script.old (W.contents out.new) script.new
         (flat_map install_text libraries)) }
 {
@@ -153,7 +154,8 @@ fn write_script<D: Disk, W: Write>(
         IsGone s cut × Appends (W.contents out.old) (W.contents out.new)
         (libraries_text s cut ++ end_text s.preloads cut)) }
     ensures told { IfOk result (λ cut. (libraries : List Library) × (preloads : List (List ℕ))
-        × IsLacking cut × Appends (W.contents out.old) (W.contents out.new)
+        × IsLacking (D.facts contents.old.disk) (D.facts contents.new.disk) cut
+        × Appends (W.contents out.old) (W.contents out.new)
         (flat_map install_text libraries ++ end_text preloads cut)) }
 {
     let mut script = PieceBuffer::new();
@@ -213,9 +215,9 @@ fn finding_status(finding: Finding) -> Status
 fn say_cut<D: Disk, E: Write>(store: &Store<D>, alloc: Global, cut: Cut, errors: &mut E) -> Status
     requires { cut.position < length store.now.entries }
     ensures status { result ≡ lack_status cut.lack }
-    ensures said { (s : State) → IsAt D.facts store.now s
+    ensures said { (libraries : List Library) → Lists D.facts store.now libraries
         → AppendsFront (E.contents errors.old) (E.contents errors.new)
-        (lack_line (slice_index_or s.libraries cut.position no_library) cut.lack) }
+        (lack_line (slice_index_or libraries cut.position no_library) cut.lack) }
 {
     let position = cut.position;
     match cut.lack {
@@ -238,7 +240,9 @@ fn end_dump<D: Disk, E: Write>(
     errors: &mut E,
 ) -> Status
     requires { IfSome cut (λ c. c.position < length store.now.entries) }
-    ensures { result ≡ dump_status cut }
+    ensures status { result ≡ dump_status cut }
+    ensures said { (libraries : List Library) → Lists D.facts store.now libraries
+        → SaysCut libraries cut (E.contents errors.old) (E.contents errors.new) }
 {
     match cut {
         Some(cut) => say_cut(store, alloc, cut, errors),
@@ -258,10 +262,20 @@ pub fn run_dump<D: Disk, O: Write, E: Write>(
 ) -> Status
     ensures read { IsRead D.facts contents.old contents.new }
     ensures ends { (s : State) → IsAt D.facts contents.old s
-        → DumpEnds s (O.contents output.old) (O.contents output.new) result }
+        → DumpEnds (D.facts contents.old.disk) (D.facts contents.new.disk) s (record {
+          before = O.contents output.old;
+          after = O.contents output.new;
+          errors_before = E.contents errors.old;
+          errors_after = E.contents errors.new;
+        }) result }
 
     // On any disk
-    ensures told { DumpTells (O.contents output.old) (O.contents output.new) result }
+    ensures told { DumpTells (D.facts contents.old.disk) (D.facts contents.new.disk) (record {
+      before = O.contents output.old;
+      after = O.contents output.new;
+      errors_before = E.contents errors.old;
+      errors_after = E.contents errors.new;
+    }) result }
 {
     match write_script(contents, alloc, output) {
         Ok(cut) => end_dump(contents.store(), alloc, cut, errors),

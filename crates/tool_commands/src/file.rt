@@ -1,15 +1,15 @@
 // The bytes of a library.
 
-ghost use Rattle.std.specs.Prelude.{◌≡◌, ◌⊎◌};
+ghost use Rattle.std.specs.Prelude.{◌≡◌};
 ghost use Rattle.states.specs.State.{State};
 ghost use Rattle.store.specs.IsRead.{IsRead};
 ghost use Rattle.store.specs.Opened.{IsAt};
-ghost use Rattle.contents.specs.declared.unread.Unread.TheVariants.{NotInstalled};
-ghost use Rattle.program_parts.specs.declared.status.Status.TheVariants.{Done, Refused};
-ghost use Rattle.program_parts.specs.declared.status.Status.TheVariants.{Failed, NoMemory};
+ghost use Rattle.program_parts.specs.declared.status.Status.TheVariants.{Done};
 ghost use Rattle.tool_commands.specs.AnyDisk.{FileTells};
 ghost use Rattle.tool_commands.specs.Ends.{FileEnds};
-ghost use Rattle.program_parts.specs.Told.{IsTold};
+ghost use Rattle.program_parts.specs.Said.{AppendsFront};
+ghost use Rattle.tool_commands.specs.Streams.{TellsOnly};
+ghost use Rattle.tool_commands.specs.inside.Unread.{unread_line, unread_status};
 
 use crate::said::{cannot_write, say_not_installed, say_refusal};
 use contents::{Contents, Unread};
@@ -21,7 +21,12 @@ use store::StoreRefusal;
 
 /// Writes bytes.
 fn write_bytes<O: Write, E: Write>(bytes: &[u8], output: &mut O, errors: &mut E) -> Status
-    ensures { IsTold Done bytes.now (O.contents output.old) (O.contents output.new) result }
+    ensures { TellsOnly Done bytes.now (record {
+      before = O.contents output.old;
+      after = O.contents output.new;
+      errors_before = E.contents errors.old;
+      errors_after = E.contents errors.new;
+    }) result }
 {
     match output.write_all(bytes) {
         Ok(()) => Status::Done,
@@ -31,8 +36,9 @@ fn write_bytes<O: Write, E: Write>(bytes: &[u8], output: &mut O, errors: &mut E)
 
 /// Says why there are no bytes.
 fn say_unread<E: Write>(alloc: Global, unread: Unread, errors: &mut E) -> Status
-    ensures { ((unread ≡ NotInstalled) × (result ≡ Refused))
-        ⊎ (result ≡ Failed) ⊎ (result ≡ NoMemory) }
+    ensures status { result ≡ unread_status unread }
+    ensures said { AppendsFront (E.contents errors.old) (E.contents errors.new)
+        (unread_line unread) }
 {
     match unread {
         Unread::NotInstalled => say_not_installed(errors),
@@ -52,10 +58,20 @@ pub fn run_file<D: Disk, O: Write, E: Write>(
 ) -> Status
     ensures read { IsRead D.facts contents.old contents.new }
     ensures ends { (s : State) → IsAt D.facts contents.old s
-        → FileEnds s name.now (O.contents output.old) (O.contents output.new) result }
+        → FileEnds (D.facts contents.old.disk) (D.facts contents.new.disk) s name.now (record {
+          before = O.contents output.old;
+          after = O.contents output.new;
+          errors_before = E.contents errors.old;
+          errors_after = E.contents errors.new;
+        }) result }
 
     // On any disk
-    ensures told { FileTells (O.contents output.old) (O.contents output.new) result }
+    ensures told { FileTells (D.facts contents.old.disk) (D.facts contents.new.disk) (record {
+      before = O.contents output.old;
+      after = O.contents output.new;
+      errors_before = E.contents errors.old;
+      errors_after = E.contents errors.new;
+    }) result }
 {
     match contents.file(alloc, name) {
         Ok(bytes) => write_bytes(&bytes, output, errors),

@@ -9,8 +9,8 @@ ghost use Rattle.text_output.specs.Sends.{Sends};
 ghost use Rattle.program_parts.specs.declared.status.Status.TheVariants.{Done};
 ghost use Rattle.tool_commands.specs.AnyDisk.{InfoTells};
 ghost use Rattle.tool_commands.specs.Ends.{InfoEnds};
-ghost use Rattle.program_parts.specs.Told.{IsTold};
 ghost use Rattle.tool_commands.specs.Info.{disk_lines, count_lines, free_lines, info_text};
+ghost use Rattle.tool_commands.specs.Streams.{TellsOnly};
 
 use crate::said::cannot_write;
 use contents::{Contents, Info};
@@ -103,9 +103,14 @@ fn write_info<W: Write>(out: &mut W, info: &Info) -> Result<(), WriteFault>
 
 /// Writes what is told of the whole, or says that the output failed.
 fn tell_info<O: Write, E: Write>(info: &Info, output: &mut O, errors: &mut E) -> Status
-    ensures { IsTold Done (info_text info.now.sectors info.now.generation info.now.libraries
+    ensures { TellsOnly Done (info_text info.now.sectors info.now.generation info.now.libraries
         info.now.preloads info.now.free.sectors info.now.free.runs info.now.free.largest)
-        (O.contents output.old) (O.contents output.new) result }
+        (record {
+          before = O.contents output.old;
+          after = O.contents output.new;
+          errors_before = E.contents errors.old;
+          errors_after = E.contents errors.new;
+        }) result }
 {
     match write_info(output, info) {
         Ok(()) => Status::Done,
@@ -121,10 +126,20 @@ pub fn run_info<D: Disk, O: Write, E: Write>(
     errors: &mut E,
 ) -> Status
     ensures ends { (s : State) → IsAt D.facts contents.now s
-        → InfoEnds D.facts contents.now s (O.contents output.old) (O.contents output.new) result }
+        → InfoEnds D.facts contents.now s (record {
+          before = O.contents output.old;
+          after = O.contents output.new;
+          errors_before = E.contents errors.old;
+          errors_after = E.contents errors.new;
+        }) result }
 
     // On any disk
-    ensures told { InfoTells (O.contents output.old) (O.contents output.new) result }
+    ensures told { InfoTells (record {
+      before = O.contents output.old;
+      after = O.contents output.new;
+      errors_before = E.contents errors.old;
+      errors_after = E.contents errors.new;
+    }) result }
 {
     tell_info(&contents.info(), output, errors)
 }

@@ -6,7 +6,7 @@ ghost use Rattle.file_disk.specs.FileDisk.{IsNew};
 ghost use Rattle.file_disk.specs.declared.disk_file.DiskFile.{DiskFile};
 ghost use Rattle.tool_commands.specs.Form.{deed_of, question_of};
 ghost use Rattle.tool_commands.specs.Outcome.{AskEnds, DeedEnds, ReadEnds, TellEnds};
-ghost use Rattle.tool_commands.specs.Outcome.{open_status, read_status};
+ghost use Rattle.tool_commands.specs.Outcome.{SaysFault, SaysUnread, open_status, read_status};
 ghost use Rattle.tool_commands.specs.inside.WithFile.{request_with, telling_of};
 
 use crate::form::{Action, Asked, Form};
@@ -26,7 +26,8 @@ use store::StoreRefusal;
 
 /// Says why the file of a disk isn't opened.
 fn not_opened<E: Write>(alloc: Global, path: &str, fault: OpenFault, errors: &mut E) -> Status
-    ensures { result ≡ open_status fault }
+    ensures status { result ≡ open_status fault }
+    ensures said { SaysFault fault (E.contents errors.old) (E.contents errors.new) }
 {
     match fault {
         OpenFault::CannotOpen => cannot_read(errors, path),
@@ -45,8 +46,12 @@ fn tell<R: Files<File = File> + Clock, O: Write, E: Write>(
     output: &mut O,
     errors: &mut E,
 ) -> Status
-    ensures { TellEnds (question_of form.now)
-        (O.contents output.old) (O.contents output.new) result }
+    ensures { TellEnds DiskFile (question_of form.now) (record {
+      before = O.contents output.old;
+      after = O.contents output.new;
+      errors_before = E.contents errors.old;
+      errors_after = E.contents errors.new;
+    }) result }
 {
     match FileDisk::open_read_only(rt, alloc, path) {
         Ok(disk) => {
@@ -89,7 +94,12 @@ fn ask<R: Files<File = File> + Clock, O: Write, E: Write>(
     errors: &mut E,
 ) -> Status
     ensures { AskEnds DiskFile (request_of command.now) telling
-        (O.contents output.old) (O.contents output.new) result }
+        (record {
+          before = O.contents output.old;
+          after = O.contents output.new;
+          errors_before = E.contents errors.old;
+          errors_after = E.contents errors.new;
+        }) result }
 {
     match open_disk(rt, alloc, path, telling) {
         Ok(disk) => {
@@ -103,7 +113,8 @@ fn ask<R: Files<File = File> + Clock, O: Write, E: Write>(
 
 /// Says why a file wasn't read.
 fn not_read<E: Write>(alloc: Global, path: &str, fault: FileFault, errors: &mut E) -> Status
-    ensures { result ≡ read_status fault }
+    ensures status { result ≡ read_status fault }
+    ensures said { SaysUnread fault (E.contents errors.old) (E.contents errors.new) }
 {
     match fault {
         FileFault::CannotRead => cannot_read(errors, path),
@@ -122,7 +133,12 @@ fn ask_with<R: Files<File = File> + Clock, O: Write, E: Write>(
     errors: &mut E,
 ) -> Status
     ensures { ReadEnds DiskFile (request_with asking) (telling_of asking)
-        (O.contents output.old) (O.contents output.new) result }
+        (record {
+          before = O.contents output.old;
+          after = O.contents output.new;
+          errors_before = E.contents errors.old;
+          errors_after = E.contents errors.new;
+        }) result }
 {
     match read_file(rt, alloc, file) {
         Ok(bytes) => {
@@ -142,7 +158,12 @@ pub(crate) fn run_asked<R: Files<File = File> + Clock, O: Write, E: Write>(
     errors: &mut E,
 ) -> Status
     ensures { DeedEnds DiskFile (deed_of asked.now.action)
-        (O.contents output.old) (O.contents output.new) result }
+        (record {
+          before = O.contents output.old;
+          after = O.contents output.new;
+          errors_before = E.contents errors.old;
+          errors_after = E.contents errors.new;
+        }) result }
 {
     let disk = asked.disk;
     match asked.action {

@@ -3,7 +3,7 @@
 ghost use Rattle.requests.specs.Request.{request_of};
 ghost use Rattle.requests.specs.declared.reply.Reply.{Reply};
 ghost use Rattle.tool_commands.specs.Request.{DiskStep, RequestEnds};
-ghost use Rattle.tool_commands.specs.Telling.{Tells};
+ghost use Rattle.tool_commands.specs.Telling.{TellsReply};
 
 use crate::said::say_refusal;
 use crate::telling::{Telling, tell};
@@ -25,7 +25,12 @@ fn answer<D: Disk, O: Write, E: Write>(
 ) -> Status
     ensures { (reply : Reply)
         × DiskStep D.facts registry.old (request_of command.now) reply registry.new
-        × Tells telling reply (O.contents output.old) (O.contents output.new) result }
+        × TellsReply telling reply (record {
+          before = O.contents output.old;
+          after = O.contents output.new;
+          errors_before = E.contents errors.old;
+          errors_after = E.contents errors.new;
+        }) result }
 {
     let reply = registry.apply(command);
     tell(alloc, telling, &reply, output, errors)
@@ -45,7 +50,12 @@ pub fn run_request<D: Disk, O: Write, E: Write>(
     errors: &mut E,
 ) -> (Status, D)
     ensures { RequestEnds D.facts disk (request_of command.now) telling
-        (O.contents output.old) (O.contents output.new) result.0 result.1 }
+        (record {
+          before = O.contents output.old;
+          after = O.contents output.new;
+          errors_before = E.contents errors.old;
+          errors_after = E.contents errors.new;
+        }) result.0 result.1 }
 {
     match Registry::open_untested(alloc, disk) {
         Ok(registry) => {

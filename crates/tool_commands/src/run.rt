@@ -1,13 +1,12 @@
 // A form over a disk, whatever the disk is.
 
-ghost use Rattle.std.specs.Prelude.{◌≡◌, IsTrue, OnOk};
+ghost use Rattle.std.specs.Prelude.{codes, OnOk};
 ghost use Rattle.std.specs.Io.KnownBytes.{Appends};
 ghost use Rattle.states.specs.State.{State};
 ghost use Rattle.store.specs.IsRead.{IsRead};
 ghost use Rattle.store.specs.Opened.{IsAt};
-ghost use Rattle.tool_commands.specs.AnyDisk.{DiskTells, FormTells};
-ghost use Rattle.tool_commands.specs.Ends.{DiskEnds, FormEnds, cut_of};
-ghost use Rattle.program_parts.specs.Told.{IsTold};
+ghost use Rattle.tool_commands.specs.AnyDisk.{FormTells};
+ghost use Rattle.tool_commands.specs.Ends.{DiskEnds, EndsUnopened, FormEnds};
 ghost use Rattle.tool_commands.specs.Form.{question_of};
 
 use crate::check::run_check;
@@ -24,28 +23,25 @@ use std::io::Write;
 use text_output::{OutputBuffer, PIECE, WriteFault};
 
 /// Cuts a script of which there is nothing: it is none that could be taken for a whole one.
-fn cut_script<O: Write>(form: &Form<'_>, output: &mut O) -> Result<(), WriteFault>
-    ensures { OnOk result (Appends (O.contents output.old) (O.contents output.new)
-        (cut_of (question_of form.now))) }
+fn cut_script<O: Write>(output: &mut O) -> Result<(), WriteFault>
+    ensures { OnOk result (Appends (O.contents output.old) (O.contents output.new) (codes "cut")) }
 {
-    match form {
-        Form::Dump => {
-            let mut text = OutputBuffer::<PIECE>::new();
-            text.put(output, b"cut")?;
-            text.send(output)
-        }
-        _ => Ok(()),
-    }
+    let mut text = OutputBuffer::<PIECE>::new();
+    text.put(output, b"cut")?;
+    text.send(output)
 }
 
 /// What ends with this status without a disk that is opened: a script is cut.
 pub(crate) fn end_unopened<O: Write>(form: &Form<'_>, status: Status, output: &mut O) -> Status
-    ensures { IsTold status (cut_of (question_of form.now))
+    ensures { EndsUnopened (question_of form.now) status
         (O.contents output.old) (O.contents output.new) result }
 {
-    match cut_script(form, output) {
-        Ok(()) => status,
-        Err(_) => Status::Failed,
+    match form {
+        Form::Dump => match cut_script(output) {
+            Ok(()) => status,
+            Err(_) => Status::Failed,
+        },
+        _ => status,
     }
 }
 
@@ -59,10 +55,20 @@ fn run_opened<D: Disk, O: Write, E: Write>(
 ) -> Status
     ensures read { IsRead D.facts contents.old contents.new }
     ensures ends { (s : State) → IsAt D.facts contents.old s
-        → FormEnds D.facts contents.old s (question_of form.now)
-        (O.contents output.old) (O.contents output.new) result }
-    ensures told { FormTells (question_of form.now)
-        (O.contents output.old) (O.contents output.new) result }
+        → FormEnds D.facts contents.old contents.new.disk s (question_of form.now)
+        (record {
+          before = O.contents output.old;
+          after = O.contents output.new;
+          errors_before = E.contents errors.old;
+          errors_after = E.contents errors.new;
+        }) result }
+    ensures told { FormTells (D.facts contents.old.disk) (D.facts contents.new.disk)
+        (question_of form.now) (record {
+          before = O.contents output.old;
+          after = O.contents output.new;
+          errors_before = E.contents errors.old;
+          errors_after = E.contents errors.new;
+        }) result }
 {
     match *form {
         Form::Info => run_info(contents, output, errors),
@@ -81,15 +87,12 @@ pub fn run_form<D: Disk, O: Write, E: Write>(
     output: &mut O,
     errors: &mut E,
 ) -> (Status, D)
-    ensures ends { IsTrue (D.facts disk).honest → DiskEnds D.facts disk (question_of form.now)
-        (O.contents output.old) (O.contents output.new) result.0 }
-
-    // What reads give stays.
-    ensures now { IsTrue (D.facts disk).honest → (D.facts result.1).now ≡ (D.facts disk).now }
-
-    // On any disk
-    ensures told { DiskTells (question_of form.now)
-        (O.contents output.old) (O.contents output.new) result.0 }
+    ensures { DiskEnds D.facts disk (question_of form.now) (record {
+      before = O.contents output.old;
+      after = O.contents output.new;
+      errors_before = E.contents errors.old;
+      errors_after = E.contents errors.new;
+    }) result.0 result.1 }
 {
     match Contents::open(alloc, disk) {
         Ok(contents) => {

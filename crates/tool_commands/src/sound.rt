@@ -1,17 +1,16 @@
 // The file of a library that is one.
 
-ghost use Rattle.std.specs.Prelude.{◌≡◌, ◌<◌, ℕ, List, IfOk, IfErr, length, slice_index_or};
-ghost use Rattle.states.specs.State.{Library, State};
+ghost use Rattle.std.specs.Prelude.{◌≡◌, ◌≢◌, ◌<◌, IfOk, IfErr, length, slice_index_or};
+ghost use Rattle.states.specs.State.{State};
 ghost use Rattle.requests.specs.Library.{IsLibrary};
 ghost use Rattle.store.specs.IsRead.{IsRead};
 ghost use Rattle.store.specs.Opened.{IsAt};
 ghost use Rattle.store.specs.Stands.{no_library};
-ghost use Rattle.contents.specs.File.{HasFile};
+ghost use Rattle.contents.specs.declared.finding.Finding.TheVariants.{Sound, Unreadable};
 ghost use Rattle.tool_commands.specs.declared.sound.Lack.TheVariants.{OutOfMemory};
 ghost use Rattle.tool_commands.specs.inside.Lack.{IsLack};
 
 use contents::{Contents, Finding, Unread, finding_of};
-use names::Name;
 use sector_disk::Disk;
 use std::alloc::{AllocError, Global};
 
@@ -32,29 +31,13 @@ impl From<AllocError> for Lack {
     }
 }
 
-/// The file of this name. Its sectors are read once.
-fn named_file<D: Disk>(
-    contents: &mut Contents<D>,
-    alloc: Global,
-    name: &[u8],
-) -> Result<Vec<u8>, Lack>
-    ensures read { IsRead D.facts contents.old contents.new }
-    ensures only { (s : State) → IsAt D.facts contents.old s → IfOk result (λ file.
-        (other : List ℕ) → HasFile s name.now other → other ≡ file.items) }
-    ensures err { (l : Library) → IfErr result (IsLack l) }
-{
-    match contents.file(alloc, name) {
-        Ok(file) => Ok(file),
-        Err(Unread::OutOfMemory) => Err(Lack::OutOfMemory),
-        Err(_) => Err(Lack::Found(Finding::Unreadable)),
-    }
-}
-
 /// A file that is a library of this name.
 fn tested(alloc: Global, name: &[u8], file: Vec<u8>) -> Result<Vec<u8>, Lack>
     ensures ok { IfOk result (λ f. (f.items ≡ file.items)
         × IsLibrary (record { name = name.now; bytes = file.items })) }
     ensures err { IfErr result (IsLack (record { name = name.now; bytes = file.items })) }
+    ensures lack { IfErr result (λ lack. (lack ≢ Lack.Found Sound)
+        × (lack ≢ Lack.Found Unreadable)) }
 {
     match finding_of(alloc, name, &file)? {
         Finding::Sound => Ok(file),
@@ -70,17 +53,18 @@ pub(crate) fn sound_file<D: Disk>(
 ) -> Result<Vec<u8>, Lack>
     requires { position < length contents.old.entries }
     ensures read { IsRead D.facts contents.old contents.new }
-    ensures ok { (s : State) → IsAt D.facts contents.old s → position < length s.libraries
-        → IfOk result (λ file.
+    ensures ok { (s : State) → IsAt D.facts contents.old s → IfOk result (λ file.
         (file.items ≡ (slice_index_or s.libraries position no_library).bytes)
         × IsLibrary (slice_index_or s.libraries position no_library)) }
-    ensures err { (s : State) → IsAt D.facts contents.old s → position < length s.libraries
+    ensures err { (s : State) → IsAt D.facts contents.old s
         → IfErr result (IsLack (slice_index_or s.libraries position no_library)) }
-    ensures lack { IfErr result (λ lack. (l : Library) × IsLack l lack) }
+    ensures lack { IfErr result (λ lack. lack ≢ Lack.Found Sound) }
+    ensures device { IfErr result (λ lack. lack ≡ Lack.Found Unreadable
+        → (D.facts contents.old.disk).failures < (D.facts contents.new.disk).failures) }
 {
-    let name = Name::copy_of(alloc, contents.store().name(position))?;
-    match named_file(contents, alloc, name.as_bytes()) {
-        Ok(file) => tested(alloc, name.as_bytes(), file),
-        Err(lack) => Err(lack),
+    match contents.read(alloc, position) {
+        Ok(file) => tested(alloc, contents.store().name(position), file),
+        Err(Unread::OutOfMemory) => Err(Lack::OutOfMemory),
+        Err(_) => Err(Lack::Found(Finding::Unreadable)),
     }
 }

@@ -4,9 +4,9 @@ ghost use Rattle.std.specs.Prelude.{◌≡◌, ◌++◌, OnOk};
 ghost use Rattle.program_parts.specs.Reply.{reply_text};
 ghost use Rattle.program_parts.specs.Said.{AppendsFront};
 ghost use Rattle.program_parts.specs.Status.{reply_status};
-ghost use Rattle.program_parts.specs.Told.{IsTold};
 ghost use Rattle.tool_commands.specs.Said.{said_line};
-ghost use Rattle.tool_commands.specs.Telling.{Tells};
+ghost use Rattle.tool_commands.specs.Streams.{TellsOnly};
+ghost use Rattle.tool_commands.specs.Telling.{TellsReply};
 
 use crate::bound::tell_executable;
 use crate::said::cannot_write;
@@ -27,8 +27,12 @@ pub enum Telling {
 
 /// Writes a reply, or says that the output failed.
 fn tell_text<O: Write, E: Write>(reply: &Reply, output: &mut O, errors: &mut E) -> Status
-    ensures { IsTold (reply_status reply.now) (reply_text reply.now)
-        (O.contents output.old) (O.contents output.new) result }
+    ensures { TellsOnly (reply_status reply.now) (reply_text reply.now) (record {
+      before = O.contents output.old;
+      after = O.contents output.new;
+      errors_before = E.contents errors.old;
+      errors_after = E.contents errors.new;
+    }) result }
 {
     match write_reply(output, reply) {
         Ok(()) => Status::of_reply(reply),
@@ -68,7 +72,12 @@ pub(crate) fn tell<O: Write, E: Write>(
     output: &mut O,
     errors: &mut E,
 ) -> Status
-    ensures { Tells telling reply.now (O.contents output.old) (O.contents output.new) result }
+    ensures { TellsReply telling reply.now (record {
+      before = O.contents output.old;
+      after = O.contents output.new;
+      errors_before = E.contents errors.old;
+      errors_after = E.contents errors.new;
+    }) result }
 {
     match (telling, reply) {
         (Telling::Text, reply) => tell_text(reply, output, errors),

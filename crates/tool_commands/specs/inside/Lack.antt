@@ -1,17 +1,18 @@
 -- Why a library isn't given.
-use Rattle.std.specs.Prelude.{◌≢◌, ℕ, ◌<◌, List, All, Option, Some, None, codes, length, slice_index_or, take}
+use Rattle.std.specs.Prelude.{◌≡◌, ◌≢◌, ℕ, ◌<◌, List, All, Option, Some, None, codes, length, slice_index_or, take}
 use Rattle.std.specs.List.{flat_map}
 use Rattle.requests.specs.Library.{IsLibrary}
+use Rattle.sector_disk.specs.Disk.{DiskFacts}
 use Rattle.states.specs.State.{Library, State}
 use Rattle.store.specs.Stands.{no_library}
-use Rattle.store.specs.declared.refusal.StoreRefusal.TheVariants as store
 use Rattle.contents.specs.Finding.{IsFinding}
-use Rattle.contents.specs.declared.finding.Finding.TheVariants.{Sound}
+use Rattle.contents.specs.declared.finding.Finding.TheVariants.{Sound, Unreadable}
+use Rattle.program_parts.specs.Said.{AppendsFront}
 use Rattle.program_parts.specs.declared.status.Status.{Status}
 use Rattle.program_parts.specs.declared.status.Status.TheVariants.{Done, NoMemory}
 use Rattle.tool_commands.specs.Check.{finding_text}
 use Rattle.tool_commands.specs.Dump.{cut_status, install_text, preload_text}
-use Rattle.tool_commands.specs.Said.{said_line, refusal_line}
+use Rattle.tool_commands.specs.Said.{memory_line, said_line}
 use Rattle.tool_commands.specs.declared.dump.Cut.{Cut}
 use Rattle.tool_commands.specs.declared.sound.Lack.{Lack}
 use Rattle.tool_commands.specs.declared.sound.Lack.TheVariants.{Found, OutOfMemory}
@@ -33,7 +34,7 @@ lack_status OutOfMemory = NoMemory
 -- what is said of it
 abbrev pub lack_line : Library → Lack → List ℕ
 lack_line l (Found finding) = said_line (finding_text l finding)
-lack_line l OutOfMemory = refusal_line store.OutOfMemory
+lack_line l OutOfMemory = memory_line
 
 -- how far the libraries of a script went: each is one of its name, or it was cut
 abbrev pub IsGone : State → Option Cut → Type 0
@@ -50,10 +51,15 @@ abbrev pub end_text : List (List ℕ) → Option Cut → List ℕ
 end_text preloads None = preload_text preloads
 end_text preloads (Some cut) = codes "cut"
 
--- it was cut, if it was, since something lacks some library
-abbrev pub IsLacking : Option Cut → Type 0
-IsLacking None = Unit {0}
-IsLacking (Some cut) = (l : Library) × IsLack l cut.lack
+-- it was cut, if it was, at a library that isn't sound, and where it can't be read a call failed
+abbrev pub IsLacking : (old new : DiskFacts) → Option Cut → Type 0
+IsLacking old new None = Unit {0}
+IsLacking old new (Some cut) = (cut.lack ≢ Found Sound) × (cut.lack ≡ Found Unreadable → old.failures < new.failures)
+
+-- what is said of a script of these libraries: why it was cut, if it was
+abbrev pub SaysCut : List Library → Option Cut → Option (List ℕ) → Option (List ℕ) → Type 0
+SaysCut libraries None before after = after ≡ before
+SaysCut libraries (Some cut) before after = AppendsFront before after (lack_line (slice_index_or libraries cut.position no_library) cut.lack)
 
 -- what a script ends with
 abbrev pub dump_status : Option Cut → Status

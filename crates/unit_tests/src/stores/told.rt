@@ -35,14 +35,19 @@ fn each_library_is_looked_at(rt: HostRuntime) {
 }
 
 #[test]
-fn bytes_are_given_by_name(rt: HostRuntime) {
+fn bytes_are_given_by_name_and_by_position(rt: HostRuntime) {
     let mut contents = opened(&rt);
     let file = contents.file(rt.alloc(), b"e");
     let other = contents.file(rt.alloc(), b"d");
+    let count = contents.store().count();
+    assert!(rt; 3 < count);
+    let last = contents.read(rt.alloc(), 3);
     let _ = contents.into_disk();
-    let is_its = match file {
-        Ok(bytes) => bytes.as_slice() == library(b'e', 2).as_slice(),
-        Err(_) => false,
+    let is_its = match (file, last) {
+        (Ok(bytes), Ok(same)) => {
+            bytes.as_slice() == library(b'e', 2).as_slice() && bytes.as_slice() == same.as_slice()
+        }
+        _ => false,
     };
     let is_none = match other {
         Ok(_) => false,

@@ -1,8 +1,9 @@
 use Rattle.std.proofs.Common.{◌≡◌, map, None, Result, Ok, Err, refl, sym, subst}
-use Rattle.std.specs.Prelude.{IfOk, IfSome, OnErr, string_bytes}
+use Rattle.std.specs.Prelude.{◌≢◌, ◌⊎◌, IfOk, IfSome, OnErr, string_bytes}
 use Rattle.file_disk.specs.declared.disk_file.DiskFile.{DiskFile}
 use Rattle.tool_commands.specs.Form.{command_line}
-use Rattle.tool_commands.specs.Outcome.{LineEnds}
+use Rattle.tool_commands.specs.Outcome.{IsApartDeed, IsSilentDeed, LineEnds}
+use Rattle.tool_commands.specs.Streams.{Streams, IsSilent, IsUntold}
 use Rattle.tool_commands.proofs.arguments.run_arguments.Goals as goal
 
 -- words that were read
@@ -21,12 +22,36 @@ returns-in-Ok-clause-form g c =
 
 pub returns-in-Ok-clause-ends : goal.returns-in-Ok-clause-ends
 returns-in-Ok-clause-ends g c =
-    let before = g.O.Write.contents c.args.output.now in
-    let after = g.O.Write.contents c.run_words.new.output in
-    were_read c.args.words c.in-Ok.words c.in-Ok.is
-    (λ list. IfSome (command_line (map (λ word. string_bytes word) list.items)) (λ line. LineEnds DiskFile line before after c.run_words.result))
-    (subst (λ l. IfSome (command_line (map (λ word. string_bytes word) l)) (λ line. LineEnds DiskFile line before after c.run_words.result))
-    c.deref.ensures.value c.run_words.ensures.ends)
+    let io : Streams = record {
+      before = g.O.Write.contents c.args.output.now;
+      after = g.O.Write.contents c.run_words.new.output;
+      errors_before = g.E.Write.contents c.args.errors.now;
+      errors_after = g.E.Write.contents c.run_words.new.errors;
+    } in
+    were_read c.args.words c.in-Ok.words c.in-Ok.is (λ list. IfSome (command_line (map (λ word. string_bytes word) list.items)) (λ line. LineEnds DiskFile line io c.run_words.result))
+    (subst (λ l. IfSome (command_line (map (λ word. string_bytes word) l)) (λ line. LineEnds DiskFile line io c.run_words.result)) c.deref.ensures.value c.run_words.ensures.ends)
+
+pub returns-in-Ok-clause-silent : goal.returns-in-Ok-clause-silent
+returns-in-Ok-clause-silent g c =
+    let io : Streams = record {
+      before = g.O.Write.contents c.args.output.now;
+      after = g.O.Write.contents c.run_words.new.output;
+      errors_before = g.E.Write.contents c.args.errors.now;
+      errors_after = g.E.Write.contents c.run_words.new.errors;
+    } in
+    were_read c.args.words c.in-Ok.words c.in-Ok.is (λ list. IfSome (command_line (map (λ word. string_bytes word) list.items)) (λ line. IsSilentDeed line.deed → c.run_words.result ≡ 0 → IsSilent io))
+    (subst (λ l. IfSome (command_line (map (λ word. string_bytes word) l)) (λ line. IsSilentDeed line.deed → c.run_words.result ≡ 0 → IsSilent io)) c.deref.ensures.value c.run_words.ensures.silent)
+
+pub returns-in-Ok-clause-apart : goal.returns-in-Ok-clause-apart
+returns-in-Ok-clause-apart g c =
+    let io : Streams = record {
+      before = g.O.Write.contents c.args.output.now;
+      after = g.O.Write.contents c.run_words.new.output;
+      errors_before = g.E.Write.contents c.args.errors.now;
+      errors_after = g.E.Write.contents c.run_words.new.errors;
+    } in
+    were_read c.args.words c.in-Ok.words c.in-Ok.is (λ list. IfSome (command_line (map (λ word. string_bytes word) list.items)) (λ line. IsApartDeed line.deed → c.run_words.result ≢ 3 → IsSilent io ⊎ IsUntold io))
+    (subst (λ l. IfSome (command_line (map (λ word. string_bytes word) l)) (λ line. IsApartDeed line.deed → c.run_words.result ≢ 3 → IsSilent io ⊎ IsUntold io)) c.deref.ensures.value c.run_words.ensures.apart)
 
 -- words that weren't read, of which one thing is known where they were, and another where they weren't
 were_not : {T E : Type 0} (r : Result T E) (e : E) → r ≡ Err e → (P : T → Type 0) → IfOk r P
@@ -58,3 +83,15 @@ returns-in-Err-2-clause-ends g c = were_not c.args.words _ c.in-Err-2.is _
 
 pub returns-in-Err-2-clause-same : goal.returns-in-Err-2-clause-same
 returns-in-Err-2-clause-same g c = failed c.args.words _ c.in-Err-2.is refl
+
+pub returns-in-Err-clause-silent : goal.returns-in-Err-clause-silent
+returns-in-Err-clause-silent g c = were_not c.args.words _ c.in-Err.is _
+
+pub returns-in-Err-clause-apart : goal.returns-in-Err-clause-apart
+returns-in-Err-clause-apart g c = were_not c.args.words _ c.in-Err.is _
+
+pub returns-in-Err-2-clause-silent : goal.returns-in-Err-2-clause-silent
+returns-in-Err-2-clause-silent g c = were_not c.args.words _ c.in-Err-2.is _
+
+pub returns-in-Err-2-clause-apart : goal.returns-in-Err-2-clause-apart
+returns-in-Err-2-clause-apart g c = were_not c.args.words _ c.in-Err-2.is _

@@ -34,12 +34,12 @@ loop-position-preserved g c =
       sound = λ s at.
           let here = subst (λ store. IsAt g.D.Disk.facts store s) (sym c.store.ensures) at in
           let lt : i < length s.libraries = omega (arith, c.loop-position-test.true, c.count-position-end.ensures.state s here) in
-          let given = c.in-Ok.ensures.ok s (inv.read.same s at) lt in
+          let given = c.in-Ok.ensures.ok s (inv.read.same s at) in
           subst (All IsLibrary) (sym (take_more s.libraries i no_library lt)) (All-push IsLibrary (take i s.libraries) (get_or s.libraries i no_library) (inv.sound s at) given.1);
       sends = λ s at.
           let here = subst (λ store. IsAt g.D.Disk.facts store s) (sym c.store.ensures) at in
           let lt : i < length s.libraries = omega (arith, c.loop-position-test.true, c.count-position-end.ensures.state s here) in
-          let given = c.in-Ok.ensures.ok s (inv.read.same s at) lt in
+          let given = c.in-Ok.ensures.ok s (inv.read.same s at) in
           let put = subst (λ b. Appends before after (install_line b)) (c.deref.ensures.value ∙ given.0) c.in_ok-put_install-in-Ok.ensures in
           subst (Appends start after) (sym (text-more install_text s.libraries i no_library lt))
           (Appends-trans start before after (flat_map install_text (take i s.libraries)) (install_text (get_or s.libraries i no_library)) (inv.sends s at) put);
@@ -65,8 +65,8 @@ returns-in-Err g c =
       ok = λ s at.
           let here = subst (λ store. IsAt g.D.Disk.facts store s) (sym c.store.ensures) at in
           let lt : i < length s.libraries = omega (arith, c.loop-position-test.true, c.count-position-end.ensures.state s here) in
-          ((lt, c.in-Err.ensures.err s (inv.read.same s at) lt), inv.sends s at);
-      told = (inv.told.0, c.in-Err.ensures.lack, inv.told.1);
+          ((lt, c.in-Err.ensures.err s (inv.read.same s at)), inv.sends s at);
+      told = (inv.told.0, (c.in-Err.ensures.lack, λ e. omega (arith, inv.read.calls.failures, c.in-Err.ensures.device e)), inv.told.1);
     }
 
 pub returns-clause-ok : goal.returns-clause-ok

@@ -13,4 +13,4 @@ returns-in-Ok g c =
     )
 
 pub returns-in-Err : goal.returns-in-Err
-returns-in-Err g c = inr (c.in-Err.refusal, c.in-Err.ensures.opened, c.say_refusal.ensures.status, refl)
+returns-in-Err g c = inr (c.in-Err.refusal, c.in-Err.ensures.opened, (c.say_refusal.ensures.status, refl, c.say_refusal.ensures.said))

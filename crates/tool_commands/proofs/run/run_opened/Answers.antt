@@ -3,6 +3,7 @@ use Rattle.store.proofs.IsReadLemmas.{read_none}
 use Rattle.tool_commands.specs.AnyDisk.{FormTells}
 use Rattle.tool_commands.specs.Ends.{FileEnds, FormEnds}
 use Rattle.tool_commands.specs.Form.{question_of}
+use Rattle.tool_commands.specs.Streams.{Streams}
 use Rattle.tool_commands.proofs.run.run_opened.Goals as goal
 
 pub returns-in-Info-clause-read : goal.returns-in-Info-clause-read
@@ -10,42 +11,81 @@ returns-in-Info-clause-read g c = read_none c.args.contents.now
 
 pub returns-in-Info-clause-ends : goal.returns-in-Info-clause-ends
 returns-in-Info-clause-ends g c s at =
-    subst (λ f. FormEnds g.D.Disk.facts c.args.contents.now s (question_of f) (g.O.Write.contents c.args.output.now) (g.O.Write.contents c.run_info.new.output) c.run_info.result)
-    (sym c.in-Info.is) (c.run_info.ensures.ends s at)
-
-pub returns-in-Check-clause-ends : goal.returns-in-Check-clause-ends
-returns-in-Check-clause-ends g c s at =
-    subst (λ f. FormEnds g.D.Disk.facts c.args.contents.now s (question_of f) (g.O.Write.contents c.args.output.now) (g.O.Write.contents c.run_check.new.output) c.run_check.result)
-    (sym c.in-Check.is) (c.run_check.ensures.ends s at)
-
-pub returns-in-File-clause-ends : goal.returns-in-File-clause-ends
-returns-in-File-clause-ends g c s at =
-    let before = g.O.Write.contents c.args.output.now in
-    let after = g.O.Write.contents c.run_file.new.output in
-    let named = subst (λ n. FileEnds s n before after c.run_file.result) c.as_bytes.ensures.value (c.run_file.ensures.ends s at) in
-    subst (λ f. FormEnds g.D.Disk.facts c.args.contents.now s (question_of f) before after c.run_file.result) (sym c.in-File.is) named
+    let io : Streams = record {
+      before = g.O.Write.contents c.args.output.now;
+      after = g.O.Write.contents c.run_info.new.output;
+      errors_before = g.E.Write.contents c.args.errors.now;
+      errors_after = g.E.Write.contents c.run_info.new.errors;
+    } in
+    subst (λ f. FormEnds g.D.Disk.facts c.args.contents.now c.args.contents.now.disk s (question_of f) io c.run_info.result) (sym c.in-Info.is) (c.run_info.ensures.ends s at)
 
 pub returns-in-Info-clause-told : goal.returns-in-Info-clause-told
 returns-in-Info-clause-told g c =
-    subst (λ f. FormTells (question_of f) (g.O.Write.contents c.args.output.now) (g.O.Write.contents c.run_info.new.output) c.run_info.result)
-    (sym c.in-Info.is) c.run_info.ensures.told
+    let io : Streams = record {
+      before = g.O.Write.contents c.args.output.now;
+      after = g.O.Write.contents c.run_info.new.output;
+      errors_before = g.E.Write.contents c.args.errors.now;
+      errors_after = g.E.Write.contents c.run_info.new.errors;
+    } in
+    subst (λ f. FormTells (g.D.Disk.facts c.args.contents.now.disk) (g.D.Disk.facts c.args.contents.now.disk) (question_of f) io c.run_info.result) (sym c.in-Info.is) c.run_info.ensures.told
+
+pub returns-in-Check-clause-ends : goal.returns-in-Check-clause-ends
+returns-in-Check-clause-ends g c s at =
+    let io : Streams = record {
+      before = g.O.Write.contents c.args.output.now;
+      after = g.O.Write.contents c.run_check.new.output;
+      errors_before = g.E.Write.contents c.args.errors.now;
+      errors_after = g.E.Write.contents c.run_check.new.errors;
+    } in
+    subst (λ f. FormEnds g.D.Disk.facts c.args.contents.now c.run_check.new.contents.disk s (question_of f) io c.run_check.result) (sym c.in-Check.is) (c.run_check.ensures.ends s at)
 
 pub returns-in-Check-clause-told : goal.returns-in-Check-clause-told
 returns-in-Check-clause-told g c =
-    subst (λ f. FormTells (question_of f) (g.O.Write.contents c.args.output.now) (g.O.Write.contents c.run_check.new.output) c.run_check.result)
-    (sym c.in-Check.is) c.run_check.ensures.told
+    let io : Streams = record {
+      before = g.O.Write.contents c.args.output.now;
+      after = g.O.Write.contents c.run_check.new.output;
+      errors_before = g.E.Write.contents c.args.errors.now;
+      errors_after = g.E.Write.contents c.run_check.new.errors;
+    } in
+    subst (λ f. FormTells (g.D.Disk.facts c.args.contents.now.disk) (g.D.Disk.facts c.run_check.new.contents.disk) (question_of f) io c.run_check.result) (sym c.in-Check.is) c.run_check.ensures.told
+
+pub returns-in-File-clause-ends : goal.returns-in-File-clause-ends
+returns-in-File-clause-ends g c s at =
+    let io : Streams = record {
+      before = g.O.Write.contents c.args.output.now;
+      after = g.O.Write.contents c.run_file.new.output;
+      errors_before = g.E.Write.contents c.args.errors.now;
+      errors_after = g.E.Write.contents c.run_file.new.errors;
+    } in
+    let named = subst (λ n. FileEnds (g.D.Disk.facts c.args.contents.now.disk) (g.D.Disk.facts c.run_file.new.contents.disk) s n io c.run_file.result) c.as_bytes.ensures.value (c.run_file.ensures.ends s at) in
+    subst (λ f. FormEnds g.D.Disk.facts c.args.contents.now c.run_file.new.contents.disk s (question_of f) io c.run_file.result) (sym c.in-File.is) named
 
 pub returns-in-File-clause-told : goal.returns-in-File-clause-told
 returns-in-File-clause-told g c =
-    subst (λ f. FormTells (question_of f) (g.O.Write.contents c.args.output.now) (g.O.Write.contents c.run_file.new.output) c.run_file.result)
-    (sym c.in-File.is) c.run_file.ensures.told
+    let io : Streams = record {
+      before = g.O.Write.contents c.args.output.now;
+      after = g.O.Write.contents c.run_file.new.output;
+      errors_before = g.E.Write.contents c.args.errors.now;
+      errors_after = g.E.Write.contents c.run_file.new.errors;
+    } in
+    subst (λ f. FormTells (g.D.Disk.facts c.args.contents.now.disk) (g.D.Disk.facts c.run_file.new.contents.disk) (question_of f) io c.run_file.result) (sym c.in-File.is) c.run_file.ensures.told
 
 pub returns-in-Dump-clause-ends : goal.returns-in-Dump-clause-ends
 returns-in-Dump-clause-ends g c s at =
-    subst (λ f. FormEnds g.D.Disk.facts c.args.contents.now s (question_of f) (g.O.Write.contents c.args.output.now) (g.O.Write.contents c.run_dump.new.output) c.run_dump.result)
-    (sym c.in-Dump.is) (c.run_dump.ensures.ends s at)
+    let io : Streams = record {
+      before = g.O.Write.contents c.args.output.now;
+      after = g.O.Write.contents c.run_dump.new.output;
+      errors_before = g.E.Write.contents c.args.errors.now;
+      errors_after = g.E.Write.contents c.run_dump.new.errors;
+    } in
+    subst (λ f. FormEnds g.D.Disk.facts c.args.contents.now c.run_dump.new.contents.disk s (question_of f) io c.run_dump.result) (sym c.in-Dump.is) (c.run_dump.ensures.ends s at)
 
 pub returns-in-Dump-clause-told : goal.returns-in-Dump-clause-told
 returns-in-Dump-clause-told g c =
-    subst (λ f. FormTells (question_of f) (g.O.Write.contents c.args.output.now) (g.O.Write.contents c.run_dump.new.output) c.run_dump.result)
-    (sym c.in-Dump.is) c.run_dump.ensures.told
+    let io : Streams = record {
+      before = g.O.Write.contents c.args.output.now;
+      after = g.O.Write.contents c.run_dump.new.output;
+      errors_before = g.E.Write.contents c.args.errors.now;
+      errors_after = g.E.Write.contents c.run_dump.new.errors;
+    } in
+    subst (λ f. FormTells (g.D.Disk.facts c.args.contents.now.disk) (g.D.Disk.facts c.run_dump.new.contents.disk) (question_of f) io c.run_dump.result) (sym c.in-Dump.is) c.run_dump.ensures.told

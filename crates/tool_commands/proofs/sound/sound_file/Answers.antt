@@ -1,38 +1,36 @@
-use Rattle.std.proofs.Common.{◌≡◌, ℕ, List, get_or, rules, sym, subst, ◌∙◌}
+use Rattle.std.proofs.Common.{◌≡◌, ℕ, List, Result, Ok, Err, get_or, sym, subst, ◌∙◌}
+use Rattle.std.specs.Prelude.{IfErr, IfOk}
+use Rattle.std.specs.Global.{Vec}
+use Rattle.requests.specs.Library.{IsLibrary}
+use Rattle.states.specs.State.{Library}
 use Rattle.store.specs.Opened.{IsAt}
 use Rattle.store.specs.Stands.{no_library}
-use Rattle.store.proofs.IsReadLemmas.{read_none}
-use Rattle.contents.specs.File.{HasFile}
-use Rattle.tool_commands.proofs.Named.{is_given, is_lacking, lacks}
+use Rattle.tool_commands.specs.declared.sound.Lack.{Lack}
+use Rattle.tool_commands.specs.inside.Lack.{IsLack}
 use Rattle.tool_commands.proofs.sound.sound_file.Goals as goal
 
+-- what was tested is the library
+module _ (l : Library) (name file : List ℕ) (named : name ≡ l.name) (filed : file ≡ l.bytes) where
+  abbrev tested : Library
+  tested = record { name = name; bytes = file }
+
+  same : tested ≡ l
+  same = λ i. record { name = named i; bytes = filed i }
+
+  given : (result : Result (Vec ℕ) Lack) → IfOk result (λ f. (f.items ≡ file) × IsLibrary tested) → IfOk result (λ f. (f.items ≡ l.bytes) × IsLibrary l)
+  given (Ok f) h = (h.0 ∙ filed, subst IsLibrary same h.1)
+  given (Err lack) h = tt
+
+  lacking : (result : Result (Vec ℕ) Lack) → IfErr result (IsLack tested) → IfErr result (IsLack l)
+  lacking (Ok f) h = tt
+  lacking (Err lack) h = subst (λ l. IsLack l lack) same h
+
 pub returns-in-Ok-clause-ok : goal.returns-in-Ok-clause-ok
-returns-in-Ok-clause-ok g c s at lt =
-    let here = subst (λ store. IsAt g.D.Disk.facts store s) (sym c.store.ensures) at in
-    let named = c.as_bytes.ensures ∙ c.in_ok-name.ensures ∙ c.name.ensures.state s here in
-    let again = c.as_bytes.ensures ∙ sym c.as_bytes-in-Ok.ensures in
-    let only = subst (λ n. (other : List ℕ) → HasFile s n other → other ≡ c.in-Ok.file.items) again (c.in-Ok.ensures.only s at) in
-    is_given s c.args.position c.as_bytes-in-Ok.result.now c.in-Ok.file.items lt (sym again ∙ named) only c.tested.result c.tested.ensures.ok
+returns-in-Ok-clause-ok g c s at =
+    let here = subst (λ store. IsAt g.D.Disk.facts store s) (sym c.store.ensures) (c.read.ensures.read.same s at) in
+    given (get_or s.libraries c.args.position no_library) c.name.result.now c.in-Ok.file.items (c.name.ensures.state s here) (c.in-Ok.ensures.ok s at) c.tested.result c.tested.ensures.ok
 
 pub returns-in-Ok-clause-err : goal.returns-in-Ok-clause-err
-returns-in-Ok-clause-err g c s at lt =
-    let here = subst (λ store. IsAt g.D.Disk.facts store s) (sym c.store.ensures) at in
-    let named = c.as_bytes.ensures ∙ c.in_ok-name.ensures ∙ c.name.ensures.state s here in
-    let again = c.as_bytes.ensures ∙ sym c.as_bytes-in-Ok.ensures in
-    let only = subst (λ n. (other : List ℕ) → HasFile s n other → other ≡ c.in-Ok.file.items) again (c.in-Ok.ensures.only s at) in
-    is_lacking s c.args.position c.as_bytes-in-Ok.result.now c.in-Ok.file.items lt (sym again ∙ named) only c.tested.result c.tested.ensures.err
-
-pub returns-clause-err : goal.returns-clause-err
-returns-clause-err g c s at lt = c.in-Err.ensures.err (get_or s.libraries c.args.position no_library)
-
-pub returns-in-Ok-clause-lack : goal.returns-in-Ok-clause-lack
-returns-in-Ok-clause-lack g c = lacks _ c.tested.result c.tested.ensures.err
-
-pub returns-clause-lack : goal.returns-clause-lack
-returns-clause-lack g c = (no_library, c.in-Err.ensures.err no_library)
-
-pub returns-in_err-name-clause-lack : goal.returns-in_err-name-clause-lack
-returns-in_err-name-clause-lack g c = lacks no_library c.from_residual.result (search (rules, c.from_residual.ensures, c.in_err-name.ensures))
-
-pub returns-in_err-name-clause-read : goal.returns-in_err-name-clause-read
-returns-in_err-name-clause-read g c = read_none c.args.contents.now
+returns-in-Ok-clause-err g c s at =
+    let here = subst (λ store. IsAt g.D.Disk.facts store s) (sym c.store.ensures) (c.read.ensures.read.same s at) in
+    lacking (get_or s.libraries c.args.position no_library) c.name.result.now c.in-Ok.file.items (c.name.ensures.state s here) (c.in-Ok.ensures.ok s at) c.tested.result c.tested.ensures.err
