@@ -10,9 +10,9 @@ returns c =
     let own = c.self.inside in
     let other = c.other.inside in
     let contents : c.extend_from_slice.new.self.items ≡ own.contents.items ++ replicate (other.address - own.address - length own.contents.items) 0 ++ other.contents.items
-        = grind (arith, common_steps) in
+    = grind (arith, common_steps) in
     rw (← c.self.view_is, ← c.other.view_is)
-        (ap (λ bytes. record {
-            heading = record { address = own.address; permissions = bit_or own.flags other.flags; size = other.address - own.address + other.size };
-            contents = bytes;
-          }) contents)
+    (ap (λ bytes. record {
+      heading = record { address = own.address; permissions = bit_or own.flags other.flags; size = other.address - own.address + other.size };
+      contents = bytes;
+    }) contents)
