@@ -21,6 +21,8 @@
    no_last_sync  no sync after that is made
    named_early   the file of another name becomes DISK before its first sync
    folder        the folder isn't synced
+   unasked       it isn't asked behind that whether the medium has the names
+   asked_early   it is asked before that
    left          no name is taken away
    dead_written  the file that a dead process left is opened and written
    einval        a sync that answers EINVAL is taken for done, whatever the file is open for
@@ -132,7 +134,17 @@ static int sync_file(int descriptor) {
     return answer;
 }
 
+static int ask_names(int descriptor, const char *attribute) {
+    return NEXT(int, "fremovexattr", int, const char *)(descriptor, attribute);
+}
+
+int fremovexattr(int descriptor, const char *attribute) {
+    errno = ENODATA;
+    return is("unasked") || is("asked_early") ? -1 : ask_names(descriptor, attribute);
+}
+
 int fsync(int descriptor) {
+    if (is_folder(descriptor) && is("asked_early") && ask_names(descriptor, "user.none") && errno == EROFS) return -1;
     if (is_folder(descriptor)) return is("folder") ? 0 : NEXT(int, "fsync", int)(descriptor);
     return sync_file(descriptor);
 }

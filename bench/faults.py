@@ -27,7 +27,7 @@ SECTORS = '64'
 # Where a call fails before the program's own code runs, the loader of the C library says so and exits with 127.
 LOADER = 127
 CALLS = ('openat,read,pread64,readv,write,pwrite64,writev,lseek,fsync,fdatasync,fstat,stat,lstat,newfstatat,statx,close,ftruncate,'
-         'flock,fadvise64,link,linkat,unlink,unlinkat,rename,renameat,renameat2,readlink,readlinkat,getdents64')
+         'flock,fadvise64,link,linkat,unlink,unlinkat,rename,renameat,renameat2,readlink,readlinkat,getdents64,fremovexattr')
 GROWING = {'openat', 'write', 'pwrite64', 'writev', 'ftruncate', 'fsync', 'fdatasync', 'link', 'linkat', 'rename', 'renameat', 'renameat2'}
 UNLINKS = {'unlink', 'unlinkat'}
 # A quota that is used up is tried at the calls alone that take room.

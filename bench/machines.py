@@ -27,8 +27,9 @@ PROGRAM = Made(needed=[b'a'], undefined=[b'fa'], relocations=[(1, 0, 1, 0)], beh
 STEPS = ('sync', 'write', 'truncate', 'link', 'unlink', 'rename')
 SOURCES = Path(__file__).resolve().parent
 
-# The bytes of the file and the names that lead to it; of the medium its bytes and its names; and the dirty pages.
-Held = collections.namedtuple('Held', 'content names medium named dirty')
+# The bytes of the file and the names that lead to it; of the medium its bytes and its names; the dirty pages; and whether the
+# medium gets no more names.
+Held = collections.namedtuple('Held', 'content names medium named dirty lost', defaults=[False])
 Ended = collections.namedtuple('Ended', 'status output held log')
 
 
@@ -53,7 +54,7 @@ def syncs_of(log):
 
 
 def has_failed(log):
-    return any(line[0] == 'sync' and line[-1] == '-1' for line in log)
+    return any(line[0] in ('sync', 'names') and line[-1] == '-1' for line in log)
 
 
 class Machine:
@@ -90,7 +91,7 @@ class Machine:
         dirty = bytearray(PAGES)
         for page in held.dirty:
             dirty[page] = 1
-        (self.kept / 'state').write_bytes(bytes(name in held.named for name in (DISK, NEW)) + dirty)
+        (self.kept / 'state').write_bytes(bytes([*(name in held.named for name in (DISK, NEW)), held.lost]) + dirty)
 
     def once(self, content):
         """Equal bytes are kept once."""
@@ -102,7 +103,7 @@ class Machine:
         state = (self.kept / 'state').read_bytes()
         named = frozenset(name for name, there in zip((DISK, NEW), state) if there)
         medium = self.once((self.kept / 'medium').read_bytes())
-        return Held(content, names, medium, named, frozenset(page for page in range(PAGES) if state[2 + page]))
+        return Held(content, names, medium, named, frozenset(page for page in range(PAGES) if state[3 + page]), bool(state[2]))
 
     def words(self, command):
         others = [] if command[0] == 'script' else [word if isinstance(word, str) else word.decode() for word in command[1:]]

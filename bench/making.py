@@ -5,10 +5,11 @@ them after the other fail. Wants strace; some parts want root, and say so where 
     python3 bench/making.py PROGRAM FOLDER [--clib TOOL]
 
 Afterwards DISK is absent or a whole empty registry, and `format` asked again makes it or says S4. A fault before DISK has
-its name leaves no file, one at the sync of the folder leaves the whole registry with S1. Then come all kinds of things
-that stand under the name of the file in which a disk is made (`.NAME.rlibreg-new`), a kill that leaves a finished registry
-under that name too, long names, folders that may not be written or are full, file systems without hard links, and a DISK
-that is no file. TOOL is the program of c/tests/tool.c, which has to do the same.
+its name leaves no file, one at the sync of the folder, or where that is asked whether it takes changes, leaves the whole
+registry with S1. Then come all kinds of things that stand under the name of the file in which a disk is made
+(`.NAME.rlibreg-new`), a kill that leaves a finished registry under that name too, long names, folders that may not be
+written or are full, file systems without hard links, and a DISK that is no file. TOOL is the program of c/tests/tool.c,
+which has to do the same.
 """
 
 import argparse
@@ -146,7 +147,8 @@ class Making:
             self.with_fault(call, 'signal=KILL', more)
             for fault in FAULTS if call.name not in NO_FILES else ():
                 ended = self.with_fault(call, f'error={fault}', more)
-                if self.is_sync_of_folder(call) and fault != 'EINTR':
+                told = fault != 'EINTR' if self.is_sync_of_folder(call) else fault == 'EIO' and call.name == 'fremovexattr'
+                if told:
                     self.want('the sync of the folder fails', ended[:2] == (3, S1) and self.found() == self.whole, call.text, ended)
         return calls
 
@@ -163,8 +165,9 @@ class Making:
         synced = last(lambda it: it.name in ('fsync', 'fdatasync') and OTHER in it.text, named if named >= 0 else 0)
         taken = last(lambda it: it.name.startswith('unlink'))
         folder = last(self.is_sync_of_folder)
-        told = f'written {wrote}, synced {synced}, named {named}, other name taken away {taken}, folder synced {folder}'
-        self.want(kind, 0 <= wrote < synced < named < folder and taken < folder, told)
+        asked = last(lambda it: it.name == 'fremovexattr')
+        told = f'written {wrote}, synced {synced}, named {named}, other name taken away {taken}, folder synced {folder}, asked {asked}'
+        self.want(kind, 0 <= wrote < synced < named < folder < asked and taken < folder, told)
 
     # What stands under the other name.
 

@@ -18,6 +18,8 @@
    MEDIUM_ERROR    the number that a failing sync leaves in errno, EIO where it isn't there
    MEDIUM_READ_ONLY  if it is there, neither file is opened for writing (EROFS), and each sync of one answers MEDIUM_ERROR
    MEDIUM_SILENT   if it is there, a failing sync answers that it was done: another process was told of the failure
+   MEDIUM_LOST     if it is there, the journal couldn't be written before the first sync of the folder, as of ext4: that sync and later
+                   ones succeed and bring no name, and no change of the folder begins from then on (EROFS)
    MEDIUM_MAPPED   if it is there, somebody has the front mapped: it isn't let go
    MEDIUM_PAST     how reads with O_DIRECT fail: EINVAL where a descriptor is to have it, if it is `refused`, or a number for errno
    MEDIUM_CUT      before which step the process ends: steps are the calls after which a machine can find something else */
@@ -45,6 +47,7 @@ enum name { OTHER, THE_DISK, THE_NEW, THE_FOLDER };
 
 struct kept {
     uint8_t named[2]; /* whether the medium has the names DISK and `.NAME.rlibreg-new` */
+    uint8_t lost; /* whether it gets no more names: the journal couldn't be written */
     uint8_t dirty[PAGES];
 };
 
@@ -202,9 +205,10 @@ static bool is_to_fail(int number) {
 static int sync_it(int descriptor) {
     step();
     bool fails = is_to_fail(++syncs);
+    if (behind(descriptor) == THE_FOLDER && getenv("MEDIUM_LOST")) kept->lost = 1;
     const char *brought = fails ? told("MEDIUM_BROUGHT", "none") : "all";
     if (is_file(descriptor)) bring_pages(descriptor, brought);
-    if (!strcmp(brought, "all")) bring_names();
+    if (!strcmp(brought, "all") && !kept->lost) bring_names();
     int answer = fails && !getenv("MEDIUM_SILENT") ? -1 : 0;
     note("sync %d %s %d\n", descriptor, said(behind(descriptor)), answer);
     if (answer) errno = getenv("MEDIUM_ERROR") ? atoi(getenv("MEDIUM_ERROR")) : EIO;
@@ -440,6 +444,14 @@ int fsync(int descriptor) {
 
 int fdatasync(int descriptor) {
     return fsync(descriptor);
+}
+
+/* The folder has no attributes. */
+int fremovexattr(int descriptor, const char *name) {
+    if (behind(descriptor) != THE_FOLDER) return (int)syscall(SYS_fremovexattr, descriptor, name);
+    note("names %d folder %d\n", descriptor, kept->lost ? -1 : 0);
+    errno = kept->lost ? EROFS : ENODATA;
+    return -1;
 }
 
 int posix_fadvise(int descriptor, off_t from, off_t size, int advice) {

@@ -24,8 +24,8 @@ class OpenFile:
 class Order:
     def __init__(self, log, shared):
         self.log, self.shared, self.files, self.faults = log, shared, {}, set()
-        # Whether a write waits for its sync, and a name for that of the folder.
-        self.waiting = self.unnamed = False
+        # Whether a write waits for its sync, and a name for that of the folder and for the question behind that.
+        self.waiting = self.unnamed = self.unasked = False
         self.letting_go = None
         self.last_sync = max([at for at, line in enumerate(log) if line[0] == 'sync'], default=-1)
 
@@ -37,7 +37,9 @@ class Order:
                 getattr(self, call)(self.files.get(words[0]), words)
             elif call == 'sync' and words[-1] == '0':
                 self.unnamed = False
-            elif call == 'reply' and (self.waiting or self.unnamed) and not has_failed(self.log):
+            elif call == 'names':
+                self.unasked = self.unnamed
+            elif call == 'reply' and (self.waiting or self.unnamed or self.unasked) and not has_failed(self.log):
                 self.faults.add('the reply comes before the sync')
         return self.faults
 
@@ -113,4 +115,4 @@ class Order:
     def name(self, call, words):
         if words[-1] == '0':
             self.fault_if(self.waiting and call != 'unlink', 'a name is given before the sync')
-            self.unnamed = True
+            self.unnamed = self.unasked = True

@@ -54,7 +54,7 @@ FEW_PARTS = ['none', 'rest']
 BODIES = [
     'right', 'none', 'small', 'before', 'after_read', 'second_page', 'compared_early', 'one_root', 'failed_equal', 'written_unsynced',
     'compared_once', 'not_compared', 'unlocked', 'shared', 'lock_late', 'lock_let_go', 'no_sync', 'no_last_sync', 'named_early', 'folder',
-    'left', 'dead_written', 'einval', 'erofs',
+    'unasked', 'asked_early', 'left', 'dead_written', 'einval', 'erofs',
 ]
 # A held state, the states that its disk may hold, and how it came about.
 Way = collections.namedtuple('Way', 'held allowed what')
@@ -240,6 +240,13 @@ class Bench:
             if ended[:2] != (0, b'ok\n') or ended.held.names != {DISK} or not whole:
                 self.wrong('another answer', 'format, its registry moved, format', f': {ended.status} {ended.output} {whole}')
 
+    def lost(self):
+        """The system couldn't write the journal before the sync of the folder, which doesn't tell."""
+        start = Way(clean(None), frozenset([state_of(None)]), '')
+        way = self.run(start, FORMAT, 'format whose name is lost', lost=1)[1]
+        if way:
+            self.run(way, FORMAT, f'{way.what}, asked again')
+
     def further(self, way, command):
         """A further change, with its own faults."""
         for later in self.ways(way, command, PARTS if self.all else FEW_PARTS):
@@ -330,6 +337,7 @@ def try_all(program, folder, body, everything):
     for row in rows(bench.machine, everything):
         bench.row(*row)
     bench.moved()
+    bench.lost()
     wrong = sum(bench.faults.values())
     print(f'{bench.machine.runs} runs, {bench.judged} answers and disks judged, {wrong} wrong')
     for kind, count in bench.faults.most_common():

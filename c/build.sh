@@ -51,7 +51,7 @@ fi
 cp "$RLIBREG_C" "$folder/proved.a"
 
 # The C over them, and what gives the proved calls their memory.
-parts='file disk_file streams place new_disk turn front status'
+parts='file disk_file streams place new_disk names turn front status'
 for part in $parts; do
     $cc $flags -c -o "$folder/rlibreg_$part.o" "c/rlibreg_$part.c"
 done
@@ -85,8 +85,8 @@ program() {
         object=crates/$crate/out/$crate.o
     fi
     linked 4 'refused S11 OutOfMemory' "$name" \
-        -Wl,--gc-sections,--wrap=fsync,--wrap=flock,--wrap=main c/rlibreg_main.c c/rlibreg_front.c \
-        c/rlibreg_turn.c c/rlibreg_program_{lock,sync}.c "$object" "$kit/c/libos_c.a" \
+        -Wl,--gc-sections,--wrap=fsync,--wrap=flock,--wrap=main c/rlibreg_{main,front,names,turn}.c \
+        c/rlibreg_program_{lock,sync}.c "$object" "$kit/c/libos_c.a" \
         "$kit/c/liblibc_c.a" -lm
 }
 program rlibreg "${RLIBREG_O:-}" rlibreg image data/minimal.so 0x10000

@@ -465,10 +465,10 @@ uint32_t rlibreg_open(rlibreg *registry, const char *path, unsigned flags);
  * that name is no regular file, and where what comes before the plan fails. S1 where a write or a
  * sync of the plan fails, or behind the name that of the folder, or where the other name can't be
  * taken away, errno says why: of a file that stood there a registry was made or not; of a new one
- * there is nothing, or behind the name all of it. ext4, and a file system without a journal (vfat,
- * exfat, ext2), is then to be mounted anew before anything is asked of the path again: S4, and
- * changes that were done, may else be of a name that a power cut takes away. Else as rlibreg_open
- * and rlibreg_plan_format.
+ * there is nothing, or behind the name all of it. A file system without a journal (vfat, exfat,
+ * ext2) is then to be mounted anew before anything is asked of the path again: S4, and changes that
+ * were done, may else be of a name that a power cut takes away. Else as rlibreg_open and
+ * rlibreg_plan_format.
  * After every other refusal the file is left as it is, and not open, and nothing was made. A file
  * that is made is sparse: the space for it may be found missing later, which is then an S1. */
 uint32_t rlibreg_format(rlibreg *registry, const char *path, uint32_t sectors, unsigned flags);

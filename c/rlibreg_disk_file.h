@@ -114,7 +114,11 @@ uint32_t rlibreg_new_disk_name(const struct new_disk *it, const struct disk_file
 /* Takes the other name away where the file still has it, and leaves errno as it is. */
 void rlibreg_new_disk_end(const struct new_disk *it, const struct disk_file *file);
 
-/* Syncs the folder in which a path's file is. */
+/* Syncs the folder in which a path's file is, and has its names on the medium. */
 int rlibreg_sync_folder(const char *path);
+
+/* Behind a sync of a folder that succeeded: whether the medium has its names (rlibreg_names.c). 0,
+ * also where nobody can tell, or -1 with errno. */
+int rlibreg_names_last(int folder);
 
 #endif

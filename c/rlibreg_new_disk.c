@@ -37,8 +37,12 @@ static void close_quietly(int fd) {
     errno = why;
 }
 
+static int bring_names(int folder) {
+    return fsync(folder) || rlibreg_names_last(folder) ? -1 : 0;
+}
+
 int rlibreg_sync_folder(const char *path) {
-    int fd = open_folder(path), failed = fd < 0 || fsync(fd);
+    int fd = open_folder(path), failed = fd < 0 || bring_names(fd);
     close_quietly(fd);
     return failed ? -1 : 0;
 }
@@ -192,5 +196,5 @@ uint32_t rlibreg_new_disk_name(const struct new_disk *it, const struct disk_file
     } else if (fsync(file->fd)) { /* FAT keeps a file's length beside its name */
         return RLIBREG_DEVICE;
     }
-    return fsync(it->folder) ? RLIBREG_DEVICE : RLIBREG_DONE;
+    return bring_names(it->folder) ? RLIBREG_DEVICE : RLIBREG_DONE;
 }

@@ -11,9 +11,14 @@ int __wrap_fsync(int fd);
 
 enum { NUMBERS = 64 };
 
+static int is_folder(int fd) {
+    struct stat found;
+    return !fstat(fd, &found) && S_ISDIR(found.st_mode);
+}
+
 /* Behind the first sync of a file that succeeds the medium has to have the roots that the system
- * shows; of a descriptor of a high number, behind each sync. The program opens its disk once, and
- * before any folder that it syncs, so a number stands for one file. */
+ * shows; of a descriptor of a high number, behind each sync. The program opens its disk once, so a
+ * number stands for one file; that of a folder may have been the disk's. */
 int __wrap_fsync(int fd) {
     static char was_synced[NUMBERS];
     int early_fault = rlibreg_take_early_fault();
@@ -22,6 +27,7 @@ int __wrap_fsync(int fd) {
         errno = early_fault;
         return -1;
     }
+    if (is_folder(fd)) return rlibreg_names_last(fd);
     if (fd < NUMBERS && was_synced[fd]) return 0;
     if (rlibreg_meet_front(fd, __real_fsync)) return -1;
     if (fd < NUMBERS) was_synced[fd] = 1;

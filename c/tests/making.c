@@ -100,7 +100,7 @@ static void try_order(void) {
     WANT(!format(0));
     unwatch();
     WANT(!strcmp(watched.log, "open folder folder make lock-alone cut write sync read read-past map "
-                              "copy read sync write sync link unlink sync-folder unlock "));
+                              "copy read sync write sync link unlink sync-folder names unlock "));
     WANT(here("disk "));
     clear();
 }
@@ -131,7 +131,8 @@ static long try_faults(int why) {
             return n;
         }
         int in_plan = has_failed("write") || has_failed("sync") || has_failed("length");
-        int has_name = has_failed("unlink") || has_failed("sync-folder");
+        int has_name = has_failed("unlink") || has_failed("sync-folder") ||
+                       (has_failed("names") && why == EIO);
         if (status) WANT(told == why || told == EAGAIN); /* that of a last look before the name */
         if (status) WANT(has_name || in_plan || status == RLIBREG_SYSTEM);
         if (has_name) WANT(status == RLIBREG_DEVICE);
@@ -198,12 +199,12 @@ static void try_no_links(void) {
         watch_links(kinds[i], 0);
         WANT(!format(0));
         unwatch();
-        WANT(here("disk ") && made("link rename-new sync sync-folder"));
+        WANT(here("disk ") && made("link rename-new sync sync-folder names"));
         clear();
         watch_links(kinds[i], i % 2 ? EINVAL : ENOSYS);
         WANT(!format(0));
         unwatch();
-        WANT(here("disk ") && made("link rename-new rename sync sync-folder"));
+        WANT(here("disk ") && made("link rename-new rename sync sync-folder names"));
         clear();
     }
     watch_links(EACCES, 0);
@@ -212,6 +213,35 @@ static void try_no_links(void) {
     WANT(fails_by(format(0), EACCES) && !made("rename "));
     unwatch();
     WANT(here(""));
+}
+
+/* ---- Names that the medium hasn't got, of which the sync of their folder didn't tell */
+
+static void watch_names(int why) {
+    watch();
+    watched.refused = "names";
+    watched.because = why;
+}
+
+static void try_lost_names(void) {
+    const int lost[] = { EROFS, EIO };
+    const int cannot_tell[] = { EPERM, EACCES, EOPNOTSUPP, ENOSYS, EINVAL, ENOSPC };
+    for (size_t i = 0; i < 2; i++) {
+        watch_names(lost[i]);
+        WANT(format(0) == RLIBREG_DEVICE && errno == lost[i] && here("disk "));
+        WANT(fails_by(format(0), lost[i]) && fails_by(format(0), lost[i]));
+        watched.is_read_only = 1;
+        WANT(format(0) == RLIBREG_ALREADY_FORMATTED);
+        unwatch();
+        WANT(format(0) == RLIBREG_ALREADY_FORMATTED);
+        clear();
+    }
+    for (size_t i = 0; i < 6; i++) {
+        watch_names(cannot_tell[i]);
+        WANT(!format(0) && format(0) == RLIBREG_ALREADY_FORMATTED);
+        unwatch();
+        clear();
+    }
 }
 
 /* ---- What is put there meanwhile */
@@ -337,7 +367,7 @@ static void try_in_place(void) {
     put("kept", zeros, sizeof zeros);
     WANT(!link("kept", DISK));
     watch();
-    WANT(!format(0) && made("sync-folder") && !made("make") && !made("link"));
+    WANT(!format(0) && made("sync-folder names") && !made("make") && !made("link"));
     unwatch();
     generation_of("kept");
     WANT(format(0) == RLIBREG_ALREADY_FORMATTED && !unlink("kept"));
@@ -387,6 +417,7 @@ int main(int argc, char **argv) {
     try_ends(calls, 0);
     try_ends(calls, 1);
     try_no_links();
+    try_lost_names();
     try_raced("link", 0, 0);
     try_raced("rename-new", EPERM, 0);
     try_raced("rename-new", EPERM, EINVAL);

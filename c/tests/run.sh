@@ -50,12 +50,12 @@ compiled() {
     mkdir -p "$objects/$1"
     (cd "$objects/$1" && gcc $2 -c "${@:3}")
 }
-library=$(printf "$here/../rlibreg_%s.c " file disk_file streams place new_disk turn front status)
+library=$(printf "$here/../rlibreg_%s.c " file disk_file streams place new_disk names turn front status)
 compiled library "$checked" $library
 beside="$objects/library/*.o $built/librlibreg.a"
 watched=$(printf ',--wrap=%s' open openat fstat stat fstatat fstatfs lseek nanosleep clock_gettime \
     flock sync_file_range fsync fcntl pread ioctl posix_fadvise mincore mmap ftruncate pwrite \
-    linkat syscall renameat unlink unlinkat)
+    linkat syscall renameat unlink unlinkat fstatvfs fremovexattr)
 watched="-Wl$watched $objects/tests/watched.o"
 plain='tool calls cuts turns'
 over_watched='opening streams place front making forked contents findings'

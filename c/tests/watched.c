@@ -11,6 +11,7 @@
 #include <sys/ioctl.h>
 #include <sys/mman.h>
 #include <sys/stat.h>
+#include <sys/statvfs.h>
 #include <sys/syscall.h>
 #include <sys/vfs.h>
 #include <time.h>
@@ -168,6 +169,20 @@ WRAPPED(int, fsync, int fd) {
     if (is_file && watched.is_dirty && !watched.is_stuck) watched.differ = 0;
     if (is_file) watched.is_dirty = 0;
     return 0;
+}
+
+WRAPPED(int, fstatvfs, int fd, struct statvfs *found) {
+    if (fails("system", 1) || __real_fstatvfs(fd, found)) return -1;
+    if (watched.is_on && watched.is_read_only) found->f_flag |= ST_RDONLY;
+    return 0;
+}
+
+/* A folder never has the attribute. */
+WRAPPED(int, fremovexattr, int fd, const char *attribute) {
+    struct stat found;
+    WANT(!__real_fstat(fd, &found) && S_ISDIR(found.st_mode) && !strncmp(attribute, "user.", 5));
+    if (!fails("names", 0)) errno = ENODATA;
+    return -1;
 }
 
 /* ---- What the system keeps of a file's front, and what the medium has of it */

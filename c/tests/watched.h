@@ -47,6 +47,7 @@ struct watched {
     int loop;                 /* a device is said to be a loop over memory, 1, or past it, 2 */
     size_t wrote;             /* how much was to be written last */
     long system;              /* the file system is said to be this one; or 0 */
+    int is_read_only;         /* and to be mounted so */
     int64_t slept;            /* how many nanoseconds were to pass */
     int is_short;             /* whether each write does less than it is asked */
     int is_dirty;             /* whether a file was written or cut since the last sync */

@@ -1,0 +1,22 @@
+/* Whether the medium has the names of a folder.
+ *
+ * ext4's sync of a folder succeeds where the system couldn't write the journal before, and a power
+ * cut takes the names. But no change begins over such a journal (EROFS), not even the removal of an
+ * attribute that isn't there. Over another one that is ENODATA, and writes nothing. Other answers
+ * tell nothing: there are no attributes, or no permission. syncfs(2) tells of the journal too, but
+ * once, and waits for what all programs have written. */
+#define _GNU_SOURCE
+#include "rlibreg_disk_file.h"
+
+#include <errno.h>
+#include <sys/statvfs.h>
+#include <sys/xattr.h>
+
+#define NO_ATTRIBUTE "user.rlibreg.none"
+
+int rlibreg_names_last(int folder) {
+    struct statvfs found;
+    if (fstatvfs(folder, &found) || found.f_flag & ST_RDONLY) return 0;
+    int is_taken = !fremovexattr(folder, NO_ATTRIBUTE);
+    return is_taken || (errno != EROFS && errno != EIO) ? 0 : -1;
+}
