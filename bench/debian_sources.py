@@ -52,6 +52,8 @@ def unpacked(folder, package, place):
         get(folder, package)
     (path,) = archives(folder, package)
     with tarfile.open(path) as it:
-        it.extractall(place)
-    (source,) = place.iterdir()
+        it.extractall(place / 'whole')
+    found = [*(place / 'whole').iterdir()]
+    # Most archives have one folder, in which all is.
+    source = found[0] if len(found) == 1 else place / 'whole'
     return source, path.name.split('_')[1].split('.orig')[0]

@@ -67,8 +67,13 @@ class Bench:
         yield Variant('static', static.read_bytes(), [])
         yield Variant('registry', linked.read_bytes(), [self.programs / 'rlibreg-run', disk])
         if self.has_executables:
-            file = done(self.programs / 'rlibreg-tool', 'executable', disk, linked, BASE)
-            yield Variant('executable', file, [])
+            words = [self.programs / 'rlibreg-tool', 'executable', disk, linked, BASE]
+            made = subprocess.run(words, capture_output=True)
+            if made.stderr.startswith(b'rlibreg-tool: refused Initializers '):
+                self.checks.skip(f'{program}, executable', 'a library of it has initializers')
+            else:
+                assert made.returncode == 0, (words, made)
+                yield Variant('executable', made.stdout, [])
 
     def start(self, trial, step, before):
         words = [*map(str, before), f'./{trial.program}', *step.words]
@@ -80,11 +85,14 @@ class Bench:
         """What each start ended with and wrote, and the files that are left."""
         emptied(self.place).chmod(0o777)
         for name, data in {**trial.files, trial.program: file}.items():
-            (self.place / name).write_bytes(data)
-            (self.place / name).chmod(0o777)
+            path = self.place / name
+            path.parent.mkdir(parents=True, exist_ok=True)
+            path.write_bytes(data)
+            path.chmod(0o777)
         ended = [self.start(trial, step, before) for step in trial.steps]
         (self.place / trial.program).unlink()
-        return ended, {it.name: it.read_bytes() for it in self.place.iterdir()}
+        left = [it for it in self.place.rglob('*') if it.is_file()]
+        return ended, {str(it.relative_to(self.place)): it.read_bytes() for it in left}
 
     def compare(self, trial, variants, user, wrapped):
         """A program by all of its variants: the first is the static one."""

@@ -3,15 +3,26 @@
 import bz2
 import collections
 import gzip
+import lzma
 import random
 import re
 import sqlite3
+import subprocess
 from pathlib import Path
 
-from unchanged import SUITES, UNITS, YAML
+from unchanged import SODIUM, SUITES, UNITS, XZ, YAML
 
 HERE = Path(__file__).resolve().parent
 
+# A program that tcc compiles into its own memory, and runs.
+RUN = b"""#include <unistd.h>
+#include <stdio.h>
+int main(int number, char **words) {
+    char text[80];
+    write(1, text, sprintf(text, "%d words\\n", number));
+    return 42;
+}
+"""
 # A start of a program: its words, its input, and the status that is wanted.
 Step = collections.namedtuple('Step', 'words given status', defaults=(b'', 0))
 # What is tried of a program: the files that it finds, its starts, and a test of what it did, which
@@ -142,8 +153,66 @@ def pcre_trials(it):
                 [it.output for it in ended] == wanted)
 
 
+def below(folder, pattern):
+    """The files below a folder, by the names that they have from there."""
+    return {str(it.relative_to(folder)): it.read_bytes()
+            for it in sorted(folder.glob(pattern)) if it.is_file()}
+
+
+def xz_trials(it):
+    files = below(it.place['static'] / 'tests', 'files/*')
+    good, bad, other = ([name for name in files if name.startswith(f'files/{kind}-')]
+                        for kind in ('good', 'bad', 'unsupported'))
+    data = b'a line of words\n' * 9000 + random.Random(3).randbytes(9000)
+    packed = lzma.compress(data)
+    steps = [Step(['-dc', *good]), Step(['-tv', *bad], b'', 1), Step(['-t', *other], b'', 1)]
+    steps += [Step(['-9e'], data), Step(['-T2', '--block-size=20KiB'], data), Step(['-dc'], packed)]
+    steps += [Step(['--no-warn', '--x86', '--lzma2=dict=64KiB', 'data']), Step(['-dk', 'data.xz']),
+              Step(['-l', 'data.xz']), Step(['-dc'], packed[:-9], 1)]
+    yield Trial('xz', {'data': data, **files}, steps, lambda ended, left, _:
+                {data} == {*map(lzma.decompress, (ended[3].output, ended[4].output, left['data.xz'])),
+                           left['data'], ended[5].output})
+    for name in XZ:
+        yield Trial(f'test_{name}', files, [Step([])], right)
+
+
+def sodium_trials(it):
+    tests = it.place['static'] / 'test' / 'default'
+    for name in SODIUM:
+        wanted = (tests / f'{name}.exp').read_bytes()
+        yield Trial(name, {f'{name}.exp': wanted}, [Step([])], lambda ended, left, _, name=name:
+                    left[f'{name}.res'] == left[f'{name}.exp'])
+
+
+def is_compiler_right(ended, place, preprocessed, compiled):
+    """What tcc told and wrote, and what the programs print that it compiled, are as is wanted."""
+    found = [(it.errors + it.output).split() for it in ended]
+    for n, name in enumerate(compiled, len(preprocessed)):
+        found[n] += subprocess.run([place / f'{name}.out'], capture_output=True).stdout.split()
+    wanted = [*preprocessed.values(), *compiled.values()]
+    return found[:len(wanted)] == wanted and ended[-2].output == b'3 words\n'
+
+
+def tcc_trials(it):
+    place = it.place['static']
+    # 02: where it is linked statically, tcc doesn't do what that test wants either.
+    preprocessed, compiled = (
+        {path.stem: path.with_suffix('.expect').read_bytes().split()
+         for path in sorted((place / 'tests').glob(pattern)) if path.stem != '02'}
+        for pattern in ('pp/[0-9]*.c', 'tests2/[0-2]?_*.c'))
+    files = below(place / 'tests/pp', '*.c') | below(place / 'tests/tests2', '*.[ch]')
+    words = [f'-B{place}']
+    steps = [Step([*words, '-E', '-P', f'{name}.c']) for name in preprocessed]
+    steps += [Step([*words, '-static', '-o', f'{name}.out', f'{name}.c']) for name in compiled]
+    steps += [Step([*words, '-c', f'{name}.c']) for name in compiled]
+    steps += [Step([*words, '-static', '-run', '-', 'a', 'b'], RUN, 42), Step(['-c', 'none.c'], b'', 1)]
+    yield Trial('tcc', files, steps, lambda ended, _, where:
+                is_compiler_right(ended, where, preprocessed, compiled))
+
+
 TRIALS = {
     'zlib': zlib_trials, 'Lua': lua_trials, 'SQLite': sqlite_trials,
     'bzip2': bzip2_trials, 'Lua, alone': lua_alone_trials, 'cJSON': cjson_trials,
     'jansson': jansson_trials, 'libyaml': yaml_trials, 'expat': expat_trials, 'libpng': png_trials,
-    'PCRE2': pcre_trials}
+    'PCRE2': pcre_trials, 'SQLite, alone': sqlite_trials, 'xz': xz_trials,
+    'libsodium': sodium_trials, 'tcc': tcc_trials}

@@ -13,6 +13,8 @@ from real_builds import Build, need, run
 # the tools that it takes.
 Project = collections.namedtuple(
     'Project', 'package commands linked static libraries programs tools before', defaults=((), ()))
+# The packages of tools, where these have another name.
+PACKAGES = {'libtoolize': 'libtool', 'tclsh': 'tcl'}
 CMAKE = 'cmake -DCMAKE_C_COMPILER={cc} -DCMAKE_CXX_COMPILER={cxx} {words} . && make'
 STATIC = '-DBUILD_SHARED_LIBS=OFF -DCMAKE_EXE_LINKER_FLAGS=-static'
 CONFIGURE = 'CC="{cc}" ./configure {words} && make'
@@ -25,6 +27,19 @@ SUITES = ('array', 'chaos', 'copy', 'dump', 'dump_callback', 'equal', 'fixed_siz
           'unpack')
 # libyaml's programs.
 YAML = ('run-parser', 'run-scanner', 'run-loader', 'run-emitter', 'run-dumper', 'test-reader')
+# xz's tests.
+XZ = ('bcj_exact_size', 'block_header', 'check', 'filter_flags', 'hardware', 'index', 'index_hash',
+      'lzip_decoder', 'memlimit', 'stream_flags', 'vli')
+# Of libsodium's tests those that end soon, each after what it is about.
+SODIUM = ('aead_aes256gcm', 'aead_xchacha20poly1305', 'auth', 'box', 'chacha20', 'core_ristretto255',
+          'ed25519_convert', 'generichash', 'hash', 'kdf', 'kx', 'misuse', 'onetimeauth', 'randombytes',
+          'scalarmult', 'secretbox', 'secretstream', 'shorthash', 'sign', 'sodium_core', 'sodium_utils',
+          'sodium_utils2', 'sodium_utils3', 'sodium_version', 'stream')
+# tcc with no dlopen, that compiles for musl.
+MUSL = '/usr/lib/x86_64-linux-musl'
+TCC = (f'./configure --cc="{{cc}}" {{words}} --extra-cflags="-O2 -DCONFIG_TCC_STATIC" --config-musl '
+       f'--crtprefix={MUSL} --libpaths={MUSL} '
+       '--sysincludepaths=/usr/include/x86_64-linux-musl:{{B}}/include && make')
 
 PROJECTS = {
     'zlib': Project(
@@ -59,6 +74,26 @@ PROJECTS = {
         'pcre2', CONFIGURE, '--disable-static', '--disable-shared',
         ['.libs/libpcre2-8.so', '.libs/libpcre2-posix.so'],
         {'pcre2test': ('.libs/pcre2test', 'pcre2test')}),
+    'SQLite, alone': Project(
+        'sqlite3', CONFIGURE + ' libsqlite3.la shell.c && ./libtool --mode=link {cc} '
+        '-DSQLITE_OMIT_LOAD_EXTENSION -o shell shell.c libsqlite3.la',
+        '--disable-load-extension --disable-tcl --disable-static',
+        '--disable-load-extension --disable-tcl --disable-shared', ['.libs/libsqlite3.so'],
+        {'sqlite3': ('.libs/shell', 'shell')}, ['tclsh']),
+    'xz': Project(
+        'xz-utils', CONFIGURE + ' && make check TESTS=', '--disable-static', '--disable-shared',
+        ['src/liblzma/.libs/liblzma.so'],
+        {'xz': ('src/xz/.libs/xz', 'src/xz/xz'),
+         **{f'test_{it}': (f'tests/.libs/test_{it}', f'tests/test_{it}') for it in XZ}}),
+    'libsodium': Project(
+        'libsodium', 'autoreconf -fi && ac_cv_tls=none ' + CONFIGURE + ' && make -C test/default '
+        + ' '.join(SODIUM), '--disable-static', '--disable-shared',
+        ['src/libsodium/.libs/libsodium.so'],
+        {it: (f'test/default/.libs/{it}', f'test/default/{it}') for it in SODIUM},
+        ['automake', 'libtoolize']),
+    'tcc': Project(
+        'tcc', TCC, '--disable-static', '', ['libtcc.so'],
+        {'tcc': ('tcc', 'tcc')}),
 }
 
 
@@ -79,7 +114,7 @@ def build(name, folder, archives, built):
     """A project with its programs, by the driver and static; `built` has those that came before."""
     project, it = PROJECTS[name], Build(folder)
     for tool in project.tools:
-        need(tool, tool)
+        need(tool, PACKAGES.get(tool, tool))
     before = {other: built[other] for other in project.before if other in built}
     if len(before) < len(project.before):
         raise NotHad(f'{name} needs {", ".join(project.before)}')
