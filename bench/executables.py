@@ -5,10 +5,10 @@
 
 Each is a program with up to 20 libraries by linkers, flags and bases at random; it ends with the sum
 of what its libraries and their data give. In some, segments share pages: each page of the program has
-to permit what its segments there do, and an object is refused where a page of it may be written and
-executed, as read from the files. Others have 71, 75, 1,167 and 1,171 program headers: the last is
-refused. All of them are started here, and with --kernel in a guest of qemu; a kernel before 6.17
-takes at most 73 headers.
+to permit what its segments there do, no PT_LOAD may do for two, and an object is refused where a page
+of it may be written and executed, as read from the files. Others have 71, 75, 1,167 and 1,171 program
+headers: the last is refused. All of them are started here, and with --kernel in a guest of qemu; a
+kernel before 6.17 takes at most 73 headers.
 """
 
 import argparse
@@ -81,16 +81,27 @@ def make_program(folder, name, needs, flags):
          *(folder / f'lib{need}.so' for need in needs))
 
 
+def loads(file):
+    """Of each PT_LOAD of a file p_flags, p_offset, p_vaddr, p_filesz and p_memsz."""
+    at, count = struct.unpack_from('<Q', file, 32)[0], struct.unpack_from('<H', file, 56)[0]
+    headers = (struct.unpack_from('<IIQQQQQQ', file, at + 56 * i) for i in range(count))
+    return [(flags, offset, address, size, memory) for kind, flags, offset, address, _, size, memory, _ in headers if kind == 1]
+
+
 def pages(file, base=0):
     """What each page of a file's segments permits, by p_flags."""
-    at, count = struct.unpack_from('<Q', file, 32)[0], struct.unpack_from('<H', file, 56)[0]
     permitted = {}
-    for i in range(count):
-        kind, flags, _, address, _, _, size, _ = struct.unpack_from('<IIQQQQQQ', file, at + 56 * i)
-        if kind == 1 and size:
+    for flags, _, address, _, size in loads(file):
+        if size:
             for page in range((base + address) // PAGE, (base + address + size - 1) // PAGE + 1):
                 permitted[page] = permitted.get(page, 0) | flags & 7
     return permitted
+
+
+def are_one(first, second):
+    """Whether one PT_LOAD would do for two: they permit the same, not writing and executing, and no whole page lies between."""
+    (flags, _, address, size, _), (other, _, begin, _, _) = first, second
+    return flags == other and flags & 3 != 3 and begin // PAGE * PAGE < address + size + PAGE
 
 
 def is_both(file):
@@ -130,6 +141,9 @@ class Executables:
         for page, flags in pages((self.folder / f'{name}.bound').read_bytes(), base).items():
             if have.get(page) != flags:
                 self.faults.append(f'{name}: page {page:#x} permits {have.get(page)} and not {flags}')
+        parts = [load for load in loads(ended.stdout) if load[1]]
+        if any(map(are_one, parts, parts[1:])):
+            self.faults.append(f'{name}: one PT_LOAD would do for two')
         count = int.from_bytes(ended.stdout[56:58], 'little')
         if (count > 73) != (b'73 program headers' in ended.stderr):
             self.faults.append(f'{name}: {count} headers, and standard error has {ended.stderr}')

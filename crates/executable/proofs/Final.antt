@@ -11,11 +11,11 @@ use Rattle.image.specs.Image.{ImageSegment, segments_byte}
 use Rattle.image.specs.Loading.{Loaded, loaded_byte_at}
 use Rattle.executable.specs.Constant.{MOST_HEADERS}
 use Rattle.executable.specs.File.{file_with, front_of, table_of, put_in_order, is_below}
-use Rattle.executable.specs.Meaning.{IsExecutable, IsFileOf, IsFrom, IsOfHeaders, IsBetween, HasAny, IsApart, IsCongruent, file_byte, loaded_by, headers_at}
+use Rattle.executable.specs.Meaning.{IsExecutable, IsFileOf, IsFrom, IsOfHeaders, IsApart, IsCongruent, file_byte, loaded_by, headers_at}
 use Rattle.executable.specs.Piece.{is_rising, pieces_of}
 use Rattle.executable.specs.Place.{header_count_of, headers_size, headers_room, place_of}
 use Rattle.executable.proofs.Bytes.{Loads}
-use Rattle.executable.proofs.Making.{Between, fine-of, keeps-all, only-all}
+use Rattle.executable.proofs.Merged.{fine-of, keeps-all, only-all}
 use Rattle.executable.proofs.Exact.{made, own_piece}
 use Rattle.executable.proofs.Placing.{ordered, place-low, place-whole}
 
@@ -31,17 +31,6 @@ pub record Promised (segments : List ImageSegment) (entry : ℕ) (file : List �
   pub loads : (a b : ℕ) → segments_byte segments a ≡ Some b → file_byte file a ≡ Some b
   pub only : (a b : ℕ) → file_byte file a ≡ Some b → IsFrom segments file a b
   pub apart : IsApart 0 (loaded_by file)
-
-between : (segments : List ImageSegment) (a : ℕ) → Between (HasAny segments) a → IsBetween segments a
-between segments a h = record {
-  below = h.below;
-  above = h.above;
-  before = h.before;
-  behind = h.behind;
-  has_below = h.has_below;
-  has_above = h.has_above;
-  page = h.page;
-}
 
 own-byte : (segments : List ImageSegment) (file : List ℕ) (place a b : ℕ) → place_of (pieces_of segments) ≡ Some place → Loads (headers_at place (pieces_of segments) file) a b
     → IsOfHeaders segments file a b
@@ -73,10 +62,7 @@ promised segments entry place rising small few free =
       loads = λ a b h. ap (λ xs. loaded_byte_at xs a) loaded ∙ o.keeps a b (keeps-all 0 segments a b rising h);
       only = λ a b h. elim (o.only a b (sym (ap (λ xs. loaded_byte_at xs a) loaded) ∙ h)) [
         | inl mine ↦ inr (inl (own-byte segments file place a b free mine))
-        | inr piece ↦ elim (only-all (HasAny segments) 0 segments a b rising (λ x y found. (y, found)) piece) [
-          | inl same ↦ inl same
-          | inr zero ↦ inr (inr (zero.0, between segments a zero.1))
-        ]
+        | inr piece ↦ elim (only-all 0 segments a b rising piece) [ inl same ↦ inl same | inr zero ↦ inr (inr zero) ]
       ];
       apart = apart-as loaded o.apart;
       congruent = subst (λ (hs : List ProgramHeader). All IsCongruent hs) (sym m.loads)

@@ -9,7 +9,8 @@ use Rattle.executable.specs.Piece.{page_of, end_of, finished}
 use Rattle.executable.proofs.Any.{AnyLoads}
 use Rattle.executable.proofs.Bytes.{piece-here, piece-there}
 use Rattle.executable.proofs.Zeros.{finished-heading, finished-length}
-use Rattle.executable.proofs.Joining.{IsShort, finished-loads, loads-finished, finished-end}
+use Rattle.executable.specs.inside.Joining.{IsShort}
+use Rattle.executable.proofs.Joining.{finished-loads, loads-finished, finished-end}
 use Rattle.executable.proofs.Loading.{AllPermissions}
 
 -- what is known of a piece that begins in a page at or above `from`
@@ -31,7 +32,7 @@ bits-small x = let e : permission_bits x ≡ x % 2 ^ 3 = and_mask x 3 in omega (
 pub small-bits : (x : ℕ) → x < 2 ^ 3 → permission_bits x ≡ x
 small-bits x h = let e : permission_bits x ≡ x % 2 ^ 3 = and_mask x 3 in omega (arith, e, h)
 
-fine-finished : (from : ℕ) (p : Loaded) → FinePiece from p → FinePiece from (finished p)
+pub fine-finished : (from : ℕ) (p : Loaded) → FinePiece from p → FinePiece from (finished p)
 fine-finished from p f =
     let e = finished-heading p in
     record {

@@ -27,7 +27,7 @@ page-high x = omega arith
 abbrev pub Opens : ℕ → List Loaded → Loaded → Type 0
 Opens from done last = (more : List Loaded) → ((end : ℕ) → end ≤ page_of last.heading.address → Fine end more) → Fine from (done ++ more)
 
-at-0 : {from : ℕ} (p : Loaded) → FinePiece from p → FinePiece 0 p
+pub at-0 : {from : ℕ} (p : Loaded) → FinePiece from p → FinePiece 0 p
 at-0 {from} p f = record { page = omega arith; short = f.short; some = f.some; low = f.low; permissions = f.permissions }
 
 -- the parts of a piece below the page of an address, and from there on
@@ -83,7 +83,7 @@ pub record Follows (p q : Loaded) (from : ℕ) (all : Pieces) : Type 0 where
   pub only : (a b : ℕ) → AnyLoads all.done a b ⊎ Loads all.last a b → Origin p q a b
   pub fine : Opens from all.done all.last
 
-joined-fine : (u q : Loaded) → FinePiece 0 u → FinePiece 0 q → end_of u ≤ q.heading.address → FinePiece 0 (joined u q)
+pub joined-fine : (u q : Loaded) → FinePiece 0 u → FinePiece 0 q → end_of u ≤ q.heading.address → FinePiece 0 (joined u q)
 joined-fine u q f g h =
     let j = joins u q f.short g.short h in
     let ends = j.ends in

@@ -5,12 +5,9 @@ use Rattle.std.proofs.lemmas.List.{length-append, length-replicate, length-take,
 use Rattle.image.specs.Image.{ImageSegment}
 use Rattle.image.specs.Loading.{Loaded}
 use Rattle.executable.specs.Piece.{end_of, piece_of, joined, below, above, finished}
+use Rattle.executable.specs.inside.Joining.{IsShort}
 use Rattle.executable.proofs.Bytes.{HasByte, Loads, front-byte, back-byte}
-use Rattle.executable.proofs.Zeros.{finished-heading, finished-byte}
-
--- the contents of a piece are no longer than it is
-abbrev pub IsShort : Loaded → Type 0
-IsShort p = length p.contents ≤ p.heading.size
+use Rattle.executable.proofs.Zeros.{finished-heading, finished-byte, finished-length}
 
 -- two pieces that were joined
 pub record Joined (p q : Loaded) : Type 0 where
@@ -114,6 +111,10 @@ loads-finished p a b h =
 
 pub finished-end : (p : Loaded) → end_of (finished p) ≡ end_of p
 finished-end p = ap (λ g. g.address + g.size) (finished-heading p)
+
+-- two that were joined, as the file has them
+pub short-joined : (p q : Loaded) → IsShort p → IsShort q → end_of p ≤ q.heading.address → IsShort (finished (joined p q))
+short-joined p q short own above = rw (finished-heading (joined p q)) (finished-length (joined p q) (joined p q).heading.size (joins p q short own above).short)
 
 -- a segment as a piece
 pub piece-loads : (s : ImageSegment) (a b : ℕ) → HasByte s a b → Loads (piece_of s) a b

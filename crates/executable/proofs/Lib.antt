@@ -9,6 +9,7 @@ pub mod Loading
 pub mod Fine
 pub mod Following
 pub mod Making
+pub mod Merged
 pub mod Lengths
 pub mod Exact
 pub mod Placing

@@ -1,14 +1,14 @@
--- The pieces of segments have their bytes, each in the one that holds its address.
+-- The pieces of segments have their bytes, each in the one that holds its address, before any two are one.
 use Rattle.std.proofs.Common.{◌≡◌, ℕ, ◌+◌, ◌-◌, ◌<◌, ◌≤◌, ◌⊎◌, inl, inr, Bool, true, false, cond, List, [], ◌∷◌, ◌++◌, length, get_or, Some, refl, sym, ◌∙◌, subst, arith}
 use Rattle.std.specs.Prelude.{◌==◌}
 use Rattle.std.proofs.lemmas.Bool.Decides.{leb_tells}
 use Rattle.image.specs.Image.{ImageSegment, segments_byte}
-use Rattle.image.specs.Loading.{Loaded, loaded_byte_at}
+use Rattle.image.specs.Loading.{Loaded}
 use Rattle.image.specs.Constant.{MEMORY_LIMIT}
-use Rattle.executable.specs.Piece.{is_rising, page_of, end_of, piece_of, followed, pieces_from, cut_pieces, pieces_of}
-use Rattle.executable.proofs.Any.{AnyLoads, any-left, any-right, any-split, byte-any}
+use Rattle.executable.specs.Piece.{is_rising, page_of, end_of, piece_of, followed, pieces_from, cut_pieces}
+use Rattle.executable.proofs.Any.{AnyLoads, any-left, any-right, any-split}
 use Rattle.executable.proofs.Bytes.{Loads, segment-cases, segment-here, segment-there}
-use Rattle.executable.proofs.Fine.{FinePiece, Fine, bits-small, fine-behind, any-byte, any-finished, finished-any, all-finished}
+use Rattle.executable.proofs.Fine.{FinePiece, Fine, bits-small, fine-behind}
 use Rattle.executable.proofs.Following.{Origin, follows}
 use Rattle.executable.proofs.Joining.{piece-loads, loads-piece}
 use Rattle.executable.proofs.Rising.{Rises, rises, rising-lower, rising-above, empty, filled}
@@ -46,14 +46,11 @@ fine-cut-by : (from : ℕ) (s : ImageSegment) (rest : List ImageSegment) (t : Bo
 fine-cut-by from s rest true e r ih = ih
 fine-cut-by from s rest false e r ih = fine-from 0 (piece_of s) rest (fine-piece s e r.low) r.others
 
-fine-cut : (from : ℕ) (segments : List ImageSegment) → is_rising from segments ≡ true → Fine 0 (cut_pieces segments)
+pub fine-cut : (from : ℕ) (segments : List ImageSegment) → is_rising from segments ≡ true → Fine 0 (cut_pieces segments)
 fine-cut from [] h = tt
 fine-cut from (s ∷ rest) h =
     let r = rises from s rest h in
     fine-cut-by from s rest (length s.bytes == 0) refl r (fine-cut (s.address + length s.bytes) rest r.others)
-
-pub fine-of : (from : ℕ) (segments : List ImageSegment) → is_rising from segments ≡ true → Fine 0 (pieces_of segments)
-fine-of from segments h = all-finished 0 (cut_pieces segments) (fine-cut from segments h)
 
 -- what a piece loads, or segments behind it have
 abbrev pub Either : Loaded → List ImageSegment → ℕ → ℕ → Type 0
@@ -94,16 +91,12 @@ keeps-cut-by from s rest a b false e r ih h =
     keeps (piece_of s) rest (fine-piece s e r.low) r.others a b
     (elim (segment-cases s rest a b h) [ inl here ↦ inl (piece-loads s a b here) | inr more ↦ inr more ])
 
-keeps-cut : (from : ℕ) (segments : List ImageSegment) (a b : ℕ) → is_rising from segments ≡ true → segments_byte segments a ≡ Some b → AnyLoads (cut_pieces segments) a b
+-- the pieces load what the segments have
+pub keeps-cut : (from : ℕ) (segments : List ImageSegment) (a b : ℕ) → is_rising from segments ≡ true → segments_byte segments a ≡ Some b → AnyLoads (cut_pieces segments) a b
 keeps-cut from [] a b h found = cc
 keeps-cut from (s ∷ rest) a b h found =
     let r = rises from s rest h in
     keeps-cut-by from s rest a b (length s.bytes == 0) refl r (keeps-cut (s.address + length s.bytes) rest a b r.others) found
-
--- the pieces load the byte that the segments have
-pub keeps-all : (from : ℕ) (segments : List ImageSegment) (a b : ℕ) → is_rising from segments ≡ true → segments_byte segments a ≡ Some b → loaded_byte_at (pieces_of segments) a ≡ Some b
-keeps-all from segments a b h found =
-    any-byte 0 (pieces_of segments) a b (fine-of from segments h) (any-finished (cut_pieces segments) a b (keeps-cut from segments a b h found))
 
 -- between two addresses of one page, each of which has a byte
 pub record Between (Has : ℕ → Type 0) (a : ℕ) : Type 0 where
@@ -203,7 +196,7 @@ only Has p (s ∷ rest) k a b found =
     only-by Has p s rest (length s.bytes == 0) refl (λ q. only Has q rest) k (rises (end_of p) s rest k.rising) a b found
 
 -- what pieces load: what the segments have, or a 0 between bytes of one page
-abbrev Found : (ℕ → Type 0) → List ImageSegment → ℕ → ℕ → Type 0
+abbrev pub Found : (ℕ → Type 0) → List ImageSegment → ℕ → ℕ → Type 0
 Found Has segments a b = (segments_byte segments a ≡ Some b) ⊎ ((b ≡ 0) × Between Has a)
 
 only-cut-by : (Has : ℕ → Type 0) (from : ℕ) (s : ImageSegment) (rest : List ImageSegment) (a b : ℕ) (t : Bool) → (length s.bytes == 0) ≡ t → Rises from s rest
@@ -226,16 +219,10 @@ only-cut-by Has from s rest a b false e r all ih h =
       | inr more ↦ elim more [ inl found ↦ inl (there a b found) | inr zero ↦ inr zero ]
     ]
 
-only-cut : (Has : ℕ → Type 0) (from : ℕ) (segments : List ImageSegment) (a b : ℕ) → is_rising from segments ≡ true
+-- and nothing else
+pub only-cut : (Has : ℕ → Type 0) (from : ℕ) (segments : List ImageSegment) (a b : ℕ) → is_rising from segments ≡ true
     → ((x y : ℕ) → segments_byte segments x ≡ Some y → Has x) → AnyLoads (cut_pieces segments) a b → Found Has segments a b
 only-cut Has from [] a b h all found = absurd found
 only-cut Has from (s ∷ rest) a b h all found =
     let r = rises from s rest h in
     only-cut-by Has from s rest a b (length s.bytes == 0) refl r all (λ more. only-cut Has (s.address + length s.bytes) rest a b r.others more) found
-
--- and else only zeros between bytes of one page
-pub only-all : (Has : ℕ → Type 0) (from : ℕ) (segments : List ImageSegment) (a b : ℕ) → is_rising from segments ≡ true
-    → ((x y : ℕ) → segments_byte segments x ≡ Some y → Has x)
-    → loaded_byte_at (pieces_of segments) a ≡ Some b → (segments_byte segments a ≡ Some b) ⊎ ((b ≡ 0) × Between Has a)
-only-all Has from segments a b h all found =
-    only-cut Has from segments a b h all (finished-any (cut_pieces segments) a b (byte-any (pieces_of segments) a b found))

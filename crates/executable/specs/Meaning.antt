@@ -59,7 +59,7 @@ pub record IsOfHeaders (segments : List ImageSegment) (file : List ℕ) (a b : �
 abbrev pub HasAny : List ImageSegment → ℕ → Type 0
 HasAny segments a = (b : ℕ) × (segments_byte segments a ≡ Some b)
 
--- an address lies between two of one page, at each of which a segment has a byte
+-- an address lies between two of one page or of neighbouring ones, at each of which a segment has a byte
 pub record IsBetween (segments : List ImageSegment) (a : ℕ) : Type 0 where
   pub below : ℕ
   pub above : ℕ
@@ -67,9 +67,9 @@ pub record IsBetween (segments : List ImageSegment) (a : ℕ) : Type 0 where
   pub behind : a < above
   pub has_below : HasAny segments below
   pub has_above : HasAny segments above
-  pub page : page_of below ≡ page_of above
+  pub page : page_of above ≤ page_of below + PAGE
 
--- a byte at an address is the segments', or the headers', or a 0 where segments share a page
+-- a byte at an address is the segments', or the headers', or a 0 between segments whose pages are the same or touch
 abbrev pub IsFrom : List ImageSegment → List ℕ → ℕ → ℕ → Type 0
 IsFrom segments file a b = (segments_byte segments a ≡ Some b) ⊎ (IsOfHeaders segments file a b ⊎ ((b ≡ 0) × IsBetween segments a))
 

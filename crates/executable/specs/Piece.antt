@@ -1,8 +1,8 @@
--- The parts of an image that a file can load: a page that segments share is one of its own (gABI chapter 5, program loading).
-use Rattle.std.specs.Prelude.{ℕ, ◌+◌, ◌-◌, ◌%◌, ◌==◌, Bool, true, ◌&&◌, nat_le, nat_lt, if◌then◌else◌}
+-- The parts of an image that a file can load: what segments have in pages that permit the same (gABI chapter 5, program loading).
+use Rattle.std.specs.Prelude.{ℕ, ◌+◌, ◌-◌, ◌%◌, ◌==◌, Bool, true, not, ◌&&◌, nat_le, nat_lt, if◌then◌else◌}
 use Rattle.std.specs.Prelude.{List, [], ◌∷◌, ◌++◌, length, map, take, drop, replicate}
 use Rattle.std.specs.Int.RustNames.{bit_and, bit_or}
-use Rattle.image.specs.Constant.{PAGE, MEMORY_LIMIT, PF_W}
+use Rattle.image.specs.Constant.{PAGE, MEMORY_LIMIT, PF_X, PF_W}
 use Rattle.image.specs.Image.{ImageSegment}
 use Rattle.image.specs.Loading.{Loaded}
 use Rattle.image.specs.Permissions.{permission_bits}
@@ -112,6 +112,30 @@ abbrev pub cut_pieces : List ImageSegment → List Loaded
 cut_pieces [] = []
 cut_pieces (s ∷ rest) = if length s.bytes == 0 then cut_pieces rest else pieces_from (piece_of s) rest
 
--- the same as the file has them
+-- permissions, as in p_flags, to write and to execute
+abbrev pub is_both : ℕ → Bool
+is_both flags = bit_and flags (PF_W + PF_X) == PF_W + PF_X
+
+-- a piece goes on in the one behind it: they permit the same, and not both, and no whole page lies between its bytes and that one
+abbrev pub goes_on : Loaded → Loaded → Bool
+goes_on p q =
+    (p.heading.permissions == q.heading.permissions) && not (is_both p.heading.permissions)
+    && nat_lt (page_of q.heading.address) (p.heading.address + length p.contents + PAGE)
+
+-- a piece as the file has it and one behind it, which are one where it goes on
+abbrev pub merging : Loaded → Loaded → Pieces
+merging p q = if goes_on p q then record { done = []; last = finished (joined p q) } else record { done = p ∷ []; last = q }
+
+-- a piece and those behind it, each one with the next where it goes on
+abbrev pub merged_from : Loaded → List Loaded → List Loaded
+merged_from p [] = p ∷ []
+merged_from p (q ∷ rest) = (merging p q).done ++ merged_from (merging p q).last rest
+
+-- the same of all pieces
+abbrev pub merged : List Loaded → List Loaded
+merged [] = []
+merged (p ∷ rest) = merged_from p rest
+
+-- the pieces of segments, as the file has them
 abbrev pub pieces_of : List ImageSegment → List Loaded
-pieces_of segments = map finished (cut_pieces segments)
+pieces_of segments = merged (map finished (cut_pieces segments))

@@ -1,18 +1,12 @@
 -- Memory that may be written and executed although no file asks for both (own).
 use Rattle.std.specs.Prelude.{ℕ, ◌+◌, ◌==◌, ◌&&◌, not, nat_lt, Bool, if◌then◌else◌, List, [], ◌∷◌, length, take, drop, Option}
-use Rattle.std.specs.Int.RustNames.{bit_and}
 use Rattle.std.specs.List.{list_any, find}
 use Rattle.std.specs.Option.{option_map}
-use Rattle.image.specs.Constant.{PF_X, PF_W}
 use Rattle.image.specs.Image.{ImageSegment, MemoryImage}
 use Rattle.image.specs.Loading.{Loaded}
 use Rattle.image.specs.Permissions.{permission_bits}
 use Rattle.image.specs.declared.object.ImageObject.{ImageObject}
-use Rattle.executable.specs.Piece.{end_of, pieces_of}
-
--- permissions, as in p_flags, to write and to execute
-abbrev pub is_both : ℕ → Bool
-is_both flags = bit_and flags (PF_W + PF_X) == PF_W + PF_X
+use Rattle.executable.specs.Piece.{end_of, is_both, pieces_of}
 
 -- a segment has a byte in a piece
 abbrev pub meets : Loaded → ImageSegment → Bool

@@ -18,8 +18,8 @@ ghost use Rattle.executable.specs.Refusal.{executable_refusal, IsAnswer};
 use crate::entry::entry_of;
 use crate::front::{front_of, table_of};
 use crate::initializers::{first_finalized, first_initialized, is_preinitialized};
+use crate::merging::pieces_of;
 use crate::piece::Piece;
-use crate::pieces::pieces_of;
 use crate::place::{MEMORY_LIMIT, MOST_HEADERS, PAGE, padding, place_of};
 use crate::refusal::ExecutableRefusal;
 use crate::segments::is_rising;
@@ -198,7 +198,8 @@ fn file_of(
 /// its own, it is a static PIE, it has pre-initializers, a library has initializers, or finalizers,
 /// the image is out of order, there are more program headers than the kernel takes, memory may be
 /// written and executed although no segment in it asks for both, no pages are free for the headers.
-/// It takes as much memory as the image's bytes, and one pass over them.
+/// It takes as much memory as the image's bytes, up to three times as much where segments become
+/// one, and two passes over them.
 pub fn executable_of(alloc: Global, image: &Image) -> Result<Executable, ExecutableRefusal>
 
     // A file only where no test applies; else the refusal of the first that does, or want of
@@ -221,7 +222,8 @@ pub fn executable_of(alloc: Global, image: &Image) -> Result<Executable, Executa
     ensures loads { IfOk result (λ file. (a b : ℕ) →
         image_byte image.now a ≡ Some b → file_byte file a ≡ Some b) }
 
-    // And besides these only its headers, and zeros where segments share a page.
+    // And besides these only its headers, and zeros between segments whose pages are the same or
+    // touch.
     ensures only { IfOk result (λ file. (a b : ℕ) →
         file_byte file a ≡ Some b → IsFrom image.now.segments file a b) }
 

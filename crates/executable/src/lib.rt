@@ -1,14 +1,15 @@
 //! A bound program as a static ELF executable for x86-64 (gABI chapters 4 and 5, elf(5)).
 //!
 //! `executable_of` makes the file of an image, which loads exactly that image: a PT_LOAD for each
-//! segment, one for each page that segments share, one for the headers, PT_PHDR and PT_GNU_STACK.
-//! The file is started without a loader and without a registry.
+//! run of pages that permit the same, one for the headers, PT_PHDR and PT_GNU_STACK. The file is
+//! started without a loader and without a registry.
 #![tactic(auto)]
 
 mod entry;
 mod executable;
 mod front;
 mod initializers;
+mod merging;
 mod piece;
 mod pieces;
 mod place;

@@ -4,8 +4,8 @@ ghost use Rattle.std.specs.Prelude.{◌≡◌, ◌+◌, ◌≤◌, length, take,
 ghost use Rattle.image.specs.Constant.{MEMORY_LIMIT};
 ghost use Rattle.image.specs.Permissions.{permission_bits};
 ghost use Rattle.executable.specs.Piece.{page_of, end_of, piece_of, shares_page, joined};
-ghost use Rattle.executable.specs.Piece.{below, above, without_zeros, finished};
-ghost use Rattle.executable.specs.inside.Joining.{IsFull};
+ghost use Rattle.executable.specs.Piece.{below, above, without_zeros, finished, is_both, goes_on};
+ghost use Rattle.executable.specs.inside.Joining.{IsFull, IsShort};
 
 use crate::place::PAGE;
 use bitflags::Flags;
@@ -15,6 +15,8 @@ use std::marker::Model;
 
 /// What may be done with memory that may be written, as in `p_flags`.
 const PF_W: u32 = 2;
+/// The same of memory that may be written and executed.
+const PF_WX: u32 = 3;
 
 /// The first address of a page.
 pub(crate) fn page_of(address: u64) -> u64
@@ -28,6 +30,13 @@ pub(crate) fn flags_of(segment: &Segment) -> u32
     ensures { result ≡ permission_bits segment.now.permissions }
 {
     u32::from(segment.permissions().bits()) & 7
+}
+
+/// Whether flags, as in `p_flags`, permit writing and executing.
+pub(crate) fn is_both(flags: u32) -> bool
+    ensures { result ≡ is_both flags }
+{
+    flags & PF_WX == PF_WX
 }
 
 /// How many bytes there are before the zeros at the end.
@@ -123,9 +132,20 @@ impl Piece {
         page_of(other.address) < self.end()
     }
 
+    /// Whether it goes on in a piece behind it, of which it can be one header with it.
+    pub(crate) fn goes_on(&self, other: &Piece) -> bool
+        requires short { IsShort self.now }
+        requires limit { end_of self.now ≤ MEMORY_LIMIT }
+        ensures { result ≡ goes_on self.now other.now }
+    {
+        self.flags == other.flags
+            && !is_both(self.flags)
+            && page_of(other.address) < self.address + self.contents.len() as u64 + PAGE
+    }
+
     /// Joins a piece behind it to it.
     pub(crate) fn join(&mut self, other: &Piece) -> Result<(), AllocError>
-        requires within { length self.old.contents ≤ self.old.heading.size }
+        requires short { IsShort self.old }
         requires behind { end_of self.old ≤ other.now.heading.address }
         requires limit { end_of other.now ≤ MEMORY_LIMIT }
         ensures { OnOk result (self.new ≡ joined self.old other.now) }

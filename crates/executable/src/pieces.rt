@@ -1,11 +1,12 @@
-// The pieces of an image.
+// The pieces of segments, before any two of them are one.
 
 ghost use Rattle.std.specs.Prelude.{◌≡◌, ◌+◌, ◌<◌, ◌≤◌, ◌++◌, ◌∷◌, IfOk, OnOk, List};
 ghost use Rattle.std.specs.Prelude.{length, map, true};
 ghost use Rattle.image.specs.Constant.{MEMORY_LIMIT};
 ghost use Rattle.image.specs.Image.{ImageSegment};
 ghost use Rattle.executable.specs.Piece.{is_rising, page_of, end_of, piece_of, finished};
-ghost use Rattle.executable.specs.Piece.{lower, upper, in_page, followed, pieces_from, pieces_of};
+ghost use Rattle.executable.specs.Piece.{lower, upper, in_page, followed, pieces_from};
+ghost use Rattle.executable.specs.Piece.{cut_pieces};
 ghost use Rattle.executable.specs.inside.Joining.{pieces_after, IsFull, IsReady};
 
 use crate::piece::{Piece, page_of};
@@ -106,9 +107,9 @@ fn add(
 }
 
 /// The pieces of segments. One pass over them, which copies their bytes.
-pub(crate) fn pieces_of(alloc: Global, segments: &[Segment]) -> Result<Vec<Piece>, AllocError>
+pub(crate) fn cut_pieces(alloc: Global, segments: &[Segment]) -> Result<Vec<Piece>, AllocError>
     requires { is_rising 0 segments.now ≡ true }
-    ensures { IfOk result (λ pieces. pieces.items ≡ pieces_of segments.now) }
+    ensures { IfOk result (λ pieces. pieces.items ≡ map finished (cut_pieces segments.now)) }
 {
     let mut done = Vec::new(alloc);
     let mut last = None;

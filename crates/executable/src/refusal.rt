@@ -35,7 +35,7 @@ pub enum ExecutableRefusal {
     #[error("the image has more segments than the kernel takes")]
     TooManyHeaders,
     /// Memory may be written and executed, and no segment in it asks for both.
-    #[error("an object has memory that may be written and executed, which its file doesn't ask for")]
+    #[error("an object has memory that may be written and executed, which no file asks for")]
     WritableCode {
         /// The object's name.
         name: Name,

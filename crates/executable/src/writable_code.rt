@@ -4,21 +4,12 @@ ghost use Rattle.std.specs.Prelude.{◌≡◌, ◌+◌, ◌&&◌, nat_lt};
 ghost use Rattle.std.specs.List.{find, list_any};
 ghost use Rattle.std.specs.Option.{option_map};
 ghost use Rattle.image.specs.Permissions.{permission_bits};
-ghost use Rattle.executable.specs.WritableCode.{is_both, meets, is_unasked, owner_among};
+ghost use Rattle.executable.specs.Piece.{is_both};
+ghost use Rattle.executable.specs.WritableCode.{meets, is_unasked, owner_among};
 
-use crate::piece::{Piece, flags_of};
+use crate::piece::{Piece, flags_of, is_both};
 use crate::segments::split;
 use image::{Image, Segment};
-
-/// What may be done with memory that may be written and executed, as in `p_flags`.
-const PF_WX: u32 = 3;
-
-/// Whether flags, as in `p_flags`, permit writing and executing.
-fn is_both(flags: u32) -> bool
-    ensures { result ≡ is_both flags }
-{
-    flags & PF_WX == PF_WX
-}
 
 /// Whether so many bytes from an address on end above another address.
 fn ends_above(from: u64, size: u64, address: u64) -> bool
@@ -54,7 +45,8 @@ fn is_unasked(segments: &[Segment], piece: &Piece) -> bool
     is_both(piece.flags()) && !is_asked(segments, piece)
 }
 
-/// The first such piece. One pass over the segments for each piece that may be written and executed.
+/// The first such piece. One pass over the segments for each piece that may be written and
+/// executed.
 pub(crate) fn first_unasked<'a>(segments: &[Segment], pieces: &'a [Piece]) -> Option<&'a Piece>
     ensures { option_map (λ p. p.now) result ≡ find (is_unasked segments.now) pieces.now }
 {

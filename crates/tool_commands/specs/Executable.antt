@@ -16,7 +16,7 @@ use Rattle.tool_commands.specs.Said.{said_line}
 use Rattle.tool_commands.specs.Streams.{Streams, CannotWrite, IsSilent, Says, SaysOnly, Tells}
 
 -- No test refuses the image, and the file loads its bytes, and besides only its own headers, and
--- zeros where segments share a page.
+-- zeros between segments whose pages are the same or touch.
 pub record IsExecutableOf (image : MemoryImage) (file : List ℕ) : Type 0 where
   pub accepted : executable_refusal image ≡ None
   pub header : IsExecutable file

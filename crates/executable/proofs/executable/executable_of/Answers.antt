@@ -10,7 +10,7 @@ use Rattle.executable.specs.Piece.{is_rising, end_of, pieces_of}
 use Rattle.executable.specs.Place.{header_count_of, headers_room, place_of}
 use Rattle.executable.specs.WritableCode.{first_unasked, is_unasked, owner_among}
 use Rattle.executable.proofs.Final.{Promised, promised, file_at}
-use Rattle.executable.proofs.Making.{fine-of}
+use Rattle.executable.proofs.Merged.{fine-of}
 use Rattle.executable.proofs.Placing.{ends-low, contents-low, place-low}
 use Rattle.executable.proofs.Refusing.{too-many, writable-code, no-room, none-applies, entry-low}
 use Rattle.executable.proofs.executable.executable_of.Goals as goal

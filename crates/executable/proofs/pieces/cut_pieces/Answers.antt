@@ -6,8 +6,8 @@ use Rattle.image.specs.Loading.{Loaded}
 use Rattle.executable.specs.Piece.{is_rising, finished}
 use Rattle.executable.specs.inside.Joining.{pieces_after, IsReady}
 use Rattle.executable.proofs.Rising.{Rises, rises}
-use Rattle.executable.proofs.pieces.pieces_of.Goals as goal
-use Rattle.executable.proofs.pieces.pieces_of.Goals.{then-len-ne0+in_ok-add, else-len-ne0, in-Some+in_ok-push, in_default}
+use Rattle.executable.proofs.pieces.cut_pieces.Goals as goal
+use Rattle.executable.proofs.pieces.cut_pieces.Goals.{then-len-ne0+in_ok-add, else-len-ne0, in-Some+in_ok-push, in_default}
 
 -- a segment at a higher address can be joined to the same piece
 ready-higher : (last : Option Loaded) (a b : ℕ) → a ≤ b → IsReady last a → IsReady last b
