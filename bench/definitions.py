@@ -21,6 +21,10 @@ WIDEST = 160
 CLAUSES = [
     ('sector_disk/disk', 'read write sync', 'calls honest'),
     ('sector_disk/disk', 'sync', 'holds_now whole_sectors'),
+    ('file_disk/sector_file', 'count_sectors read_at write_at sync', 'honest'),
+    ('file_disk/disk', 'read write sync', 'honest any_moment cause'),
+    ('file_disk/disk', 'follows_its_file', 'result'),
+    ('file_disk/open', 'over', 'starts'),
     ('registry/format', 'format', 'result'),
     ('registry/open', 'open', 'result'),
     ('registry/upgrade', 'upgrade', 'result'),
@@ -61,16 +65,26 @@ READING = [
         'registry/Stands: Stands StandsOld']),
     ('7. Disks and mixtures', 'What each call does to an honest disk, and what a stop may leave of it (own).', [
         'sector_disk/Disk: DiskFacts Mixture IsRead IsWrite IsSync LeavesOnly']),
-    ('8. Crash safety', 'What a stop leaves at each moment of one command, of many, of a script and of rounds (own).', [
+    ('8. Files of sectors', 'What each call does to an honest file, what its medium may have (POSIX; what kernels do), and a disk over it (own).', [
+        'file_disk/SectorFile: FileFacts MediumAt IsFileCall IsFileRead IsFileWrite IsFileSync',
+        'file_disk/FileDisk: file_facts IsCovered FollowsTheFile IsAsTheFile']),
+    ('9. Crash safety', 'What a stop leaves at each moment of one command, of many, of a script and of rounds (own).', [
         'registry/Opened: IsAt', 'registry/Applied: MayLeaveBy AppliedBy', 'registry/Untested: UntestedStep',
         'registry/Acknowledged: Exchange acknowledged AreAccepted',
         'registry/Ran: Idles HasBegun HoldsAcknowledged LeavesAccepted FindsAccepted Ran',
         'commands/DiskScript: LinesRan', 'registry/Rounds: AlwaysStands RoundLeads']),
-    ('9. Disks of version 1', 'What opening says of such a disk, and what an upgrade makes of it (own).', [
+    ('10. Disks of version 1', 'What opening says of such a disk, and what an upgrade makes of it (own).', [
         'store/Opening: RefusesOpen', 'store/Upgraded: upgraded', 'registry/Upgraded: IsUpgradeOf',
         'store/Step: refusal_of_upgrade IsUpgradeAnswer']),
 ]
 PLAIN = {
+    'file_disk/SectorFile: IsFileCall': 'one call: time goes on by one, a failure is counted; the size stays, and what the medium might have had before',
+    'file_disk/SectorFile: IsFileRead': 'a read changes nothing; the sectors that it moved are those written last, unless a sync has failed; none moved is a failure',
+    'file_disk/SectorFile: IsFileWrite': 'a write, short or failed too: each sector given has the old content or the new, those moved the new; no set grows by more',
+    'file_disk/SectorFile: IsFileSync': 'a sync: no set grows; where it succeeds, and none failed before, each set has what reads give, alone',
+    'file_disk/FileDisk: file_facts': 'a disk over a file: a stop may leave what waited, or what the medium had, since the last sync; reads give what waits first',
+    'file_disk/FileDisk: IsCovered': 'what the medium may have from one file to a later one, a stop of the disk might have left since the moment before',
+    'file_disk/FileDisk: FollowsTheFile': 'what the medium may have had since a moment of the disk, a stop of the disk might have left since then',
     'byte_disk/ByteDisk: IsPlanOf': 'what a plan is to its disk: at each of its steps it leaves what the disk said of a moment, and each moment has such a step',
     'byte_disk/Plan: MayBeLeft': 'a stop after these steps may leave a sector with the content that it had when the last sync was done, or after some step since',
     'byte_registry/Asked: IsAsked': 'the bytes hold this state alone; the reply is by the step table, and once it is Done the steps lead to the state of acceptance',

@@ -14,12 +14,11 @@ use Rattle.store.specs.Step.{answer_of}
 use Rattle.store.specs.declared.refusal.StoreRefusal.{StoreRefusal}
 use Rattle.store.specs.declared.refusal.StoreRefusal.TheVariants as store
 use Rattle.file_disk.specs.FileDisk.{file_facts, IsNew}
-use Rattle.file_disk.specs.declared.disk.FileDisk.{FileDisk}
 use Rattle.commands.specs.Disk.{disk_answer_text, IsOpenRefusal, IsFormatRefusal, IsUpgradeRefusal}
 use Rattle.program_parts.specs.Refusal.{disk_refusal_text, memory_text}
 use Rattle.commands.specs.DiskStep.{DiskStep}
 use Rattle.commands.specs.OnDisk.{RequestEnds, FormatEnds, UpgradeEnds}
-use Rattle.commands.specs.Opened.{IsOpened, IsMade, IsUpgraded}
+use Rattle.commands.specs.Opened.{SystemDisk, IsOpened, IsMade, IsUpgraded}
 use Rattle.registry.specs.Opening.{EndsMaking, EndsUpgrading}
 use Rattle.program_parts.specs.Told.{IsTold}
 use Rattle.program_parts.specs.Reply.{command_refusal_text, reply_text}
@@ -137,7 +136,7 @@ done_words h = cc
 done_memory : NoMemory ≡ Done → ⊥
 done_memory h = cc
 
-module _ (F : Type 0) (before after : Option (List ℕ)) where
+module _ (before after : Option (List ℕ)) where
   -- the line of the refusal of a disk was told
   pub told_away : (May : StoreRefusal → Type 0) (r : StoreRefusal) (status : Status) → May r → IsTold (disk_status r) (disk_refusal_text r) before after status → IsTurnedAway May before after status
   told_away May r Done may (inl h) = absurd (disk_done r (sym h.0))
@@ -151,8 +150,8 @@ module _ (F : Type 0) (before after : Option (List ℕ)) where
   told_away May r NoMemory may (inr h) = absurd (memory_fails h)
 
   -- a reply was written, or the output failed
-  written_as : (q : Request) (r : Reply) (made : (t : Status) → reply_status r ≡ t → Appends before after (reply_text r) → Replies F (λ asked. asked ≡ q) t before after)
-      → (status : Status) → IsWritten r before after status → Replied F (λ asked. asked ≡ q) before after status
+  written_as : (q : Request) (r : Reply) (made : (t : Status) → reply_status r ≡ t → Appends before after (reply_text r) → Replies (λ asked. asked ≡ q) t before after)
+      → (status : Status) → IsWritten r before after status → Replied (λ asked. asked ≡ q) before after status
   written_as q r made Done (inl h) = made Done (sym h.0) h.1
   written_as q r made Done (inr h) = absurd (done_fails h)
   written_as q r made Refused (inl h) = inl (made Refused (sym h.0) h.1)
@@ -164,8 +163,8 @@ module _ (F : Type 0) (before after : Option (List ℕ)) where
   written_as q r made NoMemory (inr h) = absurd (memory_fails h)
 
   -- so of the reply of a registry that was opened
-  pub written_replied : (disk : FileDisk F) (old new : Opened (FileDisk F)) (q : Request) (r : Reply) (status : Status) → IsOpened disk old → DiskStep file_facts old q r new
-      → IsWritten r before after status → Replied F (λ asked. asked ≡ q) before after status
+  pub written_replied : (disk : SystemDisk) (old new : Opened SystemDisk) (q : Request) (r : Reply) (status : Status) → IsOpened disk old → DiskStep file_facts old q r new
+      → IsWritten r before after status → Replied (λ asked. asked ≡ q) before after status
   written_replied disk old new q r status opened step h =
       written_as q r
       (λ t e w. record {
@@ -183,23 +182,23 @@ module _ (F : Type 0) (before after : Option (List ℕ)) where
       status h
 
   -- so of a request over a new disk
-  away_told : (IsAsked : Request → Type 0) (status : Status) → IsTurnedAway IsOpenRefusal before after status → Replied F IsAsked before after status
+  away_told : (IsAsked : Request → Type 0) (status : Status) → IsTurnedAway IsOpenRefusal before after status → Replied IsAsked before after status
   away_told IsAsked Done h = absurd h
   away_told IsAsked Refused h = inr h
   away_told IsAsked BadWords h = absurd h
   away_told IsAsked Failed h = tt
   away_told IsAsked NoMemory h = h
 
-  pub request_replied : (disk left : FileDisk F) (q : Request) (status : Status) → IsNew disk
-      → RequestEnds file_facts disk q before after status left → Replied F (λ asked. asked ≡ q) before after status
+  pub request_replied : (disk left : SystemDisk) (q : Request) (status : Status) → IsNew disk
+      → RequestEnds file_facts disk q before after status left → Replied (λ asked. asked ≡ q) before after status
   request_replied disk left q status new (inl h) =
       let a = h.1 in written_replied disk a.old a.new q h.0 status (record { new = new; opening = a.opened }) a.step h.2
   request_replied disk left q status new (inr h) =
       away_told (λ asked. asked ≡ q) status (told_away IsOpenRefusal h.0 status ((file_facts disk).sectors, h.1.opened.refusals) h.2)
 
   -- a registry was made, and that was told
-  pub made_told : (n : ℕ) (disk : FileDisk F) (registry : Opened (FileDisk F)) (status : Status) → IsMade n disk registry
-      → IsTold Done (codes "ok\n") before after status → IsFormatted F n before after status
+  pub made_told : (n : ℕ) (disk : SystemDisk) (registry : Opened SystemDisk) (status : Status) → IsMade n disk registry
+      → IsTold Done (codes "ok\n") before after status → IsFormatted n before after status
   made_told n disk registry Done made (inl h) = record { disk = disk; new = registry; made = made; written = h.1 }
   made_told n disk registry Done made (inr h) = absurd (done_fails h)
   made_told n disk registry Refused made (inl h) = absurd (done_refuses h.0)
@@ -211,8 +210,8 @@ module _ (F : Type 0) (before after : Option (List ℕ)) where
   made_told n disk registry NoMemory made (inr h) = absurd (memory_fails h)
 
   -- so of an upgrade of a new disk
-  ends_upgraded : (disk : FileDisk F) (registry : Opened (FileDisk F)) (status : Status) → IsUpgraded disk registry
-      → IsTold Done (codes "ok\n") before after status → IsUpgradedOver F before after status
+  ends_upgraded : (disk : SystemDisk) (registry : Opened SystemDisk) (status : Status) → IsUpgraded disk registry
+      → IsTold Done (codes "ok\n") before after status → IsUpgradedOver before after status
   ends_upgraded disk registry Done is (inl h) = record { disk = disk; new = registry; upgraded = is; written = h.1 }
   ends_upgraded disk registry Done is (inr h) = absurd (done_fails h)
   ends_upgraded disk registry Refused is (inl h) = absurd (done_refuses h.0)
@@ -223,24 +222,24 @@ module _ (F : Type 0) (before after : Option (List ℕ)) where
   ends_upgraded disk registry NoMemory is (inl h) = absurd (done_memory h.0)
   ends_upgraded disk registry NoMemory is (inr h) = absurd (memory_fails h)
 
-  ends_not_upgraded : (status : Status) → IsTurnedAway IsUpgradeRefusal before after status → IsUpgradedOver F before after status
+  ends_not_upgraded : (status : Status) → IsTurnedAway IsUpgradeRefusal before after status → IsUpgradedOver before after status
   ends_not_upgraded Done h = absurd h
   ends_not_upgraded Refused h = h
   ends_not_upgraded BadWords h = absurd h
   ends_not_upgraded Failed h = tt
   ends_not_upgraded NoMemory h = h
 
-  ends_upgrading : (disk : FileDisk F) (upgrading : Result (Opened (FileDisk F)) (StoreRefusal × FileDisk F)) (status : Status) → IsNew disk → EndsUpgrading file_facts disk upgrading
-      → IsTold (disk_answer_status (answer_of upgrading)) (disk_answer_text (answer_of upgrading)) before after status → IsUpgradedOver F before after status
+  ends_upgrading : (disk : SystemDisk) (upgrading : Result (Opened SystemDisk) (StoreRefusal × SystemDisk)) (status : Status) → IsNew disk → EndsUpgrading file_facts disk upgrading
+      → IsTold (disk_answer_status (answer_of upgrading)) (disk_answer_text (answer_of upgrading)) before after status → IsUpgradedOver before after status
   ends_upgrading disk (Ok registry) status new is h = ends_upgraded disk registry status (record { new = new; upgrading = is }) h
   ends_upgrading disk (Err e) status new is h = ends_not_upgraded status (told_away IsUpgradeRefusal e.0 status ((file_facts disk).sectors, is.refusals) h)
 
-  pub upgrade_told : (disk left : FileDisk F) (status : Status) → IsNew disk → UpgradeEnds file_facts disk before after status left → IsUpgradedOver F before after status
+  pub upgrade_told : (disk left : SystemDisk) (status : Status) → IsNew disk → UpgradeEnds file_facts disk before after status left → IsUpgradedOver before after status
   upgrade_told disk left status new h = ends_upgrading disk h.0 status new h.1 h.3
 
   -- the registry was not opened
   pub away_replied : (IsAsked : Request → Type 0) (why : NoRegistry) (status : Status) → IsNoRegistry IsOpenRefusal why → IsTurnedAway (λ r. why ≡ no.Refused r) before after status
-      → Replied F IsAsked before after status
+      → Replied IsAsked before after status
   away_replied IsAsked why Done is h = absurd h
   away_replied IsAsked why Refused is h = inr (h.0, subst (IsNoRegistry IsOpenRefusal) h.1 is, h.2, h.3)
   away_replied IsAsked why BadWords is h = absurd h
@@ -248,7 +247,7 @@ module _ (F : Type 0) (before after : Option (List ℕ)) where
   away_replied IsAsked why NoMemory is h = h
 
   -- what asks one thing asks another
-  also : (A B : Request → Type 0) → ((q : Request) → A q → B q) → (status : Status) → Replies F A status before after → Replies F B status before after
+  also : (A B : Request → Type 0) → ((q : Request) → A q → B q) → (status : Status) → Replies A status before after → Replies B status before after
   also A B other status h = record {
     asked = h.asked;
     is_asked = other h.asked h.is_asked;
@@ -262,7 +261,7 @@ module _ (F : Type 0) (before after : Option (List ℕ)) where
     written = h.written;
   }
 
-  pub replied_also : (A B : Request → Type 0) → ((q : Request) → A q → B q) → (status : Status) → Replied F A before after status → Replied F B before after status
+  pub replied_also : (A B : Request → Type 0) → ((q : Request) → A q → B q) → (status : Status) → Replied A before after status → Replied B before after status
   replied_also A B other Done h = also A B other Done h
   replied_also A B other Refused (inl h) = inl (also A B other Refused h)
   replied_also A B other Refused (inr h) = inr h
@@ -271,31 +270,31 @@ module _ (F : Type 0) (before after : Option (List ℕ)) where
   replied_also A B other NoMemory h = h
 
   -- a request that was asked is such a request
-  pub replied_as : (IsAsked : Request → Type 0) (q : Request) (status : Status) → IsAsked q → Replied F (λ asked. asked ≡ q) before after status → Replied F IsAsked before after status
+  pub replied_as : (IsAsked : Request → Type 0) (q : Request) (status : Status) → IsAsked q → Replied (λ asked. asked ≡ q) before after status → Replied IsAsked before after status
   replied_as IsAsked q status is h = replied_also (λ asked. asked ≡ q) IsAsked (λ asked e. subst IsAsked (sym e) is) status h
 
   -- a file was not read, or memory for names was refused
-  pub memory_replied : (IsAsked : Request → Type 0) (status : Status) → SaysNoMemory before after status → Replied F IsAsked before after status
+  pub memory_replied : (IsAsked : Request → Type 0) (status : Status) → SaysNoMemory before after status → Replied IsAsked before after status
   memory_replied IsAsked NoMemory h = h
   memory_replied IsAsked Failed h = tt
   memory_replied IsAsked Done h = absurd h
   memory_replied IsAsked Refused h = absurd h
   memory_replied IsAsked BadWords h = absurd h
 
-  failed_replied : (IsAsked : Request → Type 0) (status : Status) → status ≡ Failed → Replied F IsAsked before after status
+  failed_replied : (IsAsked : Request → Type 0) (status : Status) → status ≡ Failed → Replied IsAsked before after status
   failed_replied IsAsked Failed h = tt
   failed_replied IsAsked Done h = absurd (done_fails h)
   failed_replied IsAsked Refused h = absurd (refused_fails h)
   failed_replied IsAsked BadWords h = absurd (words_fail h)
   failed_replied IsAsked NoMemory h = absurd (memory_fails h)
 
-  pub unread_replied : (IsAsked : Request → Type 0) (fault : FileFault) (status : Status) → IsNotRead fault before after status → Replied F IsAsked before after status
+  pub unread_replied : (IsAsked : Request → Type 0) (fault : FileFault) (status : Status) → IsNotRead fault before after status → Replied IsAsked before after status
   unread_replied IsAsked CannotRead status h = failed_replied IsAsked status h.0
   unread_replied IsAsked OutOfMemory status h = memory_replied IsAsked status h
 
   -- a registry was not made
   pub away_formatted : (n : ℕ) (why : NoRegistry) (status : Status) → IsNoRegistry IsFormatRefusal why
-      → IsTurnedAway (λ r. why ≡ no.Refused r) before after status → IsFormatted F n before after status
+      → IsTurnedAway (λ r. why ≡ no.Refused r) before after status → IsFormatted n before after status
   away_formatted n why Done is h = absurd h
   away_formatted n why Refused is h = (h.0, subst (IsNoRegistry IsFormatRefusal) h.1 is, h.2, h.3)
   away_formatted n why BadWords is h = absurd h
@@ -303,7 +302,7 @@ module _ (F : Type 0) (before after : Option (List ℕ)) where
   away_formatted n why NoMemory is h = h
 
   -- a registry was not upgraded
-  pub away_upgraded : (why : NoRegistry) (status : Status) → IsNoRegistry IsUpgradeRefusal why → IsTurnedAway (λ r. why ≡ no.Refused r) before after status → IsUpgradedOver F before after status
+  pub away_upgraded : (why : NoRegistry) (status : Status) → IsNoRegistry IsUpgradeRefusal why → IsTurnedAway (λ r. why ≡ no.Refused r) before after status → IsUpgradedOver before after status
   away_upgraded why Done is h = absurd h
   away_upgraded why Refused is h = (h.0, subst (IsNoRegistry IsUpgradeRefusal) h.1 is, h.2, h.3)
   away_upgraded why BadWords is h = absurd h
@@ -311,50 +310,50 @@ module _ (F : Type 0) (before after : Option (List ℕ)) where
   away_upgraded why NoMemory is h = h
 
   -- a bind whose base was read
-  pub bind_ends : (at : ℕ) (asked : Option ℕ) (IsAsked : Request → Type 0) (status : Status) → asked ≡ Some at → Replied F IsAsked before after status → BindEnds F asked IsAsked before after status
+  pub bind_ends : (at : ℕ) (asked : Option ℕ) (IsAsked : Request → Type 0) (status : Status) → asked ≡ Some at → Replied IsAsked before after status → BindEnds asked IsAsked before after status
   bind_ends at asked IsAsked Done e h = (ap is_some e, h)
   bind_ends at asked IsAsked Refused e h = (ap is_some e, h)
   bind_ends at asked IsAsked BadWords e h = absurd h
   bind_ends at asked IsAsked Failed e h = (ap is_some e, h)
   bind_ends at asked IsAsked NoMemory e h = (ap is_some e, h)
 
-module _ (F : Type 0) (io : Streams) where
+module _ (io : Streams) where
   -- a command that asks so ends as the words say
-  ends_as : (line : CommandLine) → are_bad (Some line) ≡ false → (Replies F (Asks line) Done io.before io.after → IsDone F (Some line) io)
-      → (Replies F (Asks line) Refused io.before io.after ⊎ TurnsAway IsOpenRefusal Refused io.before io.after → IsRefused F (Some line) io)
-      → (Appends io.before io.after memory_text → LacksMemory F (Some line) io) → (status : Status) → Replied F (Asks line) io.before io.after status → CommandEnds F (Some line) io status
+  ends_as : (line : CommandLine) → are_bad (Some line) ≡ false → (Replies (Asks line) Done io.before io.after → IsDone (Some line) io)
+      → (Replies (Asks line) Refused io.before io.after ⊎ TurnsAway IsOpenRefusal Refused io.before io.after → IsRefused (Some line) io)
+      → (Appends io.before io.after memory_text → LacksMemory (Some line) io) → (status : Status) → Replied (Asks line) io.before io.after status → CommandEnds (Some line) io status
   ends_as line good done refused lacks Done h = (good, done h)
   ends_as line good done refused lacks Refused h = (good, refused h)
   ends_as line good done refused lacks BadWords h = absurd h
   ends_as line good done refused lacks Failed h = good
   ends_as line good done refused lacks NoMemory h = (good, lacks h)
 
-  pub install_ends : (disk file : List ℕ) (status : Status) → Replied F (AsksWith with.Install) io.before io.after status → CommandEnds F (Some (install disk file)) io status
+  pub install_ends : (disk file : List ℕ) (status : Status) → Replied (AsksWith with.Install) io.before io.after status → CommandEnds (Some (install disk file)) io status
   install_ends disk file status h = ends_as (install disk file) refl (λ k. k) (λ k. k) (λ k. k) status h
 
-  pub replace_ends : (disk file : List ℕ) (status : Status) → Replied F (AsksWith with.Replace) io.before io.after status → CommandEnds F (Some (replace disk file)) io status
+  pub replace_ends : (disk file : List ℕ) (status : Status) → Replied (AsksWith with.Replace) io.before io.after status → CommandEnds (Some (replace disk file)) io status
   replace_ends disk file status h = ends_as (replace disk file) refl (λ k. k) (λ k. k) (λ k. k) status h
 
-  pub remove_ends : (disk name : List ℕ) (status : Status) → Replied F (λ asked. asked ≡ request.remove name) io.before io.after status → CommandEnds F (Some (remove disk name)) io status
+  pub remove_ends : (disk name : List ℕ) (status : Status) → Replied (λ asked. asked ≡ request.remove name) io.before io.after status → CommandEnds (Some (remove disk name)) io status
   remove_ends disk name status h = ends_as (remove disk name) refl (λ k. k) (λ k. k) (λ k. k) status h
 
-  pub preload_ends : (disk : List ℕ) (names : List (List ℕ)) (status : Status) → Replied F (Asks (preload disk names)) io.before io.after status → CommandEnds F (Some (preload disk names)) io status
+  pub preload_ends : (disk : List ℕ) (names : List (List ℕ)) (status : Status) → Replied (Asks (preload disk names)) io.before io.after status → CommandEnds (Some (preload disk names)) io status
   preload_ends disk names status h = ends_as (preload disk names) refl (λ k. k) (λ k. k) (λ k. k) status h
 
-  pub list_ends : (disk : List ℕ) (status : Status) → Replied F (λ asked. asked ≡ request.list) io.before io.after status → CommandEnds F (Some (list disk)) io status
+  pub list_ends : (disk : List ℕ) (status : Status) → Replied (λ asked. asked ≡ request.list) io.before io.after status → CommandEnds (Some (list disk)) io status
   list_ends disk status h = ends_as (list disk) refl (λ k. k) (λ k. k) (λ k. k) status h
 
 -- for a command whose words are paths alone
 pub ruleset commands_end = (install_ends, replace_ends, list_ends)
 
-module _ {F : Type 0} (n : ℕ) (disk : FileDisk F) where
-  made_as : (making : Result (Opened (FileDisk F)) (StoreRefusal × FileDisk F)) → IsNew disk → (file_facts disk).sectors ≡ n → EndsMaking file_facts disk making
-      → OnOk (answer_of making) ((d : FileDisk F) × (registry : Opened (FileDisk F)) × IsMade n d registry)
+module _ (n : ℕ) (disk : SystemDisk) where
+  made_as : (making : Result (Opened SystemDisk) (StoreRefusal × SystemDisk)) → IsNew disk → (file_facts disk).sectors ≡ n → EndsMaking file_facts disk making
+      → OnOk (answer_of making) ((d : SystemDisk) × (registry : Opened SystemDisk) × IsMade n d registry)
   made_as (Ok registry) new sectors is = (disk, registry, record { new = new; sectors = sectors; making = is })
   made_as (Err e) new sectors is = tt
 
   -- what making a registry on a new disk of so many sectors answers
-  pub format_made : (answer : Result (Unit {0}) StoreRefusal) (left : FileDisk F) → IsNew disk → (file_facts disk).sectors ≡ n → FormatEnds file_facts disk answer left
-      → OnOk answer ((d : FileDisk F) × (registry : Opened (FileDisk F)) × IsMade n d registry)
+  pub format_made : (answer : Result (Unit {0}) StoreRefusal) (left : SystemDisk) → IsNew disk → (file_facts disk).sectors ≡ n → FormatEnds file_facts disk answer left
+      → OnOk answer ((d : SystemDisk) × (registry : Opened SystemDisk) × IsMade n d registry)
   format_made answer left new sectors h =
-      subst (λ (a : Result (Unit {0}) StoreRefusal). OnOk a ((d : FileDisk F) × (registry : Opened (FileDisk F)) × IsMade n d registry)) (sym h.2) (made_as h.0 new sectors h.1)
+      subst (λ (a : Result (Unit {0}) StoreRefusal). OnOk a ((d : SystemDisk) × (registry : Opened SystemDisk) × IsMade n d registry)) (sym h.2) (made_as h.0 new sectors h.1)

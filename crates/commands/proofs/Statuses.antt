@@ -6,11 +6,10 @@ use Rattle.binders.specs.Slotted.{HoldAlone, Slotted}
 use Rattle.binders.specs.declared.event.EventReply.{EventReply}
 use Rattle.binders.specs.declared.event.EventReply.TheVariants as event
 use Rattle.file_disk.specs.FileDisk.{file_facts, IsNew}
-use Rattle.file_disk.specs.declared.disk.FileDisk.{FileDisk}
 use Rattle.commands.specs.Disk.{IsOpenRefusal}
 use Rattle.binders.specs.EventsRan.{EventStep}
 use Rattle.commands.specs.OnDisk.{DiskScriptEnds}
-use Rattle.commands.specs.Opened.{IsOpened}
+use Rattle.commands.specs.Opened.{SystemDisk, IsOpened}
 use Rattle.commands.specs.Outcome.{EndsEarly, Runs, RunsInPart, RunsToTheEnd}
 use Rattle.commands.specs.Script.{Streams}
 use Rattle.commands.specs.declared.disk.NoRegistry.{NoRegistry}
@@ -91,9 +90,9 @@ in_time : false ≡ true → ⊥
 in_time h = cc
 
 -- what a script over a registry ends with is what one over a disk does
-module _ {S : Type 0} (step : S → Happening → EventReply → S → Type 0) (s s' : S) (F : Type 0) (io : Streams)
-    (through : (t : Status) → RunsToTheEnd step s s' io t → Runs F io t) (in_part : (t : Status) → EndsEarly step s s' io t → RunsInPart F io t) where
-  ends_over : (status : Status) → status ≢ BadWords → IsRun step s s' io status → ScriptEnds F io status
+module _ {S : Type 0} (step : S → Happening → EventReply → S → Type 0) (s s' : S) (io : Streams)
+    (through : (t : Status) → RunsToTheEnd step s s' io t → Runs io t) (in_part : (t : Status) → EndsEarly step s s' io t → RunsInPart io t) where
+  ends_over : (status : Status) → status ≢ BadWords → IsRun step s s' io status → ScriptEnds io status
   ends_over Done words (inl h) = through Done h
   ends_over Done words (inr h) = absurd (in_time (late_end h.0 Done h.1 h.3))
   ends_over Refused words (inl h) = inl (through Refused h)
@@ -104,10 +103,10 @@ module _ {S : Type 0} (step : S → Happening → EventReply → S → Type 0) (
   ends_over NoMemory words (inr h) = inr (inl (in_part NoMemory h))
 
 -- so of a registry that was opened, without binders
-pub run_ends : (F : Type 0) (disk : FileDisk F) (old new : Slotted (FileDisk F)) (io : Streams) (status : Status) → IsOpened disk old.registry → old.slots ≡ replicate 8 None → HoldAlone old
-    → status ≢ BadWords → IsRun (EventStep file_facts) old new io status → ScriptEnds F io status
-run_ends F disk old new io status opened empty alone words h =
-    ends_over (EventStep file_facts) old new F io
+pub run_ends : (disk : SystemDisk) (old new : Slotted SystemDisk) (io : Streams) (status : Status) → IsOpened disk old.registry → old.slots ≡ replicate 8 None → HoldAlone old
+    → status ≢ BadWords → IsRun (EventStep file_facts) old new io status → ScriptEnds io status
+run_ends disk old new io status opened empty alone words h =
+    ends_over (EventStep file_facts) old new io
     (λ t k. record {
       disk = disk;
       old = old;
@@ -129,24 +128,24 @@ run_ends F disk old new io status opened empty alone words h =
     status words h
 
 -- the disk was refused, and that was told
-away_ends : (F : Type 0) (io : Streams) (status : Status) → IsTurnedAway IsOpenRefusal io.before io.after status → ScriptEnds F io status
-away_ends F io Done h = absurd h
-away_ends F io Refused h = inr h
-away_ends F io BadWords h = absurd h
-away_ends F io Failed h = tt
-away_ends F io NoMemory h = inr (inr h)
+away_ends : (io : Streams) (status : Status) → IsTurnedAway IsOpenRefusal io.before io.after status → ScriptEnds io status
+away_ends io Done h = absurd h
+away_ends io Refused h = inr h
+away_ends io BadWords h = absurd h
+away_ends io Failed h = tt
+away_ends io NoMemory h = inr (inr h)
 
 -- so of a script over a new disk
-pub disk_script_ends : (F : Type 0) (disk left : FileDisk F) (io : Streams) (status : Status) → IsNew disk → status ≢ BadWords → DiskScriptEnds file_facts disk io status left → ScriptEnds F io status
-disk_script_ends F disk left io status new words (inl h) =
-    run_ends F disk h.old h.new io status (record { new = new; opening = h.opened }) h.empty h.alone words (run_of file_facts io h.old h.new status h.run)
-disk_script_ends F disk left io status new words (inr h) =
-    away_ends F io status (told_away F io.before io.after IsOpenRefusal h.0 status ((file_facts disk).sectors, h.1.opened.refusals) h.2)
+pub disk_script_ends : (disk left : SystemDisk) (io : Streams) (status : Status) → IsNew disk → status ≢ BadWords → DiskScriptEnds file_facts disk io status left → ScriptEnds io status
+disk_script_ends disk left io status new words (inl h) =
+    run_ends disk h.old h.new io status (record { new = new; opening = h.opened }) h.empty h.alone words (run_of file_facts io h.old h.new status h.run)
+disk_script_ends disk left io status new words (inr h) =
+    away_ends io status (told_away io.before io.after IsOpenRefusal h.0 status ((file_facts disk).sectors, h.1.opened.refusals) h.2)
 
-pub away_script : (F : Type 0) (io : Streams) (why : NoRegistry) (status : Status) → IsNoRegistry IsOpenRefusal why
-    → IsTurnedAway (λ r. why ≡ no.Refused r) io.before io.after status → ScriptEnds F io status
-away_script F io why Done is h = absurd h
-away_script F io why Refused is h = inr (h.0, subst (IsNoRegistry IsOpenRefusal) h.1 is, h.2, h.3)
-away_script F io why BadWords is h = absurd h
-away_script F io why Failed is h = tt
-away_script F io why NoMemory is h = inr (inr h)
+pub away_script : (io : Streams) (why : NoRegistry) (status : Status) → IsNoRegistry IsOpenRefusal why
+    → IsTurnedAway (λ r. why ≡ no.Refused r) io.before io.after status → ScriptEnds io status
+away_script io why Done is h = absurd h
+away_script io why Refused is h = inr (h.0, subst (IsNoRegistry IsOpenRefusal) h.1 is, h.2, h.3)
+away_script io why BadWords is h = absurd h
+away_script io why Failed is h = tt
+away_script io why NoMemory is h = inr (inr h)

@@ -3,23 +3,29 @@ use Rattle.std.specs.Prelude.{◌≡◌, ℕ, Ok}
 use Rattle.store.specs.Opened.{Opened}
 use Rattle.file_disk.specs.FileDisk.{file_facts, IsNew}
 use Rattle.file_disk.specs.declared.disk.FileDisk.{FileDisk}
+use Rattle.file_disk.specs.declared.disk_file.DiskFile.{DiskFile}
+use Rattle.file_disk.specs.contracts.disk_file.DiskFileSectorFile.TheImpl.{ghosts}
 use Rattle.registry.specs.Opening.{EndsOpening, EndsMaking, EndsUpgrading}
+
+-- a disk over a file of the system
+abbrev pub SystemDisk : Type 0
+SystemDisk = FileDisk DiskFile ghosts
 
 -- it was opened on a new disk: of a good size, without failure, by exactly the calls of opening,
 -- and nothing is held
-pub record IsOpened {F : Type 0} (disk : FileDisk F) (registry : Opened (FileDisk F)) : Type 0 where
+pub record IsOpened (disk : SystemDisk) (registry : Opened SystemDisk) : Type 0 where
   pub new : IsNew disk
   pub opening : EndsOpening file_facts disk (Ok registry)
 
 -- it was made on a new disk of so many sectors: without failure, by exactly the calls of making,
 -- and nothing is held
-pub record IsMade {F : Type 0} (n : ℕ) (disk : FileDisk F) (registry : Opened (FileDisk F)) : Type 0 where
+pub record IsMade (n : ℕ) (disk : SystemDisk) (registry : Opened SystemDisk) : Type 0 where
   pub new : IsNew disk
   pub sectors : (file_facts disk).sectors ≡ n
   pub making : EndsMaking file_facts disk (Ok registry)
 
 -- it was opened or upgraded on a new disk: of a good size, without failure, by calls of that disk,
 -- and nothing is held
-pub record IsUpgraded {F : Type 0} (disk : FileDisk F) (registry : Opened (FileDisk F)) : Type 0 where
+pub record IsUpgraded (disk : SystemDisk) (registry : Opened SystemDisk) : Type 0 where
   pub new : IsNew disk
   pub upgrading : EndsUpgrading file_facts disk (Ok registry)

@@ -10,14 +10,13 @@ use Rattle.binders.specs.declared.event.EventReply.{EventReply}
 use Rattle.store.specs.Opened.{Opened}
 use Rattle.store.specs.declared.refusal.StoreRefusal.{StoreRefusal}
 use Rattle.file_disk.specs.FileDisk.{file_facts}
-use Rattle.file_disk.specs.declared.disk.FileDisk.{FileDisk}
 use Rattle.program_parts.specs.Base.{base_of}
 use Rattle.commands.specs.Disk.{IsOpenRefusal, IsFormatRefusal, IsUpgradeRefusal}
 use Rattle.program_parts.specs.Refusal.{disk_refusal_text, memory_text}
 use Rattle.commands.specs.DiskStep.{DiskStep}
 use Rattle.binders.specs.EventsRan.{EventStep}
 use Rattle.program_parts.specs.File.{read_limit}
-use Rattle.commands.specs.Opened.{IsOpened, IsMade, IsUpgraded}
+use Rattle.commands.specs.Opened.{SystemDisk, IsOpened, IsMade, IsUpgraded}
 use Rattle.commands.specs.Printed.{PrintsImage, PrintsRefusal}
 use Rattle.program_parts.specs.Reply.{reply_text}
 use Rattle.commands.specs.Script.{Streams, Finishes, Stops}
@@ -53,29 +52,29 @@ Asks (bind disk program base) asked = (bytes : List ℕ) × (at : ℕ) × (lengt
 Asks line asked = ⊥
 
 -- a registry, opened on a disk over a file, got such a request; exactly its reply was appended
-pub record Replies (F : Type 0) (IsAsked : Request → Type 0) (status : Status) (before after : Option (List ℕ)) : Type 0 where
+pub record Replies (IsAsked : Request → Type 0) (status : Status) (before after : Option (List ℕ)) : Type 0 where
   pub asked : Request
   pub is_asked : IsAsked asked
-  pub disk : FileDisk F
-  pub old : Opened (FileDisk F)
+  pub disk : SystemDisk
+  pub old : Opened SystemDisk
   pub opened : IsOpened disk old
   pub reply : Reply
-  pub new : Opened (FileDisk F)
+  pub new : Opened SystemDisk
   pub step : DiskStep file_facts old asked reply new
   pub ends : reply_status reply ≡ status
   pub written : Appends before after (reply_text reply)
 
 -- A registry of so many sectors was made on a disk over a file, and exactly `ok` was appended.
-pub record Makes (F : Type 0) (sectors : ℕ) (before after : Option (List ℕ)) : Type 0 where
-  pub disk : FileDisk F
-  pub new : Opened (FileDisk F)
+pub record Makes (sectors : ℕ) (before after : Option (List ℕ)) : Type 0 where
+  pub disk : SystemDisk
+  pub new : Opened SystemDisk
   pub made : IsMade sectors disk new
   pub written : Appends before after (codes "ok\n")
 
 -- A registry was opened or upgraded on a disk over a file, and exactly `ok` was appended.
-pub record Upgrades (F : Type 0) (before after : Option (List ℕ)) : Type 0 where
-  pub disk : FileDisk F
-  pub new : Opened (FileDisk F)
+pub record Upgrades (before after : Option (List ℕ)) : Type 0 where
+  pub disk : SystemDisk
+  pub new : Opened SystemDisk
   pub upgraded : IsUpgraded disk new
   pub written : Appends before after (codes "ok\n")
 
@@ -101,45 +100,45 @@ module _ {S : Type 0} (step : S → Happening → EventReply → S → Type 0) (
 
 -- A registry was opened on a disk over a file, without binders and with nothing held, and a script
 -- was run over it to its end.
-pub record Runs (F : Type 0) (io : Streams) (status : Status) : Type 0 where
-  pub disk : FileDisk F
-  pub old : Slotted (FileDisk F)
+pub record Runs (io : Streams) (status : Status) : Type 0 where
+  pub disk : SystemDisk
+  pub old : Slotted SystemDisk
   pub opened : IsOpened disk old.registry
   pub empty : old.slots ≡ replicate 8 None
   pub alone : HoldAlone old
-  pub new : Slotted (FileDisk F)
+  pub new : Slotted SystemDisk
   pub run : RunsToTheEnd (EventStep file_facts) old new io status
 
 -- the same of a script that ended early
-pub record RunsInPart (F : Type 0) (io : Streams) (status : Status) : Type 0 where
-  pub disk : FileDisk F
-  pub old : Slotted (FileDisk F)
+pub record RunsInPart (io : Streams) (status : Status) : Type 0 where
+  pub disk : SystemDisk
+  pub old : Slotted SystemDisk
   pub opened : IsOpened disk old.registry
   pub empty : old.slots ≡ replicate 8 None
   pub alone : HoldAlone old
-  pub new : Slotted (FileDisk F)
+  pub new : Slotted SystemDisk
   pub run : EndsEarly (EventStep file_facts) old new io status
 
 -- 0: what the words ask was done
-abbrev pub IsDone : (F : Type 0) → Option CommandLine → Streams → Type 0
-IsDone F (Some (image program base)) io = (b : ℕ) × (base_of base ≡ Some b) × PrintsImage b io.before io.after
-IsDone F (Some (format disk sectors)) io = Makes F sectors io.before io.after
-IsDone F (Some (upgrade disk)) io = Upgrades F io.before io.after
-IsDone F (Some (script disk)) io = Runs F io Done
-IsDone F (Some line) io = Replies F (Asks line) Done io.before io.after
-IsDone F None io = ⊥
+abbrev pub IsDone : Option CommandLine → Streams → Type 0
+IsDone (Some (image program base)) io = (b : ℕ) × (base_of base ≡ Some b) × PrintsImage b io.before io.after
+IsDone (Some (format disk sectors)) io = Makes sectors io.before io.after
+IsDone (Some (upgrade disk)) io = Upgrades io.before io.after
+IsDone (Some (script disk)) io = Runs io Done
+IsDone (Some line) io = Replies (Asks line) Done io.before io.after
+IsDone None io = ⊥
 
 -- 1: it was refused
-abbrev pub IsRefused : (F : Type 0) → Option CommandLine → Streams → Type 0
-IsRefused F (Some (image program base)) io = (b : ℕ) × (base_of base ≡ Some b) × PrintsRefusal b io.before io.after
-IsRefused F (Some (format disk sectors)) io = TurnsAway IsFormatRefusal Refused io.before io.after
-IsRefused F (Some (upgrade disk)) io = TurnsAway IsUpgradeRefusal Refused io.before io.after
-IsRefused F (Some (script disk)) io = Runs F io Refused ⊎ TurnsAway IsOpenRefusal Refused io.before io.after
-IsRefused F (Some line) io = Replies F (Asks line) Refused io.before io.after ⊎ TurnsAway IsOpenRefusal Refused io.before io.after
-IsRefused F None io = ⊥
+abbrev pub IsRefused : Option CommandLine → Streams → Type 0
+IsRefused (Some (image program base)) io = (b : ℕ) × (base_of base ≡ Some b) × PrintsRefusal b io.before io.after
+IsRefused (Some (format disk sectors)) io = TurnsAway IsFormatRefusal Refused io.before io.after
+IsRefused (Some (upgrade disk)) io = TurnsAway IsUpgradeRefusal Refused io.before io.after
+IsRefused (Some (script disk)) io = Runs io Refused ⊎ TurnsAway IsOpenRefusal Refused io.before io.after
+IsRefused (Some line) io = Replies (Asks line) Refused io.before io.after ⊎ TurnsAway IsOpenRefusal Refused io.before io.after
+IsRefused None io = ⊥
 
 -- 4: memory was refused, for a line of a script or for a reply to one too
-abbrev pub LacksMemory : (F : Type 0) → Option CommandLine → Streams → Type 0
-LacksMemory F (Some (script disk)) io = Runs F io NoMemory ⊎ RunsInPart F io NoMemory ⊎ Appends io.before io.after memory_text
-LacksMemory F (Some line) io = Appends io.before io.after memory_text
-LacksMemory F None io = ⊥
+abbrev pub LacksMemory : Option CommandLine → Streams → Type 0
+LacksMemory (Some (script disk)) io = Runs io NoMemory ⊎ RunsInPart io NoMemory ⊎ Appends io.before io.after memory_text
+LacksMemory (Some line) io = Appends io.before io.after memory_text
+LacksMemory None io = ⊥

@@ -9,7 +9,6 @@ ghost use Rattle.commands.specs.Said.{bad_text, words_text};
 ghost use Rattle.program_parts.specs.Said.{AppendsFront};
 ghost use Rattle.commands.specs.Words.{command_line};
 ghost use Rattle.std.specs.Io.KnownBytes.{Appends};
-ghost use Rattle.file_disk.specs.declared.disk_file.DiskFile.{DiskFile};
 
 use crate::command::run_words;
 use crate::message::bad_command_line;
@@ -34,13 +33,13 @@ pub fn run_arguments<R: Files<File = File> + Clock, I: Read, O: Write, E: Write>
 
     // Of words that were read
     ensures done { IfOk words (λ list. result ≡ 0
-        → IsDone DiskFile (command_line (map (λ word. string_bytes word) list.items)) (record {
+        → IsDone (command_line (map (λ word. string_bytes word) list.items)) (record {
           unread = I.remaining input.old;
           before = O.contents output.old;
           after = O.contents output.new;
         })) }
     ensures refused { IfOk words (λ list. result ≡ 1
-        → IsRefused DiskFile (command_line (map (λ word. string_bytes word) list.items)) (record {
+        → IsRefused (command_line (map (λ word. string_bytes word) list.items)) (record {
           unread = I.remaining input.old;
           before = O.contents output.old;
           after = O.contents output.new;
@@ -48,7 +47,7 @@ pub fn run_arguments<R: Files<File = File> + Clock, I: Read, O: Write, E: Write>
     ensures bad_words { IfOk words (λ list. (result == 2)
         ≡ are_bad (command_line (map (λ word. string_bytes word) list.items))) }
     ensures memory { IfOk words (λ list. result ≡ 4
-        → LacksMemory DiskFile (command_line (map (λ word. string_bytes word) list.items)) (record {
+        → LacksMemory (command_line (map (λ word. string_bytes word) list.items)) (record {
           unread = I.remaining input.old;
           before = O.contents output.old;
           after = O.contents output.new;

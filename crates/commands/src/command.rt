@@ -9,7 +9,6 @@ ghost use Rattle.program_parts.specs.Said.{AppendsFront};
 ghost use Rattle.commands.specs.Words.{command_line, line_of};
 ghost use Rattle.program_parts.specs.declared.status.Status.TheVariants.{BadWords, Failed};
 ghost use Rattle.commands.specs.inside.Ends.{CommandEnds, ImageEnds, IsNotRead, IsSaid, IsShown};
-ghost use Rattle.file_disk.specs.declared.disk_file.DiskFile.{DiskFile};
 
 use crate::action::{Action, read_words};
 use crate::message::{bad_base, bad_command_line, cannot_read};
@@ -80,7 +79,7 @@ fn run_action<R: Files<File = File> + Clock, I: Read, O: Write, E: Write>(
     output: &mut O,
     errors: &mut E,
 ) -> Status
-    ensures ends { CommandEnds DiskFile (Some (line_of action.now)) (record {
+    ensures ends { CommandEnds (Some (line_of action.now)) (record {
       unread = I.remaining input.old;
       before = O.contents output.old;
       after = O.contents output.new;
@@ -159,7 +158,7 @@ fn run_command<R: Files<File = File> + Clock, I: Read, O: Write, E: Write>(
     output: &mut O,
     errors: &mut E,
 ) -> Status
-    ensures ends { CommandEnds DiskFile (command_line (map (λ word. string_bytes word) words.now))
+    ensures ends { CommandEnds (command_line (map (λ word. string_bytes word) words.now))
         (record {
           unread = I.remaining input.old;
           before = O.contents output.old;
@@ -196,7 +195,7 @@ pub fn run_words<R: Files<File = File> + Clock, I: Read, O: Write, E: Write>(
 
     // 0: exactly what the command prints was appended.
     ensures done { result ≡ 0
-        → IsDone DiskFile (command_line (map (λ word. string_bytes word) words.now)) (record {
+        → IsDone (command_line (map (λ word. string_bytes word) words.now)) (record {
           unread = I.remaining input.old;
           before = O.contents output.old;
           after = O.contents output.new;
@@ -204,7 +203,7 @@ pub fn run_words<R: Files<File = File> + Clock, I: Read, O: Write, E: Write>(
 
     // 1: exactly a refusal, or of a script the answers to its lines.
     ensures refused { result ≡ 1
-        → IsRefused DiskFile (command_line (map (λ word. string_bytes word) words.now)) (record {
+        → IsRefused (command_line (map (λ word. string_bytes word) words.now)) (record {
           unread = I.remaining input.old;
           before = O.contents output.old;
           after = O.contents output.new;
@@ -219,7 +218,7 @@ pub fn run_words<R: Files<File = File> + Clock, I: Read, O: Write, E: Write>(
 
     // 4: exactly the line of want of memory, or of a script the answers to its lines.
     ensures memory { result ≡ 4
-        → LacksMemory DiskFile (command_line (map (λ word. string_bytes word) words.now)) (record {
+        → LacksMemory (command_line (map (λ word. string_bytes word) words.now)) (record {
           unread = I.remaining input.old;
           before = O.contents output.old;
           after = O.contents output.new;

@@ -3,10 +3,8 @@
 ghost use Rattle.std.specs.Prelude.{◌≡◌, false, OnOk, IfOk, IfErr};
 ghost use Rattle.store.specs.Opened.{Opened};
 ghost use Rattle.file_disk.specs.FileDisk.{IsNew};
-ghost use Rattle.file_disk.specs.declared.disk.FileDisk.{FileDisk};
-ghost use Rattle.file_disk.specs.declared.disk_file.DiskFile.{DiskFile};
 ghost use Rattle.commands.specs.Disk.{IsOpenRefusal, IsFormatRefusal, IsUpgradeRefusal};
-ghost use Rattle.commands.specs.Opened.{IsMade};
+ghost use Rattle.commands.specs.Opened.{SystemDisk, IsMade};
 ghost use Rattle.commands.specs.Said.{base_text};
 ghost use Rattle.commands.specs.inside.Ends.{IsNoRegistry, IsTurnedAway, IsSaid};
 
@@ -86,7 +84,7 @@ pub(crate) fn make_registry<R: Files<File = File> + Clock>(
     path: &str,
     sectors: u32,
 ) -> Result<(), NoRegistry>
-    ensures ok { OnOk result ((disk : FileDisk DiskFile) × (registry : Opened (FileDisk DiskFile))
+    ensures ok { OnOk result ((disk : SystemDisk) × (registry : Opened SystemDisk)
         × IsMade sectors disk registry) }
     ensures refused { IfErr result (IsNoRegistry IsFormatRefusal) }
 {

@@ -8,7 +8,6 @@ ghost use Rattle.commands.specs.Words as words;
 ghost use Rattle.commands.specs.Said.{base_text};
 ghost use Rattle.commands.specs.inside.Ends.{BindEnds, IsFormatted, IsUpgradedOver};
 ghost use Rattle.commands.specs.inside.Ends.{Replied, IsSaid};
-ghost use Rattle.file_disk.specs.declared.disk_file.DiskFile.{DiskFile};
 
 use crate::access::{Access, access_of};
 use crate::disk::{make_registry, no_disk, open_disk, turn_away};
@@ -35,7 +34,7 @@ pub(crate) fn ask<R: Files<File = File> + Clock, O: Write, E: Write>(
     output: &mut O,
     errors: &mut E,
 ) -> Status
-    ensures ends { Replied DiskFile (λ asked. asked ≡ request_of command.now)
+    ensures ends { Replied (λ asked. asked ≡ request_of command.now)
         (O.contents output.old) (O.contents output.new) result }
     ensures said { IsSaid base_text (O.contents output.old) (O.contents output.new)
         (E.contents errors.old) (E.contents errors.new) result }
@@ -60,7 +59,7 @@ pub(crate) fn format<R: Files<File = File> + Clock, O: Write, E: Write>(
     output: &mut O,
     errors: &mut E,
 ) -> Status
-    ensures ends { IsFormatted DiskFile sectors (O.contents output.old) (O.contents output.new)
+    ensures ends { IsFormatted sectors (O.contents output.old) (O.contents output.new)
         result }
     ensures said { IsSaid base_text (O.contents output.old) (O.contents output.new)
         (E.contents errors.old) (E.contents errors.new) result }
@@ -80,7 +79,7 @@ pub(crate) fn upgrade<R: Files<File = File> + Clock, O: Write, E: Write>(
     output: &mut O,
     errors: &mut E,
 ) -> Status
-    ensures ends { IsUpgradedOver DiskFile (O.contents output.old) (O.contents output.new) result }
+    ensures ends { IsUpgradedOver (O.contents output.old) (O.contents output.new) result }
     ensures said { IsSaid base_text (O.contents output.old) (O.contents output.new)
         (E.contents errors.old) (E.contents errors.new) result }
 {
@@ -112,7 +111,7 @@ pub(crate) fn preload<R: Files<File = File> + Clock, O: Write, E: Write>(
     output: &mut O,
     errors: &mut E,
 ) -> Status
-    ensures ends { Replied DiskFile
+    ensures ends { Replied
         (Asks (words.preload disk.now (map (λ name. string_bytes name) names.now)))
         (O.contents output.old) (O.contents output.new) result }
     ensures said { IsSaid base_text (O.contents output.old) (O.contents output.new)
@@ -143,7 +142,7 @@ pub(crate) fn bind<R: Files<File = File> + Clock, O: Write, E: Write>(
     output: &mut O,
     errors: &mut E,
 ) -> Status
-    ensures ends { BindEnds DiskFile (base_of base.now)
+    ensures ends { BindEnds (base_of base.now)
         (Asks (words.bind disk.now program.now base.now))
         (O.contents output.old) (O.contents output.new) result }
     ensures said { IsSaid base_text (O.contents output.old) (O.contents output.new)

@@ -5,7 +5,6 @@ ghost use Rattle.commands.specs.OnDisk.{DiskScriptEnds};
 ghost use Rattle.commands.specs.Said.{base_text};
 ghost use Rattle.commands.specs.inside.Ends.{IsRun, ScriptEnds, IsSaid};
 ghost use Rattle.program_parts.specs.declared.status.Status.TheVariants.{BadWords, Done};
-ghost use Rattle.file_disk.specs.declared.disk_file.DiskFile.{DiskFile};
 
 use crate::access::Access;
 use crate::disk::{no_disk, open_disk, turn_away};
@@ -86,7 +85,7 @@ pub(crate) fn script<R: Files<File = File> + Clock, I: Read, O: Write, E: Write>
     output: &mut O,
     errors: &mut E,
 ) -> Status
-    ensures ends { ScriptEnds DiskFile (record {
+    ensures ends { ScriptEnds (record {
       unread = I.remaining input.old;
       before = O.contents output.old;
       after = O.contents output.new;

@@ -5,7 +5,6 @@ ghost use Rattle.requests.specs.Request.{request_of};
 ghost use Rattle.commands.specs.Said.{base_text};
 ghost use Rattle.commands.specs.inside.Ends.{IsSaid, Replied};
 ghost use Rattle.commands.specs.inside.WithFile.{AsksWith, request_with};
-ghost use Rattle.file_disk.specs.declared.disk_file.DiskFile.{DiskFile};
 
 use crate::on_disk::ask;
 use crate::unread::not_read;
@@ -57,7 +56,7 @@ pub(crate) fn ask_with<R: Files<File = File> + Clock, O: Write, E: Write>(
     output: &mut O,
     errors: &mut E,
 ) -> Status
-    ensures ends { Replied DiskFile (AsksWith asking)
+    ensures ends { Replied (AsksWith asking)
         (O.contents output.old) (O.contents output.new) result }
     ensures said { IsSaid base_text (O.contents output.old) (O.contents output.new)
         (E.contents errors.old) (E.contents errors.new) result }

@@ -1,75 +1,97 @@
 -- What is said of a disk over a file.
-use Rattle.std.specs.Prelude.{◌≡◌, ◌≢◌, ◌*◌, ◌⊎◌, ◌≤◌, ℕ, Bool, false, List, length, Option, None, Some}
-use Rattle.std.specs.List.{flat_map}
-use Rattle.sector_disk.specs.CallCount.{unknown_disk}
-use Rattle.sector_disk.specs.Disk.{Sector, DiskFacts}
+use Rattle.std.specs.Prelude.{◌≡◌, ◌≢◌, ◌⊎◌, ◌≤◌, ℕ, Bool, false, List, [], map, slice_index_or, Option, None, Some}
+use Rattle.std.specs.List.{range_with_len}
+use Rattle.sector_disk.specs.CallCount.{calls_made, calls_failed}
+use Rattle.sector_disk.specs.Disk.{Sector, sector, DiskFacts, MayLeave, LeftSince}
 use Rattle.file_disk.specs.declared.disk.FileDisk.{FileDisk}
-use Rattle.file_disk.specs.Ahead.{ahead_at, sector_among, IsKeptOf}
-use Rattle.file_disk.specs.Gathered.{gathered_sectors, gathered_at}
-use Rattle.file_disk.specs.Transfer.{IsWrittenAt, IsReadAt}
+use Rattle.file_disk.specs.declared.sector_file.SectorFile.{Ghosts}
+use Rattle.file_disk.specs.Ahead.{ahead_at}
+use Rattle.file_disk.specs.Gathered.{gathered_at}
+use Rattle.file_disk.specs.Left.{LeftOf, shown_of, time_at}
+use Rattle.file_disk.specs.SectorFile.{FileFacts, MayHave, MediumAt}
 
--- it isn't known to be honest: nothing is said but its size and its calls
-abbrev pub file_facts : {F : Type 0} → FileDisk F → DiskFacts
-file_facts disk = unknown_disk disk.sectors disk.calls
+module _ {F : Type 0} {g : Ghosts F} where
+  -- Reads give what waits over what the file has, as at the last moment at which no write or sync
+  -- had failed. A stop may leave what waited, or what the file's medium might have had, at the last
+  -- sync that succeeded or behind a write since.
+  abbrev pub file_facts : FileDisk F g → DiskFacts
+  file_facts disk = record {
+    honest = g.is_honest;
+    sectors = disk.buffered.sectors;
+    time = calls_made disk.calls;
+    failures = calls_failed disk.calls;
+    plans = [];
+    log = [];
+    now = map (shown_of disk.latest.items) (range_with_len 0 disk.buffered.sectors);
+    may_leave = λ u k c. LeftOf (slice_index_or disk.past.items u disk.since).items k c;
+  }
 
--- whether a write or a sync has failed
-abbrev pub has_failed : {F : Type 0} → FileDisk F → Bool
-has_failed disk = disk.failed
+  -- whether a write or a sync has failed
+  abbrev pub has_failed : FileDisk F g → Bool
+  has_failed disk = disk.buffered.failed
 
--- the file
-abbrev pub file_of : {F : Type 0} → FileDisk F → F
-file_of disk = disk.file
+  -- the file
+  abbrev pub file_of : FileDisk F g → F
+  file_of disk = disk.buffered.file
 
--- the content of sector k that was written and wasn't given to the file yet
-abbrev pub waiting : {F : Type 0} → FileDisk F → ℕ → Option Sector
-waiting disk k = gathered_at disk.gathered k
+  -- what is said of the file
+  abbrev pub facts_below : FileDisk F g → FileFacts
+  facts_below disk = g.facts disk.buffered.file
 
--- what the file gave for sector k, where it is kept
-abbrev pub kept : {F : Type 0} → FileDisk F → ℕ → Option Sector
-kept disk k = ahead_at disk.ahead k
+  -- the content of sector k that was written and wasn't given to the file yet
+  abbrev pub waiting : FileDisk F g → ℕ → Option Sector
+  waiting disk k = gathered_at disk.buffered.gathered k
 
--- nothing waits
-abbrev pub WaitsNot : {F : Type 0} → FileDisk F → Type 0
-WaitsNot disk = (k : ℕ) → waiting disk k ≡ None
+  -- what the file gave for sector k, where it is kept
+  abbrev pub kept : FileDisk F g → ℕ → Option Sector
+  kept disk k = ahead_at disk.buffered.ahead k
 
--- what waits is the same
-abbrev pub WaitsSame : {F : Type 0} → FileDisk F → FileDisk F → Type 0
-WaitsSame old new = (k : ℕ) → waiting new k ≡ waiting old k
+  -- nothing waits
+  abbrev pub WaitsNot : FileDisk F g → Type 0
+  WaitsNot disk = (k : ℕ) → waiting disk k ≡ None
 
--- the same file; what waits is the same, and so is what is kept
-pub record IsSame {F : Type 0} (old new : FileDisk F) : Type 0 where
-  pub file : new.file ≡ old.file
-  pub gathered : new.gathered ≡ old.gathered
-  pub ahead : new.ahead ≡ old.ahead
+  -- what waits is the same
+  abbrev pub WaitsSame : FileDisk F g → FileDisk F g → Type 0
+  WaitsSame old new = (k : ℕ) → waiting new k ≡ waiting old k
 
--- All that waited was given to the file, at its place. Where nothing waited the file is as it was.
-pub record IsGiven {F : Type 0} (position : F → Option ℕ) (contents : F → Option (List ℕ)) (old : FileDisk F) (file : F) : Type 0 where
-  pub idle : WaitsNot old → file ≡ old.file
-  pub given : WaitsNot old
-      ⊎ IsWrittenAt position contents old.file file (512 * old.gathered.start) (flat_map (λ content. content) (gathered_sectors old.gathered))
+  -- the same file; what waits is the same, and so is what is kept
+  pub record IsSame (old new : FileDisk F g) : Type 0 where
+    pub file : file_of new ≡ file_of old
+    pub waits : WaitsSame old new
+    pub kept : (k : ℕ) → kept new k ≡ kept old k
 
--- Sector `at` waits with this content.
-pub record IsGathered {F : Type 0} (position : F → Option ℕ) (contents : F → Option (List ℕ))
-    (old new : FileDisk F) (at : ℕ) (content : Sector) : Type 0 where
-  pub here : waiting new at ≡ Some content
-  -- the others wait as before, and the file is as it was; or all of them were given to the file
-  pub others : ((new.file ≡ old.file) × ((k : ℕ) → k ≢ at → waiting new k ≡ waiting old k))
-      ⊎ (((k : ℕ) → k ≢ at → waiting new k ≡ None) × IsGiven position contents old new.file)
+  -- Sector `at` waits with this content; each other one waits as before, or not any more.
+  pub record IsGathered (old new : FileDisk F g) (at : ℕ) (content : Sector) : Type 0 where
+    pub here : waiting new at ≡ Some content
+    pub others : (k : ℕ) → k ≢ at → (waiting new k ≡ waiting old k) ⊎ (waiting new k ≡ None)
 
--- As it starts: no call was made, none has failed, nothing waits, and nothing is kept.
-pub record IsNew {F : Type 0} (disk : FileDisk F) : Type 0 where
-  pub time : (file_facts disk).time ≡ 0
-  pub failures : (file_facts disk).failures ≡ 0
-  pub failed : has_failed disk ≡ false
-  pub waits : WaitsNot disk
-  pub kept : (k : ℕ) → kept disk k ≡ None
+  -- As it starts: no call was made, none has failed, nothing waits, and nothing is kept.
+  pub record IsNew (disk : FileDisk F g) : Type 0 where
+    pub time : (file_facts disk).time ≡ 0
+    pub failures : (file_facts disk).failures ≡ 0
+    pub failed : has_failed disk ≡ false
+    pub waits : WaitsNot disk
+    pub kept : (k : ℕ) → kept disk k ≡ None
 
--- the content is the first sector of the bytes, one sector at least, that were read at its place;
--- some of them are kept
-pub record IsFetched {F : Type 0} (position : F → Option ℕ) (remaining : F → Option (List ℕ))
-    (old new : FileDisk F) (at : ℕ) (content : Sector) : Type 0 where
-  pub bytes : List ℕ
-  pub read : IsReadAt position remaining old.file new.file (512 * at) bytes
-  pub whole : 512 ≤ length bytes
-  pub is : content ≡ sector_among bytes at at
-  pub kept : IsKeptOf new.ahead bytes at
+  -- Reads give what the file has, and a stop may leave what its medium may have.
+  pub record IsAsTheFile (disk : FileDisk F g) : Type 0 where
+    pub now : (k : ℕ) → sector (file_facts disk).now k ≡ sector (facts_below disk).now k
+    pub medium : (k : ℕ) (c : Sector) → MayHave (facts_below disk) k c → MayLeave (file_facts disk) k c
+
+  -- the file's time at a moment of the disk
+  abbrev pub file_time : FileDisk F g → ℕ → ℕ
+  file_time disk v = time_at disk.files.items disk.buffered v
+
+  -- Whatever the file's medium may have at a moment of the file from old to new, a stop of the disk
+  -- might have left since the moment before. The file's time at each moment before stays noted.
+  pub record IsCovered (old new : FileDisk F g) : Type 0 where
+    pub noted : (v : ℕ) → v ≤ (file_facts old).time → file_time new v ≡ file_time old v
+    pub each : (u : ℕ) (m : List Sector) → (facts_below old).time ≤ u → u ≤ (facts_below new).time
+        → MediumAt (facts_below new) u m → LeftSince (file_facts new) (file_facts old).time m
+
+  -- Whatever the file's medium may have had since a moment of the disk, at any moment of the file's
+  -- own time, a stop of the disk might have left since then.
+  pub record FollowsTheFile (disk : FileDisk F g) : Type 0 where
+    pub now : file_time disk (file_facts disk).time ≡ (facts_below disk).time
+    pub each : (v u : ℕ) (m : List Sector) → v ≤ (file_facts disk).time → file_time disk v ≤ u → u ≤ (facts_below disk).time
+        → MediumAt (facts_below disk) u m → LeftSince (file_facts disk) v m

@@ -1,11 +1,7 @@
 -- The sectors that were written and wait to be given to the file.
-use Rattle.std.specs.Prelude.{◌-◌, ◌==◌, ◌||◌, ◌&&◌, ℕ, Bool, nat_le, nat_lt, List, Option, None, Some, if◌then◌else◌, length}
+use Rattle.std.specs.Prelude.{◌-◌, ◌+◌, ◌==◌, ◌||◌, ◌&&◌, ℕ, Bool, nat_le, nat_lt, Option, None, Some, if◌then◌else◌, length}
 use Rattle.sector_disk.specs.Disk.{Sector, sector}
 use Rattle.file_disk.specs.declared.gathered.Gathered.{Gathered}
-
--- their contents, from the first of them on
-abbrev pub gathered_sectors : Gathered → List Sector
-gathered_sectors gathered = gathered.contents.items
 
 -- the content of sector k, where it waits
 abbrev pub gathered_at : Gathered → ℕ → Option Sector
@@ -13,6 +9,10 @@ gathered_at gathered k =
     if nat_le gathered.start k && nat_lt (k - gathered.start) (length gathered.contents.items)
     then Some (sector gathered.contents.items (k - gathered.start))
     else None
+
+-- the sector behind the last that waits
+abbrev pub gathered_end : Gathered → ℕ
+gathered_end gathered = gathered.start + length gathered.contents.items
 
 -- Sector `at` can wait with them: none do, or it is one of them, or the next one and there is room.
 abbrev pub has_room : Gathered → ℕ → Bool

@@ -1,5 +1,9 @@
 pub mod Ahead
+pub mod Buffered
 pub mod FileDisk
 pub mod Gathered
-pub mod Transfer
+pub mod Left
+pub mod Medium
+pub mod MemoryFile
+pub mod SectorFile
 pub mod inside

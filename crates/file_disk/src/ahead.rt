@@ -1,10 +1,10 @@
 // Sectors in a row that were read from the file, some of them ahead of being asked for.
-ghost use Rattle.std.specs.Prelude.{◌≡◌, ◌≤◌, ◌<◌, ◌*◌, vec_len, vec_capacity};
+ghost use Rattle.std.specs.Prelude.{◌≡◌, ◌≤◌, ◌<◌, vec_len, vec_capacity};
 
-use crate::transfer::read_at;
+use crate::sector_file::SectorFile;
+use crate::transfer::read_most;
 use sector_disk::{DiskFault, SECTOR_BYTES};
 use std::alloc::{AllocError, Global};
-use std::io::{Read, Seek};
 
 /// How many sectors are read at once at most: 128 KiB.
 const MOST: usize = 256;
@@ -22,21 +22,20 @@ pub(crate) struct Ahead {
     // How many the last read asked for.
     asked: usize,
     // The memory for them is reserved. As much of it is touched as a read has asked for.
-    bytes: Vec<u8>,
+    contents: Vec<[u8; SECTOR_BYTES]>,
     ghost some: { 0 < room },
     ghost most: { room ≤ 256 },
-    ghost size: { vec_len bytes ≤ room * 512 },
-    ghost reserved: { room * 512 ≤ vec_capacity bytes },
-    ghost filled: { count * 512 ≤ vec_len bytes },
+    ghost size: { vec_len contents ≤ room },
+    ghost reserved: { room ≤ vec_capacity contents },
+    ghost filled: { count ≤ vec_len contents },
     ghost asks: { asked ≤ room },
 }
 
 impl Ahead {
-    ghost use Rattle.std.specs.Prelude.{◌*◌, ◌<◌, ℕ, None, IfOk, IfSome, OnOk, OnErr};
-    ghost use Rattle.std.specs.Prelude.{length, option_copied};
-    ghost use Rattle.std.specs.Prelude.{List};
-    ghost use Rattle.file_disk.specs.Ahead.{ahead_at, sector_among, IsForgotten, IsKeptOf};
-    ghost use Rattle.file_disk.specs.Transfer.{IsReadAt};
+    ghost use Rattle.std.specs.Prelude.{◌<◌, ◌+◌, ◌^◌, ℕ, None, false, IfOk, OnOk, OnErr};
+    ghost use Rattle.std.specs.Prelude.{IsTrue, option_copied};
+    ghost use Rattle.file_disk.specs.Ahead.{ahead_at, IsForgotten};
+    ghost use Rattle.file_disk.specs.inside.Transfer.{IsFilled};
 
     /// None are there. Takes the memory for all that may be, of a disk of so many sectors, and
     /// touches none of it.
@@ -49,22 +48,20 @@ impl Ahead {
             count: 0,
             room,
             asked: 0,
-            bytes: Vec::with_capacity(alloc, room * SECTOR_BYTES)?,
+            contents: Vec::with_capacity(alloc, room)?,
         })
     }
 
     /// What the file gave for a sector.
-    pub(crate) fn get(&self, at: u32) -> Option<&[u8]>
-        ensures content { option_copied result ≡ ahead_at self.now at }
-        ensures size { IfSome result (λ content. length content.now ≡ 512) }
+    pub(crate) fn get(&self, at: u32) -> Option<&[u8; SECTOR_BYTES]>
+        ensures { option_copied result ≡ ahead_at self.now at }
     {
         if at < self.start {
             return None;
         }
         let place = (at - self.start) as usize;
         if place < self.count {
-            let from = place * SECTOR_BYTES;
-            Some(&self.bytes[from..from + SECTOR_BYTES])
+            Some(&self.contents[place])
         } else {
             None
         }
@@ -87,7 +84,7 @@ impl Ahead {
         ensures most { self.new.asked ≤ self.new.room }
         ensures room { self.new.room ≡ self.old.room }
         ensures start { self.new.start ≡ self.old.start }
-        ensures bytes { self.new.bytes ≡ self.old.bytes }
+        ensures contents { self.new.contents ≡ self.old.contents }
         ensures count { self.new.count ≡ 0 }
     {
         let is_next = self.count > 0 && at as usize == self.start as usize + self.count;
@@ -100,17 +97,17 @@ impl Ahead {
         self.count = 0;
     }
 
-    // Has so many bytes be there for a read.
-    fn lengthen(&mut self, size: usize)
-        requires { size ≤ self.old.room * 512 }
-        ensures size { size ≤ vec_len self.new.bytes }
+    // Has so many sectors be there for a read.
+    fn lengthen(&mut self, most: usize)
+        requires { most ≤ self.old.room }
+        ensures size { most ≤ vec_len self.new.contents }
         ensures room { self.new.room ≡ self.old.room }
         ensures start { self.new.start ≡ self.old.start }
         ensures count { self.new.count ≡ self.old.count }
         ensures asked { self.new.asked ≡ self.old.asked }
     {
-        if self.bytes.len() < size {
-            match self.bytes.resize(size, 0) {
+        if self.contents.len() < most {
+            match self.contents.resize(most, [0; SECTOR_BYTES]) {
                 Ok(()) => {}
                 Err(_) => unreachable!(),
             }
@@ -118,27 +115,28 @@ impl Ahead {
     }
 
     /// Reads a sector, and as many behind it as are worth it, but no more than `most` in all.
-    pub(crate) fn fill<F: Read + Seek>(
+    pub(crate) fn fill<F: SectorFile>(
         &mut self,
         file: &mut F,
         at: u32,
         most: usize,
     ) -> Result<(), DiskFault>
-        requires { 0 < most }
+        requires some { 0 < most }
+        requires fits { at + most < 2 ^ 32 }
+        requires inside { IsTrue F.is_honest → at + most ≤ (F.facts file.old).sectors }
+        requires trusted { IsTrue F.is_honest → (F.facts file.old).sync_failed ≡ false }
         ensures start { OnOk result (self.new.start ≡ at) }
         ensures some { OnOk result (0 < self.new.count) }
         ensures most { OnOk result (self.new.count ≤ most) }
-        ensures read { OnOk result ((bytes : List ℕ)
-            × IsReadAt F.stream_position F.remaining file.old file.new (512 * at) bytes
-            × (512 ≤ length bytes) × IsKeptOf self.new bytes at) }
+        ensures honest { IsTrue F.is_honest → IsFilled (F.facts file.old) (F.facts file.new)
+            self.new result }
         ensures err { OnErr result ((k : ℕ) → ahead_at self.new k ≡ None) }
     {
         self.ask(at);
-        let end = self.asked.min(most) * SECTOR_BYTES;
+        let end = self.asked.min(most);
         self.lengthen(end);
-        let read = read_at(file, at, &mut self.bytes, end)?;
         self.start = at;
-        self.count = read / SECTOR_BYTES;
+        self.count = read_most(file, at, &mut self.contents, end);
         if self.count > 0 {
             Ok(())
         } else {

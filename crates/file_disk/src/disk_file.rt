@@ -1,10 +1,15 @@
 // The file of the system that a disk is over.
 
-use crate::open::OpenFault;
-use std::fs::{File, Metadata, OpenFile};
+ghost use Rattle.std.specs.Prelude.{◌≡◌, ◌/◌, false};
+ghost use Rattle.file_disk.specs.SectorFile.{unknown_file};
+
+use crate::open::{OpenFault, sectors_in};
+use crate::sector_file::SectorFile;
+use sector_disk::SECTOR_BYTES;
+use std::fs::{File, OpenFile};
 use std::io;
-use std::io::{ErrorKind, Read, Seek, SeekFrom, Write};
-use std::os::unix::fs::FileTypeExt;
+use std::io::{ErrorKind, Seek, SeekFrom};
+use std::os::unix::fs::{FileExt, FileTypeExt};
 
 /// What a disk is opened for.
 #[derive(Clone, Copy)]
@@ -21,30 +26,32 @@ pub struct DiskFile {
     file: File,
     /// Whether it is open for reading alone.
     is_read_only: bool,
-    /// The length in bytes of a block device.
-    device_length: Option<u64>,
+    /// Whether it is a block device, and not a regular file.
+    is_device: bool,
 }
 
 impl DiskFile {
-    /// Of a file that is open and locked. A block device has its length where it ends, and not in
-    /// its metadata; any other file but a regular one is refused.
+    /// Of a file that is open and locked. Any other but a regular one or a block device is refused.
     pub(crate) fn new(file: File, is_read_only: bool) -> Result<DiskFile, OpenFault> {
-        let mut file = file;
-        let device_length = match file.metadata() {
-            Ok(found) if found.is_file() => None,
-            Ok(found) if found.file_type().is_block_device() => {
-                match file.seek(SeekFrom::End(0)) {
-                    Ok(length) => Some(length),
-                    Err(_) => return Err(OpenFault::CannotOpen),
-                }
-            }
+        let is_device = match file.metadata() {
+            Ok(found) if found.is_file() => false,
+            Ok(found) if found.file_type().is_block_device() => true,
             _ => return Err(OpenFault::CannotOpen),
         };
         Ok(DiskFile {
             file,
             is_read_only,
-            device_length,
+            is_device,
         })
+    }
+
+    /// Its length in bytes. A block device has it where it ends, and not in its metadata.
+    fn length(&mut self) -> io::Result<u64> {
+        if self.is_device {
+            self.file.seek(SeekFrom::End(0))
+        } else {
+            Ok(self.file.metadata()?.len())
+        }
     }
 }
 
@@ -54,51 +61,52 @@ fn has_no_sync(fault: &io::Error) -> bool {
     fault.kind() == ErrorKind::InvalidInput
 }
 
-impl Read for DiskFile {
-    fn read(&mut self, buf: &mut [u8]) -> io::Result<usize> {
-        self.file.read(buf)
-    }
+/// How many whole sectors a call moved that moved so many bytes. Where that is a part of one, the
+/// file ends there, or may grow no further: it moved none.
+fn whole_sectors(bytes: usize) -> usize
+    ensures { result ≡ bytes / 512 }
+{
+    bytes / SECTOR_BYTES
 }
 
-impl Write for DiskFile {
-    fn write(&mut self, buf: &[u8]) -> io::Result<usize> {
-        self.file.write(buf)
-    }
-
-    fn flush(&mut self) -> io::Result<()> {
-        self.file.flush()
-    }
+/// The first byte of a sector.
+fn place_of(at: u32) -> u64 {
+    u64::from(at) * SECTOR_BYTES as u64
 }
 
-impl Seek for DiskFile {
-    fn seek(&mut self, to: SeekFrom) -> io::Result<u64> {
-        self.file.seek(to)
-    }
-}
+/// Of its honesty nothing is known.
+impl SectorFile for DiskFile {
+    ghost is_honest = { false };
 
-impl OpenFile for DiskFile {
-    /// Of a block device: those of a regular file of its length.
-    fn metadata(&self) -> io::Result<Metadata> {
-        match self.device_length {
-            Some(length) => Ok(Metadata::of_file(length)),
-            None => self.file.metadata(),
-        }
+    ghost facts = { λ file. unknown_file };
+
+    ghost holds_now = { λ file honest. Prim.cc };
+
+    ghost whole_sectors = { λ file honest. Prim.cc };
+
+    fn count_sectors(&mut self) -> Result<u32, OpenFault> {
+        let Ok(length) = self.length() else {
+            return Err(OpenFault::CannotOpen);
+        };
+        sectors_in(length).ok_or(OpenFault::BadLength)
     }
 
-    fn set_len(&self, size: u64) -> io::Result<()> {
-        self.file.set_len(size)
+    fn read_at(&mut self, at: u32, into: &mut [[u8; SECTOR_BYTES]]) -> io::Result<usize> {
+        let bytes = self.file.read_at(into.as_flattened_mut(), place_of(at))?;
+        Ok(whole_sectors(bytes))
+    }
+
+    fn write_at(&mut self, at: u32, from: &[[u8; SECTOR_BYTES]]) -> io::Result<usize> {
+        let bytes = self.file.write_at(from.as_flattened(), place_of(at))?;
+        Ok(whole_sectors(bytes))
     }
 
     /// Of a file that is open for reading alone, on a file system that can't be written, there is
     /// nothing to sync.
-    fn sync_all(&self) -> io::Result<()> {
+    fn sync(&mut self) -> io::Result<()> {
         match self.file.sync_all() {
             Err(fault) if self.is_read_only && has_no_sync(&fault) => Ok(()),
             answer => answer,
         }
-    }
-
-    fn sync_data(&self) -> io::Result<()> {
-        self.sync_all()
     }
 }

@@ -1,5 +1,6 @@
 // Neighbouring sectors that were written, and wait to be given to the file at once.
-ghost use Rattle.std.specs.Prelude.{◌≡◌, ◌≤◌, ◌<◌, vec_len, vec_capacity};
+ghost use Rattle.std.specs.Prelude.{◌≡◌, ◌≤◌, ◌<◌, All, vec_len, vec_capacity};
+ghost use Rattle.sector_disk.specs.Disk.{IsWhole};
 
 use sector_disk::SECTOR_BYTES;
 use std::alloc::{AllocError, Global};
@@ -15,6 +16,7 @@ pub(crate) struct Gathered {
     room: usize,
     contents: Vec<[u8; SECTOR_BYTES]>,
     ghost some: { 0 < room },
+    ghost whole: { All IsWhole contents.items },
     ghost filled: { vec_len contents ≤ room },
     ghost reserved: { room ≤ vec_capacity contents },
 }
@@ -22,13 +24,13 @@ pub(crate) struct Gathered {
 impl Gathered {
     ghost use Rattle.std.specs.Prelude.{◌≢◌, ℕ, None, Some, true, false, IfOk, option_copied};
     ghost use Rattle.std.specs.Prelude.{[]};
-    ghost use Rattle.std.specs.List.{flat_map};
-    ghost use Rattle.file_disk.specs.Gathered.{gathered_sectors, gathered_at, has_room};
+    ghost use Rattle.file_disk.specs.Gathered.{gathered_at, has_room, gathered_end};
 
     /// None wait. Takes the memory for all that may, on a disk of so many sectors, and touches none
     /// of it.
     pub(crate) fn new(alloc: Global, sectors: u32) -> Result<Gathered, AllocError>
-        ensures { IfOk result (λ gathered. (k : ℕ) → gathered_at gathered k ≡ None) }
+        ensures none { IfOk result (λ gathered. (k : ℕ) → gathered_at gathered k ≡ None) }
+        ensures end { IfOk result (λ gathered. gathered_end gathered ≡ 0) }
     {
         let room = (sectors as usize).clamp(1, MOST);
         Ok(Gathered {
@@ -89,6 +91,7 @@ impl Gathered {
         requires { has_room self.old at ≡ true }
         ensures here { gathered_at self.new at ≡ Some from.now }
         ensures others { (k : ℕ) → k ≢ at → gathered_at self.new k ≡ gathered_at self.old k }
+        ensures end { (n : ℕ) → at < n → gathered_end self.old ≤ n → gathered_end self.new ≤ n }
     {
         if self.contents.is_empty() {
             self.start = at;
@@ -104,17 +107,18 @@ impl Gathered {
         }
     }
 
-    /// The bytes of all of them, in a row.
-    pub(crate) fn bytes(&self) -> &[u8]
-        ensures { result.now ≡ flat_map (λ content. content) (gathered_sectors self.now) }
+    /// The contents of all of them, in a row.
+    pub(crate) fn contents(&self) -> &[[u8; SECTOR_BYTES]]
+        ensures { result.now ≡ self.now.contents.items }
     {
-        self.contents.as_flattened()
+        &self.contents
     }
 
     /// None wait any more.
     pub(crate) fn clear(&mut self)
         ensures none { (k : ℕ) → gathered_at self.new k ≡ None }
         ensures empty { self.new.contents.items ≡ [] }
+        ensures start { self.new.start ≡ self.old.start }
     {
         self.contents.clear();
     }

@@ -1,16 +1,19 @@
 // Opening and making the file of a disk.
 ghost use Rattle.std.specs.Prelude.{◌≡◌, ◌≢◌, ◌*◌, ◌<◌, ◌^◌, ℕ, IfOk, IfSome, IfNone};
-ghost use Rattle.file_disk.specs.FileDisk.{file_facts, file_of, IsNew};
+ghost use Rattle.std.specs.Prelude.{false, IsTrue};
+ghost use Rattle.file_disk.specs.FileDisk.{file_facts, facts_below, IsNew, IsAsTheFile};
+ghost use Rattle.file_disk.specs.SectorFile.{IsFileCall};
 ghost use Rattle.file_disk.specs.declared.open.OpenFault.TheVariants.{OutOfMemory};
 
 use crate::disk::FileDisk;
 use crate::disk_file::{Access, DiskFile};
 use crate::locked::open_locked;
 use crate::new_name::NewName;
+use crate::sector_file::SectorFile;
 use sector_disk::{Disk, SECTOR_BYTES};
 use std::alloc::{AllocError, Global};
-use std::fs::{File, OpenFile};
-use std::io::{ErrorKind, Read, Seek, Write};
+use std::fs::File;
+use std::io::ErrorKind;
 use std::path::Path;
 use std::rt::{Clock, Files};
 use std::{fs, io};
@@ -42,7 +45,7 @@ impl From<AllocError> for OpenFault {
 
 /// How many sectors a file of this length has, in bytes; none where they aren't whole, or are 2^32
 /// or more.
-fn sectors_in(length: u64) -> Option<u32>
+pub(crate) fn sectors_in(length: u64) -> Option<u32>
     ensures some { IfSome result (λ sectors. length ≡ 512 * sectors) }
     ensures none { IfNone result ((n : ℕ) → n < 2 ^ 32 → length ≢ 512 * n) }
 {
@@ -78,19 +81,17 @@ pub(crate) fn is_free<R: Files>(rt: &R, path: &str) -> bool {
     }
 }
 
-impl<F: Read + Write + Seek + OpenFile + Drop> FileDisk<F> {
+impl<F: SectorFile + Drop> FileDisk<F> {
     /// A disk over an open file: it has as many sectors as the file has now.
     pub fn over(alloc: Global, file: F) -> Result<FileDisk<F>, OpenFault>
+        requires { IsTrue F.is_honest → (F.facts file).sync_failed ≡ false }
         ensures new { IfOk result (λ disk. IsNew disk) }
-        ensures file { IfOk result (λ disk. file_of disk ≡ file) }
+        ensures file { IsTrue F.is_honest → IfOk result
+            (λ disk. IsFileCall false (F.facts file) (facts_below disk)) }
+        ensures starts { IsTrue F.is_honest → IfOk result (λ disk. IsAsTheFile disk) }
     {
-        let length = match file.metadata() {
-            Ok(found) if found.is_file() => found.len(),
-            _ => return Err(OpenFault::CannotOpen),
-        };
-        let Some(sectors) = sectors_in(length) else {
-            return Err(OpenFault::BadLength);
-        };
+        let mut file = file;
+        let sectors = file.count_sectors()?;
         Ok(FileDisk::new(alloc, file, sectors)?)
     }
 }

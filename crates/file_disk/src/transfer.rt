@@ -1,73 +1,72 @@
-// Bytes to and from a file, at the place of a sector.
-ghost use Rattle.std.specs.Prelude.{◌≡◌, ◌*◌, ◌≤◌, IfOk, OnOk, length, take};
-ghost use Rattle.std.specs.Io.KnownBytes.{Consumes};
-ghost use Rattle.file_disk.specs.Transfer.{IsAt, IsWrittenAt, IsReadAt};
+// Sectors to and from a file, in as many calls as it takes.
+ghost use Rattle.std.specs.Prelude.{◌≡◌, ◌<◌, ◌≤◌, ◌+◌, ◌^◌, false, IsTrue, OnOk, OnErr, length};
+ghost use Rattle.file_disk.specs.inside.Transfer.{IsWrittenAt, IsReadAt};
 
+use crate::sector_file::SectorFile;
 use sector_disk::{DiskFault, SECTOR_BYTES};
-use std::fs::OpenFile;
-use std::io::{ErrorKind, Read, Seek, SeekFrom, Write};
+use std::io::ErrorKind;
 
-/// Whether a file is a regular one of so many sectors.
-pub(crate) fn has_sectors<F: OpenFile>(file: &F, sectors: u32) -> bool {
-    match file.metadata() {
-        Ok(found) => found.is_file() && found.len() == u64::from(sectors) * SECTOR_BYTES as u64,
-        Err(_) => false,
-    }
-}
-
-// Goes to the first byte of a sector.
-fn seek_to<F: Seek>(file: &mut F, at: u32) -> Result<(), DiskFault>
-    ensures { OnOk result (IsAt F.stream_position file.old file.new (512 * at)) }
-{
-    match file.seek(SeekFrom::Start(u64::from(at) * SECTOR_BYTES as u64)) {
-        Ok(_) => Ok(()),
-        Err(_) => Err(DiskFault::Failed),
-    }
-}
-
-// Goes to the first byte of a sector, counted from the end of the file, and fails where that has
-// another length than so many sectors: the byte would be another one.
-fn seek_from_end<F: Seek>(file: &mut F, at: u32, sectors: u32) -> Result<(), DiskFault>
-    ensures { OnOk result (IsAt F.stream_position file.old file.new (512 * at)) }
-{
-    let offset = (i64::from(at) - i64::from(sectors)) * SECTOR_BYTES as i64;
-    match file.seek(SeekFrom::End(offset)) {
-        Ok(place) if place == u64::from(at) * SECTOR_BYTES as u64 => Ok(()),
-        _ => Err(DiskFault::Failed),
-    }
-}
-
-/// Writes all bytes from the first one of a sector on, also where the file takes few at a time or
-/// a signal interrupts. A file of another length than so many sectors isn't written.
-pub(crate) fn write_at<F: Write + Seek>(
+/// Writes all sectors from this one on, also where the file takes few at a time or a signal
+/// interrupts.
+pub(crate) fn write_all<F: SectorFile>(
     file: &mut F,
-    sectors: u32,
     at: u32,
-    bytes: &[u8],
+    from: &[[u8; SECTOR_BYTES]],
 ) -> Result<(), DiskFault>
-    ensures { OnOk result (IsWrittenAt F.stream_position F.contents file.old file.new
-        (512 * at) bytes.now) }
+    requires fits { at + length from.now < 2 ^ 32 }
+    requires inside { IsTrue F.is_honest
+        → at + length from.now ≤ (F.facts file.old).sectors }
+    requires trusted { IsTrue F.is_honest → (F.facts file.old).sync_failed ≡ false }
+    ensures ok { IsTrue F.is_honest → OnOk result (IsWrittenAt at from.now (length from.now)
+        (F.facts file.old) (F.facts file.new)) }
+    ensures err { IsTrue F.is_honest → OnErr result (IsWrittenAt at from.now 0
+        (F.facts file.old) (F.facts file.new)) }
+    ensures failed { IsTrue F.is_honest → OnErr result
+        ((F.facts file.old).failures < (F.facts file.new).failures) }
 {
-    seek_from_end(file, at, sectors)?;
-    match file.write_all(bytes) {
-        Ok(()) => Ok(()),
-        Err(_) => Err(DiskFault::Failed),
+    let mut done = 0;
+    for _ in 0..u64::MAX {
+        if done >= from.len() {
+            return Ok(());
+        }
+        match file.write_at(at + done as u32, &from[done..]) {
+            Ok(0) => return Err(DiskFault::Failed),
+            Ok(more) => done += more,
+            Err(e) => {
+                if e.kind() != ErrorKind::Interrupted {
+                    return Err(DiskFault::Failed);
+                }
+            }
+        }
     }
+    Err(DiskFault::Failed)
 }
 
-// Reads until so many bytes are there, the file ends or a read fails, and says how many came.
-fn read_most<F: Read>(file: &mut F, bytes: &mut [u8], most: usize) -> usize
-    requires { most ≤ length bytes.old }
-    ensures size { length bytes.new ≡ length bytes.old }
+/// Reads until so many sectors are there, the file gives none or a read fails, and says how many
+/// came.
+pub(crate) fn read_most<F: SectorFile>(
+    file: &mut F,
+    at: u32,
+    into: &mut [[u8; SECTOR_BYTES]],
+    most: usize,
+) -> usize
+    requires room { most ≤ length into.old }
+    requires fits { at + most < 2 ^ 32 }
+    requires inside { IsTrue F.is_honest → at + most ≤ (F.facts file.old).sectors }
+    requires trusted { IsTrue F.is_honest → (F.facts file.old).sync_failed ≡ false }
+    ensures size { length into.new ≡ length into.old }
     ensures most { result ≤ most }
-    ensures read { Consumes (F.remaining file.old) (F.remaining file.new) (take result bytes.new) }
+    ensures honest { IsTrue F.is_honest
+        → IsReadAt at into.new result (F.facts file.old) (F.facts file.new) }
+    ensures none { IsTrue F.is_honest → 0 < most → result ≡ 0
+        → (F.facts file.old).failures < (F.facts file.new).failures }
 {
     let mut count = 0;
     for _ in 0..u64::MAX {
         if count >= most {
             return count;
         }
-        match file.read(&mut bytes[count..most]) {
+        match file.read_at(at + count as u32, &mut into[count..most]) {
             Ok(0) => return count,
             Ok(more) => count += more,
             Err(e) => {
@@ -78,22 +77,4 @@ fn read_most<F: Read>(file: &mut F, bytes: &mut [u8], most: usize) -> usize
         }
     }
     count
-}
-
-/// Reads so many bytes from the first one of a sector on, or as many as there are or can be read,
-/// and says how many came.
-pub(crate) fn read_at<F: Read + Seek>(
-    file: &mut F,
-    at: u32,
-    bytes: &mut [u8],
-    most: usize,
-) -> Result<usize, DiskFault>
-    requires { most ≤ length bytes.old }
-    ensures size { length bytes.new ≡ length bytes.old }
-    ensures most { IfOk result (λ count. count ≤ most) }
-    ensures read { IfOk result (λ count. IsReadAt F.stream_position F.remaining file.old file.new
-        (512 * at) (take count bytes.new)) }
-{
-    seek_to(file, at)?;
-    Ok(read_most(file, bytes, most))
 }

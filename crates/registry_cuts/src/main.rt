@@ -8,6 +8,7 @@ mod answer;
 mod course;
 mod cut;
 mod event;
+mod file_cuts;
 mod mixture;
 mod plain;
 mod rounds;

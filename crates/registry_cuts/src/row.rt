@@ -32,9 +32,17 @@ fn run_course(
 ) -> Result<()> {
     let alloc = tally.rt.alloc();
     let disk = disk_after(alloc, sectors, start)?;
-    let course = Course::on(alloc, disk, sectors, start, events, word != "list")?;
+    let course = Course::on(
+        alloc,
+        disk,
+        sectors,
+        start,
+        events,
+        word == "follow" || word == "binders",
+    )?;
     match word {
         "list" => course.cut_list(tally),
+        "file" => course.cut_file(tally),
         "follow" => course.follow(tally),
         _ => course.cut_flights(tally),
     }
@@ -77,7 +85,7 @@ fn run_word(
         "full" => cut_making(tally, Beginning::Full, disk, start),
         "newer" => cut_making(tally, Beginning::Newer, disk, start),
         "rounds" => play_rounds(tally, disk.parse::<u32>()?, start, rest),
-        "list" | "follow" | "binders" => run_events(tally, word, disk, start, rest),
+        "list" | "file" | "follow" | "binders" => run_events(tally, word, disk, start, rest),
         "lists" => run_lists(tally, disk, start, rest),
         _ => bail!("the word {word}"),
     }

@@ -5,8 +5,9 @@ use crate::cut::{Cut, Powered};
 use crate::event::Event;
 use anyhow::{Result, bail};
 use binders::Binders;
+use file_disk::{FileDisk, FilePlan, MemoryFile, OpenFault};
 use registry::Registry;
-use sector_disk::Memory;
+use sector_disk::{Disk, Memory};
 use std::alloc::Global;
 use std::rc::Rc;
 use store::StoreRefusal;
@@ -37,9 +38,9 @@ pub(crate) struct Run {
 }
 
 // Lets events happen: the answers.
-fn happen(
+fn happen<D: Disk>(
     alloc: Global,
-    binders: &mut Binders<Powered>,
+    binders: &mut Binders<D>,
     events: &[Rc<Event>],
 ) -> Result<Vec<Vec<u8>>> {
     let mut given = Vec::new(alloc);
@@ -53,8 +54,28 @@ fn happen(
 impl Run {
     /// Lets the first events happen, cut so: what is told of them, and the disk.
     pub(crate) fn cut(&self, alloc: Global, count: usize, cut: Cut) -> Result<(Told, Powered)> {
+        self.play(alloc, count, cut.of(self.disk.copy()?))
+    }
+
+    /// Lets all events happen over a file with this plan: what is told of them, and the file.
+    pub(crate) fn over_file(&self, alloc: Global, plan: FilePlan) -> Result<(Told, MemoryFile)> {
+        match FileDisk::over(alloc, MemoryFile::new(self.disk.copy()?, plan)) {
+            Ok(disk) => {
+                let (told, disk) = self.play(alloc, self.events.len(), disk)?;
+                Ok((told, disk.into_file()))
+            }
+            // The call that counts its sectors was cut.
+            Err(OpenFault::CannotOpen) => Ok((
+                Err(StoreRefusal::Device),
+                MemoryFile::new(self.disk.copy()?, plan),
+            )),
+            Err(fault) => Err(fault.into()),
+        }
+    }
+
+    // Lets the first events happen on this disk: what is told of them, and the disk.
+    fn play<D: Disk + Drop>(&self, alloc: Global, count: usize, disk: D) -> Result<(Told, D)> {
         let events = self.events.get(..count).unwrap_or(&self.events);
-        let disk = cut.of(self.disk.copy()?);
         let made = match self.beginning {
             Beginning::Open => Registry::open(alloc, disk),
             Beginning::Format => Registry::format(alloc, disk),

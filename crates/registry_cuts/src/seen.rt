@@ -3,13 +3,15 @@
 use crate::answer::answers;
 use crate::cut::{Cut, Powered};
 use crate::event::{Event, bind};
+use crate::file_cuts::UNCUT;
 use crate::run::Beginning;
 use anyhow::{Result, bail};
+use file_disk::{FileDisk, MemoryFile};
 use plain_registry::PlainRegistry;
 use registry::Registry;
 use requests::{Command, Reply};
 use samples::{SIZE, padded, program};
-use sector_disk::Memory;
+use sector_disk::{Disk, Memory};
 use std::alloc::Global;
 use std::rc::Rc;
 use store::StoreRefusal;
@@ -90,9 +92,9 @@ fn make(plain: &mut PlainRegistry, changes: &[Rc<Event>]) -> Result<()> {
 }
 
 // Asks a registry, if there is one.
-fn ask(
+fn ask<D: Disk + Drop>(
     alloc: Global,
-    made: std::result::Result<Registry<Powered>, (StoreRefusal, Powered)>,
+    made: std::result::Result<Registry<D>, (StoreRefusal, D)>,
     looks: &[Command<'_>],
 ) -> Result<Seen> {
     match made {
@@ -126,6 +128,13 @@ pub(crate) fn look_behind(alloc: Global, disk: Powered, probe: &Probe) -> Result
 /// Opens a disk and asks.
 pub(crate) fn look(alloc: Global, disk: Memory, probe: &Probe) -> Result<Seen> {
     look_behind(alloc, Cut::NONE.of(disk), probe)
+}
+
+/// Opens a disk over a file with this medium, and asks.
+pub(crate) fn look_over_file(alloc: Global, medium: Memory, probe: &Probe) -> Result<Seen> {
+    let looks = probe.looks(alloc)?;
+    let disk = FileDisk::over(alloc, MemoryFile::new(medium, UNCUT))?;
+    ask(alloc, Registry::open(alloc, disk), &looks)
 }
 
 impl Seen {

@@ -21,3 +21,4 @@ pub use disk::{Disk, DiskFault, SECTOR_BYTES};
 pub use fuse::Fuse;
 pub use liar::Liar;
 pub use memory::Memory;
+pub use past::Past;

@@ -4,9 +4,9 @@ ghost use Rattle.std.specs.Borrow.{ftrue};
 
 use std::marker::{Model, PhantomData};
 
-/// What is past, oldest first.
+/// What is past, oldest first. It has no bytes at run time: clauses alone read it.
 #[derive(Drop)]
-pub(crate) struct Past<A> {
+pub struct Past<A> {
     of: PhantomData<A>,
     pub ghost items: { List A },
 }
@@ -17,21 +17,21 @@ impl<A> Model for Past<A> {
 
 impl<A> Past<A> {
     /// Nothing is past.
-    pub(crate) fn new() -> Past<A>
+    pub fn new() -> Past<A>
         ensures { result.items ≡ [] }
     {
         Past { of: PhantomData }
     }
 
     /// The same, and then this.
-    pub(crate) fn and(&self, item: &A) -> Past<A>
+    pub fn and(&self, item: &A) -> Past<A>
         ensures { result.items ≡ self.now.items ++ item.now ∷ [] }
     {
         Past { of: PhantomData }
     }
 
     /// The same.
-    pub(crate) fn copy(&self) -> Past<A>
+    pub fn copy(&self) -> Past<A>
         ensures { result.items ≡ self.now.items }
     {
         Past { of: PhantomData }

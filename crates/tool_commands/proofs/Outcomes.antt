@@ -181,27 +181,26 @@ module _ (io : Streams) (status : Status) where
   request_kind facts disk left asked telling (inl h) = reply_kind telling h.0 h.2
   request_kind facts disk left asked telling (inr h) = untold_kind telling (disk_status h.0) (disk_fault h.0) h.2.0 h.2.1
 
-  module _ (F : Type 0) where
-    tell_kind : (question : Question) → TellEnds F question io status → FormKind question
-    tell_kind question (inl h) = ⊎_elim
-        (λ asked. form_kind (file_facts asked.store.disk) (file_facts h.1) question asked.told)
-        (λ refused. unopened_kind question (disk_status refused.0) (disk_fault refused.0) refused.2)
-        h.3
-    tell_kind question (inr h) = unopened_kind question (open_status h.0) (open_fault h.0) h.1
+  tell_kind : (question : Question) → TellEnds question io status → FormKind question
+  tell_kind question (inl h) = ⊎_elim
+      (λ asked. form_kind (file_facts asked.store.disk) (file_facts h.1) question asked.told)
+      (λ refused. unopened_kind question (disk_status refused.0) (disk_fault refused.0) refused.2)
+      h.3
+  tell_kind question (inr h) = unopened_kind question (open_status h.0) (open_fault h.0) h.1
 
-    ask_kind : (asked : Request) (telling : Telling) → AskEnds F asked telling io status → ReplyKind telling
-    ask_kind asked telling (inl h) = request_kind file_facts h.0 h.1 asked telling h.3
-    ask_kind asked telling (inr h) = untold_kind telling (open_status h.0) (open_fault h.0) h.1 h.2
+  ask_kind : (asked : Request) (telling : Telling) → AskEnds asked telling io status → ReplyKind telling
+  ask_kind asked telling (inl h) = request_kind file_facts h.0 h.1 asked telling h.3
+  ask_kind asked telling (inr h) = untold_kind telling (open_status h.0) (open_fault h.0) h.1 h.2
 
-    read_kind : (asked : List ℕ → Request) (telling : Telling) → ReadEnds F asked telling io status → ReplyKind telling
-    read_kind asked telling (inl h) = ask_kind (asked h.0) telling h.2
-    read_kind asked telling (inr h) = untold_kind telling (read_status h.0) (read_fault h.0) h.1 h.2
+  read_kind : (asked : List ℕ → Request) (telling : Telling) → ReadEnds asked telling io status → ReplyKind telling
+  read_kind asked telling (inl h) = ask_kind (asked h.0) telling h.2
+  read_kind asked telling (inr h) = untold_kind telling (read_status h.0) (read_fault h.0) h.1 h.2
 
-    deed_kind : (deed : Deed) → DeedEnds F deed io status → Kind deed
-    deed_kind (tell question) h = tell_kind question h
-    deed_kind (replace path) h = read_kind _ Text h
-    deed_kind (remove name) h = ask_kind _ Text h
-    deed_kind (executable path base) h = read_kind _ Executable h
+  deed_kind : (deed : Deed) → DeedEnds deed io status → Kind deed
+  deed_kind (tell question) h = tell_kind question h
+  deed_kind (replace path) h = read_kind _ Text h
+  deed_kind (remove name) h = ask_kind _ Text h
+  deed_kind (executable path base) h = read_kind _ Executable h
 
   -- ---- what follows from the kind
 
@@ -264,19 +263,19 @@ number_done BadWords h = absurd (omega (arith, h))
 number_done Failed h = absurd (omega (arith, h))
 number_done NoMemory h = absurd (omega (arith, h))
 
-module _ (F : Type 0) (line : CommandLine) (io : Streams) (number : ℕ) (h : LineEnds F line io number) where
+module _ (line : CommandLine) (io : Streams) (number : ℕ) (h : LineEnds line io number) where
   -- a line ends with no such number
   pub line_words : number ≢ 2
   line_words is =
       number_words h.0
-      (⊎_elim (λ deed. kind_words io h.0 line.deed (deed_kind io h.0 F line.deed deed)) (λ behind. same_words Failed h.0 failed_fault.1 behind.0) h.1)
+      (⊎_elim (λ deed. kind_words io h.0 line.deed (deed_kind io h.0 line.deed deed)) (λ behind. same_words Failed h.0 failed_fault.1 behind.0) h.1)
       (sym h.2 ∙ is)
 
   pub line_silent : IsSilentDeed line.deed → number ≡ 0 → IsSilent io
   line_silent deed is =
       let done = number_done h.0 (sym h.2 ∙ is) in
-      ⊎_elim (λ did. kind_silent io h.0 line.deed deed (deed_kind io h.0 F line.deed did) done) (λ behind. cc (sym behind.0 ∙ done)) h.1
+      ⊎_elim (λ did. kind_silent io h.0 line.deed deed (deed_kind io h.0 line.deed did) done) (λ behind. cc (sym behind.0 ∙ done)) h.1
 
   pub line_apart : IsApartDeed line.deed → number ≢ 3 → IsSilent io ⊎ IsUntold io
   line_apart deed other =
-      ⊎_elim (λ did. kind_apart io h.0 line.deed deed (deed_kind io h.0 F line.deed did) (λ failed. other (h.2 ∙ ap status_number failed))) (λ behind. inr behind.1) h.1
+      ⊎_elim (λ did. kind_apart io h.0 line.deed deed (deed_kind io h.0 line.deed did) (λ failed. other (h.2 ∙ ap status_number failed))) (λ behind. inr behind.1) h.1

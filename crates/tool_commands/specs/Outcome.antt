@@ -3,7 +3,9 @@ use Rattle.std.specs.Prelude.{◌≡◌, ◌⊎◌, ◌<◌, ℕ, List, Option, 
 use Rattle.requests.specs.Request.{Request}
 use Rattle.requests.specs.Request as request
 use Rattle.file_disk.specs.FileDisk.{file_facts, IsNew}
+use Rattle.file_disk.specs.contracts.disk_file.DiskFileSectorFile.TheImpl.{ghosts}
 use Rattle.file_disk.specs.declared.disk.FileDisk.{FileDisk}
+use Rattle.file_disk.specs.declared.disk_file.DiskFile.{DiskFile}
 use Rattle.file_disk.specs.declared.open.OpenFault.{OpenFault}
 use Rattle.file_disk.specs.declared.open.OpenFault.TheVariants as disk_file
 use Rattle.program_parts.specs.File.{read_limit}
@@ -45,39 +47,43 @@ abbrev pub SaysUnread : FileFault → Option (List ℕ) → Option (List ℕ) �
 SaysUnread read_file.CannotRead before after = Unit {0}
 SaysUnread read_file.OutOfMemory before after = AppendsFront before after memory_line
 
+-- a disk over a file of the system
+abbrev pub SystemDisk : Type 0
+SystemDisk = FileDisk DiskFile ghosts
+
 -- a form is told of a new disk over a file; or no disk was opened, which is said
-abbrev pub TellEnds : (F : Type 0) → Question → Streams → Status → Type 0
-TellEnds F question io status =
-    ((disk : FileDisk F) × (left : FileDisk F) × IsNew disk × DiskEnds file_facts disk question io status left)
+abbrev pub TellEnds : Question → Streams → Status → Type 0
+TellEnds question io status =
+    ((disk : SystemDisk) × (left : SystemDisk) × IsNew disk × DiskEnds file_facts disk question io status left)
     ⊎ ((fault : OpenFault) × EndsUnopened question (open_status fault) io.before io.after status × SaysFault fault io.errors_before io.errors_after)
 
 -- a request was made of the registry on a new disk over a file; or no disk was opened, which is
 -- said, and nothing was told
-abbrev pub AskEnds : (F : Type 0) → Request → Telling → Streams → Status → Type 0
-AskEnds F asked telling io status =
-    ((disk : FileDisk F) × (left : FileDisk F) × IsNew disk × RequestEnds file_facts disk asked telling io status left)
+abbrev pub AskEnds : Request → Telling → Streams → Status → Type 0
+AskEnds asked telling io status =
+    ((disk : SystemDisk) × (left : SystemDisk) × IsNew disk × RequestEnds file_facts disk asked telling io status left)
     ⊎ ((fault : OpenFault) × (status ≡ open_status fault) × IsUntold io × SaysFault fault io.errors_before io.errors_after)
 
 -- the same of a request with the bytes of a file; or it wasn't read, which is said, and nothing was told
-abbrev pub ReadEnds : (F : Type 0) → (List ℕ → Request) → Telling → Streams → Status → Type 0
-ReadEnds F asked telling io status =
-    ((bytes : List ℕ) × (length bytes < read_limit) × AskEnds F (asked bytes) telling io status)
+abbrev pub ReadEnds : (List ℕ → Request) → Telling → Streams → Status → Type 0
+ReadEnds asked telling io status =
+    ((bytes : List ℕ) × (length bytes < read_limit) × AskEnds (asked bytes) telling io status)
     ⊎ ((fault : FileFault) × (status ≡ read_status fault) × IsUntold io × SaysUnread fault io.errors_before io.errors_after)
 
 -- what is done
-abbrev pub DeedEnds : (F : Type 0) → Deed → Streams → Status → Type 0
-DeedEnds F (tell question) io status = TellEnds F question io status
-DeedEnds F (replace path) io status = ReadEnds F request.replace Text io status
-DeedEnds F (remove name) io status = AskEnds F (request.remove name) Text io status
-DeedEnds F (executable path base) io status = ReadEnds F (λ bytes. request.bind bytes base) Executable io status
+abbrev pub DeedEnds : Deed → Streams → Status → Type 0
+DeedEnds (tell question) io status = TellEnds question io status
+DeedEnds (replace path) io status = ReadEnds request.replace Text io status
+DeedEnds (remove name) io status = AskEnds (request.remove name) Text io status
+DeedEnds (executable path base) io status = ReadEnds (λ bytes. request.bind bytes base) Executable io status
 
 -- a command line is done; or its disk is the file behind a standard stream, and nothing was told
-abbrev pub IsEnd : (F : Type 0) → CommandLine → Streams → Status → Type 0
-IsEnd F line io status = DeedEnds F line.deed io status ⊎ ((status ≡ Failed) × IsUntold io)
+abbrev pub IsEnd : CommandLine → Streams → Status → Type 0
+IsEnd line io status = DeedEnds line.deed io status ⊎ ((status ≡ Failed) × IsUntold io)
 
 -- with the number that the process exits with
-abbrev pub LineEnds : (F : Type 0) → CommandLine → Streams → ℕ → Type 0
-LineEnds F line io number = (status : Status) × IsEnd F line io status × (number ≡ status_number status)
+abbrev pub LineEnds : CommandLine → Streams → ℕ → Type 0
+LineEnds line io number = (status : Status) × IsEnd line io status × (number ≡ status_number status)
 
 -- what is done is silent at status 0: all but an executable file, beside which more may be said
 abbrev pub IsSilentDeed : Deed → Type 0

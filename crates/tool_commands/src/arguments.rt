@@ -1,7 +1,6 @@
 // The words of the process.
 
 ghost use Rattle.std.specs.Prelude.{◌≡◌, ◌≢◌, ◌≤◌, ◌⊎◌, IfOk, IfSome, OnErr, None, map, string_bytes};
-ghost use Rattle.file_disk.specs.declared.disk_file.DiskFile.{DiskFile};
 ghost use Rattle.tool_commands.specs.Form.{command_line};
 ghost use Rattle.tool_commands.specs.Outcome.{IsApartDeed, IsSilentDeed, LineEnds};
 
@@ -34,7 +33,7 @@ pub fn run_arguments<R: Files<File = File> + Clock, O: Write, E: Write>(
     // Words of a form: what is told and said, and the status that goes with it.
     ensures ends { IfOk words (λ list.
         IfSome (command_line (map (λ word. string_bytes word) list.items)) (λ line.
-        LineEnds DiskFile line (record {
+        LineEnds line (record {
           before = O.contents output.old;
           after = O.contents output.new;
           errors_before = E.contents errors.old;

@@ -1,7 +1,6 @@
 // A command line.
 
 ghost use Rattle.std.specs.Prelude.{◌≡◌, ◌≢◌, ◌≤◌, ◌⊎◌, IfSome, None, map, string_bytes};
-ghost use Rattle.file_disk.specs.declared.disk_file.DiskFile.{DiskFile};
 ghost use Rattle.program_parts.specs.Said.{AppendsFront};
 ghost use Rattle.tool_commands.specs.Form.{command_line, line_of};
 ghost use Rattle.tool_commands.specs.Outcome.{IsApartDeed, IsEnd, IsSilentDeed, LineEnds};
@@ -24,7 +23,7 @@ fn run_apart<R: Files<File = File> + Clock, O: Write, E: Write>(
     output: &mut O,
     errors: &mut E,
 ) -> Status
-    ensures { IsEnd DiskFile (line_of asked.now) (record {
+    ensures { IsEnd (line_of asked.now) (record {
       before = O.contents output.old;
       after = O.contents output.new;
       errors_before = E.contents errors.old;
@@ -60,7 +59,7 @@ pub fn run_words<R: Files<File = File> + Clock, O: Write, E: Write>(
 
     // Words of a form: what is told and said, and the status that goes with it.
     ensures ends { IfSome (command_line (map (λ word. string_bytes word) words.now)) (λ line.
-        LineEnds DiskFile line (record {
+        LineEnds line (record {
           before = O.contents output.old;
           after = O.contents output.new;
           errors_before = E.contents errors.old;

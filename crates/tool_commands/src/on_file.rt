@@ -3,7 +3,6 @@
 ghost use Rattle.std.specs.Prelude.{◌≡◌, IfOk};
 ghost use Rattle.requests.specs.Request.{request_of};
 ghost use Rattle.file_disk.specs.FileDisk.{IsNew};
-ghost use Rattle.file_disk.specs.declared.disk_file.DiskFile.{DiskFile};
 ghost use Rattle.tool_commands.specs.Form.{deed_of, question_of};
 ghost use Rattle.tool_commands.specs.Outcome.{AskEnds, DeedEnds, ReadEnds, TellEnds};
 ghost use Rattle.tool_commands.specs.Outcome.{SaysFault, SaysUnread, open_status, read_status};
@@ -46,7 +45,7 @@ fn tell<R: Files<File = File> + Clock, O: Write, E: Write>(
     output: &mut O,
     errors: &mut E,
 ) -> Status
-    ensures { TellEnds DiskFile (question_of form.now) (record {
+    ensures { TellEnds (question_of form.now) (record {
       before = O.contents output.old;
       after = O.contents output.new;
       errors_before = E.contents errors.old;
@@ -93,7 +92,7 @@ fn ask<R: Files<File = File> + Clock, O: Write, E: Write>(
     output: &mut O,
     errors: &mut E,
 ) -> Status
-    ensures { AskEnds DiskFile (request_of command.now) telling
+    ensures { AskEnds (request_of command.now) telling
         (record {
           before = O.contents output.old;
           after = O.contents output.new;
@@ -132,7 +131,7 @@ fn ask_with<R: Files<File = File> + Clock, O: Write, E: Write>(
     output: &mut O,
     errors: &mut E,
 ) -> Status
-    ensures { ReadEnds DiskFile (request_with asking) (telling_of asking)
+    ensures { ReadEnds (request_with asking) (telling_of asking)
         (record {
           before = O.contents output.old;
           after = O.contents output.new;
@@ -157,7 +156,7 @@ pub(crate) fn run_asked<R: Files<File = File> + Clock, O: Write, E: Write>(
     output: &mut O,
     errors: &mut E,
 ) -> Status
-    ensures { DeedEnds DiskFile (deed_of asked.now.action)
+    ensures { DeedEnds (deed_of asked.now.action)
         (record {
           before = O.contents output.old;
           after = O.contents output.new;

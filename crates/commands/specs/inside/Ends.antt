@@ -26,12 +26,12 @@ use Rattle.program_parts.specs.Status.{reply_status}
 use Rattle.commands.specs.Words.{CommandLine}
 
 -- what words end with, by what they ask, and by what the streams gave and hold
-abbrev pub CommandEnds : (F : Type 0) → Option CommandLine → Streams → Status → Type 0
-CommandEnds F line io Done = (are_bad line ≡ false) × IsDone F line io
-CommandEnds F line io Refused = (are_bad line ≡ false) × IsRefused F line io
-CommandEnds F line io BadWords = (are_bad line ≡ true) × (io.after ≡ io.before)
-CommandEnds F line io Failed = are_bad line ≡ false
-CommandEnds F line io NoMemory = (are_bad line ≡ false) × LacksMemory F line io
+abbrev pub CommandEnds : Option CommandLine → Streams → Status → Type 0
+CommandEnds line io Done = (are_bad line ≡ false) × IsDone line io
+CommandEnds line io Refused = (are_bad line ≡ false) × IsRefused line io
+CommandEnds line io BadWords = (are_bad line ≡ true) × (io.after ≡ io.before)
+CommandEnds line io Failed = are_bad line ≡ false
+CommandEnds line io NoMemory = (are_bad line ≡ false) × LacksMemory line io
 
 -- what showing an image ends with, by the base that was asked for
 abbrev pub ImageEnds : Option ℕ → Option (List ℕ) → Option (List ℕ) → Status → Type 0
@@ -84,36 +84,36 @@ abbrev pub IsWritten : Reply → Option (List ℕ) → Option (List ℕ) → Sta
 IsWritten reply before after status = IsTold (reply_status reply) (reply_text reply) before after status
 
 -- what a command on a disk ends with that asks such a request
-abbrev pub Replied : (F : Type 0) → (Request → Type 0) → Option (List ℕ) → Option (List ℕ) → Status → Type 0
-Replied F IsAsked before after Done = Replies F IsAsked Done before after
-Replied F IsAsked before after Refused = Replies F IsAsked Refused before after ⊎ TurnsAway IsOpenRefusal Refused before after
-Replied F IsAsked before after BadWords = ⊥
-Replied F IsAsked before after Failed = Unit {0}
-Replied F IsAsked before after NoMemory = Appends before after memory_text
+abbrev pub Replied : (Request → Type 0) → Option (List ℕ) → Option (List ℕ) → Status → Type 0
+Replied IsAsked before after Done = Replies IsAsked Done before after
+Replied IsAsked before after Refused = Replies IsAsked Refused before after ⊎ TurnsAway IsOpenRefusal Refused before after
+Replied IsAsked before after BadWords = ⊥
+Replied IsAsked before after Failed = Unit {0}
+Replied IsAsked before after NoMemory = Appends before after memory_text
 
 -- what a bind on a disk ends with, by the base that was asked for
-abbrev pub BindEnds : (F : Type 0) → Option ℕ → (Request → Type 0) → Option (List ℕ) → Option (List ℕ) → Status → Type 0
-BindEnds F asked IsAsked before after BadWords = (asked ≡ None) × (after ≡ before)
-BindEnds F asked IsAsked before after status = (is_some asked ≡ true) × Replied F IsAsked before after status
+abbrev pub BindEnds : Option ℕ → (Request → Type 0) → Option (List ℕ) → Option (List ℕ) → Status → Type 0
+BindEnds asked IsAsked before after BadWords = (asked ≡ None) × (after ≡ before)
+BindEnds asked IsAsked before after status = (is_some asked ≡ true) × Replied IsAsked before after status
 
 -- what making a registry of so many sectors ends with
-abbrev pub IsFormatted : (F : Type 0) → ℕ → Option (List ℕ) → Option (List ℕ) → Status → Type 0
-IsFormatted F sectors before after Done = Makes F sectors before after
-IsFormatted F sectors before after status = IsTurnedAway IsFormatRefusal before after status
+abbrev pub IsFormatted : ℕ → Option (List ℕ) → Option (List ℕ) → Status → Type 0
+IsFormatted sectors before after Done = Makes sectors before after
+IsFormatted sectors before after status = IsTurnedAway IsFormatRefusal before after status
 
 -- what upgrading a registry ends with
-abbrev pub IsUpgradedOver : (F : Type 0) → Option (List ℕ) → Option (List ℕ) → Status → Type 0
-IsUpgradedOver F before after Done = Upgrades F before after
-IsUpgradedOver F before after status = IsTurnedAway IsUpgradeRefusal before after status
+abbrev pub IsUpgradedOver : Option (List ℕ) → Option (List ℕ) → Status → Type 0
+IsUpgradedOver before after Done = Upgrades before after
+IsUpgradedOver before after status = IsTurnedAway IsUpgradeRefusal before after status
 
 -- what a script over a registry with binders ends with
 abbrev pub IsRun : {S : Type 0} → (S → Happening → EventReply → S → Type 0) → S → S → Streams → Status → Type 0
 IsRun step s s' io status = RunsToTheEnd step s s' io status ⊎ EndsEarly step s s' io status
 
 -- what a script over a disk ends with
-abbrev pub ScriptEnds : (F : Type 0) → Streams → Status → Type 0
-ScriptEnds F io Done = Runs F io Done
-ScriptEnds F io Refused = Runs F io Refused ⊎ TurnsAway IsOpenRefusal Refused io.before io.after
-ScriptEnds F io BadWords = ⊥
-ScriptEnds F io Failed = Unit {0}
-ScriptEnds F io NoMemory = Runs F io NoMemory ⊎ RunsInPart F io NoMemory ⊎ Appends io.before io.after memory_text
+abbrev pub ScriptEnds : Streams → Status → Type 0
+ScriptEnds io Done = Runs io Done
+ScriptEnds io Refused = Runs io Refused ⊎ TurnsAway IsOpenRefusal Refused io.before io.after
+ScriptEnds io BadWords = ⊥
+ScriptEnds io Failed = Unit {0}
+ScriptEnds io NoMemory = Runs io NoMemory ⊎ RunsInPart io NoMemory ⊎ Appends io.before io.after memory_text

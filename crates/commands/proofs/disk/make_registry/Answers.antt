@@ -2,9 +2,7 @@ use Rattle.std.proofs.Common.{Result, Ok, Err, subst}
 use Rattle.std.specs.Prelude.{OnOk}
 use Rattle.store.specs.Opened.{Opened}
 use Rattle.store.specs.declared.refusal.StoreRefusal.{StoreRefusal}
-use Rattle.file_disk.specs.declared.disk.FileDisk.{FileDisk}
-use Rattle.file_disk.specs.declared.disk_file.DiskFile.{DiskFile}
-use Rattle.commands.specs.Opened.{IsMade}
+use Rattle.commands.specs.Opened.{SystemDisk, IsMade}
 use Rattle.commands.proofs.Asking.{format_made}
 use Rattle.commands.proofs.disk.make_registry.Goals as goal
 
@@ -17,5 +15,5 @@ pub returns-in-Ok-made-clause-ok : goal.returns-in-Ok-made-clause-ok
 returns-in-Ok-made-clause-ok g c =
     let made = c.run_format-made in
     anyway _ c.name_file.result
-    (subst (λ (a : Result (Unit {0}) StoreRefusal). OnOk a ((d : FileDisk DiskFile) × (registry : Opened (FileDisk DiskFile)) × IsMade c.args.sectors d registry)) c.in-Ok-made.is
+    (subst (λ (a : Result (Unit {0}) StoreRefusal). OnOk a ((d : SystemDisk) × (registry : Opened SystemDisk) × IsMade c.args.sectors d registry)) c.in-Ok-made.is
     (format_made c.args.sectors c.in-Ok.made.disk made.result.0 made.result.1 c.in-Ok.ensures.new c.in-Ok.ensures.sectors made.ensures))

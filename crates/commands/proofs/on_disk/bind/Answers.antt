@@ -10,5 +10,5 @@ pub returns-in-Some-clause-ends : goal.returns-in-Some-clause-ends
 returns-in-Some-clause-ends g c =
     let at = c.in-Some.base in
     let read = sym c.in-Some.ensures in
-    bind_ends _ _ _ at _ _ _ read
-    (replied_also _ _ _ (AsksWith (with.Bind at)) (Asks (words.bind c.args.disk.now c.args.program.now c.args.base.now)) (λ q h. (h.0, at, h.1, read, h.2)) _ c.ask_with.ensures.ends)
+    bind_ends _ _ at _ _ _ read
+    (replied_also _ _ (AsksWith (with.Bind at)) (Asks (words.bind c.args.disk.now c.args.program.now c.args.base.now)) (λ q h. (h.0, at, h.1, read, h.2)) _ c.ask_with.ensures.ends)

@@ -5,4 +5,4 @@ use Rattle.commands.proofs.on_disk.preload.Goals as goal
 
 pub returns-in-Ok-clause-ends : goal.returns-in-Ok-clause-ends
 returns-in-Ok-clause-ends g c =
-    replied_as _ _ _ _ _ _ (ap (λ l. set_preloads (map (λ n. n.now) l)) c.deref.ensures.value ∙ ap set_preloads c.in-Ok.ensures) c.ask.ensures.ends
+    replied_as _ _ _ _ _ (ap (λ l. set_preloads (map (λ n. n.now) l)) c.deref.ensures.value ∙ ap set_preloads c.in-Ok.ensures) c.ask.ensures.ends

@@ -1,11 +1,12 @@
-use Rattle.std.proofs.Common.{◌≡◌, ◌≤◌, ℕ, List, Option, length, take}
-use Rattle.std.specs.Io.KnownBytes.{Consumes}
+use Rattle.std.proofs.Common.{◌≡◌, ◌≤◌, IsTrue, length}
+use Rattle.file_disk.proofs.Transfers.{IsReadSoFar}
 use Rattle.file_disk.proofs.transfer.read_most.Given as goal
 
-pub record IsPart {F : Type 0} (remaining : F → Option (List ℕ)) (old new : F) (all most count : ℕ) (bytes : List ℕ) : Type 0 where
-  pub size : length bytes ≡ all
-  pub few : count ≤ most
-  pub read : Consumes (remaining old) (remaining new) (take count bytes)
-
 abbrev pub invariant-loop : goal.invariant-loop
-invariant-loop g l = IsPart g.F.Read.remaining l.fn.file l.file (length l.fn.bytes) l.most l.count l.bytes
+invariant-loop g l =
+    let facts = g.F.SectorFile.facts in
+    record {
+      size : length l.into ≡ length l.fn.into;
+      few : l.count ≤ l.most;
+      so_far : IsTrue g.F.SectorFile.is_honest → IsReadSoFar l.at l.into l.count l.counter (facts l.fn.file) (facts l.file);
+    }

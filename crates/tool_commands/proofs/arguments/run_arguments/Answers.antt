@@ -1,6 +1,5 @@
 use Rattle.std.proofs.Common.{◌≡◌, map, None, Result, Ok, Err, refl, sym, subst}
 use Rattle.std.specs.Prelude.{◌≢◌, ◌⊎◌, IfOk, IfSome, OnErr, string_bytes}
-use Rattle.file_disk.specs.declared.disk_file.DiskFile.{DiskFile}
 use Rattle.tool_commands.specs.Form.{command_line}
 use Rattle.tool_commands.specs.Outcome.{IsApartDeed, IsSilentDeed, LineEnds}
 use Rattle.tool_commands.specs.Streams.{Streams, IsSilent, IsUntold}
@@ -28,8 +27,8 @@ returns-in-Ok-clause-ends g c =
       errors_before = g.E.Write.contents c.args.errors.now;
       errors_after = g.E.Write.contents c.run_words.new.errors;
     } in
-    were_read c.args.words c.in-Ok.words c.in-Ok.is (λ list. IfSome (command_line (map (λ word. string_bytes word) list.items)) (λ line. LineEnds DiskFile line io c.run_words.result))
-    (subst (λ l. IfSome (command_line (map (λ word. string_bytes word) l)) (λ line. LineEnds DiskFile line io c.run_words.result)) c.deref.ensures.value c.run_words.ensures.ends)
+    were_read c.args.words c.in-Ok.words c.in-Ok.is (λ list. IfSome (command_line (map (λ word. string_bytes word) list.items)) (λ line. LineEnds line io c.run_words.result))
+    (subst (λ l. IfSome (command_line (map (λ word. string_bytes word) l)) (λ line. LineEnds line io c.run_words.result)) c.deref.ensures.value c.run_words.ensures.ends)
 
 pub returns-in-Ok-clause-silent : goal.returns-in-Ok-clause-silent
 returns-in-Ok-clause-silent g c =

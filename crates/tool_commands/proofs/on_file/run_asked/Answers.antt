@@ -1,6 +1,5 @@
 use Rattle.std.proofs.Common.{sym, subst}
 use Rattle.requests.specs.Request as request
-use Rattle.file_disk.specs.declared.disk_file.DiskFile.{DiskFile}
 use Rattle.tool_commands.specs.Form.{deed_of}
 use Rattle.tool_commands.specs.Outcome.{AskEnds, DeedEnds}
 use Rattle.tool_commands.specs.Streams.{Streams}
@@ -15,7 +14,7 @@ returns-in-Tell g c =
       errors_before = g.E.Write.contents c.args.errors.now;
       errors_after = g.E.Write.contents c.tell.new.errors;
     } in
-    subst (λ a. DeedEnds DiskFile (deed_of a) io c.tell.result) (sym c.in-Tell.is) c.tell.ensures
+    subst (λ a. DeedEnds (deed_of a) io c.tell.result) (sym c.in-Tell.is) c.tell.ensures
 
 pub returns-in-Replace : goal.returns-in-Replace
 returns-in-Replace g c =
@@ -25,7 +24,7 @@ returns-in-Replace g c =
       errors_before = g.E.Write.contents c.args.errors.now;
       errors_after = g.E.Write.contents c.ask_with.new.errors;
     } in
-    subst (λ a. DeedEnds DiskFile (deed_of a) io c.ask_with.result) (sym c.in-Replace.is) c.ask_with.ensures
+    subst (λ a. DeedEnds (deed_of a) io c.ask_with.result) (sym c.in-Replace.is) c.ask_with.ensures
 
 pub returns-in-Remove : goal.returns-in-Remove
 returns-in-Remove g c =
@@ -35,8 +34,8 @@ returns-in-Remove g c =
       errors_before = g.E.Write.contents c.args.errors.now;
       errors_after = g.E.Write.contents c.ask.new.errors;
     } in
-    let named = subst (λ n. AskEnds DiskFile (request.remove n) Text io c.ask.result) c.as_bytes.ensures.value c.ask.ensures in
-    subst (λ a. DeedEnds DiskFile (deed_of a) io c.ask.result) (sym c.in-Remove.is) named
+    let named = subst (λ n. AskEnds (request.remove n) Text io c.ask.result) c.as_bytes.ensures.value c.ask.ensures in
+    subst (λ a. DeedEnds (deed_of a) io c.ask.result) (sym c.in-Remove.is) named
 
 pub returns-in-Executable : goal.returns-in-Executable
 returns-in-Executable g c =
@@ -46,4 +45,4 @@ returns-in-Executable g c =
       errors_before = g.E.Write.contents c.args.errors.now;
       errors_after = g.E.Write.contents c.ask_with-in-Executable.new.errors;
     } in
-    subst (λ a. DeedEnds DiskFile (deed_of a) io c.ask_with-in-Executable.result) (sym c.in-Executable.is) c.ask_with-in-Executable.ensures
+    subst (λ a. DeedEnds (deed_of a) io c.ask_with-in-Executable.result) (sym c.in-Executable.is) c.ask_with-in-Executable.ensures

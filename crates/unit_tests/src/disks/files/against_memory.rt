@@ -3,7 +3,7 @@
 use crate::disks::alike::{are_same, call_both};
 use crate::disks::files::fake::{Fake, Plan, WELL, disk, reopened};
 use crate::disks::stops::{fill, is_filled, read, write};
-use sector_disk::{Disk, Memory, SECTOR_BYTES};
+use sector_disk::{Disk, Memory};
 use std::alloc::Global;
 
 // Whether the file, opened again, holds what the disk in memory does.
@@ -23,7 +23,7 @@ fn is_as(alloc: Global, memory: &mut Memory, plan: Plan, calls: u32) -> bool {
     let alike = call_both(&mut file, memory, calls);
     let synced = file.sync().is_ok();
     let file = file.into_file();
-    let all_synced = file.synced.get() == file.writes;
+    let all_synced = file.synced == file.writes;
     let held = holds(alloc, file, memory);
     alike && synced && all_synced && held
 }
@@ -39,7 +39,7 @@ fn is_as_memory(alloc: Global, sectors: u32, plan: Plan, calls: u32) -> bool {
 #[test]
 fn the_buffers_give_what_a_disk_in_memory_gives(rt: HostRuntime) {
     let short = Plan {
-        most: 700,
+        most: 1,
         interrupts: true,
         fails: 0,
     };
@@ -71,7 +71,7 @@ fn filled(alloc: Global) -> Option<Fake> {
 // reads that takes, and then how many to read it all.
 fn fill_and_read(alloc: Global) -> Option<[u64; 4]> {
     let file = filled(alloc)?;
-    let [writes, synced, reads] = [file.writes, file.synced.get(), file.reads];
+    let [writes, synced, reads] = [file.writes, file.synced, file.reads];
     let again = read_all(alloc, file)?;
     Some([writes, synced, reads, again])
 }
@@ -105,7 +105,7 @@ fn waiting_and_kept(alloc: Global) -> Option<[Option<u8>; 4]> {
     let mut first = disk(alloc, 8, WELL)?;
     let waits = write_and_wait(&mut first);
     let file = first.into_file();
-    let given = file.bytes.get(3 * SECTOR_BYTES).copied();
+    let given = file.sectors.get(3).map(|content| content[0]);
     let [three, four] = three_and_four(alloc, file);
     Some([waits, given, three, four])
 }

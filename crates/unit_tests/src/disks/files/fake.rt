@@ -1,21 +1,21 @@
 // A file in memory, whose calls are counted, are cut short, are interrupted and fail.
+ghost use Rattle.file_disk.specs.SectorFile.{unknown_file};
+ghost use Rattle.std.specs.Prelude.{false};
 
-use file_disk::FileDisk;
+use file_disk::{FileDisk, OpenFault, SectorFile};
 use sector_disk::SECTOR_BYTES;
 use std::alloc::Global;
-use std::cell::Cell;
-use std::fs::{Metadata, OpenFile};
 use std::io;
-use std::io::{ErrorKind, Read, Seek, SeekFrom, Write};
+use std::io::ErrorKind;
 
 /// What befalls the calls of a file.
 #[derive(Clone, Copy)]
 pub(crate) struct Plan {
-    /// How many bytes a read or a write moves at most.
+    /// How many sectors a read or a write moves at most.
     pub(crate) most: usize,
     /// Whether a signal interrupts every second read and write.
     pub(crate) interrupts: bool,
-    /// The number of the read, write, seek or sync that fails, counted from 1; 0 for none.
+    /// The number of the call that fails, counted from 1, which is the opening's; 0 for none.
     pub(crate) fails: u64,
 }
 
@@ -27,36 +27,33 @@ pub(crate) const WELL: Plan = Plan {
 
 #[derive(Drop)]
 pub(crate) struct Fake {
-    pub(crate) bytes: Vec<u8>,
+    pub(crate) sectors: Vec<[u8; SECTOR_BYTES]>,
     plan: Plan,
     pub(crate) reads: u64,
     pub(crate) writes: u64,
     /// How many writes there had been when it was last synced.
-    pub(crate) synced: Cell<u64>,
-    at: usize,
+    pub(crate) synced: u64,
     turn: bool,
-    calls: Cell<u64>,
+    calls: u64,
 }
 
 impl Fake {
     /// A file of so many sectors of zeros.
     pub(crate) fn of(alloc: Global, sectors: u32, plan: Plan) -> Option<Fake> {
         Some(Fake {
-            bytes: vec![in alloc; 0; sectors as usize * SECTOR_BYTES].ok()?,
+            sectors: vec![in alloc; [0; SECTOR_BYTES]; sectors as usize].ok()?,
             plan,
             reads: 0,
             writes: 0,
-            synced: Cell::new(0),
-            at: 0,
+            synced: 0,
             turn: false,
-            calls: Cell::new(0),
+            calls: 0,
         })
     }
 
-    fn call(&self) -> io::Result<()> {
-        let number = self.calls.get().saturating_add(1);
-        self.calls.set(number);
-        if number == self.plan.fails {
+    fn call(&mut self) -> io::Result<()> {
+        self.calls = self.calls.saturating_add(1);
+        if self.calls == self.plan.fails {
             Err(io::Error::from(ErrorKind::Other))
         } else {
             Ok(())
@@ -73,69 +70,49 @@ impl Fake {
     }
 }
 
-impl Read for Fake {
-    fn read(&mut self, buf: &mut [u8]) -> io::Result<usize> {
+/// Nothing is claimed of it.
+impl SectorFile for Fake {
+    ghost is_honest = { false };
+
+    ghost facts = { λ file. unknown_file };
+
+    ghost holds_now = { λ file honest. Prim.cc };
+
+    ghost whole_sectors = { λ file honest. Prim.cc };
+
+    fn count_sectors(&mut self) -> Result<u32, OpenFault> {
+        match self.call() {
+            Ok(()) => u32::try_from(self.sectors.len())
+                .ok()
+                .ok_or(OpenFault::BadLength),
+            Err(_) => Err(OpenFault::CannotOpen),
+        }
+    }
+
+    fn read_at(&mut self, at: u32, into: &mut [[u8; SECTOR_BYTES]]) -> io::Result<usize> {
         self.reads = self.reads.saturating_add(1);
         self.begin()?;
-        let from = self.bytes.get(self.at..).unwrap_or(&[]);
-        let count = from.len().min(self.plan.most).min(buf.len());
-        buf[..count].copy_from_slice(&from[..count]);
-        self.at = self.at.saturating_add(count);
+        let from = self.sectors.get(at as usize..).unwrap_or(&[]);
+        let count = from.len().min(self.plan.most).min(into.len());
+        into[..count].copy_from_slice(&from[..count]);
         Ok(count)
     }
-}
 
-impl Write for Fake {
-    fn write(&mut self, buf: &[u8]) -> io::Result<usize> {
+    fn write_at(&mut self, at: u32, from: &[[u8; SECTOR_BYTES]]) -> io::Result<usize> {
         self.writes = self.writes.saturating_add(1);
         self.begin()?;
-        let Some(into) = self.bytes.as_mut_slice().get_mut(self.at..) else {
+        let Some(into) = self.sectors.as_mut_slice().get_mut(at as usize..) else {
             return Ok(0);
         };
-        let count = into.len().min(self.plan.most).min(buf.len());
-        into[..count].copy_from_slice(&buf[..count]);
-        self.at = self.at.saturating_add(count);
+        let count = into.len().min(self.plan.most).min(from.len());
+        into[..count].copy_from_slice(&from[..count]);
         Ok(count)
     }
 
-    fn flush(&mut self) -> io::Result<()> {
-        Ok(())
-    }
-}
-
-impl Seek for Fake {
-    fn seek(&mut self, to: SeekFrom) -> io::Result<u64> {
+    fn sync(&mut self) -> io::Result<()> {
         self.call()?;
-        let at = match to {
-            SeekFrom::Start(at) => Some(at),
-            SeekFrom::End(offset) => (self.bytes.len() as u64).checked_add_signed(offset),
-            SeekFrom::Current(offset) => (self.at as u64).checked_add_signed(offset),
-        };
-        let Some(at) = at else {
-            return Err(io::Error::from(ErrorKind::InvalidInput));
-        };
-        self.at = at as usize;
-        Ok(at)
-    }
-}
-
-impl OpenFile for Fake {
-    fn metadata(&self) -> io::Result<Metadata> {
-        Ok(Metadata::of_file(self.bytes.len() as u64))
-    }
-
-    fn set_len(&self, _size: u64) -> io::Result<()> {
-        Err(io::Error::from(ErrorKind::Unsupported))
-    }
-
-    fn sync_all(&self) -> io::Result<()> {
-        self.call()?;
-        self.synced.set(self.writes);
+        self.synced = self.writes;
         Ok(())
-    }
-
-    fn sync_data(&self) -> io::Result<()> {
-        Err(io::Error::from(ErrorKind::Unsupported))
     }
 }
 

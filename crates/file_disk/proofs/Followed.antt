@@ -1,0 +1,110 @@
+-- A disk follows its file, and goes on to do so with each call.
+use Rattle.std.proofs.Common.{◌≡◌, ◌<◌, ◌≤◌, ◌+◌, ◌-◌, inr, ⊎_elim, ℕ, List, [], ◌∷◌, ◌++◌, length, get_or, zero, suc, sym, ◌∙◌, ap, subst, arith, IsTrue}
+use Rattle.std.proofs.lemmas.Bool.{cases_lt}
+use Rattle.std.proofs.lemmas.List.{get_or_append_left, get_or_default, get_or_past, get_or_push, length_push}
+use Rattle.sector_disk.specs.CallCount.{calls_made}
+use Rattle.sector_disk.specs.Disk.{Sector, sector, LeftSince}
+use Rattle.sector_disk.specs.declared.past.Past.{Past}
+use Rattle.file_disk.specs.declared.buffered.Buffered.{Buffered}
+use Rattle.file_disk.specs.declared.disk.FileDisk.{FileDisk}
+use Rattle.file_disk.specs.declared.sector_file.SectorFile.{Ghosts}
+use Rattle.file_disk.specs.Buffered.{Leaves}
+use Rattle.file_disk.specs.FileDisk.{file_facts, file_time, facts_below, FollowsTheFile}
+use Rattle.file_disk.specs.Left.{LeftOf, time_at, IsTimed, IsFollowed}
+use Rattle.file_disk.specs.SectorFile.{MediumAt}
+use Rattle.file_disk.specs.inside.Transfer.{StaysWithin}
+
+-- a list, and what stands behind its end: one element more leaves both as they were
+before_push : {A : Type 0} (xs : List A) (x d : A) (v : ℕ) → v ≤ length xs → get_or (xs ++ x ∷ []) v d ≡ get_or xs v x
+before_push xs x d v le = ⊎_elim
+    (λ lt. get_or_append_left xs (x ∷ []) d v lt ∙ get_or_default xs v d x lt)
+    (λ ge. get_or_push xs x d v (omega (arith, le, ge)) ∙ sym (get_or_past xs v x ge))
+    (cases_lt v (length xs))
+
+module _ {F : Type 0} {g : Ghosts F} where
+  -- as a disk starts
+  pub timed_first : (b : Buffered F g) (files : List (Buffered F g)) (now : ℕ) → files ≡ [] → IsTimed files b now
+  timed_first b files now none v le = subst (λ l. time_at l b v ≤ (g.facts b.file).time) (sym none) (omega arith)
+
+  pub followed_first : (b : Buffered F g) (files : List (Buffered F g)) (past : List (Past (Buffered F g))) (since : Past (Buffered F g)) (now : ℕ) → files ≡ [] → past ≡ []
+      → ((k : ℕ) (c : Sector) → Leaves b k c → LeftOf since.items k c) → IsFollowed files b past since now
+  followed_first b files past since now none first covered v u k c le low high has =
+      let low' : (g.facts b.file).time ≤ u = subst (λ l. time_at l b v ≤ u) none low in
+      let high' : u ≤ (g.facts b.file).time = subst (λ l. u ≤ time_at l b (v + 1)) none high in
+      subst (λ l. LeftOf (get_or l v since).items k c) (sym first)
+      (covered k c (inr (subst (λ (t : ℕ). (g.facts b.file).may_have t k c) (omega (arith, low', high')) has)))
+
+  -- one call more
+  module _ (old : FileDisk F g) (honest : IsTrue g.is_honest) (b : Buffered F g) (files : List (Buffered F g)) (past : List (Past (Buffered F g))) (since : Past (Buffered F g)) (now : ℕ)
+      (counted : now ≡ calls_made old.calls + 1) (kept : files ≡ old.files.items ++ old.buffered ∷ []) (marked : past ≡ old.past.items ++ old.since ∷ [])
+      (within : StaysWithin (Leaves old.buffered) (g.facts old.buffered.file) (g.facts b.file)) where
+    -- the times of the moments before
+    pub time_stays : (v : ℕ) → v ≤ calls_made old.calls → time_at files b v ≡ time_at old.files.items old.buffered v
+    time_stays v le =
+        ap (λ l. time_at l b v) kept ∙ ap (λ s. (g.facts s.file).time) (before_push old.files.items old.buffered b v (omega (arith, le, old.noted)))
+
+    -- the time now
+    time_now : (v : ℕ) → calls_made old.calls < v → time_at files b v ≡ (g.facts b.file).time
+    time_now v lt = ap (λ s. (g.facts s.file).time) (get_or_past files v b (omega (arith, lt, old.noted, ap length kept, length_push old.files.items old.buffered)))
+
+    time_before : time_at files b (calls_made old.calls) ≡ (g.facts old.buffered.file).time
+    time_before = time_stays (calls_made old.calls) (omega arith) ∙ ap (λ s. (g.facts s.file).time) (get_or_past old.files.items (calls_made old.calls) old.buffered (omega (arith, old.noted)))
+
+    pub timed_on : IsTimed files b now
+    timed_on v le = ⊎_elim
+        (λ lt. omega (arith, time_now v lt))
+        (λ ge. omega (arith, time_stays v ge, old.timed honest v ge, within.later))
+        (cases_lt (calls_made old.calls) v)
+
+    moment_before : (v : ℕ) → v ≤ calls_made old.calls → get_or past v since ≡ get_or old.past.items v old.since
+    moment_before v le = ap (λ l. get_or l v since) marked ∙ before_push old.past.items old.since since v (omega (arith, le, old.counted))
+
+    pub followed_on : ((k : ℕ) (c : Sector) → Leaves b k c → LeftOf since.items k c) → IsFollowed files b past since now
+    followed_on covered v u k c le low high has = ⊎_elim
+        (λ at_end. subst (λ s. LeftOf s.items k c) (sym (get_or_past past v since (omega (arith, at_end, old.counted, ap length marked, length_push old.past.items old.since))))
+        (covered k c (inr (subst (λ (t : ℕ). (g.facts b.file).may_have t k c)
+        (omega (arith, low, high, time_now v at_end, time_now (v + 1) (omega (arith, at_end)))) has))))
+        (λ up_to. subst (λ s. LeftOf s.items k c) (sym (moment_before v up_to)) (⊎_elim
+        (λ earlier. old.followed honest v u k c up_to (omega (arith, low, time_stays v up_to)) (omega (arith, high, time_stays (v + 1) (omega (arith, earlier))))
+        (within.past u k c
+        (omega (arith, high, time_stays (v + 1) (omega (arith, earlier)), old.timed honest (v + 1) (omega (arith, earlier)))) has))
+        (λ last. let is : v ≡ calls_made old.calls = omega (arith, last, up_to) in
+        subst (λ s. LeftOf s.items k c) (sym (ap (λ n. get_or old.past.items n old.since) is ∙ get_or_past old.past.items (calls_made old.calls) old.since (omega (arith, old.counted))))
+        (old.covered honest k c (within.each u k c
+        (omega (arith, low, ap (λ n. time_at files b n) is, time_before))
+        (omega (arith, high, time_now (v + 1) (omega (arith, is)))) has)))
+        (cases_lt v (calls_made old.calls))))
+        (cases_lt (calls_made old.calls) v)
+
+  -- The law. A moment of the file lies in the call behind one of the disk's moments.
+  module _ (disk : FileDisk F g) (honest : IsTrue g.is_honest) where
+    time_is_now : (v : ℕ) → calls_made disk.calls ≤ v → file_time disk v ≡ (facts_below disk).time
+    time_is_now v le = ap (λ s. (g.facts s.file).time) (get_or_past disk.files.items v disk.buffered (omega (arith, le, disk.noted)))
+
+    mixture_of : (v u : ℕ) (m : List Sector) → v ≤ calls_made disk.calls → file_time disk v ≤ u → u ≤ file_time disk (v + 1)
+        → MediumAt (facts_below disk) u m → LeftSince (file_facts disk) v m
+    mixture_of v u m le low high medium = (
+      v,
+      omega arith,
+      le,
+      record {
+        size = omega (arith, medium.size, disk.buffered.size honest);
+        each = λ k lt. disk.followed honest v u k (sector m k) le low high (medium.each k (omega (arith, lt, disk.buffered.size honest)));
+      },
+    )
+
+    follows_from : (more v u : ℕ) (m : List Sector) → v + more ≡ calls_made disk.calls → file_time disk v ≤ u → u ≤ (facts_below disk).time
+        → MediumAt (facts_below disk) u m → LeftSince (file_facts disk) v m
+    follows_from zero v u m is low high medium =
+        mixture_of v u m (omega (arith, is)) low (omega (arith, high, time_is_now (v + 1) (omega (arith, is)))) medium
+    follows_from (suc more) v u m is low high medium = ⊎_elim
+        (λ later. let found = follows_from more (v + 1) u m (omega (arith, is)) (omega (arith, later)) high medium in
+        (found.0, omega (arith, found.1), found.2, found.3))
+        (λ here. mixture_of v u m (omega (arith, is)) low here medium)
+        (cases_lt (file_time disk (v + 1)) u)
+
+    pub follows : FollowsTheFile disk
+    follows = record {
+      now = time_is_now (calls_made disk.calls) (omega arith);
+      each = λ v u m le low high medium. follows_from (calls_made disk.calls - v) v u m (omega (arith, le)) low high medium;
+    }

@@ -1,0 +1,21 @@
+-- What is written to a disk in memory, and read of it, sectors in a row.
+use Rattle.std.specs.Prelude.{◌≡◌, ◌<◌, ◌≤◌, ◌+◌, ◌↔◌, ◌⊎◌, ℕ, List, length}
+use Rattle.sector_disk.specs.Disk.{Sector, sector, DiskFacts, MayLeave, IsUnchanged}
+
+-- Of the sectors that were given from sector `at` on so many were written, those in front: reads
+-- give them, and the medium may have them or what it might have had before. All others stay.
+pub record HasWritten (at : ℕ) (given : List Sector) (count : ℕ) (old new : DiskFacts) : Type 0 where
+  pub sectors : new.sectors ≡ old.sectors
+  pub size : length new.now ≡ length old.now
+  pub here : (i : ℕ) → i < count → sector new.now (at + i) ≡ sector given i
+  pub others : (k : ℕ) → (k < at) ⊎ (at + count ≤ k) → sector new.now k ≡ sector old.now k
+  pub medium : (k : ℕ) (c : Sector) → MayLeave new k c ↔ (MayLeave old k c ⊎ ((i : ℕ) × (i < count) × (k ≡ at + i) × (c ≡ sector given i)))
+
+-- As many were written as were to be, unless a write failed.
+abbrev pub IsWholeUnlessFailed : ℕ → ℕ → DiskFacts → DiskFacts → Type 0
+IsWholeUnlessFailed count asked old new = (count ≡ asked) ⊎ (old.failures < new.failures)
+
+-- Reads give the same, and the medium may have the same.
+pub record IsSameMedium (old new : DiskFacts) : Type 0 where
+  pub sectors : new.sectors ≡ old.sectors
+  pub same : IsUnchanged old new

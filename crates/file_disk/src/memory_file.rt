@@ -1,0 +1,245 @@
+// A file in memory. Its test stops it, or has a call of it fail.
+ghost use Rattle.std.specs.Prelude.{◌≡◌, ◌-◌, length};
+
+use crate::medium::{get, put, settle};
+use crate::open::OpenFault;
+use crate::sector_file::SectorFile;
+use sector_disk::{CallCount, Disk, DiskFault, Memory, Past, SECTOR_BYTES};
+use std::io;
+use std::io::ErrorKind;
+
+/// What becomes of a call of a `MemoryFile`.
+#[derive(Clone, Copy)]
+pub struct Turn {
+    /// How many sectors a read or a write moves at most. A sync that fails has done its work
+    /// where this isn't 0.
+    pub most: usize,
+    /// Whether it fails, behind what it moved.
+    pub fails: bool,
+}
+
+/// Which call of a `MemoryFile` doesn't do all that it was asked for: number `call`, counted from
+/// 1, and none where that is 0. With `forever` all later ones fail and move nothing: the system
+/// has stopped.
+#[derive(Clone, Copy)]
+pub struct FilePlan {
+    pub call: u64,
+    pub turn: Turn,
+    pub forever: bool,
+}
+
+/// An honest file in memory. Its medium is a disk that can be stopped: what was written since its
+/// last sync comes there sector by sector, in any order, or not at all. Once a sync has failed,
+/// later ones succeed and bring nothing to the medium.
+pub struct MemoryFile {
+    medium: Memory,
+    plan: FilePlan,
+    // How many calls there are up to the planned one, 0 after it.
+    wait: u64,
+    sync_failed: bool,
+    // The medium at each moment that is past.
+    past: Past<Memory>,
+    calls: CallCount,
+    ghost waits: { wait ≡ plan.call - length past.items },
+}
+
+impl MemoryFile {
+    ghost use Rattle.std.specs.Prelude.{◌++◌, ◌∷◌, ◌+◌, ◌==◌, ◌≤◌, [], false, if◌then◌else◌, IfOk, is_err};
+    ghost use Rattle.file_disk.specs.MemoryFile.{memory_file_facts, medium_of, plan_of};
+    ghost use Rattle.file_disk.specs.MemoryFile.{next_turn, does_work};
+    ghost use Rattle.file_disk.specs.SectorFile.{moved};
+
+    /// A file of what this disk has, with this plan of its calls.
+    pub fn new(medium: Memory, plan: FilePlan) -> MemoryFile
+        ensures medium { medium_of result ≡ medium }
+        ensures plan { plan_of result ≡ plan }
+        ensures time { (memory_file_facts result).time ≡ 0 }
+        ensures failures { (memory_file_facts result).failures ≡ 0 }
+        ensures sync_failed { (memory_file_facts result).sync_failed ≡ false }
+    {
+        MemoryFile {
+            medium,
+            plan,
+            wait: plan.call,
+            sync_failed: false,
+            past: Past::new(),
+            calls: CallCount::new(),
+        }
+    }
+
+    /// How many calls there are up to the planned one, and 0 once it was made.
+    pub fn calls_left(&self) -> u64
+        ensures { result ≡ (plan_of self.now).call - (memory_file_facts self.now).time }
+    {
+        self.wait
+    }
+
+    /// The medium, which can be stopped, with what was written to it since it was synced.
+    pub fn into_medium(self) -> Memory
+        ensures { result ≡ medium_of self }
+    {
+        let MemoryFile {
+            medium,
+            plan: _,
+            wait: _,
+            sync_failed: _,
+            past: _past,
+            calls: _calls,
+        } = self;
+        medium
+    }
+
+    // Begins a call, and says what becomes of it.
+    fn begin_call(&mut self) -> Turn
+        ensures turn { result ≡ next_turn self.old }
+        ensures past { self.new.past.items ≡ self.old.past.items ++ self.old.medium ∷ [] }
+        ensures medium { self.new.medium ≡ self.old.medium }
+        ensures plan { self.new.plan ≡ self.old.plan }
+        ensures calls { self.new.calls ≡ self.old.calls }
+        ensures sync_failed { self.new.sync_failed ≡ self.old.sync_failed }
+    {
+        let turn = if self.wait == 1 {
+            self.plan.turn
+        } else if self.wait == 0 && self.plan.call > 0 && self.plan.forever {
+            Turn {
+                most: 0,
+                fails: true,
+            }
+        } else {
+            Turn {
+                most: usize::MAX,
+                fails: false,
+            }
+        };
+        self.past = self.past.and(&self.medium);
+        self.wait = self.wait.saturating_sub(1);
+        turn
+    }
+
+    // Whether a sync with this turn does its work.
+    fn does_work(&self, turn: Turn) -> bool
+        ensures { result ≡ does_work self.now turn }
+    {
+        !self.sync_failed && (turn.most > 0 || !turn.fails)
+    }
+
+    // Ends a call that moved so many sectors, and fails or not.
+    fn end_call(&mut self, fails: bool, count: usize) -> io::Result<usize>
+        ensures ok { IfOk result (λ moved. moved ≡ count) }
+        ensures few { moved result ≤ count }
+        ensures err { is_err result ≡ fails }
+        ensures failures { (memory_file_facts self.new).failures
+            ≡ (if moved result == 0 then (memory_file_facts self.old).failures + 1
+            else (memory_file_facts self.old).failures) }
+        ensures past { self.new.past.items ≡ self.old.past.items }
+        ensures medium { self.new.medium ≡ self.old.medium }
+        ensures plan { self.new.plan ≡ self.old.plan }
+        ensures sync_failed { self.new.sync_failed ≡ self.old.sync_failed }
+    {
+        if fails {
+            self.calls.end_call(&Err(DiskFault::Failed));
+            return Err(ErrorKind::Other.into());
+        }
+        if count == 0 {
+            self.calls.end_call(&Err(DiskFault::Failed));
+        } else {
+            self.calls.end_call(&Ok(()));
+        }
+        Ok(count)
+    }
+}
+
+impl Drop for MemoryFile {
+    fn drop(self) {
+        let MemoryFile {
+            medium: _medium,
+            plan: _,
+            wait: _,
+            sync_failed: _,
+            past: _past,
+            calls: _calls,
+        } = self;
+    }
+}
+
+impl SectorFile for MemoryFile {
+    ghost use Rattle.std.specs.Prelude.{◌≤◌, ◌+◌, true, IsTrue};
+    ghost use Rattle.file_disk.specs.SectorFile.{moved, IsCounted, IsFileRead};
+    ghost use Rattle.file_disk.specs.SectorFile.{IsFileWrite, IsFileSync};
+    ghost use Rattle.file_disk.specs.MemoryFile.{memory_file_facts, medium_of, TakesTurn, IsMoved};
+    ghost use Rattle.file_disk.specs.MemoryFile.{IsCutWrite, IsCutSync};
+    ghost use Rattle.sector_disk.specs.Memory.{memory_facts};
+    ghost use Rattle.file_disk.specs.Medium.{IsSameMedium};
+    ghost use Rattle.file_disk.specs.inside.MemoryFileLaws.{file_holds, file_whole};
+
+    ghost is_honest = { true };
+
+    ghost facts = { memory_file_facts };
+
+    ghost holds_now = { λ file honest. file_holds file };
+
+    ghost whole_sectors = { λ file honest. file_whole file };
+
+    fn count_sectors(&mut self) -> Result<u32, OpenFault>
+        ensures honest { IsTrue true
+            → IsCounted (memory_file_facts self.old) (memory_file_facts self.new) result }
+        ensures turn { TakesTurn self.old self.new result }
+        ensures medium { medium_of self.new ≡ medium_of self.old }
+    {
+        let turn = self.begin_call();
+        match self.end_call(turn.fails, 1) {
+            Ok(_) => Ok(self.medium.sectors()),
+            Err(_) => Err(OpenFault::CannotOpen),
+        }
+    }
+
+    fn read_at(&mut self, at: u32, into: &mut [[u8; SECTOR_BYTES]]) -> io::Result<usize>
+        requires inside { IsTrue true
+            → at + length into.old ≤ (memory_file_facts self.old).sectors }
+        ensures bound { moved result ≤ length into.old }
+        ensures honest { IsTrue true → IsFileRead (memory_file_facts self.old)
+            (memory_file_facts self.new) at into.new result }
+        ensures turn { TakesTurn self.old self.new result }
+        ensures count { IsMoved self.old (length into.old) result }
+        ensures medium { IsSameMedium (memory_facts (medium_of self.old))
+            (memory_facts (medium_of self.new)) }
+    {
+        let turn = self.begin_call();
+        let count = turn.most.min(into.len());
+        get(&mut self.medium, at, &mut into[..count]);
+        self.end_call(turn.fails, count)
+    }
+
+    fn write_at(&mut self, at: u32, from: &[[u8; SECTOR_BYTES]]) -> io::Result<usize>
+        requires inside { IsTrue true
+            → at + length from.now ≤ (memory_file_facts self.old).sectors }
+        ensures bound { moved result ≤ length from.now }
+        ensures honest { IsTrue true → IsFileWrite (memory_file_facts self.old)
+            (memory_file_facts self.new) at from.now result }
+        ensures turn { TakesTurn self.old self.new result }
+        ensures written { IsCutWrite self.old self.new at from.now result }
+    {
+        let turn = self.begin_call();
+        let most = turn.most.min(from.len());
+        let count = put(&mut self.medium, at, &from[..most]);
+        self.end_call(turn.fails, count)
+    }
+
+    fn sync(&mut self) -> io::Result<()>
+        ensures honest { IsTrue true → IsFileSync (memory_file_facts self.old)
+            (memory_file_facts self.new) result }
+        ensures turn { TakesTurn self.old self.new result }
+        ensures synced { IsCutSync self.old self.new }
+    {
+        let turn = self.begin_call();
+        let works = self.does_work(turn);
+        settle(&mut self.medium, works);
+        if turn.fails {
+            self.sync_failed = true;
+        }
+        match self.end_call(turn.fails, 1) {
+            Ok(_) => Ok(()),
+            Err(fault) => Err(fault),
+        }
+    }
+}
