@@ -70,12 +70,18 @@ class Order:
     def is_locked(self, file):
         return file.lock == 'exclusive' or self.shared and file.lock == 'shared'
 
-    def kept(self, file, words):
+    def looked(self, file, words):
         self.fault_if(not self.is_locked(file), 'it is read without its lock')
         self.fault_if(not file.synced or words[1:] != ['0', str(PAGE)], 'the roots are compared before the sync')
 
+    def kept(self, file, words):
+        """What memory has is compared where the next call asks for what the medium has, and else read."""
+        behind = self.log[self.at + 1:self.at + 2]
+        is_compared = behind and behind[0][0] in ('past', 'refused')
+        (self.looked if is_compared else self.read)(file, words)
+
     def past(self, file, words):
-        self.kept(file, words[:3] if words[2] != '-1' else [*words[:2], str(PAGE)])
+        self.looked(file, words[:3] if words[2] != '-1' else [*words[:2], str(PAGE)])
         file.agrees = words[3] == 'same' and words[2] != '-1'
 
     def refused(self, file, _):
