@@ -87,6 +87,7 @@ class Bench:
         for name, data in {**trial.files, trial.program: file}.items():
             path = self.place / name
             path.parent.mkdir(parents=True, exist_ok=True)
+            path.parent.chmod(0o777)
             path.write_bytes(data)
             path.chmod(0o777)
         ended = [self.start(trial, step, before) for step in trial.steps]

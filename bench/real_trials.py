@@ -10,7 +10,7 @@ import sqlite3
 import subprocess
 from pathlib import Path
 
-from unchanged import SODIUM, SUITES, UNITS, XZ, YAML
+from unchanged import SODIUM, SUITES, TLS, UNITS, XZ, YAML
 
 HERE = Path(__file__).resolve().parent
 
@@ -184,6 +184,15 @@ def sodium_trials(it):
                     left[f'{name}.res'] == left[f'{name}.exp'])
 
 
+def tls_trials(it):
+    tests = it.place['static'] / 'tests'
+    files = below(tests, 'data_files/**/*')
+    for name in TLS:
+        suite = f'test_suite_{name}'
+        yield Trial(suite, {**files, **below(tests, f'{suite}.datax')}, [Step([])],
+                    lambda ended, *_: b'PASSED (' in ended[0].output)
+
+
 def is_compiler_right(ended, place, preprocessed, compiled):
     """What tcc told and wrote, and what the programs print that it compiled, are as is wanted."""
     found = [(it.errors + it.output).split() for it in ended]
@@ -215,4 +224,4 @@ TRIALS = {
     'bzip2': bzip2_trials, 'Lua, alone': lua_alone_trials, 'cJSON': cjson_trials,
     'jansson': jansson_trials, 'libyaml': yaml_trials, 'expat': expat_trials, 'libpng': png_trials,
     'PCRE2': pcre_trials, 'SQLite, alone': sqlite_trials, 'xz': xz_trials,
-    'libsodium': sodium_trials, 'tcc': tcc_trials}
+    'libsodium': sodium_trials, 'mbedTLS': tls_trials, 'tcc': tcc_trials}

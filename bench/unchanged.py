@@ -35,6 +35,9 @@ SODIUM = ('aead_aes256gcm', 'aead_xchacha20poly1305', 'auth', 'box', 'chacha20',
           'ed25519_convert', 'generichash', 'hash', 'kdf', 'kx', 'misuse', 'onetimeauth', 'randombytes',
           'scalarmult', 'secretbox', 'secretstream', 'shorthash', 'sign', 'sodium_core', 'sodium_utils',
           'sodium_utils2', 'sodium_utils3', 'sodium_version', 'stream')
+# Of mbedTLS's tests some of those that hold at each date: certificates of ssl and x509parse have ended.
+TLS = ('aes.ecb', 'base64', 'bignum.misc', 'ccm', 'error', 'gcm.aes128_en', 'md', 'pem', 'rsa', 'version',
+       'x509write')
 # tcc with no dlopen, that compiles for musl.
 MUSL = '/usr/lib/x86_64-linux-musl'
 TCC = (f'./configure --cc="{{cc}}" {{words}} --extra-cflags="-O2 -DCONFIG_TCC_STATIC" --config-musl '
@@ -91,6 +94,13 @@ PROJECTS = {
         ['src/libsodium/.libs/libsodium.so'],
         {it: (f'test/default/.libs/{it}', f'test/default/{it}') for it in SODIUM},
         ['automake', 'libtoolize']),
+    'mbedTLS': Project(
+        'mbedtls', CMAKE + ' lib ' + ' '.join(f'test_suite_{it}' for it in TLS),
+        '-DENABLE_PROGRAMS=OFF -DUSE_SHARED_MBEDTLS_LIBRARY=ON',
+        f'-DENABLE_PROGRAMS=OFF {STATIC}',
+        ['library/libmbedcrypto.so', 'library/libmbedx509.so', 'library/libmbedtls.so'],
+        {f'test_suite_{it}': (f'tests/test_suite_{it}',) * 2 for it in TLS},
+        ['cmake']),
     'tcc': Project(
         'tcc', TCC, '--disable-static', '', ['libtcc.so'],
         {'tcc': ('tcc', 'tcc')}),
