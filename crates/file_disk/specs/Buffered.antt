@@ -1,6 +1,5 @@
 -- A file with what waits to be given to it.
-use Rattle.std.specs.Prelude.{◌≡◌, ◌⊎◌, ℕ, List, map, Option, Some, None}
-use Rattle.std.specs.List.{range_with_len}
+use Rattle.std.specs.Prelude.{◌≡◌, ◌⊎◌, ℕ, Option, Some, None}
 use Rattle.sector_disk.specs.Disk.{Sector, sector}
 use Rattle.file_disk.specs.declared.buffered.Buffered.{Buffered}
 use Rattle.file_disk.specs.declared.sector_file.SectorFile.{Ghosts}
@@ -16,10 +15,6 @@ module _ {F : Type 0} {g : Ghosts F} where
   -- what reads give of sector k: what waits for it, else what the file has
   abbrev pub shown_at : Buffered F g → ℕ → Sector
   shown_at buffered k = or_else (gathered_at buffered.gathered k) (sector (g.facts buffered.file).now k)
-
-  -- what reads give
-  abbrev pub shown : Buffered F g → List Sector
-  shown buffered = map (shown_at buffered) (range_with_len 0 buffered.sectors)
 
   -- a content of sector k that waits, or that the file's medium may have
   abbrev pub Leaves : Buffered F g → ℕ → Sector → Type 0

@@ -43,7 +43,8 @@ pub struct FileDisk<F: SectorFile> {
     ghost held: { IsTrue F.SectorFile.is_honest → (k : ℕ) → k < buffered.sectors
         → LeftOf since.items k (shown_of latest.items k) },
     ghost noted: { length files.items ≡ calls_made calls },
-    ghost timed: { IsTrue F.SectorFile.is_honest → IsTimed files.items buffered (calls_made calls) },
+    ghost timed: { IsTrue F.SectorFile.is_honest
+        → IsTimed files.items buffered (calls_made calls) },
     ghost followed: { IsTrue F.SectorFile.is_honest
         → IsFollowed files.items buffered past.items since (calls_made calls) },
 }
@@ -106,7 +107,8 @@ impl<F: SectorFile> Disk for FileDisk<F> {
 
     ghost holds_now = { λ disk honest. disk_holds disk honest };
 
-    ghost whole_sectors = { λ disk honest. disk_whole (λ file. F.whole_sectors file honest) disk honest };
+    ghost whole_sectors = { λ disk honest.
+        disk_whole (λ file. F.whole_sectors file honest) disk honest };
 
     fn sectors(&self) -> u32 {
         self.buffered.sectors
