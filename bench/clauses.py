@@ -1,8 +1,8 @@
 """The public calls of each crate with their clauses, as docs/CLAUSES.md has them, from the text of `src/`.
 
 A call is told by the first sentence of its comment. Behind it are the labels of its clauses, each group of them with the
-`//` lines above it; a clause without a label says what the result is. Of a clause that cites one record the parts follow in
-square brackets: the record's fields, each group of them with the comment above it. What the words of a clause mean stands in
+`//` lines above it; a clause without a label stands as it is. Of a clause that cites one record the parts follow in square
+brackets: the record's fields, each group of them with the comment above it. What the words of a clause mean stands in
 docs/PROOFS.md and docs/DEFINITIONS.md.
 """
 
@@ -21,7 +21,7 @@ CLAUSE = re.compile(r'^ *ensures (?:(\w+) )?\{')
 GENERAL = {'sector_disk/Disk', 'states/State', 'store/Opened', 'store/Stands', 'registry/Opened', 'registry/Stands'}
 HEAD = """# Clauses
 
-For who uses a crate, or asks what is proved of a call: each public call with the labels of its clauses and the comments above them. Where a clause cites one record, its parts are in square brackets. The clauses themselves stand in `src/`, in front of each body. `bench/documents.py` makes this page.
+For who uses a crate, or asks what is proved of a call: each public call with its one clause, or the labels of its clauses and the comments above them. Where a clause cites one record, its parts are in square brackets. All clauses stand in `src/`, in front of each body. `bench/documents.py` makes this page.
 
 """
 
@@ -135,10 +135,10 @@ def told(parts):
 
 
 def label_of(number, lines, path):
-    """The label of the clause at a line, with the parts of the record that it cites."""
-    label = CLAUSE.match(lines[number]).group(1) or 'result'
-    clause = next(definitions.clause_texts(' '.join(lines[number:]), label))
-    return f'`{label}`' + told(cited_in(clause, path))
+    """The label of the clause at a line, or the clause itself where it has none, with the parts of the record that it cites."""
+    label = CLAUSE.match(lines[number]).group(1)
+    clause = next(definitions.clause_texts(' '.join(lines[number:]), label or 'result'))
+    return f'`{label or " ".join(clause.split())}`' + told(cited_in(clause, path))
 
 
 def groups_of(lines, path):
