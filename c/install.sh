@@ -49,11 +49,7 @@ print(next(it for it in site.getsitepackages() if it.startswith(sys.argv[1] + "/
 # make_files PREFIX ROOM: the file for pkg-config, and the manual pages.
 make_files() {
     sed "s|@PREFIX@|$1|; s|@VERSION@|$version|" "$here/rlibreg.pc.in" > "$2/rlibreg.pc"
-    if command -v pandoc > /dev/null; then
-        "$here/manual.sh" "$2" "$1/share/doc/rlibreg"
-    else
-        echo 'left out: the manual pages, which pandoc makes'
-    fi
+    "$here/manual.sh" "$2" "$1/share/doc/rlibreg"
 }
 
 # add_all PREFIX FOLDER ROOM: everything that is installed, but the list.

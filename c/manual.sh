@@ -1,12 +1,22 @@
 #!/usr/bin/env bash
 # manual.sh FOLDER DOCUMENTS makes the manual pages rlibreg.1, rlibreg-tool.1, rlibreg-run.1,
 # rlibreg-gcc.1 and rlibreg.3 from docs/COMMANDS.md, docs/TOOL.md, docs/LINKING.md and docs/C.md, by
-# pandoc. DOCUMENTS is the folder in which the pages say that the documents are.
+# pandoc, and those of the calls from rlibreg.h, by python3; what is left out it says. DOCUMENTS is the
+# folder in which the pages say that the documents are.
 set -eu
 cd "$(dirname "$0")/../docs"
 folder=$1
 documents=$2
 version=$(../c/version.sh)
+if command -v python3 > /dev/null; then
+    python3 -B ../c/manual_calls.py "$folder" "$version"
+else
+    echo 'left out: the manual pages of the calls, which python3 makes'
+fi
+if ! command -v pandoc > /dev/null; then
+    echo 'left out: the other manual pages, which pandoc makes'
+    exit 0
+fi
 
 # page NAME SECTION WHAT: of the Markdown on standard input, whose sections begin with `##`. A document
 # that is a page has the page's name there, each other its own. Words aren't hyphenated, and lines not
@@ -53,7 +63,7 @@ section LINKING rlibreg-gcc | page rlibreg-gcc 1 'compiles and links what a regi
 
     $ cc .. $(pkg-config --cflags --libs rlibreg)
 
-The manual of the calls is the header.
+Each call has a page of its own, such as rlibreg_open(3), and rlibreg.h(3) says what holds of all.
 
 END
     awk '/^## / {body = 1; inside = $2 == "rlibreg-run"} body && !inside' C.md

@@ -131,10 +131,10 @@ enum {
     RLIBREG_UNDEFINED = 105,   /* B5: a symbol is bound to nothing; the text names it */
 
     RLIBREG_BAD_FILE = 201,          /* C1: the file is no library, by the test file_refusal */
-    RLIBREG_ALREADY_INSTALLED = 202, /* C2 */
-    RLIBREG_NOT_INSTALLED = 203,     /* C3 */
+    RLIBREG_ALREADY_INSTALLED = 202, /* C2: a library of this SONAME is installed */
+    RLIBREG_NOT_INSTALLED = 203,     /* C3: no library has this name */
     RLIBREG_IN_PRELOADS = 204,       /* C4: it isn't removed as long as it is a preload */
-    RLIBREG_REPEATED_PRELOAD = 205,  /* C5 */
+    RLIBREG_REPEATED_PRELOAD = 205,  /* C5: a name is given twice */
     RLIBREG_TOO_MANY_PRELOADS = 206, /* C6: more than 16 */
 
     RLIBREG_DEVICE = 301,            /* S1: a write or a sync failed: open the file again */
@@ -143,11 +143,11 @@ enum {
     RLIBREG_ALREADY_FORMATTED = 304, /* S4: there is one */
     RLIBREG_DAMAGED = 305,           /* S5: no writes that were cut off leave these bytes */
     RLIBREG_BAD_GEOMETRY = 306,      /* S6: not 8 to 4,194,304 whole sectors, or not so many */
-    RLIBREG_FULL = 307,              /* S7 */
-    RLIBREG_FRAGMENTED = 308,        /* S8 */
+    RLIBREG_FULL = 307,              /* S7: fewer sectors are free than it takes */
+    RLIBREG_FRAGMENTED = 308,        /* S8: they lie in too many runs */
     RLIBREG_TOO_MANY = 309,          /* S9: more than 2,048 libraries */
-    RLIBREG_GENERATION_END = 310,    /* S10 */
-    RLIBREG_OUT_OF_MEMORY = 311,     /* S11 */
+    RLIBREG_GENERATION_END = 310,    /* S10: it was changed 2^64 - 1 times */
+    RLIBREG_OUT_OF_MEMORY = 311,     /* S11: memory was refused */
     RLIBREG_OLD_FORMAT = 312         /* S12: a disk of version 1, which is to be upgraded */
 };
 
@@ -462,10 +462,10 @@ uint32_t rlibreg_open(rlibreg *registry, const char *path, unsigned flags);
  *
  * RLIBREG_BAD_ARGUMENT where SECTORS isn't 8 to 4,194,304. RLIBREG_HELD where the other name's file
  * is held, as the disk's. RLIBREG_SYSTEM with EINVAL where what has
- * that name is no regular file, and where what comes before the plan fails. S1 where a write or a
- * sync of the plan fails, or behind the name that of the folder, or where the other name can't be
- * taken away, errno says why: of a file that stood there a registry was made or not; of a new one
- * there is nothing, or behind the name all of it. A file system without a journal (vfat, exfat,
+ * that name is no regular file, and where what comes before the plan fails. Refusals: S1 where a
+ * write or a sync of the plan fails, or behind the name that of the folder, or where the other name
+ * can't be taken away, errno says why: of a file that stood there a registry was made or not; of a
+ * new one there is nothing, or behind the name all of it. A file system without a journal (vfat, exfat,
  * ext2) is then to be mounted anew before anything is asked of the path again: S4, and changes that
  * were done, may else be of a name that a power cut takes away. Else as rlibreg_open and
  * rlibreg_plan_format.
@@ -486,7 +486,7 @@ uint32_t rlibreg_remove(rlibreg *registry, const char *name);
 uint32_t rlibreg_preload(rlibreg *registry, const char *const *names, size_t count);
 
 /* A listing, as rlibreg_list gives it. It belongs to who asked, is written in every case, and is
- * freed by rlibreg_listing_free, which may be called twice. */
+ * freed by rlibreg_listing_free, which may be called twice. Beside its refusals: S1, S2. */
 typedef struct rlibreg_listing {
     uint64_t generation;
     size_t libraries; /* how many: entries 0 to libraries - 1 */
@@ -499,14 +499,16 @@ uint32_t rlibreg_listing_of(rlibreg *registry, rlibreg_listing *listing);
 void rlibreg_listing_free(rlibreg_listing *listing);
 
 /* A library's bytes, as rlibreg_file gives them. They belong to who asked, and are freed by free.
- * BYTES and LENGTH are written in every case: null and 0 where the status isn't 0. */
+ * BYTES and LENGTH are written in every case: null and 0 where the status isn't 0. Beside its
+ * refusals: S1, S2. */
 uint32_t rlibreg_file_of(rlibreg *registry, const char *name, void **bytes, size_t *length);
 
-/* What is told of the whole, as rlibreg_info tells it. */
+/* What is told of the whole, as rlibreg_info tells it. Beside its refusals: S1, S2. */
 uint32_t rlibreg_info_of(rlibreg *registry, rlibreg_information *information);
 
 /* What is found of each library, as rlibreg_check tells it. It belongs to who asked, is written in
- * every case, and is freed by rlibreg_findings_free, which may be called twice. */
+ * every case, and is freed by rlibreg_findings_free, which may be called twice. Beside its refusals:
+ * S1, S2. */
 typedef struct rlibreg_findings {
     size_t count; /* how many libraries */
     rlibreg_finding *findings;
@@ -517,7 +519,7 @@ uint32_t rlibreg_findings_of(rlibreg *registry, rlibreg_findings *findings);
 void rlibreg_findings_free(rlibreg_findings *findings);
 
 /* An image, as rlibreg_bind gives it. It belongs to who asked, is written in every case, and is
- * freed by rlibreg_image_free, which may be called twice. */
+ * freed by rlibreg_image_free, which may be called twice. Beside its refusals: S1, S2. */
 typedef struct rlibreg_image {
     size_t count;        /* how many segments */
     size_t object_count; /* how many objects */

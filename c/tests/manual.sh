@@ -1,7 +1,8 @@
 # The manual pages on a terminal of 80 columns: each refusal stands there on one line with its number and
-# its name, and no page is named that isn't made.
+# its name, each call has a page with its declaration and its statuses, and no page is named that isn't
+# made.
 
-for tool in pandoc man; do
+for tool in python3 man; do
     if ! command -v $tool > /dev/null; then
         echo "skipped: the manual pages, which are not made or shown without $tool"
         exit 0
@@ -9,7 +10,8 @@ for tool in pandoc man; do
 done
 docs=$here/../../docs
 mkdir manual
-"$here/../manual.sh" "$PWD/manual" /somewhere
+"$here/../manual.sh" "$PWD/manual" /somewhere > told
+cat told
 for page in manual/*.[13]; do
     MANWIDTH=80 MANROFFOPT=-ww man -E UTF-8 -l "$page" > "$page.shown" 2> told
     want "what man says of $page" '' "$(cat told)"
@@ -26,14 +28,44 @@ shown() {
         count=$((count + 1))
     done
 }
-mapfile -t refusals < <(grep -ohE '\b[EBCSL][0-9]+ [A-Z][A-Za-z]+' "$docs/COMMANDS.md" \
-    "$here/../rlibreg_status.c" | sort -u)
-shown rlibreg.1 "${refusals[@]/#/"(refused (B1 )?)?"}"
-mapfile -t refusals < <(sed -n 's/^| `\(refused [A-Za-z]*\).*/\1/p' "$docs/TOOL.md")
-shown rlibreg-tool.1 "${refusals[@]}"
-[ $count -gt 60 ] || { echo "there are only $count refusals" >&2; exit 1; }
+if [ -f manual/rlibreg.1 ]; then
+    mapfile -t refusals < <(grep -ohE '\b[EBCSL][0-9]+ [A-Z][A-Za-z]+' "$docs/COMMANDS.md" \
+        "$here/../rlibreg_status.c" | sort -u)
+    shown rlibreg.1 "${refusals[@]/#/"(refused (B1 )?)?"}"
+    mapfile -t refusals < <(sed -n 's/^| `\(refused [A-Za-z]*\).*/\1/p' "$docs/TOOL.md")
+    shown rlibreg-tool.1 "${refusals[@]}"
+    [ $count -gt 60 ] || { echo "there are only $count refusals" >&2; exit 1; }
+    for name in $(grep -ohE '\brlibreg(-[a-z]+)?\([0-9]\)' manual/*.shown | tr '()' '. ' | sort -u); do
+        [ -f "manual/$name" ] || { echo "a page names $name" >&2; exit 1; }
+    done
+fi
 
-for name in $(grep -ohE '\brlibreg(-[a-z]+)?\([0-9]\)' manual/*.shown | tr '()' '. ' | sort -u); do
-    [ -f "manual/$name" ] || { echo "a page names $name" >&2; exit 1; }
+# Calls, as the compiler reads the header.
+want 'lines that are too long' '' "$(cat manual/rlibreg.h.3.shown manual/rlibreg_*.shown | grep -E '.{81}')"
+calls=0
+while read -r declaration; do
+    name=$(grep -o 'rlibreg_[a-z_]*(' <<< "$declaration")
+    page=manual/${name%(}.3.shown
+    tr -d ' \n' < "$page" | grep -qF "${declaration// /};" ||
+        { echo "$page has no '$declaration'" >&2; exit 1; }
+    grep -qF "${name%(} - " "$page" || { echo "$page doesn't say what it is about" >&2; exit 1; }
+    calls=$((calls + 1))
+done < <(gcc -E -P "$here/../rlibreg.h" | tr '\n;' ' \n' | grep -o '[a-z][a-z0-9_ *]*rlibreg_[a-z_]*(.*)$')
+want 'pages of calls' $calls "$(ls manual/rlibreg_*.3 | wc -l)"
+for name in $(grep -ohE '\brlibreg[a-z_.]*\(3\)' manual/rlibreg*.3.shown | sed 's/(3)/.3/' | sort -u); do
+    [ -f "manual/$name" ] || [ ! -f manual/rlibreg.1 ] || { echo "a page names $name" >&2; exit 1; }
 done
-echo "manual: $count refusals, each on one line of 80 columns"
+
+# statuses PAGE NUMBER..: the numbers of the statuses that it says of a call.
+statuses() {
+    want "the statuses of $1" "${*:2}" \
+        "$(sed -n '/^ERRORS/,/^NOTES/s/^ *RLIBREG_[A-Z_]* (\([0-9]*\))$/\1/p' "manual/$1.3.shown" | xargs)"
+}
+statuses rlibreg_bind 1 101 102 103 104 105 303 305 306 311 312
+statuses rlibreg_plan_format 1 304 306 311
+statuses rlibreg_open 2 3 4
+statuses rlibreg_format 2 3 4 301 304 306 311
+statuses rlibreg_remove 2 3 5 203 204 301 302 303 305 306 310 311 312
+statuses rlibreg_image_of 2 101 102 103 104 105 301 302 303 305 306 311 312
+statuses rlibreg_text
+echo "manual: $count refusals, each on one line of 80 columns, and $calls calls"

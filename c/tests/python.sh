@@ -1,5 +1,6 @@
-# The Python module: its types, the stored cases that it has calls for, what these can't say, and the
-# page docs/PYTHON.md, whose commands and lines of Python give what stands below them.
+# The Python module: its types, the stored cases that it has calls for, what these can't say, the page
+# docs/PYTHON.md, whose commands and lines of Python give what stands below them, its wheel, and what it
+# says where its library isn't there.
 
 if [ -n "$musl" ] || ! command -v python3 > /dev/null; then
     echo 'skipped: the Python module, which needs python3, and a library with its C library'
@@ -7,7 +8,7 @@ if [ -n "$musl" ] || ! command -v python3 > /dev/null; then
 fi
 module=$here/../../python
 page=$here/../../docs/PYTHON.md
-export LD_LIBRARY_PATH=$built PYTHONPATH=$module
+export LD_LIBRARY_PATH=$built PYTHONPATH=$module RLIBREG_TOOL=$built/rlibreg-tool
 if command -v mypy > /dev/null; then
     mypy --strict --cache-dir mypy "$module/rlibreg" > types || { cat types >&2; exit 1; }
 else
@@ -22,4 +23,36 @@ mkdir python.files
 cd python.files
 eval "$(sed -n 's/^    \$ //p' "$page")"
 python3 -B -m doctest "$page"
-echo "python: $(sed -n 's/^Ran \([0-9]* tests\) .*/\1/p' ../unittest) of the module, and its page"
+cd ..
+
+# imported FOLDER: the last line of Python where the library is looked for in this folder first.
+imported() {
+    LD_LIBRARY_PATH=$1 python3 -B -c 'import rlibreg' 2>&1 | tail -n 1
+}
+name=librlibreg.so.$("$here/../version.sh" | sed 's/\.[0-9]*$//')
+calls="ImportError: rlibreg $("$here/../version.sh") calls"
+mkdir empty another
+echo > "empty/$name"
+touch "empty/librlibreg.so.0.1"
+found=$(imported "$PWD/empty")
+[[ $found == "$calls $name, "*"($PWD/empty)"*"empty/$name: "*" there is $PWD/empty/librlibreg.so.0.1, "* ]] ||
+    { echo "where the library is damaged Python says $found" >&2; exit 1; }
+echo 'unsigned rlibreg_version(void) { return 0; }' | gcc -shared -fPIC -o "another/$name" -x c -
+want 'a library that lacks a call' \
+    "$calls a later $name, with rlibreg_status_name: the loader has taken $PWD/another/$name" \
+    "$(imported another)"
+
+if python3 -c 'import setuptools, pip, sys, wheel
+sys.exit(int(setuptools.__version__.split(".")[0]) < 61)' 2> /dev/null; then
+    cp -r "$module" wheel.source
+    python3 -B -m pip -q wheel --no-index --no-build-isolation --no-deps -w wheels ./wheel.source > told 2>&1 &&
+        python3 -B -m pip -q install --no-index --no-deps --target packages wheels/*.whl > told 2>&1 ||
+        { cat told >&2; exit 1; }
+    want 'the version of the wheel' "rlibreg-$("$here/../version.sh")-py3-none-any.whl" "$(ls wheels)"
+    want 'the module of the wheel' "$(ls "$module/rlibreg" | grep -v __pycache__)" "$(ls packages/rlibreg | grep -v __pycache__)"
+    PYTHONPATH=$PWD/packages:$module/tests python3 -B -m unittest test_module.Header test_module.Contents \
+        2> told || { cat told >&2; exit 1; }
+else
+    echo 'skipped: the wheel of the Python module, which pip, setuptools (61 or later) and wheel make'
+fi
+echo "python: $(sed -n 's/^Ran \([0-9]* tests\) .*/\1/p' unittest) of the module, and its page"

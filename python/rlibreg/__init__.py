@@ -10,6 +10,7 @@ caveats and its refusals.
 
 from __future__ import annotations
 
+import binascii
 import ctypes
 import enum
 import errno
@@ -18,20 +19,23 @@ import operator
 import os
 import threading
 import time
-from typing import Any, Iterable, Iterator, List, NamedTuple, NoReturn, Tuple, Union
+from typing import (Any, Callable, Iterable, Iterator, List, Literal, NamedTuple, NoReturn, Tuple,
+                    TypeVar, Union)
 
 from . import _calls
 from ._calls import library as _library
 
 __all__ = ['Busy', 'Closed', 'Error', 'Finding', 'Held', 'Image', 'Info', 'Library', 'Listing',
-           'Object', 'Permissions', 'Refusal', 'Registry', 'Segment', 'Status', 'SystemFault',
-           'format', 'upgrade', 'version']
+           'Object', 'Permissions', 'Put', 'Refusal', 'Registry', 'Segment', 'Status',
+           'SystemFault', 'format', 'upgrade', 'version']
 
 PathName = Union[str, bytes, 'os.PathLike[str]', 'os.PathLike[bytes]']
 Content = Union[bytes, bytearray, memoryview, str, 'os.PathLike[str]', 'os.PathLike[bytes]']
 Wait = Union[bool, float]
+Put = Literal['installed', 'replaced', 'unchanged']
 
 _MOST = 1 << 24  # bytes that a file may have which isn't refused for its length
+_DUMPED = 1 << 15  # bytes of a library that a piece of a dump has at most
 
 
 class Status(enum.IntEnum):
@@ -262,6 +266,9 @@ def _seconds(wait: Wait) -> float:
 _PIECE = 0.1  # seconds that the library waits at a stretch, where a limit keeps handlers from running
 
 
+_Given = TypeVar('_Given')
+
+
 class _Turn(threading.local):
     """Whether this thread is within a call."""
 
@@ -316,21 +323,28 @@ class _Handle:
             return _error(Busy, Status.BAD_ARGUMENT, 'the registry is within another call')
         return None
 
-    def call(self, name: str, *words: object) -> None:
-        """Makes a call, and raises what it is answered: behind the turn and the lock, since Python
-        before 3.11 may run a handler as an exception leaves them, and let that leave them taken."""
+    def do(self, work: Callable[[], Union[Error, _Given]]) -> _Given:
+        """Does what makes calls by `ask`, between which none of another thread stands, and raises
+        the error that it gives: behind the turn and the lock, since Python before 3.11 may run a
+        handler as an exception leaves them, and let that leave them taken."""
         error = self.refusal()
-        if not error:
-            self.turn.is_taken = True
-            try:
-                with self.lock:
-                    error = self.ask(getattr(_library, f'rlibreg_{name}'), words)
-            finally:
-                self.turn.is_taken = False
-                if self.is_closed:  # by a handler, meanwhile
-                    self.close()
         if error:
             raise error
+        self.turn.is_taken = True
+        try:
+            with self.lock:
+                given = work()
+        finally:
+            self.turn.is_taken = False
+            if self.is_closed:  # by a handler, meanwhile
+                self.close()
+        if isinstance(given, Error):
+            raise given
+        return given
+
+    def call(self, name: str, *words: object) -> None:
+        """Makes a call, and raises what it is answered."""
+        self.do(lambda: self.ask(name, *words))
 
     def open(self, name: str, *words: object, flags: int, wait: Wait) -> None:
         """Makes a call that locks the file, and waits for the lock as long as it is to. Without a
@@ -352,11 +366,12 @@ class _Handle:
                 if now >= end or now < begun + piece:
                     raise
 
-    def ask(self, function: Any, words: tuple[object, ...]) -> Error | None:
+    def ask(self, name: str, *words: object) -> Error | None:
         """What a call is answered. Where a signal ends it while it waits for a lock, the signal's
         handler runs, and it is made again."""
         if self.is_closed:
             return _error(Closed, Status.BAD_ARGUMENT, 'the registry is closed')
+        function = getattr(_library, f'rlibreg_{name}')
         while True:
             status = function(self.struct, *words)
             why = _library.rlibreg_errno(self.struct)
@@ -380,13 +395,55 @@ class _Handle:
         return error
 
 
-def _listing(given: _calls.Listing) -> Listing:
+def _list(handle: _Handle) -> Error | Listing:
     """A listing of Python's own memory."""
-    entries = given.entries[:given.libraries + given.preloads]
-    names = [ctypes.string_at(given.names + it.name, it.name_length).decode() for it in entries]
-    lengths = [it.file_length for it in entries[:given.libraries]]
-    libraries = [Library(*it) for it in zip(names, lengths)]
-    return Listing(given.generation, libraries, names[given.libraries:])
+    given = _calls.Listing()
+    try:
+        error = handle.ask('listing_of', ctypes.byref(given))
+        if error:
+            return error
+        entries = given.entries[:given.libraries + given.preloads]
+        names = [ctypes.string_at(given.names + it.name, it.name_length).decode() for it in entries]
+        lengths = [it.file_length for it in entries[:given.libraries]]
+        libraries = [Library(*it) for it in zip(names, lengths)]
+        return Listing(given.generation, libraries, names[given.libraries:])
+    finally:
+        _library.rlibreg_listing_free(ctypes.byref(given))
+
+
+def _file(handle: _Handle, name: bytes) -> Error | bytes:
+    """A library's bytes, of Python's own memory."""
+    given, length = _calls.POINTER(), _calls.SIZE()
+    try:
+        return (handle.ask('file_of', name, ctypes.byref(given), ctypes.byref(length))
+                or bytes(_calls.array(length.value).from_address(given.value).raw))
+    finally:
+        _calls.free(given)
+
+
+def _has(handle: _Handle, data: bytes) -> Error | bool:
+    """Whether a library has just these bytes."""
+    listing = _list(handle)
+    if isinstance(listing, Error):
+        return listing
+    for it in listing.libraries:
+        if it.length == len(data):
+            found = _file(handle, it.name.encode())
+            if found == data or isinstance(found, Error):
+                return found if isinstance(found, Error) else True
+    return False
+
+
+def _put(handle: _Handle, data: bytes) -> Error | Put:
+    """Installs a library, or where one of its SONAME is there, which has other bytes, replaces it.
+    What is refused as a file is so first, whatever is there."""
+    error = handle.ask('install', data, len(data))
+    if not error or error.number != Status.ALREADY_INSTALLED:
+        return error or 'installed'
+    is_there = _has(handle, data)
+    if is_there:
+        return is_there if isinstance(is_there, Error) else 'unchanged'
+    return handle.ask('replace', data, len(data)) or 'replaced'
 
 
 def _finding(number: int) -> Finding:
@@ -396,6 +453,16 @@ def _finding(number: int) -> Finding:
         return Finding(number, 'OtherName', 'damaged OtherName')
     name = _library.rlibreg_file_refusal_name(number).decode()
     return Finding(number, name, f'damaged {name}')
+
+
+def _damaged(name: str, finding: Finding) -> Error:
+    """Why a registry is dumped up to this library alone, in the words of rlibreg-tool."""
+    error = _error(Refusal, Status.DAMAGED)
+    spelt = name.replace('\\', '\\x5c')
+    error.text = finding.text.replace(' ', f' {spelt} ', 1)
+    if finding.number != _calls.OTHER_NAME:
+        error.file_refusal, error.file_refusal_name = finding.number, finding.name
+    return error
 
 
 def _findings(given: _calls.Findings) -> Findings:
@@ -478,6 +545,12 @@ class Registry:
         data = _content(file)
         self._handle.call('replace', data, len(data))
 
+    def put(self, file: Content) -> Put:
+        """Installs a library, or puts it in the place of the one of its SONAME, and says which it
+        was; or 'unchanged', where a library has just these bytes, and nothing is written."""
+        data = _content(file)
+        return self._handle.do(lambda: _put(self._handle, data))
+
     def remove(self, name: str) -> None:
         """Removes the library of this name."""
         self._handle.call('remove', _word(name))
@@ -491,22 +564,13 @@ class Registry:
 
     def list(self) -> Listing:
         """What the registry has."""
-        given = _calls.Listing()
-        try:
-            self._handle.call('listing_of', ctypes.byref(given))
-            return _listing(given)
-        finally:
-            _library.rlibreg_listing_free(ctypes.byref(given))
+        return self._handle.do(lambda: _list(self._handle))
 
     def file(self, name: str) -> bytes:
         """The bytes of the library of this name, as they were installed. Whether they still are
         those of a library isn't looked at, nor is any other library's file."""
-        word, given, length = _word(name), _calls.POINTER(), _calls.SIZE()
-        try:
-            self._handle.call('file_of', word, ctypes.byref(given), ctypes.byref(length))
-            return bytes(_calls.array(length.value).from_address(given.value).raw)
-        finally:
-            _calls.free(given)
+        word = _word(name)
+        return self._handle.do(lambda: _file(self._handle, word))
 
     def info(self) -> Info:
         """What is told of the registry as a whole. It reads no library's file."""
@@ -523,6 +587,32 @@ class Registry:
             return _findings(given)
         finally:
             _library.rlibreg_findings_free(ctypes.byref(given))
+
+    def dump(self) -> Iterator[bytes]:
+        """The script by which `rlibreg script` makes the registry anew, as rlibreg-tool dumps it, in
+        pieces, each to be asked for before the next change. None but the last ends a line: who takes
+        only some of them has a script that is refused. Where a library is damaged, or a call fails,
+        the last one is `cut`, and the next is the exception."""
+        begin = b''
+        try:
+            listing = self.list()
+            for name, finding in self.check():
+                if finding.number:
+                    raise _damaged(name, finding)
+                data = self.file(name)
+                if self.info().generation != listing.generation:
+                    raise _error(Error, Status.BAD_ARGUMENT, 'the registry was changed meanwhile')
+                yield begin + b'install '
+                for at in range(0, len(data), _DUMPED):
+                    yield binascii.hexlify(data[at:at + _DUMPED])
+                begin = b'\n'
+        except Error:
+            yield begin + b'cut'
+            raise
+        if listing.preloads:
+            yield begin + ' '.join(['preload', *listing.preloads]).encode()
+        if begin:
+            yield b'\n'
 
     def bind(self, program: Content, base: int) -> Image:
         """Binds a program at an address, with the preloads and the libraries that it needs."""

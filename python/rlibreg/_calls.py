@@ -4,9 +4,12 @@ from __future__ import annotations
 
 import ctypes
 import functools
+import glob
+import os
 from typing import Any
 
-INTERFACE = '0.3'  # major and minor of the library that has the structures and the calls below
+VERSION = '0.3.0'  # of rlibreg.h, whose structures and calls stand below
+NAME = f'librlibreg.so.{VERSION.rpartition(".")[0]}'  # its SONAME
 
 CHANGES, WAIT = 1, 2
 SOUND, OTHER_NAME = 0, 100
@@ -113,16 +116,35 @@ PROTOTYPES: dict[str, tuple[Any, ...]] = {  # what each gives, and what it takes
 }
 
 
+def not_found(why: OSError) -> ImportError:
+    """Says what was looked for and where, and what there is of its name."""
+    named = os.environ.get('LD_LIBRARY_PATH')
+    folders = [*filter(None, (named or '').split(':')), '/usr/local/lib',
+               f'/usr/lib/{os.uname().machine}-linux-gnu', '/usr/lib64', '/usr/lib']
+    there = [it for folder in dict.fromkeys(folders)
+             for it in sorted(glob.glob(f'{glob.escape(folder)}/librlibreg.so.*'))]
+    return ImportError(
+        f'rlibreg {VERSION} calls {NAME}, which the loader looks for in LD_LIBRARY_PATH '
+        f'({named or "not set"}) and in the folders that ldconfig has been run for: {why}. '
+        f'In {":".join(folders)} there is {", ".join(there) or "none of any version"}', name=NAME)
+
+
+def loaded_from() -> str:
+    """The file that the loader has taken."""
+    with open('/proc/self/maps') as maps:
+        return next(line.split(maxsplit=5)[5].strip() for line in maps if '/librlibreg.so' in line)
+
+
 def load() -> ctypes.CDLL:
-    name = f'librlibreg.so.{INTERFACE}'
     try:
-        loaded = ctypes.CDLL(name)
+        loaded = ctypes.CDLL(NAME)
     except OSError as error:
-        raise ImportError(f'rlibreg calls {name}, which is not found: {error}') from None
+        raise not_found(error) from None
     for call, (result, *arguments) in PROTOTYPES.items():
         function = getattr(loaded, f'rlibreg_{call}', None)
         if function is None:
-            raise ImportError(f'rlibreg calls a later {name}, which has rlibreg_{call}')
+            raise ImportError(f'rlibreg {VERSION} calls a later {NAME}, with rlibreg_{call}: '
+                              f'the loader has taken {loaded_from()}', name=NAME)
         function.restype, function.argtypes = result, arguments
     return loaded
 

@@ -32,7 +32,8 @@ class Handlers(OnDisk):
                       lambda: self.registry.install(b''), lambda: self.registry.remove('c'),
                       lambda: self.registry.install(library), lambda: self.registry.list(),
                       lambda: self.registry.info(), lambda: self.registry.check(),
-                      lambda: self.registry.file('b')]
+                      lambda: self.registry.file('b'), lambda: self.registry.put(library),
+                      lambda: b''.join(self.registry.dump())]
         self.answers = [self.heard(call) for call in self.calls]
         self.assertEqual(len({str(it) for it in self.answers}), len(self.calls))
 
@@ -113,7 +114,9 @@ class Handlers(OnDisk):
         self.assertGreater(len(ran), 10)
 
     def test_a_handler_closes(self):
+        self.registry.close()
         within, files = [], len(os.listdir('/proc/self/fd'))
+        self.registry = Registry(self.disk, changes=True)
 
         def handler():
             within.extend([1] * self.registry._handle.turn.is_taken)
@@ -127,7 +130,7 @@ class Handlers(OnDisk):
                 while True:
                     self.try_all(wrong)
             self.assertEqual(wrong, [])
-            self.assertEqual(len(os.listdir('/proc/self/fd')), files - 2)  # the disk, and its folder
+            self.assertEqual(len(os.listdir('/proc/self/fd')), files)
             self.registry = Registry(self.disk, changes=True)
         self.assertGreater(len(within), 10)
 
