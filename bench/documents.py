@@ -18,15 +18,9 @@ import definitions
 ROOT = Path(__file__).resolve().parent.parent
 PROOFS, DEFINITIONS, CLAUSES = (ROOT / 'docs' / f'{name}.md' for name in ('PROOFS', 'DEFINITIONS', 'CLAUSES'))
 LIMITS = {
-<<<<<<< Updated upstream
-    'README.md': 1300, 'docs/ARCHITECTURE.md': 2500, 'docs/C.md': 3490, 'docs/CASES.md': 1650, 'docs/COMMANDS.md': 5000,
-    'docs/DECISIONS.md': 4300, 'docs/FORMATS.md': 3800, 'docs/GUIDE.md': 1700, 'docs/LINKING.md': 1650,
-    'docs/PERFORMANCE.md': 2010, 'docs/PROOFS.md': 4400, 'docs/PYTHON.md': 1200, 'docs/TOOL.md': 1200}
-=======
     'README.md': 1300, 'docs/ARCHITECTURE.md': 2500, 'docs/C.md': 3490, 'docs/CASES.md': 1585, 'docs/COMMANDS.md': 5100,
     'docs/DECISIONS.md': 4300, 'docs/FORMATS.md': 3755, 'docs/GUIDE.md': 1700, 'docs/LINKING.md': 1600,
-    'docs/PERFORMANCE.md': 2060, 'docs/PROOFS.md': 4400, 'docs/PYTHON.md': 1260, 'docs/TOOL.md': 1200}
->>>>>>> Stashed changes
+    'docs/PERFORMANCE.md': 2010, 'docs/PROOFS.md': 4400, 'docs/PYTHON.md': 1260, 'docs/TOOL.md': 1200}
 OF_A_CRATE = 200
 # names of the standards, of the system and of the toolchain, which the tree doesn't spell
 ELSEWHERE = {'sqlite_std_file', 'elf_x86_64', 'thread_local', 'lW', '__cxa_atexit', 'luaL_openlibs'}
