@@ -60,6 +60,7 @@ class Header:
         self.calls = {name: it for it in self.groups for name in it.calls}
         self.statuses = next(it for it in self.groups if 'RLIBREG_DONE' in it.constants)
         self.structures = {name: it for it in self.groups for name in it.structures}
+        self.defined = dict(re.findall(r'^#define (RLIBREG_\w+) (\w+)$', text, re.M))
 
     def structures_of(self, words):
         """The structures that words name, and those that these do."""
@@ -158,7 +159,9 @@ def page_of_call(header, name, version):
     page = Page(name, brief(group), version, header.calls)
     prototypes = '\n'.join(wrapped(it) for it in group.calls.values())
     page.head('SYNOPSIS')
-    page.lines += ['.nf', '\\fB#include <rlibreg.h>', '', prototypes + '\\fR', '.fi']
+    defined = [f'#define {it} {header.defined[it]}' for it in header.defined
+               if re.search(rf'\b{it}\b', prototypes)]
+    page.lines += ['.nf', '\\fB#include <rlibreg.h>', '', *defined, prototypes + '\\fR', '.fi']
     page.head('DESCRIPTION')
     page.paragraphs(group.text)
     words = group.text + prototypes
