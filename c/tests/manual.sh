@@ -50,7 +50,7 @@ while read -r declaration; do
         { echo "$page has no '$declaration'" >&2; exit 1; }
     grep -qF "${name%(} - " "$page" || { echo "$page doesn't say what it is about" >&2; exit 1; }
     calls=$((calls + 1))
-done < <(gcc -w -fpreprocessed -E -P "$here/../rlibreg.h" | tr '\n;' ' \n' | grep -o '[a-z][a-z0-9_ *]*rlibreg_[a-z_]*(.*)$')
+done < <(gcc -w -fpreprocessed -E -P "$here/../rlibreg.h" | sed '/^#/d' | tr '\n;' ' \n' | grep -o '[a-z][a-z0-9_ *]*rlibreg_[a-z_]*(.*)$')
 want 'pages of calls' $calls "$(ls manual/rlibreg_*.3 | wc -l)"
 for name in $(grep -ohE '\brlibreg[a-z_.]*\(3\)' manual/rlibreg*.3.shown | sed 's/(3)/.3/' | sort -u); do
     [ -f "manual/$name" ] || [ ! -f manual/rlibreg.1 ] || { echo "a page names $name" >&2; exit 1; }
