@@ -111,9 +111,14 @@ soname=librlibreg.so.${version%.*}
     ln -s "$soname" librlibreg.so
 )
 
-# The driver, with where its programs begin, what C++ asks for, and what reads version scripts.
+# The driver, with where its programs begin, what C++ asks for, what reads version scripts, and the
+# kernel's headers.
 $cc $flags -g0 -c -o "$folder/rlibreg_begin.o" c/rlibreg_begin.c
 cp c/rlibreg-gcc c/rlibreg_plus.cc c/rlibreg_versions.awk "$folder/"
 ln -sf rlibreg-gcc "$folder/rlibreg-g++"
+mkdir -p "$folder/rlibreg_kernel"
+for headers in /usr/include/{,"$($cc -print-multiarch)/"}{linux,asm,asm-generic}; do
+    [ ! -d "$headers" ] || ln -sfn "$headers" "$folder/rlibreg_kernel/${headers##*/}"
+done
 echo "built in $folder: librlibreg.a, librlibreg.so, rlibreg.h, rlibreg-gcc;" \
     "$kind: rlibreg-run, rlibreg, rlibreg-tool"

@@ -63,6 +63,9 @@ add_all() {
     for name in rlibreg_begin.o rlibreg_plus.cc rlibreg_versions.awk; do
         add 644 "$2/$name" "$1/lib/rlibreg/$name"
     done
+    for name in "$2"/rlibreg_kernel/*; do
+        [ ! -L "$name" ] || add link "$(readlink "$name")" "$1/lib/rlibreg/rlibreg_kernel/${name##*/}"
+    done
     add 644 "$2/rlibreg.h" "$1/include/rlibreg.h"
     add 644 "$2/librlibreg.a" "$1/lib/librlibreg.a"
     add 644 "$2/$shared.$version" "$1/lib/$shared.$version"

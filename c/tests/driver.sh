@@ -140,6 +140,16 @@ cmp static linked
 want 'a text' "$(musl-gcc -fPIC -E conftest.c)" "$($gcc -E conftest.c)"
 want 'a question' "$(musl-gcc -print-prog-name=ld)" "$($gcc -print-prog-name=ld)"
 
+# Headers: the kernel's are found, and no other that isn't musl's.
+cat > kernel.c << 'END'
+#include <linux/fs.h>
+int sharing = FICLONE != 0;
+END
+$gcc -c kernel.c
+echo '#include <gnu/libc-version.h>' > other.c
+want "another C library's header" 'compilation terminated.
+= 1' "$(ended $gcc -c other.c | tail -n 2)"
+
 # Two libraries whose inner names are the same, and a third that has a finalizer, from a registry.
 rm -f disk
 "$built/rlibreg" format disk 2048 > /dev/null
