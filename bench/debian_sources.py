@@ -33,7 +33,7 @@ def get(folder, package):
     if not shutil.which('apt-get'):
         raise NotHad('there is no apt-get')
     environment = own_apt(folder)
-    for words in (UPDATE, ['source', '--download-only', package]):
+    for words in (UPDATE, ['source', '--tar-only', '--download-only', package]):
         ended = subprocess.run(
             ['apt-get', '-q', *words], cwd=folder, env=environment, capture_output=True, text=True)
         if ended.returncode:

@@ -36,18 +36,19 @@ everything() {
     find / -xdev -path /proc -prune -o -print | sort
 }
 
-# The sources of Lua and LPeg, zlib and bzip2, which are Debian's.
+# The sources of Lua and LPeg, zlib and bzip2, as Debian has them: the archives alone, since a mirror may
+# lack what else its index names.
 get_sources() {
     mkdir lua lua/lpeg zlib bzip2 alone
     (
         sed -n 's/^deb /deb-src /p' /etc/apt/sources.list > /etc/apt/sources.list.d/source.list
-        apt-get update && apt-get source --download-only lua5.4 lua-lpeg zlib bzip2 &&
+        apt-get update && apt-get source --tar-only --download-only lua5.4 lua-lpeg zlib bzip2 &&
             tar --strip-components=1 -C lua -xf lua5.4_*.orig.tar.gz &&
             tar --strip-components=1 -C lua/lpeg -xf lua-lpeg_*.orig.tar.gz &&
             tar --strip-components=1 -C alone -xf lua5.4_*.orig.tar.gz &&
             tar --strip-components=1 -C zlib -xf zlib_*.orig.tar.* &&
             tar --strip-components=1 -C bzip2 -xf bzip2_*.orig.tar.*
-    ) > sources.log 2>&1 || rm -r lua zlib bzip2 alone
+    ) > sources.log 2>&1 || { tail -n 2 sources.log; rm -r lua zlib bzip2 alone; }
 }
 
 by_pkg_config() {
