@@ -130,9 +130,13 @@ def not_found(why: OSError) -> ImportError:
 
 
 def loaded_from() -> str:
-    """The file that the loader has taken."""
-    with open('/proc/self/maps') as maps:
-        return next(line.split(maxsplit=5)[5].strip() for line in maps if '/librlibreg.so' in line)
+    """The file that the loader has taken, where the system says it."""
+    try:
+        with open('/proc/self/maps') as maps:
+            return next((line.split(maxsplit=5)[5].strip() for line in maps
+                         if '/librlibreg.so' in line), NAME)
+    except OSError:
+        return NAME
 
 
 def load() -> ctypes.CDLL:
