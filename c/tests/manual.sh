@@ -68,4 +68,5 @@ statuses rlibreg_format 2 3 4 301 304 306 311
 statuses rlibreg_remove 2 3 5 203 204 301 302 303 305 306 310 311 312
 statuses rlibreg_image_of 2 101 102 103 104 105 301 302 303 305 306 311 312
 statuses rlibreg_text
-echo "manual: $count refusals, each on one line of 80 columns, and $calls calls"
+[ $count = 0 ] || echo "manual: $count refusals, each on one line of 80 columns"
+echo "manual: $calls calls, each with its declaration and its statuses"
