@@ -150,6 +150,15 @@ echo '#include <gnu/libc-version.h>' > other.c
 want "another C library's header" 'compilation terminated.
 = 1' "$(ended $gcc -c other.c | tail -n 2)"
 
+# In a bare chroot there is no /proc, and so no /dev/fd.
+if unshare -rm mount -t tmpfs none /proc 2> told; then
+    rm -f libone.so
+    unshare -rm bash -c "mount -t tmpfs none /proc && $gcc -DNUMBER=1 -shared @words -o libone.so source.c"
+    want 'without /proc' 'also_one local_one one ' "$(exported libone.so)"
+else
+    echo "skipped: a machine without /proc ($(cat told))"
+fi
+
 # Two libraries whose inner names are the same, and a third that has a finalizer, from a registry.
 rm -f disk
 "$built/rlibreg" format disk 2048 > /dev/null
