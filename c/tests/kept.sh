@@ -132,7 +132,7 @@ ln "$image" second
 replaced 'a file with a second name' "$unfit"
 cp "$image" copy
 ln -sf "$PWD/copy" "$image"
-replaced 'a link' 'Too many levels of symbolic links'
+replaced 'a link' "$(error_text 40)"
 rm "$image"
 mkfifo "$image"
 replaced 'a pipe' "$unfit"
