@@ -17,7 +17,7 @@ debootstrap --variant=minbase --include=$wanted "$release" "$root" > "$root.log"
 rm "$root.log"
 mkdir "$root/rlibreg" "$root/rlibreg/c"
 cp -r docs python "$root/rlibreg/"
-cp -r c/*.sh c/*.in c/*.lua c/*.mount c/rlibreg.h c/tests "$root/rlibreg/c/"
+cp -r c/*.{sh,py,in,lua,mount} c/rlibreg.h c/tests "$root/rlibreg/c/"
 cp -rP "$built" "$root/rlibreg/c/out"
 
 cat > "$root/walk.sh" << 'END'
@@ -42,7 +42,8 @@ get_sources() {
     mkdir lua lua/lpeg zlib bzip2 alone
     (
         sed -n 's/^deb /deb-src /p' /etc/apt/sources.list > /etc/apt/sources.list.d/source.list
-        apt-get update && apt-get source --tar-only --download-only lua5.4 lua-lpeg zlib bzip2 &&
+        apt-get update && apt-get -o Acquire::Retries=9 source --tar-only --download-only \
+            lua5.4 lua-lpeg zlib bzip2 &&
             tar --strip-components=1 -C lua -xf lua5.4_*.orig.tar.gz &&
             tar --strip-components=1 -C lua/lpeg -xf lua-lpeg_*.orig.tar.gz &&
             tar --strip-components=1 -C alone -xf lua5.4_*.orig.tar.gz &&
