@@ -31,26 +31,26 @@ imported() {
 }
 name=librlibreg.so.$("$here/../version.sh" | sed 's/\.[0-9]*$//')
 calls="ImportError: rlibreg $("$here/../version.sh") calls"
-mkdir empty another
-echo > "empty/$name"
-touch "empty/librlibreg.so.0.1"
-found=$(imported "$PWD/empty")
-[[ $found == "$calls $name, "*"($PWD/empty)"*"empty/$name: "*" there is $PWD/empty/librlibreg.so.0.1, "* ]] ||
+mkdir python.empty python.another
+echo > "python.empty/$name"
+touch "python.empty/librlibreg.so.0.1"
+found=$(imported "$PWD/python.empty")
+[[ $found == "$calls $name, "*"($PWD/python.empty)"*"python.empty/$name: "*" there is $PWD/python.empty/librlibreg.so.0.1, "* ]] ||
     { echo "where the library is damaged Python says $found" >&2; exit 1; }
-echo 'unsigned rlibreg_version(void) { return 0; }' | gcc -shared -fPIC -o "another/$name" -x c -
+echo 'unsigned rlibreg_version(void) { return 0; }' | gcc -shared -fPIC -o "python.another/$name" -x c -
 want 'a library that lacks a call' \
-    "$calls a later $name, with rlibreg_status_name: the loader has taken $PWD/another/$name" \
-    "$(imported another)"
+    "$calls a later $name, with rlibreg_status_name: the loader has taken $PWD/python.another/$name" \
+    "$(imported python.another)"
 
 if python3 -c 'import setuptools, pip, sys, wheel
 sys.exit(int(setuptools.__version__.split(".")[0]) < 61)' 2> /dev/null; then
-    cp -r "$module" wheel.source
-    python3 -B -m pip -q wheel --no-index --no-build-isolation --no-deps -w wheels ./wheel.source > told 2>&1 &&
-        python3 -B -m pip -q install --no-index --no-deps --target packages wheels/*.whl > told 2>&1 ||
+    cp -r "$module" python.source
+    python3 -B -m pip -q wheel --no-index --no-build-isolation --no-deps -w python.wheels ./python.source > told 2>&1 &&
+        python3 -B -m pip -q install --no-index --no-deps --target python.packages python.wheels/*.whl > told 2>&1 ||
         { cat told >&2; exit 1; }
-    want 'the version of the wheel' "rlibreg-$("$here/../version.sh")-py3-none-any.whl" "$(ls wheels)"
-    want 'the module of the wheel' "$(ls "$module/rlibreg" | grep -v __pycache__)" "$(ls packages/rlibreg | grep -v __pycache__)"
-    PYTHONPATH=$PWD/packages:$module/tests python3 -B -m unittest test_module.Header test_module.Contents \
+    want 'the version of the wheel' "rlibreg-$("$here/../version.sh")-py3-none-any.whl" "$(ls python.wheels)"
+    want 'the module of the wheel' "$(ls "$module/rlibreg" | grep -v __pycache__)" "$(ls python.packages/rlibreg | grep -v __pycache__)"
+    PYTHONPATH=$PWD/python.packages:$module/tests python3 -B -m unittest test_module.Header test_module.Contents \
         2> told || { cat told >&2; exit 1; }
 else
     echo 'skipped: the wheel of the Python module, which pip, setuptools (61 or later) and wheel make'
