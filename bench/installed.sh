@@ -11,7 +11,7 @@ release=${2:-bookworm}
 cd "$(dirname "$0")/.."
 root=$(mktemp -d)
 trap 'rm -rf "$root"' EXIT
-wanted=bzip2,g++,libc6-dev,make,musl-tools,pkg-config,python3
+wanted=bzip2,g++,libc6-dev,make,musl-tools,pkg-config,python3,python3-pip,python3-setuptools,python3-venv,python3-wheel
 debootstrap --variant=minbase --include=$wanted "$release" "$root" > "$root.log" 2>&1 ||
     { tail "$root.log" >&2; exit 1; }
 rm "$root.log"
@@ -67,6 +67,16 @@ by_python() {
     python3 -m doctest /rlibreg/docs/PYTHON.md
     echo "docs/PYTHON.md: as written, with $(python3 --version)"
     rm disk
+}
+
+# The module alone, in an environment of its own, with the library that is installed.
+by_wheel() {
+    python3 -m venv --system-site-packages environment
+    environment/bin/pip -q install --no-index --no-build-isolation /rlibreg/python
+    environment/bin/python -m doctest /rlibreg/docs/PYTHON.md
+    environment/bin/python -c 'import rlibreg
+print("pip install:", rlibreg.__file__, rlibreg.version())'
+    rm -r disk environment /rlibreg/python/build /rlibreg/python/rlibreg.egg-info
 }
 
 # Two libraries in C++ with an object each, the second of which needs the first, and a program.
@@ -179,6 +189,7 @@ mkdir walk
 cd walk
 by_pkg_config
 by_python
+by_wheel
 /rlibreg/c/example.sh 2> /dev/null | tail -n 1
 objects
 tool
