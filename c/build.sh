@@ -13,7 +13,7 @@ cd "$(dirname "$0")/.."
 compiler=${1:-llvm}
 folder=${2:-c/out}
 cc=${CC:-gcc}
-for tool in ${cc%% *} ar readelf; do
+for tool in ${cc%% *} ar ld nm readelf; do
     if ! command -v $tool > /dev/null; then
         echo "c/build.sh: there is no $tool on this machine, and the C library can't be built" >&2
         exit 1
@@ -73,7 +73,30 @@ linked() {
     $cc $flags $hardened $linking -DOUT_OF_MEMORY="$1" -DMESSAGE="\"$3: $2\\n\"" \
         -Wl,-e,rlibreg_entry -o "$folder/$3" c/rlibreg_entry.c c/rlibreg_stack.c "${@:4}"
 }
-linked 126 'memory: Cannot allocate memory' rlibreg-run c/rlibreg_run*.c "$folder/librlibreg.a"
+
+# What the loader does before its C library is set up: it may call nothing of it, and have no address
+# in its data, since nothing is relocated.
+early='early kernel words key kept kept_file folder start debugger'
+alone='-fPIE -ffreestanding -fno-stack-protector -fno-tree-loop-distribute-patterns'
+(
+    for part in $early; do
+        $cc $flags $alone -c -o "$folder/early_$part.o" "c/rlibreg_run_$part.c"
+    done
+    cd "$folder"
+    ld -r -o early.o $(printf 'early_%s.o ' $early)
+    rm $(printf 'early_%s.o ' $early)
+    wrong=$(nm -u early.o | grep -vw -e __ehdr_start -e _DYNAMIC
+        readelf -rW early.o | awk '/^Relocation section/ {is_debug = /debug/}
+            / R_X86_64_(64|.*GOT)/ && !is_debug')
+    if [ -n "$wrong" ]; then
+        printf 'c/build.sh: what the loader does first needs:\n%s\n' "$wrong" >&2
+        exit 1
+    fi
+)
+linked 126 'memory: Cannot allocate memory' rlibreg-run -DSTARTS_EARLY -Wl,--build-id=sha1 \
+    c/rlibreg_run.c c/rlibreg_run_{base,calls,image,keep,named,objects,order,program}.c \
+    "$folder/early.o" "$folder/librlibreg.a"
+rm "$folder/early.o"
 
 # program NAME OBJECT CRATE WORD..: a program, with what its language can't ask of the system. OBJECT
 # is what `rt run` links, by which it is made where it is empty; the words are those of a run.

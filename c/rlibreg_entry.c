@@ -2,10 +2,15 @@
  * library takes memory: where it gets none it ends by a signal, or with a status of its own. So the
  * system is asked first. There is no C library yet, and nothing is relocated: no address is kept in
  * data, and no function has an array or a structure on its stack. build.sh says what OUT_OF_MEMORY
- * and MESSAGE are. */
+ * and MESSAGE are, and that the loader STARTS_EARLY, where it can. */
 #define _GNU_SOURCE
 #include "rlibreg_stack.h"
 
+#ifdef STARTS_EARLY
+#include "rlibreg_run_early.h"
+#endif
+
+#include <stdint.h>
 #include <sys/mman.h>
 #include <sys/stat.h>
 #include <sys/syscall.h>
@@ -13,15 +18,15 @@
 /* More than a start takes: some 150 KiB. */
 enum { MEMORY = 512 << 10 };
 
-void rlibreg_ask_for_memory(char **words);
+void rlibreg_begin(int64_t *stack);
 
 /* The words and rdx are for the C library's own entry. */
 __asm__(".globl rlibreg_entry\n"
         "rlibreg_entry:\n"
         "  mov %rsp, %rbp\n"
         "  mov %rdx, %rbx\n"
-        "  lea 8(%rsp), %rdi\n"
-        "  call rlibreg_ask_for_memory\n"
+        "  mov %rsp, %rdi\n"
+        "  call rlibreg_begin\n"
         "  mov %rbp, %rsp\n"
         "  mov %rbx, %rdx\n"
         "  jmp _start\n");
@@ -47,7 +52,7 @@ int rlibreg_names_errors(char **words) {
     return 0;
 }
 
-__attribute__((used)) void rlibreg_ask_for_memory(char **words) {
+static void ask_for_memory(char **words) {
     static const char message[] = MESSAGE;
     long map = ask(SYS_mmap, NULL, (void *)MEMORY, PROT_READ | PROT_WRITE);
     if (map < 0 && map > -4096) {
@@ -55,4 +60,13 @@ __attribute__((used)) void rlibreg_ask_for_memory(char **words) {
         ask(SYS_exit_group, (void *)OUT_OF_MEMORY, NULL, 0);
     }
     ask(SYS_munmap, (void *)map, (void *)MEMORY, 0);
+}
+
+/* The words stand behind their number. */
+__attribute__((used)) void rlibreg_begin(int64_t *stack) {
+    char **words = (char **)(stack + 1);
+#ifdef STARTS_EARLY
+    rlibreg_run_early((int)*stack, words);
+#endif
+    ask_for_memory(words);
 }

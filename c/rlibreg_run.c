@@ -13,14 +13,12 @@
 #include "rlibreg_run_kept.h"
 #include "rlibreg_stack.h"
 
-#include <ctype.h>
 #include <errno.h>
 #include <signal.h>
 #include <stdio.h>
 #include <stdlib.h>
 #include <string.h>
 #include <sys/auxv.h>
-#include <sys/prctl.h>
 #include <unistd.h>
 
 /* The loader takes some 24 KiB, beside what depends on its words. */
@@ -42,43 +40,23 @@ static _Noreturn void bad_words(void) {
     exit(BAD_WORDS);
 }
 
-/* Reads digits, decimal or behind 0x hexadecimal: strtoull would take a blank and a sign too. Gives
- * whether they are some. */
-static int read_base(const char *word, uint64_t *base) {
-    char *end;
-    errno = 0;
-    *base = strtoull(word, &end, strncmp(word, "0x", 2) ? 10 : 16);
-    return isdigit((unsigned char)*word) && !errno && !*end;
-}
-
-/* Reads the words before DISK, all of them. Gives whether the words are of the form that they have
- * to be. */
-static int read_options(struct program *it, struct keeping *keeping, int argc, char **argv) {
-    int option, are_good = 1;
-    opterr = 0;
-    while ((option = getopt(argc, argv, "+xb:c:v")) != -1) {
-        if (option == '?') are_good = 0;
-        if (option == 'x') it->may_be_both = 1;
-        if (option == 'v') keeping->says_more = 1;
-        if (option == 'c') keeping->path = optarg;
-        if (option != 'b') continue;
-        it->has_base = 1;
-        are_good &= read_base(optarg, &it->base);
-    }
-    return are_good && argc - optind >= 2;
-}
-
-/* Reads the words. Nothing is started where what it prints would go into the disk, and no message
- * is said that would. */
-static void read_words(struct program *it, struct keeping *keeping, int argc, char **argv) {
-    int are_good = read_options(it, keeping, argc, argv);
-    int stream = optind < argc ? rlibreg_stream_of(argv[optind]) : -1;
+/* Reads the words, and gives the place of DISK. Nothing is started where what it prints would go
+ * into that, and no message is said that would. */
+static int read_words(struct program *it, struct keeping *keeping, int argc, char **argv) {
+    int next, are_good = read_options(it, keeping, argc, argv, &next);
+    int stream = next < argc ? rlibreg_stream_of(argv[next]) : -1;
     if (stream == STDERR_FILENO) exit(are_good ? FAILED : BAD_WORDS);
     if (!are_good) bad_words();
     if (keeping->path && getauxval(AT_SECURE))
         give_up(FAILED, "-c", "not with more rights than the user's");
     errno = ETXTBSY;
-    if (stream >= 0) fail(argv[optind]);
+    if (stream >= 0) fail(argv[next]);
+    return next;
+}
+
+/* Tells standard error what is done with images. */
+static void say(const struct keeping *it, const char *what, int error) {
+    fprintf(stderr, "rlibreg-run: %s: %s\n", it->path, what ? what : strerror(error));
 }
 
 /* The disk is mapped: this signal comes where a sector of it can't be read, or the file was cut. */
@@ -104,6 +82,23 @@ static void load(struct program *it, struct keeping *keeping, const char *disk) 
     rlibreg_close(registry);
 }
 
+/* Gives the bytes of an image back, but for the names of the libraries behind them. */
+static void let_bytes_go(rlibreg_image *it) {
+    const rlibreg_object *first = &it->objects[1], *last = &it->objects[it->object_count - 1];
+    if (it->object_count > 1) {
+        uint64_t from = first->name, length = last->name + last->name_length + 1 - from;
+        memmove(it->bytes, it->bytes + from, length);
+        for (size_t i = 1; i < it->object_count; i++) it->objects[i].name -= from;
+        uint8_t *names = realloc(it->bytes, length);
+        if (names) it->bytes = names;
+    } else {
+        free(it->bytes);
+        it->bytes = NULL;
+    }
+    free(it->segments);
+    it->segments = NULL;
+}
+
 /* Binds the program, and keeps the image where that is wanted, before anything of it runs. */
 static void bind_program(struct program *it, struct keeping *keeping, const char *disk) {
     read_program(it);
@@ -112,12 +107,8 @@ static void bind_program(struct program *it, struct keeping *keeping, const char
     keep(keeping, it, disk);
     protect_program(it);
     name_kept(keeping);
-}
-
-/* Gives this process the program's name, as the kernel does. */
-static void take_name(const char *path) {
-    const char *slash = strrchr(path, '/');
-    prctl(PR_SET_NAME, slash ? slash + 1 : path);
+    free(it->bytes);
+    let_bytes_go(&it->image);
 }
 
 /* How many bytes the words and the environment take as pointers, which the program gets anew. */
@@ -130,19 +121,15 @@ static size_t pointers_in(char **words, char **environment) {
 
 int main(int argc, char **argv, char **environment) {
     struct program program = { 0 };
-    struct keeping keeping = { 0 };
-    read_words(&program, &keeping, argc, argv);
-    char **words = argv + optind + 1;
+    struct keeping keeping = { .folder = -1, .say = say };
+    int disk = read_words(&program, &keeping, argc, argv), is_taken = 0;
+    char **words = argv + disk + 1;
     rlibreg_grow_stack(STACK + pointers_in(words, environment), FAILED,
                        "rlibreg-run: the stack: Cannot allocate memory\n");
     program.path = words[0];
     open_program(&program);
-    if (!take_kept(&keeping, &program, argv[optind]))
-        bind_program(&program, &keeping, argv[optind]);
+    if (keeping.path) is_taken = take_kept(&keeping, &program, argv[disk]);
+    if (!is_taken) bind_program(&program, &keeping, argv[disk]);
     close_folder(&keeping);
-    close_program(&program);
-    take_name(program.path);
-    tell_debugger(&program);
-    rlibreg_image_free(&program.image);
     start(&program, words, environment, argv + argc + 1);
 }

@@ -15,6 +15,15 @@ enum {
 
 #define PAGE ((uint64_t)4096)
 
+/* The numbers of the standard streams are those below. */
+enum { STREAMS = 3 };
+
+/* Addresses of functions, each in code of the object that names it. */
+struct calls {
+    uint64_t *at;
+    size_t count, room;
+};
+
 struct program {
     const char *path;
     int fd;            /* its file, as long as it is read */
@@ -24,8 +33,11 @@ struct program {
     uint64_t base;         /* where it is bound */
     int has_base;          /* whether the user named that */
     int may_be_both;       /* whether memory may be written and executed at once */
-    rlibreg_image image;   /* it and its libraries, until it is started */
+    rlibreg_image image;   /* it and its libraries; objects and names of these, when it is started */
     rlibreg_object object; /* the first of the image: the program itself */
+    struct calls initializers; /* in the order in which they are called */
+    struct calls finalizers;   /* in the opposite one */
+    int is_early;              /* whether the loader's C library isn't set up */
 };
 
 /* Each of these ends the process: with FAILED, behind it what errno says; and with a status. */
@@ -34,10 +46,9 @@ _Noreturn void give_up(int status, const char *what, const char *why);
 
 /* ---- The program's file (rlibreg_run_program.c) */
 
-/* Opens it, where the user may execute it; reads all of it; and lets both go. */
+/* Opens it, where the user may execute it; and reads all of it. */
 void open_program(struct program *it);
 void read_program(struct program *it);
-void close_program(struct program *it);
 
 /* Of what the base has to be a multiple. Before the program is bound its bytes may be any, and what
  * this gives of them is good for nothing but to bind it: that says what is wrong with them. */
@@ -49,6 +60,10 @@ uint64_t unit_of(const struct program *it);
  * protected. */
 void map_program(struct program *it, rlibreg *registry, const char *disk);
 void protect_program(const struct program *it);
+
+/* Has the system give pages at once that are about to be written: one by one they take longer than
+ * the bytes. */
+void expect_bytes(uint64_t from, uint64_t length);
 
 /* The pages that nothing writes once the object is relocated. */
 struct pages {
@@ -72,9 +87,6 @@ void each_pages(const struct program *program, page_action *action, void *contex
 enum { MOST_BASES = 16 };
 #define END_OF_BASES ((uint64_t)1 << 46)
 uint64_t base_of_try(const struct program *it, int number);
-
-/* Whether the user wants the same addresses in each start, as debuggers do. */
-int has_fixed_bases(void);
 
 /* ---- The objects of the image, which the bytes of their segments say (rlibreg_run_objects.c) */
 
@@ -108,31 +120,20 @@ int has_tag(const struct dynamic *it, int64_t tag, uint64_t *value);
 size_t *order_of_libraries(const struct program *it);
 
 /* Finds what is called before the program and behind it, or refuses to start the program. */
-void find_calls(const struct program *it);
-
-/* What was found: addresses of functions, each in code of the object that names it. */
-struct calls {
-    uint64_t *at;
-    size_t count, room;
-};
-struct calls found_initializers(void);
-struct calls found_finalizers(void);
-
-/* Takes what an earlier start of the same image found: initializers, and behind them finalizers. */
-void take_calls(const uint64_t *at, size_t initializer_count, size_t finalizer_count);
-
-void call_initializers(int argc, char **argv, char **environment);
-
-/* What the program is to call at its end; null where nothing is. */
-typedef void finalizer(void);
-finalizer *finalizers_of_all(void);
+void find_calls(struct program *it);
 
 /* ---- The start (rlibreg_run_debugger.c, rlibreg_run_start.c) */
 
-void tell_debugger(const struct program *it);
+/* Tells a debugger of the objects, in a list that stays where it is; and how much room it takes. */
+size_t room_of_list(const struct program *it);
+void tell_debugger(const struct program *it, void *room, size_t length);
 
-/* The environment is the one that the program gets; the kernel's, behind which the auxiliary vector
- * stands, is where the kernel put it: what is linked into this process may have made another. */
-_Noreturn void start(const struct program *it, char **words, char **environment, char **kernels);
+/* Starts the program, whose file is still open. The environment is the one that it gets; the
+ * kernel's, behind which the auxiliary vector stands, is where the kernel put it: what is linked
+ * into this process may have made another. */
+_Noreturn void start(struct program *it, char **words, char **environment, char **kernels);
+
+/* The value that the kernel gave with a number of the auxiliary vector, or 0. */
+uint64_t auxiliary_value(char **kernels, uint64_t number);
 
 #endif

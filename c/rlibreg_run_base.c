@@ -1,18 +1,12 @@
 /* Where the loader puts a program that has no base from its user. */
 #define _GNU_SOURCE
+#include "rlibreg_run_kernel.h"
 #include "rlibreg_run.h"
 
-#include <string.h>
 #include <sys/auxv.h>
-#include <sys/personality.h>
 
 #define USUAL_BASE ((uint64_t)1 << 40)
 #define BIG_PAGE ((uint64_t)2 << 20)
-
-int has_fixed_bases(void) {
-    int how = personality(0xffffffff);
-    return how != -1 && how & ADDR_NO_RANDOMIZE;
-}
 
 /* What differs from start to start: both halves of the kernel's random bytes together, since a C
  * library takes one half for its own secrets, and who learns the base is to learn nothing of that.

@@ -1,14 +1,11 @@
 /* The initializers and finalizers of the libraries: found in their dynamic sections, before the
- * program is started, and called. */
+ * program is started. */
 #define _GNU_SOURCE
 #include "rlibreg_run.h"
 
 #include <stdio.h>
 #include <stdlib.h>
 #include <string.h>
-
-static struct calls initializers; /* in the order in which they are called */
-static struct calls finalizers;   /* in the opposite one */
 
 static void add(struct calls *calls, uint64_t address) {
     if (calls->count == calls->room) {
@@ -72,16 +69,16 @@ static void add_array(struct calls *calls, const struct source *it, int64_t tag,
     }
 }
 
-static void add_initializers(const struct program *it, size_t number) {
+static void add_initializers(struct program *it, size_t number) {
     struct source source = source_of(it, number);
-    add_function(&initializers, &source, DT_INIT, "DT_INIT");
-    add_array(&initializers, &source, DT_INIT_ARRAY, DT_INIT_ARRAYSZ, "DT_INIT_ARRAY");
+    add_function(&it->initializers, &source, DT_INIT, "DT_INIT");
+    add_array(&it->initializers, &source, DT_INIT_ARRAY, DT_INIT_ARRAYSZ, "DT_INIT_ARRAY");
 }
 
-static void add_finalizers(const struct program *it, size_t number) {
+static void add_finalizers(struct program *it, size_t number) {
     struct source source = source_of(it, number);
-    add_function(&finalizers, &source, DT_FINI, "DT_FINI");
-    add_array(&finalizers, &source, DT_FINI_ARRAY, DT_FINI_ARRAYSZ, "DT_FINI_ARRAY");
+    add_function(&it->finalizers, &source, DT_FINI, "DT_FINI");
+    add_array(&it->finalizers, &source, DT_FINI_ARRAY, DT_FINI_ARRAYSZ, "DT_FINI_ARRAY");
 }
 
 /* The library that is initialized before everything else, by DF_1_INITFIRST: as with glibc, of
@@ -96,46 +93,14 @@ static size_t first_of_all(const struct program *it) {
     return 0;
 }
 
-void find_calls(const struct program *it) {
+void find_calls(struct program *it) {
     size_t *order = order_of_libraries(it), first = first_of_all(it);
     struct source program = source_of(it, 0);
     if (first) add_initializers(it, first);
-    add_array(&initializers, &program, DT_PREINIT_ARRAY, DT_PREINIT_ARRAYSZ, "DT_PREINIT_ARRAY");
+    add_array(&it->initializers, &program, DT_PREINIT_ARRAY, DT_PREINIT_ARRAYSZ, "DT_PREINIT_ARRAY");
     for (size_t i = 0; i + 1 < it->image.object_count; i++) {
         if (order[i] != first) add_initializers(it, order[i]);
         add_finalizers(it, order[i]);
     }
     free(order);
-}
-
-struct calls found_initializers(void) {
-    return initializers;
-}
-
-struct calls found_finalizers(void) {
-    return finalizers;
-}
-
-void take_calls(const uint64_t *at, size_t initializer_count, size_t finalizer_count) {
-    for (size_t i = 0; i < initializer_count; i++) add(&initializers, at[i]);
-    for (size_t i = 0; i < finalizer_count; i++) add(&finalizers, at[initializer_count + i]);
-}
-
-/* ---- Calling them */
-
-void call_initializers(int argc, char **argv, char **environment) {
-    typedef void initializer(int, char **, char **);
-    for (size_t i = 0; i < initializers.count; i++)
-        ((initializer *)initializers.at[i])(argc, argv, environment);
-    free(initializers.at);
-}
-
-/* The program calls this. Thread-local data are its own by then, so nothing of this process's C
- * library may be used. Each finalizer is called once, even where one ends the program. */
-static void call_finalizers(void) {
-    while (finalizers.count) ((finalizer *)finalizers.at[--finalizers.count])();
-}
-
-finalizer *finalizers_of_all(void) {
-    return finalizers.count ? call_finalizers : NULL;
 }

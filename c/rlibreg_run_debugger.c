@@ -1,54 +1,99 @@
 /* Tells a debugger where the program and its libraries are: by the list of objects that it finds
  * through the dynamic section of the process's file, which is the loader's (link.h). */
 #define _GNU_SOURCE
+#include "rlibreg_run_kernel.h"
 #include "rlibreg_run.h"
 
 #include <limits.h>
 #include <link.h>
-#include <stdlib.h>
-#include <string.h>
 
-extern ElfW(Dyn) _DYNAMIC[]; /* musl's header doesn't name it */
+/* musl's header doesn't name it. */
+extern ElfW(Dyn) _DYNAMIC[] __attribute__((visibility("hidden")));
 
-static struct r_debug *list_of_objects(void) {
-    for (const ElfW(Dyn) *it = _DYNAMIC; it->d_tag != DT_NULL; it++)
-        if (it->d_tag == DT_DEBUG) return (struct r_debug *)it->d_un.d_ptr;
-    return NULL;
+/* What a debugger is told. The first three are used as long as no C library has a list. Behind the
+ * objects is the path of the program. */
+struct told {
+    struct r_debug list;
+    struct link_map loader;
+    char nameless;
+    struct link_map objects[];
+};
+
+/* Gives the length of the program's whole path, which its open file has: it is 0 where it isn't
+ * told, or there isn't so much room. */
+static size_t read_path(const struct program *it, char *to, size_t room) {
+    char link[32] = "/proc/self/fd/", *at = link + strlen(link);
+    int unit = 1;
+    while (it->fd / unit >= 10) unit *= 10;
+    for (; unit; unit /= 10) *at++ = (char)('0' + it->fd / unit % 10);
+    *at = 0;
+    int64_t length = kernel_link(link, to, room);
+    return length < 0 || (size_t)length == room ? 0 : (size_t)length;
 }
 
-/* A debugger has a breakpoint at this address, and looks at the list there. */
+size_t room_of_list(const struct program *it) {
+    char path[PATH_MAX];
+    return sizeof(struct told) + it->image.object_count * sizeof(struct link_map) +
+           read_path(it, path, sizeof path) + 1;
+}
+
+/* A debugger has a breakpoint at this address, and looks at the list there. It finds it by its name
+ * where nothing has begun yet. */
+__attribute__((noinline)) void r_debug_state(void);
+void r_debug_state(void) {
+    __asm__ volatile("");
+}
+
 static void tell_state(struct r_debug *list, int state) {
     list->r_state = state;
-    ((void (*)(void))list->r_brk)();
+    r_debug_state();
+    if (list->r_brk != (ElfW(Addr))r_debug_state) ((void (*)(void))list->r_brk)();
+}
+
+/* The list of the C library; or, as long as there is none, one of the loader alone. */
+static struct r_debug *list_of_objects(const struct program *it, struct told *room) {
+    extern const char __ehdr_start[] __attribute__((visibility("hidden")));
+    ElfW(Dyn) *entry = _DYNAMIC;
+    while (entry->d_tag != DT_NULL && entry->d_tag != DT_DEBUG) entry++;
+    if (entry->d_tag == DT_NULL) return NULL;
+    if (entry->d_un.d_ptr || !it->is_early) return (struct r_debug *)entry->d_un.d_ptr;
+    room->nameless = 0;
+    room->loader = (struct link_map){ .l_addr = (ElfW(Addr))__ehdr_start,
+                                      .l_name = &room->nameless,
+                                      .l_ld = _DYNAMIC };
+    room->list = (struct r_debug){ .r_version = 1,
+                                   .r_map = &room->loader,
+                                   .r_brk = (ElfW(Addr))r_debug_state };
+    entry->d_un.d_ptr = (ElfW(Addr))&room->list;
+    return &room->list;
 }
 
 /* The objects of the image as a debugger sees them, each behind the one before. A library has no
  * file, so its name is all that there is of it. */
-static struct link_map *objects_of(const struct program *it, const char *path,
-                                   struct link_map *last) {
-    const rlibreg_image *image = &it->image;
-    struct link_map *all = calloc(image->object_count, sizeof *all);
-    if (!all) fail("memory");
-    for (size_t i = 0; i < image->object_count; i++) {
-        const rlibreg_object *object = &image->objects[i];
-        all[i].l_addr = object->base;
-        all[i].l_name = strdup(i ? name_of(it, object) : path);
-        if (!all[i].l_name) fail("memory");
-        all[i].l_ld = (ElfW(Dyn) *)object->dynamic;
-        all[i].l_prev = i ? &all[i - 1] : last;
-        if (i) all[i - 1].l_next = &all[i];
+static void put_objects(const struct program *it, struct told *room, char *path,
+                        struct link_map *last) {
+    for (size_t i = 0; i < it->image.object_count; i++) {
+        const rlibreg_object *object = &it->image.objects[i];
+        struct link_map *own = &room->objects[i];
+        *own = (struct link_map){ .l_addr = object->base,
+                                  .l_name = i ? (char *)it->image.bytes + object->name : path,
+                                  .l_ld = (ElfW(Dyn) *)object->dynamic,
+                                  .l_prev = i ? own - 1 : last };
+        if (i) own[-1].l_next = own;
     }
-    return all;
 }
 
-void tell_debugger(const struct program *it) {
-    char path[PATH_MAX];
-    struct r_debug *list = list_of_objects();
-    if (!list || !list->r_map || !list->r_brk || !realpath(it->path, path)) return;
+void tell_debugger(const struct program *it, void *room, size_t length) {
+    struct told *told = room;
+    struct r_debug *list = list_of_objects(it, told);
+    char *path = (char *)&told->objects[it->image.object_count], *end = (char *)room + length;
+    size_t whole = read_path(it, path, (size_t)(end - path));
+    if (!list || !list->r_map || !list->r_brk || !whole) return;
+    path[whole] = 0;
     struct link_map *last = list->r_map;
     while (last->l_next) last = last->l_next;
-    struct link_map *objects = objects_of(it, path, last);
+    put_objects(it, told, path, last);
     tell_state(list, RT_ADD);
-    last->l_next = objects;
+    last->l_next = told->objects;
     tell_state(list, RT_CONSISTENT);
 }

@@ -126,7 +126,7 @@ static void refuse_both(const struct part *part, uint64_t from, uint64_t to, int
 }
 
 static void protect_run(const struct run *it) {
-    if (!mprotect((void *)it->from, it->to - it->from, it->how)) return;
+    if (it->from == it->to || !mprotect((void *)it->from, it->to - it->from, it->how)) return;
     if (it->how & PROT_EXEC && (errno == EACCES || errno == EPERM))
         fail("memory that may be executed (SELinux: allow execmem; "
              "systemd: MemoryDenyWriteExecute=no)");
@@ -199,15 +199,39 @@ static int bind_at(struct program *it, rlibreg *registry, const char *disk) {
     return 0;
 }
 
-/* Copies the bytes of a segment, page by page, but for those that are zeros: that is what the pages
- * hold, and they take no memory until something else is written. */
-static void put_segment(const rlibreg_segment *it, const uint8_t *bytes) {
+#ifndef MADV_POPULATE_WRITE /* Linux 5.14 */
+#define MADV_POPULATE_WRITE 23
+#endif
+
+void expect_bytes(uint64_t from, uint64_t length) {
+    uint64_t first = page_of(from);
+    if (length) madvise((void *)first, from + length - first, MADV_POPULATE_WRITE);
+}
+
+/* Where the page ends that has a byte of a segment, or the segment in it. */
+static uint64_t end_of_page(const rlibreg_segment *it, uint64_t at) {
+    uint64_t end = at + PAGE - (it->address + at) % PAGE;
+    return end < it->length ? end : it->length;
+}
+
+static int is_zero(const uint8_t *bytes, uint64_t length) {
     static const uint8_t zeros[PAGE];
-    uint64_t step;
-    for (uint64_t at = 0; at < it->length; at += step) {
-        step = PAGE - (it->address + at) % PAGE;
-        if (step > it->length - at) step = it->length - at;
-        if (memcmp(bytes + at, zeros, step)) memcpy((void *)(it->address + at), bytes + at, step);
+    return !memcmp(bytes, zeros, length);
+}
+
+/* Copies the bytes of a segment, but for pages of zeros: that is what the pages hold, and they take
+ * no memory until something else is written. */
+static void put_segment(const rlibreg_segment *it, const uint8_t *bytes) {
+    uint64_t end, next;
+    for (uint64_t at = 0; at < it->length; at = end) {
+        end = end_of_page(it, at);
+        if (is_zero(bytes + at, end - at)) continue;
+        for (; end < it->length; end = next) {
+            next = end_of_page(it, end);
+            if (is_zero(bytes + end, next - end)) break;
+        }
+        expect_bytes(it->address + at, end - at);
+        memcpy((void *)(it->address + at), bytes + at, end - at);
     }
 }
 

@@ -80,16 +80,16 @@ static uint64_t place_pieces(struct pieces *it, uint64_t at) {
 static struct counts counts_of(const struct keeping *it, const struct program *program,
                                const struct pieces *pieces) {
     struct counts counts = { .pieces = pieces->count, .objects = program->image.object_count };
-    counts.initializers = found_initializers().count;
-    counts.finalizers = found_finalizers().count;
+    counts.initializers = program->initializers.count;
+    counts.finalizers = program->finalizers.count;
     for (uint64_t i = 1; i < counts.objects; i++)
         counts.names += program->image.objects[i].name_length + 1;
     if (it->key.program.kind == OF_BYTES) counts.program = program->length;
     return counts;
 }
 
-static void put_calls(uint64_t *to, struct calls calls) {
-    if (calls.count) memcpy(to, calls.at, calls.count * sizeof *to);
+static void put_calls(uint64_t *to, const struct calls *calls) {
+    if (calls->count) memcpy(to, calls->at, calls->count * sizeof *to);
 }
 
 static void put_objects(const struct program *program, const struct kept_file *file) {
@@ -120,8 +120,8 @@ static void *make_beginning(const struct keeping *it, const struct program *prog
     struct kept_file file = parts_of(beginning);
     memcpy(file.pieces, pieces->at, pieces->count * sizeof *pieces->at);
     put_objects(program, &file);
-    put_calls(file.calls, found_initializers());
-    put_calls(file.calls + counts.initializers, found_finalizers());
+    put_calls(file.calls, &program->initializers);
+    put_calls(file.calls + counts.initializers, &program->finalizers);
     if (is_whole(&file)) return beginning;
     free(beginning);
     return NULL;
@@ -174,21 +174,35 @@ static void keep_file(struct keeping *it, const struct program *program, void *b
 
 void keep(struct keeping *it, const struct program *program, const char *disk) {
     struct pieces pieces = { 0 };
-    void *beginning = NULL;
     if (!it->may_keep) return;
     errno = ENOMEM;
     pieces.at = malloc(MOST_PIECES * sizeof *pieces.at);
     if (pieces.at) each_pages(program, find_pieces, &pieces);
     if (pieces.at && !pieces.is_too_many)
-        beginning = make_beginning(it, program, &pieces, disk);
-    if (beginning) keep_file(it, program, beginning);
-    if (!it->file) say_more(it, strerror(errno));
-    free(beginning);
+        it->beginning = make_beginning(it, program, &pieces, disk);
+    if (it->beginning) keep_file(it, program, it->beginning);
+    if (!it->file) say_error(it, errno);
     free(pieces.at);
 }
 
+/* Maps pages from the file where this process has them for itself. That they can be is seen first,
+ * elsewhere; where they can't it keeps its own. */
+static void share(const struct piece *it, int fd) {
+    if (!it->from) return;
+    void *map = mmap(NULL, it->length, (int)it->how, MAP_PRIVATE, fd, (off_t)it->from);
+    if (map == MAP_FAILED) return;
+    const int how = MREMAP_MAYMOVE | MREMAP_FIXED;
+    if (mremap(map, it->length, it->length, how, (void *)it->address) == MAP_FAILED) fail("memory");
+}
+
 void name_kept(struct keeping *it) {
-    if (!it->file) return;
-    say_more(it, name_file(it, it->file) ? strerror(errno) : "the image is kept");
-    close(it->file);
+    if (it->file && name_file(it, it->file)) {
+        say_error(it, errno);
+    } else if (it->file) {
+        say_more(it, "the image is kept");
+        struct kept_file file = parts_of(it->beginning);
+        for (uint64_t i = 0; i < file.head->counts.pieces; i++) share(&file.pieces[i], it->file);
+    }
+    if (it->file) close(it->file);
+    free(it->beginning);
 }

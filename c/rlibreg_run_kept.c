@@ -1,22 +1,22 @@
 /* Starting from a kept image: its pages are mapped from its file as they are, so that processes
  * share those that none of them writes. */
 #define _GNU_SOURCE
-#include "rlibreg_disk_file.h"
+#include "rlibreg_run_kernel.h"
 #include "rlibreg_run_kept.h"
 
 #include <errno.h>
 #include <fcntl.h>
-#include <stdio.h>
-#include <stdlib.h>
-#include <string.h>
 #include <sys/mman.h>
-#include <unistd.h>
 
 /* How much of a program is read at once. */
-enum { AT_ONCE = 16 << 10 };
+enum { AT_ONCE = 8 << 10 };
 
 void say_more(const struct keeping *it, const char *what) {
-    if (it->says_more) fprintf(stderr, "rlibreg-run: %s: %s\n", it->path, what);
+    if (it->says_more && it->say) it->say(it, what, 0);
+}
+
+void say_error(const struct keeping *it, int error) {
+    if (it->says_more && it->say) it->say(it, NULL, error);
 }
 
 /* ---- Which image */
@@ -27,7 +27,7 @@ static int has_bytes(const struct program *program, const uint8_t *bytes, uint64
     uint64_t step;
     for (uint64_t at = 0; at < length; at += step) {
         step = length - at < AT_ONCE ? length - at : AT_ONCE;
-        if (pread(program->fd, piece, step, (off_t)at) != (ssize_t)step ||
+        if (kernel_read(program->fd, piece, step, at) != (int64_t)step ||
             memcmp(piece, bytes + at, step))
             return 0;
     }
@@ -47,93 +47,106 @@ static int fits(const struct kept_file *it, const struct program *program, const
 /* A kernel before 4.17 gives other pages where these are taken. */
 static int map_piece(const struct piece *it, int fd) {
     int kind = MAP_PRIVATE | MAP_FIXED_NOREPLACE | (it->from ? 0 : MAP_ANONYMOUS);
-    void *map = mmap((void *)it->address, it->length, (int)it->how, kind, it->from ? fd : -1,
-                     (off_t)it->from);
-    if (map == (void *)it->address) return 0;
-    if (map == MAP_FAILED) return -1;
-    munmap(map, it->length);
-    errno = EEXIST;
-    return -1;
+    int64_t map =
+        kernel_map(it->address, it->length, (int)it->how, kind, it->from ? fd : -1, it->from);
+    if (map == (int64_t)it->address) return 0;
+    if (map < 0) return (int)map;
+    kernel_unmap((uint64_t)map, it->length);
+    return -EEXIST;
 }
 
 /* Maps all pieces, or none. */
 static int map_pieces(const struct kept_file *it, int fd) {
     for (uint64_t i = 0; i < it->head->counts.pieces; i++) {
-        if (!map_piece(&it->pieces[i], fd)) continue;
-        int why = errno;
-        while (i-- > 0) munmap((void *)it->pieces[i].address, it->pieces[i].length);
-        errno = why;
-        return -1;
+        int error = map_piece(&it->pieces[i], fd);
+        if (!error) continue;
+        while (i-- > 0) kernel_unmap(it->pieces[i].address, it->pieces[i].length);
+        return error;
     }
     return 0;
 }
 
-static void *copy_of(const void *bytes, size_t length) {
-    void *copy = malloc(length ? length : 1);
-    return copy ? memcpy(copy, bytes, length) : NULL;
-}
-
-/* What the rest of the loader asks of an image, but for the segments. */
-static int take_objects(struct program *program, const struct kept_file *it) {
+/* What the rest of the loader asks of an image, but for the segments: in the file's beginning, which
+ * stays mapped. */
+static void take_objects(struct program *program, const struct kept_file *it) {
     const struct counts *counts = &it->head->counts;
-    rlibreg_image *image = &program->image;
-    image->objects = copy_of(it->objects, counts->objects * sizeof *it->objects);
-    image->bytes = copy_of(it->names, counts->names);
-    if (!image->objects || !image->bytes) {
-        rlibreg_image_free(image);
-        return -1;
-    }
-    image->object_count = counts->objects;
-    return 0;
+    program->image.objects = it->objects;
+    program->image.object_count = counts->objects;
+    program->image.bytes = (uint8_t *)it->names;
+    program->object = it->objects[0];
+    program->base = program->object.base;
+    program->initializers = (struct calls){ .at = it->calls, .count = counts->initializers };
+    program->finalizers =
+        (struct calls){ .at = it->calls + counts->initializers, .count = counts->finalizers };
 }
 
-/* Takes an image from its file, which is mapped meanwhile: nobody cuts it once it has a name. */
+/* Takes an image from its file, which is mapped: nobody cuts it once it has a name. */
 static int take_mapped(struct keeping *it, struct program *program, int fd,
                        const struct kept_file *file) {
-    const struct counts *counts = &file->head->counts;
-    if (take_objects(program, file)) return 0;
-    if (map_pieces(file, fd)) {
-        say_more(it, strerror(errno));
-        rlibreg_image_free(&program->image);
+    int error = map_pieces(file, fd);
+    if (error) {
+        say_error(it, -error);
         it->may_keep = 0; /* another one at other addresses would come in its place */
         return 0;
     }
-    take_calls(file->calls, counts->initializers, counts->finalizers);
-    program->object = program->image.objects[0];
-    program->base = program->object.base;
+    take_objects(program, file);
     return 1;
 }
 
+/* Gives back what is mapped of a file behind so many bytes. */
+static void unmap_behind(uint64_t map, uint64_t length, uint64_t bytes) {
+    bytes = (bytes + PAGE - 1) / PAGE * PAGE;
+    if (bytes < length) kernel_unmap(map + bytes, length - bytes);
+}
+
 static int take_file(struct keeping *it, struct program *program, int fd, uint64_t length) {
-    int is_long = length >= sizeof(struct head), is_taken = 0;
-    void *map = is_long ? mmap(NULL, length, PROT_READ, MAP_PRIVATE, fd, 0) : MAP_FAILED;
+    int64_t map = -ENODATA;
+    int is_taken = 0;
     struct kept_file file = { 0 };
-    if (map != MAP_FAILED && is_head(map, length)) file = parts_of(map);
+    if (length >= sizeof(struct head)) map = kernel_map(0, length, PROT_READ, MAP_PRIVATE, fd, 0);
+    if (map >= 0 && is_head((const struct head *)map, length)) file = parts_of((void *)map);
     if (file.head && fits(&file, program, &it->key))
         is_taken = take_mapped(it, program, fd, &file);
     else
         say_more(it, "the image there is another one");
-    if (map != MAP_FAILED) munmap(map, length);
+    if (map >= 0)
+        unmap_behind((uint64_t)map, length, is_taken ? place_of_program(&file.head->counts) : 0);
     return is_taken;
 }
 
 /* ---- */
 
+static int is_same(const struct stat *one, const struct stat *other) {
+    if (S_ISBLK(one->st_mode) && S_ISBLK(other->st_mode)) return one->st_rdev == other->st_rdev;
+    return one->st_dev == other->st_dev && one->st_ino == other->st_ino;
+}
+
+/* Whether what is written to a standard stream may go into a file, or that can't be asked. */
+static int is_stream(const struct stat *file) {
+    struct stat found;
+    for (int number = 0; number < STREAMS; number++) {
+        int how = kernel_flags(number);
+        if (how < 0 ? how == -EBADF : (how & O_ACCMODE) == O_RDONLY) continue;
+        if (how < 0 || kernel_fstat(number, &found) || is_same(&found, file)) return 1;
+    }
+    return 0;
+}
+
 /* Opens a disk to read its roots, as they are. Nothing is started whose output goes into it. */
 static int open_disk(const char *disk) {
     struct stat found;
-    int fd = rlibreg_open_apart(AT_FDCWD, disk, O_RDONLY | O_CLOEXEC | O_NOCTTY | O_NONBLOCK);
-    if (fd < 0 || (!fstat(fd, &found) && rlibreg_stream_of_file(&found) < 0)) return fd;
-    close(fd);
+    int fd = kernel_open(AT_FDCWD, disk, O_RDONLY | O_CLOEXEC | O_NOCTTY | O_NONBLOCK);
+    if (fd < 0 || (!kernel_fstat(fd, &found) && !is_stream(&found))) return fd;
+    kernel_close(fd);
     return -1;
 }
 
 static int find_key(struct keeping *it, const struct program *program, const char *disk) {
     int fd = open_disk(disk);
-    int is_found = fd >= 0 && !key_of_disk(fd, &it->key);
-    if (fd >= 0) close(fd);
+    int is_found = fd >= 0 && !key_of_loader(&it->key) && !key_of_disk(fd, &it->key);
+    if (fd >= 0) kernel_close(fd);
     if (!is_found || key_of_program(program, &it->key)) {
-        say_more(it, "nothing is kept by what the system says of the disk or the program");
+        say_more(it, "nothing is kept by what is told of the disk, the program or the loader");
         return -1;
     }
     it->may_keep = is_settled(&it->key.program);
@@ -143,21 +156,20 @@ static int find_key(struct keeping *it, const struct program *program, const cha
 
 int take_kept(struct keeping *it, struct program *program, const char *disk) {
     uint64_t length;
-    it->folder = -1;
-    if (!it->path) return 0;
-    if (open_folder(it)) {
-        say_more(it, strerror(errno));
+    int error = open_folder(it);
+    if (error) {
+        say_error(it, -error);
         return 0;
     }
     if (find_key(it, program, disk)) return 0;
     give_name(it, program);
     int fd = open_kept(it, it->name, &length);
     if (fd < 0) {
-        say_more(it, errno == ENOENT ? "no image is there" : strerror(errno));
+        fd == -ENOENT ? say_more(it, "no image is there") : say_error(it, -fd);
         return 0;
     }
     int is_taken = take_file(it, program, fd, length);
-    close(fd);
+    kernel_close(fd);
     if (is_taken) say_more(it, "its image is taken");
     return is_taken;
 }

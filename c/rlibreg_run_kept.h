@@ -21,18 +21,23 @@ struct state {
 /* How the base is chosen. */
 enum { AT_RANDOM_BASE = 1, AT_FIXED_BASE, AT_NAMED_BASE };
 
+/* How many bytes of a build's id are kept, with zeros behind it; it may have as few as these. */
+enum { BUILD = 32, LEAST_BUILD = 8 };
+
 /* It has no byte that isn't a field's, so that keys are compared by their bytes. */
 struct key {
-    char boot[40]; /* the boot's id */
+    uint8_t build[BUILD]; /* the id of the loader's own build, which has the binder in it */
+    char boot[40];        /* the boot's id */
     uint8_t roots[ROOTS];
     struct state disk, program;
     uint64_t choice, base, may_be_both;
 };
 
-/* Reads the state of what is open, and the parts of the key: of the disk with the boot, and of the
- * program, its options among it. They give -1 where the system says too little to keep an image by
- * it. */
+/* Reads the state of what is open, and the parts of the key: of the loader, of the disk with the
+ * boot, and of the program, its options among it. They give -1 where that says too little to keep an
+ * image by it. */
 int state_of(int fd, struct state *it);
+int key_of_loader(struct key *key);
 int key_of_disk(int fd, struct key *key);
 int key_of_program(const struct program *program, struct key *key);
 int is_same_key(const struct key *one, const struct key *other);
@@ -56,13 +61,14 @@ struct counts {
     uint64_t names, program; /* bytes */
 };
 
-/* What each file of this form begins with. */
+/* What the file of each image begins with. */
 extern const char kept_form[16];
-enum { KIND_OF_FORM = 13 }; /* so many bytes of it are those of each form */
 
-/* The file begins with this. Behind it are, in this order, the pieces, the objects, the addresses of
- * the initializers and the finalizers, the objects' names, each with a byte 0 behind it, and the
- * program's file, if it is compared. Then, from the next page on, the pieces' pages. */
+/* The file begins with this: behind the form with the key, and that with the loader's build, so
+ * nothing further is read of a file of another build, which may be of another form. Behind it are,
+ * in this order, the pieces, the objects, the addresses of the initializers and the finalizers, the
+ * objects' names, each with a byte 0 behind it, and the program's file, if it is compared. Then,
+ * from the next page on, the pieces' pages. */
 struct head {
     char form[16];
     struct key key;
@@ -100,20 +106,40 @@ enum { NAME_ROOM = 17 };
 struct keeping {
     const char *path; /* of the folder, or null: no image is taken or kept */
     int says_more;    /* whether standard error is told what is done */
+    /* Tells it: these words, or where they are null, those of an error. Null until there is a C
+     * library. */
+    void (*say)(const struct keeping *it, const char *what, int error);
     int folder;       /* -1 where it isn't one in which images are kept */
     mode_t others;    /* the rights that the folder, the disk and the program have in common */
     int may_keep;     /* whether an image that is bound now may be kept */
     int file;         /* of an image that is whole, and has no name yet; or 0 */
+    void *beginning;  /* of that file: all but pages and program; or null */
     struct key key;
     char name[NAME_ROOM]; /* of an image of such a key */
 };
 
-/* Opens the folder, where it is the user's or root's and nobody else may write it. */
+/* Opens the folder, where it is the user's or root's and nobody else may write it. This and the next
+ * one give of an error its number, less than 0. */
 int open_folder(struct keeping *it);
 
 /* Opens the image of the name: what is asked of the folder holds for it too, and it has no other
  * name. Gives its length. */
 int open_kept(const struct keeping *it, const char *name, uint64_t *length);
+
+/* The name of images that replace each other; the number of their options, mixed with bytes. */
+void give_name(struct keeping *it, const struct program *program);
+uint64_t number_of_options(const struct key *key);
+uint64_t mixed(uint64_t number, const void *bytes, size_t length);
+
+void close_folder(struct keeping *it);
+
+/* ---- The words (rlibreg_run_words.c) */
+
+/* Reads those before DISK, all of them, and gives the place of that. Gives whether the words are of
+ * the form that they have to be. */
+int read_options(struct program *it, struct keeping *keeping, int argc, char **argv, int *next);
+
+/* ---- The files of the folder (rlibreg_run_named.c) */
 
 /* Makes a file without a name; and gives it its name, once it is whole, in the place of the one that
  * has it. */
@@ -123,27 +149,26 @@ int name_file(const struct keeping *it, int fd);
 /* Takes away the images of older keys than one's that is to be kept. */
 void drop_older(const struct keeping *it, const struct head *head);
 
-/* The name of images that replace each other, and a number for what tells them by paths. */
-void give_name(struct keeping *it, const struct program *program);
+/* A number for what tells images that replace each other by their paths. */
 uint64_t number_of_paths(const struct keeping *it, const struct program *program, const char *disk);
 
 /* ---- Taking (rlibreg_run_kept.c) and keeping (rlibreg_run_keep.c) */
 
 /* Tells standard error, where the user wants that. */
 void say_more(const struct keeping *it, const char *what);
+void say_error(const struct keeping *it, int error);
 
 /* Maps the image that is kept of a program over a disk, with all that its start needs. Gives whether
- * there was one that fits; else nothing is mapped. */
+ * there was one that fits; else nothing is mapped. The folder stays open, where it is one. */
 int take_kept(struct keeping *it, struct program *program, const char *disk);
 
 /* Whether an image of the program over this disk, which is locked and isn't bound yet, may be kept. */
 void look_at_disk(struct keeping *it, const struct program *program, int disk);
 
 /* Makes the file of the image, before its pages are protected and anything of it runs; and gives it
- * its name, once they are: what isn't started isn't kept. An error here is none of the start. */
+ * its name, once they are: what isn't started isn't kept. Then this process shares its pages too. An
+ * error here is none of the start. */
 void keep(struct keeping *it, const struct program *program, const char *disk);
 void name_kept(struct keeping *it);
-
-void close_folder(struct keeping *it);
 
 #endif

@@ -1,12 +1,12 @@
-/* The form of the file of a kept image. Who keeps it and who takes it may be of other builds of the
- * loader, and the file may be anything, so all of it is looked at before it is used. */
+/* The form of the file of a kept image. It may be anything, so all of it is looked at before it is
+ * used. */
 #define _GNU_SOURCE
+#include "rlibreg_run_kernel.h"
 #include "rlibreg_run_kept.h"
 
-#include <string.h>
 #include <sys/mman.h>
 
-const char kept_form[16] = "rlibreg kept 1\n";
+const char kept_form[16] = "rlibreg kept\n";
 
 uint64_t place_of_program(const struct counts *it) {
     return sizeof(struct head) + it->pieces * sizeof(struct piece) +

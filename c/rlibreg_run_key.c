@@ -1,17 +1,13 @@
 /* What a kept image is made of. */
 #define _GNU_SOURCE
+#include "rlibreg_run_kernel.h"
 #include "rlibreg_run_kept.h"
 
-#include <errno.h>
 #include <fcntl.h>
-#include <string.h>
+#include <link.h>
 #include <sys/ioctl.h>
-#include <sys/stat.h>
-#include <sys/syscall.h>
 #include <sys/sysmacros.h>
 #include <sys/vfs.h>
-#include <time.h>
-#include <unistd.h>
 
 #ifndef STATX_TYPE /* musl before 1.2.5 has neither the call nor its structure */
 #include <linux/stat.h>
@@ -33,7 +29,7 @@ static int has_telling_times(int fd) {
                                       0x9123683e, /* btrfs */ 0xf2f52010, /* f2fs */
                                       0x01021994 /* tmpfs */ };
     struct statfs found;
-    if (fstatfs(fd, &found)) return 0;
+    if (kernel_fstatfs(fd, &found)) return 0;
     for (size_t i = 0; i < sizeof kinds / sizeof *kinds; i++)
         if ((uint32_t)found.f_type == kinds[i]) return 1;
     return 0;
@@ -58,36 +54,75 @@ static int state_of_file(int fd, const struct statx *found, struct state *it) {
 }
 
 static int state_of_device(int fd, const struct statx *found, struct state *it) {
-    off_t length = lseek(fd, 0, SEEK_END); /* what the system says of it otherwise isn't its length */
+    int64_t length = kernel_end(fd); /* what the system says of it otherwise isn't its length */
     it->kind = OF_DEVICE;
     it->device = makedev(found->stx_rdev_major, found->stx_rdev_minor);
     it->length = (uint64_t)length;
-    return length < 0 || ioctl(fd, (int)BLKGETDISKSEQ, &it->sequence) ? -1 : 0;
+    return length < 0 || kernel_ioctl(fd, BLKGETDISKSEQ, &it->sequence) ? -1 : 0;
 }
 
 int state_of(int fd, struct state *it) {
     struct statx found;
     *it = (struct state){ 0 };
-    const unsigned wanted = STATX_BASIC_STATS | STATX_BTIME;
-    if (syscall(SYS_statx, fd, "", AT_EMPTY_PATH, wanted, &found)) return -1;
+    if (kernel_statx(fd, STATX_BASIC_STATS | STATX_BTIME, &found)) return -1;
     if (S_ISREG(found.stx_mode)) return state_of_file(fd, &found, it);
     return S_ISBLK(found.stx_mode) ? state_of_device(fd, &found, it) : -1;
 }
 
 /* ---- The key */
 
+/* Puts the build's id, where a note has it. */
+static int put_build(const char *note, uint64_t length, struct key *key) {
+    Elf64_Nhdr it;
+    static const char owner[] = ELF_NOTE_GNU;
+    if (length < sizeof it + sizeof owner) return -1;
+    memcpy(&it, note, sizeof it);
+    if (it.n_type != NT_GNU_BUILD_ID || it.n_namesz != sizeof owner ||
+        memcmp(note + sizeof it, owner, sizeof owner))
+        return -1;
+    if (it.n_descsz < LEAST_BUILD || it.n_descsz > BUILD ||
+        it.n_descsz > length - sizeof it - sizeof owner)
+        return -1;
+    memcpy(key->build, note + sizeof it + sizeof owner, it.n_descsz);
+    return 0;
+}
+
+/* Looks at the notes of a segment one by one. */
+static int find_build(const char *notes, const ElfW(Phdr) *segment, struct key *key) {
+    Elf64_Nhdr it;
+    for (uint64_t at = 0; at + sizeof it <= segment->p_memsz;) {
+        if (!put_build(notes + at, segment->p_memsz - at, key)) return 0;
+        memcpy(&it, notes + at, sizeof it);
+        const uint64_t unit = segment->p_align < 4 ? 4 : segment->p_align;
+        const uint64_t name = (sizeof it + (uint64_t)it.n_namesz + unit - 1) / unit * unit;
+        at += (name + it.n_descsz + unit - 1) / unit * unit;
+    }
+    return -1;
+}
+
+/* The linker makes it of all that it links, so nobody has to remember anything. */
+int key_of_loader(struct key *key) {
+    extern const char __ehdr_start[] __attribute__((visibility("hidden")));
+    const ElfW(Ehdr) *header = (const void *)__ehdr_start;
+    const ElfW(Phdr) *one = (const void *)(__ehdr_start + header->e_phoff);
+    memset(key->build, 0, BUILD);
+    for (int i = 0; i < header->e_phnum; i++, one++)
+        if (one->p_type == PT_NOTE && !find_build(__ehdr_start + one->p_offset, one, key)) return 0;
+    return -1;
+}
+
 static int read_boot(char boot[40]) {
-    int fd = open("/proc/sys/kernel/random/boot_id", O_RDONLY | O_CLOEXEC);
+    int fd = kernel_open(AT_FDCWD, "/proc/sys/kernel/random/boot_id", O_RDONLY | O_CLOEXEC);
     memset(boot, 0, 40);
     if (fd < 0) return -1;
-    ssize_t length = read(fd, boot, 36);
-    close(fd);
+    int64_t length = kernel_read(fd, boot, 36, 0);
+    kernel_close(fd);
     return length == 36 ? 0 : -1;
 }
 
 int key_of_disk(int fd, struct key *key) {
     if (state_of(fd, &key->disk) || read_boot(key->boot)) return -1;
-    return pread(fd, key->roots, ROOTS, 0) == ROOTS ? 0 : -1;
+    return kernel_read(fd, key->roots, ROOTS, 0) == ROOTS ? 0 : -1;
 }
 
 int key_of_program(const struct program *program, struct key *key) {
@@ -107,7 +142,7 @@ int is_same_key(const struct key *one, const struct key *other) {
 int is_settled(const struct state *it) {
     struct timespec now;
     if (it->kind != OF_FILE) return 1;
-    if (clock_gettime(CLOCK_REALTIME, &now)) return 0;
+    if (kernel_clock(&now)) return 0;
     const int64_t since = (int64_t)it->changed[0], until = (int64_t)now.tv_sec - SETTLED;
     return since < until || (since == until && it->changed[1] <= (uint64_t)now.tv_nsec);
 }

@@ -30,6 +30,7 @@ void open_program(struct program *it) {
 void read_program(struct program *it) {
     it->bytes = malloc(MOST);
     if (!it->bytes) fail("memory");
+    if (it->found.st_size < MOST) expect_bytes((uint64_t)it->bytes, (uint64_t)it->found.st_size);
     while (it->length < MOST) {
         ssize_t got = read(it->fd, it->bytes + it->length, MOST - it->length);
         if (got < 0 && errno == EINTR) continue;
@@ -37,12 +38,6 @@ void read_program(struct program *it) {
         if (!got) break;
         it->length += (size_t)got;
     }
-}
-
-void close_program(struct program *it) {
-    free(it->bytes);
-    it->bytes = NULL;
-    close(it->fd);
 }
 
 /* ---- Headers */

@@ -1,9 +1,10 @@
 /* The program's stack, the calls before it is entered, and the jump to its entry. */
 #define _GNU_SOURCE
+#include "rlibreg_run_kernel.h"
 #include "rlibreg_run.h"
 
 #include <alloca.h>
-#include <string.h>
+#include <sys/mman.h>
 
 static size_t words_in(char **list) {
     size_t count = 0;
@@ -11,9 +12,11 @@ static size_t words_in(char **list) {
     return count;
 }
 
-/* The auxiliary vector that the kernel gave this process. It stands behind the environment, out of
- * which, where AT_SECURE is set, the start of this process's C library takes variables: for each of
- * these one null more stands before the vector, which itself begins with none. */
+/* ---- The auxiliary vector */
+
+/* The one that the kernel gave this process. It stands behind the environment, out of which, where
+ * AT_SECURE is set, the start of this process's C library takes variables: for each of these one
+ * null more stands before the vector, which itself begins with none. */
 static const Elf64_auxv_t *vector_behind(char **environment) {
     while (*environment) environment++;
     while (!*environment) environment++;
@@ -25,6 +28,12 @@ static size_t entries_in(const Elf64_auxv_t *vector) {
     size_t count = 1;
     for (; vector->a_type != AT_NULL; vector++) count++;
     return count;
+}
+
+uint64_t auxiliary_value(char **kernels, uint64_t number) {
+    const Elf64_auxv_t *it = vector_behind(kernels);
+    while (it->a_type != AT_NULL && it->a_type != number) it++;
+    return it->a_type == AT_NULL ? 0 : it->a_un.a_val;
 }
 
 /* An entry as the program is to see it: what the kernel says of this loader is said of the program.
@@ -53,15 +62,49 @@ static Elf64_auxv_t entry_for(const struct program *it, Elf64_auxv_t entry) {
     return entry;
 }
 
-/* Calls the initializers and jumps to the program, with a stack that has the words, the environment
- * and the auxiliary vector. It lies below what this process has on its own stack, which goes on
- * growing down from there. */
-void start(const struct program *it, char **words, char **environment, char **kernels) {
-    size_t argc = words_in(words), variables = words_in(environment);
-    const Elf64_auxv_t *vector = vector_behind(kernels);
-    size_t entries = entries_in(vector);
-    size_t room = 8 * (1 + argc + 1 + variables + 1) + sizeof *vector * entries;
-    uint64_t *stack = (uint64_t *)(((uint64_t)alloca(room + 16) + 15) & ~(uint64_t)15), *at = stack;
+/* ---- Calls */
+
+static struct calls at_the_end;
+
+/* The program calls this. Thread-local data are its own by then, so nothing of this process's C
+ * library may be used. Each finalizer is called once, even where one ends the program. */
+static void call_finalizers(void) {
+    typedef void finalizer(void);
+    while (at_the_end.count) ((finalizer *)at_the_end.at[--at_the_end.count])();
+}
+
+static void call_initializers(const struct program *it, uint64_t *stack) {
+    typedef void initializer(int, char **, char **);
+    int argc = (int)stack[0];
+    char **words = (char **)(stack + 1);
+    for (size_t i = 0; i < it->initializers.count; i++)
+        ((initializer *)it->initializers.at[i])(argc, words, words + argc + 1);
+}
+
+/* The thread's block, which a C library would have set up: code that is compiled with
+ * -fstack-protector looks there for its secret, in libraries and in a program without a C library of
+ * its own. As others do it, that is of the kernel's random bytes, and the lowest of it a zero. */
+enum { OWN = 0, SECRET = 5, THREAD = 8 }; /* words of it */
+static void take_thread(uint64_t *block, const uint64_t *random) {
+    memset(block, 0, THREAD * sizeof *block);
+    block[OWN] = (uint64_t)block;
+    block[SECRET] = random ? *random & ~(uint64_t)0xff : 0;
+    kernel_take_thread(block);
+}
+
+/* ---- */
+
+static void take_name(const char *path) {
+    const char *name = path;
+    for (; *path; path++)
+        if (*path == '/') name = path + 1;
+    kernel_take_name(name);
+}
+
+/* Puts what the kernel puts onto the stack of a program that it enters. */
+static void fill_stack(const struct program *it, uint64_t *at, char **words, char **environment,
+                       const Elf64_auxv_t *vector) {
+    size_t argc = words_in(words), variables = words_in(environment), entries = entries_in(vector);
     *at++ = argc;
     for (size_t i = 0; i <= argc; i++) *at++ = (uint64_t)words[i];
     for (size_t i = 0; i <= variables; i++) *at++ = (uint64_t)environment[i];
@@ -70,12 +113,38 @@ void start(const struct program *it, char **words, char **environment, char **ke
         memcpy(at, &entry, sizeof entry);
         at += sizeof entry / sizeof *at;
     }
-    call_initializers((int)argc, (char **)(stack + 1), (char **)(stack + 1 + argc + 1));
+}
+
+/* Memory that stays. */
+static void *room_for(size_t bytes) {
+    int64_t map = kernel_map(0, bytes, PROT_READ | PROT_WRITE, MAP_PRIVATE | MAP_ANONYMOUS, -1, 0);
+    if (map < 0) kernel_end_process(FAILED, "rlibreg-run: memory: Cannot allocate memory\n");
+    return (void *)map;
+}
+
+/* The stack lies below what this process has on its own stack, which goes on growing down from
+ * there. */
+void start(struct program *it, char **words, char **environment, char **kernels) {
+    enum { LITTLE = 8 << 10 };
+    uint64_t thread[THREAD];
+    const Elf64_auxv_t *vector = vector_behind(kernels);
+    size_t told = room_of_list(it), pointers = words_in(words) + 1 + words_in(environment) + 1;
+    void *list = told <= LITTLE ? alloca(told) : room_for(told);
+    size_t room = 8 * (1 + pointers) + sizeof *vector * entries_in(vector);
+    uint64_t *stack = (uint64_t *)(((uint64_t)alloca(room + 16) + 15) & ~(uint64_t)15);
+    take_name(it->path);
+    tell_debugger(it, list, told);
+    kernel_close(it->fd);
+    fill_stack(it, stack, words, environment, vector);
+    if (it->finalizers.count) at_the_end = it->finalizers;
+    if (it->is_early) take_thread(thread, (const uint64_t *)auxiliary_value(kernels, AT_RANDOM));
+    call_initializers(it, stack);
     __asm__ volatile("mov %0, %%rsp\n\t"
                      "xor %%ebp, %%ebp\n\t"
                      "jmp *%1"
                      :
-                     : "r"(stack), "a"(it->object.entry), "d"(finalizers_of_all())
+                     : "r"(stack), "a"(it->object.entry),
+                       "d"(it->finalizers.count ? call_finalizers : NULL)
                      : "memory");
     __builtin_unreachable();
 }

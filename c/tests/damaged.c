@@ -46,8 +46,9 @@ static void damage(const rlibreg_image *image, size_t length) {
 }
 
 /* Whether the loader would start the program. */
-static int is_started(const struct program *it) {
+static int is_started(struct program *it) {
     if (setjmp(back)) return 0;
+    it->initializers.count = it->finalizers.count = 0;
     find_calls(it);
     for (size_t i = 0; i < it->image.object_count; i++) {
         struct pages fixed = fixed_pages(&it->image, &it->image.objects[i]);

@@ -72,6 +72,14 @@ else
     echo 'skipped: a library in C++, which needs g++'
 fi
 
+$compile -fstack-protector-all -shared -Wl,-soname,libguarded.so -o libguarded.so \
+    "$programs/guarded.c"
+./tool install disk libguarded.so > /dev/null
+$compile -fstack-protector-all -pie -Wl,-e,_start,--no-as-needed -o guards "$programs/bare.c" \
+    libguarded.so
+want 'a library and a program with a stack protector' ' guarded entered= 0' \
+    "$(ended ./rlibreg-run disk ./guards)"
+
 # number_at FILE OFFSET NUMBER: eight bytes, little endian.
 number_at() {
     local shift

@@ -22,7 +22,8 @@
     } while (0)
 
 static int is_fixed;
-int has_fixed_bases(void) {
+int __wrap_has_fixed_bases(void);
+int __wrap_has_fixed_bases(void) {
     return is_fixed;
 }
 
@@ -38,9 +39,17 @@ static void try_each_byte(void) {
         WANT(!is_same_key(&key, &other));
         other = key;
     }
-    WANT(sizeof key ==
-         sizeof key.boot + ROOTS + 2 * sizeof key.disk + 3 * sizeof(uint64_t)); /* without gaps */
+    WANT(sizeof key == BUILD + sizeof key.boot + ROOTS + 2 * sizeof key.disk +
+                           3 * sizeof(uint64_t)); /* without gaps */
     WANT(sizeof key.disk == 11 * sizeof(uint64_t));
+}
+
+/* This program is linked with the id 01 02 .. 0a. */
+static void try_loader(void) {
+    struct key key;
+    memset(&key, 9, sizeof key);
+    WANT(!key_of_loader(&key));
+    for (int i = 0; i < BUILD; i++) WANT(key.build[i] == (i < 10 ? i + 1 : 0));
 }
 
 static struct key key_of(const char *path) {
@@ -142,6 +151,28 @@ static void try_times(void) {
     state.changed[0] = (uint64_t)-1; /* before 1970 */
     WANT(is_settled(&state));
     WANT(is_settled(&(struct state){ .kind = OF_BYTES }));
+}
+
+/* ---- Bytes, by the loader's own calls (rlibreg_run_kernel.h) */
+
+void *own_copy(void *to, const void *from, size_t length) __asm__("rlibreg_kernel_copy");
+void *own_fill(void *to, int byte, size_t length) __asm__("rlibreg_kernel_fill");
+int own_compare(const void *one, const void *other, size_t length)
+    __asm__("rlibreg_kernel_compare");
+size_t own_length(const char *text) __asm__("rlibreg_kernel_length");
+
+static void try_bytes(void) {
+    static uint8_t one[300], other[300];
+    for (size_t length = 0; length < sizeof one; length++)
+        for (size_t at = 0; at <= length; at++) {
+            if (at < length) other[at] = (uint8_t)(1 + at % 255);
+            int is = own_compare(one, other, length);
+            WANT(at == length ? !is : is < 0 && own_compare(other, one, length) > 0);
+            other[at % sizeof other] = 0;
+        }
+    WANT(own_fill(one, 7, sizeof one) == one && own_copy(other + 1, one, 200) == other + 1);
+    for (size_t i = 0; i < sizeof other; i++) WANT(other[i] == (i && i <= 200 ? 7 : 0));
+    WANT(own_length("") == 0 && own_length("four") == 4);
 }
 
 /* ---- The file */
@@ -266,6 +297,8 @@ int main(int argc, char **argv) {
     static _Alignas(8) uint8_t bytes[1 << 16];
     WANT(argc == 2);
     try_each_byte();
+    try_loader();
+    try_bytes();
     try_disk(argv[1]);
     try_program(argv[1]);
     try_what_tells_too_little(argv[1]);

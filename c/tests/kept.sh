@@ -23,7 +23,7 @@ mkdir -m 700 kept
 # start WHAT SAID WANTED WORD..: what is said of the image, then what is printed, and the status.
 start() {
     want "$1" "$(printf '%s\n' "$2" | sed 's/^/rlibreg-run: kept: /')
-$3" "$(ended ./run-kept -v -c kept "${@:4}")"
+$3" "$(ended ${by:-./run-kept} -v -c kept "${@:4}")"
 }
 keeps=$'\nthe image is kept'
 none='no image is there'
@@ -45,17 +45,35 @@ for _ in 1 2 3; do start 'a start again' "$taken" "$said" disk ./chain; done
 cmp "$image" copy
 want 'binds where an image is taken' "$said" "$(BINDS=1 ended ./run-kept -c kept disk ./chain)"
 [ "$(stat -c %s "$image")" -lt 200000 ] || { echo "1.2 MB of zeros are in $image" >&2; exit 1; }
-# open_of LOADER WORD..: how many files a program has open that runs, and how many of its maps are
+# open_of COMMAND..: how many files a program has open that runs, and how many of its maps are
 # shared.
 open_of() {
-    held_by "$@" disk ./place /dev/stdin
+    held_by "$@" /dev/stdin
     until grep -q '^list$' held.out; do sleep 0.01; done # it has opened all that it opens
     ls /proc/$!/fd | wc -l
     grep -cE '^([0-3][0-9a-f]{11}|[0-9a-f]{8,11})-[0-9a-f]+ ...s' /proc/$!/maps || true
     let_go
 }
-usual=$(open_of ./run-taken)
-for _ in 1 2; do want 'what a program has' "$usual" "$(open_of ./run-kept -c kept)"; done
+usual=$(open_of ./place)
+for run in ./run-taken "./run-kept -c kept" "./run-kept -c kept" "$built/rlibreg-run -c kept"; do
+    want "what a program has by $run" "$usual" "$(open_of $run disk ./place)"
+done
+rm kept/*
+# shared: how many maps of an image are of its file.
+shared() {
+    ./run-kept -c kept disk ./place | grep -cE '^([0-3][0-9a-f]{11}|[0-9a-f]{8,11})-.*/kept/'
+}
+kept_by_it=$(shared)
+[ "$kept_by_it" -gt 2 ] || { echo "$kept_by_it maps of the file that is kept" >&2; exit 1; }
+want 'maps of the file in the next start' "$kept_by_it" "$(shared)"
+rm kept/*
+
+# What is fixed is so in the start that keeps the image too, which has its pages from the file.
+$compile -pie -Wl,-e,_start,-z,relro -o walls "$programs/walls.c"
+for said_of_it in "$none$keeps" "$taken" "$taken"; do
+    start 'pages that are fixed' "$said_of_it" 'before
+= 139' disk ./walls fixed
+done
 rm kept/*
 
 # A disk, and a program, that are changed in place with equal roots, length and time.
@@ -192,10 +210,23 @@ done
 head -c "$(stat -c %s "$image")" /dev/zero > zeros
 cat zeros > "$image"
 replaced 'a file of zeros' "$other"
-for at in 13 16 51 56 600 1079 1080; do
+for at in 13 16 47 48 83 88 600 1111 1112; do
     printf '\x7' | dd of="$image" bs=1 seek=$at conv=notrunc 2> lost
     replaced "another byte $at" "$other"
 done
+
+# Another build of the loader, which may bind otherwise, and one that doesn't tell which it is.
+by=./run-kept-other start 'the image of another build' "$other$keeps" "$changed" disk ./chain
+by=./run-kept-other start 'its own image' "$taken" "$changed" disk ./chain
+replaced 'the image of a build after it' "$other"
+./run-kept -c kept disk ./place > lost
+./run-kept-other -c kept disk ./words > lost || true
+want 'images behind a start by another build' 1 "$(ls -A kept | wc -l)"
+rm kept/*
+untold='nothing is kept by what is told of the disk, the program or the loader'
+by=./run-kept-none nothing 'a loader that tells of no build' "$untold"
+want 'what it keeps' '' "$(ls -A kept)"
+start 'an image behind it' "$none$keeps" "$changed" disk ./chain
 
 # Addresses that are taken.
 pieces=$(./run-taken disk place | low | wc -l)
@@ -257,7 +288,7 @@ mv disk.new disk
 for program in ./chain ./place; do ./run-kept -c kept disk $program > lost || true; done
 images 'a disk in the place of another' 2
 for name in kept/*; do
-    printf 'x' | dd of="$name" bs=1 seek=16 conv=notrunc 2> lost # of another boot
+    printf 'x' | dd of="$name" bs=1 seek=48 conv=notrunc 2> lost # of another boot
 done
 echo user > kept/0123456789abcdef
 ./run-kept -c kept disk ./words > lost || true
@@ -289,6 +320,30 @@ touch -r before long
 want 'that program with other bytes' "nothing is kept: the program $just
 $other" "$(now long)"
 
+# The loader as it is built: what is usual it takes before its C library is set up, which would have
+# a heap; and all the rest, once that is.
+run="$built/rlibreg-run -c kept"
+heap() {
+    "$@" | grep -c heap || true
+}
+if [ -z "$musl" ]; then
+    want 'the heap of a loader' 1 "$(heap $built/rlibreg-run disk ./place)"
+fi
+./run-kept -c kept disk ./place > lost
+want 'an image that the built loader takes' "rlibreg-run: kept: $taken" \
+    "$($run -v disk ./place 2>&1 > lost)"
+want 'a start before there is a heap' 0 "$(heap $run disk ./place)"
+want 'options before it' 0 "$(heap $built/rlibreg-run -ckept -- disk ./place)"
+./run-kept -c kept disk ./chain > lost || true
+want 'its output and status' "$changed" "$(ended $run disk ./chain)"
+want 'a start with many words' "$changed" "$(ended $run disk ./chain $(seq 3000))"
+want 'a start whose input is the disk' "$changed" "$(ended $run disk ./chain < disk)"
+for limit in 's 256' 's unlimited' 'v 12000'; do
+    want "a start with ulimit -$limit" "$changed" "$(ulimit -$limit && ended $run disk ./chain)"
+done
+want 'a disk that it writes' 'rlibreg-run: disk: Text file busy
+= 126' "$($run disk ./chain 2>&1 >> disk || echo "= $?")"
+
 # Kills, and failures, at each call by which an image is kept.
 for how in DIE FAIL; do
     for call in {1..40}; do
@@ -303,7 +358,7 @@ for how in DIE FAIL; do
 done
 # age: has the image be of another boot.
 age() {
-    printf x | dd of="$(echo kept/*)" bs=1 seek=16 conv=notrunc 2> lost
+    printf x | dd of="$(echo kept/*)" bs=1 seek=48 conv=notrunc 2> lost
 }
 age
 for call in {1..40}; do
@@ -315,19 +370,32 @@ for call in {1..40}; do
 done
 
 # Rights, streams and words.
-found=$(ended ./within secure ./run-kept -c kept disk ./chain)
-case $found in
-    "this kernel hasn't"*) echo 'skipped: images beside more rights than the user has' ;;
-    *) want 'more rights than the user has' "rlibreg-run: -c: not with more rights than the user's
-= 126" "$found" ;;
-esac
 ./run-kept -c kept disk ./place > lost
+for run in ./run-kept "$built/rlibreg-run"; do
+    found=$(ended ./within secure "$run" -c kept disk ./chain)
+    case $found in
+        "this kernel hasn't"*) echo 'skipped: images beside more rights than the user has' ;;
+        *) want 'more rights than the user has' "rlibreg-run: -c: not with more rights than the user's
+= 126" "$found" ;;
+    esac
+done
 for how in '<&-' '>&-' '2>&-' '<&- >&- 2>&-'; do
     cp disk copy
-    status=0
-    eval './run-kept -c kept disk ./chain '"$how"' > lost' || status=$?
-    want "the status with $how" 18 $status
+    for run in ./run-kept "$built/rlibreg-run"; do
+        status=0
+        eval '$run -c kept disk ./chain '"$how"' > lost' || status=$?
+        want "the status with $how" 18 $status
+    done
     cmp disk copy
+done
+mkfifo end
+for run in ./run-kept "$built/rlibreg-run"; do
+    $run -c kept disk ./place end <&- > held.out &
+    until [ -s held.out ]; do sleep 0.01; done
+    want 'an input that was closed' /dev/null "$(readlink /proc/$!/fd/0)"
+    : > end
+    wait
+    rm held.out
 done
 want 'a loader whose output is the disk' 'rlibreg-run: disk: Text file busy
 = 126' "$(./run-kept -c kept disk ./chain 2>&1 >> disk || echo "= $?")"

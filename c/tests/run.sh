@@ -70,16 +70,22 @@ done
 loader="$flags -O1 $sanitizers"
 compiled loader "$loader" "$here"/../rlibreg_run*.c "$here/../rlibreg_stack.c" $library
 gcc $loader -o "$room/rlibreg-run" "$objects"/loader/*.o "$built/librlibreg.a"
-gcc $loader -o "$room/run-taken" -Wl,--wrap=mmap,--wrap=rlibreg_bind "$here/taken.c" "$objects"/loader/*.o \
+taking=-Wl,--wrap=mmap,--wrap=kernel_map,--wrap=rlibreg_bind
+gcc $loader -o "$room/run-taken" $taking "$here/taken.c" "$objects"/loader/*.o \
     "$built/librlibreg.a"
 gcc $flags -o "$room/within" "$here/within.c"
 # The loader as it keeps images, and it in each start of the tests of the loader.
-keeping=$(printf ',--wrap=%s' mmap rlibreg_bind clock_gettime openat fchmod pwrite ftruncate linkat \
-    unlinkat)
-gcc $loader -o "$room/run-kept" -Wl$keeping "$here/keeping.c" "$here/taken.c" "$objects"/loader/*.o \
-    "$built/librlibreg.a"
-compiled kept "$checked" "$here/kept.c" "$here"/../rlibreg_run_{key,kept_file}.c
-gcc $checked -o "$room/kept-files" "$objects"/kept/*.o
+# The first says that it is the built one, the others are the same but for that: an id of another
+# build, and none.
+keeping=$taking$(printf ',--wrap=%s' kernel_clock openat fchmod pwrite ftruncate linkat unlinkat)
+build_id=0x$(readelf -nW "$built/rlibreg-run" | sed -n 's/.*Build ID: //p')
+for build in run-kept:$build_id run-kept-other:0x0123456789abcdef run-kept-none:none; do
+    gcc $loader -o "$room/${build%:*}" $keeping -Wl,--build-id=${build#*:} "$here/keeping.c" \
+        "$here/taken.c" "$objects"/loader/*.o "$built/librlibreg.a"
+done
+compiled kept "$checked" "$here/kept.c" "$here"/../rlibreg_run_{kernel,key,kept_file}.c
+gcc $checked -o "$room/kept-files" -Wl,--wrap=has_fixed_bases,--build-id=0x0102030405060708090a \
+    "$objects"/kept/*.o
 
 cd "$room"
 . "$here/want.sh"

@@ -111,7 +111,7 @@ for kibibytes in 16 64 128; do
 = 126' "$(ulimit -s $kibibytes && ended "$built/rlibreg-run" disk ./words)"
 done
 want 'a stack of 512 KiB' '= 3' \
-    "$(ulimit -s 512 && ended "$built/rlibreg-run" disk ./words $(seq 10000) | tail -1)"
+    "$(ulimit -s 512 && ended "$built/rlibreg-run" disk ./words $(seq 8000) | tail -1)"
 
 # Zeros are no memory of the program's until it writes them, and a large image is bound once.
 $compile -pie -Wl,-e,_start -o zeros "$programs/place.c" -x c - <<< 'char zeros[60 << 20];'

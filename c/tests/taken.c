@@ -1,10 +1,11 @@
-/* mmap as it is where others have the pages, and a bind that tells of itself where BINDS is set:
- * linked into the loader with --wrap=mmap and --wrap=rlibreg_bind. Of the calls of mmap that ask for
- * a place, the first FREE have it, the next TAKEN find it taken, and the others have it again. Where
- * ELSEWHERE is set those get another one, as from a kernel before 4.17. The file CUT is cut behind
- * each map of a file, and CUT_LATE before a bind. */
+/* Maps as they are where others have the pages, and a bind that tells of itself where BINDS is set:
+ * linked into the loader with --wrap=mmap, --wrap=kernel_map and --wrap=rlibreg_bind. Of the maps
+ * that ask for a place, the first FREE have it, the next TAKEN find it taken, and the others have it
+ * again. Where ELSEWHERE is set those get another one, as from a kernel before 4.17. The file CUT is
+ * cut behind each map of a file, and CUT_LATE before a bind. */
 #define _GNU_SOURCE
 #include "../rlibreg.h"
+#include "../rlibreg_run_kernel.h"
 
 #include <errno.h>
 #include <stdio.h>
@@ -23,19 +24,32 @@ static long number_of(const char *variable) {
     return getenv(variable) ? atol(getenv(variable)) : 0;
 }
 
-void *__wrap_mmap(void *at, size_t length, int how, int kind, int fd, off_t from) {
+/* Whether this map of a place finds it taken. */
+static int is_taken(int kind) {
     static long calls;
-    if (!(kind & MAP_FIXED_NOREPLACE)) {
-        void *map = __real_mmap(at, length, how, kind, fd, from);
-        cut("CUT");
-        return map;
-    }
+    if (!(kind & MAP_FIXED_NOREPLACE)) return 0;
     long call = calls++ - number_of("FREE");
-    if (call < 0 || call >= number_of("TAKEN")) return __real_mmap(at, length, how, kind, fd, from);
-    if (getenv("ELSEWHERE"))
-        return __real_mmap(NULL, length, how, kind & ~MAP_FIXED_NOREPLACE, fd, from);
-    errno = EEXIST;
-    return MAP_FAILED;
+    return call >= 0 && call < number_of("TAKEN");
+}
+
+void *__wrap_mmap(void *at, size_t length, int how, int kind, int fd, off_t from) {
+    if (is_taken(kind)) {
+        if (getenv("ELSEWHERE"))
+            return __real_mmap(NULL, length, how, kind & ~MAP_FIXED_NOREPLACE, fd, from);
+        errno = EEXIST;
+        return MAP_FAILED;
+    }
+    void *map = __real_mmap(at, length, how, kind, fd, from);
+    if (!(kind & MAP_FIXED_NOREPLACE)) cut("CUT");
+    return map;
+}
+
+int64_t __real_kernel_map(uint64_t at, uint64_t length, int how, int kind, int fd, uint64_t from);
+int64_t __wrap_kernel_map(uint64_t at, uint64_t length, int how, int kind, int fd, uint64_t from);
+int64_t __wrap_kernel_map(uint64_t at, uint64_t length, int how, int kind, int fd, uint64_t from) {
+    if (!is_taken(kind)) return __real_kernel_map(at, length, how, kind, fd, from);
+    if (!getenv("ELSEWHERE")) return -EEXIST;
+    return __real_kernel_map(0, length, how, kind & ~MAP_FIXED_NOREPLACE, fd, from);
 }
 
 uint32_t __real_rlibreg_bind(const uint8_t *disk, size_t disk_length, const uint8_t *program,

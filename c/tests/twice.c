@@ -1,7 +1,7 @@
 /* rlibreg-run as the tests of the loader start it, with images that are kept: of each start the
- * image is kept before, if it can be, and then taken twice. What the first two print goes nowhere,
- * but for what is said of the image. RUN is the loader, FOLDER has the images, and SAID gets the
- * lines. */
+ * image is kept before, if it can be, and then taken twice, the last time by the loader as it is
+ * built. What the first two print goes nowhere, but for what is said of the image. RUN is the loader
+ * that keeps them at once, BUILT the other, FOLDER has the images, and SAID gets the lines. */
 #define _GNU_SOURCE
 #include <fcntl.h>
 #include <stdlib.h>
@@ -10,7 +10,7 @@
 
 enum { MOST = 1 << 16 };
 
-static void start(char **argv, int argc, char *option) {
+static void start(const char *loader, char **argv, int argc, char *option) {
     static char *words[MOST];
     int count = 0;
     if (argc) words[count++] = argv[0];
@@ -18,7 +18,7 @@ static void start(char **argv, int argc, char *option) {
     if (argc) words[count++] = "-c", words[count++] = FOLDER;
     for (int i = 1; i < argc; i++) words[count++] = argv[i];
     words[count] = NULL;
-    execv(RUN, words);
+    execv(loader, words);
     _exit(99);
 }
 
@@ -35,12 +35,12 @@ static void start_before(char **argv, int argc, char *option) {
     dup2(option ? said : nothing, 2);
     close(nothing);
     close(said);
-    start(argv, argc, option);
+    start(RUN, argv, argc, option);
 }
 
 int main(int argc, char **argv) {
     if (argc + 4 > MOST) return 99;
     start_before(argv, argc, NULL);
     start_before(argv, argc, "-v");
-    start(argv, argc, NULL);
+    start(BUILT, argv, argc, NULL);
 }

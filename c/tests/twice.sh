@@ -3,8 +3,8 @@
 mkdir -m 700 twice twice/kept
 ln tool run-kept run-taken within twice/
 cd twice
-gcc $flags -DRUN="\"$PWD/run-kept\"" -DFOLDER="\"$PWD/kept\"" -DSAID="\"$PWD/said\"" -o rlibreg-run \
-    "$here/twice.c"
+gcc $flags -DRUN="\"$PWD/run-kept\"" -DBUILT="\"$built/rlibreg-run\"" \
+    -DFOLDER="\"$PWD/kept\"" -DSAID="\"$PWD/said\"" -o rlibreg-run "$here/twice.c"
 plain=./run-taken bases=1 debugged="$built/rlibreg-run -c ../kept"
 for part in loader starting initializers; do
     (. "$here/$part.sh")

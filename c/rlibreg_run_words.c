@@ -1,0 +1,71 @@
+/* The words of the loader. */
+#define _GNU_SOURCE
+#include "rlibreg_run_kernel.h"
+#include "rlibreg_run_kept.h"
+
+/* The number that a digit is, or 16. */
+static unsigned digit_of(char letter) {
+    if ('0' <= letter && letter <= '9') return (unsigned)(letter - '0');
+    if ('a' <= letter && letter <= 'f') return (unsigned)(letter - 'a' + 10);
+    return 'A' <= letter && letter <= 'F' ? (unsigned)(letter - 'A' + 10) : 16;
+}
+
+/* Reads digits, decimal or behind 0x hexadecimal. Gives whether they are some, of a number that
+ * there is. */
+static int read_base(const char *word, uint64_t *base) {
+    unsigned radix = word[0] == '0' && word[1] == 'x' ? 16 : 10;
+    if (radix == 16) word += 2;
+    *base = 0;
+    if (!*word) return 0;
+    for (; *word; word++) {
+        if (digit_of(*word) >= radix || *base > (UINT64_MAX - digit_of(*word)) / radix) return 0;
+        *base = *base * radix + digit_of(*word);
+    }
+    return 1;
+}
+
+/* Takes an option that has a value. Gives whether it is a good one. */
+static int take_value(struct program *it, struct keeping *keeping, char letter, const char *value) {
+    if (!value) return 0;
+    if (letter == 'c') {
+        keeping->path = value;
+        return 1;
+    }
+    it->has_base = 1;
+    return read_base(value, &it->base);
+}
+
+/* Reads the options of the word at a place, which may be several: a value is the rest of the word or
+ * the next one. Gives whether they are good, and how many words they take. */
+static int read_word(struct program *it, struct keeping *keeping, char **words, int *taken) {
+    int are_good = 1;
+    *taken = 1;
+    for (const char *at = words[0] + 1; *at; at++) {
+        if (*at == 'x') {
+            it->may_be_both = 1;
+        } else if (*at == 'v') {
+            keeping->says_more = 1;
+        } else if (*at == 'b' || *at == 'c') {
+            const char *value = at[1] ? at + 1 : words[1];
+            if (!at[1] && value) *taken = 2;
+            return take_value(it, keeping, *at, value) && are_good;
+        } else {
+            are_good = 0;
+        }
+    }
+    return are_good;
+}
+
+int read_options(struct program *it, struct keeping *keeping, int argc, char **argv, int *next) {
+    int are_good = 1, taken;
+    for (*next = 1; *next < argc; *next += taken) {
+        const char *word = argv[*next];
+        if (word[0] != '-' || !word[1]) break;
+        if (word[1] == '-' && !word[2]) {
+            *next += 1;
+            break;
+        }
+        are_good &= read_word(it, keeping, argv + *next, &taken);
+    }
+    return are_good && argc - *next >= 2;
+}
