@@ -4,7 +4,8 @@
     python3 bench/kept.py PROGRAMS [SECONDS]
 
 PROGRAMS has rlibreg and rlibreg-run (c/build.sh). Twenty loops start a program that prints which version of a
-library it has, each start with `rlibreg-run -c`; one loop puts further versions in the place of the library, at
+library it has, each start with `rlibreg-run -c`, every other one with -v too, which tells what it did, but has
+the loader's C library set up first; one loop puts further versions in the place of the library, at
 times so slowly that images are kept between, and empties the folder of images. Some starts and some changes are
 killed. What is printed has to be a version that the disk had while the start went on: none that is older than the
 last that was acknowledged before it, and none that wasn't begun. It ends with 1 where one isn't.
@@ -87,7 +88,8 @@ def change(words, library, folder, versions, choose, until):
 def start(words, versions, choose, until, counts, wrong):
     while time.time() < until:
         oldest = versions.acknowledged
-        ended = killed_at_times([*words, '-v', '-c', 'kept', 'disk', './program'], choose, 0.1)
+        tells = ['-v'] if choose.random() < 0.5 else []
+        ended = killed_at_times([*words, *tells, '-c', 'kept', 'disk', './program'], choose, 0.1)
         newest = versions.begun
         if ended is None:
             counts['killed'] += 1
@@ -95,7 +97,8 @@ def start(words, versions, choose, until, counts, wrong):
         status, output, errors = ended
         if status or len(output) != 6 or not oldest <= int(output) <= newest:
             wrong.append((oldest, newest, ended))
-        counts['taken' if b'is taken' in errors else 'kept' if b'the image is kept' in errors else 'bound'] += 1
+        told = 'taken' if b'is taken' in errors else 'kept' if b'the image is kept' in errors else 'bound'
+        counts[told if tells else 'without a word'] += 1
 
 
 def main():
@@ -116,7 +119,7 @@ def main():
         change([built / 'rlibreg'], library, folder, versions, random.Random(99), until)
         for it in threads:
             it.join()
-    told = ', '.join(f'{counts[it]:,} {it}' for it in ('taken', 'bound', 'kept', 'killed'))
+    told = ', '.join(f'{counts[it]:,} {it}' for it in ('taken', 'bound', 'kept', 'without a word', 'killed'))
     print(f'{STARTS} starts at once, {versions.begun:,} changes, {seconds:.0f} s: {told}; {len(wrong)} wrong')
     for it in wrong[:5]:
         print(it)

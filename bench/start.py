@@ -21,7 +21,7 @@ import real_builds
 from beside import kept_folder, writer
 from checks import emptied
 from disks import MIB, install, library
-from real_programs import bench_and_sources, done
+from real_programs import asked_for, done
 
 ROUNDS, STARTS, SECTORS = 3, 30, 700_000
 OTHERS = ((21, 15 * MIB), (315, MIB)) # how many, of so many bytes
@@ -76,7 +76,7 @@ def told(variant, place):
 
 
 def main():
-    bench, sources = bench_and_sources()
+    bench, sources, _ = asked_for()
     build = real_builds.lua(bench.folder / 'Lua', sources)
     made = [*bench.variants(build, bench.registry(build), 'lua')]
     with kept_folder() as kept:
