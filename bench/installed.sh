@@ -10,6 +10,7 @@ built=$(cd "$1" && pwd)
 release=${2:-bookworm}
 cd "$(dirname "$0")/.."
 root=$(mktemp -d)
+chmod 755 "$root" # else apt-get's own user can't read there who resolves names
 trap 'rm -rf "$root"' EXIT
 wanted=bzip2,g++,libc6-dev,make,musl-tools,pkg-config,python3,python3-pip,python3-setuptools,python3-venv,python3-wheel
 debootstrap --variant=minbase --include=$wanted "$release" "$root" > "$root.log" 2>&1 ||
@@ -39,17 +40,16 @@ everything() {
 # The sources of Lua and LPeg, zlib and bzip2, as Debian has them: the archives alone, since a mirror may
 # lack what else its index names.
 get_sources() {
-    mkdir lua lua/lpeg zlib bzip2 alone
+    mkdir lua lua/lpeg lua-alone zlib bzip2
     (
         sed -n 's/^deb /deb-src /p' /etc/apt/sources.list > /etc/apt/sources.list.d/source.list
-        apt-get update && apt-get -o Acquire::Retries=9 source --tar-only --download-only \
-            lua5.4 lua-lpeg zlib bzip2 &&
+        apt-get update && apt-get source --tar-only --download-only lua5.4 lua-lpeg zlib bzip2 &&
             tar --strip-components=1 -C lua -xf lua5.4_*.orig.tar.gz &&
             tar --strip-components=1 -C lua/lpeg -xf lua-lpeg_*.orig.tar.gz &&
-            tar --strip-components=1 -C alone -xf lua5.4_*.orig.tar.gz &&
+            tar --strip-components=1 -C lua-alone -xf lua5.4_*.orig.tar.gz &&
             tar --strip-components=1 -C zlib -xf zlib_*.orig.tar.* &&
             tar --strip-components=1 -C bzip2 -xf bzip2_*.orig.tar.*
-    ) > sources.log 2>&1 || { tail -n 2 sources.log; rm -r lua zlib bzip2 alone; }
+    ) > sources.log 2>&1 || { tail -n 2 sources.log; rm -r lua lua-alone zlib bzip2; }
 }
 
 by_pkg_config() {
@@ -170,13 +170,13 @@ projects() {
     [ -d ../zlib ] || { echo "left out: projects, whose sources can't be had"; return 0; }
     by_table zlib zlib
     by_table bzip2 bzip2
-    by_table Lua alone
+    by_table Lua lua-alone
     ./updater disk zlib/libz.so.1 bzip2/libbz2.so.1.0
     seq 9999 > numbers
     rlibreg-run disk zlib/minigzipsh < numbers | gzip -d | cmp - numbers
     rlibreg-run disk bzip2/bzip2-shared < numbers > packed
     python3 -c 'import bz2; assert bz2.open("packed").read() == open("numbers", "rb").read()'
-    rlibreg-run disk alone/src/lua -v
+    rlibreg-run disk lua-alone/src/lua -v
     echo 'docs/LINKING.md: zlib, bzip2 and Lua by their own commands'
 }
 

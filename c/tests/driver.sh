@@ -39,7 +39,7 @@ int one(void) { return inner(); }
 int also_one(void) { return one(); }
 int local_one(void) { return one(); }
 END
-echo '-Wl,-z,now,--version-script=two.map' > words
+echo "'-DTEXT=(a b)' -Wl,-z,now,--version-script=two.map" > words
 linkers=
 for linker in bfd gold lld; do
     command -v ld.$linker > /dev/null || continue
