@@ -6,13 +6,14 @@ a library is damaged or can't be read. Wants strace, and root for what can't be 
 
 PROGRAMS has rlibreg, rlibreg-run and rlibreg-tool (c/build.sh). A sector that tells of the registry
 is asked for once, and so is each of a file that a form needs; of no other file is anything asked
-for. The system is asked for more, since reads go ahead: how much is printed. The memory of a dump
-grows by less than 1 KiB for each library, whatever its length. Beside a library with a wrong byte,
+for. The system is asked for more, since reads go ahead: how much is printed. The memory of a dump, or
+of digests, grows by less than 1 KiB for each library, whatever its length. Beside a library with a wrong byte,
 or with sectors that can't be read (a loop device whose image has lost its end), the others are told
 as before; what each program answers is printed.
 """
 
 import collections
+import hashlib
 import os
 import re
 import subprocess
@@ -89,7 +90,8 @@ class Bench:
     def reads(self):
         self.fill([library(i, 2000 + i * 37 % 40 * 1000).file for i in range(200)])
         it = layout(self.disk.read_bytes())
-        forms = {'info': [], 'check': list(it.files), 'dump': list(it.files), 'file': [name(57)]}
+        all_of = list(it.files)
+        forms = {'info': [], 'check': all_of, 'digest': all_of, 'dump': all_of, 'file': [name(57)]}
         for form, needed in forms.items():
             words = [form, 'disk', *(needed if form == 'file' else [])]
             words = [word if isinstance(word, str) else word.decode() for word in words]
@@ -111,21 +113,24 @@ class Bench:
 
     # Memory.
 
-    def memory(self):
-        """The most memory of a dump, in bytes."""
-        words = ['/usr/bin/time', '-f', '%M', self.tool.path, 'dump', 'disk']
+    def memory(self, form):
+        """The most memory of a form, in bytes."""
+        words = ['/usr/bin/time', '-f', '%M', self.tool.path, form, 'disk']
         ended = subprocess.run(words, cwd=self.folder, check=True, stdout=subprocess.DEVNULL,
                                stderr=subprocess.PIPE)
         return int(ended.stderr) * 1024
 
     def memories(self):
         few, many = 20, 2000
-        taken = []
+        taken = collections.defaultdict(list)
         for count in (few, many):
             self.fill([library(i, 64 * 1024).file for i in range(count)])
-            taken.append(self.memory())
-            print(f'dump of {count} libraries of 64 KiB: {taken[-1] / 2**20:.1f} MiB', flush=True)
-        self.checks.want('memory of a dump', taken[1] - taken[0] < EACH * (many - few), *taken)
+            for form in ('dump', 'digest'):
+                taken[form].append(self.memory(form))
+                print(f'{form} of {count} libraries of 64 KiB: {taken[form][-1] / 2**20:.1f} MiB',
+                      flush=True)
+        for form, (least, most) in taken.items():
+            self.checks.want(f'memory of a {form}', most - least < EACH * (many - few), least, most)
 
     # Damage.
 
@@ -139,6 +144,14 @@ class Bench:
             (self.folder / f'needs-{i}').write_bytes(Made(behind=8, **words).file)
             (self.folder / f'needs-{i}').chmod(0o755)
         return layout(self.disk.read_bytes())
+
+    def digests(self, kind, disk, files, line):
+        """The digests of files, and what is said of the library that can't be read."""
+        sums = [b'%s  %s\n' % (hashlib.sha256(file).hexdigest().encode(), called)
+                for called, file in sorted(files.items())]
+        wanted = (1, b''.join(sums), b'rlibreg-tool: ' + line) if line else (0, b''.join(sums), b'')
+        ended = self.tool.run(['digest', disk])
+        self.checks.want(f'{kind}: digests', ended[:3] == wanted, ended, wanted)
 
     def answers(self, kind, disk, wrong, line, status):
         """What each form answers where one library, of the name `wrong`, is told by `line`."""
@@ -176,6 +189,9 @@ class Bench:
         disk[SECTOR * it.files[name(3)][0]] ^= 1
         self.disk.write_bytes(disk)
         self.answers('damaged', 'disk', name(3), b'damaged %s E2 BadMagic\n' % name(3), 1)
+        file = bytearray(self.files[name(3)])
+        file[0] ^= 1
+        self.digests('damaged', 'disk', {**self.files, name(3): file}, None)
 
     def unread(self):
         it = self.three()
@@ -185,7 +201,10 @@ class Bench:
         try:
             with loop(self.disk) as device:
                 os.truncate(self.disk, end)
-                self.answers('unreadable', str(device), name(3), b'unreadable %s\n' % name(3), 3)
+                line = b'unreadable %s\n' % name(3)
+                self.answers('unreadable', str(device), name(3), line, 3)
+                others = {called: self.files[called] for called in map(name, (1, 2))}
+                self.digests('unreadable', str(device), others, line)
         except NotHere as why:
             self.checks.skip("what can't be read", why)
 

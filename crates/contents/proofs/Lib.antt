@@ -1,2 +1,3 @@
 mod Files
-mod Findings
+mod LookedAt
+mod Unseen

@@ -1,3 +1,4 @@
+pub mod Digest
 pub mod File
 pub mod Info
 pub mod Finding

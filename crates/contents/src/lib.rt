@@ -2,12 +2,14 @@
 //! file only where it is asked for.
 //!
 //! `Contents::open` opens a disk of version 2 to be read alone. `file` gives a library's bytes,
-//! `info` tells of the whole, and `check` tells of each library whether it is one: a library that
-//! is damaged or can't be read keeps none of the others from being read.
+//! `info` tells of the whole, `check` tells of each library whether it is one, and `digests` gives
+//! the SHA-256 of each: a library that is damaged or can't be read keeps none of the others from
+//! being read.
 #![tactic(auto)]
 
 mod check;
 mod contents;
+mod digest;
 mod file;
 mod finding;
 mod info;

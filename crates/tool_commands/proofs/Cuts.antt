@@ -1,12 +1,10 @@
 -- What a dump ends with.
-use Rattle.std.proofs.Common.{◌≡◌, ◌<◌, ℕ, List, ◌++◌, length, Option, Some, None, get_or, refl, ap, inl, inr}
-use Rattle.std.specs.Prelude.{◌≢◌}
+use Rattle.std.proofs.Common.{◌≡◌, ◌<◌, ℕ, List, ◌++◌, length, Option, Some, None, get_or, ap, inl, inr}
 use Rattle.std.specs.List.{flat_map}
 use Rattle.sector_disk.specs.Disk.{DiskFacts}
 use Rattle.states.specs.State.{Library, State}
 use Rattle.store.specs.Stands.{no_library}
 use Rattle.contents.specs.declared.finding.Finding.TheVariants.{Unreadable}
-use Rattle.program_parts.specs.Said.{AppendsFront}
 use Rattle.program_parts.specs.declared.status.Status.{Status}
 use Rattle.tool_commands.specs.AnyDisk.{DumpTells, IsCut}
 use Rattle.tool_commands.specs.Dump.{install_text}

@@ -1,7 +1,7 @@
 pub mod Answering
 pub mod Cuts
-pub mod Findings
 pub mod Installs
+pub mod Lines
 pub mod Listing
 pub mod Outcomes
 pub mod Sent

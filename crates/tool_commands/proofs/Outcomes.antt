@@ -1,5 +1,5 @@
 -- What the forms end with: none ends as words do that are none, and what is said is apart from what is told.
-use Rattle.std.proofs.Common.{◌≡◌, ℕ, List, true, false, inl, inr, refl, sym, ap, subst, ◌∙◌, ⊎_elim, arith}
+use Rattle.std.proofs.Common.{◌≡◌, ℕ, Bool, List, Option, true, false, inl, inr, refl, sym, ap, ◌∙◌, ⊎_elim, arith}
 use Rattle.std.specs.Prelude.{◌≢◌, ◌⊎◌, if◌then◌else◌}
 use Rattle.std.specs.List.{list_all}
 use Rattle.requests.specs.Request.{Request}
@@ -13,6 +13,7 @@ use Rattle.image.specs.declared.refusal.BindRefusal.TheVariants as bind_refusal
 use Rattle.executable.specs.declared.refusal.ExecutableRefusal.{ExecutableRefusal}
 use Rattle.executable.specs.declared.refusal.ExecutableRefusal.TheVariants as executable_refusal
 use Rattle.sector_disk.specs.Disk.{DiskFacts}
+use Rattle.states.specs.State.{Library}
 use Rattle.store.specs.declared.refusal.StoreRefusal.{StoreRefusal}
 use Rattle.store.specs.declared.refusal.StoreRefusal.TheVariants as store
 use Rattle.contents.specs.declared.finding.Finding.{Finding}
@@ -27,10 +28,11 @@ use Rattle.program_parts.specs.declared.status.Status.{Status}
 use Rattle.program_parts.specs.declared.status.Status.TheVariants.{Done, Refused, BadWords, Failed, NoMemory}
 use Rattle.tool_commands.specs.AnyDisk.{FormTells, IsCut}
 use Rattle.tool_commands.specs.Check.{check_status, is_sound}
+use Rattle.tool_commands.specs.Digest.{TellsDigests, are_read}
 use Rattle.tool_commands.specs.Dump.{cut_status}
 use Rattle.tool_commands.specs.Ends.{EndsUnopened}
 use Rattle.tool_commands.specs.Executable.{TellsExecutable, executable_status}
-use Rattle.tool_commands.specs.Form.{CommandLine, Deed, Question, info, check, file, dump, tell, replace, remove, executable}
+use Rattle.tool_commands.specs.Form.{CommandLine, Deed, Question, info, check, digest, file, dump, tell, replace, remove, executable}
 use Rattle.tool_commands.specs.Outcome.{AskEnds, DeedEnds, IsApartDeed, IsSilentDeed, LineEnds, ReadEnds, TellEnds, open_status, read_status}
 use Rattle.tool_commands.specs.Request.{RequestEnds}
 use Rattle.tool_commands.specs.Streams.{Streams, IsSilent, IsUntold, SaysOnly, TellsOnly}
@@ -113,8 +115,9 @@ module _ (io : Streams) (status : Status) where
   abbrev Plain : Type 0
   Plain = ((status ≢ BadWords) × IsSilent io) ⊎ ((status ≡ Failed) ⊎ (IsFault status × IsUntold io))
 
-  -- of a script that was cut both streams have something
+  -- of a script that was cut, and of digests, both streams have something
   abbrev FormKind : Question → Type 0
+  FormKind digest = ((status ≢ BadWords) × IsSilent io) ⊎ IsFault status
   FormKind dump = ((status ≢ BadWords) × IsSilent io) ⊎ IsFault status
   FormKind question = Plain
 
@@ -143,10 +146,20 @@ module _ (io : Streams) (status : Status) where
   cut old new (inl h) = same_fault (cut_status h.0) status (cut_fault h.0 h.3) h.5
   cut old new (inr h) = same_fault NoMemory status memory_fault h.0
 
+  digested : (libraries : List Library) (digests : List (Option (List ℕ))) → TellsDigests libraries digests io status → FormKind digest
+  digested libraries digests (inr h) = inr (same_fault Failed status failed_fault h.0)
+  digested libraries digests (inl h) = by (are_read digests) h.0 h.3
+    where
+      by : (read : Bool) → status ≡ (if read then Done else Refused) → (read ≡ true → IsSilent io) → FormKind digest
+      by true is silent = inl (same_words Done status done_words is, silent refl)
+      by false is silent = inr (same_fault Refused status refused_fault is)
+
   form_kind : (old new : DiskFacts) (question : Question) → FormTells old new question io status → FormKind question
   form_kind old new info h = told Done _ done_words h.1
   form_kind old new check (inl h) = told (check_status h.1) _ (check_words h.1) h.4
   form_kind old new check (inr h) = said NoMemory _ memory_fault h
+  form_kind old new digest (inl h) = digested h.0 h.1 h.5
+  form_kind old new digest (inr h) = inr (same_fault NoMemory status memory_fault h.0)
   form_kind old new (file name) (inl h) = told Done _ done_words h.1
   form_kind old new (file name) (inr (inl h)) = said Refused _ refused_fault h
   form_kind old new (file name) (inr (inr (inl h))) = said Failed _ failed_fault h.1
@@ -158,6 +171,7 @@ module _ (io : Streams) (status : Status) where
   unopened_kind : (question : Question) (ends : Status) → IsFault ends → EndsUnopened question ends io.before io.after status → FormKind question
   unopened_kind info ends fault h = untold ends fault h.0 h.1
   unopened_kind check ends fault h = untold ends fault h.0 h.1
+  unopened_kind digest ends fault h = inr (same_fault ends status fault h.0)
   unopened_kind (file name) ends fault h = untold ends fault h.0 h.1
   unopened_kind dump ends fault (inl h) = inr (same_fault ends status fault h.0)
   unopened_kind dump ends fault (inr h) = inr (same_fault Failed status failed_fault h)
@@ -212,6 +226,7 @@ module _ (io : Streams) (status : Status) where
   kind_words : (deed : Deed) → Kind deed → status ≢ BadWords
   kind_words (tell info) h = plain_words h
   kind_words (tell check) h = plain_words h
+  kind_words (tell digest) h = ⊎_elim (λ silent. silent.0) (λ fault. fault.1) h
   kind_words (tell (file name)) h = plain_words h
   kind_words (tell dump) h = ⊎_elim (λ silent. silent.0) (λ fault. fault.1) h
   kind_words (replace path) h = plain_words h
@@ -226,6 +241,8 @@ module _ (io : Streams) (status : Status) where
   kind_silent : (deed : Deed) → IsSilentDeed deed → Kind deed → status ≡ Done → IsSilent io
   kind_silent (tell info) is h = plain_silent h
   kind_silent (tell check) is h = plain_silent h
+  kind_silent (tell digest) is (inl h) = λ done. h.1
+  kind_silent (tell digest) is (inr h) = λ done. absurd (h.0 done)
   kind_silent (tell (file name)) is h = plain_silent h
   kind_silent (tell dump) is (inl h) = λ done. h.1
   kind_silent (tell dump) is (inr h) = λ done. absurd (h.0 done)
@@ -241,6 +258,7 @@ module _ (io : Streams) (status : Status) where
   kind_apart : (deed : Deed) → IsApartDeed deed → Kind deed → status ≢ Failed → IsSilent io ⊎ IsUntold io
   kind_apart (tell info) is h = plain_apart h
   kind_apart (tell check) is h = plain_apart h
+  kind_apart (tell digest) is h = absurd is
   kind_apart (tell (file name)) is h = plain_apart h
   kind_apart (tell dump) is h = absurd is
   kind_apart (replace path) is h = plain_apart h

@@ -1,16 +1,19 @@
 -- What the forms end with on any disk, also on one that lies: a text of the form, and the status that goes with it (own).
-use Rattle.std.specs.Prelude.{◌≡◌, ◌≢◌, ◌⊎◌, ◌<◌, ℕ, List, ◌++◌, length, codes}
+use Rattle.std.specs.Prelude.{◌≡◌, ◌≢◌, ◌⊎◌, ◌<◌, ℕ, List, ◌++◌, length, codes, All, Option, count_by, is_none}
 use Rattle.std.specs.List.{flat_map}
 use Rattle.sector_disk.specs.Disk.{DiskFacts}
 use Rattle.states.specs.State.{Library}
+use Rattle.contents.specs.Digest.{IsDigestOfSome}
+use Rattle.contents.specs.Finding.{is_unreadable}
 use Rattle.contents.specs.declared.finding.Finding.{Finding}
 use Rattle.contents.specs.declared.finding.Finding.TheVariants.{Sound, Unreadable}
 use Rattle.contents.specs.declared.info.Info.{Info}
 use Rattle.program_parts.specs.declared.status.Status.{Status}
 use Rattle.program_parts.specs.declared.status.Status.TheVariants.{Done, Refused, Failed, NoMemory}
 use Rattle.tool_commands.specs.Check.{HaveFailed, check_text, check_status, finding_line}
+use Rattle.tool_commands.specs.Digest.{TellsDigests}
 use Rattle.tool_commands.specs.Dump.{cut_status, install_text, preload_text}
-use Rattle.tool_commands.specs.Form.{Question, info, check, file, dump}
+use Rattle.tool_commands.specs.Form.{Question, info, check, digest, file, dump}
 use Rattle.tool_commands.specs.Info.{info_text}
 use Rattle.tool_commands.specs.Said.{device_line, memory_line, not_installed_line, said_line}
 use Rattle.tool_commands.specs.Streams.{Streams, CannotWrite, IsSilent, Says, SaysOnly, Tells, TellsOnly}
@@ -26,8 +29,16 @@ module _ (old new : DiskFacts) where
   -- was refused
   abbrev pub CheckTells : Streams → Status → Type 0
   CheckTells io status =
-      ((libraries : List Library) × (findings : List Finding) × (length findings ≡ length libraries) × HaveFailed old new findings
+      ((libraries : List Library) × (findings : List Finding) × (length findings ≡ length libraries) × HaveFailed old new (count_by is_unreadable findings)
       × TellsOnly (check_status findings) (check_text libraries findings) io status)
+      ⊎ SaysOnly NoMemory memory_line io status
+
+  -- `digest`: the digests of some bytes, under some libraries' names, and for each that can't be read
+  -- a call failed; or memory was refused
+  abbrev pub DigestTells : Streams → Status → Type 0
+  DigestTells io status =
+      ((libraries : List Library) × (digests : List (Option (List ℕ))) × (length digests ≡ length libraries) × All IsDigestOfSome digests
+      × HaveFailed old new (count_by is_none digests) × TellsDigests libraries digests io status)
       ⊎ SaysOnly NoMemory memory_line io status
 
   -- the bytes of a library can't be read, since a call failed; or memory was refused
@@ -60,5 +71,6 @@ module _ (old new : DiskFacts) where
 abbrev pub FormTells : (old new : DiskFacts) → Question → Streams → Status → Type 0
 FormTells old new info io status = InfoTells io status
 FormTells old new check io status = CheckTells old new io status
+FormTells old new digest io status = DigestTells old new io status
 FormTells old new (file name) io status = FileTells old new io status
 FormTells old new dump io status = DumpTells old new io status

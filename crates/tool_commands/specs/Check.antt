@@ -1,24 +1,29 @@
 -- What is told of each library (own).
-use Rattle.std.specs.Prelude.{◌≡◌, ℕ, ◌+◌, ◌<◌, ◌≤◌, List, [], ◌∷◌, ◌++◌, length, slice_index_or, Bool, true, false, if◌then◌else◌, codes, count_by}
+use Rattle.std.specs.Prelude.{◌≡◌, ℕ, ◌+◌, ◌<◌, ◌≤◌, List, ◌++◌, length, slice_index_or, Bool, true, false, if◌then◌else◌, codes}
 use Rattle.std.specs.List.{list_all}
 use Rattle.std.specs.Fmt.{decimal}
 use Rattle.sector_disk.specs.Disk.{DiskFacts}
 use Rattle.states.specs.State.{Library}
 use Rattle.store.specs.Stands.{no_library}
 use Rattle.text_output.specs.Name.{name_text}
-use Rattle.contents.specs.Finding.{IsFinding, is_unreadable}
+use Rattle.contents.specs.Finding.{IsFinding}
 use Rattle.contents.specs.declared.finding.Finding.{Finding}
 use Rattle.contents.specs.declared.finding.Finding.TheVariants.{Sound, Refused, OtherName, Unreadable}
 use Rattle.program_parts.specs.Refusal.{file_refusal_text}
 use Rattle.program_parts.specs.declared.status.Status.{Status}
 use Rattle.program_parts.specs.declared.status.Status.TheVariants as status
+use Rattle.tool_commands.specs.Lines.{lines_of}
+
+-- the line of a library of this name that can't be read
+abbrev pub unreadable_line : (name : List ℕ) → List ℕ
+unreadable_line name = codes "unreadable " ++ name_text name ++ codes "\n"
 
 -- the line of a library of this name and of so many bytes, of which this was found
 abbrev pub finding_line : (name : List ℕ) (length : ℕ) → Finding → List ℕ
 finding_line name length Sound = codes "ok " ++ name_text name ++ codes " " ++ decimal length ++ codes "\n"
 finding_line name length (Refused refusal) = codes "damaged " ++ name_text name ++ codes " " ++ file_refusal_text refusal ++ codes "\n"
 finding_line name length OtherName = codes "damaged " ++ name_text name ++ codes " OtherName\n"
-finding_line name length Unreadable = codes "unreadable " ++ name_text name ++ codes "\n"
+finding_line name length Unreadable = unreadable_line name
 
 -- of a library
 abbrev pub finding_text : Library → Finding → List ℕ
@@ -26,8 +31,7 @@ finding_text l finding = finding_line l.name (length l.bytes) finding
 
 -- the lines of libraries, in their order
 abbrev pub findings_text : List Library → List Finding → List ℕ
-findings_text (l ∷ libraries) (finding ∷ findings) = finding_text l finding ++ findings_text libraries findings
-findings_text libraries findings = []
+findings_text libraries findings = lines_of finding_text libraries findings
 
 -- all of it
 abbrev pub check_text : List Library → List Finding → List ℕ
@@ -38,9 +42,9 @@ pub record AreFindings (libraries : List Library) (findings : List Finding) : Ty
   pub all : length findings ≡ length libraries
   pub each : (i : ℕ) → i < length libraries → (d : Finding) → IsFinding (slice_index_or libraries i no_library) (slice_index_or findings i d)
 
--- for each that can't be read a call of the disk failed
-abbrev pub HaveFailed : (old new : DiskFacts) → List Finding → Type 0
-HaveFailed old new findings = old.failures + count_by is_unreadable findings ≤ new.failures
+-- at least so many calls of the disk failed
+abbrev pub HaveFailed : (old new : DiskFacts) → (count : ℕ) → Type 0
+HaveFailed old new count = old.failures + count ≤ new.failures
 
 -- it is a library of its name
 abbrev pub is_sound : Finding → Bool

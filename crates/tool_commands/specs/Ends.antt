@@ -1,5 +1,5 @@
 -- What the forms end with, over a state, and what a disk ends with: what was told and said, and the status (own).
-use Rattle.std.specs.Prelude.{◌≡◌, ◌≢◌, ◌⊎◌, ◌↔◌, ◌+◌, ◌≤◌, ◌<◌, ℕ, List, All, Option, None, Ok, Err, length, slice_index_or, codes}
+use Rattle.std.specs.Prelude.{◌≡◌, ◌≢◌, ◌⊎◌, ◌↔◌, ◌+◌, ◌≤◌, ◌<◌, ℕ, List, All, Option, None, Ok, Err, length, slice_index_or, codes, count_by, is_none}
 use Rattle.extents.specs.Layout.{free_count}
 use Rattle.extents.specs.Runs.{free_runs}
 use Rattle.requests.specs.Library.{IsLibrary}
@@ -14,7 +14,7 @@ use Rattle.store.specs.Stands.{Stands, catalogues_of, no_library}
 use Rattle.store.specs.Step.{longest_free, refusal_of_new}
 use Rattle.store.specs.declared.refusal.StoreRefusal.{StoreRefusal}
 use Rattle.contents.specs.File.{HasFile}
-use Rattle.contents.specs.Finding.{IsFinding}
+use Rattle.contents.specs.Finding.{IsFinding, is_unreadable}
 use Rattle.contents.specs.declared.finding.Finding.{Finding}
 use Rattle.contents.specs.declared.finding.Finding.TheVariants.{Sound, Unreadable}
 use Rattle.program_parts.specs.Status.{disk_status}
@@ -23,8 +23,9 @@ use Rattle.program_parts.specs.declared.status.Status.{Status}
 use Rattle.program_parts.specs.declared.status.Status.TheVariants.{Done, Refused, NoMemory}
 use Rattle.tool_commands.specs.AnyDisk.{FormTells, IsUnread}
 use Rattle.tool_commands.specs.Check.{AreFindings, HaveFailed, check_text, check_status, finding_text}
+use Rattle.tool_commands.specs.Digest.{AreDigests, TellsDigests}
 use Rattle.tool_commands.specs.Dump.{cut_status, cut_text, dump_text}
-use Rattle.tool_commands.specs.Form.{Question, info, check, file, dump}
+use Rattle.tool_commands.specs.Form.{Question, info, check, digest, file, dump}
 use Rattle.tool_commands.specs.Info.{info_text}
 use Rattle.tool_commands.specs.Said.{memory_line, not_installed_line, refusal_line, said_line}
 use Rattle.tool_commands.specs.Streams.{Streams, CannotWrite, IsSilent, Says, SaysOnly, Tells, TellsOnly}
@@ -48,8 +49,16 @@ module _ (old new : DiskFacts) where
   -- memory was refused
   abbrev pub CheckEnds : State → Streams → Status → Type 0
   CheckEnds s io status =
-      ((findings : List Finding) × AreFindings s.libraries findings × HaveFailed old new findings
+      ((findings : List Finding) × AreFindings s.libraries findings × HaveFailed old new (count_by is_unreadable findings)
       × TellsOnly (check_status findings) (check_text s.libraries findings) io status)
+      ⊎ SaysOnly NoMemory memory_line io status
+
+  -- `digest`: of each library the SHA-256 of its bytes, and for each that can't be read a call
+  -- failed; or memory was refused
+  abbrev pub DigestEnds : State → Streams → Status → Type 0
+  DigestEnds s io status =
+      ((digests : List (Option (List ℕ))) × AreDigests s.libraries digests × HaveFailed old new (count_by is_none digests)
+      × TellsDigests s.libraries digests io status)
       ⊎ SaysOnly NoMemory memory_line io status
 
   -- `file`: exactly the bytes of the library of this name, or there is none; or they can't be read
@@ -79,6 +88,7 @@ module _ (old new : DiskFacts) where
 abbrev pub FormEnds : {D : Type 0} → (D → DiskFacts) → Opened D → D → State → Question → Streams → Status → Type 0
 FormEnds facts store left s info io status = InfoEnds facts store s io status
 FormEnds facts store left s check io status = CheckEnds (facts store.disk) (facts left) s io status
+FormEnds facts store left s digest io status = DigestEnds (facts store.disk) (facts left) s io status
 FormEnds facts store left s (file name) io status = FileEnds (facts store.disk) (facts left) s name io status
 FormEnds facts store left s dump io status = DumpEnds (facts store.disk) (facts left) s io status
 

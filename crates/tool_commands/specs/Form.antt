@@ -12,6 +12,7 @@ use Rattle.tool_commands.specs.declared.form.Form.TheVariants as form
 pub data Question : Type 0 where
   info : Question
   check : Question
+  digest : Question
   file : List ℕ → Question
   dump : Question
 
@@ -47,6 +48,7 @@ abbrev pub command_line : List (List ℕ) → Option CommandLine
 command_line (name ∷ words) =
     if bytes_eq name (codes "info") then of_one info words
     else if bytes_eq name (codes "check") then of_one check words
+    else if bytes_eq name (codes "digest") then of_one digest words
     else if bytes_eq name (codes "file") then of_two (λ name. tell (file name)) words
     else if bytes_eq name (codes "dump") then of_one dump words
     else if bytes_eq name (codes "replace") then of_two replace words
@@ -59,6 +61,7 @@ command_line [] = None
 abbrev pub question_of : Form → Question
 question_of form.Info = info
 question_of form.Check = check
+question_of form.Digest = digest
 question_of (form.File name) = file name.now
 question_of form.Dump = dump
 

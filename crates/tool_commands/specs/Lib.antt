@@ -1,10 +1,12 @@
 pub mod AnyDisk
 pub mod Check
+pub mod Digest
 pub mod Dump
 pub mod Ends
 pub mod Executable
 pub mod Form
 pub mod Info
+pub mod Lines
 pub mod Outcome
 pub mod Request
 pub mod Said

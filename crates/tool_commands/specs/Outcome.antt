@@ -17,7 +17,7 @@ use Rattle.program_parts.specs.declared.status.Status.{Status}
 use Rattle.program_parts.specs.declared.status.Status.TheVariants.{Refused, Failed, NoMemory}
 use Rattle.store.specs.declared.refusal.StoreRefusal.TheVariants.{BadGeometry}
 use Rattle.tool_commands.specs.Ends.{DiskEnds, EndsUnopened}
-use Rattle.tool_commands.specs.Form.{CommandLine, Deed, Question, dump, tell, replace, remove, executable}
+use Rattle.tool_commands.specs.Form.{CommandLine, Deed, Question, digest, dump, tell, replace, remove, executable}
 use Rattle.tool_commands.specs.Request.{RequestEnds}
 use Rattle.tool_commands.specs.Said.{memory_line, refusal_line}
 use Rattle.tool_commands.specs.Streams.{Streams, IsUntold}
@@ -90,7 +90,9 @@ abbrev pub IsSilentDeed : Deed → Type 0
 IsSilentDeed (executable path base) = ⊥
 IsSilentDeed deed = Unit {0}
 
--- something is said only where nothing is told, but for a script that is cut
+-- something is said only where nothing is told, but for a script that is cut, and for digests, of
+-- which some library has none
 abbrev pub IsApartDeed : Deed → Type 0
+IsApartDeed (tell digest) = ⊥
 IsApartDeed (tell dump) = ⊥
 IsApartDeed deed = IsSilentDeed deed

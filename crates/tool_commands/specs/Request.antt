@@ -1,5 +1,5 @@
 -- What a command does to a registry on a disk of which no file is read when it is opened, and what it tells (own).
-use Rattle.std.specs.Prelude.{◌≡◌, ◌≢◌, ◌⊎◌, ◌+◌, List, Ok, Err, IsTrue, length}
+use Rattle.std.specs.Prelude.{◌≡◌, ◌≢◌, ◌⊎◌, ◌+◌, Ok, Err, IsTrue, length}
 use Rattle.sector_disk.specs.Disk.{DiskFacts, Mixture, LeavesOnly, AreCallsExactly}
 use Rattle.states.specs.State.{State}
 use Rattle.store.specs.Opened.{Opened}

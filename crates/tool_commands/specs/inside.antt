@@ -1,4 +1,5 @@
 pub mod Lack
 pub mod Listed
+pub mod Sums
 pub mod Unread
 pub mod WithFile

@@ -15,6 +15,8 @@ pub enum Form<'a> {
     Info,
     /// Tells of each library whether it is one.
     Check,
+    /// Gives the digest of each library.
+    Digest,
     /// Gives the bytes of the library of this name.
     File(&'a str),
     /// Gives the script that makes the registry anew.
@@ -127,6 +129,7 @@ fn read_form<'a>(name: &str, words: &'a [String]) -> Option<Asked<'a>>
     match name {
         "info" => read_disk(Form::Info, words),
         "check" => read_disk(Form::Check, words),
+        "digest" => read_disk(Form::Digest, words),
         "file" => read_file(words),
         "dump" => read_disk(Form::Dump, words),
         "replace" => read_replace(words),

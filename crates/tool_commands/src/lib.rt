@@ -1,7 +1,8 @@
 //! What the program `rlibreg-tool` does with words and disks, for whoever links it.
 //!
-//! `run_info`, `run_check`, `run_file` and `run_dump` tell what a disk has: how much of it is free,
-//! whether its libraries are libraries, the bytes of one, and the script that makes them all anew.
+//! `run_info`, `run_check`, `run_digest`, `run_file` and `run_dump` tell what a disk has: how much
+//! of it is free, whether its libraries are libraries, their digests, the bytes of one, and the
+//! script that makes them all anew.
 //! `run_form` opens a disk, whatever it is, and does one of these; `run_request` applies a command
 //! to its registry, whatever its libraries are, and tells the reply as `Telling` says. `run_words`
 //! reads the words of a command line and opens the file that is the disk, and `run_arguments` does
@@ -12,6 +13,8 @@ mod arguments;
 mod bound;
 mod check;
 mod command;
+mod digest;
+mod digest_line;
 mod dump;
 mod file;
 mod finding;
@@ -23,12 +26,14 @@ mod request;
 mod run;
 mod said;
 mod sound;
+mod stream;
 mod telling;
 mod with_file;
 
 pub use arguments::run_arguments;
 pub use check::run_check;
 pub use command::run_words;
+pub use digest::run_digest;
 pub use dump::run_dump;
 pub use file::run_file;
 pub use form::{Action, Asked, Form, read_words};

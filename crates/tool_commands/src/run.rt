@@ -10,6 +10,7 @@ ghost use Rattle.tool_commands.specs.Ends.{DiskEnds, EndsUnopened, FormEnds};
 ghost use Rattle.tool_commands.specs.Form.{question_of};
 
 use crate::check::run_check;
+use crate::digest::run_digest;
 use crate::dump::run_dump;
 use crate::file::run_file;
 use crate::form::Form;
@@ -73,6 +74,7 @@ fn run_opened<D: Disk, O: Write, E: Write>(
     match *form {
         Form::Info => run_info(contents, output, errors),
         Form::Check => run_check(contents, alloc, output, errors),
+        Form::Digest => run_digest(contents, alloc, output, errors),
         Form::File(name) => run_file(contents, alloc, name.as_bytes(), output, errors),
         Form::Dump => run_dump(contents, alloc, output, errors),
     }

@@ -5,7 +5,7 @@ use Rattle.std.proofs.lemmas.List.{take_all}
 use Rattle.store.specs.Stands.{no_library}
 use Rattle.contents.specs.declared.finding.Finding.TheVariants.{Sound}
 use Rattle.tool_commands.specs.Check.{finding_line, finding_text, findings_text}
-use Rattle.tool_commands.proofs.Findings.{lines-more}
+use Rattle.tool_commands.proofs.Lines.{lines-more}
 use Rattle.tool_commands.proofs.Listing.{count_listed, length_listed, name_listed}
 use Rattle.tool_commands.proofs.check.put_findings.Goals as goal
 
@@ -28,7 +28,7 @@ loop-position-preserved g c ls lists =
     let size = length_listed facts store ls lists i c.length.result kept c.length.ensures.value c.length.ensures.state in
     let put = subst (λ n. Appends before after (finding_line n c.length.result f)) name c.in_ok-put_finding.ensures in
     let one = subst (λ n. Appends before after (finding_line l.name n f)) size put in
-    subst (Appends start after) (sym (lines-more ls fs i no_library Sound in_ls in_fs))
+    subst (Appends start after) (sym (lines-more finding_text ls fs i no_library Sound in_ls in_fs))
     (Appends-trans start before after (findings_text (take i ls) (take i fs)) (finding_text l f) (c.loop-position.invariant ls lists) one)
 
 pub returns : goal.returns

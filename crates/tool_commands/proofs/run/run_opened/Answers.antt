@@ -49,6 +49,26 @@ returns-in-Check-clause-told g c =
     } in
     subst (λ f. FormTells (g.D.Disk.facts c.args.contents.now.disk) (g.D.Disk.facts c.run_check.new.contents.disk) (question_of f) io c.run_check.result) (sym c.in-Check.is) c.run_check.ensures.told
 
+pub returns-in-Digest-clause-ends : goal.returns-in-Digest-clause-ends
+returns-in-Digest-clause-ends g c s at =
+    let io : Streams = record {
+      before = g.O.Write.contents c.args.output.now;
+      after = g.O.Write.contents c.run_digest.new.output;
+      errors_before = g.E.Write.contents c.args.errors.now;
+      errors_after = g.E.Write.contents c.run_digest.new.errors;
+    } in
+    subst (λ f. FormEnds g.D.Disk.facts c.args.contents.now c.run_digest.new.contents.disk s (question_of f) io c.run_digest.result) (sym c.in-Digest.is) (c.run_digest.ensures.ends s at)
+
+pub returns-in-Digest-clause-told : goal.returns-in-Digest-clause-told
+returns-in-Digest-clause-told g c =
+    let io : Streams = record {
+      before = g.O.Write.contents c.args.output.now;
+      after = g.O.Write.contents c.run_digest.new.output;
+      errors_before = g.E.Write.contents c.args.errors.now;
+      errors_after = g.E.Write.contents c.run_digest.new.errors;
+    } in
+    subst (λ f. FormTells (g.D.Disk.facts c.args.contents.now.disk) (g.D.Disk.facts c.run_digest.new.contents.disk) (question_of f) io c.run_digest.result) (sym c.in-Digest.is) c.run_digest.ensures.told
+
 pub returns-in-File-clause-ends : goal.returns-in-File-clause-ends
 returns-in-File-clause-ends g c s at =
     let io : Streams = record {

@@ -2,7 +2,9 @@ use Rattle.std.proofs.Common.{◌≡◌, ◌<◌, ◌≤◌, ◌+◌, length, sy
 use Rattle.sector_disk.proofs.Moments.{exactly_none, exactly_at_most}
 use Rattle.store.specs.Opened.{IsAt}
 use Rattle.store.proofs.IsReadLemmas.{read_none, read_more}
-use Rattle.contents.proofs.Findings.{FoundSoFar, none_found, one_found, some_calls, all_counted, all_calls}
+use Rattle.contents.specs.Finding.{IsFinding, is_unreadable}
+use Rattle.contents.proofs.LookedAt.{SeenSoFar, none_seen, one_seen, some_calls, all_counted, all_calls}
+use Rattle.contents.proofs.Unseen.{no_finding}
 use Rattle.contents.proofs.contents.Contents.check.Goals as goal
 
 pub returns-in_err-finding-clause-read : goal.returns-in_err-finding-clause-read
@@ -13,15 +15,15 @@ returns-in_err-finding-clause-calls g c =
     let lt : c.loop-position.position < length c.args.self.now.entries =
     subst (λ store. c.loop-position.position < length store.entries) c.self.view_is
     (omega (arith, c.loop-position-test.true, c.count-position-end.ensures.value)) in
-    some_calls c.check_at.new.self lt c.loop-position.invariant.0 c.check_at.ensures.calls
+    some_calls IsFinding is_unreadable c.check_at.new.self lt c.loop-position.invariant.0 c.check_at.ensures.calls
 
 pub loop-position-preserved : goal.loop-position-preserved
 loop-position-preserved g c =
     let lt : c.loop-position.position < length c.args.self.now.entries =
     subst (λ store. c.loop-position.position < length store.entries) c.self.view_is
     (omega (arith, c.loop-position-test.true, c.count-position-end.ensures.value)) in (
-      subst (FoundSoFar g.D.Disk.facts c.args.self.now c.check_at.new.self (c.loop-position.position + 1)) (sym c.push_reserved.ensures.items)
-          (one_found c.in_ok-finding.finding lt c.loop-position.invariant.0 c.check_at.ensures.read c.in_ok-finding.ensures.finding c.in_ok-finding.ensures.device c.check_at.ensures.calls),
+      subst (SeenSoFar IsFinding is_unreadable g.D.Disk.facts c.args.self.now c.check_at.new.self (c.loop-position.position + 1)) (sym c.push_reserved.ensures.items)
+          (one_seen IsFinding is_unreadable c.in_ok-finding.finding lt c.loop-position.invariant.0 c.check_at.ensures.read c.in_ok-finding.ensures.finding (λ h. c.in_ok-finding.ensures.device (no_finding c.in_ok-finding.finding h)) c.check_at.ensures.calls),
       omega (arith, c.push_reserved.ensures.len, c.loop-position.invariant.1),
       omega (arith, c.push_reserved.ensures.capacity, c.loop-position.invariant.2),
     )
@@ -39,18 +41,18 @@ returns-in_err-findings-clause-calls g c = exactly_at_most (exactly_none (g.D.Di
 
 pub loop-position-init : goal.loop-position-init
 loop-position-init g c = (
-  subst (FoundSoFar g.D.Disk.facts c.args.self.now c.args.self.now 0) (sym c.in_ok-findings.ensures.items) (none_found c.args.self.now),
+  subst (SeenSoFar IsFinding is_unreadable g.D.Disk.facts c.args.self.now c.args.self.now 0) (sym c.in_ok-findings.ensures.items) (none_seen IsFinding is_unreadable c.args.self.now),
   c.in_ok-findings.ensures.len,
   omega (arith, c.in_ok-findings.ensures.capacity, c.count.ensures.value, c.count-position-end.ensures.value),
 )
 
 pub returns-clause-all : goal.returns-clause-all
-returns-clause-all g c = all_counted c.loop-position.invariant.0
+returns-clause-all g c = all_counted IsFinding is_unreadable c.loop-position.invariant.0
     (subst (λ store. length store.entries ≡ c.loop-position.position) c.self.view_is
     (omega (arith, c.loop-position-test.false, c.loop-position.auto.position-end, c.count-position-end.ensures.value)))
 
 pub returns-clause-calls : goal.returns-clause-calls
-returns-clause-calls g c = all_calls c.loop-position.invariant.0
+returns-clause-calls g c = all_calls IsFinding is_unreadable c.loop-position.invariant.0
     (subst (λ store. length store.entries ≤ c.loop-position.position) c.self.view_is
     (omega (arith, c.loop-position-test.false, c.count-position-end.ensures.value)))
 

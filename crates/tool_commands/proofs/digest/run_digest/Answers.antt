@@ -1,0 +1,46 @@
+use Rattle.std.proofs.Common.{inl, inr, map, length, refl, ◌∙◌, ap, sym, subst}
+use Rattle.std.proofs.lemmas.List.{length-map}
+use Rattle.roots.specs.declared.version.Version.TheVariants.{Two}
+use Rattle.store.specs.Opened.{IsAt}
+use Rattle.store.proofs.Queries.{count_is}
+use Rattle.tool_commands.specs.Digest.{TellsDigests}
+use Rattle.tool_commands.specs.Streams.{Streams}
+use Rattle.tool_commands.proofs.Listing.{are_listed}
+use Rattle.tool_commands.specs.inside.Listed.{as_listed}
+use Rattle.tool_commands.proofs.digest.run_digest.Goals as goal
+
+pub returns-in-Ok-clause-ends : goal.returns-in-Ok-clause-ends
+returns-in-Ok-clause-ends g c s at =
+    let io : Streams = record {
+      before = g.O.Write.contents c.args.output.now;
+      after = g.O.Write.contents c.tell_digests.new.output;
+      errors_before = g.E.Write.contents c.args.errors.now;
+      errors_after = g.E.Write.contents c.tell_digests.new.errors;
+    } in
+    let here = subst (λ store. IsAt g.D.Disk.facts store s) (sym c.store.ensures) (c.digests.ensures.read.same s at) in
+    inl (
+      c.in-Ok.digests.items,
+      record { all = c.in-Ok.ensures.all ∙ count_is g.D.Disk.facts Two c.args.contents.now s (g.met.D.Disk.holds_now _) at; each = c.in-Ok.ensures.digests s at },
+      c.in-Ok.ensures.device,
+      subst (λ l. TellsDigests s.libraries l io c.tell_digests.result) c.deref.ensures.value (c.tell_digests.ensures s.libraries (inl (s, here, refl))),
+    )
+
+pub returns-in-Ok-clause-told : goal.returns-in-Ok-clause-told
+returns-in-Ok-clause-told g c =
+    let io : Streams = record {
+      before = g.O.Write.contents c.args.output.now;
+      after = g.O.Write.contents c.tell_digests.new.output;
+      errors_before = g.E.Write.contents c.args.errors.now;
+      errors_after = g.E.Write.contents c.tell_digests.new.errors;
+    } in
+    let entries = c.store.result.now.entries in
+    let libraries = map as_listed entries in
+    let kept = c.in-Ok.ensures.all ∙ ap (λ e. length e) (sym c.digests.ensures.read.entries ∙ ap (λ store. store.entries) (sym c.store.ensures)) in
+    inl (
+      libraries,
+      c.in-Ok.digests.items,
+      kept ∙ sym (length-map entries as_listed),
+      c.in-Ok.ensures.some,
+      c.in-Ok.ensures.device,
+      subst (λ l. TellsDigests libraries l io c.tell_digests.result) c.deref.ensures.value (c.tell_digests.ensures libraries (inr (are_listed entries))),
+    )

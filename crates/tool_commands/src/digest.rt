@@ -1,0 +1,182 @@
+// The digests of the libraries.
+
+ghost use Rattle.std.specs.Prelude.{◌≡◌, List, IfSome, OnOk, length, true};
+ghost use Rattle.std.specs.Io.KnownBytes.{Appends};
+ghost use Rattle.states.specs.State.{Library, State};
+ghost use Rattle.store.specs.IsRead.{IsRead};
+ghost use Rattle.store.specs.Opened.{IsAt};
+ghost use Rattle.program_parts.specs.Said.{AppendsFront};
+ghost use Rattle.text_output.specs.Sends.{Sends};
+ghost use Rattle.tool_commands.specs.AnyDisk.{DigestTells};
+ghost use Rattle.tool_commands.specs.Digest.{TellsDigests, are_read, digest_status, digests_text};
+ghost use Rattle.tool_commands.specs.Digest.{unread_text};
+ghost use Rattle.tool_commands.specs.Ends.{DigestEnds};
+ghost use Rattle.tool_commands.specs.inside.Listed.{Lists};
+ghost use Rattle.tool_commands.specs.inside.Sums.{stream_text};
+
+use crate::digest_line::put_stream_line;
+use crate::finding::Line;
+use crate::said::{cannot_write, say_refusal};
+use crate::stream::Stream;
+use contents::Contents;
+use program_parts::{Status, say};
+use sector_disk::Disk;
+use std::alloc::Global;
+use std::io::Write;
+use store::{Store, StoreRefusal};
+use text_output::WriteFault;
+
+/// What goes to a stream of each library, in their order.
+fn put_stream<D: Disk, W: Write>(
+    store: &Store<D>,
+    digests: &[Option<[u8; 32]>],
+    stream: Stream,
+    line: &mut Line,
+    out: &mut W,
+) -> Result<(), WriteFault>
+    requires { length digests.now ≡ length store.now.entries }
+    ensures { (libraries : List Library) → Lists D.facts store.now libraries → OnOk result
+        (Sends (W.contents out.old) line.old (W.contents out.new) line.new
+        (stream_text stream libraries digests.now)) }
+{
+    for position in 0..store.count() {
+        put_stream_line(stream, line, out, store.name(position), &digests[position])?;
+    }
+    Ok(())
+}
+
+/// Writes what goes to a stream.
+fn write_stream<D: Disk, W: Write>(
+    store: &Store<D>,
+    digests: &[Option<[u8; 32]>],
+    stream: Stream,
+    out: &mut W,
+) -> Result<(), WriteFault>
+    requires { length digests.now ≡ length store.now.entries }
+    ensures { (libraries : List Library) → Lists D.facts store.now libraries → OnOk result
+        (Appends (W.contents out.old) (W.contents out.new)
+        (stream_text stream libraries digests.now)) }
+{
+    let mut line = Line::new();
+    put_stream(store, digests, stream, &mut line, out)?;
+    line.send(out)
+}
+
+/// Whether each library could be read.
+fn are_read(digests: &[Option<[u8; 32]>]) -> bool
+    ensures { result ≡ are_read digests.now }
+{
+    digests.iter().all(|digest| digest.is_some())
+}
+
+/// The lines of the libraries that can't be read, where there is memory for them.
+fn unread_lines<D: Disk>(
+    store: &Store<D>,
+    alloc: Global,
+    digests: &[Option<[u8; 32]>],
+) -> Option<Vec<u8>>
+    requires { length digests.now ≡ length store.now.entries }
+    ensures { (libraries : List Library) → Lists D.facts store.now libraries
+        → IfSome result (λ lines. lines.items ≡ unread_text libraries digests.now) }
+{
+    let mut lines = Vec::new(alloc);
+    match write_stream(store, digests, Stream::Errors, &mut lines) {
+        Ok(()) => Some(lines),
+        Err(_) => None,
+    }
+}
+
+/// Says which libraries can't be read.
+fn say_unread<D: Disk, E: Write>(
+    store: &Store<D>,
+    alloc: Global,
+    digests: &[Option<[u8; 32]>],
+    errors: &mut E,
+)
+    requires { length digests.now ≡ length store.now.entries }
+    ensures { (libraries : List Library) → Lists D.facts store.now libraries
+        → AppendsFront (E.contents errors.old) (E.contents errors.new)
+        (unread_text libraries digests.now) }
+{
+    match unread_lines(store, alloc, digests) {
+        Some(lines) => say(errors, &lines),
+        None => {}
+    }
+}
+
+/// Says which libraries can't be read, where there are such.
+fn end_digests<D: Disk, E: Write>(
+    store: &Store<D>,
+    alloc: Global,
+    digests: &[Option<[u8; 32]>],
+    errors: &mut E,
+) -> Status
+    requires { length digests.now ≡ length store.now.entries }
+    ensures status { result ≡ digest_status digests.now }
+    ensures said { (libraries : List Library) → Lists D.facts store.now libraries
+        → AppendsFront (E.contents errors.old) (E.contents errors.new)
+        (unread_text libraries digests.now) }
+    ensures silent { are_read digests.now ≡ true → errors.new ≡ errors.old }
+{
+    if are_read(digests) {
+        return Status::Done;
+    }
+    say_unread(store, alloc, digests, errors);
+    Status::Refused
+}
+
+/// Writes the line of each library that could be read, and says which can't; or says that the
+/// output failed.
+fn tell_digests<D: Disk, O: Write, E: Write>(
+    store: &Store<D>,
+    alloc: Global,
+    digests: &[Option<[u8; 32]>],
+    output: &mut O,
+    errors: &mut E,
+) -> Status
+    requires { length digests.now ≡ length store.now.entries }
+    ensures { (libraries : List Library) → Lists D.facts store.now libraries
+        → TellsDigests libraries digests.now (record {
+          before = O.contents output.old;
+          after = O.contents output.new;
+          errors_before = E.contents errors.old;
+          errors_after = E.contents errors.new;
+        }) result }
+{
+    match write_stream(store, digests, Stream::Output, output) {
+        Ok(()) => end_digests(store, alloc, digests, errors),
+        Err(_) => cannot_write(errors),
+    }
+}
+
+/// Reads each library, and then writes the digest of each as GNU sha256sum does, in their order.
+/// One that can't be read has no line: that is said. Whether they are those of libraries isn't
+/// looked at.
+pub fn run_digest<D: Disk, O: Write, E: Write>(
+    contents: &mut Contents<D>,
+    alloc: Global,
+    output: &mut O,
+    errors: &mut E,
+) -> Status
+    ensures read { IsRead D.facts contents.old contents.new }
+    ensures ends { (s : State) → IsAt D.facts contents.old s
+        → DigestEnds (D.facts contents.old.disk) (D.facts contents.new.disk) s (record {
+          before = O.contents output.old;
+          after = O.contents output.new;
+          errors_before = E.contents errors.old;
+          errors_after = E.contents errors.new;
+        }) result }
+
+    // On any disk
+    ensures told { DigestTells (D.facts contents.old.disk) (D.facts contents.new.disk) (record {
+      before = O.contents output.old;
+      after = O.contents output.new;
+      errors_before = E.contents errors.old;
+      errors_after = E.contents errors.new;
+    }) result }
+{
+    match contents.digests(alloc) {
+        Ok(digests) => tell_digests(contents.store(), alloc, &digests, output, errors),
+        Err(_) => say_refusal(alloc, StoreRefusal::OutOfMemory, errors),
+    }
+}
