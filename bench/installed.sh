@@ -18,7 +18,7 @@ debootstrap --variant=minbase --include=$wanted "$release" "$root" > "$root.log"
 rm "$root.log"
 mkdir "$root/rlibreg" "$root/rlibreg/c"
 cp -r docs python "$root/rlibreg/"
-cp -r c/*.{sh,py,in,lua,mount} c/rlibreg.h c/tests "$root/rlibreg/c/"
+cp -r c/*.{sh,py,in,lua} c/rlibreg.h c/system c/tests "$root/rlibreg/c/"
 cp -rP "$built" "$root/rlibreg/c/out"
 
 cat > "$root/walk.sh" << 'END'

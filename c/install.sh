@@ -46,9 +46,16 @@ print(next(it for it in site.getsitepackages() if it.startswith(sys.argv[1] + "/
         2> /dev/null || echo "$1/share/rlibreg"
 }
 
-# make_files PREFIX ROOM: the file for pkg-config, and the manual pages.
+# make_files PREFIX ROOM: what has PREFIX or the version in it, and the manual pages. In a unit `%%`
+# stands for `%`.
 make_files() {
+    local file prefix
     sed "s|@PREFIX@|$1|; s|@VERSION@|$version|" "$here/rlibreg.pc.in" > "$2/rlibreg.pc"
+    for file in "$here"/system/*; do
+        prefix=$1
+        case $file in *.service) prefix=${1//%/%%} ;; esac
+        sed "s|@PREFIX@|$prefix|g" "$file" > "$2/${file##*/}"
+    done
     "$here/manual.sh" "$2" "$1/share/doc/rlibreg"
 }
 
@@ -72,7 +79,13 @@ add_all() {
     add link "$shared.$version" "$1/lib/$shared.${version%.*}"
     add link "$shared.${version%.*}" "$1/lib/$shared"
     add 644 "$3/rlibreg.pc" "$1/lib/pkgconfig/rlibreg.pc"
-    add 644 "$here/run-rlibreg.mount" "$1/lib/systemd/system/run-rlibreg.mount"
+    for name in run-rlibreg.mount rlibreg-disk.service rlibreg@.service; do
+        add 644 "$3/$name" "$1/lib/systemd/system/$name"
+    done
+    add 644 "$3/61-rlibreg.rules" "$1/lib/udev/rules.d/61-rlibreg.rules"
+    add 644 "$3/rlibreg.conf" "$1/lib/sysusers.d/rlibreg.conf"
+    add 755 "$3/initramfs-hook" "$1/share/initramfs-tools/hooks/rlibreg"
+    add 755 "$3/initramfs-script" "$1/share/initramfs-tools/scripts/init-premount/rlibreg"
     for name in __init__.py _calls.py py.typed; do
         add 644 "$here/../python/rlibreg/$name" "$modules/rlibreg/$name"
     done

@@ -25,6 +25,16 @@ want 'a second time' "$(< said)" "$(< again)"
 want 'the list, and what is there' "$(tail -n +2 "$list" | sed 's/\/$//' | sort)" \
     "$(cd "$target" && find . -mindepth 1 | sed 's/^\.//' | sort)"
 grep "^left out" said || true
+want 'what has a word of its source in it' '' "$(grep -rlE '@(PREFIX|VERSION)@' "$target" || true)"
+for script in hooks scripts/init-premount; do
+    sh -n "$target$prefix/share/initramfs-tools/$script/rlibreg"
+done
+DESTDIR=$PWD/percent "$install" /opt/5% "$built" > percent.said
+want 'a unit of a PREFIX that has a %' 'ExecStart=/opt/5%%/bin/rlibreg list /etc/rlibreg/disk' \
+    "$(grep -h '^ExecStart=/opt' percent/opt/5%/lib/systemd/system/rlibreg-disk.service)"
+want 'a script of a PREFIX that has a %' 'copy_exec /opt/5%/bin/rlibreg-run /usr/bin/rlibreg-run' \
+    "$(grep '/opt' percent/opt/5%/share/initramfs-tools/hooks/rlibreg)"
+rm -r percent
 
 export LD_LIBRARY_PATH=$target$prefix/lib
 "$target$prefix/bin/rlibreg" format installed.disk 64 > /dev/null
