@@ -87,6 +87,7 @@ debian() {
         { tail "$room/log" >&2; exit 1; }
     DESTDIR=$root PYTHONDIR=/usr/lib/python3/dist-packages c/install.sh /usr "$built"
     cp "$room/made/program" "$room/made/first" "$root/usr/bin/"
+    mkdir "$root/try"
     cp "$room"/made/*.so "$root/try/"
     chroot "$root" systemd-sysusers
     mkdir -p "$root/etc/rlibreg"

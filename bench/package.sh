@@ -1,0 +1,134 @@
+#!/usr/bin/env bash
+# package.sh BUILT FOLDER [RELEASE]..  makes of what c/build.sh has put into BUILT a Debian package in
+# FOLDER, which has no errors by lintian, if that is here, and whose bytes are the same each time; then
+# installs it in a bare Debian of each RELEASE, as bookworm or trixie, runs what it has, and removes it.
+#
+# It wants dpkg-dev, and pandoc for manual pages. Who makes it is DEBFULLNAME with DEBEMAIL, or else the
+# last commit's author. With a RELEASE it is for root, needs debootstrap, and has some 50 MB from a mirror.
+set -eu
+export LC_ALL=C
+umask 022
+built=$(cd "$1" && pwd)
+mkdir -p "$2"
+folder=$(cd "$2" && pwd)
+shift 2
+cd "$(dirname "$0")/.."
+version=$(c/version.sh)
+grep -q "^## $version\$" docs/NEWS.md || { echo "package.sh: NEWS says nothing of $version" >&2; exit 1; }
+package=$folder/rlibreg_${version}_amd64.deb
+who="${DEBFULLNAME:-$(git log -1 --format=%an)} <${DEBEMAIL:-$(git log -1 --format=%ae)}>"
+SOURCE_DATE_EPOCH=${SOURCE_DATE_EPOCH:-$(git log -1 --format=%ct)}
+export SOURCE_DATE_EPOCH
+room=$(mktemp -d)
+trap 'rm -rf "$room"' EXIT
+
+# The changelog: what NEWS has of this version.
+changelog() {
+    printf 'rlibreg (%s) unstable; urgency=medium\n\n' "$version"
+    awk -v version="$version" '/^## / {inside = $2 == version; next}
+        inside && /^- / {print "  * " substr($0, 3)}' docs/NEWS.md | sed 's/`//g' | fold -s -w 78 |
+        sed 's/^\([^ ]\)/    \1/; s/ *$//'
+    printf '\n -- %s  %s\n' "$who" "$(date -u -R -d "@$SOURCE_DATE_EPOCH")"
+}
+
+# What the shared library needs of the system's packages.
+depends() {
+    mkdir -p "$room/source/debian"
+    printf 'Source: rlibreg\n\nPackage: rlibreg\nArchitecture: amd64\n' > "$room/source/debian/control"
+    (cd "$room/source" && dpkg-shlibdeps -O "$1"/usr/lib/librlibreg.so.*.*.* 2> /dev/null) |
+        sed -n 's/^shlibs:Depends=//p'
+}
+
+# tree FOLDER: what the package installs.
+tree() {
+    local page doc=$1/usr/share/doc/rlibreg
+    DESTDIR=$1 PYTHONDIR=/usr/lib/python3/dist-packages c/install.sh /usr "$built" > "$room/said"
+    rm -r "$1/usr/share/rlibreg" # dpkg has the list
+    strip --strip-unneeded "$1"/usr/bin/rlibreg{,-tool} "$1"/usr/lib/librlibreg.so.*.*.*
+    strip --strip-debug --enable-deterministic-archives "$1/usr/lib/librlibreg.a"
+    cp c/debian/copyright "$doc/copyright"
+    changelog | gzip -9n > "$doc/changelog.gz"
+    for page in "$1"/usr/share/man/man[13]/*; do [ ! -f "$page" ] || gzip -9n "$page"; done
+    [ ! -f "$1/usr/share/man/man1/rlibreg-gcc.1.gz" ] ||
+        ln -s rlibreg-gcc.1.gz "$1/usr/share/man/man1/rlibreg-g++.1.gz"
+    install -Dm 644 c/debian/overrides "$1/usr/share/lintian/overrides/rlibreg"
+}
+
+# control FOLDER: what dpkg is told.
+control() {
+    local size
+    size=$(du -sk --apparent-size "$1" | cut -f1)
+    mkdir "$1/DEBIAN"
+    sed "s|@VERSION@|$version|; s|@SIZE@|$size|; s|@DEPENDS@|$(depends "$1")|; s|@WHO@|$who|" \
+        c/debian/control > "$1/DEBIAN/control"
+    install -m 755 c/debian/postinst c/debian/prerm "$1/DEBIAN/"
+    install -m 644 c/debian/triggers "$1/DEBIAN/"
+    echo "librlibreg ${version%.*} rlibreg (>= ${version%.*})" > "$1/DEBIAN/shlibs"
+    (cd "$1" && find usr -type f | sort | xargs md5sum) > "$1/DEBIAN/md5sums"
+}
+
+# make FILE: the package.
+make() {
+    rm -rf "$room/tree"
+    mkdir "$room/tree"
+    tree "$room/tree"
+    control "$room/tree"
+    find "$room/tree" -exec touch -h -d "@$SOURCE_DATE_EPOCH" {} +
+    dpkg-deb --root-owner-group --build "$room/tree" "$1" > "$room/said"
+}
+
+# What a new user does with it, in a Debian that has python3 and no compiler.
+cat > "$room/day.sh" << 'END'
+set -eEuo pipefail
+trap 'echo "failed: $BASH_COMMAND" >&2' ERR
+everything() {
+    find / -xdev \( -path /proc -o -path /var \) -prune -o -print | sort
+}
+cd /try
+everything > before
+dpkg -i package.deb > /dev/null
+[ "$(dpkg-query -W -f '${Version}' rlibreg)" = "$VERSION" ]
+rlibreg format disk 256
+rlibreg install disk libgreeting.so
+[ "$(rlibreg-run disk program)" = 'hello from a registry' ]
+[ "$(rlibreg-tool check disk | head -n 1 | cut -d' ' -f1,2)" = 'ok libgreeting.so' ]
+[ "$(ldconfig -p | grep -c "librlibreg.so.${VERSION%.*} ")" = 1 ]
+python3 -c 'import rlibreg; print(rlibreg.Registry("disk").list())'
+rm disk
+dpkg -r rlibreg > /dev/null
+everything > after
+diff before after | grep -v ' /try/\(before\|after\)$' | grep '^[<>]' && exit 1
+END
+
+# A library and a program that needs it.
+greeting() {
+    local object='gcc -O1 -fPIC -nostdlib -Wl,--hash-style=sysv'
+    awk "/^cat > $1.c/ {inside = 1; next} /^END/ {inside = 0} inside" c/example.sh > "$room/$1.c"
+    $object -I c/tests/programs "$room/$1.c" "${@:2}"
+}
+
+# try RELEASE: in a bare one.
+try() {
+    local root=$room/$1
+    debootstrap --variant=minbase --include=python3 "$1" "$root" > "$room/log" 2>&1 ||
+        { tail "$room/log" >&2; exit 1; }
+    mkdir "$root/try"
+    greeting greeting -shared -Wl,-soname,libgreeting.so -o "$root/try/libgreeting.so"
+    greeting program -pie -Wl,-e,_start -o "$root/try/program" "$root/try/libgreeting.so"
+    cp "$package" "$root/try/package.deb"
+    cp "$room/day.sh" "$root/try/"
+    env -i PATH=/usr/sbin:/usr/bin HOME=/ VERSION="$version" chroot "$root" bash /try/day.sh
+    rm -rf "$root"
+    echo "$1: installed, run and removed"
+}
+
+make "$package"
+make "$room/again.deb"
+cmp "$package" "$room/again.deb"
+if command -v lintian > /dev/null; then
+    lintian --fail-on error "$package"
+else
+    echo 'left out: lintian, which is not here'
+fi
+for release; do try "$release"; done
+echo "$package"
