@@ -107,6 +107,7 @@ def measure(it, path, number, length):
     calls.tell('list', entries, count, *big)
     file = (*bytes_and_length(name(0)), *big)
     calls.tell('file', *file, what=lambda it: f'{it.bytes} bytes')
+    calls.tell('digest', *bytes_and_length(name(0)), ctypes.create_string_buffer(32))
     calls.tell('info', ctypes.create_string_buffer(64))
     calls.tell('check', entries, count, *big)
     if number * (length + 4096) < ROOM:

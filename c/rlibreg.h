@@ -8,12 +8,12 @@
  *
  * There are two layers.
  *
- * 1. Calls over bytes (rlibreg_bind, rlibreg_list, rlibreg_file, rlibreg_info, rlibreg_check,
- *    rlibreg_plan_*). Each is proved to return, to do nothing undefined, and to give what is
- *    defined (docs/C.md). They do no input or output: who calls has the bytes of the disk in
- *    memory, and gets an image, a listing, a library's bytes, what is told of the whole, what is
- *    found of each library, or a plan, which is the list of the writes and syncs that make a
- *    change.
+ * 1. Calls over bytes (rlibreg_bind, rlibreg_list, rlibreg_file, rlibreg_digest, rlibreg_info,
+ *    rlibreg_check, rlibreg_plan_*). Each is proved to return, to do nothing undefined, and to give
+ *    what is defined (docs/C.md). They do no input or output: who calls has the bytes of the disk in
+ *    memory, and gets an image, a listing, a library's bytes, their digest, what is told of the
+ *    whole, what is found of each library, or a plan, which is the list of the writes and syncs that
+ *    make a change.
  * 2. Calls over a file (struct rlibreg and the calls behind it), in C over the first layer, which
  *    open, lock and map the file, and carry plans out. They are tested.
  *
@@ -54,7 +54,7 @@
  * - The two roots stand in one block of 4,096 bytes. A medium that ruins a block of that size which
  *   it was writing can lose both.
  * - There is no checksum: a byte that changed on the medium within a library's code isn't seen, by
- *   rlibreg_check neither.
+ *   rlibreg_check neither. Who has the digests that were installed compares those of rlibreg_digest.
  * - A sector that the medium can't read ends the process by SIGBUS, in each call over a file: the
  *   file is mapped. So does a file that is made shorter during a call, and, but for rlibreg_format,
  *   a hole that is read on a full tmpfs. Who has to live on reads the bytes into memory under the
@@ -266,8 +266,8 @@ RLIBREG_SAME(sizeof(size_t) == 8 && sizeof(void *) == 8);
  * TEXT gets the line or the reply that the program `rlibreg` prints of the same: "ok\n", a listing,
  * or a refusal with its number and its names, as "refused B3 Missing libtwo.so libone.so\n". It
  * isn't ended by a byte 0. The answer's `text` has the length of the whole; where `text_room` is
- * less, the buffer has the beginning. It is empty of an image, of a library's bytes, of what is
- * told of the whole and of what is found, which are in places of their own, and with the statuses 1
+ * less, the buffer has the beginning. It is empty of an image, of a library's bytes and digest, of
+ * what is told of the whole and of what is found, which are in places of their own, and with the statuses 1
  * to 9, of which the program knows nothing. A text that was cut changes no status.
  *
  * MEMORY that is refused is answered S11: nothing was done then. S1 is never the answer.
@@ -309,6 +309,16 @@ uint32_t rlibreg_list(const uint8_t *disk, size_t disk_length, rlibreg_entry *en
 uint32_t rlibreg_file(const uint8_t *disk, size_t disk_length, const char *name, size_t name_length,
                       uint8_t *bytes, size_t bytes_room, char *text, size_t text_room,
                       rlibreg_answer *answer);
+
+/* Gives the SHA-256 (FIPS 180-4) of a library's file. With the status 0 DIGEST has that of the bytes
+ * that rlibreg_file gives of this name, as sha256sum prints it in hexadecimal; with another one it is
+ * left as it was.
+ *
+ * Refusals: C3; S3, S5, S6, S11, S12. */
+#define RLIBREG_DIGEST_BYTES 32 /* how many bytes it has */
+uint32_t rlibreg_digest(const uint8_t *disk, size_t disk_length, const char *name,
+                        size_t name_length, uint8_t digest[RLIBREG_DIGEST_BYTES], char *text,
+                        size_t text_room, rlibreg_answer *answer);
 
 /* Tells of the registry as a whole. With the status 0 INFORMATION is written, with another one it
  * is left as it was. No library's file is read.
@@ -502,6 +512,11 @@ void rlibreg_listing_free(rlibreg_listing *listing);
  * BYTES and LENGTH are written in every case: null and 0 where the status isn't 0. Beside its
  * refusals: S1, S2. */
 uint32_t rlibreg_file_of(rlibreg *registry, const char *name, void **bytes, size_t *length);
+
+/* The SHA-256 of a library's bytes, as rlibreg_digest gives it. DIGEST is left as it was where the
+ * status isn't 0. Beside its refusals: S1, S2. */
+uint32_t rlibreg_digest_of(rlibreg *registry, const char *name,
+                           uint8_t digest[RLIBREG_DIGEST_BYTES]);
 
 /* What is told of the whole, as rlibreg_info tells it. Beside its refusals: S1, S2. */
 uint32_t rlibreg_info_of(rlibreg *registry, rlibreg_information *information);

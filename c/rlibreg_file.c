@@ -462,6 +462,17 @@ uint32_t rlibreg_file_of(rlibreg *it, const char *name, void **bytes, size_t *le
     }
 }
 
+uint32_t rlibreg_digest_of(rlibreg *it, const char *name,
+                           uint8_t digest[RLIBREG_DIGEST_BYTES]) {
+    uint32_t status = refuse(it);
+    if (status) return status;
+    do {
+        status = rlibreg_digest(it->file.bytes, it->file.length, name, strlen(name), digest,
+                                it->text, it->text_room, &it->answer);
+    } while (text_was_cut(it));
+    return status;
+}
+
 uint32_t rlibreg_info_of(rlibreg *it, rlibreg_information *out) {
     uint32_t status = refuse(it);
     if (status) return status;

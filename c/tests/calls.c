@@ -1,6 +1,6 @@
-/* calls LIBRARY OTHER PROGRAM NAME makes the calls over bytes with buffers of every size, with
+/* calls LIBRARY OTHER PROGRAM NAME DIGEST makes the calls over bytes with buffers of every size, with
  * bytes that are damaged, and with none. LIBRARY, of the SONAME NAME, is what PROGRAM needs; OTHER
- * has the same SONAME. */
+ * has the same SONAME. DIGEST is what sha256sum prints of LIBRARY. */
 #include "../rlibreg.h"
 
 #include <stdio.h>
@@ -199,6 +199,18 @@ static void try_file(const char *name, struct file wanted) {
     }
 }
 
+static void try_digest(const char *name, const char *wanted) {
+    char digits[2 * RLIBREG_DIGEST_BYTES + 1];
+    rlibreg_answer answer;
+    uint8_t *digest = guarded(RLIBREG_DIGEST_BYTES);
+    uint32_t status =
+        rlibreg_digest(disk, sizeof disk, name, strlen(name), digest, NULL, 0, &answer);
+    WANT(!status && is_answer(&answer, status, 0, 0));
+    for (size_t i = 0; i < RLIBREG_DIGEST_BYTES; i++) sprintf(digits + 2 * i, "%02x", digest[i]);
+    WANT(!strcmp(digits, wanted));
+    check_guard(digest, RLIBREG_DIGEST_BYTES);
+}
+
 /* A name that no library has, with every room for the text. */
 static void try_no_file(const char *name, size_t length) {
     const char *line = "refused C3 NotInstalled\n";
@@ -208,6 +220,11 @@ static void try_no_file(const char *name, size_t length) {
         char *text = guarded(room);
         uint32_t status =
             rlibreg_file(disk, sizeof disk, name, length, bytes, 8, text, room, &answer);
+        WANT(status == RLIBREG_NOT_INSTALLED && is_answer(&answer, status, 0, strlen(line)));
+        WANT(!memcmp(text, line, room < strlen(line) ? room : strlen(line)));
+        check_guard(text, room);
+        text = guarded(room);
+        status = rlibreg_digest(disk, sizeof disk, name, length, bytes, text, room, &answer);
         WANT(status == RLIBREG_NOT_INSTALLED && is_answer(&answer, status, 0, strlen(line)));
         WANT(!memcmp(text, line, room < strlen(line) ? room : strlen(line)));
         check_guard(bytes, 0);
@@ -247,6 +264,9 @@ static void try_nothing_told(size_t length, uint32_t wanted, const char *line) {
     memset(text, 0, sizeof text);
     WANT(rlibreg_file(disk, length, "", 0, (uint8_t *)it, sizeof *it, text, sizeof text, &answer) ==
          wanted);
+    WANT(is_answer(&answer, wanted, 0, strlen(line)) && !memcmp(text, line, strlen(line)));
+    memset(text, 0, sizeof text);
+    WANT(rlibreg_digest(disk, length, "", 0, (uint8_t *)it, text, sizeof text, &answer) == wanted);
     WANT(is_answer(&answer, wanted, 0, strlen(line)) && !memcmp(text, line, strlen(line)));
     check_guard(it, 0);
 }
@@ -371,6 +391,7 @@ static void try_damaged(struct file program, struct file library) {
         uint32_t given =
             rlibreg_file(disk, sizeof disk, names, 1, bytes, ROOM, text, ROOM, &answer);
         WANT(informed ? given == informed : !given || given == RLIBREG_NOT_INSTALLED);
+        WANT(given == rlibreg_digest(disk, sizeof disk, names, 1, bytes, text, ROOM, &answer));
         struct call replace = { 'r', library.bytes, library.length };
         WANT(is_status(plan(replace, bytes, ROOM, text, ROOM, &answer)));
         struct call upgrade = { 'u', NULL, 0 };
@@ -405,7 +426,8 @@ static void try_lengths(void) {
 
 struct given {
     struct file library, other, program;
-    const char *name; /* the SONAME of the first two, with a byte 0 behind it */
+    const char *name;   /* the SONAME of the first two, with a byte 0 behind it */
+    const char *digest; /* of the first, in hexadecimal */
 };
 
 static struct call install_of(struct file file) {
@@ -444,6 +466,7 @@ static void try_installed(const struct given *it) {
     try_listing(1, 0, 1, it->name, strlen(it->name) + 1, said);
     try_info((rlibreg_information){ 2, SECTORS, 1, 1, 0, 35, 1, 33 * SECTOR });
     try_file(it->name, it->library);
+    try_digest(it->name, it->digest);
     try_no_files(it->name);
     try_image(it->program, it->name);
     try_bind_refusal(it->program, 0x7ffffffff000, RLIBREG_NO_PLACE, "refused B4 NoRoom\n");
@@ -483,8 +506,9 @@ static void try_removed(const struct given *it) {
 }
 
 int main(int argc, char **argv) {
-    WANT(argc == 5);
-    struct given it = { read_file(argv[1]), read_file(argv[2]), read_file(argv[3]), argv[4] };
+    WANT(argc == 6);
+    struct given it = { read_file(argv[1]), read_file(argv[2]), read_file(argv[3]), argv[4],
+                        argv[5] };
     try_lengths();
     try_empty(&it);
     try_installed(&it);

@@ -1,6 +1,7 @@
-/* contents LIBRARY NAME asks for libraries' bytes, and for what is told of the whole, of disks in
+/* contents LIBRARY NAME asks for libraries' bytes and digests, and for what is told of the whole, of disks in
  * the folder where it is run. LIBRARY has the SONAME NAME, of one byte, and stays a library when
  * that is another and when bytes stand behind it. */
+#define _POSIX_C_SOURCE 200809L
 #include "watched.h"
 
 #include <unistd.h>
@@ -45,6 +46,20 @@ static uint32_t remove_library(rlibreg *it, char name) {
     return rlibreg_remove(it, (char[]){ name, 0 });
 }
 
+/* The digest of a library is the one that sha256sum has of these bytes. */
+static void want_digest(rlibreg *it, char name, const void *bytes, size_t length) {
+    uint8_t digest[RLIBREG_DIGEST_BYTES];
+    FILE *file = fopen("given", "wb"), *sum;
+    WANT(file && fwrite(bytes, 1, length, file) == length && !fclose(file));
+    WANT(!rlibreg_digest_of(it, (char[]){ name, 0 }, digest) && !rlibreg_text(it)[0]);
+    sum = popen("sha256sum given", "r");
+    for (size_t i = 0; i < sizeof digest; i++) {
+        unsigned byte;
+        WANT(sum && fscanf(sum, "%2x", &byte) == 1 && byte == digest[i]);
+    }
+    WANT(pclose(sum) >= 0 && !unlink("given"));
+}
+
 static void want_file(rlibreg *it, char name, const void *wanted, size_t length) {
     void *bytes;
     size_t given;
@@ -62,9 +77,12 @@ static void want_library(rlibreg *it, char name, size_t length) {
 /* ---- Bytes */
 
 static void want_no_file(rlibreg *it, const char *name, uint32_t wanted, const char *text) {
+    uint8_t digest[RLIBREG_DIGEST_BYTES] = { 0 };
     void *bytes = library;
     size_t length = 1;
     WANT(rlibreg_file_of(it, name, &bytes, &length) == wanted && !bytes && !length);
+    WANT(!strcmp(rlibreg_text(it), text) && rlibreg_last(it)->status == wanted);
+    WANT(rlibreg_digest_of(it, name, digest) == wanted && !digest[0]);
     WANT(!strcmp(rlibreg_text(it), text) && rlibreg_last(it)->status == wanted);
 }
 
@@ -75,10 +93,14 @@ static void try_lengths(void) {
     char longest[1000] = { 0 };
     rlibreg *it = formatted(40000);
     for (size_t i = 0; i < count; i++) WANT(!install(it, (char)('a' + i), lengths[i]));
-    for (size_t i = 0; i < count; i++) want_library(it, (char)('a' + i), lengths[i]);
+    for (size_t i = 0; i < count; i++) {
+        want_library(it, (char)('a' + i), lengths[i]);
+        want_digest(it, (char)('a' + i), library, lengths[i]);
+    }
     *soname = 'a';
     WANT(!rlibreg_replace(it, library, 70000));
     want_library(it, 'a', 70000);
+    want_digest(it, 'a', library, 70000);
     WANT(!remove_library(it, 'b'));
     memset(longest, 'a', sizeof longest - 1);
     want_no_file(it, "b", RLIBREG_NOT_INSTALLED, "refused C3 NotInstalled\n");
@@ -115,6 +137,7 @@ static void try_damaged(void) {
     memcpy(damaged, library, least);
     damaged[0] = 0;
     want_file(it, 'a', damaged, least);
+    want_digest(it, 'a', damaged, least);
     WANT(!rlibreg_info_of(it, &told) && !memcmp(&told, &before, sizeof told));
     WANT(!rlibreg_text(it)[0]);
     rlibreg_close(it);
@@ -205,6 +228,6 @@ int main(int argc, char **argv) {
     for (uint32_t sectors = 60; sectors < 300; sectors += 20) try_runs(sectors);
     WANT(seen_full && seen_fragmented && seen_empty);
     WANT(!strcmp(names_here(), "disk ") && !unlink("disk"));
-    puts("contents: the bytes of libraries, and what goes in: as wanted");
+    puts("contents: the bytes of libraries, their digests, and what goes in: as wanted");
     return 0;
 }

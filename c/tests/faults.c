@@ -155,6 +155,7 @@ static void want_reopen(rlibreg *it, const struct change *change) {
     rlibreg_image image;
     rlibreg_information information;
     rlibreg_findings findings;
+    uint8_t digest[RLIBREG_DIGEST_BYTES] = { 0 };
     void *bytes;
     size_t length;
     if (change->opens) return; /* the struct has no file then */
@@ -164,6 +165,7 @@ static void want_reopen(rlibreg *it, const struct change *change) {
     WANT(rlibreg_image_of(it, program.bytes, program.length, 0, &image) == RLIBREG_REOPEN);
     WANT(rlibreg_last(it)->status == RLIBREG_REOPEN && !image.bytes);
     WANT(rlibreg_file_of(it, name, &bytes, &length) == RLIBREG_REOPEN && !bytes && !length);
+    WANT(rlibreg_digest_of(it, name, digest) == RLIBREG_REOPEN && !digest[0]);
     WANT(rlibreg_info_of(it, &information) == RLIBREG_REOPEN);
     WANT(rlibreg_findings_of(it, &findings) == RLIBREG_REOPEN && !findings.findings);
 }
@@ -271,7 +273,7 @@ static void try_ends(const struct change *change, long calls) {
 
 /* ---- Memory */
 
-enum { LOOKS = 5 };
+enum { LOOKS = 6 };
 
 /* Looks at the disk, by the call of this number. */
 static uint32_t look_by(rlibreg *it, int number) {
@@ -280,6 +282,7 @@ static uint32_t look_by(rlibreg *it, int number) {
     rlibreg_image image;
     rlibreg_information information;
     rlibreg_findings findings;
+    uint8_t digest[RLIBREG_DIGEST_BYTES];
     void *bytes;
     size_t length;
     switch (number) {
@@ -299,6 +302,8 @@ static uint32_t look_by(rlibreg *it, int number) {
         status = rlibreg_findings_of(it, &findings);
         rlibreg_findings_free(&findings);
         return status;
+    case 4:
+        return rlibreg_digest_of(it, name, digest);
     }
     return rlibreg_info_of(it, &information);
 }
@@ -354,6 +359,7 @@ static void try_misuse(void) {
     rlibreg_image image;
     rlibreg_information information;
     rlibreg_findings findings;
+    uint8_t digest[RLIBREG_DIGEST_BYTES] = { 0 };
     void *bytes;
     size_t length;
     leave_empty();
@@ -363,6 +369,7 @@ static void try_misuse(void) {
     WANT(!strcmp(rlibreg_text(it), "refused S6 BadGeometry\n"));
     WANT(rlibreg_image_of(it, program.bytes, program.length, 0, &image) == RLIBREG_BAD_GEOMETRY);
     WANT(rlibreg_file_of(it, name, &bytes, &length) == RLIBREG_BAD_GEOMETRY && !bytes);
+    WANT(rlibreg_digest_of(it, name, digest) == RLIBREG_BAD_GEOMETRY && !digest[0]);
     WANT(rlibreg_info_of(it, &information) == RLIBREG_BAD_GEOMETRY);
     WANT(rlibreg_findings_of(it, &findings) == RLIBREG_BAD_GEOMETRY && !findings.findings);
     WANT(make_install(it) == RLIBREG_READ_ONLY);

@@ -55,12 +55,14 @@ static void call_all(rlibreg *it) {
     rlibreg_image image;
     rlibreg_information information;
     rlibreg_findings findings;
+    uint8_t digest[RLIBREG_DIGEST_BYTES] = { 0 };
     void *bytes;
     size_t length;
     const uint32_t bad = RLIBREG_BAD_ARGUMENT;
     WANT(rlibreg_listing_of(it, &listing) == bad && !listing.entries && !listing.names);
     WANT(rlibreg_image_of(it, program, program_length, 0, &image) == bad && !image.bytes);
     WANT(rlibreg_file_of(it, name, &bytes, &length) == bad && !bytes && !length);
+    WANT(rlibreg_digest_of(it, name, digest) == bad && !digest[0]);
     WANT(rlibreg_info_of(it, &information) == bad);
     WANT(rlibreg_findings_of(it, &findings) == bad && !findings.findings && !findings.names);
     WANT(rlibreg_install(it, library, library_length) == bad);

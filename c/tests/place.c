@@ -135,6 +135,7 @@ static uint32_t look_by(rlibreg *it, int number) {
     rlibreg_image image;
     rlibreg_information information;
     rlibreg_findings findings;
+    uint8_t digest[RLIBREG_DIGEST_BYTES];
     void *bytes;
     size_t length;
     switch (number) {
@@ -143,12 +144,13 @@ static uint32_t look_by(rlibreg *it, int number) {
     case 2: return rlibreg_file_of(it, name, &bytes, &length);
     case 3: return rlibreg_findings_of(it, &findings);
     case 4: return rlibreg_upgrade(it);
+    case 5: return rlibreg_digest_of(it, name, digest);
     }
     return rlibreg_info_of(it, &information);
 }
 
 static void try_looks(void) {
-    for (int number = 0; number < 6; number++) {
+    for (int number = 0; number < 7; number++) {
         prepare();
         rlibreg *it = open_disk("disk");
         cut_whole();

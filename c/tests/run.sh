@@ -91,9 +91,11 @@ cd "$room"
 . "$here/want.sh"
 want 'other names that the archive defines' '' \
     "$(nm -g --defined-only "$built/librlibreg.a" | awk 'NF == 3 && $3 !~ /^(rlibreg|rattle)_/')"
-"$room/calls" "$data/strong.so" "$data/protected.so" "$data/program-1.so" b
+given=("$data/strong.so" "$data/protected.so" "$data/program-1.so" b)
+given+=("$(sha256sum < "$data/strong.so" | cut -d ' ' -f 1)")
+"$room/calls" "${given[@]}"
 gcc $flags -O1 -o "$room/calls" "$here/calls.c" "$built/librlibreg.a"
-(ulimit -s 512 && "$room/calls" "$data/strong.so" "$data/protected.so" "$data/program-1.so" b)
+(ulimit -s 512 && "$room/calls" "${given[@]}")
 # alone NAME WORD..: a test in a folder of its own.
 alone() {
     mkdir $1.files

@@ -6,7 +6,7 @@ use Rattle.byte_registry.specs.Bytes.{HoldStore}
 use Rattle.contents.specs.File.{HasFile}
 use Rattle.contents.specs.declared.unread.Unread.{Unread}
 use Rattle.contents.specs.declared.unread.Unread.TheVariants as unread
-use Rattle.c_answers.specs.Contents.{refusal_of, IsFileAnswered, IsFileOf, IsFileTold, IsInfoAnswered, IsInfoOf, IsUnread}
+use Rattle.c_answers.specs.Contents.{refusal_of, IsDigestAnswered, IsDigestOf, IsDigestTold, IsFileAnswered, IsFileOf, IsFileTold, IsInfoAnswered, IsInfoOf, IsUnread}
 use Rattle.c_answers.specs.Numbers.{done, no_room}
 use Rattle.c_answers.specs.declared.answer.Answer.{Answer}
 use Rattle.c_answers.specs.declared.information.Information.{Information}
@@ -30,6 +30,15 @@ file_told disk name bytes text s answer status zero holds (inr told) = absurd (r
 pub file_given : (disk name bytes text : List ℕ) (answer : Answer) (status : ℕ) → status ≡ 0 → IsFileAnswered disk name bytes text answer status → IsFileOf disk name bytes answer
 file_given disk name bytes text answer status zero (inl asked) = file_told disk name bytes text asked.0 answer status zero asked.1 asked.2
 file_given disk name bytes text answer status zero (inr refused) = absurd (turned_not_done refused.0 text answer status zero refused.2)
+
+digest_told : (disk name digest text : List ℕ) (s : State) (answer : Answer) (status : ℕ) → status ≡ 0 → HoldStore disk s → IsDigestTold s name digest text answer status
+    → IsDigestOf disk name digest
+digest_told disk name digest text s answer status zero holds (inl given) = record { state = s; holds = holds; file = given.0; has = given.1; is = given.2 }
+digest_told disk name digest text s answer status zero holds (inr told) = absurd (refused_not_done (refusal_of told.0) text answer status zero told.2.0)
+
+pub digest_given : (disk name digest text : List ℕ) (answer : Answer) (status : ℕ) → status ≡ 0 → IsDigestAnswered disk name digest text answer status → IsDigestOf disk name digest
+digest_given disk name digest text answer status zero (inl asked) = digest_told disk name digest text asked.0 answer status zero asked.1 asked.2
+digest_given disk name digest text answer status zero (inr refused) = absurd (turned_not_done refused.0 text answer status zero refused.2)
 
 -- an answer that gives no bytes says C3 exactly where no library has the name, and never S1
 pub unread_is : (s : State) (name : List ℕ) (why : Unread) → (why ≡ unread.NotInstalled) ↔ All (λ library. library.name ≢ name) s.libraries → why ≢ unread.Unreadable → IsUnread s name why

@@ -20,7 +20,7 @@ use Rattle.c_answers.specs.declared.place.SegmentPlace.{SegmentPlace}
 use Rattle.c_answers.specs.Answers.{IsTold, IsTurnedAway, IsPlanned, IsChangeTold, IsChangeAnswered, IsFormatAnswered, IsUpgradeAnswered}
 use Rattle.c_answers.specs.Answers.{IsBindTold, IsBindAnswered, IsListTold, IsListAnswered, IsPreloadAnswered}
 use Rattle.c_answers.specs.Check.{IsCheckAnswered}
-use Rattle.c_answers.specs.Contents.{refusal_of, IsFileAnswered, IsInfoAnswered}
+use Rattle.c_answers.specs.Contents.{refusal_of, IsDigestAnswered, IsFileAnswered, IsInfoAnswered}
 use Rattle.c_answers.specs.Numbers.{store_number, bind_number, refusal_number, reply_number}
 
 -- 301 is the number of S1 alone
@@ -106,6 +106,11 @@ module _ (text : List ℕ) (answer : Answer) (status : ℕ) (is : status ≡ 301
   file_not_device disk name bytes (inl (s, holds, inl (file, has, (inr small, size, count, unlisted, unbound, silent)))) = omega (arith, is, small.0)
   file_not_device disk name bytes (inl (s, holds, inr (why, unread, said))) = told (reply.Refused (refusal_of why)) said.0
   file_not_device disk name bytes (inr refused) = turned refused.0 refused.2
+
+  pub digest_not_device : (disk name digest : List ℕ) → IsDigestAnswered disk name digest text answer status → ⊥
+  digest_not_device disk name digest (inl (s, holds, inl (file, has, same, done, uncounted, silent))) = omega (arith, is, done)
+  digest_not_device disk name digest (inl (s, holds, inr (why, unread, said))) = told (reply.Refused (refusal_of why)) said.0
+  digest_not_device disk name digest (inr refused) = turned refused.0 refused.2
 
   pub info_not_device : (disk : List ℕ) (information : Information) → IsInfoAnswered disk information text answer status → ⊥
   info_not_device disk information (inl said) = omega (arith, is, said.0)

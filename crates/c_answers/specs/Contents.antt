@@ -5,6 +5,7 @@ use Rattle.byte_disk.specs.ReadOnlyDisk.{read_only_facts}
 use Rattle.byte_disk.specs.declared.read_only.ReadOnlyDisk.{ReadOnlyDisk}
 use Rattle.extents.specs.Layout.{free_count}
 use Rattle.extents.specs.Runs.{free_runs}
+use Rattle.sha2.specs.Sha256.{sha256}
 use Rattle.states.specs.State.{State}
 use Rattle.store.specs.Names.{IsFileSize}
 use Rattle.store.specs.Opened.{Opened, IsAt}
@@ -65,6 +66,27 @@ pub record IsFileOf (disk name bytes : List ℕ) (answer : Answer) : Type 0 wher
   pub has : HasFile state name file
   pub size : answer.bytes ≡ length file
   pub given : take answer.bytes bytes ≡ file
+
+-- the digest is that of a library's file, or it is told why there is none
+abbrev pub IsDigestTold : State → (name digest text : List ℕ) → Answer → ℕ → Type 0
+IsDigestTold s name digest text answer status =
+    ((file : List ℕ) × HasFile s name file × (digest ≡ sha256 file) × (status ≡ done) × IsUncounted answer × IsSilent answer)
+    ⊎ ((why : Unread) × IsUnread s name why × IsToldAlone (Refused (refusal_of why)) text answer status)
+
+-- the digest is that of a library's file of the state that the bytes hold, or it is told why there is
+-- none; or there is no registry, and it is told why
+abbrev pub IsDigestAnswered : (disk name digest text : List ℕ) → Answer → ℕ → Type 0
+IsDigestAnswered disk name digest text answer status =
+    ((s : State) × HoldStore disk s × IsDigestTold s name digest text answer status)
+    ⊎ ((why : StoreRefusal) × HaveNoContents disk why × IsTurnedAway why text answer status)
+
+-- It is the SHA-256 of the file of the library of this name, which the state that the bytes hold has.
+pub record IsDigestOf (disk name digest : List ℕ) : Type 0 where
+  pub state : State
+  pub holds : HoldStore disk state
+  pub file : List ℕ
+  pub has : HasFile state name file
+  pub is : digest ≡ sha256 file
 
 -- what is told, for C
 abbrev pub information_of : Info → Information

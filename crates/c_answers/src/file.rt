@@ -12,7 +12,7 @@ use requests::{Refusal, Reply};
 use std::alloc::Global;
 
 /// Why a library's bytes aren't given, as a command is refused.
-fn refusal_of(unread: Unread) -> Refusal
+pub(crate) fn refusal_of(unread: Unread) -> Refusal
     ensures { result ≡ refusal_of unread }
 {
     match unread {

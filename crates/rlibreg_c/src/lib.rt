@@ -10,6 +10,7 @@
 mod bind;
 mod change;
 mod check;
+mod digest;
 mod file;
 mod format;
 mod information;

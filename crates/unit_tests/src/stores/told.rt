@@ -34,6 +34,32 @@ fn each_library_is_looked_at(rt: HostRuntime) {
     assert!(rt; are_these);
 }
 
+// What sha256sum prints of the bytes under b.
+const DIGEST: [u8; 32] = [
+    0xf3, 0x72, 0x91, 0x37, 0xab, 0x24, 0x58, 0x24, 0xf0, 0x35, 0xf3, 0xa8, 0x55, 0x87, 0x8a, 0x52,
+    0xff, 0xed, 0x85, 0x8b, 0x8b, 0x01, 0x48, 0x2a, 0x1d, 0x6b, 0xae, 0x6d, 0x0d, 0x9f, 0x70, 0x28,
+];
+
+#[test]
+fn digests_are_those_of_the_bytes(rt: HostRuntime) {
+    let mut contents = opened(&rt);
+    let digests = contents.digests(rt.alloc());
+    let one = contents.digest(rt.alloc(), b"b");
+    let other = contents.digest(rt.alloc(), b"d");
+    let _ = contents.into_disk();
+    let are_its = match (digests, one) {
+        (Ok(digests), Ok(one)) => {
+            digests.len() == 4 && digests.get(1) == Some(&Some(DIGEST)) && one == DIGEST
+        }
+        _ => false,
+    };
+    let is_none = match other {
+        Ok(_) => false,
+        Err(refusal) => refusal == Unread::NotInstalled,
+    };
+    assert!(rt; are_its && is_none);
+}
+
 #[test]
 fn bytes_are_given_by_name_and_by_position(rt: HostRuntime) {
     let mut contents = opened(&rt);
