@@ -572,6 +572,12 @@ class Registry:
         word = _word(name)
         return self._handle.do(lambda: _file(self._handle, word))
 
+    def digest(self, name: str) -> bytes:
+        """The SHA-256 of the bytes that `file` gives of this name, as hashlib's `digest` has it."""
+        word, given = _word(name), _calls.array(_calls.DIGEST_BYTES)()
+        self._handle.call('digest_of', word, given)
+        return bytes(given.raw)
+
     def info(self) -> Info:
         """What is told of the registry as a whole. It reads no library's file."""
         given = _calls.Information()

@@ -13,6 +13,7 @@ NAME = f'librlibreg.so.{VERSION.rpartition(".")[0]}'  # its SONAME
 
 CHANGES, WAIT = 1, 2
 SOUND, OTHER_NAME = 0, 100
+DIGEST_BYTES = 32
 
 
 class Answer(ctypes.Structure):
@@ -108,6 +109,7 @@ PROTOTYPES: dict[str, tuple[Any, ...]] = {  # what each gives, and what it takes
     'listing_of': (NUMBER, POINTER, ctypes.POINTER(Listing)),
     'listing_free': (None, ctypes.POINTER(Listing)),
     'file_of': (NUMBER, POINTER, TEXT, ctypes.POINTER(POINTER), ctypes.POINTER(SIZE)),
+    'digest_of': (NUMBER, POINTER, TEXT, POINTER),
     'info_of': (NUMBER, POINTER, ctypes.POINTER(Information)),
     'findings_of': (NUMBER, POINTER, ctypes.POINTER(Findings)),
     'findings_free': (None, ctypes.POINTER(Findings)),

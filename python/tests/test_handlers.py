@@ -33,6 +33,7 @@ class Handlers(OnDisk):
                       lambda: self.registry.install(library), lambda: self.registry.list(),
                       lambda: self.registry.info(), lambda: self.registry.check(),
                       lambda: self.registry.file('b'), lambda: self.registry.put(library),
+                      lambda: self.registry.digest('b'),
                       lambda: b''.join(self.registry.dump())]
         self.answers = [self.heard(call) for call in self.calls]
         self.assertEqual(len({str(it) for it in self.answers}), len(self.calls))

@@ -20,6 +20,7 @@ import tempfile
 import threading
 import time
 import unittest
+from hashlib import sha256
 from pathlib import Path
 
 import rlibreg
@@ -94,7 +95,7 @@ class Arguments(OnDisk):
         with Registry(self.disk, changes=True) as registry:
             registry.install(LIBRARY)
             for call in (lambda: registry.remove('b\0c'), lambda: registry.preload(['b\0']),
-                         lambda: registry.file('b\0'),
+                         lambda: registry.file('b\0'), lambda: registry.digest('b\0'),
                          lambda: Registry(f'{self.disk}\0'), lambda: rlibreg.format('a\0', 64)):
                 self.assertRaises(ValueError, call)
 
@@ -133,6 +134,7 @@ class Arguments(OnDisk):
             self.assertRaises(TypeError, registry.preload, 'b')
             self.assertRaises(TypeError, registry.remove, 5)
             self.assertRaises(TypeError, registry.file, 5)
+            self.assertRaises(TypeError, registry.digest, 5)
 
 
 class Errors(OnDisk):
@@ -209,7 +211,8 @@ class Errors(OnDisk):
         registry.close()
         for call in (registry.list, registry.info, registry.check, registry.__enter__,
                      lambda: registry.install(LIBRARY), lambda: registry.bind(PROGRAM, 0),
-                     lambda: registry.file('b')):
+                     lambda: registry.file('b'), lambda: registry.digest('b'),
+                     lambda: list(registry.dump())):
             self.assertIsInstance(self.refused(Status.BAD_ARGUMENT, call), rlibreg.Closed)
 
 
@@ -391,8 +394,10 @@ class Contents(OnDisk):
                     continue
                 name = registry.list().libraries[-1].name
                 self.assertEqual(registry.file(name), path.read_bytes())
+                self.assertEqual(registry.digest(name), sha256(path.read_bytes()).digest())
                 registry.remove(name)
                 self.refused(Status.NOT_INSTALLED, registry.file, name)
+                self.refused(Status.NOT_INSTALLED, registry.digest, name)
                 count += 1
         self.assertGreater(count, 50)
 
@@ -418,6 +423,8 @@ class Contents(OnDisk):
             self.assertEqual([it.name for it in registry.list().libraries], [first, second])
             self.assertEqual(registry.file(second), file('first.so'))
             self.assertEqual(registry.file(first), b'\0' + LIBRARY.read_bytes()[1:])
+            for name in (first, second):
+                self.assertEqual(registry.digest(name), sha256(registry.file(name)).digest())
             self.assertEqual(registry.info(), info)
             self.assertEqual(registry.check(), [(first, (2, 'E2 BadMagic', 'damaged E2 BadMagic')),
                                                 (second, (0, 'Sound', 'ok'))])
@@ -631,6 +638,7 @@ class Memory(OnDisk):
             self.is_kept(2000, registry.info)
             self.is_kept(2000, registry.check)
             self.is_kept(2000, lambda: registry.file('b'))
+            self.is_kept(2000, lambda: registry.digest('b'))
             self.is_kept(2000, lambda: registry.put(LIBRARY))
             self.is_kept(1000, lambda: list(registry.dump()))
             self.is_kept(2000, lambda: self.refused(Status.NOT_INSTALLED, registry.file, 'c'))
