@@ -27,8 +27,8 @@ from libraries import Made, name, symbol
 from media import NotHere, loop
 
 SECTOR, PAGE = registries.SECTOR, 4096
-CALL = re.compile(r'^(lseek|read|pread64)\(\d+<([^>]*)>, .*\) += (\d+)$')
-TRACED = ['strace', '-qq', '-y', '-s', '0', '-e', 'trace=lseek,read,pread64', '-o', 'log']
+READ = re.compile(r'^pread64\(\d+<([^>]*)>, .*, (\d+)\) += (\d+)$')
+TRACED = ['strace', '-qq', '-y', '-s', '0', '-e', 'trace=pread64', '-o', 'log']
 EACH, SIZES = 1024, (3000, 5000, 90_000)
 
 # The sectors that tell of a registry, and those of each library's file.
@@ -59,16 +59,9 @@ def layout(disk):
 
 def reads(log, disk):
     """The sectors of each read of a disk in a log of strace."""
-    place, found = 0, []
-    for line in log.read_text().splitlines():
-        call = CALL.match(line)
-        if call and call[2] == str(disk):
-            if call[1] == 'lseek':
-                place = int(call[3])
-            else:
-                found.append(range(place // SECTOR, (place + int(call[3])) // SECTOR))
-                place += int(call[3])
-    return found
+    calls = (READ.match(line) for line in log.read_text().splitlines())
+    begun = ((int(call[2]), int(call[3])) for call in calls if call and call[1] == str(disk))
+    return [range(place // SECTOR, (place + length) // SECTOR) for place, length in begun]
 
 
 class Bench:
