@@ -5,15 +5,17 @@ from an image that is kept.
     python3 bench/memory.py PROGRAMS FOLDER [--sources SOURCES]
 
 The words are those of real_programs.py, by which SQLite is built. The fall of MemAvailable is printed, the median of
-several rounds, which says something on an idle machine alone; behind it the sum of what the processes have of their
-own and their part of what they share (Pss of /proc/PID/smaps_rollup); and what nobody can take from them: the pages
-that they have written, and the tables of pages. The images are kept in a folder of tmpfs, and in one of the file
-system of FOLDER. Both are emptied before each round, so their pages are in the fall, but for what a file system on a
-disk can give back.
+several rounds, which says something on an idle machine alone; behind it what the system counts of a group of these
+processes (cgroups, as root), with the image and without; the sum of what the processes have of their own and their part
+of what they share (Pss of /proc/PID/smaps_rollup); and what nobody can take from them: the pages that they have written,
+and the tables of pages. The images are kept in a folder of tmpfs, and in one of the file system of FOLDER. Both are
+emptied before each round, so their pages are in the fall and in the group, but for what a file system on a disk can give
+back.
 """
 
 import statistics
 import subprocess
+import tempfile
 import time
 from pathlib import Path
 
@@ -23,6 +25,9 @@ from checks import emptied
 from real_programs import asked_for
 
 SHELLS, ROUNDS = 10, 7
+# A group of the first version of cgroups, or of the second, and the files that tell what it has, and has of files.
+GROUPS = (('/sys/fs/cgroup/memory', 'memory.usage_in_bytes', 'cache'), ('/sys/fs/cgroup', 'memory.current', 'file'))
+JOIN = 'echo $$ > "$0/cgroup.procs" && exec "$@"'
 
 
 def available():
@@ -44,20 +49,46 @@ def own(it):
     return told(it, 'smaps_rollup', 'Private_Dirty') + told(it, 'status', 'VmPTE')
 
 
+class Group:
+    """Processes whose memory the system counts together, where it does."""
+
+    def __init__(self):
+        found = (it for it in GROUPS if (Path(it[0]) / 'cgroup.procs').exists())
+        top, self.used, self.files = next(found, (None, None, None))
+        self.at = Path(tempfile.mkdtemp(prefix='shells-', dir=top)) if top else None
+
+    def words(self, words):
+        return ['sh', '-c', JOIN, self.at, *words] if self.at else words
+
+    def counts(self):
+        """What it has with files and without, in KiB."""
+        if not self.at or not (self.at / self.used).exists():
+            return 0, 0
+        used = int((self.at / self.used).read_text())
+        told = dict(line.split() for line in (self.at / 'memory.stat').read_text().splitlines())
+        return used // 1024, (used - int(told[self.files])) // 1024
+
+    def end(self):
+        if self.at:
+            self.at.rmdir()
+
+
 def shells(words, place):
-    """The fall of what is available, and what the shells' memory is by their maps, in KiB."""
-    before = available()
+    """The fall of what is available, what their group has, and what the shells' memory is by their maps, in KiB."""
+    group, before = Group(), available()
     them = []
     for _ in range(SHELLS):
-        it = subprocess.Popen([*map(str, words), ':memory:'], cwd=place, stdin=subprocess.PIPE, stdout=subprocess.PIPE)
+        it = subprocess.Popen(list(map(str, group.words([*words, ':memory:']))), cwd=place,
+                              stdin=subprocess.PIPE, stdout=subprocess.PIPE)
         it.stdin.write(b'SELECT 42;\n')
         it.stdin.flush()
         assert it.stdout.readline() == b'42\n'
         them.append(it)
     time.sleep(0.2)
-    found = before - available(), sum(map(pss, them)), sum(map(own, them))
+    found = before - available(), *group.counts(), sum(map(pss, them)), sum(map(own, them))
     for it in them:
         it.communicate(b'.quit\n')
+    group.end()
     return found
 
 
@@ -81,9 +112,10 @@ def main():
                 size = max(size, sum(it.stat().st_blocks / 2 for it in memory.iterdir()))
     medians = {name: [statistics.median(it) for it in zip(*row)] for name, row in rows.items()}
     for name, found in medians.items():
-        fall, shared, private = (f'{it / 1024:.1f} MiB ({it / usual:.2f} of the static links)'
-                                 for it, usual in zip(found, medians['static']))
-        print(f'{name}: {fall} by MemAvailable, {shared} by Pss, {private} written or of tables', flush=True)
+        told = [f'{it / 1024:.1f} MiB ({it / usual:.2f} of the static links)' if usual else '0'
+                for it, usual in zip(found, medians['static'])]
+        print(f'{name}: {told[0]} by MemAvailable, {told[1]} of the group, {told[2]} of it without files, '
+              f'{told[3]} by Pss, {told[4]} written or of tables', flush=True)
     print(f'in {memory}: {size / 1024:.1f} MiB')
 
 
