@@ -3,7 +3,7 @@ ghost use Rattle.std.specs.Prelude.{OnOk, IsTrue};
 ghost use Rattle.std.specs.List.{Contains};
 ghost use Rattle.extents.specs.Extent.{IsApart, AreDistinct, sector_count, places};
 ghost use Rattle.sector_disk.specs.Disk.{sector_bytes, IsSynced};
-ghost use Rattle.sector_disk.specs.Disk.{LeavesOnly, IsMixtureBut, IsMixtureOrSet};
+ghost use Rattle.sector_disk.specs.Disk.{LeavesOnly, IsMixtureBut, IsMixtureOrSet, SameBut};
 ghost use Rattle.passes.specs.Calls.{AreCallsInRow};
 ghost use Rattle.passes.specs.Bytes.{IsOnDisk, bytes_at, padded};
 ghost use Rattle.passes.specs.Singles.{single_places, HoldsSingles};
@@ -50,6 +50,11 @@ pub fn stage<D: Disk>(
         → LeavesOnly (D.facts disk.old) (D.facts disk.new)
         (IsMixtureBut (Contains (single_places singles.now ++ places extents.now))
         (D.facts disk.old)) }
+
+    // What reads give changes there alone.
+    ensures now { IsTrue (D.facts disk.old).honest → OnOk result
+        (SameBut (Contains (single_places singles.now ++ places extents.now))
+        (D.facts disk.old).now (D.facts disk.new).now) }
     ensures written { IsTrue (D.facts disk.old).honest
         → OnOk result (bytes_at (D.facts disk.new).now (places extents.now)
         ≡ padded (sector_bytes * sector_count extents.now) bytes.now) }

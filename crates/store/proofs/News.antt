@@ -163,12 +163,14 @@ module _ {root : Root} {entries : List PlacedEntry} {held : List HeldRow} {layou
   }
 
   -- what the put makes of sectors
-  pub new_put : (name bytes : List ℕ) (s : State) → name_of put.entry ≡ name → put.entry.file_length ≡ length bytes
+  pub new_put : (now : List Sector) (name bytes : List ℕ) (s : State) → name_of put.entry ≡ name → put.entry.file_length ≡ length bytes
       → length bytes ≤ 512 * sector_count (extents_of put.entry)
-      → IsFollowed Two root entries s (record { staged = Put put catalogues; root = next }) bytes (entry_sectors others) others (with_new name bytes s)
-  new_put name bytes s its_name its_length enough = record {
+      → IsFollowed Two root entries s now [] (record { staged = Put put catalogues; root = next }) bytes (entry_sectors others) others (with_new name bytes s)
+  new_put now name bytes s its_name its_length enough = record {
     unused = more_unused kept is_new.claimed;
-    stands = λ m by (written, spelt, listed). following_stands new_next kept.root_fits Two m entries s (with_new name bytes s) by listed
+    apart = λ k found there. omega (arith, there.1);
+    synced = tt;
+    stands = λ m by (written, spelt, listed) still. following_stands new_next kept.root_fits Two m entries s (with_new name bytes s) by listed
         (All-push (λ (p : PlacedEntry). SpellsEntry (sector m p.at) p.entry) entries put by.intact.listed.each spelt)
         (ap (with_new name bytes) by.is ∙ (λ i. record {
           generation = root.generation + 1;

@@ -18,7 +18,7 @@ use Rattle.roots.specs.declared.version.Version.{Version}
 use Rattle.roots.specs.declared.version.Version.TheVariants.{Two}
 use Rattle.store.specs.Stands.{IsListed, UsesApart, HasRoom, HaveOwnNames, StandsBy, StandsAs, Stands, entry_sectors, library_of, names_at, catalogues_of, sectors_of, used, state_of}
 use Rattle.store.specs.declared.change.Change.{Change}
-use Rattle.store.specs.inside.Change.{IsFollowed, IsStaged}
+use Rattle.store.specs.inside.Change.{AreWritten, IsFollowed, IsStaged}
 use Rattle.store.specs.inside.Room.{IsRootOr}
 use Rattle.store.proofs.UsedAlone.{same_used, libraries_same, listed_same, own_used}
 
@@ -107,14 +107,14 @@ module _ (version : Version) {old mid : DiskFacts} (root : Root) (entries : List
   staged_only s' = weaken IsOld (λ m. StandsAs version m s ⊎ Stands m s') (λ m by. inl (root, entries, by)) staged_stands
 
 -- A root is written where each mixture stands for a state and has what is staged: each stands for that state or the next.
-module _ (version : Version) {old : DiskFacts} (root : Root) (entries : List PlacedEntry) (s : State) (change : Change) (bytes listed : List ℕ)
-    (others : List PlacedEntry) (s' : State) (stands : (m : List Sector) → Mixture old m → StandsBy version m root entries s)
-    (staged : (m : List Sector) → Mixture old m → IsStaged m change.staged bytes listed)
-    (followed : IsFollowed version root entries s change bytes listed others s') (at : ℕ) (content : Sector) (slot : at ≡ slot_of change.root.generation)
+module _ (version : Version) {old : DiskFacts} (root : Root) (entries : List PlacedEntry) (s : State) (now : List Sector) (written : List PlacedEntry) (change : Change)
+    (bytes listed : List ℕ) (others : List PlacedEntry) (s' : State) (stands : (m : List Sector) → Mixture old m → StandsBy version m root entries s)
+    (staged : (m : List Sector) → Mixture old m → IsStaged m change.staged bytes listed) (still : (m : List Sector) → Mixture old m → AreWritten now written m)
+    (followed : IsFollowed version root entries s now written change bytes listed others s') (at : ℕ) (content : Sector) (slot : at ≡ slot_of change.root.generation)
     (spelt : content ≡ root_bytes change.root) where
   after_stands : (m : List Sector) → Mixture old m → StandsBy Two (set m at content) change.root others s'
   after_stands m mixture = subst (λ c. StandsBy Two (set m at c) change.root others s') (sym spelt)
-      (subst (λ k. StandsBy Two (set m k (root_bytes change.root)) change.root others s') (sym slot) (followed.stands m (stands m mixture) (staged m mixture)))
+      (subst (λ k. StandsBy Two (set m k (root_bytes change.root)) change.root others s') (sym slot) (followed.stands m (stands m mixture) (staged m mixture) (still m mixture)))
 
   pub followed_only : {new : DiskFacts} → LeavesOnly old new (IsMixtureOrSet old at content) → LeavesOnly old new (λ m. StandsAs version m s ⊎ Stands m s')
   followed_only leaves = weaken (IsMixtureOrSet old at content) (λ m. StandsAs version m s ⊎ Stands m s')

@@ -1,6 +1,7 @@
 -- A store of version 1 whose entries are listed by catalogues.
 use Rattle.std.proofs.Common.{◌≡◌, ℕ, ◌+◌, ◌*◌, ◌^◌, ◌<◌, ◌≤◌, Bool, List, [], length, sym, ap, subst, ◌∙◌, arith}
 use Rattle.std.specs.List.{flat_map}
+use Rattle.sector_disk.specs.Disk.{Sector}
 use Rattle.std.proofs.lemmas.List.{length-take-le}
 use Rattle.extents.specs.Layout.{free_count}
 use Rattle.extents.specs.Used.{layout_of}
@@ -94,10 +95,12 @@ module _ {root : Root} {entries : List PlacedEntry} {held : List HeldRow} {layou
   }
 
   -- What it makes of sectors.
-  pub relist_followed : (s : State) (bytes : List ℕ) → IsFollowed One root entries s (record { staged = Catalogues catalogues; root = next }) bytes (entry_sectors entries) entries (upgraded s)
-  relist_followed s bytes = record {
+  pub relist_followed : (now : List Sector) (s : State) (bytes : List ℕ) → IsFollowed One root entries s now [] (record { staged = Catalogues catalogues; root = next }) bytes (entry_sectors entries) entries (upgraded s)
+  relist_followed now s bytes = record {
     unused = more_unused is.kept is.claimed;
-    stands = λ m by catalogued. following_stands relist_next is.kept.root_fits One m entries s (upgraded s) by catalogued by.intact.listed.each (ap upgraded by.is);
+    apart = λ k found there. omega (arith, there.1);
+    synced = tt;
+    stands = λ m by catalogued still. following_stands relist_next is.kept.root_fits One m entries s (upgraded s) by catalogued by.intact.listed.each (ap upgraded by.is);
   }
 
   -- The catalogues are in sectors that weren't in use.

@@ -162,10 +162,12 @@ module _ {root : Root} {entries : List PlacedEntry} {held : List HeldRow} {layou
   }
 
   -- What the removal makes of sectors.
-  pub removal_followed : (s : State) (bytes : List ℕ) → IsFollowed Two root entries s (record { staged = Catalogues catalogues; root = next }) bytes (entry_sectors left) left (without name s)
-  removal_followed s bytes = record {
+  pub removal_followed : (now : List Sector) (s : State) (bytes : List ℕ) → IsFollowed Two root entries s now [] (record { staged = Catalogues catalogues; root = next }) bytes (entry_sectors left) left (without name s)
+  removal_followed now s bytes = record {
     unused = more_unused kept removal.claimed;
-    stands = λ m by catalogued. following_stands removal_next kept.root_fits Two m entries s (without name s) by catalogued
+    apart = λ k found there. omega (arith, there.1);
+    synced = tt;
+    stands = λ m by catalogued still. following_stands removal_next kept.root_fits Two m entries s (without name s) by catalogued
         (all_remove (λ (p : PlacedEntry). SpellsEntry (sector m p.at) p.entry) entries gone by.intact.listed.each)
         (ap (without name) by.is ∙ (λ i. record {
           generation = root.generation + 1;

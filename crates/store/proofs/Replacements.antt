@@ -180,12 +180,14 @@ module _ {root : Root} {entries : List PlacedEntry} {held : List HeldRow} {layou
   }
 
   -- and this is what the put makes of sectors.
-  pub replacement_put : (bytes : List ℕ) (s : State) → put.entry.file_length ≡ length bytes
+  pub replacement_put : (now : List Sector) (bytes : List ℕ) (s : State) → put.entry.file_length ≡ length bytes
       → length bytes ≤ 512 * sector_count (extents_of put.entry)
-      → IsFollowed Two root entries s (record { staged = Put put catalogues; root = next }) bytes (entry_sectors others) others (with_bytes name bytes s)
-  replacement_put bytes s its_length enough = record {
+      → IsFollowed Two root entries s now [] (record { staged = Put put catalogues; root = next }) bytes (entry_sectors others) others (with_bytes name bytes s)
+  replacement_put now bytes s its_length enough = record {
     unused = more_unused kept is.claimed;
-    stands = λ m by (written, spelt, listed). following_stands replacement_next kept.root_fits Two m entries s (with_bytes name bytes s) by listed
+    apart = λ k found there. omega (arith, there.1);
+    synced = tt;
+    stands = λ m by (written, spelt, listed) still. following_stands replacement_next kept.root_fits Two m entries s (with_bytes name bytes s) by listed
         (All-set (λ (p : PlacedEntry). SpellsEntry (sector m p.at) p.entry) entries place put spelt by.intact.listed.each)
         (ap (with_bytes name bytes) by.is ∙ (λ i. record {
           generation = root.generation + 1;

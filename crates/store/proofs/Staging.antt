@@ -1,33 +1,28 @@
 -- What a change stages: the places of its single sectors beside those of its bytes.
 use Rattle.std.proofs.Common.{◌≡◌, ℕ, ◌+◌, ◌*◌, ◌<◌, ◌≤◌, List, [], ◌∷◌, ◌++◌, get_or, set, All, sym, ap, subst, ◌∙◌, arith}
 use Rattle.std.specs.Prelude.{Contains}
+use Rattle.std.specs.List.{flat_map}
 use Rattle.std.proofs.lemmas.List.{append-nil}
 use Rattle.std.proofs.lemmas.List.Elements.{All-contains, Contains-append_left, Contains-append_right, Contains-get_or}
 use Rattle.std.proofs.lemmas.List.Sums.{sum_by-cons}
 use Rattle.extents.specs.declared.extent.Extent.{Extent}
 use Rattle.extents.specs.Limits.{root_sectors}
 use Rattle.extents.specs.Extent.{AreDistinct, places, sector_count}
-use Rattle.sector_disk.specs.Disk.{Sector, sector_bytes, DiskFacts, Mixture, IsMixtureBut, IsSynced, LeavesOnly}
-use Rattle.sector_disk.proofs.Moments.{weaken}
+use Rattle.sector_disk.specs.Disk.{Sector, sector, sector_bytes, DiskFacts, Mixture, IsMixtureBut, IsSynced, LeavesOnly, SameBut}
 use Rattle.passes.specs.Bytes.{padded}
 use Rattle.passes.specs.Singles.{single_places}
+use Rattle.passes.proofs.Commits.{wider, wider_leaves}
 use Rattle.passes.specs.declared.single.SingleSector.{SingleSector}
 use Rattle.store.specs.declared.placed_entry.PlacedEntry.{PlacedEntry}
 use Rattle.store.specs.declared.change.Staged.{Staged}
 use Rattle.store.specs.declared.change.Staged.TheVariants.{Nothing, Catalogues, Put}
 use Rattle.store.specs.Stands.{extents_of, sectors_of}
-use Rattle.store.specs.inside.Change.{CanBeStaged, HasBytes, IsStaged, staged_sectors}
+use Rattle.store.specs.inside.Change.{AreWritten, CanBeStaged, HasBytes, IsStaged, staged_sectors}
 use Rattle.store.specs.inside.Claimed.{IsUsable}
 use Rattle.store.specs.inside.Room.{HavePlaces, HasPlace}
 use Rattle.store.proofs.CataloguedEntries.{all_singles}
 use Rattle.store.proofs.Counts.{one, occurs, occurs-append, contains_occurs, occurs_contains, distinct_occurs, occurs_distinct}
 use Rattle.store.proofs.Written.{written_stays}
-
--- what differs in these sectors alone, differs in more of them alone
-among_more : {old new : DiskFacts} (few more : List ℕ) → ((k : ℕ) → Contains few k → Contains more k)
-    → LeavesOnly old new (IsMixtureBut (Contains few) old) → LeavesOnly old new (IsMixtureBut (Contains more) old)
-among_more {old = old} few more among = weaken (IsMixtureBut (Contains few) old) (IsMixtureBut (Contains more) old)
-    (λ m but. (but.0, but.1, record { size = but.2.size; others = λ k other. but.2.others k (λ here. other (among k here)) }))
 
 -- Of bytes, their entry and catalogues.
 module _ {sectors : ℕ} {put : PlacedEntry} {catalogues : List ℕ} (singles : List SingleSector) (extents : List Extent)
@@ -70,18 +65,32 @@ module _ {sectors : ℕ} {put : PlacedEntry} {catalogues : List ℕ} (singles : 
   staged_among : (k : ℕ) → Contains (single_places singles ++ places extents) k → Contains all k
   staged_among k found = occurs_contains k all (omega (arith, parts k, occurs-append k (single_places singles) (places extents), contains_occurs k (single_places singles ++ places extents) found))
 
+  pub put_now : {old now : List Sector} → SameBut (Contains (single_places singles ++ places extents)) old now → SameBut (Contains (sectors_of put ++ catalogues)) old now
+  put_now = wider staged_among
+
   -- so a stop while they are staged changes the entry's sectors and the catalogues alone
   pub put_moment : {old new : DiskFacts} → LeavesOnly old new (IsMixtureBut (Contains (single_places singles ++ places extents)) old)
       → LeavesOnly old new (IsMixtureBut (Contains (sectors_of put ++ catalogues)) old)
-  put_moment = among_more (single_places singles ++ places extents) (sectors_of put ++ catalogues) staged_among
+  put_moment = wider_leaves (Contains (single_places singles ++ places extents)) (Contains (sectors_of put ++ catalogues)) staged_among
 
 -- Of catalogues alone.
 module _ {sectors : ℕ} {catalogues : List ℕ} (singles : List SingleSector) (have : HavePlaces sectors catalogues) (is : single_places singles ≡ catalogues) where
   pub list_inside : All (λ single. single.at < sectors) singles
   list_inside = all_singles (λ k. k < sectors) singles (subst (All (λ k. k < sectors)) (sym is) (λ i d lt. (have.inside i d lt).1))
 
+  alone : (k : ℕ) → Contains (single_places singles ++ []) k → Contains catalogues k
+  alone k found = subst (λ l. Contains l k) (append-nil (single_places singles) ∙ is) found
+
+  pub list_now : {old now : List Sector} → SameBut (Contains (single_places singles ++ [])) old now → SameBut (Contains catalogues) old now
+  list_now = wider alone
+
   pub list_moment : {old new : DiskFacts} → LeavesOnly old new (IsMixtureBut (Contains (single_places singles ++ [])) old) → LeavesOnly old new (IsMixtureBut (Contains catalogues) old)
-  list_moment = among_more (single_places singles ++ []) catalogues (λ k found. subst (λ l. Contains l k) (append-nil (single_places singles) ∙ is) found)
+  list_moment = wider_leaves (Contains (single_places singles ++ [])) (Contains catalogues) alone
+
+-- What was written elsewhere stays where a sync follows.
+pub still_written : (old new : DiskFacts) (staged : List ℕ) (written : List PlacedEntry) → SameBut (Contains staged) old.now new.now → IsSynced new
+    → ((k : ℕ) → Contains staged k → Contains (flat_map sectors_of written) k → ⊥) → (m : List Sector) → Mixture new m → AreWritten old.now written m
+still_written old new staged written same is_synced apart m mixture = record { each = λ k found. ap (λ l. sector l k) (is_synced.each m mixture) ∙ same.others k (λ here. apart k here found) }
 
 -- What is staged lies behind the roots,
 pub staged_behind : (sectors : ℕ) (staged : Staged) (listed : List ℕ) → CanBeStaged sectors staged listed → (k : ℕ) → Contains (staged_sectors staged) k → root_sectors ≤ k

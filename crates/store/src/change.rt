@@ -11,6 +11,7 @@ ghost use Rattle.states.specs.State.{State};
 ghost use Rattle.store.specs.declared.placed_entry.PlacedEntry.{PlacedEntry};
 ghost use Rattle.store.specs.Stands.{StandsBy, StandsAs, Stands};
 ghost use Rattle.store.specs.inside.Change.{CanBeStaged, HasBytes, HasSpelling, IsFollowed};
+ghost use Rattle.store.specs.inside.Change.{AreWritten, HasSync, IsApartFrom};
 ghost use Rattle.store.specs.inside.Change.{IsStaged, staged_calls, staged_sectors};
 ghost use Rattle.store.specs.inside.Room.{AreClaimedOnce, IsReleased, IsRootOr};
 
@@ -60,6 +61,12 @@ fn write_staged<D: Disk>(
     ensures staged { IsTrue (D.facts disk.old).honest
         → OnOk result ((m : List Sector) → Mixture (D.facts disk.new) m
         → IsStaged m staged.now bytes.now listed.now) }
+
+    // Where it syncs, what was written elsewhere before stands then in every mixture.
+    ensures written { IsTrue (D.facts disk.old).honest
+        → OnOk result ((written : List PlacedEntry) → IsApartFrom staged.now written
+        → HasSync staged.now written → (m : List Sector) → Mixture (D.facts disk.new) m
+        → AreWritten (D.facts disk.old).now written m) }
 {
     match staged {
         Staged::Nothing => Ok(()),
@@ -92,18 +99,20 @@ impl Change {
             (D.facts disk.old) (D.facts disk.new) result }
         ensures any_moment { IsTrue (D.facts disk.old).honest
             → (version : Version) → (before : Root) → (entries : List PlacedEntry) → (s : State)
-            → (others : List PlacedEntry) → (s' : State)
+            → (written : List PlacedEntry) → (others : List PlacedEntry) → (s' : State)
             → ((m : List Sector) → Mixture (D.facts disk.old) m
             → StandsBy version m before entries s)
-            → IsFollowed version before entries s self.now bytes.now listed.now others s'
+            → IsFollowed version before entries s (D.facts disk.old).now written self.now
+            bytes.now listed.now others s'
             → LeavesOnly (D.facts disk.old) (D.facts disk.new)
             (λ m. StandsAs version m s ⊎ Stands m s') }
         ensures done { IsTrue (D.facts disk.old).honest
             → (version : Version) → (before : Root) → (entries : List PlacedEntry) → (s : State)
-            → (others : List PlacedEntry) → (s' : State)
+            → (written : List PlacedEntry) → (others : List PlacedEntry) → (s' : State)
             → ((m : List Sector) → Mixture (D.facts disk.old) m
             → StandsBy version m before entries s)
-            → IsFollowed version before entries s self.now bytes.now listed.now others s'
+            → IsFollowed version before entries s (D.facts disk.old).now written self.now
+            bytes.now listed.now others s'
             → OnOk result ((m : List Sector) → Mixture (D.facts disk.new) m
             → StandsBy Two m self.now.root others s') }
         ensures written { IsTrue (D.facts disk.old).honest

@@ -1,5 +1,6 @@
 -- A change that is planned: what it stages, and what sectors hold once it is carried out.
 use Rattle.std.specs.Prelude.{◌≡◌, ℕ, ◌+◌, ◌*◌, List, [], ◌++◌, length, set, Contains}
+use Rattle.std.specs.List.{flat_map}
 use Rattle.sector_disk.specs.Disk.{Sector, sector, sector_bytes}
 use Rattle.extents.specs.Extent.{places, sector_count}
 use Rattle.passes.specs.Bytes.{bytes_at, padded}
@@ -57,10 +58,25 @@ IsStaged m (Catalogues catalogues) bytes listed = AreCatalogued m catalogues lis
 IsStaged m (Put put catalogues) bytes listed =
     HasBytes m (Put put catalogues) bytes × SpellsEntry (sector m put.at) put.entry × AreCatalogued m catalogues listed
 
--- Sectors that hold s, in which this is staged beside what s uses, hold s' once the next root is
--- written.
-pub record IsFollowed (version : Version) (root : Root) (entries : List PlacedEntry) (s : State) (change : Change)
-    (bytes listed : List ℕ) (others : List PlacedEntry) (s' : State) : Type 0 where
+-- What is staged lies apart from the sectors of these entries and their bytes.
+abbrev pub IsApartFrom : Staged → List PlacedEntry → Type 0
+IsApartFrom staged written = (k : ℕ) → Contains (staged_sectors staged) k → Contains (flat_map sectors_of written) k → ⊥
+
+-- A sync stands between what was written before and the root: one is made where anything is staged.
+abbrev pub HasSync : Staged → (written : List PlacedEntry) → Type 0
+HasSync Nothing written = written ≡ []
+HasSync staged written = Unit
+
+-- Entries and their bytes, which were written before, stand in these sectors as they do now.
+pub record AreWritten (now : List Sector) (written : List PlacedEntry) (m : List Sector) : Type 0 where
+  pub each : (k : ℕ) → Contains (flat_map sectors_of written) k → sector m k ≡ sector now k
+
+-- Sectors that hold s, in which this is staged beside what s uses and beside what was written
+-- before, hold s' once the next root is written.
+pub record IsFollowed (version : Version) (root : Root) (entries : List PlacedEntry) (s : State) (now : List Sector) (written : List PlacedEntry)
+    (change : Change) (bytes listed : List ℕ) (others : List PlacedEntry) (s' : State) : Type 0 where
   pub unused : (k : ℕ) → Contains (staged_sectors change.staged) k → Contains (used root entries) k → ⊥
-  pub stands : (m : List Sector) → StandsBy version m root entries s → IsStaged m change.staged bytes listed
+  pub apart : IsApartFrom change.staged written
+  pub synced : HasSync change.staged written
+  pub stands : (m : List Sector) → StandsBy version m root entries s → IsStaged m change.staged bytes listed → AreWritten now written m
       → StandsBy Two (set m (slot_of change.root.generation) (root_bytes change.root)) change.root others s'

@@ -2,15 +2,15 @@ use Rattle.std.proofs.Common.{◌≡◌, IsTrue, ◌+◌, ◌<◌, ◌++◌, len
 use Rattle.std.specs.List.{Contains}
 use Rattle.std.proofs.lemmas.List.Elements.{All-same, All-take, All-drop, Contains-append_left, Contains-append_right}
 use Rattle.std.proofs.lemmas.Result.{on_ok_weaker}
-use Rattle.sector_disk.specs.Disk.{IsMixtureBut}
-use Rattle.sector_disk.proofs.Mixtures.{synced_at_ok}
+use Rattle.sector_disk.specs.Disk.{IsMixtureBut, SameBut}
+use Rattle.sector_disk.proofs.Mixtures.{same_more, synced_at_ok}
 use Rattle.sector_disk.proofs.Writes.{sync_leaves}
 use Rattle.extents.specs.Extent.{places, sector_count}
 use Rattle.passes.specs.Bytes.{IsOnDisk, bytes_at}
 use Rattle.passes.specs.declared.single.SingleSector.{SingleSector}
 use Rattle.passes.specs.Calls.{AreCallsInRow}
 use Rattle.passes.specs.Singles.{single_places, HoldsSingles}
-use Rattle.passes.proofs.Commits.{wider_leaves}
+use Rattle.passes.proofs.Commits.{wider, wider_leaves}
 use Rattle.passes.proofs.Files.{more_leaves}
 use Rattle.passes.proofs.Parts.{parts_of, front_among, back_among, front_once, back_once, parts_apart, whole_held, still_held}
 use Rattle.passes.proofs.Rows.{one_in_row, then_in_row, stop_in_row}
@@ -100,6 +100,20 @@ returns-clause-synced g c honest =
     let honest_last = subst IsTrue (sym c.write_singles-2.ensures.calls.honest) honest_after in
     let honest_now = subst IsTrue (sym c.sync.ensures.calls.honest) honest_last in
     synced_at_ok (g.met.D.Disk.holds_now _ honest_now) (c.sync.ensures.honest honest_last)
+
+pub returns-clause-now : goal.returns-clause-now
+returns-clause-now g c honest =
+    let parts = parts_of c.count_before.result c.args.singles.now _ _ c.split_at.ensures.front c.split_at.ensures.back in
+    let ks = places c.args.extents.now in
+    let at = single_places c.args.singles.now in
+    let honest_then = subst IsTrue (sym c.write_singles.ensures.calls.honest) honest in
+    let honest_after = subst IsTrue (sym c.write_bytes.ensures.calls.honest) honest_then in
+    let honest_last = subst IsTrue (sym c.write_singles-2.ensures.calls.honest) honest_after in
+    let sync = c.sync.ensures.honest honest_last in
+    let first = wider {more = Contains (at ++ ks)} (λ k found. Contains-append_left at ks k (front_among parts k found)) (c.in_ok-write_singles.ensures.now honest) in
+    let then = same_more (Contains-append_right at ks) first (c.in_ok-write_bytes.ensures.now honest_then) in
+    let last = same_more (λ k found. Contains-append_left at ks k (back_among parts k found)) then (c.in_ok-write_singles-2.ensures.now honest_after) in
+    on_ok_weaker c.sync.result (λ _. subst (SameBut (Contains (at ++ ks)) (g.D.Disk.facts c.args.disk.now).now) (sym sync.now) last) sync.stop_ok
 
 pub returns-clause-written : goal.returns-clause-written
 returns-clause-written g c honest =

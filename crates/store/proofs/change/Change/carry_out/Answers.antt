@@ -15,12 +15,12 @@ behind : (g : given.Over) (c : After-write_staged g) (k : ℕ) → Contains (sta
 behind g c = staged_behind (g.D.Disk.facts c.args.disk.now).sectors c.args.self.now.staged c.args.listed.now c.requires.room
 
 pub returns-in_err-write_staged-clause-any_moment : goal.returns-in_err-write_staged-clause-any_moment
-returns-in_err-write_staged-clause-any_moment g c honest version before entries s others s' stands followed =
+returns-in_err-write_staged-clause-any_moment g c honest version before entries s written others s' stands followed =
     let here = (goal.at.returns-in_err-write_staged-clause-any_moment g c).After-write_staged in
     staged_only version before entries s stands (Contains (staged_sectors c.args.self.now.staged)) (behind g here) followed.unused (c.write_staged.ensures.any_moment honest) s'
 
 pub returns-clause-any_moment : goal.returns-clause-any_moment
-returns-clause-any_moment g c honest version before entries s others s' stands followed =
+returns-clause-any_moment g c honest version before entries s written others s' stands followed =
     let here = (goal.at.returns-clause-any_moment g c).After-write_staged in
     let honest_mid = subst IsTrue (sym c.write_staged.ensures.calls.honest) honest in
     let changed = Contains (staged_sectors c.args.self.now.staged) in
@@ -28,18 +28,20 @@ returns-clause-any_moment g c honest version before entries s others s' stands f
     let still = left_now (λ m. StandsBy version m before entries s) (staged_stands version before entries s stands changed (behind g here) followed.unused staged) in
     goes_on (λ m. StandsAs version m s ⊎ Stands m s')
     (staged_only version before entries s stands changed (behind g here) followed.unused staged s')
-    (followed_only version before entries s c.args.self.now c.args.bytes.now c.args.listed.now others s' still (c.in_ok-write_staged.ensures.staged honest) followed
+    (followed_only version before entries s (g.D.Disk.facts c.args.disk.now).now written c.args.self.now c.args.bytes.now c.args.listed.now others s' still
+    (c.in_ok-write_staged.ensures.staged honest) (c.in_ok-write_staged.ensures.written honest written followed.apart followed.synced) followed
     c.slot_of.result c.encode_root.result c.slot_of.ensures.value c.encode_root.ensures.spelling (c.commit.ensures.any_moment honest_mid))
 
 pub returns-clause-done : goal.returns-clause-done
-returns-clause-done g c honest version before entries s others s' stands followed =
+returns-clause-done g c honest version before entries s written others s' stands followed =
     let here = (goal.at.returns-clause-done g c).After-write_staged in
     let honest_mid = subst IsTrue (sym c.write_staged.ensures.calls.honest) honest in
     let changed = Contains (staged_sectors c.args.self.now.staged) in
     let still = left_now (λ m. StandsBy version m before entries s)
     (staged_stands version before entries s stands changed (behind g here) followed.unused (c.write_staged.ensures.any_moment honest)) in
     ok_both c.commit.result
-    (followed_done version before entries s c.args.self.now c.args.bytes.now c.args.listed.now others s' still (c.in_ok-write_staged.ensures.staged honest) followed
+    (followed_done version before entries s (g.D.Disk.facts c.args.disk.now).now written c.args.self.now c.args.bytes.now c.args.listed.now others s' still
+    (c.in_ok-write_staged.ensures.staged honest) (c.in_ok-write_staged.ensures.written honest written followed.apart followed.synced) followed
     c.slot_of.result c.encode_root.result c.slot_of.ensures.value c.encode_root.ensures.spelling (g.met.D.Disk.holds_now _ honest_mid) {new = g.D.Disk.facts c.commit.new.disk})
     (c.commit.ensures.synced honest_mid) (c.commit.ensures.now honest_mid)
 

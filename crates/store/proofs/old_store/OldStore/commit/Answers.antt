@@ -67,10 +67,10 @@ abbrev change : (g : given.Over) (c : After-next_root-root g) → Change
 change g c = record { staged = Catalogues c.take_catalogues-taken.result; root = c.next_root-root.result }
 
 following : (g : given.Over) (c : After-next_root-root g) (s : State) (bytes sectors : List ℕ) → sectors ≡ c.self.inside.found.sectors.items
-    → IsFollowed One c.self.inside.found.root c.self.inside.found.entries.items s (change g c) bytes sectors c.self.inside.found.entries.items (upgraded s)
+    → IsFollowed One c.self.inside.found.root c.self.inside.found.entries.items s (g.D.Disk.facts c.self.inside.disk).now [] (change g c) bytes sectors c.self.inside.found.entries.items (upgraded s)
 following g c s bytes sectors are =
-    subst (λ l. IsFollowed One c.self.inside.found.root c.self.inside.found.entries.items s (change g c) bytes l c.self.inside.found.entries.items (upgraded s))
-    (sym (are ∙ sectors_are g c)) (relist_followed (relisted g c) s bytes)
+    subst (λ l. IsFollowed One c.self.inside.found.root c.self.inside.found.entries.items s (g.D.Disk.facts c.self.inside.disk).now [] (change g c) bytes l c.self.inside.found.entries.items (upgraded s))
+    (sym (are ∙ sectors_are g c)) (relist_followed (relisted g c) (g.D.Disk.facts c.self.inside.disk).now s bytes)
 
 pub carry_out-requires-clause-root : goal.carry_out-requires-clause-root
 carry_out-requires-clause-root g c =
@@ -90,13 +90,13 @@ carry_out-requires-clause-room g c =
 
 -- a stop leaves the state from before or the one after
 leaves : (g : given.Over) (c : After-carry_out g) (s : State)
-    → IsFollowed One c.self.inside.found.root c.self.inside.found.entries.items s (record { staged = Catalogues c.take_catalogues-taken.result; root = c.next_root-root.result })
+    → IsFollowed One c.self.inside.found.root c.self.inside.found.entries.items s (g.D.Disk.facts c.self.inside.disk).now [] (record { staged = Catalogues c.take_catalogues-taken.result; root = c.next_root-root.result })
     [] c.deref.result.now c.self.inside.found.entries.items (upgraded s)
     → IsOldAt g.D.Disk.facts c.args.self s → LeavesOnly (g.D.Disk.facts c.args.self.disk) (g.D.Disk.facts c.carry_out.new.disk) (λ m. StandsOld m s ⊎ Stands m (upgraded s))
 leaves g c s is at_entry =
     let at = subst (λ store. IsOldAt g.D.Disk.facts store s) (sym c.self.view_is) at_entry in
     subst (λ store. LeavesOnly (g.D.Disk.facts store.disk) (g.D.Disk.facts c.carry_out.new.disk) (λ m. StandsOld m s ⊎ Stands m (upgraded s))) c.self.view_is
-    (c.carry_out.ensures.any_moment at.honest One c.self.inside.found.root c.self.inside.found.entries.items s c.self.inside.found.entries.items
+    (c.carry_out.ensures.any_moment at.honest One c.self.inside.found.root c.self.inside.found.entries.items s [] c.self.inside.found.entries.items
     (upgraded s) at.stands is)
 
 pub returns-in-Err-clause-any_moment : goal.returns-in-Err-clause-any_moment
@@ -141,7 +141,7 @@ returns-in-Ok-clause-ok g c s at_entry =
     let before = (goal.at.returns-in-Ok-clause-ok g c).After-next_root-root in
     let next = c.next_root-root.result in
     let entries = c.self.inside.found.entries.items in
-    let done = c.in-Ok.ensures.done at.honest One c.self.inside.found.root entries s entries (upgraded s) at.stands (following g before s [] c.deref.result.now c.deref.ensures.value) in
+    let done = c.in-Ok.ensures.done at.honest One c.self.inside.found.root entries s [] entries (upgraded s) at.stands (following g before s [] c.deref.result.now c.deref.ensures.value) in
     record {
       honest = subst (λ d. IsTrue (facts d).honest) (sym c.beside.ensures.disk) (subst IsTrue (sym c.carry_out.ensures.calls.honest) at.honest);
       usable = c.beside.ensures.usable;

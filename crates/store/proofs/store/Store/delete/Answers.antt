@@ -90,12 +90,12 @@ abbrev change : (g : given.Over) (c : After-root_without-root g) → Change
 change g c = record { staged = Catalogues c.take_catalogues-taken.result; root = c.root_without-root.result }
 
 removed : (g : given.Over) (c : After-root_without-root g) (s : State) (bytes sectors : List ℕ) → sectors ≡ c.remove.new.self.items
-    → IsFollowed Two c.self.inside.root c.self.inside.entries.items s (change g c) bytes sectors
+    → IsFollowed Two c.self.inside.root c.self.inside.entries.items s (g.D.Disk.facts c.self.inside.disk).now [] (change g c) bytes sectors
     (remove c.self.inside.entries.items c.in-Some.position) (without c.args.name.now s)
 removed g c s bytes sectors are =
-    subst (λ sectors. IsFollowed Two c.self.inside.root c.self.inside.entries.items s (change g c) bytes sectors
+    subst (λ sectors. IsFollowed Two c.self.inside.root c.self.inside.entries.items s (g.D.Disk.facts c.self.inside.disk).now [] (change g c) bytes sectors
     (remove c.self.inside.entries.items c.in-Some.position) (without c.args.name.now s)) (sym (are ∙ listed_are g c))
-    (removal_followed (removing g c) s bytes)
+    (removal_followed (removing g c) (g.D.Disk.facts c.self.inside.disk).now s bytes)
 
 pub carry_out-written-requires-clause-root : goal.carry_out-written-requires-clause-root
 carry_out-written-requires-clause-root g c =
@@ -119,13 +119,13 @@ carry_out-written-requires-clause-room g c =
 
 -- a stop leaves the state from before or the one after
 leaves : (g : given.Over) (c : After-carry_out-written g) (s : State)
-    → IsFollowed Two c.self.inside.root c.self.inside.entries.items s (record { staged = Catalogues c.take_catalogues-taken.result; root = c.root_without-root.result }) [] c.deref-2.result.now
+    → IsFollowed Two c.self.inside.root c.self.inside.entries.items s (g.D.Disk.facts c.self.inside.disk).now [] (record { staged = Catalogues c.take_catalogues-taken.result; root = c.root_without-root.result }) [] c.deref-2.result.now
     (remove c.self.inside.entries.items c.in-Some.position) (without c.args.name.now s)
     → IsAt g.D.Disk.facts c.args.self.now s → LeavesOnly (g.D.Disk.facts c.args.self.now.disk) (g.D.Disk.facts c.carry_out-written.new.disk) (λ m. Stands m s ⊎ Stands m (without c.args.name.now s))
 leaves g c s is at_entry =
     let at = subst (λ store. IsAt g.D.Disk.facts store s) (sym c.self.view_is) at_entry in
     subst (λ store. LeavesOnly (g.D.Disk.facts store.disk) (g.D.Disk.facts c.carry_out-written.new.disk) (λ m. Stands m s ⊎ Stands m (without c.args.name.now s))) c.self.view_is
-    (c.carry_out-written.ensures.any_moment at.honest Two c.self.inside.root c.self.inside.entries.items s
+    (c.carry_out-written.ensures.any_moment at.honest Two c.self.inside.root c.self.inside.entries.items s []
     (remove c.self.inside.entries.items c.in-Some.position) (without c.args.name.now s) at.stands is)
 
 pub returns-in-Err-clause-any_moment : goal.returns-in-Err-clause-any_moment
@@ -206,7 +206,7 @@ returns-clause-ok g c s at_entry =
       honest = subst IsTrue (sym c.carry_out-written.ensures.calls.honest) at.honest;
       usable = refl;
       stands = λ m mixture. subst (λ l. StandsBy Two m c.root_without-root.result l (without c.args.name.now s)) (sym c.remove-3.ensures.items)
-          (c.in_default-written.ensures.done at.honest Two c.self.inside.root c.self.inside.entries.items s
+          (c.in_default-written.ensures.done at.honest Two c.self.inside.root c.self.inside.entries.items s []
           (remove c.self.inside.entries.items c.in-Some.position) (without c.args.name.now s) at.stands is m mixture);
     }
 

@@ -107,13 +107,13 @@ enough : (g : given.Over) (c : After-next_root-root g) → length c.args.bytes.n
 enough g c = omega (arith, ap sector_count c.new_entry-put.ensures.extents, c.in_ok-room.ensures.sum, c.sector_need.ensures, (div_ceil_times (length c.args.bytes.now) 512 (omega arith)).0)
 
 putting : (g : given.Over) (c : After-next_root-root g) (s : State) (sectors : List ℕ) → sectors ≡ c.push_reserved.new.self.items
-    → IsFollowed Two c.self.inside.root c.self.inside.entries.items s (record { staged = Put c.new_entry-put.result c.in_ok-room.room.catalogues; root = c.next_root-root.result })
+    → IsFollowed Two c.self.inside.root c.self.inside.entries.items s (g.D.Disk.facts c.self.inside.disk).now [] (record { staged = Put c.new_entry-put.result c.in_ok-room.room.catalogues; root = c.next_root-root.result })
     c.args.bytes.now sectors (c.self.inside.entries.items ++ c.new_entry-put.result ∷ []) (with_new c.args.name.now c.args.bytes.now s)
 putting g c s sectors are =
     let others = c.self.inside.entries.items ++ c.new_entry-put.result ∷ [] in
     let change : Change = record { staged = Put c.new_entry-put.result c.in_ok-room.room.catalogues; root = c.next_root-root.result } in
-    subst (λ sectors. IsFollowed Two c.self.inside.root c.self.inside.entries.items s change c.args.bytes.now sectors others (with_new c.args.name.now c.args.bytes.now s)) (sym (are ∙ listed_are g c))
-    (new_put (newly g c) c.args.name.now c.args.bytes.now s c.new_entry-put.ensures.name c.new_entry-put.ensures.length (enough g c))
+    subst (λ sectors. IsFollowed Two c.self.inside.root c.self.inside.entries.items s (g.D.Disk.facts c.self.inside.disk).now [] change c.args.bytes.now sectors others (with_new c.args.name.now c.args.bytes.now s)) (sym (are ∙ listed_are g c))
+    (new_put (newly g c) (g.D.Disk.facts c.self.inside.disk).now c.args.name.now c.args.bytes.now s c.new_entry-put.ensures.name c.new_entry-put.ensures.length (enough g c))
 
 pub returns-in_err-reserve_one-clause-any_moment : goal.returns-in_err-reserve_one-clause-any_moment
 returns-in_err-reserve_one-clause-any_moment g c s at = untouched g.D.Disk.facts c.args.self.now _ s (with_new c.args.name.now c.args.bytes.now s) c.self.view_is at
@@ -168,7 +168,7 @@ returns-in-Err-clause-any_moment g c s at_entry =
     let at = subst (λ store. IsAt g.D.Disk.facts store s) (sym c.self.view_is) at_entry in
     let put = putting g (goal.at.returns-in-Err-clause-any_moment g c).After-next_root-root s c.deref.result.now c.deref.ensures.value in
     subst (λ store. LeavesOnly (g.D.Disk.facts store.disk) (g.D.Disk.facts c.carry_out-written.new.disk) (λ m. Stands m s ⊎ Stands m (with_new c.args.name.now c.args.bytes.now s))) c.self.view_is
-    (c.carry_out-written.ensures.any_moment at.honest Two c.self.inside.root c.self.inside.entries.items s
+    (c.carry_out-written.ensures.any_moment at.honest Two c.self.inside.root c.self.inside.entries.items s []
     (c.self.inside.entries.items ++ c.new_entry-put.result ∷ []) (with_new c.args.name.now c.args.bytes.now s) at.stands put)
 
 pub returns-in-Err-clause-refused : goal.returns-in-Err-clause-refused
@@ -230,7 +230,7 @@ returns-clause-any_moment g c s at_entry =
     let at = subst (λ store. IsAt g.D.Disk.facts store s) (sym c.self.view_is) at_entry in
     let put = putting g (goal.at.returns-clause-any_moment g c).After-next_root-root s c.deref.result.now c.deref.ensures.value in
     subst (λ store. LeavesOnly (g.D.Disk.facts store.disk) (g.D.Disk.facts c.carry_out-written.new.disk) (λ m. Stands m s ⊎ Stands m (with_new c.args.name.now c.args.bytes.now s))) c.self.view_is
-    (c.carry_out-written.ensures.any_moment at.honest Two c.self.inside.root c.self.inside.entries.items s
+    (c.carry_out-written.ensures.any_moment at.honest Two c.self.inside.root c.self.inside.entries.items s []
     (c.self.inside.entries.items ++ c.new_entry-put.result ∷ []) (with_new c.args.name.now c.args.bytes.now s) at.stands put)
 
 pub returns-clause-ok : goal.returns-clause-ok
@@ -242,7 +242,7 @@ returns-clause-ok g c s at_entry =
       honest = subst IsTrue (sym c.carry_out-written.ensures.calls.honest) at.honest;
       usable = refl;
       stands = λ m mixture. subst (λ l. StandsBy Two m c.next_root-root.result l (with_new c.args.name.now c.args.bytes.now s)) (sym items)
-          (c.in_default.ensures.done at.honest Two c.self.inside.root c.self.inside.entries.items s
+          (c.in_default.ensures.done at.honest Two c.self.inside.root c.self.inside.entries.items s []
           (c.self.inside.entries.items ++ c.new_entry-put.result ∷ []) (with_new c.args.name.now c.args.bytes.now s) at.stands put m mixture);
     }
 

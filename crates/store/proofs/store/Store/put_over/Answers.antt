@@ -1,4 +1,4 @@
-use Rattle.std.proofs.Common.{◌≡◌, ◌≢◌, ◌⊎◌, ◌-◌, ◌*◌, ◌<◌, ◌≤◌, List, ℕ, ◌++◌, All, get_or, set, length, IsTrue, None, refl, sym, subst, ap, ◌∙◌, arith}
+use Rattle.std.proofs.Common.{◌≡◌, ◌≢◌, ◌⊎◌, ◌-◌, ◌*◌, ◌<◌, ◌≤◌, List, [], ℕ, ◌++◌, All, get_or, set, length, IsTrue, None, refl, sym, subst, ap, ◌∙◌, arith}
 use Rattle.std.specs.Int.{div_ceil}
 use Rattle.std.proofs.lemmas.Bool.{false≢true}
 use Rattle.std.proofs.lemmas.Grind.{div_ceil_times}
@@ -90,14 +90,14 @@ enough : (g : given.Over) (c : After-next_root-root g) → length c.args.bytes.n
 enough g c = omega (arith, ap sector_count c.new_entry-put.ensures.extents, c.in_ok-room.ensures.sum, c.sector_need.ensures, (div_ceil_times (length c.args.bytes.now) 512 (omega arith)).0)
 
 putting : (g : given.Over) (c : After-next_root-root g) (s : State) (sectors : List ℕ) → sectors ≡ set c.self.inside.sectors.items c.in-Some.position c.new_entry-put.result.at
-    → IsFollowed Two c.self.inside.root c.self.inside.entries.items s (record { staged = Put c.new_entry-put.result c.in_ok-room.room.catalogues; root = c.next_root-root.result })
+    → IsFollowed Two c.self.inside.root c.self.inside.entries.items s (g.D.Disk.facts c.self.inside.disk).now [] (record { staged = Put c.new_entry-put.result c.in_ok-room.room.catalogues; root = c.next_root-root.result })
     c.args.bytes.now sectors (set c.self.inside.entries.items c.in-Some.position c.new_entry-put.result) (with_bytes c.args.name.now c.args.bytes.now s)
 putting g c s sectors are =
     let others = set c.self.inside.entries.items c.in-Some.position c.new_entry-put.result in
     let change : Change = record { staged = Put c.new_entry-put.result c.in_ok-room.room.catalogues; root = c.next_root-root.result } in
-    subst (λ sectors. IsFollowed Two c.self.inside.root c.self.inside.entries.items s change c.args.bytes.now sectors others (with_bytes c.args.name.now c.args.bytes.now s))
+    subst (λ sectors. IsFollowed Two c.self.inside.root c.self.inside.entries.items s (g.D.Disk.facts c.self.inside.disk).now [] change c.args.bytes.now sectors others (with_bytes c.args.name.now c.args.bytes.now s))
     (sym (are ∙ listed_are g c))
-    (replacement_put (replacing g c) c.args.bytes.now s c.new_entry-put.ensures.length (enough g c))
+    (replacement_put (replacing g c) (g.D.Disk.facts c.self.inside.disk).now c.args.bytes.now s c.new_entry-put.ensures.length (enough g c))
 
 -- what is given back once it is done stood there
 gone_is : (g : given.Over) (c : After-catalogues g) → sectors_of c.index.result.now
@@ -165,7 +165,7 @@ returns-in-Err-clause-any_moment g c s at_entry =
     let put = putting g (goal.at.returns-in-Err-clause-any_moment g c).After-next_root-root s c.deref-2.result.now c.deref-2.ensures.value in
     let next = with_bytes c.args.name.now c.args.bytes.now s in
     subst (λ store. LeavesOnly (g.D.Disk.facts store.disk) (g.D.Disk.facts c.carry_out-written.new.disk) (λ m. Stands m s ⊎ Stands m next)) c.self.view_is
-    (c.carry_out-written.ensures.any_moment at.honest Two c.self.inside.root entries s (set entries c.in-Some.position c.new_entry-put.result) next at.stands put)
+    (c.carry_out-written.ensures.any_moment at.honest Two c.self.inside.root entries s [] (set entries c.in-Some.position c.new_entry-put.result) next at.stands put)
 
 pub give_up-requires-clause-held : goal.give_up-requires-clause-held
 give_up-requires-clause-held g c =
@@ -229,7 +229,7 @@ returns-clause-any_moment g c s at_entry =
     let put = putting g (goal.at.returns-clause-any_moment g c).After-next_root-root s c.deref-2.result.now c.deref-2.ensures.value in
     let next = with_bytes c.args.name.now c.args.bytes.now s in
     subst (λ store. LeavesOnly (g.D.Disk.facts store.disk) (g.D.Disk.facts c.carry_out-written.new.disk) (λ m. Stands m s ⊎ Stands m next)) c.self.view_is
-    (c.carry_out-written.ensures.any_moment at.honest Two c.self.inside.root entries s (set entries c.in-Some.position c.new_entry-put.result) next at.stands put)
+    (c.carry_out-written.ensures.any_moment at.honest Two c.self.inside.root entries s [] (set entries c.in-Some.position c.new_entry-put.result) next at.stands put)
 
 pub returns-clause-ok : goal.returns-clause-ok
 returns-clause-ok g c s at_entry =
@@ -239,7 +239,7 @@ returns-clause-ok g c s at_entry =
     record {
       honest = subst IsTrue (sym c.carry_out-written.ensures.calls.honest) at.honest;
       usable = refl;
-      stands = c.in_default-written.ensures.done at.honest Two c.self.inside.root entries s (set entries c.in-Some.position c.new_entry-put.result)
+      stands = c.in_default-written.ensures.done at.honest Two c.self.inside.root entries s [] (set entries c.in-Some.position c.new_entry-put.result)
           (with_bytes c.args.name.now c.args.bytes.now s) at.stands put;
     }
 

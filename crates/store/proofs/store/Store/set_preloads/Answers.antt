@@ -34,9 +34,9 @@ choosing g c =
     preloads_next c.args.positions.now kept (is_two g c) c.with_preloads.ensures c.requires.few inside c.requires.distinct (omega (arith, c.if-self-2.false, kept.root_fits.generation))
 
 chosen : (g : given.Over) (c : After-with_preloads g) (s : State)
-    → IsFollowed Two c.self.inside.root c.self.inside.entries.items s (record { staged = Nothing; root = c.with_preloads.result }) [] [] c.self.inside.entries.items
+    → IsFollowed Two c.self.inside.root c.self.inside.entries.items s (g.D.Disk.facts c.self.inside.disk).now [] (record { staged = Nothing; root = c.with_preloads.result }) [] [] c.self.inside.entries.items
     (with_preloads (names_at s.libraries c.args.positions.now) s)
-chosen g c s = preloads_followed (choosing g c) c.self.invariant.0.root_fits (is_two g c) s [] []
+chosen g c s = preloads_followed (choosing g c) c.self.invariant.0.root_fits (is_two g c) (g.D.Disk.facts c.self.inside.disk).now s [] []
 
 pub with_preloads-requires-clause-inside : goal.with_preloads-requires-clause-inside
 with_preloads-requires-clause-inside g c =
@@ -53,7 +53,7 @@ returns-in_err-carry_out-clause-any_moment g c s at_entry =
     let followed = chosen g (goal.at.returns-in_err-carry_out-clause-any_moment g c).After-with_preloads s in
     let next = with_preloads (names_at s.libraries c.args.positions.now) s in
     subst (λ store. LeavesOnly (g.D.Disk.facts store.disk) (g.D.Disk.facts c.carry_out.new.disk) (λ m. Stands m s ⊎ Stands m next)) c.self.view_is
-    (c.carry_out.ensures.any_moment at.honest Two c.self.inside.root c.self.inside.entries.items s c.self.inside.entries.items next at.stands followed)
+    (c.carry_out.ensures.any_moment at.honest Two c.self.inside.root c.self.inside.entries.items s [] c.self.inside.entries.items next at.stands followed)
 
 pub returns-clause-any_moment : goal.returns-clause-any_moment
 returns-clause-any_moment g c s at_entry =
@@ -61,7 +61,7 @@ returns-clause-any_moment g c s at_entry =
     let followed = chosen g (goal.at.returns-clause-any_moment g c).After-with_preloads s in
     let next = with_preloads (names_at s.libraries c.args.positions.now) s in
     subst (λ store. LeavesOnly (g.D.Disk.facts store.disk) (g.D.Disk.facts c.carry_out.new.disk) (λ m. Stands m s ⊎ Stands m next)) c.self.view_is
-    (c.carry_out.ensures.any_moment at.honest Two c.self.inside.root c.self.inside.entries.items s c.self.inside.entries.items next at.stands followed)
+    (c.carry_out.ensures.any_moment at.honest Two c.self.inside.root c.self.inside.entries.items s [] c.self.inside.entries.items next at.stands followed)
 
 pub invariant_of-self-2 : goal.invariant_of-self-2
 invariant_of-self-2 g c =
@@ -86,7 +86,7 @@ returns-clause-ok g c s at_entry =
     record {
       honest = subst IsTrue (sym c.carry_out.ensures.calls.honest) at.honest;
       usable = refl;
-      stands = c.in_ok-carry_out.ensures.done at.honest Two c.self.inside.root c.self.inside.entries.items s c.self.inside.entries.items next at.stands followed;
+      stands = c.in_ok-carry_out.ensures.done at.honest Two c.self.inside.root c.self.inside.entries.items s [] c.self.inside.entries.items next at.stands followed;
     }
 
 pub returns-clause-catalogues : goal.returns-clause-catalogues
