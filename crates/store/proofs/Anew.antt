@@ -15,6 +15,7 @@ use Rattle.store.specs.HeldVersions.{in_use, lone_sectors}
 use Rattle.store.specs.Stands.{UsesApart, extents_of, sectors_of, used}
 use Rattle.store.specs.inside.Claimed.{IsUsable, IsClaimedBeside}
 use Rattle.store.specs.inside.Kept.{AreClaimed, IsKept}
+pub use Rattle.store.specs.inside.Moved.{IsMoved}
 use Rattle.store.specs.inside.Room.{AreClaimedOnce, IsReleased}
 use Rattle.passes.proofs.Parts.{distinct-parts}
 use Rattle.store.proofs.Claiming.{all-part}
@@ -67,10 +68,6 @@ put_claimed old mid extents at catalogues put its there claimed =
 -- where nothing is given back all is as it was
 pub released_nothing : (mid : List Bool) → IsReleased mid mid []
 released_nothing mid = record { size = refl; each = λ kept just once. subst (ClaimsJust mid) (append-nil kept) just }
-
--- What is in use after a change, and what it gave back, are what was in use before it and what it took.
-pub record IsMoved (before more after gone : List ℕ) : Type 0 where
-  pub parts : (k : ℕ) → occurs k after + occurs k gone ≡ occurs k (before ++ more)
 
 module _ {root : Root} {entries : List PlacedEntry} {held : List HeldRow} {layout mid : List Bool} {more : List ℕ}
     (kept : IsKept root entries held layout) (claimed : IsClaimedBeside layout mid more) where

@@ -1,11 +1,10 @@
 -- How many sectors a state leaves free, and what follows for the refusals of a put and of an upgrade.
 use Rattle.std.proofs.Common.{◌≡◌, ◌≢◌, inl, ⊎_elim, ℕ, suc, ◌+◌, ◌-◌, ◌*◌, ◌<◌, ◌≤◌, Bool, true, false, nat_lt, nat_eq, List, [], ◌∷◌, length, map}
 use Rattle.std.proofs.Common.{sum_by, All, IsTrue, Option, Some, None, Result, Ok, Err, OnErr, ◌↔◌, refl, sym, ap, subst, ◌∙◌, arith}
-use Rattle.std.specs.Prelude.{Contains, IsErrAnd, if◌then◌else◌}
+use Rattle.std.specs.Prelude.{Contains, if◌then◌else◌}
 use Rattle.std.specs.Int.{div_ceil}
 use Rattle.std.specs.List.{flat_map}
 use Rattle.std.proofs.lemmas.Bool.{false≢true, eqb-true, eq-eqb, ltb-true, ltb-false, cases_lt}
-use Rattle.std.proofs.lemmas.Result.{err_from_is_err_and}
 use Rattle.std.proofs.lemmas.List.Sums.{sum_by-cons}
 use Rattle.std.proofs.lemmas.List.FromFn.{length-map-range_with_len}
 use Rattle.std.proofs.lemmas.List.Elements.{All-contains, Contains-append_left, Contains-append_right}
@@ -28,13 +27,14 @@ use Rattle.roots.specs.Root.{version_of}
 use Rattle.states.specs.State.{Library, State}
 use Rattle.store.specs.declared.placed_entry.PlacedEntry.{PlacedEntry}
 use Rattle.store.specs.declared.refusal.StoreRefusal.{StoreRefusal}
-use Rattle.store.specs.declared.refusal.StoreRefusal.TheVariants.{Device, Full, Fragmented, GenerationEnd}
+use Rattle.store.specs.declared.refusal.StoreRefusal.TheVariants.{Full, Fragmented, GenerationEnd}
 use Rattle.store.specs.declared.held_versions.HeldRow.{HeldRow}
-use Rattle.store.specs.HeldVersions.{in_use, lone_sectors, room_of}
+use Rattle.store.specs.HeldVersions.{in_use, lone_sectors}
 use Rattle.store.specs.Opened.{Opened, IsAtBy}
 use Rattle.store.specs.Stands.{StandsBy, catalogues_of, entries_cost, extents_of, library_of, sectors_of, used}
-use Rattle.store.specs.Step.{longest_free, refusal_of_bytes, refusal_of_put, refusal_of_new, refusal_of_upgrade, refusal_of_take, refusal_of_change, IsAnswer, IsExactAnswer}
+use Rattle.store.specs.Step.{refusal_of_bytes, refusal_of_put, refusal_of_new, refusal_of_upgrade, refusal_of_take, refusal_of_change, IsAnswer, IsExactAnswer}
 use Rattle.store.specs.inside.Kept.{HaveSpellings, IsKept}
+pub use Rattle.store.specs.inside.Stored.{IsCounted}
 use Rattle.store.proofs.Libraries.{length-library}
 pub use Rattle.store.proofs.Libraries.{length-libraries}
 use Rattle.store.proofs.Preloads.{enough_in, room_in}
@@ -172,7 +172,7 @@ pub answers_take : (e : TakeRefusal) → IsAnswer (Some (refusal_of_take e)) (Er
 answers_take take.Full = inl refl
 answers_take take.Fragmented = inl refl
 
-answers_take_exactly : (e : TakeRefusal) → IsExactAnswer (Some (refusal_of_take e)) (Err (refusal_of_take e))
+pub answers_take_exactly : (e : TakeRefusal) → IsExactAnswer (Some (refusal_of_take e)) (Err (refusal_of_take e))
 answers_take_exactly take.Full = refl
 answers_take_exactly take.Fragmented = refl
 
@@ -190,13 +190,6 @@ module _ (sectors : ℕ) (s : State) where
   upgrade_accepted usable room =
       if_no (nat_eq s.generation last_generation) _ _ (λ is. usable (eqb-true s.generation last_generation is))
       ∙ if_no (nat_lt sectors (root_sectors + taken_by s)) _ _ (λ is. omega (arith, ltb-true sectors (root_sectors + taken_by s) is, room))
-
--- What is known of the state before a change of version 2, by what the store keeps.
-pub record IsCounted (root : Root) (entries : List PlacedEntry) (held : List HeldRow) (layout : List Bool) (s : State) : Type 0 where
-  pub generation : s.generation ≡ root.generation
-  pub count : length s.libraries ≡ length entries
-  pub room : free (root.sectors - length (lone_sectors held)) s + catalogues_for (length entries) ≡ free_count layout
-  pub longest : sector_count (longest_runs (layout_of root.sectors (in_use root entries held))) ≡ sector_count (longest_runs layout)
 
 module _ {D : Type 0} (facts : D → DiskFacts) (holds : (disk : D) → IsTrue (facts disk).honest → HoldsNow (facts disk))
     (whole : (disk : D) → IsTrue (facts disk).honest → HasWholeSectors (facts disk)) where
@@ -225,85 +218,68 @@ module _ {D : Type 0} (facts : D → DiskFacts) (holds : (disk : D) → IsTrue (
           longest = longest_is view.root view.entries view.held layout kept;
         }
 
--- What `take_room` says of a layout by its result, where it needs so many sectors for bytes and so many in all.
+-- What taking room says of a layout by its result, where it needs so many sectors for bytes and so many in all.
 pub record Takes {T : Type 0} (layout : List Bool) (sectors all : ℕ) (result : Result T TakeRefusal) : Type 0 where
   pub full : (result ≡ Err take.Full) ↔ (free_count layout < all)
   pub fragmented : (result ≡ Err take.Fragmented) ↔ ((all ≤ free_count layout) × (sector_count (longest_runs layout) < sectors))
 
--- The first refusal of bytes that replace others, or are put behind them, by what `take_room` says.
-module _ {D : Type 0} {store view : Opened D} {layout : List Bool} {s : State} (is : view ≡ store)
-    (counted : IsCounted view.root view.entries view.held layout s) (bytes : List ℕ) (usable : view.root.generation ≢ last_generation) where
+-- The first refusal of bytes that replace others, or are put behind them, by what taking room says.
+module _ {root : Root} {entries : List PlacedEntry} {held : List HeldRow} {layout : List Bool} {s : State}
+    (counted : IsCounted root entries held layout s) (bytes : List ℕ) (usable : root.generation ≢ last_generation) where
+  abbrev all_sectors : ℕ
+  all_sectors = root.sectors - length (lone_sectors held)
+
+  abbrev longest_in : ℕ
+  longest_in = sector_count (longest_runs layout)
+
   usable_state : s.generation ≢ last_generation
   usable_state last = usable (sym counted.generation ∙ last)
 
-  module _ {T : Type 0} {sectors all : ℕ} {result : Result T TakeRefusal} (more : ℕ) (need : sectors ≡ div_ceil (length bytes) 512)
-      (enough : all ≡ cost (length bytes) + more + catalogues_for (length view.entries)) (takes : Takes layout sectors all result) where
-    full_is : (result ≡ Err take.Full) ↔ (free (room_of view) s < cost (length bytes) + more)
+  module _ {T : Type 0} {all : ℕ} {result : Result T TakeRefusal} (more : ℕ)
+      (enough : all ≡ cost (length bytes) + more + catalogues_for (length entries)) (takes : Takes layout (div_ceil (length bytes) 512) all result) where
+    full_is : (result ≡ Err take.Full) ↔ (free all_sectors s < cost (length bytes) + more)
     full_is = (
       λ of. omega (arith, takes.full.0 of, counted.room, enough),
       λ lt. takes.full.1 (omega (arith, lt, counted.room, enough)),
     )
 
-    fragmented_is : (result ≡ Err take.Fragmented) ↔ ((cost (length bytes) + more ≤ free (room_of view) s) × (longest_free view < cost (length bytes) - 1))
+    fragmented_is : (result ≡ Err take.Fragmented) ↔ ((cost (length bytes) + more ≤ free all_sectors s) × (longest_in < cost (length bytes) - 1))
     fragmented_is = (
-      λ of. let both = takes.fragmented.0 of in (omega (arith, both.0, counted.room, enough), omega (arith, both.1, counted.longest, need)),
-      λ both. takes.fragmented.1 (omega (arith, both.0, counted.room, enough), omega (arith, both.1, counted.longest, need)),
+      λ of. let both = takes.fragmented.0 of in (omega (arith, both.0, counted.room, enough), omega (arith, both.1)),
+      λ both. takes.fragmented.1 (omega (arith, both.0, counted.room, enough), omega (arith, both.1)),
     )
 
-  module _ {sectors count spare : ℕ} (need : sectors ≡ div_ceil (length bytes) 512) where
-    module _ (same : count ≡ catalogues_for (length view.entries)) (none : spare ≡ 0) where
-      over_enough : sectors + 1 + count + spare ≡ cost (length bytes) + 0 + catalogues_for (length view.entries)
-      over_enough = omega (arith, need, same, none)
+  module _ {count : ℕ} where
+    module _ (same : count ≡ catalogues_for (length entries)) where
+      over_enough : div_ceil (length bytes) 512 + 1 + count + 0 ≡ cost (length bytes) + 0 + catalogues_for (length entries)
+      over_enough = omega (arith, same)
 
-      pub over_refused : {T : Type 0} (e : TakeRefusal) → Takes {T = T} layout sectors (sectors + 1 + count + spare) (Err e)
-          → refusal_of_put (room_of store) (longest_free store) s bytes ≡ Some (refusal_of_take e)
-      over_refused e takes = subst (λ o. refusal_of_put (room_of o) (longest_free o) s bytes ≡ Some (refusal_of_take e)) is
-          (bytes_refused (room_of view) (longest_free view) 0 s bytes usable_state e (full_is 0 need over_enough takes) (fragmented_is 0 need over_enough takes))
+      pub over_refused : {T : Type 0} (e : TakeRefusal) → Takes {T = T} layout (div_ceil (length bytes) 512) (div_ceil (length bytes) 512 + 1 + count + 0) (Err e)
+          → refusal_of_put all_sectors longest_in s bytes ≡ Some (refusal_of_take e)
+      over_refused e takes = bytes_refused all_sectors longest_in 0 s bytes usable_state e (full_is 0 over_enough takes) (fragmented_is 0 over_enough takes)
 
-      pub over_taken : {T : Type 0} {x : T} → Takes layout sectors (sectors + 1 + count + spare) (Ok x) → refusal_of_put (room_of store) (longest_free store) s bytes ≡ None
-      over_taken {x = x} takes = subst (λ o. refusal_of_put (room_of o) (longest_free o) s bytes ≡ None) is
-          (bytes_taken (room_of view) (longest_free view) 0 s bytes usable_state x (full_is 0 need over_enough takes) (fragmented_is 0 need over_enough takes))
+      pub over_taken : {T : Type 0} {x : T} → Takes layout (div_ceil (length bytes) 512) (div_ceil (length bytes) 512 + 1 + count + 0) (Ok x)
+          → refusal_of_put all_sectors longest_in s bytes ≡ None
+      over_taken {x = x} takes = bytes_taken all_sectors longest_in 0 s bytes usable_state x (full_is 0 over_enough takes) (fragmented_is 0 over_enough takes)
 
-    module _ (few : length view.entries < most_libraries) (more : count ≡ catalogues_for (length view.entries + 1)) (rest : spare ≡ count - catalogues_for (length view.entries)) where
-      new_enough : sectors + 1 + count + spare ≡ cost (length bytes) + catalogue_cost (length s.libraries) + catalogues_for (length view.entries)
-      new_enough = omega (arith, need, more, rest, counted.count)
+    module _ {spare : ℕ} (few : length entries < most_libraries) (more : count ≡ catalogues_for (length entries + 1)) (rest : spare ≡ count - catalogues_for (length entries)) where
+      new_enough : div_ceil (length bytes) 512 + 1 + count + spare ≡ cost (length bytes) + catalogue_cost (length s.libraries) + catalogues_for (length entries)
+      new_enough = omega (arith, more, rest, counted.count)
 
-      first_is : refusal_of_new (room_of view) (longest_free view) s bytes ≡ refusal_of_bytes (room_of view) (longest_free view) (catalogue_cost (length s.libraries)) s bytes
-      first_is = new_as_put (room_of view) (longest_free view) s bytes (omega (arith, few, counted.count))
+      first_is : refusal_of_new all_sectors longest_in s bytes ≡ refusal_of_bytes all_sectors longest_in (catalogue_cost (length s.libraries)) s bytes
+      first_is = new_as_put all_sectors longest_in s bytes (omega (arith, few, counted.count))
 
-      pub new_refused : {T : Type 0} (e : TakeRefusal) → Takes {T = T} layout sectors (sectors + 1 + count + spare) (Err e)
-          → refusal_of_new (room_of store) (longest_free store) s bytes ≡ Some (refusal_of_take e)
-      new_refused e takes = subst (λ o. refusal_of_new (room_of o) (longest_free o) s bytes ≡ Some (refusal_of_take e)) is
-          (first_is ∙ bytes_refused (room_of view) (longest_free view) (catalogue_cost (length s.libraries)) s bytes usable_state e
-          (full_is (catalogue_cost (length s.libraries)) need new_enough takes)
-          (fragmented_is (catalogue_cost (length s.libraries)) need new_enough takes))
+      pub new_refused : {T : Type 0} (e : TakeRefusal) → Takes {T = T} layout (div_ceil (length bytes) 512) (div_ceil (length bytes) 512 + 1 + count + spare) (Err e)
+          → refusal_of_new all_sectors longest_in s bytes ≡ Some (refusal_of_take e)
+      new_refused e takes = first_is ∙ bytes_refused all_sectors longest_in (catalogue_cost (length s.libraries)) s bytes usable_state e
+          (full_is (catalogue_cost (length s.libraries)) new_enough takes) (fragmented_is (catalogue_cost (length s.libraries)) new_enough takes)
 
-      pub new_taken : {T : Type 0} {x : T} → Takes layout sectors (sectors + 1 + count + spare) (Ok x) → refusal_of_new (room_of store) (longest_free store) s bytes ≡ None
-      new_taken {x = x} takes = subst (λ o. refusal_of_new (room_of o) (longest_free o) s bytes ≡ None) is
-          (first_is ∙ bytes_taken (room_of view) (longest_free view) (catalogue_cost (length s.libraries)) s bytes usable_state x
-          (full_is (catalogue_cost (length s.libraries)) need new_enough takes)
-          (fragmented_is (catalogue_cost (length s.libraries)) need new_enough takes))
+      pub new_taken : {T : Type 0} {x : T} → Takes layout (div_ceil (length bytes) 512) (div_ceil (length bytes) 512 + 1 + count + spare) (Ok x)
+          → refusal_of_new all_sectors longest_in s bytes ≡ None
+      new_taken {x = x} takes = first_is ∙ bytes_taken all_sectors longest_in (catalogue_cost (length s.libraries)) s bytes usable_state x
+          (full_is (catalogue_cost (length s.libraries)) new_enough takes) (fragmented_is (catalogue_cost (length s.libraries)) new_enough takes)
 
--- The answers that follow: what was refused,
-pub exactly_refused : {first : Option StoreRefusal} (e : TakeRefusal) (result : Result (Unit {0}) StoreRefusal) → first ≡ Some (refusal_of_take e)
-    → IsErrAnd result (λ y. y ≡ refusal_of_take e) → IsExactAnswer first result
-exactly_refused e result is err =
-    let p = err_from_is_err_and result err in
-    rw (p.1, p.2) (subst (λ refusal. IsExactAnswer refusal (Err (refusal_of_take e))) (sym is) (answers_take_exactly e))
-
-pub answers_refused : {first : Option StoreRefusal} (e : TakeRefusal) (result : Result (Unit {0}) StoreRefusal) → first ≡ Some (refusal_of_take e)
-    → IsErrAnd result (λ y. y ≡ refusal_of_take e) → IsAnswer first result
-answers_refused e result is err =
-    let p = err_from_is_err_and result err in
-    rw (p.1, p.2) (subst (λ refusal. IsAnswer refusal (Err (refusal_of_take e))) (sym is) (answers_take e))
-
--- and what wasn't, though the device may have failed
-pub exactly_failed : {first : Option StoreRefusal} (refusal : StoreRefusal) → first ≡ None → refusal ≡ Device → IsExactAnswer first (Err refusal)
-exactly_failed refusal is device = subst (λ first. IsExactAnswer first (Err refusal)) (sym is) device
-
-pub answers_failed : {first : Option StoreRefusal} (refusal : StoreRefusal) → first ≡ None → refusal ≡ Device → IsAnswer first (Err refusal)
-answers_failed refusal is device = subst (λ first. IsAnswer first (Err refusal)) (sym is) (inl device)
-
+-- The answers that follow where nothing is refused.
 pub exactly_done : {first : Option StoreRefusal} → first ≡ None → IsExactAnswer first (Ok tt)
 exactly_done is = subst (λ first. IsExactAnswer first (Ok tt)) (sym is) tt
 

@@ -36,6 +36,7 @@ pub mod Ordered
 pub mod Outcomes
 pub mod Placing
 pub mod Preloads
+pub mod Preparing
 pub mod Puts
 pub mod Queries
 pub mod Refusals

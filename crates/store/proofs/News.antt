@@ -30,10 +30,13 @@ use Rattle.store.specs.declared.held_versions.HeldRow.{HeldRow}
 use Rattle.store.specs.HeldVersions.{lone_sectors}
 use Rattle.store.specs.inside.Kept.{IsKept}
 use Rattle.store.specs.declared.change.Staged.TheVariants.{Put}
+use Rattle.store.specs.declared.edit.Edit.TheVariants.{Behind}
 use Rattle.store.specs.inside.Change.{IsFollowed}
 use Rattle.store.specs.inside.Next.{IsNext, next_root}
+use Rattle.store.specs.inside.Prepared.{IsPrepared}
 use Rattle.store.specs.inside.Room.{HasPlace}
 use Rattle.store.proofs.Anew.{IsMoved, more_unused, more_inside, more_once, moved_apart}
+use Rattle.store.proofs.CataloguedEntries.{can_be_catalogued}
 use Rattle.store.proofs.Counts.{occurs, occurs-append}
 use Rattle.store.proofs.Following.{following_stands}
 use Rattle.store.proofs.Frees.{ok_or_err}
@@ -160,6 +163,23 @@ module _ {root : Root} {entries : List PlacedEntry} {held : List HeldRow} {layou
     );
     preloads_inside = λ k d lt. omega (arith, kept.root_fits.preloads.listed.used k d lt, kept.counted, count_is);
     preloads_once = kept.root_fits.preloads.distinct;
+  }
+
+  -- it is prepared, where it has its place
+  pub new_prepared : HasPlace root.sectors put catalogues → IsPrepared root entries held new (record { change = record { staged = Put put catalogues; root = next }; edit = Behind put })
+  new_prepared place = record {
+    before = layout;
+    kept = kept;
+    claimed = is_new.claimed;
+    place = (
+      place,
+      can_be_catalogued root.sectors (length catalogues) next others (omega (arith, kept.root_fits.sectors)) new_next.enough new_next.few new_next.apart,
+    );
+    catalogues = catalogues;
+    preloads = listed_preloads root;
+    next = new_next;
+    moved = new_moved;
+    room = λ sectors enough. new_room sectors (omega (arith, enough));
   }
 
   -- what the put makes of sectors

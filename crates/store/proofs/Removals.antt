@@ -28,9 +28,12 @@ use Rattle.store.specs.HeldVersions.{lone_sectors}
 use Rattle.store.specs.inside.Kept.{IsKept}
 use Rattle.store.specs.inside.NameIndex.{closed_up}
 use Rattle.store.specs.declared.change.Staged.TheVariants.{Catalogues}
+use Rattle.store.specs.declared.edit.Edit.TheVariants.{Out}
 use Rattle.store.specs.inside.Change.{IsFollowed}
 use Rattle.store.specs.inside.Next.{IsNext, next_root}
-use Rattle.store.proofs.Anew.{IsMoved, more_unused, moved_apart}
+use Rattle.store.specs.inside.Prepared.{IsPrepared}
+use Rattle.store.proofs.Anew.{IsMoved, more_inside, more_once, more_unused, moved_apart}
+use Rattle.store.proofs.CataloguedEntries.{can_be_catalogued}
 use Rattle.store.proofs.Counts.{occurs, occurs-append, occurs-flat_map}
 use Rattle.store.proofs.Following.{following_stands}
 use Rattle.store.proofs.Frees.{if_no, if_yes}
@@ -159,6 +162,23 @@ module _ {root : Root} {entries : List PlacedEntry} {held : List HeldRow} {layou
         let other = get_or-map (closed_up gone) (listed_preloads root) j 0 d fewer in
         kept.root_fits.preloads.distinct i j 0 lt fewer
         (closed_apart gone (get_or (listed_preloads root) i 0) (get_or (listed_preloads root) j 0) (others i 0 (omega (arith, lt, fewer))) (others j 0 fewer) (sym one_of ∙ same ∙ other));
+  }
+
+  -- So it is prepared.
+  pub removal_prepared : IsPrepared root entries held mid (record { change = record { staged = Catalogues catalogues; root = next }; edit = Out gone })
+  removal_prepared = record {
+    before = layout;
+    kept = kept;
+    claimed = removal.claimed;
+    place = (
+      record { inside = more_inside kept removal.claimed; once = more_once kept removal.claimed },
+      can_be_catalogued root.sectors (length catalogues) next left (omega (arith, kept.root_fits.sectors)) removal_next.enough removal_next.few removal_next.apart,
+    );
+    catalogues = catalogues;
+    preloads = map (closed_up gone) (listed_preloads root);
+    next = removal_next;
+    moved = removal_moved;
+    room = removal_room;
   }
 
   -- What the removal makes of sectors.

@@ -27,9 +27,13 @@ use Rattle.store.specs.declared.held_versions.HeldRow.{HeldRow}
 use Rattle.store.specs.HeldVersions.{lone_sectors}
 use Rattle.store.specs.inside.Kept.{IsKept}
 use Rattle.store.specs.declared.change.Staged.TheVariants.{Put}
+use Rattle.store.specs.declared.edit.Edit.TheVariants.{Over}
 use Rattle.store.specs.inside.Change.{IsFollowed}
 use Rattle.store.specs.inside.Next.{IsNext, next_root}
+use Rattle.store.specs.inside.Prepared.{IsPrepared}
+use Rattle.store.specs.inside.Room.{HasPlace}
 use Rattle.store.proofs.Anew.{IsMoved, more_unused, moved_apart}
+use Rattle.store.proofs.CataloguedEntries.{can_be_catalogued}
 use Rattle.store.proofs.Counts.{occurs, occurs-append, occurs-flat_map}
 use Rattle.store.proofs.Following.{following_stands}
 use Rattle.store.proofs.Frees.{catalogues_enough}
@@ -177,6 +181,23 @@ module _ {root : Root} {entries : List PlacedEntry} {held : List HeldRow} {layou
         omega (arith, length-take-le root.preload_count root.preloads (omega (arith, fits.size, fits.room)), fits.room);
     preloads_inside = λ k d lt. omega (arith, kept.root_fits.preloads.listed.used k d lt, kept.counted, size);
     preloads_once = kept.root_fits.preloads.distinct;
+  }
+
+  -- So it is prepared, where it has its place,
+  pub replacement_prepared : HasPlace root.sectors put catalogues → IsPrepared root entries held mid (record { change = record { staged = Put put catalogues; root = next }; edit = Over place put })
+  replacement_prepared has = record {
+    before = layout;
+    kept = kept;
+    claimed = is.claimed;
+    place = (
+      has,
+      can_be_catalogued root.sectors (length catalogues) next others (omega (arith, kept.root_fits.sectors)) replacement_next.enough replacement_next.few replacement_next.apart,
+    );
+    catalogues = catalogues;
+    preloads = listed_preloads root;
+    next = replacement_next;
+    moved = replacement_moved;
+    room = replacement_room;
   }
 
   -- and this is what the put makes of sectors.

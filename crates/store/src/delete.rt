@@ -1,12 +1,59 @@
 // Taking out a byte string.
 use crate::change::{Change, Staged};
-use crate::listed::catalogues;
+use crate::edit::Edit;
+use crate::kept::Kept;
 use crate::next::root_without;
+use crate::prepared::Prepared;
 use crate::refusal::StoreRefusal;
-use crate::room::{give_up, take_catalogues};
+use crate::room::take_catalogues;
 use crate::store::Store;
 use roots::catalogues_for;
 use sector_disk::Disk;
+
+impl Kept {
+    ghost use Rattle.std.specs.Prelude.{◌≢◌, [], All, IfOk, IsFalse, List, ℕ, slice_index_or};
+    ghost use Rattle.sector_disk.specs.Disk.{Sector};
+    ghost use Rattle.roots.specs.Root.{listed_preloads};
+    ghost use Rattle.states.specs.Changes.{without};
+    ghost use Rattle.states.specs.State.{State};
+    ghost use Rattle.store.specs.declared.placed_entry.PlacedEntry.{PlacedEntry};
+    ghost use Rattle.store.specs.Stands.{name_of};
+    ghost use Rattle.store.specs.Step.{refusal_of_change, IsExactAnswer, IsRefusalOfChange};
+    ghost use Rattle.store.specs.inside.Prepared.{StandsAt, Makes, Prepares, TakesOut, done_of};
+    ghost use Rattle.store.specs.inside.Stored.{IsCounted, IsStored};
+
+    /// Prepares that a byte string is taken out, which is no preload: S2, S10.
+    pub(crate) fn prepare_out(&mut self, name: &[u8]) -> Result<Prepared, StoreRefusal>
+        requires stored { IsStored self.old.root.sectors self.old }
+        requires present { (position : ℕ) × StandsAt self.old.entries.items name.now position }
+        requires no_preload { All (λ position. (d : PlacedEntry)
+            → name_of (slice_index_or self.old.entries.items position d).entry ≢ name.now)
+            (listed_preloads self.old.root) }
+        ensures prepares { Prepares self.old self.new IsRefusalOfChange result }
+        ensures makes { (now : List Sector) → (s : State) → IfOk result (λ prepared.
+            Makes now [] self.old prepared [] s (without name.now s)) }
+        ensures takes { IfOk result (λ prepared. TakesOut self.old prepared name.now) }
+        ensures refused { IsFalse self.old.failed → (s : State)
+            → IsCounted self.old.root self.old.entries.items self.old.held self.old.layout s
+            → IsExactAnswer (refusal_of_change s) (done_of result) }
+    {
+        self.test_change()?;
+        let Some(position) = self.index.position_of(&self.entries, name) else {
+            unreachable!();
+        };
+        let libraries = self.entries.len() - 1;
+        let taken = take_catalogues(&mut self.layout, catalogues_for(libraries));
+        let root = root_without(&self.root, libraries, taken.as_slice(), position);
+        let change = Change {
+            staged: Staged::Catalogues(taken),
+            root,
+        };
+        Ok(Prepared {
+            change,
+            edit: Edit::Out(position),
+        })
+    }
+}
 
 impl<D: Disk> Store<D> {
     ghost use Rattle.std.specs.Prelude.{◌≡◌, ◌+◌, ◌-◌, ◌⊎◌, length, OnOk};
@@ -49,39 +96,7 @@ impl<D: Disk> Store<D> {
             self.old self.new (catalogues_for (length self.old.entries - 1) + 3)
             IsRefusalOfChange result }
     {
-        if self.failed {
-            return Err(StoreRefusal::Reopen);
-        }
-        if self.root.generation == u64::MAX {
-            return Err(StoreRefusal::GenerationEnd);
-        }
-        let Some(position) = self.index.position_of(&self.entries, name) else {
-            unreachable!();
-        };
-        let libraries = self.entries.len() - 1;
-        let taken = take_catalogues(&mut self.layout, catalogues_for(libraries));
-        self.sectors.remove(position);
-        let root = root_without(&self.root, libraries, taken.as_slice(), position);
-        let change = Change {
-            staged: Staged::Catalogues(taken),
-            root,
-        };
-        self.failed = true;
-        let written = change.carry_out(&mut self.disk, &mut self.singles, &[], &self.sectors);
-        if let Err(fault) = written {
-            change.give_back(&mut self.layout);
-            return Err(StoreRefusal::from(fault));
-        }
-        give_up(
-            &mut self.layout,
-            &mut self.held,
-            &self.entries[position],
-            catalogues(&self.root),
-        );
-        self.index.remove(&self.entries, position);
-        self.entries.remove(position);
-        self.root = change.root;
-        self.failed = false;
-        Ok(())
+        let prepared = self.kept.prepare_out(name)?;
+        self.kept.make(&mut self.disk, &prepared, &[])
     }
 }

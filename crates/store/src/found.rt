@@ -8,6 +8,7 @@ ghost use Rattle.store.specs.inside.Kept.{HaveSpellings};
 
 use crate::catalogues::Singles;
 use crate::held_versions::HeldVersions;
+use crate::kept::Kept;
 use crate::name_index::NameIndex;
 use crate::placed_entry::PlacedEntry;
 use crate::refusal::StoreRefusal;
@@ -92,8 +93,7 @@ impl Found {
             index,
             layout,
         } = self;
-        Store {
-            disk,
+        let kept = Kept {
             root,
             entries,
             sectors,
@@ -102,6 +102,7 @@ impl Found {
             held: HeldVersions::new(alloc),
             layout,
             failed: false,
-        }
+        };
+        Store { disk, kept }
     }
 }

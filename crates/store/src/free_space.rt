@@ -64,18 +64,18 @@ impl<D: Disk> Store<D> {
             → (length bytes ≤ result)
             ↔ (refusal_of_new (room_of self.now) (longest_free self.now) s bytes ≡ None) }
     {
-        if self.failed {
+        if self.kept.failed {
             return 0;
         }
-        if self.entries.len() >= MOST_LIBRARIES {
+        if self.kept.entries.len() >= MOST_LIBRARIES {
             return 0;
         }
-        if self.root.generation == u64::MAX {
+        if self.kept.root.generation == u64::MAX {
             return 0;
         }
-        let count = catalogues_for(self.entries.len() + 1);
-        let spare = count - catalogues(&self.root).len();
-        let sectors = most_sectors(&self.layout, count, spare);
+        let count = catalogues_for(self.kept.entries.len() + 1);
+        let spare = count - catalogues(&self.kept.root).len();
+        let sectors = most_sectors(&self.kept.layout, count, spare);
         most_bytes(sectors)
     }
 
@@ -101,8 +101,8 @@ impl<D: Disk> Store<D> {
         ensures failed { IsTrue self.now.failed → result.largest ≡ 0 }
     {
         FreeSpace {
-            sectors: self.layout.free_count(),
-            runs: self.layout.run_count(),
+            sectors: self.kept.layout.free_count(),
+            runs: self.kept.layout.run_count(),
             largest: self.largest(),
         }
     }

@@ -38,11 +38,11 @@ impl<D: Disk> Store<D> {
         requires { position < length self.old.entries }
         ensures { HoldsVersion D.facts self.old self.new position result }
     {
-        if self.failed {
+        if self.kept.failed {
             return Err(StoreRefusal::Reopen);
         }
-        let placed = &self.entries[position];
-        self.held.hold(placed)?;
+        let placed = &self.kept.entries[position];
+        self.kept.held.hold(placed)?;
         Ok(Held { at: placed.at })
     }
 
@@ -53,7 +53,7 @@ impl<D: Disk> Store<D> {
         ensures some { IfSome result (λ name. (placed : PlacedEntry)
             → IsHeldBy self.now.held held.now placed → name.now ≡ name_of placed.entry) }
     {
-        let placed = self.held.placed(held.at)?;
+        let placed = self.kept.held.placed(held.at)?;
         Some(placed.entry.name_bytes())
     }
 
@@ -65,10 +65,10 @@ impl<D: Disk> Store<D> {
     pub fn read_held(&mut self, alloc: Global, held: &Held) -> Result<Vec<u8>, StoreRefusal>
         ensures { ReadsVersion D.facts self.old self.new held.now result }
     {
-        if self.failed {
+        if self.kept.failed {
             return Err(StoreRefusal::Reopen);
         }
-        let Some(placed) = self.held.placed(held.at) else {
+        let Some(placed) = self.kept.held.placed(held.at) else {
             return Err(StoreRefusal::Damaged);
         };
         read_file(&mut self.disk, placed, Vec::new(alloc))
@@ -82,9 +82,9 @@ impl<D: Disk> Store<D> {
         ensures { LetsVersionGo D.facts self.old self.new held }
     {
         let Held { at } = held;
-        if let Some(version) = self.held.let_go(at) {
+        if let Some(version) = self.kept.held.let_go(at) {
             if !version.listed {
-                give_back(&mut self.layout, &version.placed);
+                give_back(&mut self.kept.layout, &version.placed);
             }
         }
     }

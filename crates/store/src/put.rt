@@ -1,19 +1,32 @@
 // What a put takes: sectors for its bytes, and their entry.
-ghost use Rattle.std.specs.Prelude.{◌≡◌, ◌<◌, ◌≤◌, All, OnOk, length, vec_len, vec_capacity};
+ghost use Rattle.std.specs.Prelude.{◌≡◌, ◌+◌, ◌<◌, ◌≤◌, ◌↔◌, All, Err, IfOk, OnOk, OnErr, length};
+ghost use Rattle.std.specs.Prelude.{vec_len, vec_capacity};
 ghost use Rattle.std.specs.Int.{div_ceil};
 ghost use Rattle.extents.specs.Extent.{sector_count};
-ghost use Rattle.extents.specs.Limits.{most_extents};
+ghost use Rattle.extents.specs.Layout.{free_count};
+ghost use Rattle.extents.specs.Limits.{most_extents, most_sectors};
+ghost use Rattle.extents.specs.Longest.{longest_runs};
 ghost use Rattle.sector_disk.specs.Disk.{sector_bytes};
 ghost use Rattle.roots.specs.Entry.{EntryHasSpelling, IsDataExtent};
+ghost use Rattle.roots.specs.Limits.{most_catalogues};
 ghost use Rattle.store.specs.Names.{IsName, IsFileSize};
 ghost use Rattle.store.specs.Stands.{name_of, extents_of};
+ghost use Rattle.store.specs.inside.Room.{IsPutTaken};
 
 use crate::name_index::NameIndex;
 use crate::placed_entry::PlacedEntry;
-use crate::room::Room;
+use crate::room::{CatalogueSectors, Room, take_room};
+use extents::{Layout, TakeRefusal};
 use roots::Entry;
 use sector_disk::SECTOR_BYTES;
 use std::alloc::AllocError;
+
+/// An entry in its room, and sectors for all catalogues of the list that it is in.
+#[derive(Drop)]
+pub(crate) struct PutRoom {
+    pub put: PlacedEntry,
+    pub catalogues: CatalogueSectors,
+}
 
 /// Makes room in memory for one entry more.
 pub(crate) fn reserve_one(
@@ -34,7 +47,7 @@ pub(crate) fn reserve_one(
 }
 
 /// How many sectors the bytes take.
-pub(crate) fn sector_need(bytes: &[u8]) -> u32
+fn sector_need(bytes: &[u8]) -> u32
     requires { IsFileSize (length bytes.now) }
     ensures { result ≡ div_ceil (length bytes.now) sector_bytes }
 {
@@ -42,7 +55,7 @@ pub(crate) fn sector_need(bytes: &[u8]) -> u32
 }
 
 /// The entry of a byte string of this name and length, in this room.
-pub(crate) fn new_entry(name: &[u8], bytes: &[u8], room: &Room) -> PlacedEntry
+fn new_entry(name: &[u8], bytes: &[u8], room: &Room) -> PlacedEntry
     requires name { IsName name.now }
     requires size { IsFileSize (length bytes.now) }
     requires extents { All IsDataExtent room.now.extents }
@@ -58,4 +71,36 @@ pub(crate) fn new_entry(name: &[u8], bytes: &[u8], room: &Room) -> PlacedEntry
         at: room.entry,
         entry: Entry::new(name, bytes.len() as u32, room.extents.as_slice()),
     }
+}
+
+/// Claims room for a byte string of this name, and for so many catalogues. It refuses where so many
+/// sectors more wouldn't stay free, and then none is claimed.
+pub(crate) fn take_put(
+    layout: &mut Layout,
+    name: &[u8],
+    bytes: &[u8],
+    catalogues: usize,
+    spare: usize,
+) -> Result<PutRoom, TakeRefusal>
+    requires name { IsName name.now }
+    requires size { IsFileSize (length bytes.now) }
+    requires disk { length layout.old ≤ most_sectors }
+    requires few { catalogues ≤ most_catalogues }
+    requires spare { spare ≤ most_catalogues }
+    ensures taken { IfOk result (λ room. IsPutTaken layout.old layout.new name.now bytes.now
+        catalogues spare room.put room.catalogues) }
+    ensures full { (result ≡ Err TakeRefusal.Full) ↔ (free_count layout.old
+        < div_ceil (length bytes.now) sector_bytes + 1 + catalogues + spare) }
+    ensures fragmented { (result ≡ Err TakeRefusal.Fragmented)
+        ↔ ((div_ceil (length bytes.now) sector_bytes + 1 + catalogues + spare
+        ≤ free_count layout.old) × (sector_count (longest_runs layout.old)
+        < div_ceil (length bytes.now) sector_bytes)) }
+    ensures err { OnErr result (layout.new ≡ layout.old) }
+{
+    let room = take_room(layout, sector_need(bytes), catalogues, spare)?;
+    let put = new_entry(name, bytes, &room);
+    Ok(PutRoom {
+        put,
+        catalogues: room.catalogues,
+    })
 }

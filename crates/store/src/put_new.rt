@@ -1,13 +1,65 @@
 // Putting a byte string behind the others.
 use crate::change::{Change, Staged};
+use crate::edit::Edit;
+use crate::kept::Kept;
 use crate::listed::catalogues;
 use crate::next::next_root;
-use crate::put::{new_entry, reserve_one, sector_need};
+use crate::prepared::Prepared;
+use crate::put::{reserve_one, take_put};
 use crate::refusal::StoreRefusal;
-use crate::room::{release_sectors, take_room};
 use crate::store::Store;
-use roots::{MOST_LIBRARIES, catalogues_for};
+use roots::catalogues_for;
 use sector_disk::Disk;
+
+impl Kept {
+    ghost use Rattle.std.specs.Prelude.{◌≢◌, ◌+◌, [], All, IfOk, IsFalse, List, length};
+    ghost use Rattle.sector_disk.specs.Disk.{Sector};
+    ghost use Rattle.states.specs.Changes.{with_new};
+    ghost use Rattle.states.specs.State.{State};
+    ghost use Rattle.store.specs.declared.edit.Edit.TheVariants.{Behind};
+    ghost use Rattle.store.specs.Names.{IsName, IsFileSize};
+    ghost use Rattle.store.specs.Stands.{name_of};
+    ghost use Rattle.store.specs.Step.{refusal_of_new, IsAnswer, IsRefusalOfPutNew};
+    ghost use Rattle.store.specs.inside.Prepared.{Makes, Prepares, Puts, done_of};
+    ghost use Rattle.store.specs.inside.Stored.{IsCounted, IsStored, longest_in, sectors_for};
+
+    /// Prepares a byte string behind the others: S2, S9, S10, S11, S7, S8.
+    pub(crate) fn prepare_new(
+        &mut self,
+        name: &[u8],
+        bytes: &[u8],
+    ) -> Result<Prepared, StoreRefusal>
+        requires stored { IsStored self.old.root.sectors self.old }
+        requires name { IsName name.now }
+        requires size { IsFileSize (length bytes.now) }
+        requires new { All (λ placed. name_of placed.entry ≢ name.now) self.old.entries.items }
+        ensures prepares { Prepares self.old self.new IsRefusalOfPutNew result }
+        ensures makes { (now : List Sector) → (s : State) → IfOk result (λ prepared.
+            Makes now [] self.old prepared bytes.now s (with_new name.now bytes.now s)) }
+        ensures puts { IfOk result (λ prepared. Puts self.old prepared Behind
+            (length self.old.entries.items + 1) bytes.now) }
+        ensures refused { IsFalse self.old.failed → (s : State)
+            → IsCounted self.old.root self.old.entries.items self.old.held self.old.layout s
+            → IsAnswer (refusal_of_new (sectors_for self.old) (longest_in self.old) s bytes.now)
+            (done_of result) }
+    {
+        self.test_new()?;
+        reserve_one(&mut self.index, &mut self.entries, &mut self.sectors)?;
+        let libraries = self.entries.len() + 1;
+        let count = catalogues_for(libraries);
+        let spare = count - catalogues(&self.root).len();
+        let room = take_put(&mut self.layout, name, bytes, count, spare)?;
+        let root = next_root(&self.root, libraries, room.catalogues.as_slice());
+        let change = Change {
+            staged: Staged::Put(room.put, room.catalogues),
+            root,
+        };
+        Ok(Prepared {
+            change,
+            edit: Edit::Behind(room.put),
+        })
+    }
+}
 
 impl<D: Disk> Store<D> {
     ghost use Rattle.std.specs.Prelude.{◌≡◌, ◌+◌, ◌⊎◌, length, OnOk};
@@ -55,38 +107,7 @@ impl<D: Disk> Store<D> {
             + catalogues_for (length self.old.entries + 1) + 4)
             IsRefusalOfPutNew result }
     {
-        if self.failed {
-            return Err(StoreRefusal::Reopen);
-        }
-        if self.entries.len() >= MOST_LIBRARIES {
-            return Err(StoreRefusal::TooMany);
-        }
-        if self.root.generation == u64::MAX {
-            return Err(StoreRefusal::GenerationEnd);
-        }
-        reserve_one(&mut self.index, &mut self.entries, &mut self.sectors)?;
-        let libraries = self.entries.len() + 1;
-        let count = catalogues_for(libraries);
-        let spare = count - catalogues(&self.root).len();
-        let room = take_room(&mut self.layout, sector_need(bytes), count, spare)?;
-        let put = new_entry(name, bytes, &room);
-        self.sectors.push_reserved(put.at);
-        let root = next_root(&self.root, libraries, room.catalogues.as_slice());
-        let change = Change {
-            staged: Staged::Put(put, room.catalogues),
-            root,
-        };
-        self.failed = true;
-        let written = change.carry_out(&mut self.disk, &mut self.singles, bytes, &self.sectors);
-        if let Err(fault) = written {
-            change.give_back(&mut self.layout);
-            return Err(StoreRefusal::from(fault));
-        }
-        release_sectors(&mut self.layout, catalogues(&self.root));
-        self.index.insert(&self.entries, name);
-        self.entries.push_reserved(put);
-        self.root = change.root;
-        self.failed = false;
-        Ok(())
+        let prepared = self.kept.prepare_new(name, bytes)?;
+        self.kept.make(&mut self.disk, &prepared, bytes)
     }
 }

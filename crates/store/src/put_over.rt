@@ -1,13 +1,64 @@
 // Putting other bytes in the place of a byte string's.
 use crate::change::{Change, Staged};
-use crate::listed::catalogues;
+use crate::edit::Edit;
+use crate::kept::Kept;
 use crate::next::next_root;
-use crate::put::{new_entry, sector_need};
+use crate::prepared::Prepared;
+use crate::put::take_put;
 use crate::refusal::StoreRefusal;
-use crate::room::{give_up, take_room};
 use crate::store::Store;
 use roots::catalogues_for;
 use sector_disk::Disk;
+
+impl Kept {
+    ghost use Rattle.std.specs.Prelude.{[], IfOk, IsFalse, List, ℕ, length};
+    ghost use Rattle.sector_disk.specs.Disk.{Sector};
+    ghost use Rattle.states.specs.Changes.{with_bytes};
+    ghost use Rattle.states.specs.State.{State};
+    ghost use Rattle.store.specs.declared.edit.Edit.TheVariants.{Over};
+    ghost use Rattle.store.specs.Names.{IsFileSize};
+    ghost use Rattle.store.specs.Step.{refusal_of_put, IsExactAnswer, IsRefusalOfPutOver};
+    ghost use Rattle.store.specs.inside.Prepared.{StandsAt, Makes, Prepares, Puts, done_of};
+    ghost use Rattle.store.specs.inside.Stored.{IsCounted, IsStored, longest_in, sectors_for};
+
+    /// Prepares other bytes in the place of those under a name: S2, S10, S7, S8.
+    pub(crate) fn prepare_over(
+        &mut self,
+        name: &[u8],
+        bytes: &[u8],
+    ) -> Result<Prepared, StoreRefusal>
+        requires stored { IsStored self.old.root.sectors self.old }
+        requires present { (position : ℕ) × StandsAt self.old.entries.items name.now position }
+        requires size { IsFileSize (length bytes.now) }
+        ensures prepares { Prepares self.old self.new IsRefusalOfPutOver result }
+        ensures makes { (now : List Sector) → (s : State) → IfOk result (λ prepared.
+            Makes now [] self.old prepared bytes.now s (with_bytes name.now bytes.now s)) }
+        ensures puts { IfOk result (λ prepared. (position : ℕ)
+            × StandsAt self.old.entries.items name.now position
+            × Puts self.old prepared (Over position) (length self.old.entries.items) bytes.now) }
+        ensures refused { IsFalse self.old.failed → (s : State)
+            → IsCounted self.old.root self.old.entries.items self.old.held self.old.layout s
+            → IsExactAnswer (refusal_of_put (sectors_for self.old) (longest_in self.old) s bytes.now)
+            (done_of result) }
+    {
+        self.test_change()?;
+        let Some(position) = self.index.position_of(&self.entries, name) else {
+            unreachable!();
+        };
+        let libraries = self.entries.len();
+        let count = catalogues_for(libraries);
+        let room = take_put(&mut self.layout, name, bytes, count, 0)?;
+        let root = next_root(&self.root, libraries, room.catalogues.as_slice());
+        let change = Change {
+            staged: Staged::Put(room.put, room.catalogues),
+            root,
+        };
+        Ok(Prepared {
+            change,
+            edit: Edit::Over(position, room.put),
+        })
+    }
+}
 
 impl<D: Disk> Store<D> {
     ghost use Rattle.std.specs.Prelude.{◌≡◌, ◌+◌, ◌⊎◌, length, OnOk};
@@ -55,40 +106,7 @@ impl<D: Disk> Store<D> {
             + catalogues_for (length self.old.entries) + 4)
             IsRefusalOfPutOver result }
     {
-        if self.failed {
-            return Err(StoreRefusal::Reopen);
-        }
-        if self.root.generation == u64::MAX {
-            return Err(StoreRefusal::GenerationEnd);
-        }
-        let Some(position) = self.index.position_of(&self.entries, name) else {
-            unreachable!();
-        };
-        let libraries = self.entries.len();
-        let count = catalogues_for(libraries);
-        let room = take_room(&mut self.layout, sector_need(bytes), count, 0)?;
-        let put = new_entry(name, bytes, &room);
-        self.sectors[position] = put.at;
-        let root = next_root(&self.root, libraries, room.catalogues.as_slice());
-        let change = Change {
-            staged: Staged::Put(put, room.catalogues),
-            root,
-        };
-        self.failed = true;
-        let written = change.carry_out(&mut self.disk, &mut self.singles, bytes, &self.sectors);
-        if let Err(fault) = written {
-            change.give_back(&mut self.layout);
-            return Err(StoreRefusal::from(fault));
-        }
-        give_up(
-            &mut self.layout,
-            &mut self.held,
-            &self.entries[position],
-            catalogues(&self.root),
-        );
-        self.entries[position] = put;
-        self.root = change.root;
-        self.failed = false;
-        Ok(())
+        let prepared = self.kept.prepare_over(name, bytes)?;
+        self.kept.make(&mut self.disk, &prepared, bytes)
     }
 }

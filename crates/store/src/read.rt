@@ -72,10 +72,10 @@ impl<D: Disk> Store<D> {
         requires { position < length self.old.entries }
         ensures { ReadsBlob Two D.facts self.old self.new position result }
     {
-        if self.failed {
+        if self.kept.failed {
             return Err(StoreRefusal::Reopen);
         }
-        read_file(&mut self.disk, &self.entries[position], buffer)
+        read_file(&mut self.disk, &self.kept.entries[position], buffer)
     }
 }
 

@@ -1,14 +1,19 @@
 -- The sectors that a change takes, and those that it gives back.
-use Rattle.std.specs.Prelude.{◌≡◌, ◌⊎◌, ℕ, ◌<◌, Bool, List, ◌++◌, length, All, AllPairs, Contains}
+use Rattle.std.specs.Prelude.{◌≡◌, ◌⊎◌, ℕ, ◌+◌, ◌<◌, ◌≤◌, Bool, List, ◌++◌, length, All, AllPairs, Contains}
+use Rattle.std.specs.Int.{div_ceil}
+use Rattle.sector_disk.specs.Disk.{sector_bytes}
 use Rattle.extents.specs.Limits.{root_sectors}
-use Rattle.extents.specs.Extent.{AreDistinct, IsApart}
+use Rattle.extents.specs.Extent.{AreDistinct, IsApart, sector_count}
+use Rattle.extents.specs.Layout.{free_count}
 use Rattle.extents.specs.Used.{ClaimsJust}
 use Rattle.passes.specs.Bytes.{IsOnDisk}
-use Rattle.roots.specs.Entry.{EntryHasSpelling}
+use Rattle.roots.specs.Entry.{EntryHasSpelling, IsDataExtent}
+use Rattle.states.specs.Cost.{cost}
 use Rattle.store.specs.declared.placed_entry.PlacedEntry.{PlacedEntry}
-use Rattle.store.specs.Stands.{extents_of, sectors_of}
+use Rattle.store.specs.Stands.{extents_of, name_of, sectors_of}
+use Rattle.store.specs.Taken.{IsTaken}
 use Rattle.store.specs.declared.held_versions.HeldRow.{HeldRow}
-use Rattle.store.specs.inside.Claimed.{IsUsable}
+use Rattle.store.specs.inside.Claimed.{IsClaimedBeside, IsUsable}
 use Rattle.store.specs.inside.HeldRows.{IsLeft, IsUnheld}
 
 -- a root sector, or one of these
@@ -43,3 +48,18 @@ pub record HasPlace (sectors : ℕ) (placed : PlacedEntry) (catalogues : List �
   pub apart : AllPairs IsApart (extents_of placed.entry)
   pub inside : All (IsUsable sectors) (sectors_of placed ++ catalogues)
   pub once : AreDistinct (sectors_of placed ++ catalogues)
+
+-- Bytes of a name got room for their entry and for so many catalogues, where so many sectors more
+-- stay free.
+pub record IsPutTaken (old new : List Bool) (name bytes : List ℕ) (catalogues spare : ℕ) (put : PlacedEntry) (listed : List ℕ) : Type 0 where
+  pub taken : IsTaken old (div_ceil (length bytes) sector_bytes) (extents_of put.entry) put.at listed
+  pub claimed : IsClaimedBeside old new (sectors_of put ++ listed)
+  pub count : length listed ≡ catalogues
+  pub fits : EntryHasSpelling put.entry
+  pub its_name : name_of put.entry ≡ name
+  pub its_length : put.entry.file_length ≡ length bytes
+  pub size : sector_count (extents_of put.entry) ≡ div_ceil (length bytes) sector_bytes
+  pub filled : All IsDataExtent (extents_of put.entry)
+  pub on_disk : All (IsOnDisk (length old)) (extents_of put.entry)
+  pub apart : AllPairs IsApart (extents_of put.entry)
+  pub room : cost (length bytes) + catalogues + spare ≤ free_count old

@@ -10,20 +10,20 @@ use Rattle.store.proofs.store.Store.free_space.Goals as goal
 
 pub returns-clause-sectors : goal.returns-clause-sectors
 returns-clause-sectors g c =
-    let root = c.self.inside.root in
-    let entries = c.self.inside.entries.items in
-    let used = layout_of root.sectors (in_use root entries c.self.inside.held) in
+    let root = c.self.inside.kept.root in
+    let entries = c.self.inside.kept.entries.items in
+    let used = layout_of root.sectors (in_use root entries c.self.inside.kept.held) in
     c.free_count.ensures.value
-    ∙ sym (free_count-same used c.self.inside.layout (same_layout root entries c.self.inside.held c.self.inside.layout c.self.invariant.0))
+    ∙ sym (free_count-same used c.self.inside.kept.layout (same_layout root entries c.self.inside.kept.held c.self.inside.kept.layout c.self.invariant.0))
     ∙ ap (λ store. free_count (layout_in_use store)) c.self.view_is
 
 pub returns-clause-runs : goal.returns-clause-runs
 returns-clause-runs g c =
-    let root = c.self.inside.root in
-    let entries = c.self.inside.entries.items in
-    let used = layout_of root.sectors (in_use root entries c.self.inside.held) in
+    let root = c.self.inside.kept.root in
+    let entries = c.self.inside.kept.entries.items in
+    let used = layout_of root.sectors (in_use root entries c.self.inside.kept.held) in
     c.run_count.ensures
-    ∙ ap length (sym (free_runs-same used c.self.inside.layout (same_layout root entries c.self.inside.held c.self.inside.layout c.self.invariant.0)))
+    ∙ ap length (sym (free_runs-same used c.self.inside.kept.layout (same_layout root entries c.self.inside.kept.held c.self.inside.kept.layout c.self.invariant.0)))
     ∙ ap (λ store. length (free_runs (layout_in_use store))) c.self.view_is
 
 pub returns-clause-state : goal.returns-clause-state

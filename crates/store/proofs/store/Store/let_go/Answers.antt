@@ -1,6 +1,7 @@
 use Rattle.std.proofs.Common.{rules, ◌≡◌, ⊎_elim, true, false, refl, sym, subst}
 use Rattle.store.specs.HeldVersions.{LetsVersionGo}
 use Rattle.store.specs.Opened.{Opened}
+use Rattle.store.specs.inside.Stored.{opened}
 use Rattle.store.specs.inside.Kept.{IsKept}
 use Rattle.store.proofs.HeldVersions.{gone_done, gone_freed, gone_held, gone_listed, held_fits, kept_held, less_done, none_done, with_held}
 use Rattle.store.proofs.HeldRows.{by_place, held_less, lone_less}
@@ -10,7 +11,7 @@ use Rattle.store.proofs.store.Store.let_go.Goals as goal
 
 -- the store before
 abbrev before : (g : given.Over) (c : After-let_go g) → Opened g.row.D.Denot
-before g c = record { disk = c.self.inside.disk; root = c.self.inside.root; entries = c.self.inside.entries.items; held = c.self.inside.held; failed = c.self.inside.failed }
+before g c = opened c.self.inside.disk c.self.inside.kept
 
 -- by the caller's words for the store and the handle
 said : (g : given.Over) (c : After-let_go g) (after : Opened g.row.D.Denot) → LetsVersionGo g.D.Disk.facts (before g c) after c.held.inside.at
@@ -41,7 +42,7 @@ pub invariant_of-self-in_default : goal.invariant_of-self-in_default
 invariant_of-self-in_default g c = (
   ⊎_elim
       (λ less. kept_held c.self.invariant.0 (held_less c.self.invariant.0.rows less) (lone_less less))
-      (λ same. subst (λ l. IsKept c.self.inside.root c.self.inside.entries.items l c.self.inside.layout) (sym same.1) c.self.invariant.0)
+      (λ same. subst (λ l. IsKept c.self.inside.kept.root c.self.inside.kept.entries.items l c.self.inside.kept.layout) (sym same.1) c.self.invariant.0)
       (c.in_default.ensures.none refl),
   c.self.invariant.1,
   c.self.invariant.2,

@@ -4,6 +4,7 @@ use Rattle.passes.specs.Bytes.{IsOnDisk}
 use Rattle.store.specs.Stands.{extents_of}
 use Rattle.store.specs.HeldVersions.{ReadsVersion}
 use Rattle.store.specs.Opened.{Opened}
+use Rattle.store.specs.inside.Stored.{opened}
 use Rattle.store.specs.declared.refusal.StoreRefusal.TheVariants.{Damaged}
 use Rattle.store.proofs.HeldVersions.{held_fits, held_on_disk, read_done, read_refused}
 use Rattle.store.proofs.HeldRows.{holders_unheld}
@@ -13,16 +14,16 @@ use Rattle.store.proofs.store.Store.read_held.Goals as goal
 
 -- the store before
 abbrev before : (g : given.Over) (c : After-placed g) → Opened g.row.D.Denot
-before g c = record { disk = c.self.inside.disk; root = c.self.inside.root; entries = c.self.inside.entries.items; held = c.self.inside.held; failed = c.self.inside.failed }
+before g c = opened c.self.inside.disk c.self.inside.kept
 
 -- the store after a read
 abbrev read_now : (g : given.Over) (c : After-placed g) → g.row.D.Denot → Opened g.row.D.Denot
-read_now g c disk = record { disk = disk; root = c.self.inside.root; entries = c.self.inside.entries.items; held = c.self.inside.held; failed = c.self.inside.failed }
+read_now g c disk = record { disk = disk; root = c.self.inside.kept.root; entries = c.self.inside.kept.entries.items; held = c.self.inside.kept.held; failed = c.self.inside.kept.failed }
 
 pub returns-in_default : goal.returns-in_default
 returns-in_default g c =
     let here = (goal.at.returns-in_default g c).After-placed in
-    let none = holders_unheld c.self.inside.held c.held.inside.at (c.in_default.ensures.none refl) in
+    let none = holders_unheld c.self.inside.kept.held c.held.inside.at (c.in_default.ensures.none refl) in
     subst (λ at. ReadsVersion g.D.Disk.facts c.args.self.now c.args.self.now at (Err Damaged)) c.held.view_is
     (subst (λ store. ReadsVersion g.D.Disk.facts store store c.held.inside.at (Err Damaged)) c.self.view_is
     (read_refused g.D.Disk.facts (before g here) c.self.invariant.0 c.held.inside.at Damaged

@@ -1,0 +1,12 @@
+use Rattle.std.proofs.Common.{subst, arith}
+use Rattle.store.specs.inside.Edit.{CanEditSectors}
+use Rattle.store.proofs.edit.Edit.list.Goals as goal
+
+pub push_reserved-requires : goal.push_reserved-requires
+push_reserved-requires c = (subst (λ e. CanEditSectors e c.args.sectors.now) c.in-Behind.is c.requires).memory
+
+pub index_mut-requires : goal.index_mut-requires
+index_mut-requires c = omega (arith, (subst (λ e. CanEditSectors e c.args.sectors.now) c.in-Over.is c.requires).within)
+
+pub remove-requires : goal.remove-requires
+remove-requires c = omega (arith, (subst (λ e. CanEditSectors e c.args.sectors.now) c.in-Out.is c.requires).within)
