@@ -97,13 +97,13 @@ module _ {D : Type 0} (facts : D → DiskFacts) (taken : Opened D) (holds : IsTr
         let inner : k + 1 < length places = omega (arith, lt, long) in
         let p : ℕ = get_or places (k + 1) 0 in
         let above : 0 < p = place-above places k (first_place places (map (λ q. q + 1) numbers) (length numbers) begins) apart.distinct inner in
-        let below : p < length taken.entries + 1 = omega (arith, All-get_or (λ q. q < length (available program libraries)) places (k + 1) 0 inner apart.below, count) in
+        let below : p < length s.libraries + 1 = omega (arith, All-get_or (λ q. q < length (available program libraries)) places (k + 1) 0 inner apart.below, length-map s.libraries object_of) in
         let file : Library = get_or s.libraries (p - 1) no_library in
-        let is : object_of file ≡ object p = library-at facts program taken holds s at p file above below refl in
+        let is : object_of file ≡ object p = library-at program s p file above below refl in
         let there : get_or (load_order program libraries numbers) (suc k) (object 0) ≡ object p =
         ap (λ (i : ℕ). get_or (load_order program libraries numbers) i (object 0)) (sym next)
         ∙ ap (λ (l : List Named). get_or l (k + 1) (object 0)) order_is ∙ get_or-map object places (k + 1) 0 (object 0) inner in
-        let its : P file = All-get_or P s.libraries (p - 1) no_library (omega (arith, above, below, count, length-map s.libraries object_of)) each in
+        let its : P file = All-get_or P s.libraries (p - 1) no_library (omega (arith, above, below)) each in
         subst Of (is ∙ sym there) its
       where
         begins : take (suc (length numbers)) places ≡ 0 ∷ map (λ q. q + 1) numbers

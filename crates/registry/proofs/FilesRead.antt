@@ -1,6 +1,6 @@
 -- Files that are read one after the other as the queue of a load order is walked.
 use Rattle.std.proofs.Common.{◌≡◌, ℕ, zero, suc, ◌+◌, ◌-◌, ◌<◌, ◌≤◌, List, [], ◌∷◌, ◌++◌, length, map, take, drop, get_or, nat_eq, Option, None}
-use Rattle.std.proofs.Common.{IsTrue, refl, sym, ap, subst, ◌∙◌, arith, false, append-nil}
+use Rattle.std.proofs.Common.{refl, sym, ap, subst, ◌∙◌, arith, false, append-nil}
 use Rattle.std.specs.Prelude.{All}
 use Rattle.std.specs.List.{IsDistinct, filter_map, flat_map, find}
 use Rattle.std.specs.Option.{option_or}
@@ -11,11 +11,8 @@ use Rattle.std.proofs.lemmas.List.{length-map, length-take, get_or-map, map-appe
 use Rattle.std.proofs.lemmas.List.Elements.{All-get_or, All-nil, All-cons, All-head, All-tail}
 use Rattle.std.proofs.lemmas.List.Folds.{find-append}
 use Rattle.std.proofs.lemmas.Map.Keys.{apart_from_distinct}
-use Rattle.sector_disk.specs.Disk.{DiskFacts, HoldsNow}
-use Rattle.roots.specs.Root.{listed_preloads}
 use Rattle.elf_dynamic.specs.Strings.{needed}
-use Rattle.scope.specs.LoadOrder as order
-use Rattle.scope.specs.LoadOrder.{Need, available, needs_of, level_0, object_at, place_of, load_order, load_places, missing, needed_by, is_missing}
+use Rattle.scope.specs.LoadOrder.{Need, available, needs_of, level_0, object_at, place_of, load_order, load_places, missing, names_of, needed_by, is_missing}
 use Rattle.scope.specs.Objects.{Named, program_name}
 use Rattle.scope.specs.inside.Growing.{grown}
 use Rattle.scope.specs.Queue.{AreApart}
@@ -25,16 +22,13 @@ use Rattle.scope.proofs.LoadOrderLemmas.{low-level_0}
 use Rattle.scope.proofs.Naming.{object_later}
 use Rattle.scope.proofs.Queueing.{IsReached, reached-more, places-end, order-behind, order-whole}
 use Rattle.scope.proofs.Reaching.{at-begins, reached-at, reached-start}
-use Rattle.store.specs.Opened.{Opened, IsAt}
-use Rattle.store.specs.Stands.{HaveOwnNames, no_library}
+use Rattle.store.specs.Stands.{no_library}
 use Rattle.requests.specs.Binding.{object_of, objects, preload_numbers}
 use Rattle.requests.specs.Library.{IsLibrary}
 use Rattle.states.specs.State.{Library, State}
 use Rattle.registry.specs.Untested.{ReadsLibraries}
 use Rattle.registry.specs.inside.Walked.{more_needs, walked, next_place, IsWalked}
 use Rattle.registry.specs.declared.needs.Needs.{Needs}
-use Rattle.store.specs.NameOrder.{entry_names}
-use Rattle.registry.proofs.StateNames.{names_are, object_count, numbers_are}
 
 -- the program as an object, and what is needed before it was looked at
 abbrev object_of_program : List ℕ → Named
@@ -102,42 +96,41 @@ one_of : {X : Type 0} (P : X → Type 0) (front : List X) (x : X) (more : List X
 one_of P [] x more some all = absurd (omega (arith, some))
 one_of P (y ∷ ys) x more some all = one_behind P ys x more all
 
-module _ {D : Type 0} (facts : D → DiskFacts) (program : List ℕ) (start : Opened D) (holds : IsTrue (facts start.disk).honest → HoldsNow (facts start.disk)) where
-  -- what a file needs, by the entries and by the state
-  needs-are : (s : State) → IsAt facts start s → (file : List ℕ) (place : ℕ) → file ≡ (object_at (available program (objects s)) place).file
-      → filter_map (place_of (entry_names start.entries)) (needed file) ≡ needs_of program (objects s) place
-  needs-are s at file place is =
-      ap (λ (ns : List (List ℕ)). filter_map (place_of ns) (needed file)) (sym (names_are facts start s holds at))
-      ∙ ap (λ f. filter_map (place_of (order.names_of (objects s))) (needed f)) is
+module _ (program : List ℕ) (s : State) where
+  abbrev pub libraries : List Named
+  libraries = objects s
+
+  abbrev pub names : List (List ℕ)
+  names = names_of (objects s)
+
+  count : length libraries ≡ length s.libraries
+  count = length-map s.libraries object_of
+
+  limit_is : length (available program libraries) ≡ length s.libraries + 1
+  limit_is = omega (arith, count)
 
   -- before the first file: level 0 and what the program needs
-  pub none_read : HaveOwnNames start.entries → All (λ p. p < length start.entries) (listed_preloads start.root) → IsDistinct nat_eq (listed_preloads start.root)
-      → (needs : Needs) → needs ≡ more_needs (entry_names start.entries) (first_needs (length start.entries + 1) (listed_preloads start.root)) program_name (needed program)
-      → IsWalked facts program start needs []
-  none_read own inside once needs is =
-      let ks : List ℕ = listed_preloads start.root in
+  pub none_read : (ks : List ℕ) → preload_numbers s ≡ ks → All (λ p. p < length s.libraries) ks → IsDistinct nat_eq ks
+      → (needs : Needs) → needs ≡ more_needs names (first_needs (length s.libraries + 1) ks) program_name (needed program) → IsWalked program s needs []
+  none_read ks numbers inside once needs is =
       let places : List ℕ = needs.places.places in
-      let more : List ℕ = filter_map (place_of (entry_names start.entries)) (needed program) in
+      let more : List ℕ = filter_map (place_of names) (needed program) in
       let grows : places ≡ grown (level_0 ks) more = ap (λ (n : Needs). n.places.places) is in
       let begins : take 1 places ≡ 0 ∷ [] = ap (take 1) grows ∙ grown-take 1 (level_0 ks) more (omega arith) in
+      let low : All (λ p. p < length libraries) ks = subst (λ n. All (λ p. p < n) ks) (sym count) inside in
+      let limit : ℕ = length (available program libraries) in
+      let fits : length (level_0 ks) ≤ limit = few limit (level_0 ks) (record { below = low-level_0 program libraries ks low once; distinct = distinct-level_0 ks once }) in
       record {
         among = record {
           places = record { limit = ap (λ (n : Needs). n.places.limit) is; first = first-of places begins };
           within = omega (arith, grown-longer (level_0 ks) more, ap length grows);
         };
-        missing = ap (λ (n : Needs). n.missing) is ∙ ap (find (is_missing (entry_names start.entries))) (sym (append-nil (needed_by (object_of_program program))));
-        each = λ s at. ap (map (object_at (available program (objects s)))) (sym (ap (drop 1) begins));
-        reached = λ s at.
-            let numbers : preload_numbers s ≡ ks = numbers_are facts start s holds at own inside in
-            let count : length (objects s) ≡ length start.entries = object_count facts start s holds at in
-            let low : All (λ p. p < length (objects s)) ks = subst (λ n. All (λ p. p < n) ks) (sym count) inside in
-            let limit : ℕ = length (available program (objects s)) in
-            let fits : length (level_0 ks) ≤ limit = few limit (level_0 ks) (record { below = low-level_0 program (objects s) ks low once; distinct = distinct-level_0 ks once }) in
-            subst (λ ps. IsReached program (objects s) (preload_numbers s) ps 1)
-            (ap (grown (level_0 ks)) (sym (needs-are s at program 0 refl)) ∙ sym grows)
-            (subst (λ ps. IsReached program (objects s) ps (grown (level_0 ks) (needs_of program (objects s) 0)) 1) (sym numbers)
-            (reached-more program (objects s) ks (level_0 ks) 0
-            (reached-start (needs_of program (objects s)) limit (level_0 ks) (omega arith)) (omega arith) fits));
+        missing = ap (λ (n : Needs). n.missing) is ∙ ap (find (is_missing names)) (sym (append-nil (needed_by (object_of_program program))));
+        each = ap (map (object_at (available program libraries))) (sym (ap (drop 1) begins));
+        reached = subst (λ ps. IsReached program libraries (preload_numbers s) ps 1) (sym grows)
+            (subst (λ ps. IsReached program libraries ps (grown (level_0 ks) more) 1) (sym numbers)
+            (reached-more program libraries ks (level_0 ks) 0
+            (reached-start (needs_of program libraries) limit (level_0 ks) (omega arith)) (omega arith) fits));
       }
     where
       first-of : (ps : List ℕ) → take 1 ps ≡ 0 ∷ [] → get_or ps 0 1 ≡ 0
@@ -145,65 +138,58 @@ module _ {D : Type 0} (facts : D → DiskFacts) (program : List ℕ) (start : Op
       first-of (p ∷ ps) e = ap (λ l. get_or l 0 1) e
 
   -- the library that a place stands for
-  pub library-at : (s : State) → IsAt facts start s → (p : ℕ) (f : Library) → 0 < p → p < length start.entries + 1
-      → f ≡ get_or s.libraries (p - 1) no_library → object_of f ≡ object_at (available program (objects s)) p
-  library-at s at zero f some lt is = absurd (omega (arith, some))
-  library-at s at (suc k) f some lt is =
+  pub library-at : (p : ℕ) (f : Library) → 0 < p → p < length s.libraries + 1
+      → f ≡ get_or s.libraries (p - 1) no_library → object_of f ≡ object_at (available program libraries) p
+  library-at zero f some lt is = absurd (omega (arith, some))
+  library-at (suc k) f some lt is =
       let e : suc k - 1 ≡ k = omega arith in
-      let count : length (objects s) ≡ length start.entries = object_count facts start s holds at in
-      let inside : k < length (objects s) = omega (arith, lt, count) in
-      let within : k < length s.libraries = omega (arith, inside, length-map s.libraries object_of) in
+      let within : k < length s.libraries = omega (arith, lt) in
       let library : Library = get_or s.libraries k no_library in
       let read : f ≡ library = is ∙ ap (λ i. get_or s.libraries i no_library) e in
       ap object_of read
       ∙ sym (get_or-map object_of s.libraries k no_library (object_of no_library) within)
-      ∙ sym (object_later (record { name = program_name; file = program }) (objects s) k (object_of no_library) inside)
+      ∙ sym (object_later (record { name = program_name; file = program }) libraries k (object_of no_library) (omega (arith, within, count)))
 
   -- one file more
-  pub one_read : {needs : Needs} {files : List Library} → IsWalked facts program start needs files
-      → AreApart (length start.entries + 1) needs.places.places → length files + 1 < length needs.places.places
-      → (f : Library) → ((t : State) → IsAt facts start t → f ≡ get_or t.libraries (next_place needs files - 1) no_library)
-      → (more : Needs) → more ≡ more_needs (entry_names start.entries) needs f.name (needed f.bytes)
-      → IsWalked facts program start more (files ++ f ∷ [])
+  pub one_read : {needs : Needs} {files : List Library} → IsWalked program s needs files
+      → AreApart (length s.libraries + 1) needs.places.places → length files + 1 < length needs.places.places
+      → (f : Library) → f ≡ get_or s.libraries (next_place needs files - 1) no_library
+      → (more : Needs) → more ≡ more_needs names needs f.name (needed f.bytes)
+      → IsWalked program s more (files ++ f ∷ [])
   one_read {needs = needs} {files = files} so_far apart lt f is more after =
       let n : ℕ = length files in
-      let names : List (List ℕ) = entry_names start.entries in
       let places : List ℕ = needs.places.places in
       let p : ℕ = get_or places (n + 1) 0 in
       let found : List ℕ = filter_map (place_of names) (needed f.bytes) in
       let grows : more.places.places ≡ grown places found = ap (λ (q : Needs). q.places.places) after in
-      let count : length (files ++ f ∷ []) ≡ n + 1 = length_push files f in
+      let size : length (files ++ f ∷ []) ≡ n + 1 = length_push files f in
       let longer : length places ≤ length more.places.places = omega (arith, grown-longer places found, ap length grows) in
-      let below : p < length start.entries + 1 = All-get_or (λ q. q < length start.entries + 1) places (n + 1) 0 lt apart.below in
+      let below : p < length s.libraries + 1 = All-get_or (λ q. q < length s.libraries + 1) places (n + 1) 0 lt apart.below in
       let above : 0 < p = place-above places n so_far.among.places.first apart.distinct lt in
       let behind : walked more.places.places (length (files ++ f ∷ [])) ≡ walked places n ++ p ∷ [] =
-      ap (walked more.places.places) count ∙ ap (λ ps. walked ps (n + 1)) grows ∙ walked-more places found n lt in
-      let object = λ (s : State) (at : IsAt facts start s).
-      library-at s at p f above below (is s at) in
+      ap (walked more.places.places) size ∙ ap (λ ps. walked ps (n + 1)) grows ∙ walked-more places found n lt in
+      let object : object_of f ≡ object_at (available program libraries) p = library-at p f above below is in
+      let fits : length places ≤ length (available program libraries) = omega (arith, few (length s.libraries + 1) places apart, limit_is) in
+      let all : found ≡ needs_of program libraries p = ap (λ (o : Named). filter_map (place_of names) (needed o.file)) object in
       record {
         among = record {
           places = record {
             limit = ap (λ (q : Needs). q.places.limit) after ∙ so_far.among.places.limit;
             first = ap (λ ps. get_or ps 0 1) grows ∙ front places found so_far.among.places.first (omega (arith, lt));
           };
-          within = omega (arith, lt, longer, count);
+          within = omega (arith, lt, longer, size);
         };
         missing = ap (λ (q : Needs). q.missing) after
             ∙ ap (λ (o : Option Need). option_or o (find (is_missing names) (needed_by (object_of f)))) so_far.missing
             ∙ missing-more names program files f;
-        each = λ s at.
-            map_push object_of files f
-            ∙ ap (λ os. os ++ object_of f ∷ []) (so_far.each s at)
-            ∙ ap (λ o. map (object_at (available program (objects s))) (walked places n) ++ o ∷ []) (object s at)
-            ∙ sym (map_push (object_at (available program (objects s))) (walked places n) p)
-            ∙ ap (map (object_at (available program (objects s)))) (sym behind);
-        reached = λ s at.
-            let limit : length (available program (objects s)) ≡ length start.entries + 1 = omega (arith, object_count facts start s holds at) in
-            let fits : length places ≤ length (available program (objects s)) = omega (arith, few (length start.entries + 1) places apart, limit) in
-            let all : found ≡ needs_of program (objects s) p = needs-are s at f.bytes p (ap (λ (o : Named). o.file) (object s at)) in
-            subst (λ k. IsReached program (objects s) (preload_numbers s) more.places.places (k + 1)) (sym count)
-            (subst (λ ps. IsReached program (objects s) (preload_numbers s) ps (n + 1 + 1)) (ap (grown places) (sym all) ∙ sym grows)
-            (reached-more program (objects s) (preload_numbers s) places (n + 1) (so_far.reached s at) lt fits));
+        each = map_push object_of files f
+            ∙ ap (λ os. os ++ object_of f ∷ []) so_far.each
+            ∙ ap (λ o. map (object_at (available program libraries)) (walked places n) ++ o ∷ []) object
+            ∙ sym (map_push (object_at (available program libraries)) (walked places n) p)
+            ∙ ap (map (object_at (available program libraries))) (sym behind);
+        reached = subst (λ k. IsReached program libraries (preload_numbers s) more.places.places (k + 1)) (sym size)
+            (subst (λ ps. IsReached program libraries (preload_numbers s) ps (n + 1 + 1)) (ap (grown places) (sym all) ∙ sym grows)
+            (reached-more program libraries (preload_numbers s) places (n + 1) so_far.reached lt fits));
       }
     where
       front : (ps qs : List ℕ) → get_or ps 0 1 ≡ 0 → 0 < length ps → get_or (grown ps qs) 0 1 ≡ 0
@@ -211,26 +197,25 @@ module _ {D : Type 0} (facts : D → DiskFacts) (program : List ℕ) (start : Op
       front (x ∷ ps) qs first some = ap (λ l. get_or l 0 1) (grown_is (x ∷ ps) qs) ∙ first
 
   -- where each file that the bind reads is a library, the one that is read next is one
-  pub next_is_library : {needs : Needs} {files : List Library} → IsWalked facts program start needs files
-      → AreApart (length start.entries + 1) needs.places.places → length files + 1 < length needs.places.places
-      → (s : State) → IsAt facts start s → ReadsLibraries s program → IsLibrary (get_or s.libraries (next_place needs files - 1) no_library)
-  next_is_library {needs = needs} {files = files} so_far apart lt s at all =
+  pub next_is_library : {needs : Needs} {files : List Library} → IsWalked program s needs files
+      → AreApart (length s.libraries + 1) needs.places.places → length files + 1 < length needs.places.places
+      → ReadsLibraries s program → IsLibrary (get_or s.libraries (next_place needs files - 1) no_library)
+  next_is_library {needs = needs} {files = files} so_far apart lt all =
       let n : ℕ = length files in
       let places : List ℕ = needs.places.places in
       let p : ℕ = get_or places (n + 1) 0 in
       let l : Library = get_or s.libraries (p - 1) no_library in
-      let object = object_at (available program (objects s)) in
-      let below : p < length start.entries + 1 = All-get_or (λ q. q < length start.entries + 1) places (n + 1) 0 lt apart.below in
+      let object = object_at (available program libraries) in
+      let below : p < length s.libraries + 1 = All-get_or (λ q. q < length s.libraries + 1) places (n + 1) 0 lt apart.below in
       let above : 0 < p = place-above places n so_far.among.places.first apart.distinct lt in
-      let limit : length (available program (objects s)) ≡ length start.entries + 1 = omega (arith, object_count facts start s holds at) in
-      let fits : length places ≤ length (available program (objects s)) = omega (arith, few (length start.entries + 1) places apart, limit) in
-      let ordered = order-at program (objects s) (preload_numbers s) places (n + 1) (so_far.reached s at) lt fits in
+      let fits : length places ≤ length (available program libraries) = omega (arith, few (length s.libraries + 1) places apart, limit_is) in
+      let ordered = order-at program libraries (preload_numbers s) places (n + 1) so_far.reached lt fits in
       let front : List Named = map object (take (n + 1) places) in
       let some : 0 < length front = omega (arith, length-map (take (n + 1) places) object, length-take (n + 1) places, lt) in
       let its : IsLibrary (record { name = (object p).name; bytes = (object p).file }) =
       one_of (λ o. IsLibrary (record { name = o.name; bytes = o.file })) front (object p) ordered.0 some
       (subst (λ os. All (λ o. IsLibrary (record { name = o.name; bytes = o.file })) (drop 1 os)) ordered.1 all) in
-      subst (λ (o : Named). IsLibrary (record { name = o.name; bytes = o.file })) (sym (library-at s at p l above below refl)) its
+      subst (λ (o : Named). IsLibrary (record { name = o.name; bytes = o.file })) (sym (library-at p l above below refl)) its
 
   whole-walked : (places : List ℕ) (n : ℕ) → n < length places → length places ≤ n + 1 → walked places n ≡ drop 1 places
   whole-walked places n inside outside =
@@ -238,23 +223,23 @@ module _ {D : Type 0} (facts : D → DiskFacts) (program : List ℕ) (start : Op
       ap (λ k. drop 1 (take k places)) e ∙ ap (drop 1) (take-length places)
 
   -- where the queue has been walked: the program and the files are the load order
-  pub all_read : {needs : Needs} {files : List Library} → IsWalked facts program start needs files → length needs.places.places ≤ length files + 1
-      → (s : State) → IsAt facts start s → load_order program (objects s) (preload_numbers s) ≡ available program (map object_of files)
-  all_read {needs = needs} {files = files} so_far outside s at =
+  pub all_read : {needs : Needs} {files : List Library} → IsWalked program s needs files → length needs.places.places ≤ length files + 1
+      → load_order program libraries (preload_numbers s) ≡ available program (map object_of files)
+  all_read {needs = needs} {files = files} so_far outside =
       let ks : List ℕ = preload_numbers s in
-      order-whole program (objects s) ks
+      order-whole program libraries ks
       ∙ ap (available program)
-      (order-behind program (objects s) ks
-      ∙ ap (map (object_at (available program (objects s))))
+      (order-behind program libraries ks
+      ∙ ap (map (object_at (available program libraries)))
       (sym (whole-walked needs.places.places (length files) so_far.among.within outside
-      ∙ ap (drop 1) (sym (places-end program (objects s) ks needs.places.places (length files + 1) (so_far.reached s at) outside))))
-      ∙ sym (so_far.each s at))
+      ∙ ap (drop 1) (sym (places-end program libraries ks needs.places.places (length files + 1) so_far.reached outside))))
+      ∙ sym so_far.each)
 
   -- and each file that the bind reads is a library, as those that were read are
-  pub libraries_read : {needs : Needs} {files : List Library} → IsWalked facts program start needs files → length needs.places.places ≤ length files + 1 → All IsLibrary files
-      → (s : State) → IsAt facts start s → ReadsLibraries s program
-  libraries_read {needs = needs} {files = files} so_far outside each s at =
-      subst (λ os. All (λ o. IsLibrary (record { name = o.name; bytes = o.file })) (drop 1 os)) (sym (all_read so_far outside s at)) (by files each)
+  pub libraries_read : {needs : Needs} {files : List Library} → IsWalked program s needs files → length needs.places.places ≤ length files + 1 → All IsLibrary files
+      → ReadsLibraries s program
+  libraries_read {needs = needs} {files = files} so_far outside each =
+      subst (λ os. All (λ o. IsLibrary (record { name = o.name; bytes = o.file })) (drop 1 os)) (sym (all_read so_far outside)) (by files each)
     where
       by : (fs : List Library) → All IsLibrary fs → All (λ o. IsLibrary (record { name = o.name; bytes = o.file })) (map object_of fs)
       by [] all = All-nil (λ (o : Named). IsLibrary (record { name = o.name; bytes = o.file }))
@@ -262,10 +247,8 @@ module _ {D : Type 0} (facts : D → DiskFacts) (program : List ℕ) (start : Op
           (All-head IsLibrary f fs all) (by fs (All-tail IsLibrary f fs all))
 
   -- and the first missing name is noted
-  pub missing_read : {needs : Needs} {files : List Library} → IsWalked facts program start needs files → length needs.places.places ≤ length files + 1
-      → (s : State) → IsAt facts start s → missing program (objects s) (preload_numbers s) ≡ needs.missing
+  pub missing_read : {needs : Needs} {files : List Library} → IsWalked program s needs files → length needs.places.places ≤ length files + 1
+      → missing program libraries (preload_numbers s) ≡ needs.missing
   unfolding missing
-  missing_read {needs = needs} {files = files} so_far outside s at =
-      ap (λ (names : List (List ℕ)). find (is_missing names) (flat_map needed_by (load_order program (objects s) (preload_numbers s)))) (names_are facts start s holds at)
-      ∙ ap (λ (os : List Named). find (is_missing (entry_names start.entries)) (flat_map needed_by os)) (all_read so_far outside s at)
-      ∙ sym so_far.missing
+  missing_read {needs = needs} {files = files} so_far outside =
+      ap (λ (os : List Named). find (is_missing names) (flat_map needed_by os)) (all_read so_far outside) ∙ sym so_far.missing

@@ -1,7 +1,7 @@
 -- Binders on their flights, by what their walks have found.
 use Rattle.std.proofs.Common.{◌≡◌, ℕ, suc, ◌+◌, ◌-◌, ◌<◌, ◌≤◌, List, [], ◌∷◌, ◌++◌, length, map, take, drop, get_or, sum_by, Option, Some, None}
 use Rattle.std.proofs.Common.{Result, Ok, Err, IsTrue, IsFalse, Bor, inl, inr, ⊎_elim, refl, sym, ap, subst, ◌∙◌, arith}
-use Rattle.std.specs.Prelude.{◌⊎◌, ◌↔◌, IfErr, IfOk}
+use Rattle.std.specs.Prelude.{◌⊎◌, ◌↔◌, All, IfErr, IfOk}
 use Rattle.std.specs.Option.{option_map}
 use Rattle.std.proofs.lemmas.Bool.{false≢true}
 use Rattle.std.proofs.Math.Seq.{drop-append_seam}
@@ -10,6 +10,7 @@ use Rattle.std.proofs.lemmas.List.Elements.{All-get_or}
 use Rattle.std.proofs.lemmas.List.Sums.{sum_by-cons}
 use Rattle.sector_disk.specs.Disk.{DiskFacts, HoldsNow, AreCallsAtMost, AreCallsExactly, sector_bytes}
 use Rattle.sector_disk.proofs.Moments.{exactly_at_most, exactly_none}
+use Rattle.roots.specs.Root.{listed_preloads}
 use Rattle.scope.specs.LoadOrder.{available, load_order, missing, object_at}
 use Rattle.scope.specs.Objects.{Named}
 use Rattle.scope.specs.Queue.{AreApart}
@@ -55,7 +56,7 @@ use Rattle.registry.proofs.Bindings.{refusal_same, objects_same}
 use Rattle.store.proofs.IsReadLemmas.{read_none}
 use Rattle.registry.proofs.FilesRead.{all_read, missing_read, order-at, place-above, library-at}
 use Rattle.registry.proofs.Keeping.{keeps_held_read, keeps_held_same}
-use Rattle.registry.proofs.StateNames.{object_count}
+use Rattle.registry.proofs.StateNames.{names_are, numbers_are, object_count}
 
 -- the flight of a binder by its own program and base
 abbrev pub own_flight : Binding → State → ℕ → Flight
@@ -66,13 +67,19 @@ module _ {D : Type 0} (facts : D → DiskFacts) {now : Opened D} {binder : Bindi
   own_is = λ i. record { program = flies.program i; base = flies.base i; state = flight.state; going = flight.going }
 
   -- its snapshot offers what the registry had when it was begun
-  pub flies_offers : (snapshot : Bor Taken) → snapshot.now ≡ binder.snapshot → Offers facts (Held snapshot) flies.taken now
-  flies_offers snapshot same = record {
-    entries = subst (λ (k : Taken). IsTakenOf now.held k flies.taken.entries) (sym same) flies.snapshot.entries;
-    own = flies.own;
-    preloads = ap (λ (k : Taken). k.preloads) same ∙ flies.snapshot.preloads;
-    files = λ s at. subst (λ (k : Taken). IsTrue (facts now.disk).honest × AreHeldAs facts now k.handles s.libraries) (sym same) (flies.snapshot.libraries s at);
-  }
+  pub flies_offers : (IsTrue (facts flies.taken.disk).honest → HoldsNow (facts flies.taken.disk)) → (snapshot : Bor Taken) → snapshot.now ≡ binder.snapshot
+      → Offers facts (Held snapshot) flies.taken.entries flight.state now
+  flies_offers holds snapshot same =
+      let s : State = flight.state in
+      let listed : snapshot.now.preloads ≡ listed_preloads flies.taken.root = ap (λ (k : Taken). k.preloads) same ∙ flies.snapshot.preloads in
+      record {
+        has = subst (λ (k : Taken). IsTakenOf now.held k flies.taken.entries) (sym same) flies.snapshot.entries;
+        own = flies.own;
+        names = names_are facts flies.taken s holds flies.at.stored;
+        preloads = subst (λ (ps : List ℕ). All (λ p. p < length flies.taken.entries) ps → preload_numbers s ≡ ps) (sym listed)
+            (numbers_are facts flies.taken s holds flies.at.stored flies.own);
+        files = subst (λ (k : Taken). IsTrue (facts now.disk).honest × AreHeldAs facts now k.handles s.libraries) (sym same) (flies.snapshot.libraries s flies.at.stored);
+      }
 
   -- Reading keeps its snapshot.
   pub snapshot_read : (new : Opened D) → IsRead facts now new → IsSnapshotOf facts flies.taken new binder.snapshot
@@ -137,13 +144,13 @@ with_found binder needs files = record {
 
 module _ {D : Type 0} (facts : D → DiskFacts) (now : Opened D) (before : Binding) (flight : Flight) (flies : Flies facts now before flight) (first : before.found ≡ None) where
   at_start : flight.going ≡ 0
-  at_start = subst (λ (o : Option Found). HasCome facts flies.taken before.program before.base o flight.going) first flies.come
+  at_start = subst (λ (o : Option Found). HasCome flight.state before.program before.base o flight.going) first flies.come
 
   abbrev first_order : List Named
   first_order = load_order before.program (objects flight.state) (preload_numbers flight.state)
 
   -- The first step is answered Going,
-  pub started : (needs : Needs) (files : List Library) → program_refusal before.program before.base ≡ None → files ≡ [] → IsWalked facts before.program flies.taken needs files
+  pub started : (needs : Needs) (files : List Library) → program_refusal before.program before.base ≡ None → files ≡ [] → IsWalked before.program flight.state needs files
       → IsStep facts now now flight (with_found before needs files) (Ok Going)
   started needs files accepted none walked =
       let none_read : sectors_at flight.going first_order ≡ 0 = ap (λ (k : ℕ). sectors_at k first_order) at_start in
@@ -186,8 +193,8 @@ module _ {D : Type 0} (facts : D → DiskFacts) (old : Opened D) (before : Bindi
   abbrev order : List Named
   order = load_order before.program (objects flight.state) (preload_numbers flight.state)
 
-  come : (program_refusal before.program before.base ≡ None) × IsWalked facts before.program flies.taken needs files × (flight.going ≡ length files + 1)
-  come = subst (λ (o : Option Found). HasCome facts flies.taken before.program before.base o flight.going) found flies.come
+  come : (program_refusal before.program before.base ≡ None) × IsWalked before.program flight.state needs files × (flight.going ≡ length files + 1)
+  come = subst (λ (o : Option Found). HasCome flight.state before.program before.base o flight.going) found flies.come
 
   -- its program takes memory to be admitted
   its_memory : WantsMemory flight.program
@@ -204,13 +211,13 @@ module _ {D : Type 0} (facts : D → DiskFacts) (old : Opened D) (before : Bindi
     abbrev libraries : List Named
     libraries = objects flight.state
 
-    count : length libraries ≡ length flies.taken.entries
-    count = object_count facts flies.taken flight.state holds flies.at.stored
+    count : length libraries ≡ length flight.state.libraries
+    count = length-map flight.state.libraries object_of
 
-    limit : needs.places.limit ≡ length flies.taken.entries + 1
+    limit : needs.places.limit ≡ length flight.state.libraries + 1
     limit = come.1.among.places.limit
 
-    within : place < length flies.taken.entries + 1
+    within : place < length flight.state.libraries + 1
     within = subst (λ k. place < k) limit (All-get_or (λ q. q < needs.places.limit) needs.places.places (length files + 1) 0 lt apart.below)
 
     above : 0 < place
@@ -220,13 +227,13 @@ module _ {D : Type 0} (facts : D → DiskFacts) (old : Opened D) (before : Bindi
     pub next_library : IsLibrary (get_or flight.state.libraries (place - 1) no_library)
     next_library =
         All-get_or IsLibrary flight.state.libraries (place - 1) no_library
-        (omega (arith, within, above, count, length-map flight.state.libraries object_of)) flies.at.libraries
+        (omega (arith, within, above)) flies.at.libraries
 
     at_place : (suc (length files) < length order) × (take 1 (drop (suc (length files)) order) ≡ object_at (available before.program libraries) place ∷ [])
     at_place =
         let i : ℕ = length files + 1 in
         let size : length needs.places.places ≤ length (available before.program libraries) = omega (arith, few needs.places.limit needs.places.places apart, limit, count) in
-        let reached = order-at before.program libraries (preload_numbers flight.state) needs.places.places i (come.1.reached flight.state flies.at.stored) lt size in
+        let reached = order-at before.program libraries (preload_numbers flight.state) needs.places.places i come.1.reached lt size in
         let front : List Named = map (object_at (available before.program libraries)) (take i needs.places.places) in
         let long : length front ≡ suc (length files) = omega (arith, length-map (take i needs.places.places) (object_at (available before.program libraries)), length-take i needs.places.places, lt) in
         subst (λ (l : List Named). (suc (length files) < length l) × (take 1 (drop (suc (length files)) l) ≡ object_at (available before.program libraries) place ∷ [])) (sym reached.1)
@@ -237,7 +244,7 @@ module _ {D : Type 0} (facts : D → DiskFacts) (old : Opened D) (before : Bindi
     sectors file is =
         let e : flight.going ≡ suc (length files) = omega (arith, come.2) in
         let object : object_of file ≡ object_at (available before.program libraries) place =
-        library-at facts before.program flies.taken holds flight.state flies.at.stored place file above within is in
+        library-at before.program flight.state place file above within is in
         ap (λ (k : ℕ). sectors_at k order) e
         ∙ ap (sum_by (λ (o : Named). data_sectors o.file)) at_place.1
         ∙ (let one : sum_by (λ (o : Named). data_sectors o.file) (object_at (available before.program libraries) place ∷ []) ≡ data_sectors
@@ -248,13 +255,13 @@ module _ {D : Type 0} (facts : D → DiskFacts) (old : Opened D) (before : Bindi
     -- as its entry tells too,
     sectors_told : file_sectors (get_or flies.taken.entries (place - 1) no_entry) ≡ step_sectors flight
     sectors_told =
-        ap (λ n. div_ceil n sector_bytes) (flies.lengths (place - 1) no_entry (omega (arith, within, above)))
+        ap (λ n. div_ceil n sector_bytes) (flies.lengths (place - 1) no_entry (omega (arith, within, above, count, object_count facts flies.taken flight.state holds flies.at.stored)))
         ∙ sym (sectors (get_or flight.state.libraries (place - 1) no_library) refl)
         ∙ ap (λ f. step_sectors f) (own_is facts flies)
 
     -- and is answered Going,
     pub gone_on : (file : Library) → file ≡ get_or flight.state.libraries (place - 1) no_library → (more : Needs) (all : List Library) → all ≡ files
-        ++ file ∷ [] → IsWalked facts before.program flies.taken more all
+        ++ file ∷ [] → IsWalked before.program flight.state more all
         → AreCallsExactly (data_sectors file.bytes) (facts old.disk) (facts new.disk) → IsStep facts old new flight (with_found before more all) (Ok Going)
     gone_on file is more all one walked calls =
         subst (λ (f : Flight). IsStep facts old new f (with_found before more all) (Ok Going)) (own_is facts flies) (
@@ -294,10 +301,10 @@ module _ {D : Type 0} (facts : D → DiskFacts) (old : Opened D) (before : Bindi
   -- Where no file is left, the step is answered as the bind is.
   module _ (outside : length needs.places.places ≤ length files + 1) where
     ordered : order ≡ available before.program (map object_of files)
-    ordered = all_read facts before.program flies.taken holds come.1 outside flight.state flies.at.stored
+    ordered = all_read before.program flight.state come.1 outside
 
     lacking : missing before.program (objects flight.state) (preload_numbers flight.state) ≡ needs.missing
-    lacking = missing_read facts before.program flies.taken holds come.1 outside flight.state flies.at.stored
+    lacking = missing_read before.program flight.state come.1 outside
 
     at_end : flight.going ≡ goings (own_flight before flight.state flight.going)
     at_end = omega (arith, all_goings, ap length ordered, length-map files object_of, come.2)

@@ -1,18 +1,19 @@
 -- What a walk finds its files in, as files are read.
-use Rattle.std.proofs.Common.{◌≡◌, ℕ, ◌+◌, List, [], ◌∷◌, ◌++◌, length, sum_by, get_or, IsTrue, Result, Ok, Err, refl, sym, ap, subst, ◌∙◌, arith}
+use Rattle.std.proofs.Common.{◌≡◌, ℕ, ◌+◌, ◌<◌, List, [], ◌∷◌, ◌++◌, length, sum_by, get_or, IsTrue, Result, Ok, Err, refl, sym, ap, subst, ◌∙◌, arith}
 use Rattle.std.specs.Prelude.{All, IfOk, OnOk}
 use Rattle.std.specs.Global.{Vec}
 use Rattle.std.proofs.lemmas.List.Sums.{sum_by-append, sum_by-cons}
-use Rattle.sector_disk.specs.Disk.{DiskFacts, AreCallsExactly}
+use Rattle.sector_disk.specs.Disk.{DiskFacts, HoldsNow, AreCallsExactly}
 use Rattle.sector_disk.proofs.Moments.{exactly_sum}
 use Rattle.roots.specs.Root.{listed_preloads}
 use Rattle.roots.specs.declared.root.Root.{Root}
 use Rattle.states.specs.State.{Library, State}
 use Rattle.store.specs.declared.held_versions.HeldRow.{HeldRow}
 use Rattle.store.specs.declared.placed_entry.PlacedEntry.{PlacedEntry}
-use Rattle.store.specs.Opened.{Opened}
+use Rattle.store.specs.Opened.{Opened, IsAt}
 use Rattle.store.specs.Stands.{HaveOwnNames, no_library}
 use Rattle.snapshots.specs.Snapshot.{IsTakenOf, AreHeldAs}
+use Rattle.requests.specs.Binding.{preload_numbers}
 use Rattle.requests.specs.Library.{IsLibrary}
 use Rattle.registry.specs.Binding.{data_sectors}
 use Rattle.registry.specs.declared.needs.Needs.{Needs}
@@ -20,9 +21,10 @@ use Rattle.registry.specs.declared.source.Source.{Source}
 use Rattle.registry.specs.declared.source.Source.TheVariants.{Current, Held}
 use Rattle.store.specs.IsRead.{IsRead}
 use Rattle.registry.specs.inside.Source.{HasEntries, HasFiles, Offers, offered, offered_preloads}
-use Rattle.registry.specs.inside.Walked.{IsWalked}
+use Rattle.registry.specs.inside.Walked.{IsAmong, IsWalked}
 use Rattle.store.proofs.IsReadLemmas.{read_more}
 use Rattle.registry.proofs.Keeping.{keeps_held_read}
+use Rattle.registry.proofs.StateNames.{names_are, numbers_are}
 
 -- it offers as many files as it has entries
 pub offered_count : {D : Type 0} (source : Source) (store : Opened D) (entries : List PlacedEntry) → HasEntries source store entries → offered source store ≡ length entries
@@ -30,9 +32,16 @@ offered_count Current store entries has = ap length has
 offered_count (Held snapshot) store entries has = has.held.count
 
 module _ {D : Type 0} (facts : D → DiskFacts) where
-  -- a store as it is offers what it has
-  pub offers_current : (store : Opened D) → HaveOwnNames store.entries → Offers facts Current store store
-  offers_current store own = record { entries = refl; own = own; preloads = refl; files = λ s at. at }
+  -- a store at a state offers that
+  pub offers_current : (store : Opened D) (s : State) → (IsTrue (facts store.disk).honest → HoldsNow (facts store.disk)) → HaveOwnNames store.entries → IsAt facts store s
+      → Offers facts Current store.entries s store
+  offers_current store s holds own at = record {
+    has = refl;
+    own = own;
+    names = names_are facts store s holds at;
+    preloads = numbers_are facts store s holds at own;
+    files = at;
+  }
 
   module _ (old new : Opened D) (read : IsRead facts old new) where
     -- Reading keeps its files,
@@ -61,30 +70,35 @@ module _ {D : Type 0} (facts : D → DiskFacts) where
     count_read (Held snapshot) = refl
 
     -- and so all that it offers
-    pub offers_read : (source : Source) (taken : Opened D) → Offers facts source taken old → Offers facts source taken new
-    offers_read source taken offers = record {
-      entries = entries_read source taken.entries offers.entries;
+    pub offers_read : (source : Source) {entries : List PlacedEntry} {s : State} → Offers facts source entries s old → Offers facts source entries s new
+    offers_read source {entries = entries} {s = s} offers = record {
+      has = entries_read source entries offers.has;
       own = offers.own;
-      preloads = preloads_read source ∙ offers.preloads;
-      files = λ s at. files_read source s (offers.files s at);
+      names = offers.names;
+      preloads = subst (λ (ps : List ℕ). All (λ p. p < length entries) ps → preload_numbers s ≡ ps) (sym (preloads_read source)) offers.preloads;
+      files = files_read source s offers.files;
     }
 
 -- How far a bind's walk through the files of a store has come.
 pub record HasCome {D : Type 0} (facts : D → DiskFacts) (program : List ℕ) (start now : Opened D) (needs : Needs) (files : List Library) : Type 0 where
-  pub walked : IsWalked facts program start needs files
+  pub among : IsAmong (length start.entries) needs files
+  pub walked : (s : State) → IsAt facts start s → IsWalked program s needs files
   pub libraries : All IsLibrary files
   pub own : HaveOwnNames start.entries
   pub read : IsRead facts start now
   pub calls : AreCallsExactly (sum_by (λ file. data_sectors file.bytes) files) (facts start.disk) (facts now.disk)
 
 module _ {D : Type 0} (facts : D → DiskFacts) {program : List ℕ} {start : Opened D} where
-  pub come_offers : {now : Opened D} {needs : Needs} {files : List Library} → HasCome facts program start now needs files → Offers facts Current start now
-  come_offers {now = now} come = offers_read facts start now come.read Current start (offers_current facts start come.own)
+  pub come_offers : {now : Opened D} {needs : Needs} {files : List Library} → (IsTrue (facts start.disk).honest → HoldsNow (facts start.disk)) → HasCome facts program start now needs files
+      → (s : State) → IsAt facts start s → Offers facts Current start.entries s now
+  come_offers {now = now} holds come s at = offers_read facts start now come.read Current (offers_current facts start s holds come.own at)
 
   pub come_more : {now new : Opened D} {needs more : Needs} {files : List Library} → HasCome facts program start now needs files → IsRead facts now new
-      → (file : Library) → All IsLibrary (files ++ file ∷ []) → IsWalked facts program start more (files ++ file ∷ []) → AreCallsExactly (data_sectors file.bytes) (facts now.disk) (facts new.disk)
+      → (file : Library) → All IsLibrary (files ++ file ∷ []) → IsAmong (length start.entries) more (files ++ file ∷ [])
+      → ((s : State) → IsAt facts start s → IsWalked program s more (files ++ file ∷ [])) → AreCallsExactly (data_sectors file.bytes) (facts now.disk) (facts new.disk)
       → HasCome facts program start new more (files ++ file ∷ [])
-  come_more {files = files} come read file libraries walked calls = record {
+  come_more {files = files} come read file libraries among walked calls = record {
+    among = among;
     walked = walked;
     libraries = libraries;
     own = come.own;

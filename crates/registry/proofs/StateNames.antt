@@ -63,6 +63,11 @@ object_names : (ls : List Library) → order.names_of (map object_of ls) ≡ nam
 object_names [] = refl
 object_names (l ∷ ls) = ap (λ ns. l.name ∷ ns) (object_names ls)
 
+-- as many entries as libraries, where they go by the same names
+pub entry_count : (entries : List PlacedEntry) (s : State) → order.names_of (objects s) ≡ entry_names entries → length entries ≡ length s.libraries
+entry_count entries s names =
+    sym (length-map entries placed_name) ∙ ap length (sym names) ∙ length-map (objects s) (λ (o : Named). o.name) ∙ length-map s.libraries object_of
+
 kept_names : (m : List Sector) (entries : List PlacedEntry) → names_of (map (library_of m) entries) ≡ entry_names entries
 kept_names m [] = refl
 kept_names m (e ∷ es) = ap (λ ns. placed_name e ∷ ns) (kept_names m es)

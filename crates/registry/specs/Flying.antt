@@ -30,7 +30,7 @@ pub record Flies {D : Type 0} (facts : D → DiskFacts) (now : Opened D) (binder
   pub snapshot : IsSnapshotOf facts taken now binder.snapshot
   pub program : binder.program ≡ flight.program
   pub base : binder.base ≡ flight.base
-  pub come : HasCome facts taken binder.program binder.base binder.found flight.going
+  pub come : HasCome flight.state binder.program binder.base binder.found flight.going
 
 -- the handles of what a binder holds
 abbrev pub handles_of : Binding → List ℕ

@@ -1,8 +1,9 @@
 // Binders: a program is bound step by step, while the registry changes.
-ghost use Rattle.std.specs.Prelude.{◌≡◌, [], None, IfOk, IfErr, OnOk};
+ghost use Rattle.std.specs.Prelude.{◌≡◌, [], None, List, IfOk, IfErr, OnOk};
 ghost use Rattle.image.specs.Refusal.{IsProgramAnswer};
 ghost use Rattle.image.specs.Refusal.{program_refusal};
-ghost use Rattle.store.specs.Opened.{Opened};
+ghost use Rattle.states.specs.State.{State};
+ghost use Rattle.store.specs.declared.placed_entry.PlacedEntry.{PlacedEntry};
 ghost use Rattle.registry.specs.Flying.{IsLastStep};
 ghost use Rattle.registry.specs.inside.Source.{Offers, offered};
 ghost use Rattle.registry.specs.inside.Stepping.{refused_step, unread_step};
@@ -71,8 +72,9 @@ fn look<D: Disk>(
     base: u64,
 ) -> Result<Walk, BindRefusal>
     ensures accepted { OnOk result (program_refusal program.now base ≡ None) }
-    ensures ok { (taken : Opened D) → Offers D.facts source.entry taken store.now
-        → IfOk result (λ walk. IsWalked D.facts program.now taken walk.needs walk.files.items) }
+    ensures ok { (entries : List PlacedEntry) → (s : State)
+        → Offers D.facts source.entry entries s store.now
+        → IfOk result (λ walk. IsWalked program.now s walk.needs walk.files.items) }
     ensures among { IfOk result (λ walk. IsAmong (offered source.entry store.now)
         walk.needs walk.files.items) }
     ensures none { IfOk result (λ walk. walk.files.items ≡ []) }

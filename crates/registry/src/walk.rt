@@ -4,14 +4,13 @@ ghost use Rattle.std.specs.Prelude.{get_or, slice_index_or, true, false, IfOk};
 ghost use Rattle.std.specs.Prelude.{IfErr, OnOk, OnErr};
 ghost use Rattle.sector_disk.specs.Disk.{AreCallsAtMost};
 ghost use Rattle.scope.specs.Queue.{AreApart};
-ghost use Rattle.store.specs.Opened.{Opened, IsAt};
 ghost use Rattle.store.specs.Stands.{no_library};
 ghost use Rattle.store.specs.declared.placed_entry.PlacedEntry.{PlacedEntry};
 ghost use Rattle.states.specs.State.{State};
 ghost use Rattle.requests.specs.Library.{IsLibrary};
 ghost use Rattle.store.specs.IsRead.{IsRead, file_sectors};
 ghost use Rattle.registry.specs.inside.Reading.{IsReadRefusal};
-ghost use Rattle.registry.specs.inside.Source.{HasEntries, Offers, offered};
+ghost use Rattle.registry.specs.inside.Source.{HasEntries, HasFiles, Offers, offered};
 ghost use Rattle.registry.specs.inside.Walked.{HasReadNext, IsAmong, IsWalked, next_place};
 
 use crate::library_file::LibraryFile;
@@ -40,9 +39,9 @@ impl Walk {
         source: Source<'_>,
         program: &Admitted<'_>,
     ) -> Result<Walk, AllocError>
-        ensures ok { (taken : Opened D) → Offers D.facts source.entry taken store.now
-            → IfOk result (λ walk. IsWalked D.facts program.now taken
-            walk.needs walk.files.items) }
+        ensures ok { (entries : List PlacedEntry) → (s : State)
+            → Offers D.facts source.entry entries s store.now
+            → IfOk result (λ walk. IsWalked program.now s walk.needs walk.files.items) }
         ensures among { IfOk result (λ walk. IsAmong (offered source.entry store.now)
             walk.needs walk.files.items) }
         ensures none { IfOk result (λ walk. walk.files.items ≡ []) }
@@ -102,11 +101,10 @@ impl Walk {
         requires next { length self.old.files.items + 1 < length self.old.needs.places.places }
         requires among { IsAmong (offered source store.old)
             self.old.needs self.old.files.items }
-        ensures walked { (program : List ℕ) → (taken : Opened D)
-            → Offers D.facts source.entry taken store.old
-            → IsWalked D.facts program taken self.old.needs self.old.files.items
-            → OnOk result
-            (IsWalked D.facts program taken self.new.needs self.new.files.items) }
+        ensures walked { (program : List ℕ) → (entries : List PlacedEntry) → (s : State)
+            → Offers D.facts source.entry entries s store.old
+            → IsWalked program s self.old.needs self.old.files.items
+            → OnOk result (IsWalked program s self.new.needs self.new.files.items) }
         ensures next { OnOk result (HasReadNext D.facts source.entry store.old store.new
             self.old.needs self.old.files.items self.new.files.items) }
         ensures calls { (entries : List PlacedEntry) → HasEntries source.entry store.old entries
@@ -118,8 +116,7 @@ impl Walk {
         ensures same { OnErr result ((self.new.needs ≡ self.old.needs)
             × (self.new.files.items ≡ self.old.files.items)) }
         ensures read { IsRead D.facts store.old store.new }
-        ensures damaged { (s : State) → (taken : Opened D)
-            → Offers D.facts source.entry taken store.old → IsAt D.facts taken s
+        ensures damaged { (s : State) → HasFiles D.facts source.entry store.old s
             → IfErr result (λ e. e ≡ StoreRefusal.Damaged → IsLibrary (slice_index_or s.libraries
             (next_place self.old.needs self.old.files.items - 1) no_library) → ⊥) }
         ensures refusals { IfErr result (IsReadRefusal D.facts store.old store.new) }

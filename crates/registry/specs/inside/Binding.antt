@@ -1,10 +1,8 @@
 -- How far a binder has come.
 use Rattle.std.specs.Prelude.{◌≡◌, ◌+◌, ℕ, List, length, Option, Some, None}
-use Rattle.sector_disk.specs.Disk.{DiskFacts}
 use Rattle.image.specs.Refusal.{program_refusal}
 use Rattle.snapshots.specs.Snapshot.{Taken}
-use Rattle.states.specs.State.{Library}
-use Rattle.store.specs.Opened.{Opened}
+use Rattle.states.specs.State.{Library, State}
 use Rattle.registry.specs.declared.needs.Needs.{Needs}
 use Rattle.registry.specs.declared.walk.Walk.{Walk}
 use Rattle.registry.specs.inside.Walked.{IsAmong, IsWalked}
@@ -41,7 +39,7 @@ pub record Stays (old new : Binding) : Type 0 where
   pub snapshot : new.snapshot ≡ old.snapshot
 
 -- after so many steps: none, or one that looked at the program, and one for each file
-abbrev pub HasCome : {D : Type 0} → (D → DiskFacts) → Opened D → List ℕ → ℕ → Option Found → ℕ → Type 0
-HasCome facts taken program base None going = going ≡ 0
-HasCome facts taken program base (Some found) going = (program_refusal program base ≡ None)
-    × IsWalked facts program taken found.needs found.files × (going ≡ length found.files + 1)
+abbrev pub HasCome : State → List ℕ → ℕ → Option Found → ℕ → Type 0
+HasCome s program base None going = going ≡ 0
+HasCome s program base (Some found) going = (program_refusal program base ≡ None)
+    × IsWalked program s found.needs found.files × (going ≡ length found.files + 1)

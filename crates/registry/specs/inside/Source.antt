@@ -2,11 +2,14 @@
 use Rattle.std.specs.Prelude.{◌≡◌, ◌≢◌, ◌<◌, ℕ, List, length, slice_index_or, All, IsTrue, Option, Some, None}
 use Rattle.sector_disk.specs.Disk.{DiskFacts}
 use Rattle.roots.specs.Root.{listed_preloads}
+use Rattle.scope.specs.LoadOrder.{names_of}
 use Rattle.states.specs.State.{State}
 use Rattle.store.specs.declared.placed_entry.PlacedEntry.{PlacedEntry}
 use Rattle.store.specs.Opened.{Opened, IsAt}
+use Rattle.store.specs.NameOrder.{entry_names}
 use Rattle.store.specs.Stands.{HaveOwnNames, name_of}
 use Rattle.snapshots.specs.Snapshot.{IsTakenOf, AreHeldAs}
+use Rattle.requests.specs.Binding.{objects, preload_numbers}
 use Rattle.registry.specs.declared.source.Source.{Source}
 use Rattle.registry.specs.declared.source.Source.TheVariants.{Current, Held}
 
@@ -30,12 +33,14 @@ abbrev pub HasFiles : {D : Type 0} → (D → DiskFacts) → Source → Opened D
 HasFiles facts Current store s = IsAt facts store s
 HasFiles facts (Held snapshot) store s = IsTrue (facts store.disk).honest × AreHeldAs facts store snapshot.now.handles s.libraries
 
--- What it offers in a store as it is now is what the store had when it was as the source tells.
-pub record Offers {D : Type 0} (facts : D → DiskFacts) (source : Source) (taken now : Opened D) : Type 0 where
-  pub entries : HasEntries source now taken.entries
-  pub own : HaveOwnNames taken.entries
-  pub preloads : offered_preloads source now ≡ listed_preloads taken.root
-  pub files : (s : State) → IsAt facts taken s → HasFiles facts source now s
+-- What it offers in a store as it is now are the libraries of this state, by these entries, and its
+-- preloads.
+pub record Offers {D : Type 0} (facts : D → DiskFacts) (source : Source) (entries : List PlacedEntry) (s : State) (now : Opened D) : Type 0 where
+  pub has : HasEntries source now entries
+  pub own : HaveOwnNames entries
+  pub names : names_of (objects s) ≡ entry_names entries
+  pub preloads : All (λ p. p < length entries) (offered_preloads source now) → preload_numbers s ≡ offered_preloads source now
+  pub files : HasFiles facts source now s
 
 -- the position of the entry of this name, or none where no entry has it
 abbrev pub IsFound : List PlacedEntry → List ℕ → Option ℕ → Type 0

@@ -5,7 +5,7 @@ use Rattle.std.specs.List.{filter_map, flat_map, find}
 use Rattle.std.specs.Option.{option_map, option_or}
 use Rattle.sector_disk.specs.Disk.{DiskFacts, AreCallsExactly}
 use Rattle.elf_file.specs.FirstOf.{first_of}
-use Rattle.scope.specs.LoadOrder.{Need, available, place_of, needs_of, level_0, object_at, needed_by, is_missing}
+use Rattle.scope.specs.LoadOrder.{Need, available, place_of, needs_of, level_0, object_at, needed_by, is_missing, names_of}
 use Rattle.scope.specs.Queue.{Queue}
 use Rattle.scope.specs.inside.Growing.{grown}
 use Rattle.scope.specs.inside.Reached.{Reached}
@@ -14,13 +14,12 @@ use Rattle.image.specs.Image.{MemoryImage, image_byte, image_of}
 use Rattle.image.specs.Placement.{Placed, place}
 use Rattle.image.specs.Refusal.{placed_refusal, missing_by, IsFirstOrWantsMemory}
 use Rattle.image.specs.declared.refusal.BindRefusal.{BindRefusal}
-use Rattle.store.specs.Opened.{Opened, IsAt}
+use Rattle.store.specs.Opened.{Opened}
 use Rattle.store.specs.Stands.{no_library}
 use Rattle.store.specs.declared.placed_entry.PlacedEntry.{PlacedEntry}
 use Rattle.requests.specs.Binding.{object_of, objects, preload_numbers}
 use Rattle.requests.specs.Library.{IsLibrary}
 use Rattle.states.specs.State.{Library, State}
-use Rattle.store.specs.NameOrder.{entry_names}
 use Rattle.registry.specs.Binding.{data_sectors}
 use Rattle.registry.specs.declared.needs.Needs.{Needs}
 use Rattle.registry.specs.declared.source.Source.{Source}
@@ -58,15 +57,13 @@ next_place needs files = get_or needs.places.places (length files + 1) 0
 abbrev pub walked : List ℕ → ℕ → List ℕ
 walked places count = drop 1 (take (count + 1) places)
 
--- The program was looked at, and then the files of the queue's places before this many, each once:
--- the queue has what these need, and the first of these names that no file goes by is noted.
-pub record IsWalked {D : Type 0} (facts : D → DiskFacts) (program : List ℕ) (taken : Opened D) (needs : Needs) (files : List Library) : Type 0 where
-  pub among : IsAmong (length taken.entries) needs files
-  pub missing : needs.missing ≡ find (is_missing (entry_names taken.entries)) (flat_map needed_by (available program (map object_of files)))
-  pub each : (s : State) → IsAt facts taken s → map object_of files
-      ≡ map (object_at (available program (objects s))) (walked needs.places.places (length files))
-  pub reached : (s : State) → IsAt facts taken s
-      → Reached (needs_of program (objects s)) (length (available program (objects s))) (level_0 (preload_numbers s)) needs.places.places (length files + 1)
+-- At this state the program was looked at, and then the files of the queue's places before this many,
+-- each once: the queue has what these need, and the first of these names that no file goes by is noted.
+pub record IsWalked (program : List ℕ) (s : State) (needs : Needs) (files : List Library) : Type 0 where
+  pub among : IsAmong (length s.libraries) needs files
+  pub missing : needs.missing ≡ find (is_missing (names_of (objects s))) (flat_map needed_by (available program (map object_of files)))
+  pub each : map object_of files ≡ map (object_at (available program (objects s))) (walked needs.places.places (length files))
+  pub reached : Reached (needs_of program (objects s)) (length (available program (objects s))) (level_0 (preload_numbers s)) needs.places.places (length files + 1)
 
 -- The file of the next place was read behind the others, by a call for each of its sectors, and is
 -- a library.

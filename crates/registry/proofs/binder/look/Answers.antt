@@ -10,8 +10,8 @@ returns-in_err-walk-clause-refused g c =
     rw (p.1, p.2) (memory c.args.program.now c.args.base c.in_ok-program.ensures.accepted)
 
 pub returns-clause-ok : goal.returns-clause-ok
-returns-clause-ok g c taken offers =
-    subst (λ p. IsWalked g.D.Disk.facts p taken c.in_ok-walk.walk.needs c.in_ok-walk.walk.files.items) c.in_ok-program.ensures.same (c.in_ok-walk.ensures.ok taken offers)
+returns-clause-ok g c entries s offers =
+    subst (λ p. IsWalked p s c.in_ok-walk.walk.needs c.in_ok-walk.walk.files.items) c.in_ok-program.ensures.same (c.in_ok-walk.ensures.ok entries s offers)
 
 pub returns-clause-accepted : goal.returns-clause-accepted
 returns-clause-accepted g c = c.in_ok-program.ensures.accepted

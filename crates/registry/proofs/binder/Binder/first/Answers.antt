@@ -13,8 +13,8 @@ returns-in-Ok-clause-step g c flight flies =
     started g.D.Disk.facts c.args.store.now before flight here (ap (λ (b : Binding). b.found) c.self.view_is ∙ c.requires) c.in-Ok.walk.needs c.in-Ok.walk.files.items
     (ap (λ (p : List ℕ). program_refusal p c.self.inside.base) (sym c.deref.ensures.value) ∙ c.in-Ok.ensures.accepted)
     c.in-Ok.ensures.none
-    (subst (λ (p : List ℕ). IsWalked g.D.Disk.facts p here.taken c.in-Ok.walk.needs c.in-Ok.walk.files.items) c.deref.ensures.value
-    (c.in-Ok.ensures.ok here.taken (flies_offers g.D.Disk.facts here _ refl)))
+    (subst (λ (p : List ℕ). IsWalked p flight.state c.in-Ok.walk.needs c.in-Ok.walk.files.items) c.deref.ensures.value
+    (c.in-Ok.ensures.ok here.taken.entries flight.state (flies_offers g.D.Disk.facts here (g.met.D.Disk.holds_now here.taken.disk) _ refl)))
 
 pub returns-in-Err-clause-step : goal.returns-in-Err-clause-step
 returns-in-Err-clause-step g c flight flies =

@@ -38,14 +38,14 @@ returns-clause-step g c flight flies =
     subst (λ (o : Option Walk). Flies facts c.args.store.now (whole o) flight) c.in-Some.is
     (subst (λ (b : Binding). Flies facts c.args.store.now b flight) (sym c.self.view_is) flies) in
     let holds = g.met.D.Disk.holds_now here.taken.disk in
-    let offers = flies_offers facts here _ refl in
+    let offers = flies_offers facts here holds _ refl in
     elim c.match-step.branch [
       | in-Ok-step w ↦
           let next = w.in-Ok-step.ensures.next in
           rw w.result-is (gone_on facts c.args.store.now (whole (Some walk)) flight here holds walk.needs walk.files.items refl
-          c.step.new.store c.step.ensures.read c.if-not-has_next.ensures.apart (c.if-not-has_next.ensures.yes refl) next.file (next.is flight.state (offers.files flight.state here.at.stored))
-          c.step.new.self.needs c.step.new.self.files.items next.behind (w.in-Ok-step.ensures.walked c.self.inside.program.items here.taken offers here.come.1)
-          (next.calls here.taken.entries offers.entries))
+          c.step.new.store c.step.ensures.read c.if-not-has_next.ensures.apart (c.if-not-has_next.ensures.yes refl) next.file (next.is flight.state offers.files)
+          c.step.new.self.needs c.step.new.self.files.items next.behind (w.in-Ok-step.ensures.walked c.self.inside.program.items here.taken.entries flight.state offers here.come.1)
+          (next.calls here.taken.entries offers.has))
       | in-Err-step w ↦
           let same = w.in-Err-step.ensures.same in
           let e : StoreRefusal = w.in-Err-step.refusal in
@@ -55,8 +55,8 @@ returns-clause-step g c flight flies =
           (unread_on facts c.args.store.now
           (whole (Some walk)) flight here holds walk.needs walk.files.items refl c.step.new.store c.step.ensures.read
           c.if-not-has_next.ensures.apart (c.if-not-has_next.ensures.yes refl)
-          (c.step.ensures.calls here.taken.entries offers.entries no_entry) e w.in-Err-step.ensures.refusals
-          (λ is. w.in-Err-step.ensures.damaged flight.state here.taken offers here.at.stored is
+          (c.step.ensures.calls here.taken.entries offers.has no_entry) e w.in-Err-step.ensures.refusals
+          (λ is. w.in-Err-step.ensures.damaged flight.state offers.files is
           (next_library facts c.args.store.now
           (whole (Some walk)) flight here holds walk.needs walk.files.items refl c.step.new.store c.step.ensures.read
           c.if-not-has_next.ensures.apart (c.if-not-has_next.ensures.yes refl))))))

@@ -2,14 +2,15 @@ use Rattle.std.proofs.Common.{◌≡◌, ◌+◌, ◌-◌, ◌++◌, ◌∷◌, 
 use Rattle.std.proofs.lemmas.Result.{err_from_is_err_and}
 use Rattle.sector_disk.specs.Disk.{DiskFacts, AreCallsAtMost}
 use Rattle.elf_dynamic.specs.Strings.{needed}
+use Rattle.scope.specs.LoadOrder.{names_of}
 use Rattle.scope.specs.Queue.{AreApart}
 use Rattle.store.specs.IsRead.{file_sectors}
 use Rattle.store.specs.Stands.{no_library}
 use Rattle.store.specs.declared.placed_entry.PlacedEntry.{PlacedEntry}
+use Rattle.requests.specs.Binding.{objects}
 use Rattle.requests.specs.Library.{IsLibrary}
 use Rattle.states.specs.State.{Library}
 use Rattle.registry.specs.declared.needs.Needs.{Needs}
-use Rattle.store.specs.NameOrder.{entry_names}
 use Rattle.registry.specs.inside.Walked.{IsWalked, more_needs, next_place}
 use Rattle.registry.proofs.FilesRead.{one_read}
 use Rattle.registry.proofs.Sources.{entries_read}
@@ -23,26 +24,28 @@ calls_at : {old new : DiskFacts} (position next : ℕ) → position ≡ next →
 calls_at {old = old} {new = new} position next is entries d calls = subst (λ k. AreCallsAtMost (file_sectors (get_or entries k d)) old new) is calls
 
 pub returns-in_err-file-clause-damaged : goal.returns-in_err-file-clause-damaged
-returns-in_err-file-clause-damaged g c s taken offers at =
+returns-in_err-file-clause-damaged g c s has =
     let p = err_from_is_err_and c.from_residual.result c.from_residual.ensures.1 in
     let named : c.next_position-position.result ≡ next_place c.args.self.now.needs c.args.self.now.files.items - 1 = c.next_position-position.ensures.next in
-    rw p.1 (λ is library. c.in_err-file.ensures.damaged s (offers.files s at) (sym p.2 ∙ is)
+    rw p.1 (λ is library. c.in_err-file.ensures.damaged s has (sym p.2 ∙ is)
     (subst (λ (k : ℕ). IsLibrary (get_or s.libraries k no_library)) (sym named) library))
 
 pub returns-clause-walked : goal.returns-clause-walked
-returns-clause-walked g c program taken offers so_far =
+returns-clause-walked g c program entries s offers so_far =
     let before : Needs = c.args.self.now.needs in
     let f : Library = c.in_ok-file.file in
-    let apart : AreApart (length taken.entries + 1) before.places.places = subst (λ k. AreApart k before.places.places) so_far.among.places.limit c.next_position-position.ensures.apart in
+    let names : List (List ℕ) = names_of (objects s) in
+    let apart : AreApart (length s.libraries + 1) before.places.places = subst (λ k. AreApart k before.places.places) so_far.among.places.limit c.next_position-position.ensures.apart in
     let bytes : c.object.result.now ≡ f.bytes = c.object.ensures.same ∙ c.admitted.ensures in
-    let has = entries_read g.D.Disk.facts c.args.store.now c.read_library.new.store c.read_library.ensures.read c.args.source taken.entries offers.entries in
-    subst (IsWalked g.D.Disk.facts program taken c.add_needed.new.self) (sym (c.push_reserved.ensures.items ∙ ap (λ (l : List Library). l ++ f ∷ []) c.reserve.ensures.items))
-    (one_read g.D.Disk.facts program taken (g.met.D.Disk.holds_now taken.disk) so_far apart c.requires.next f
-    (λ t at. c.in_ok-file.ensures.ok t (offers.files t at) ∙ ap (λ (k : ℕ). get_or t.libraries k no_library) c.next_position-position.ensures.next)
+    let has = entries_read g.D.Disk.facts c.args.store.now c.read_library.new.store c.read_library.ensures.read c.args.source entries offers.has in
+    subst (IsWalked program s c.add_needed.new.self) (sym (c.push_reserved.ensures.items ∙ ap (λ (l : List Library). l ++ f ∷ []) c.reserve.ensures.items))
+    (one_read program s so_far apart c.requires.next f
+    (c.in_ok-file.ensures.ok s offers.files ∙ ap (λ (k : ℕ). get_or s.libraries k no_library) c.next_position-position.ensures.next)
     c.add_needed.new.self
-    (c.in_ok-add_needed.ensures.ok taken.entries has offers.own
-    ∙ ap (λ (m : List ℕ). more_needs (entry_names taken.entries) before m (needed c.object.result.now)) c.name.ensures
-    ∙ ap (λ (b : List ℕ). more_needs (entry_names taken.entries) before f.name (needed b)) bytes))
+    (c.in_ok-add_needed.ensures.ok entries has offers.own
+    ∙ ap (λ (ns : List (List ℕ)). more_needs ns before c.name.result.now (needed c.object.result.now)) (sym offers.names)
+    ∙ ap (λ (m : List ℕ). more_needs names before m (needed c.object.result.now)) c.name.ensures
+    ∙ ap (λ (b : List ℕ). more_needs names before f.name (needed b)) bytes))
 
 pub returns-in_err-file-clause-calls : goal.returns-in_err-file-clause-calls
 returns-in_err-file-clause-calls g c entries has d = calls_at _ _ c.next_position-position.ensures.next entries d (c.read_library.ensures.calls entries has d)
