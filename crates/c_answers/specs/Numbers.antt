@@ -67,7 +67,6 @@ refusal_number (refusal.Bind why) = bind_number why
 refusal_number refusal.Device = 301
 refusal_number refusal.Reopen = 302
 refusal_number refusal.Damaged = 305
-refusal_number refusal.BadGeometry = 306
 refusal_number refusal.Full = 307
 refusal_number refusal.Fragmented = 308
 refusal_number refusal.TooMany = 309

@@ -72,7 +72,6 @@ pub(crate) fn refusal_status(refusal: &Refusal) -> u32
         Refusal::Device => 301,
         Refusal::Reopen => 302,
         Refusal::Damaged => 305,
-        Refusal::BadGeometry => 306,
         Refusal::Full => 307,
         Refusal::Fragmented => 308,
         Refusal::TooMany => 309,

@@ -53,7 +53,6 @@ memory_refusal refusal.NoSuchBinder h = cc
 memory_refusal refusal.Device h = cc
 memory_refusal refusal.Reopen h = cc
 memory_refusal refusal.Damaged h = cc
-memory_refusal refusal.BadGeometry h = cc
 memory_refusal refusal.Full h = cc
 memory_refusal refusal.Fragmented h = cc
 memory_refusal refusal.TooMany h = cc

@@ -74,7 +74,6 @@ refusal_answers refusal.NoSuchBinder h = cc
 refusal_answers refusal.Device h = cc
 refusal_answers refusal.Reopen h = cc
 refusal_answers refusal.Damaged h = cc
-refusal_answers refusal.BadGeometry h = cc
 refusal_answers refusal.Full h = cc
 refusal_answers refusal.Fragmented h = cc
 refusal_answers refusal.TooMany h = cc

@@ -6,7 +6,7 @@ use Rattle.text_output.specs.Name.{name_text}
 use Rattle.requests.specs.Table.{Listed}
 use Rattle.requests.specs.declared.refusal.Refusal.{Refusal}
 use Rattle.requests.specs.declared.refusal.Refusal.TheVariants.{Object, AlreadyInstalled, NotInstalled, InPreloads, RepeatedPreload}
-use Rattle.requests.specs.declared.refusal.Refusal.TheVariants.{TooManyPreloads, NoSlot, NoSuchBinder, Device, Reopen, Damaged, BadGeometry}
+use Rattle.requests.specs.declared.refusal.Refusal.TheVariants.{TooManyPreloads, NoSlot, NoSuchBinder, Device, Reopen, Damaged}
 use Rattle.requests.specs.declared.refusal.Refusal.TheVariants.{Full, Fragmented, TooMany, GenerationEnd, OutOfMemory, Bind}
 use Rattle.requests.specs.declared.reply.Reply.{Reply}
 use Rattle.requests.specs.declared.reply.Reply.TheVariants.{Done, Listing, Bound, Refused}
@@ -33,7 +33,6 @@ command_refusal_text (Bind refusal) = refusal_text refusal
 command_refusal_text Device = disk_refusal_text disk.Device
 command_refusal_text Reopen = disk_refusal_text disk.Reopen
 command_refusal_text Damaged = disk_refusal_text disk.Damaged
-command_refusal_text BadGeometry = disk_refusal_text disk.BadGeometry
 command_refusal_text Full = disk_refusal_text disk.Full
 command_refusal_text Fragmented = disk_refusal_text disk.Fragmented
 command_refusal_text TooMany = disk_refusal_text disk.TooMany

@@ -41,7 +41,6 @@ fn put_command_refusal<W: Write>(
         Refusal::Device => put_disk_refusal(line, out, StoreRefusal::Device),
         Refusal::Reopen => put_disk_refusal(line, out, StoreRefusal::Reopen),
         Refusal::Damaged => put_disk_refusal(line, out, StoreRefusal::Damaged),
-        Refusal::BadGeometry => put_disk_refusal(line, out, StoreRefusal::BadGeometry),
         Refusal::Full => put_disk_refusal(line, out, StoreRefusal::Full),
         Refusal::Fragmented => put_disk_refusal(line, out, StoreRefusal::Fragmented),
         Refusal::TooMany => put_disk_refusal(line, out, StoreRefusal::TooMany),

@@ -65,7 +65,6 @@ put_step p q bytes usable first memory (refusal.Bind r) is = absurd is
 put_step p q bytes usable first memory refusal.Device is = absurd is
 put_step p q bytes usable first memory refusal.Reopen is = absurd is
 put_step p q bytes usable first memory refusal.Damaged is = absurd is
-put_step p q bytes usable first memory refusal.BadGeometry is = absurd is
 put_step p q bytes usable first memory refusal.Full is = absurd is
 put_step p q bytes usable first memory refusal.Fragmented is = absurd is
 put_step p q bytes usable first memory refusal.TooMany is = absurd is

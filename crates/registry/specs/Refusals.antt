@@ -2,7 +2,7 @@
 use Rattle.store.specs.declared.refusal.StoreRefusal.{StoreRefusal}
 use Rattle.store.specs.declared.refusal.StoreRefusal.TheVariants as store
 use Rattle.requests.specs.declared.refusal.Refusal.{Refusal}
-use Rattle.requests.specs.declared.refusal.Refusal.TheVariants.{Device, Reopen, BadGeometry, Full, Fragmented, TooMany, GenerationEnd, OutOfMemory}
+use Rattle.requests.specs.declared.refusal.Refusal.TheVariants.{Device, Reopen, Damaged, Full, Fragmented, TooMany, GenerationEnd, OutOfMemory}
 
 -- a refusal of the store, under its own number; the last line is for what is never refused here
 abbrev pub refusal_of : StoreRefusal → Refusal
@@ -13,4 +13,4 @@ refusal_of store.Fragmented = Fragmented
 refusal_of store.TooMany = TooMany
 refusal_of store.GenerationEnd = GenerationEnd
 refusal_of store.OutOfMemory = OutOfMemory
-refusal_of other = BadGeometry
+refusal_of other = Damaged

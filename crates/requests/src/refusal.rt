@@ -32,8 +32,6 @@ pub enum Refusal {
     /// S5: what was read is no library of its name. A registry whose opening tested its files meets
     /// none on an honest disk.
     Damaged,
-    /// S6: there are fewer than 8 or more than 4,194,304 sectors.
-    BadGeometry,
     /// S7: the file, and twice the catalogues that a longer list has more, cost more sectors than
     /// are free.
     Full,
