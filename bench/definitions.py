@@ -197,7 +197,7 @@ CRATES = [
     ('snapshots', 'Snapshots'), ('contents', 'What a disk has'), ('registry', 'The registry on a disk'),
     ('binders', 'Binders in slots'), ('byte_disk', 'A disk over given bytes'),
     ('byte_registry', 'A registry on given bytes'), ('c_answers', 'What calls for C are answered'), ('rlibreg_c', 'The calls for C'), ('commands', 'The program'),
-    ('program_parts', 'What programs share'), ('tool_commands', 'The second program'),
+    ('program_parts', 'What programs share'), ('scripts', 'The lines of scripts'), ('tool_commands', 'The second program'),
     ('replays', 'The law that a dump replays')]
 HEAD = """# Definitions
 

@@ -3,7 +3,7 @@ ghost use Rattle.std.specs.Prelude.{◌<◌};
 
 use crate::every_line::{LINES, are_answers, script};
 use crate::harms::{NEW_ROWS, ROWS, Row, Wanted};
-use crate::scripts::summary;
+use crate::script_streams::summary;
 use crate::sectors::{Sectors, harmed, one_library};
 use binders::Binders;
 use commands::{ScriptFault, Summary, run_script_on_disk};

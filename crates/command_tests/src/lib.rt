@@ -21,7 +21,7 @@ mod refused_binds;
 #[cfg(test)]
 mod runs;
 #[cfg(test)]
-mod scripts;
+mod script_streams;
 #[cfg(test)]
 mod sectors;
 #[cfg(test)]

@@ -2,7 +2,7 @@
 
 ghost use Rattle.std.specs.Prelude.{⊤};
 
-use crate::scripts::summary;
+use crate::script_streams::summary;
 use binders::{Event, EventReply};
 use commands::{ScriptFault, Summary, TakesEvents, run_script};
 use requests::{Command, Refusal, Reply};

@@ -1,9 +1,10 @@
 -- What a line asks of a binder, by its front.
 use Rattle.std.proofs.Common.{◌≡◌, ◌∙◌, ℕ, List, drop, codes, Bool, true, false, cond, Option, Some, None, refl, ap}
-use Rattle.std.specs.Prelude.{bytes_eq, MatchOption, IsSomeAnd}
+use Rattle.std.specs.Prelude.{MatchOption, IsSomeAnd}
 use Rattle.std.specs.Option.{option_map}
 use Rattle.binders.specs.Events.{Happening, begin, advance, cancel}
-use Rattle.commands.specs.Line.{binder_meaning, has_front, meaning, program_behind, slot_of}
+use Rattle.scripts.specs.Words.{has_front, program_behind}
+use Rattle.commands.specs.Line.{binder_meaning, slot_of}
 use Rattle.commands.specs.inside.Asked.{happening_asked}
 use Rattle.commands.specs.declared.asked.Asked.{Asked}
 
@@ -41,10 +42,3 @@ module _ (line rest : List ℕ) (asked : Option Happening) where
 pub asks_none : (line : List ℕ) → has_front (codes "begin ") line ≡ false → has_front (codes "advance ") line ≡ false → has_front (codes "cancel ") line ≡ false → None ≡ binder_meaning line
 asks_none line begun advanced cancelled =
     passed (has_front (codes "cancel ") line) _ _ cancelled ∙ passed (has_front (codes "advance ") line) _ _ advanced ∙ passed (has_front (codes "begin ") line) _ _ begun
-
--- a line of none of the other forms asks a binder
-pub asks_binder : (line : List ℕ) → has_front (codes "install ") line ≡ false → has_front (codes "replace ") line ≡ false → has_front (codes "remove ") line ≡ false
-    → has_front (codes "preload") line ≡ false → has_front (codes "bind ") line ≡ false → bytes_eq line (codes "list") ≡ false → binder_meaning line ≡ meaning line
-asks_binder line installs replaces removes preloads binds lists =
-    passed (bytes_eq line (codes "list")) _ _ lists ∙ passed (has_front (codes "bind ") line) _ _ binds ∙ passed (has_front (codes "preload") line) _ _ preloads
-    ∙ passed (has_front (codes "remove ") line) _ _ removes ∙ passed (has_front (codes "replace ") line) _ _ replaces ∙ passed (has_front (codes "install ") line) _ _ installs

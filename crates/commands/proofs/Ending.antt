@@ -14,8 +14,8 @@ use Rattle.program_parts.specs.File.{read_limit}
 use Rattle.program_parts.specs.Status.{reply_status, refusal_status}
 use Rattle.commands.specs.RunImage.{Shows}
 use Rattle.commands.specs.Status.{status_of}
-use Rattle.commands.specs.declared.fault.ScriptFault.{ScriptFault}
-use Rattle.commands.specs.declared.fault.ScriptFault.TheVariants as fault
+use Rattle.scripts.specs.declared.fault.ScriptFault.{ScriptFault}
+use Rattle.scripts.specs.declared.fault.ScriptFault.TheVariants as fault
 use Rattle.commands.specs.declared.show.Shown.{Shown}
 use Rattle.commands.specs.declared.show.Shown.TheVariants as shown
 use Rattle.commands.specs.inside.Ends.{ImageEnds, IsShown, IsNotRead}

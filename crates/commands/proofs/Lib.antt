@@ -2,12 +2,8 @@ pub mod Answering
 pub mod Asking
 pub mod Decimals
 pub mod Ending
-pub mod Fronts
-pub mod Ascii
 pub mod BinderLines
 pub mod Lines
-pub mod Pages
-pub mod Pieces
 pub mod ScriptRuns
 pub mod Scripts
 pub mod Seen

@@ -10,14 +10,17 @@ use Rattle.binders.specs.Events.{Happening}
 use Rattle.binders.specs.declared.event.EventReply.{EventReply}
 use Rattle.requests.proofs.Runs.{run_more}
 use Rattle.commands.specs.Answer.{LineStep, answer_text, output, is_refused}
-use Rattle.commands.specs.Script.{IsLine, ended, Counts, Streams, Ends, Breaks, Stops}
-use Rattle.commands.specs.inside.Progress.{IsAll, Place, Answered}
+use Rattle.scripts.specs.Line.{IsLine, ended}
+use Rattle.commands.specs.Script.{Counts, Streams, Ends, Breaks, Stops}
+use Rattle.scripts.specs.Reading.{IsAll}
+use Rattle.commands.specs.inside.Progress.{Place, Answered}
 use Rattle.commands.specs.declared.answer.Answer.{Answer}
 use Rattle.commands.specs.declared.answer.Answer.TheVariants.{CutLine}
-use Rattle.commands.specs.declared.fault.ScriptFault.{ScriptFault}
-use Rattle.commands.specs.declared.fault.ScriptFault.TheVariants.{Write}
+use Rattle.scripts.specs.declared.fault.ScriptFault.{ScriptFault}
+use Rattle.scripts.specs.declared.fault.ScriptFault.TheVariants.{Write}
 use Rattle.commands.specs.declared.summary.Summary.{Summary}
-use Rattle.commands.proofs.Lines.{flat_more, counts_more, rest_known, front_known, stops_ended}
+use Rattle.scripts.proofs.Lines.{rest_known, front_known, stops_ended}
+use Rattle.commands.proofs.Lines.{flat_more, counts_more}
 
 -- what the streams of a script are from one place to another
 abbrev pub streams : Place → Place → Streams

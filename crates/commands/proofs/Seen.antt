@@ -12,7 +12,7 @@ use Rattle.commands.specs.inside.Ends.{IsRun}
 use Rattle.commands.specs.Script.{Streams, Finishes, Stops}
 use Rattle.commands.specs.declared.answer.Answer.{Answer}
 use Rattle.commands.specs.declared.answer.Answer.TheVariants.{Replied, BadLine, CutLine}
-use Rattle.commands.specs.declared.fault.ScriptFault.{ScriptFault}
+use Rattle.scripts.specs.declared.fault.ScriptFault.{ScriptFault}
 use Rattle.commands.specs.declared.summary.Summary.{Summary}
 use Rattle.commands.specs.declared.watched.Watched.{Watched}
 use Rattle.commands.specs.inside.Watched.{WatchedStep}

@@ -11,13 +11,15 @@ use Rattle.requests.specs.Runs.{Steps, Run}
 use Rattle.binders.specs.Events.{Happening}
 use Rattle.binders.specs.declared.event.EventReply.{EventReply}
 use Rattle.commands.specs.Answer.{LineStep, MayWait, output}
-use Rattle.commands.specs.Script.{IsLine, ended, Streams, Ends, Breaks, IsHeldBack, StopsWriting}
-use Rattle.commands.specs.inside.Progress.{Place, Answered, Misses, Told, Unread}
+use Rattle.scripts.specs.Line.{IsLine, ended}
+use Rattle.commands.specs.Script.{Streams, Ends, Breaks, IsHeldBack, StopsWriting}
+use Rattle.scripts.specs.Reading.{Unread}
+use Rattle.commands.specs.inside.Progress.{Place, Answered, Misses, Told}
 use Rattle.commands.specs.declared.answer.Answer.{Answer}
-use Rattle.commands.specs.declared.fault.ScriptFault.{ScriptFault}
-use Rattle.commands.specs.declared.fault.ScriptFault.TheVariants.{Read, Write, OutOfMemory}
+use Rattle.scripts.specs.declared.fault.ScriptFault.{ScriptFault}
+use Rattle.scripts.specs.declared.fault.ScriptFault.TheVariants.{Read, Write, OutOfMemory}
 use Rattle.commands.specs.declared.summary.Summary.{Summary}
-use Rattle.commands.proofs.Lines.{stops_line}
+use Rattle.scripts.proofs.Lines.{stops_line}
 use Rattle.commands.proofs.Scripts.{streams, breaks_reading, breaks_cut, breaks_unapplied, breaks_applied}
 
 -- steps have as many answers as lines

@@ -1,11 +1,13 @@
 -- The answers to the lines of a script, and their texts (own).
-use Rattle.std.specs.Prelude.{◌≡◌, ℕ, List, codes, Some, None, Bool, true, false, ◌&&◌, ◌||◌, not}
+use Rattle.std.specs.Prelude.{◌≡◌, ℕ, List, Some, None, Bool, true, false, ◌&&◌, ◌||◌, not}
 use Rattle.std.specs.List.{flat_map}
 use Rattle.requests.specs.declared.refusal.Refusal.TheVariants.{Device, Reopen}
 use Rattle.requests.specs.declared.reply.Reply.TheVariants.{Refused}
 use Rattle.binders.specs.Events.{Happening}
 use Rattle.binders.specs.declared.event.EventReply.{EventReply}
 use Rattle.binders.specs.declared.event.EventReply.TheVariants as event_reply
+use Rattle.scripts.specs.Line.{line_refusal_text}
+use Rattle.scripts.specs.declared.line_refusal.LineRefusal.TheVariants as refusal
 use Rattle.commands.specs.EventReply.{event_text}
 use Rattle.commands.specs.Line.{is_no_change, meaning}
 use Rattle.commands.specs.declared.answer.Answer.{Answer}
@@ -20,8 +22,8 @@ LineStep step s line CutLine s' = ⊥
 -- the text of an answer
 abbrev pub answer_text : Answer → List ℕ
 answer_text (Replied reply) = event_text reply
-answer_text BadLine = codes "refused L1 BadLine\n"
-answer_text CutLine = codes "refused L2 CutLine\n"
+answer_text BadLine = line_refusal_text refusal.BadLine
+answer_text CutLine = line_refusal_text refusal.CutLine
 
 -- an answer counts as refused
 abbrev pub is_refused : Answer → Bool

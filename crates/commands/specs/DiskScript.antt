@@ -10,7 +10,7 @@ use Rattle.commands.specs.Line.{meaning}
 use Rattle.commands.specs.Script.{Streams, Ends, Breaks}
 use Rattle.commands.specs.declared.answer.Answer.{Answer}
 use Rattle.commands.specs.declared.answer.Answer.TheVariants.{Replied}
-use Rattle.commands.specs.declared.fault.ScriptFault.{ScriptFault}
+use Rattle.scripts.specs.declared.fault.ScriptFault.{ScriptFault}
 use Rattle.commands.specs.declared.summary.Summary.{Summary}
 
 -- what lines ask, in their order: a line of no form asks nothing

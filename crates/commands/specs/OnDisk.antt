@@ -24,7 +24,7 @@ use Rattle.commands.specs.Script.{Streams, Ends, Breaks}
 use Rattle.commands.specs.Status.{greatest, disk_answer_status, fault_status, lines_status}
 use Rattle.program_parts.specs.Status.{reply_status, disk_status}
 use Rattle.commands.specs.declared.answer.Answer.{Answer}
-use Rattle.commands.specs.declared.fault.ScriptFault.{ScriptFault}
+use Rattle.scripts.specs.declared.fault.ScriptFault.{ScriptFault}
 use Rattle.program_parts.specs.declared.status.Status.{Status}
 use Rattle.program_parts.specs.declared.status.Status.TheVariants.{Done}
 use Rattle.commands.specs.declared.summary.Summary.{Summary}

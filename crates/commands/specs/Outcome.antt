@@ -23,7 +23,7 @@ use Rattle.commands.specs.Script.{Streams, Finishes, Stops}
 use Rattle.commands.specs.Status.{greatest, event_status, fault_status, lines_status}
 use Rattle.program_parts.specs.Status.{reply_status, disk_status}
 use Rattle.commands.specs.Words.{CommandLine, image, format, upgrade, install, replace, remove, preload, list, bind, script}
-use Rattle.commands.specs.declared.fault.ScriptFault.{ScriptFault}
+use Rattle.scripts.specs.declared.fault.ScriptFault.{ScriptFault}
 use Rattle.program_parts.specs.declared.status.Status.{Status}
 use Rattle.program_parts.specs.declared.status.Status.TheVariants.{Done, Refused, NoMemory}
 use Rattle.commands.specs.declared.summary.Summary.{Summary}

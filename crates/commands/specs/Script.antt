@@ -10,17 +10,10 @@ use Rattle.binders.specs.declared.event.EventReply.{EventReply}
 use Rattle.commands.specs.Answer.{LineStep, MayWait, output, is_refused}
 use Rattle.commands.specs.declared.answer.Answer.{Answer}
 use Rattle.commands.specs.declared.answer.Answer.TheVariants.{CutLine}
-use Rattle.commands.specs.declared.fault.ScriptFault.{ScriptFault}
-use Rattle.commands.specs.declared.fault.ScriptFault.TheVariants.{Write}
+use Rattle.scripts.specs.declared.fault.ScriptFault.{ScriptFault}
+use Rattle.scripts.specs.declared.fault.ScriptFault.TheVariants.{Write}
+use Rattle.scripts.specs.Line.{IsLine, ended}
 use Rattle.commands.specs.declared.summary.Summary.{Summary}
-
--- no newline is among these bytes
-abbrev pub IsLine : List ℕ → Type 0
-IsLine bytes = All (λ b. b ≢ 10) bytes
-
--- a line with its newline
-abbrev pub ended : List ℕ → List ℕ
-ended line = line ++ 10 ∷ []
 
 -- what is answered to the bytes behind the last newline: nothing where there are none
 abbrev pub cut_answer : List ℕ → List Answer

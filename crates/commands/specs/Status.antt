@@ -3,8 +3,8 @@ use Rattle.std.specs.Prelude.{ℕ, ◌==◌, Result, Ok, Err, if◌then◌else�
 use Rattle.binders.specs.declared.event.EventReply.{EventReply}
 use Rattle.binders.specs.declared.event.EventReply.TheVariants as event
 use Rattle.store.specs.declared.refusal.StoreRefusal.{StoreRefusal}
-use Rattle.commands.specs.declared.fault.ScriptFault.{ScriptFault}
-use Rattle.commands.specs.declared.fault.ScriptFault.TheVariants as fault
+use Rattle.scripts.specs.declared.fault.ScriptFault.{ScriptFault}
+use Rattle.scripts.specs.declared.fault.ScriptFault.TheVariants as fault
 use Rattle.commands.specs.declared.show.Shown.{Shown}
 use Rattle.commands.specs.declared.show.Shown.TheVariants as shown
 use Rattle.program_parts.specs.Status.{disk_status, reply_status, status_number}

@@ -9,11 +9,11 @@ ghost use Rattle.commands.specs.inside.Asked.{happening_asked};
 
 use crate::asked::Asked;
 use crate::event_reply::put_event_reply;
-use crate::fault::ScriptFault;
 use crate::takes_events::TakesEvents;
 use binders::{Event, EventReply};
 use program_parts::Line;
-use requests::{Command, Refusal, Reply};
+use requests::{Refusal, Reply};
+use scripts::{AskedCommand, LineRefusal, ScriptFault, put_line_refusal};
 use std::io::Write;
 
 /// The answer to a line.
@@ -32,15 +32,7 @@ fn happen<G: TakesEvents>(binders: &mut G, asked: &Asked<'_>) -> EventReply
     ensures { G.step binders.old (happening_asked asked.now) result binders.new }
 {
     match asked {
-        Asked::Install(bytes) => binders.happen(&Event::Apply(Command::Install(bytes))),
-        Asked::Replace(bytes) => binders.happen(&Event::Apply(Command::Replace(bytes))),
-        Asked::Remove(name) => binders.happen(&Event::Apply(Command::Remove(name))),
-        Asked::SetPreloads(names) => binders.happen(&Event::Apply(Command::SetPreloads(names))),
-        Asked::Bind { program, base } => binders.happen(&Event::Apply(Command::Bind {
-            program,
-            base: *base,
-        })),
-        Asked::List => binders.happen(&Event::Apply(Command::List)),
+        Asked::Apply(command) => binders.happen(&Event::Apply(command.as_command())),
         Asked::Begin { program, base } => binders.happen(&Event::Begin {
             program,
             base: *base,
@@ -55,7 +47,7 @@ fn asks_change(asked: &Option<Asked<'_>>) -> bool
     ensures { not result ≡ is_no_change (option_map happening_asked asked.now) }
 {
     match asked {
-        Some(Asked::List | Asked::Bind { .. }) | None => false,
+        Some(Asked::Apply(AskedCommand::List | AskedCommand::Bind { .. })) | None => false,
         Some(_) => true,
     }
 }
@@ -116,8 +108,8 @@ pub(crate) fn put_answer<W: Write>(
 {
     match answer {
         Answer::Replied(reply) => put_event_reply(waiting, out, reply)?,
-        Answer::BadLine => waiting.put(out, b"refused L1 BadLine\n")?,
-        Answer::CutLine => waiting.put(out, b"refused L2 CutLine\n")?,
+        Answer::BadLine => put_line_refusal(waiting, out, LineRefusal::BadLine)?,
+        Answer::CutLine => put_line_refusal(waiting, out, LineRefusal::CutLine)?,
     }
     Ok(())
 }

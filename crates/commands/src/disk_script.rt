@@ -5,10 +5,10 @@ ghost use Rattle.commands.specs.DiskScript.{FinishesOnDisk, StopsOnDisk};
 ghost use Rattle.binders.specs.EventsRan.{EventStep};
 ghost use Rattle.commands.specs.Script.{StopsWriting};
 
-use crate::fault::ScriptFault;
 use crate::script::run_script;
 use crate::summary::Summary;
 use binders::Binders;
+use scripts::ScriptFault;
 use sector_disk::Disk;
 use std::alloc::Global;
 use std::io::{Read, Write};

@@ -5,9 +5,9 @@ ghost use Rattle.std.specs.Fmt.{decimal};
 ghost use Rattle.text_output.specs.Sends.{Sends};
 ghost use Rattle.commands.specs.EventReply.{event_text, slot_text};
 
-use crate::fault::ScriptFault;
 use binders::EventReply;
 use program_parts::{Line, put_reply};
+use scripts::ScriptFault;
 use std::io::Write;
 use text_output::WriteFault;
 

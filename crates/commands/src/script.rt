@@ -1,26 +1,23 @@
 // Running a script.
 
-ghost use Rattle.std.specs.Prelude.{◌≡◌, ◌≢◌, ◌⊎◌, [], List, ℕ, IfOk, IfErr, OnOk};
+ghost use Rattle.std.specs.Prelude.{◌≡◌, ◌⊎◌, [], List, ℕ, IfOk, IfErr, OnOk};
 ghost use Rattle.std.specs.Option.{option_map};
-ghost use Rattle.std.specs.Io.{StopsAt};
-ghost use Rattle.std.specs.Io.Buffered.{reader_buffer, reader_remaining};
-ghost use Rattle.std.specs.Io.KnownBytes.{Appends, Consumes, append_known};
+ghost use Rattle.std.specs.Io.Buffered.{reader_remaining};
+ghost use Rattle.std.specs.Io.KnownBytes.{append_known};
 ghost use Rattle.text_output.specs.Sends.{Sends};
 ghost use Rattle.commands.specs.Answer.{LineStep, MayWait, answer_text, is_refused};
 ghost use Rattle.commands.specs.Line.{meaning};
 ghost use Rattle.commands.specs.Script.{Breaks, Ends, Finishes, IsHeldBack, Stops, StopsWriting};
 ghost use Rattle.commands.specs.inside.Asked.{happening_asked};
-ghost use Rattle.commands.specs.inside.Progress.{GotLine, HasLine, Misses, Told, Unread};
+ghost use Rattle.commands.specs.inside.Progress.{Misses, Told};
 ghost use Rattle.commands.specs.declared.answer.Answer.{Answer};
 
 use crate::answer::{Answer, answer_asked, is_refused, may_wait, put_answer};
 use crate::asked::{Asked, parse_line};
-use crate::fault::ScriptFault;
-use crate::reading::{Got, read_line, take_line};
 use crate::summary::Summary;
 use crate::takes_events::TakesEvents;
-use memchr::memchr;
 use program_parts::Line;
+use scripts::{Got, ScriptFault, next_line};
 use std::alloc::Global;
 use std::io::{BufReader, Read, Write};
 
@@ -76,52 +73,6 @@ fn answer_whole<W: Write, G: TakesEvents>(
     let answer = answer_asked(binders, &asked);
     tell_answer(waiting, writer, &asked, &answer)?;
     Ok(is_refused(&answer))
-}
-
-/// Reads a line of which the reader has to be asked for more. Nothing waits then, so that whoever
-/// writes line by line has had all answers.
-fn ask_line<R: Read>(
-    pages: &mut BufReader<&mut R>,
-    line: &mut Vec<u8>,
-    waiting: &Line,
-) -> Result<Got, ScriptFault>
-    requires { waiting.now.waiting ≡ [] }
-    ensures ok { IfOk result (GotLine (reader_remaining (λ r. R.remaining r.now) pages.old)
-        (reader_remaining (λ r. R.remaining r.now) pages.new) line.new.items) }
-    ensures read { IfErr result (λ _. Consumes (reader_remaining (λ r. R.remaining r.now) pages.old)
-        (reader_remaining (λ r. R.remaining r.now) pages.new) line.new.items) }
-    ensures part { IfErr result (λ _. StopsAt line.new.items 10) }
-    ensures fault { IfErr result (λ fault. fault ≢ ScriptFault.Write) }
-{
-    let _ = waiting;
-    read_line(pages, line)
-}
-
-/// Reads the next line. Where no whole one is left of what was read before, whatever waits is sent
-/// before the reader is asked.
-fn next_line<R: Read, W: Write>(
-    pages: &mut BufReader<&mut R>,
-    line: &mut Vec<u8>,
-    waiting: &mut Line,
-    writer: &mut W,
-) -> Result<Got, ScriptFault>
-    ensures ok { IfOk result (GotLine (reader_remaining (λ r. R.remaining r.now) pages.old)
-        (reader_remaining (λ r. R.remaining r.now) pages.new) line.new.items) }
-    ensures kept { IfOk result (λ _. Sends (W.contents writer.old) waiting.old
-        (W.contents writer.new) waiting.new []) }
-    ensures err { IfErr result (Unread (reader_remaining (λ r. R.remaining r.now) pages.old)
-        (reader_remaining (λ r. R.remaining r.now) pages.new)
-        (append_known (W.contents writer.old) waiting.old.waiting)
-        (append_known (W.contents writer.new) waiting.new.waiting) line.new.items) }
-    // Where the reader was asked nothing waits.
-    ensures asked { IfOk result
-        (λ _. HasLine (reader_buffer pages.old) ⊎ (waiting.new.waiting ≡ [])) }
-{
-    if let Some(end) = memchr(b'\n', pages.buffer()) {
-        return take_line(pages, end, line);
-    }
-    waiting.send(writer)?;
-    ask_line(pages, line, waiting)
 }
 
 /// Answers the lines of a script; some of the answers may wait at the end.

@@ -3,9 +3,9 @@
 ghost use Rattle.std.specs.Prelude.{◌≡◌, IfOk, IfErr};
 ghost use Rattle.commands.specs.RunImage.{Shows};
 
-use crate::fault::ScriptFault;
 use image::{BindRefusal, bind_alone};
 use program_parts::{write_disk_refusal, write_refusal};
+use scripts::ScriptFault;
 use std::alloc::Global;
 use std::io::Write;
 use store::StoreRefusal;

@@ -4,10 +4,10 @@ ghost use Rattle.std.specs.Prelude.{◌≡◌};
 ghost use Rattle.commands.specs.Status.{greatest, status_of, event_status, fault_status};
 ghost use Rattle.commands.specs.Status.{lines_status};
 
-use crate::fault::ScriptFault;
 use crate::show::Shown;
 use binders::EventReply;
 use program_parts::Status;
+use scripts::ScriptFault;
 
 /// The one of the greater number.
 pub(crate) fn greatest(status: Status, other: Status) -> Status

@@ -4,13 +4,13 @@
 
 mod asked;
 mod counted;
+mod every_line;
 mod format;
 mod listed;
 mod old;
 mod replies;
 mod rounds;
 mod run;
-mod scripts;
 mod seen;
 mod steps;
 mod texts;

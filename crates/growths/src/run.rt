@@ -2,9 +2,9 @@
 
 use crate::asked::{Asked, OnMemory, ask};
 use crate::counted::{calls, calls_word, counted};
+use crate::every_line::script;
 use crate::format::{format, refusal_word};
 use crate::rounds::rounds;
-use crate::scripts::script;
 use crate::seen::{before, is_as_before};
 use crate::steps::{STEPS, Step};
 use crate::texts::text;

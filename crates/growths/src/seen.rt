@@ -2,9 +2,9 @@
 
 use crate::asked::ask;
 use crate::counted::counted;
+use crate::every_line::put_line;
 use crate::format::zeros;
 use crate::run::opened;
-use crate::scripts::put_line;
 use crate::steps::STEPS;
 use binders::Binders;
 use commands::run_script_on_disk;

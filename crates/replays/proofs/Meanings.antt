@@ -11,8 +11,9 @@ use Rattle.hex.specs.Hex.{IsBytes, decode_of, encode_lower, lower_digits}
 use Rattle.hex.proofs.HexLemmas.{decode_of-encode_lower, length-encode_with}
 use Rattle.requests.specs.Request.{install, set_preloads}
 use Rattle.binders.specs.Events.{apply}
-use Rattle.commands.specs.Line.{hex_bytes, is_name, is_visible, meaning, names_behind}
-use Rattle.commands.specs.Script.{IsLine}
+use Rattle.scripts.specs.Words.{hex_bytes, is_name, is_visible, names_behind}
+use Rattle.commands.specs.Line.{binder_meaning, first_of, meaning}
+use Rattle.scripts.specs.Line.{IsLine}
 use Rattle.tool_commands.specs.Dump.{behind_space}
 use Rattle.tool_commands.proofs.Within.{at_each, digits_within, no_newline}
 
@@ -28,7 +29,7 @@ digits_read bytes are some =
     ∙ ap result_ok (decode_of-encode_lower bytes are)
 
 pub install_asked : (bytes : List ℕ) → IsBytes bytes → 0 < length bytes → meaning (codes "install " ++ encode_lower bytes) ≡ Some (apply (install bytes))
-install_asked bytes are some = ap (option_map (λ b. apply (install b))) (digits_read bytes are some)
+install_asked bytes are some = ap (λ o. first_of (option_map install o) (binder_meaning (codes "install " ++ encode_lower bytes))) (digits_read bytes are some)
 
 pub install_line : (bytes : List ℕ) → IsLine (codes "install " ++ encode_lower bytes)
 install_line bytes = All-append (λ b. b ≢ 10) (codes "install ") (encode_lower bytes) (no_newline (codes "install ") refl) (digits_within bytes)
@@ -80,7 +81,7 @@ names_read name names h =
 
 pub preloads_asked : (name : List ℕ) (names : List (List ℕ)) → All (λ n. is_name n ≡ true) (name ∷ names)
     → meaning (codes "preload" ++ flat_map behind_space (name ∷ names)) ≡ Some (apply (set_preloads (name ∷ names)))
-preloads_asked name names h = ap (option_map (λ names. apply (set_preloads names))) (names_read name names h)
+preloads_asked name names h = ap (λ o. first_of (option_map set_preloads o) (binder_meaning (codes "preload" ++ flat_map behind_space (name ∷ names)))) (names_read name names h)
 
 names_line : (names : List (List ℕ)) → All (λ n. is_name n ≡ true) names → IsLine (flat_map behind_space names)
 names_line [] h = All-nil (λ b. b ≢ 10)

@@ -28,12 +28,13 @@ use Rattle.commands.specs.Answer.{is_refused}
 use Rattle.commands.specs.DiskScript.{LinesRan, happenings, replied}
 use Rattle.commands.specs.Line.{meaning}
 use Rattle.commands.specs.OnDisk.{DiskScriptEnds, RunsOnDisk}
-use Rattle.commands.specs.Script.{IsLine, Streams, cut_answer, ended}
+use Rattle.scripts.specs.Line.{IsLine, ended}
+use Rattle.commands.specs.Script.{Streams, cut_answer}
 use Rattle.commands.specs.Status.{fault_status, greatest, lines_status}
 use Rattle.commands.specs.declared.answer.Answer.{Answer}
 use Rattle.commands.specs.declared.answer.Answer.TheVariants as answer
-use Rattle.commands.specs.declared.fault.ScriptFault.{ScriptFault}
-use Rattle.commands.specs.declared.fault.ScriptFault.TheVariants as fault
+use Rattle.scripts.specs.declared.fault.ScriptFault.{ScriptFault}
+use Rattle.scripts.specs.declared.fault.ScriptFault.TheVariants as fault
 use Rattle.program_parts.specs.Status.{disk_status}
 use Rattle.program_parts.specs.declared.status.Status.{Status}
 use Rattle.program_parts.specs.declared.status.Status.TheVariants as status

@@ -3,7 +3,7 @@ use Rattle.std.proofs.Common.{◌≡◌, ℕ, List, [], ◌∷◌, ◌++◌, ref
 use Rattle.std.specs.Prelude.{◌≢◌, All}
 use Rattle.std.specs.List.{flat_map}
 use Rattle.std.proofs.lemmas.List.Elements.{All-head, All-tail}
-use Rattle.commands.specs.Script.{IsLine, ended}
+use Rattle.scripts.specs.Line.{IsLine, ended}
 
 head_or : {X : Type 0} → X → List X → X
 head_or d [] = d

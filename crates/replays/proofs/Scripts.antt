@@ -23,8 +23,9 @@ use Rattle.requests.specs.Request.{Request}
 use Rattle.requests.specs.State.{IsState}
 use Rattle.requests.proofs.Sonames.{badly_named, taken_memory}
 use Rattle.binders.specs.Events.{Happening, apply}
-use Rattle.commands.specs.Line.{is_name, is_visible, meaning}
-use Rattle.commands.specs.Script.{IsLine, ended}
+use Rattle.scripts.specs.Words.{is_name, is_visible}
+use Rattle.commands.specs.Line.{meaning}
+use Rattle.scripts.specs.Line.{IsLine, ended}
 use Rattle.tool_commands.specs.Dump.{behind_space, cut_text, dump_text, install_text, preload_text}
 use Rattle.tool_commands.proofs.Within.{no_newline}
 use Rattle.replays.specs.Script.{IsScript}

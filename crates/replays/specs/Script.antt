@@ -4,7 +4,7 @@ use Rattle.std.specs.List.{flat_map}
 use Rattle.requests.specs.Request.{Request}
 use Rattle.binders.specs.Events.{apply}
 use Rattle.commands.specs.Line.{meaning}
-use Rattle.commands.specs.Script.{IsLine, ended}
+use Rattle.scripts.specs.Line.{IsLine, ended}
 
 -- A text is whole lines that ask these requests, one each and nothing else.
 pub record IsScript (text : List ℕ) (requests : List Request) : Type 0 where

@@ -5,11 +5,12 @@ use Rattle.std.proofs.lemmas.Result.{err_from_is_err_and}
 use Rattle.std.specs.Io.Buffered.{reader_remaining}
 use Rattle.std.specs.Io.KnownBytes.{Appends, append_known}
 use Rattle.commands.specs.Answer.{LineStep, MayWait, answer_text}
-use Rattle.commands.specs.inside.Progress.{Answered, GotLine, Misses, Place, Unread}
+use Rattle.scripts.specs.Reading.{GotLine, Unread}
+use Rattle.commands.specs.inside.Progress.{Answered, Misses, Place}
 use Rattle.commands.specs.declared.answer.Answer.TheVariants.{CutLine}
-use Rattle.commands.specs.declared.fault.ScriptFault.TheVariants.{Read}
+use Rattle.scripts.specs.declared.fault.ScriptFault.TheVariants.{Read}
 use Rattle.commands.specs.declared.summary.Summary.{Summary}
-use Rattle.commands.proofs.Lines.{stops_line}
+use Rattle.scripts.proofs.Lines.{stops_line}
 use Rattle.commands.proofs.Scripts.{answered_none, answered_more, ends_cut, ends_here, breaks_cut, breaks_here}
 use Rattle.commands.proofs.Sent.{nothing_waits, told_none, held_told, off_reading, off_line, tells_on, ends_sent}
 use Rattle.commands.proofs.script.run_lines.Goals as goal

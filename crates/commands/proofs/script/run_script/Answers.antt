@@ -3,8 +3,8 @@ use Rattle.std.proofs.lemmas.Result.{err_from_is_err_and, IfOk-weaker, IfErr-wea
 use Rattle.std.specs.Io.Buffered.{reader_remaining}
 use Rattle.std.specs.Io.KnownBytes.{append_known}
 use Rattle.commands.specs.Script.{Streams, Finishes, Stops, StopsWriting}
-use Rattle.commands.specs.declared.fault.ScriptFault.TheVariants.{Write, OutOfMemory}
-use Rattle.commands.proofs.Pages.{unread_pages}
+use Rattle.scripts.specs.declared.fault.ScriptFault.TheVariants.{Write, OutOfMemory}
+use Rattle.scripts.proofs.Pages.{unread_pages}
 use Rattle.commands.proofs.Scripts.{breaks_none}
 use Rattle.commands.proofs.Sent.{all_sent, ends_sent, breaks_sent, breaks_writing, unsent}
 use Rattle.commands.proofs.script.run_script.Goals as goal

@@ -1,0 +1,5 @@
+pub mod Asked
+pub mod Line
+pub mod Reading
+pub mod Words
+pub mod inside

@@ -1,0 +1,123 @@
+// The command that a line asks for.
+
+ghost use Rattle.std.specs.Prelude.{◌≡◌, IfOk, MatchOption, length, drop, false, true};
+ghost use Rattle.std.specs.Option.{option_map};
+ghost use Rattle.requests.specs.Request.{request_of};
+ghost use Rattle.scripts.specs.Asked.{request_asked, request_meaning};
+ghost use Rattle.scripts.specs.Words.{has_front, program_behind};
+
+use crate::hexadecimal::hex_bytes;
+use crate::word::{base_in, named, names_behind, word_in_front};
+use requests::Command;
+use std::alloc::{AllocError, Global};
+
+/// The command that a line asks for, with what it takes memory for: the bytes that HEX spells, and
+/// the list of NAMEs.
+#[derive(Drop)]
+pub enum AskedCommand<'a> {
+    /// Installs a library: the bytes of its file.
+    Install(Vec<u8>),
+    /// Puts a file in the place of the one of the same name.
+    Replace(Vec<u8>),
+    /// Removes the library of a name.
+    Remove(&'a [u8]),
+    /// Sets the names of the preloads, in their order.
+    SetPreloads(Vec<&'a [u8]>),
+    /// Binds a program with the libraries and the preloads.
+    Bind {
+        /// The bytes of its file.
+        program: Vec<u8>,
+        /// The address at which it starts.
+        base: u64,
+    },
+    /// Lists the libraries and the preloads.
+    List,
+}
+
+impl<'a> AskedCommand<'a> {
+    /// The command, as a registry takes it.
+    pub fn as_command(&self) -> Command<'_>
+        ensures { request_of result ≡ request_asked self.now }
+    {
+        match self {
+            AskedCommand::Install(bytes) => Command::Install(bytes),
+            AskedCommand::Replace(bytes) => Command::Replace(bytes),
+            AskedCommand::Remove(name) => Command::Remove(name),
+            AskedCommand::SetPreloads(names) => Command::SetPreloads(names),
+            AskedCommand::Bind { program, base } => Command::Bind {
+                program,
+                base: *base,
+            },
+            AskedCommand::List => Command::List,
+        }
+    }
+}
+
+/// What follows a front.
+pub fn behind<'a>(line: &'a [u8], front: &[u8]) -> Option<&'a [u8]>
+    ensures { MatchOption result (has_front front.now line.now ≡ false)
+        (λ rest. (has_front front.now line.now ≡ true)
+        × (rest.now ≡ drop (length front.now) line.now)) }
+{
+    line.strip_prefix(front)
+}
+
+/// BASE and HEX with a space between: the bytes of a program, and the address at which it starts.
+pub fn program_behind(alloc: Global, rest: &[u8]) -> Result<Option<(Vec<u8>, u64)>, AllocError>
+    ensures { IfOk result (λ both. option_map (λ p. (p.0.items, p.1)) both
+        ≡ program_behind rest.now) }
+{
+    let word = word_in_front(rest);
+    let Some(base) = base_in(word) else {
+        return Ok(None);
+    };
+    if word.len() == rest.len() {
+        return Ok(None);
+    }
+    match hex_bytes(alloc, &rest[word.len() + 1..])? {
+        Some(program) => Ok(Some((program, base))),
+        None => Ok(None),
+    }
+}
+
+/// The command that a line asks for, or none where it is none of the forms. Its only error is want
+/// of memory.
+pub fn parse_command(alloc: Global, line: &[u8]) -> Result<Option<AskedCommand<'_>>, AllocError>
+    ensures { IfOk result
+        (λ asked. option_map request_asked asked ≡ request_meaning line.now) }
+{
+    if let Some(rest) = behind(line, b"install ") {
+        return match hex_bytes(alloc, rest)? {
+            Some(bytes) => Ok(Some(AskedCommand::Install(bytes))),
+            None => Ok(None),
+        };
+    }
+    if let Some(rest) = behind(line, b"replace ") {
+        return match hex_bytes(alloc, rest)? {
+            Some(bytes) => Ok(Some(AskedCommand::Replace(bytes))),
+            None => Ok(None),
+        };
+    }
+    if let Some(rest) = behind(line, b"remove ") {
+        return match named(rest) {
+            Some(name) => Ok(Some(AskedCommand::Remove(name))),
+            None => Ok(None),
+        };
+    }
+    if let Some(rest) = behind(line, b"preload") {
+        return match names_behind(alloc, rest)? {
+            Some(names) => Ok(Some(AskedCommand::SetPreloads(names))),
+            None => Ok(None),
+        };
+    }
+    if let Some(rest) = behind(line, b"bind ") {
+        return match program_behind(alloc, rest)? {
+            Some((program, base)) => Ok(Some(AskedCommand::Bind { program, base })),
+            None => Ok(None),
+        };
+    }
+    if line == b"list".as_slice() {
+        return Ok(Some(AskedCommand::List));
+    }
+    Ok(None)
+}
