@@ -191,7 +191,8 @@ PLAIN = {
 CRATES = [
     ('names', 'Names of their own'), ('elf_file', 'Files'), ('elf_dynamic', 'Symbols and relocations of files'),
     ('hash_check', 'Admission and the search of names'), ('scope', 'Load order and lookup'),
-    ('text_output', 'Text on its way to a writer'), ('image', 'Images'), ('executable', 'Executable files'), ('requests', 'Requests and the step table'),
+    ('text_output', 'Text on its way to a writer'), ('image', 'Images'), ('executable', 'Executable files'),
+    ('bindings', 'What symbols are bound to'), ('requests', 'Requests and the step table'),
     ('sector_disk', 'The disk model'), ('file_disk', 'A disk over a file'), ('extents', 'Free and claimed sectors'),
     ('states', 'States'), ('roots', 'Root, catalogue and entry sectors'), ('passes', 'Passes over a disk'), ('store', 'Named byte strings'),
     ('snapshots', 'Snapshots'), ('contents', 'What a disk has'), ('registry', 'The registry on a disk'),

@@ -89,6 +89,7 @@ add_all() {
     for name in __init__.py _calls.py py.typed; do
         add 644 "$here/../python/rlibreg/$name" "$modules/rlibreg/$name"
     done
+    add 755 "$here/../share/bindings-to-dot" "$1/share/rlibreg/bindings-to-dot"
     for page in "$here"/../docs/*.md; do
         add 644 "$page" "$1/share/doc/rlibreg/${page##*/}"
     done

@@ -11,7 +11,6 @@ ghost use Rattle.image.specs.Relocating.{relocations_of};
 
 use crate::object::ImageObject;
 use crate::placed::PlacedOrder;
-use crate::placement::place;
 use crate::refusal::BindRefusal;
 use crate::value::{Values, find_value_of};
 use elf_dynamic::Object;
@@ -152,7 +151,6 @@ pub fn bound_objects(
     // The objects in their order, each at its base and with the values of its symbols.
     ensures bound { IfOk result (λ all. AreBound (place base order.now) all.items) }
 {
-    let bases = place(alloc, order, base)?;
-    let objects = PlacedOrder::new(order, bases);
+    let objects = PlacedOrder::of(alloc, order, base)?;
     all_bound(alloc, &objects)
 }

@@ -1,23 +1,27 @@
 // The objects of an order at their bases.
 
-ghost use Rattle.std.specs.Prelude.{◌≡◌, ◌<◌, length, map, Some, None, IfOk, MatchResult};
-ghost use Rattle.std.specs.List.{All};
+ghost use Rattle.std.specs.Prelude.{◌≡◌, ◌<◌, length, map, true, false, Some, None};
+ghost use Rattle.std.specs.Prelude.{IfOk, IfErr, OnOk, MatchResult};
 ghost use Rattle.elf_dynamic.specs.Symbol.{symbols};
+ghost use Rattle.scope.specs.Objects as ordered;
 ghost use Rattle.scope.specs.Target.{target};
 ghost use Rattle.image.specs.Bound.{AllAccepted};
-ghost use Rattle.image.specs.Placement.{Stacked, named};
+ghost use Rattle.image.specs.Placement.{Stacked, is_good_base, lacks_room, named, place};
+ghost use Rattle.image.specs.Refusal.{IsPlaceAnswer};
 ghost use Rattle.image.specs.Relocating.{base_at, file_at, name_at, own_address, symbol_value};
 ghost use Rattle.image.specs.inside.Layout.{IsPlaced, with_bases};
 
+use crate::placement::place;
+use crate::refusal::BindRefusal;
 use elf_dynamic::Object;
 use scope::{Order, Target, Undefined, resolve};
-use std::alloc::{AllocError, Global};
+use std::alloc::Global;
 use std::marker::Model;
 
 /// The objects of an order, each at its base. Contracts see each with its name, its file's bytes
 /// and its base.
 #[derive(Drop)]
-pub(crate) struct PlacedOrder<'a> {
+pub struct PlacedOrder<'a> {
     order: &'a Order<'a>,
     bases: Vec<u64>,
 }
@@ -35,15 +39,26 @@ impl<'a> Model for PlacedOrder<'a> {
 }
 
 impl<'a> PlacedOrder<'a> {
-    pub(crate) fn new(order: &'a Order<'a>, bases: Vec<u64>) -> PlacedOrder<'a>
-        requires { IsPlaced order.now bases.items }
-        ensures { result ≡ with_bases order.now bases.items }
+    /// Places the objects of an order, the program at a good base: what `place` costs.
+    pub fn of(
+        alloc: Global,
+        order: &'a Order<'a>,
+        base: u64,
+    ) -> Result<PlacedOrder<'a>, BindRefusal>
+        requires { is_good_base (ordered.file_at order.now 0) base ≡ true }
+        ensures ok { IfOk result (λ placed. placed ≡ place base order.now) }
+
+        // Where the memory of one would end above 2^47 - 4,096 that is answered, or want of memory
+        // where the program's own doesn't.
+        ensures room { OnOk result (lacks_room (place base order.now) ≡ false) }
+        ensures refused { IfErr result (IsPlaceAnswer (place base order.now)) }
     {
-        PlacedOrder { order, bases }
+        let bases = place(alloc, order, base)?;
+        Ok(PlacedOrder { order, bases })
     }
 
     /// How many objects there are.
-    pub(crate) fn count(&self) -> usize
+    pub fn count(&self) -> usize
         ensures count { result ≡ length self.now }
 
         // What holds of all of them.
@@ -54,7 +69,7 @@ impl<'a> PlacedOrder<'a> {
     }
 
     /// The base of the object at a place in load order.
-    pub(crate) fn base(&self, i: usize) -> u64
+    pub fn base(&self, i: usize) -> u64
         requires { i < length self.now }
         ensures { result ≡ base_at self.now i }
     {
@@ -62,7 +77,7 @@ impl<'a> PlacedOrder<'a> {
     }
 
     /// Its name.
-    pub(crate) fn name(&self, i: usize) -> &'a [u8]
+    pub fn name(&self, i: usize) -> &'a [u8]
         requires { i < length self.now }
         ensures { result.now ≡ name_at self.now i }
     {
@@ -70,7 +85,7 @@ impl<'a> PlacedOrder<'a> {
     }
 
     /// The object itself.
-    pub(crate) fn object(&self, i: usize) -> &Object<'a>
+    pub fn object(&self, i: usize) -> &Object<'a>
         requires { i < length self.now }
         ensures file { result.now ≡ file_at self.now i }
 
@@ -82,8 +97,9 @@ impl<'a> PlacedOrder<'a> {
         admitted.object()
     }
 
-    /// What the symbol of a number of the object at a place is bound to.
-    fn target(&self, own: usize, symbol: u32) -> Result<Target, Undefined>
+    /// What the symbol of a number of the object at a place is bound to. It costs what `resolve`
+    /// does.
+    pub fn target(&self, own: usize, symbol: u32) -> Result<Target, Undefined>
         requires own { own < length self.now }
         requires symbol { symbol < length (symbols (file_at self.now own)) }
         ensures { MatchResult result
@@ -94,7 +110,7 @@ impl<'a> PlacedOrder<'a> {
     }
 
     /// Where the symbol of a number of an object stands.
-    fn own_address(&self, object: usize, symbol: u32) -> u64
+    pub fn own_address(&self, object: usize, symbol: u32) -> u64
         requires object { object < length self.now }
         requires symbol { symbol < length (symbols (file_at self.now object)) }
         ensures { result ≡ own_address self.now object symbol }

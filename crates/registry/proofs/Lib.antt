@@ -25,3 +25,5 @@ pub mod Bounds
 pub mod Untested
 pub mod Upgrades
 pub mod Owned
+pub mod Closed
+pub mod FindRefusals

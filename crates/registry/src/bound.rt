@@ -14,7 +14,10 @@ use scope::{Library, NeededName, Order};
 use std::alloc::{AllocError, Global};
 
 /// The libraries that files are.
-fn libraries_of(alloc: Global, files: &[LibraryFile]) -> Result<Vec<Library<'_>>, AllocError>
+pub(crate) fn libraries_of(
+    alloc: Global,
+    files: &[LibraryFile],
+) -> Result<Vec<Library<'_>>, AllocError>
     ensures { IfOk result (λ v. v.items ≡ map object_of files.now) }
 {
     let mut libraries = Vec::with_capacity(alloc, files.len())?;

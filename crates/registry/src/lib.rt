@@ -15,6 +15,7 @@ mod bind;
 mod binder;
 mod bound;
 mod change;
+mod find;
 mod format;
 mod library_file;
 mod list;
@@ -31,5 +32,6 @@ mod upgrade;
 mod walk;
 
 pub use binder::{Binder, Step};
+pub use find::FoundLibraries;
 pub use registry::Registry;
 pub use rounds::{Round, RoundReplies, run_rounds};

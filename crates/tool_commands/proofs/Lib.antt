@@ -6,3 +6,4 @@ pub mod Listing
 pub mod Outcomes
 pub mod Sent
 pub mod Within
+pub mod Known

@@ -1,13 +1,20 @@
 -- What the forms end with: none ends as words do that are none, and what is said is apart from what is told.
-use Rattle.std.proofs.Common.{◌≡◌, ℕ, Bool, List, Option, true, false, inl, inr, refl, sym, ap, ◌∙◌, ⊎_elim, arith}
-use Rattle.std.specs.Prelude.{◌≢◌, ◌⊎◌, if◌then◌else◌}
+use Rattle.std.proofs.Common.{◌≡◌, ℕ, Bool, List, Option, map, true, false, inl, inr, refl, sym, ap, ◌∙◌, ⊎_elim, arith}
+use Rattle.std.specs.Prelude.{◌≢◌, ◌⊎◌, if◌then◌else◌, is_none}
 use Rattle.std.specs.List.{list_all}
+use Rattle.requests.specs.Binding.{object_of, of_bind}
 use Rattle.requests.specs.Request.{Request}
+use Rattle.requests.specs.Request as request
 use Rattle.requests.specs.declared.refusal.Refusal.{Refusal}
 use Rattle.requests.specs.declared.refusal.Refusal.TheVariants as refusal
 use Rattle.requests.specs.declared.reply.Reply.{Reply}
 use Rattle.requests.specs.declared.reply.Reply.TheVariants as reply
 use Rattle.image.specs.Image.{MemoryImage}
+use Rattle.image.specs.Placement.{Placed, place}
+use Rattle.image.specs.Refusal.{undefined_refusal}
+use Rattle.scope.specs.LoadOrder.{Need, available, names_of}
+use Rattle.scope.specs.Objects.{Named}
+use Rattle.store.specs.Opened.{Opened}
 use Rattle.image.specs.declared.refusal.BindRefusal.{BindRefusal}
 use Rattle.image.specs.declared.refusal.BindRefusal.TheVariants as bind_refusal
 use Rattle.executable.specs.declared.refusal.ExecutableRefusal.{ExecutableRefusal}
@@ -27,13 +34,14 @@ use Rattle.program_parts.specs.declared.file.FileFault.TheVariants as read_file
 use Rattle.program_parts.specs.declared.status.Status.{Status}
 use Rattle.program_parts.specs.declared.status.Status.TheVariants.{Done, Refused, BadWords, Failed, NoMemory}
 use Rattle.tool_commands.specs.AnyDisk.{FormTells, IsCut}
+use Rattle.tool_commands.specs.Bindings.{BindingsTell, OrderTells, PlacedTells, SaysRefusal, bindings_status}
 use Rattle.tool_commands.specs.Check.{check_status, is_sound}
 use Rattle.tool_commands.specs.Digest.{TellsDigests, are_read}
 use Rattle.tool_commands.specs.Dump.{cut_status}
 use Rattle.tool_commands.specs.Ends.{EndsUnopened}
 use Rattle.tool_commands.specs.Executable.{TellsExecutable, executable_status}
-use Rattle.tool_commands.specs.Form.{CommandLine, Deed, Question, info, check, digest, file, dump, tell, replace, remove, executable}
-use Rattle.tool_commands.specs.Outcome.{AskEnds, DeedEnds, IsApartDeed, IsSilentDeed, LineEnds, ReadEnds, TellEnds, open_status, read_status}
+use Rattle.tool_commands.specs.Form.{CommandLine, Deed, Question, info, check, digest, file, dump, tell, replace, remove, executable, bindings}
+use Rattle.tool_commands.specs.Outcome.{AskEnds, BindingsAskEnds, DeedEnds, IsApartDeed, IsSilentDeed, LineEnds, ReadEnds, TellEnds, open_status, read_status}
 use Rattle.tool_commands.specs.Request.{RequestEnds}
 use Rattle.tool_commands.specs.Streams.{Streams, IsSilent, IsUntold, SaysOnly, TellsOnly}
 use Rattle.tool_commands.specs.Telling.{TellsReply}
@@ -101,6 +109,10 @@ check_words : (findings : List Finding) → check_status findings ≢ BadWords
 check_words findings =
     elim (list_all is_sound findings) as (λ sound. (if sound then Done else Refused) ≢ BadWords) [ true ↦ done_words | false ↦ refused_fault.1 ]
 
+bindings_words : (objects : List Placed) → bindings_status objects ≢ BadWords
+bindings_words objects =
+    elim (is_none (undefined_refusal objects)) as (λ none. (if none then Done else Refused) ≢ BadWords) [ true ↦ done_words | false ↦ refused_fault.1 ]
+
 -- a status that is one of these
 same_words : (ends status : Status) → ends ≢ BadWords → status ≡ ends → status ≢ BadWords
 same_words ends status other is h = other (sym is ∙ h)
@@ -131,6 +143,7 @@ module _ (io : Streams) (status : Status) where
   Kind (replace path) = ReplyKind Text
   Kind (remove name) = ReplyKind Text
   Kind (executable path base) = ReplyKind Executable
+  Kind (bindings path base) = Plain
 
   told : (ends : Status) (text : List ℕ) → ends ≢ BadWords → TellsOnly ends text io status → Plain
   told ends text other (inl h) = inl (same_words ends status other h.0, h.2)
@@ -206,15 +219,46 @@ module _ (io : Streams) (status : Status) where
   ask_kind asked telling (inl h) = request_kind file_facts h.0 h.1 asked telling h.3
   ask_kind asked telling (inr h) = untold_kind telling (open_status h.0) (open_fault h.0) h.1 h.2
 
-  read_kind : (asked : List ℕ → Request) (telling : Telling) → ReadEnds asked telling io status → ReplyKind telling
+  read_kind : (asked : List ℕ → Request) (telling : Telling) → ReadEnds (λ bytes. AskEnds (asked bytes) telling io status) io status → ReplyKind telling
   read_kind asked telling (inl h) = ask_kind (asked h.0) telling h.2
   read_kind asked telling (inr h) = untold_kind telling (read_status h.0) (read_fault h.0) h.1 h.2
 
+  refused_kind : (r : Refusal) → SaysRefusal r io status → Plain
+  refused_kind r h = said (refusal_status r) _ (refusal_fault r) h
+
+  placed_kind : (objects : List Placed) → PlacedTells objects io status → Plain
+  placed_kind objects (inl h) = told (bindings_status objects) _ (bindings_words objects) h.1
+  placed_kind objects (inr h) = refused_kind (of_bind h.0) h.2
+
+  order_kind : (lacks : Option Need) (names : List (List ℕ)) (order : List Named) (base : ℕ) → OrderTells lacks names order base io status → Plain
+  order_kind lacks names order base (inl (lacking, inl h)) = placed_kind (place base order) h
+  order_kind lacks names order base (inl (lacking, inr h)) = said NoMemory _ memory_fault h
+  order_kind lacks names order base (inr (lacking, inl h)) = told Refused _ refused_fault.1 h
+  order_kind lacks names order base (inr (lacking, inr h)) = said NoMemory _ memory_fault h
+
+  bound_kind : {D : Type 0} (facts : D → DiskFacts) (old new : Opened D) (program : List ℕ) (base : ℕ) → BindingsTell facts old new program base io status → Plain
+  bound_kind facts old new program base (inl h) = refused_kind (of_bind h.0) h.2
+  bound_kind facts old new program base (inr (inl h)) = refused_kind h.0 h.2
+  bound_kind facts old new program base (inr (inr h)) =
+      order_kind h.0.missing (names_of (map object_of h.0.libraries)) (available program (map object_of h.0.libraries)) base h.1
+
+  bindings_kind : (program : List ℕ) (base : ℕ) → BindingsAskEnds program base io status → Plain
+  bindings_kind program base (inl h) = ⊎_elim
+      (λ asked. bound_kind file_facts asked.old asked.new program base asked.tells.told)
+      (λ refused. said (disk_status refused.0) _ (disk_fault refused.0) refused.2)
+      h.3
+  bindings_kind program base (inr h) = untold (open_status h.0) (open_fault h.0) h.1 h.2
+
+  read_bindings_kind : (base : ℕ) → ReadEnds (λ bytes. BindingsAskEnds bytes base io status) io status → Plain
+  read_bindings_kind base (inl h) = bindings_kind h.0 base h.2
+  read_bindings_kind base (inr h) = untold (read_status h.0) (read_fault h.0) h.1 h.2
+
   deed_kind : (deed : Deed) → DeedEnds deed io status → Kind deed
   deed_kind (tell question) h = tell_kind question h
-  deed_kind (replace path) h = read_kind _ Text h
+  deed_kind (replace path) h = read_kind request.replace Text h
   deed_kind (remove name) h = ask_kind _ Text h
-  deed_kind (executable path base) h = read_kind _ Executable h
+  deed_kind (executable path base) h = read_kind (λ bytes. request.bind bytes base) Executable h
+  deed_kind (bindings path base) h = read_bindings_kind base h
 
   -- ---- what follows from the kind
 
@@ -232,6 +276,7 @@ module _ (io : Streams) (status : Status) where
   kind_words (replace path) h = plain_words h
   kind_words (remove name) h = plain_words h
   kind_words (executable path base) h = h
+  kind_words (bindings path base) h = plain_words h
 
   plain_silent : Plain → status ≡ Done → IsSilent io
   plain_silent (inl h) done = h.1
@@ -249,6 +294,7 @@ module _ (io : Streams) (status : Status) where
   kind_silent (replace path) is h = plain_silent h
   kind_silent (remove name) is h = plain_silent h
   kind_silent (executable path base) is h = absurd is
+  kind_silent (bindings path base) is h = plain_silent h
 
   plain_apart : Plain → status ≢ Failed → IsSilent io ⊎ IsUntold io
   plain_apart (inl h) other = inl h.1
@@ -264,6 +310,7 @@ module _ (io : Streams) (status : Status) where
   kind_apart (replace path) is h = plain_apart h
   kind_apart (remove name) is h = plain_apart h
   kind_apart (executable path base) is h = absurd is
+  kind_apart (bindings path base) is h = plain_apart h
 
 -- ---- a line, by its number
 

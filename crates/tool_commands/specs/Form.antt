@@ -16,12 +16,14 @@ pub data Question : Type 0 where
   file : List ℕ → Question
   dump : Question
 
--- what is to be done: to tell, to replace by a path's file, to remove a name, to bind a path's file
+-- what is to be done: to tell, to replace by a path's file, to remove a name, to bind a path's file,
+-- and to tell what its symbols are bound to
 pub data Deed : Type 0 where
   tell : Question → Deed
   replace : List ℕ → Deed
   remove : List ℕ → Deed
   executable : List ℕ → ℕ → Deed
+  bindings : List ℕ → ℕ → Deed
 
 -- a command line: the path of the disk, and what is to be done with it
 pub record CommandLine : Type 0 where
@@ -39,9 +41,9 @@ of_two deed (disk ∷ word ∷ []) = Some (record { disk = disk; deed = deed wor
 of_two deed words = None
 
 -- DISK PROGRAM BASE
-abbrev pub executable_behind : List (List ℕ) → Option CommandLine
-executable_behind (disk ∷ program ∷ base ∷ []) = option_map (λ at. record { disk = disk; deed = executable program at }) (base_of base)
-executable_behind words = None
+abbrev pub of_program : (List ℕ → ℕ → Deed) → List (List ℕ) → Option CommandLine
+of_program deed (disk ∷ program ∷ base ∷ []) = option_map (λ at. record { disk = disk; deed = deed program at }) (base_of base)
+of_program deed words = None
 
 -- the command line that words are: the first is the form's name
 abbrev pub command_line : List (List ℕ) → Option CommandLine
@@ -53,7 +55,8 @@ command_line (name ∷ words) =
     else if bytes_eq name (codes "dump") then of_one dump words
     else if bytes_eq name (codes "replace") then of_two replace words
     else if bytes_eq name (codes "remove") then of_two remove words
-    else if bytes_eq name (codes "executable") then executable_behind words
+    else if bytes_eq name (codes "executable") then of_program executable words
+    else if bytes_eq name (codes "bindings") then of_program bindings words
     else None
 command_line [] = None
 
@@ -71,6 +74,7 @@ deed_of (action.Tell form) = tell (question_of form)
 deed_of (action.Replace path) = replace path.now
 deed_of (action.Remove name) = remove name.now
 deed_of (action.Executable program base) = executable program.now base
+deed_of (action.Bindings program base) = bindings program.now base
 
 -- the command line that the code reads
 abbrev pub line_of : Asked → CommandLine

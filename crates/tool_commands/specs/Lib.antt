@@ -1,4 +1,5 @@
 pub mod AnyDisk
+pub mod Bindings
 pub mod Check
 pub mod Digest
 pub mod Dump

@@ -16,8 +16,9 @@ use Rattle.program_parts.specs.declared.file.FileFault.TheVariants as read_file
 use Rattle.program_parts.specs.declared.status.Status.{Status}
 use Rattle.program_parts.specs.declared.status.Status.TheVariants.{Refused, Failed, NoMemory}
 use Rattle.store.specs.declared.refusal.StoreRefusal.TheVariants.{BadGeometry}
+use Rattle.tool_commands.specs.Bindings.{BindingsEnds}
 use Rattle.tool_commands.specs.Ends.{DiskEnds, EndsUnopened}
-use Rattle.tool_commands.specs.Form.{CommandLine, Deed, Question, digest, dump, tell, replace, remove, executable}
+use Rattle.tool_commands.specs.Form.{CommandLine, Deed, Question, digest, dump, tell, replace, remove, executable, bindings}
 use Rattle.tool_commands.specs.Request.{RequestEnds}
 use Rattle.tool_commands.specs.Said.{memory_line, refusal_line}
 use Rattle.tool_commands.specs.Streams.{Streams, IsUntold}
@@ -57,25 +58,33 @@ TellEnds question io status =
     ((disk : SystemDisk) × (left : SystemDisk) × IsNew disk × DiskEnds file_facts disk question io status left)
     ⊎ ((fault : OpenFault) × EndsUnopened question (open_status fault) io.before io.after status × SaysFault fault io.errors_before io.errors_after)
 
--- a request was made of the registry on a new disk over a file; or no disk was opened, which is
--- said, and nothing was told
-abbrev pub AskEnds : Request → Telling → Streams → Status → Type 0
-AskEnds asked telling io status =
-    ((disk : SystemDisk) × (left : SystemDisk) × IsNew disk × RequestEnds file_facts disk asked telling io status left)
+-- a new disk over a file ended so; or no disk was opened, which is said, and nothing was told
+abbrev pub OpenEnds : (SystemDisk → SystemDisk → Type 0) → Streams → Status → Type 0
+OpenEnds Ends io status =
+    ((disk : SystemDisk) × (left : SystemDisk) × IsNew disk × Ends disk left)
     ⊎ ((fault : OpenFault) × (status ≡ open_status fault) × IsUntold io × SaysFault fault io.errors_before io.errors_after)
 
--- the same of a request with the bytes of a file; or it wasn't read, which is said, and nothing was told
-abbrev pub ReadEnds : (List ℕ → Request) → Telling → Streams → Status → Type 0
-ReadEnds asked telling io status =
-    ((bytes : List ℕ) × (length bytes < read_limit) × AskEnds (asked bytes) telling io status)
+-- a request was made of the registry on it
+abbrev pub AskEnds : Request → Telling → Streams → Status → Type 0
+AskEnds asked telling io status = OpenEnds (λ disk left. RequestEnds file_facts disk asked telling io status left) io status
+
+-- it told what the symbols of a program at a base are bound to
+abbrev pub BindingsAskEnds : List ℕ → ℕ → Streams → Status → Type 0
+BindingsAskEnds program base io status = OpenEnds (λ disk left. BindingsEnds file_facts disk program base io status left) io status
+
+-- the bytes of a file were read, with this end; or they weren't, which is said, and nothing was told
+abbrev pub ReadEnds : (List ℕ → Type 0) → Streams → Status → Type 0
+ReadEnds Ends io status =
+    ((bytes : List ℕ) × (length bytes < read_limit) × Ends bytes)
     ⊎ ((fault : FileFault) × (status ≡ read_status fault) × IsUntold io × SaysUnread fault io.errors_before io.errors_after)
 
 -- what is done
 abbrev pub DeedEnds : Deed → Streams → Status → Type 0
 DeedEnds (tell question) io status = TellEnds question io status
-DeedEnds (replace path) io status = ReadEnds request.replace Text io status
+DeedEnds (replace path) io status = ReadEnds (λ bytes. AskEnds (request.replace bytes) Text io status) io status
 DeedEnds (remove name) io status = AskEnds (request.remove name) Text io status
-DeedEnds (executable path base) io status = ReadEnds (λ bytes. request.bind bytes base) Executable io status
+DeedEnds (executable path base) io status = ReadEnds (λ bytes. AskEnds (request.bind bytes base) Executable io status) io status
+DeedEnds (bindings path base) io status = ReadEnds (λ bytes. BindingsAskEnds bytes base io status) io status
 
 -- a command line is done; or its disk is the file behind a standard stream, and nothing was told
 abbrev pub IsEnd : CommandLine → Streams → Status → Type 0

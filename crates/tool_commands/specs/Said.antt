@@ -30,4 +30,4 @@ cannot_write_line = codes "rlibreg-tool: cannot write\n"
 
 -- the words are none of the forms
 abbrev pub usage_line : List ℕ
-usage_line = codes "usage: rlibreg-tool info|check|digest|dump DISK, file|remove DISK NAME, replace DISK FILE or executable DISK PROGRAM BASE\n"
+usage_line = codes "usage: rlibreg-tool info|check|digest|dump DISK, file|remove DISK NAME, replace DISK FILE or executable|bindings DISK PROGRAM BASE\n"

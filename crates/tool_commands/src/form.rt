@@ -3,8 +3,8 @@
 ghost use Rattle.std.specs.Prelude.{◌≡◌, ◌∷◌, map, string_bytes};
 ghost use Rattle.std.specs.Option.{option_map};
 ghost use Rattle.tool_commands.specs.Form.{command_line, line_of, question_of};
-ghost use Rattle.tool_commands.specs.Form.{executable_behind, of_one, of_two};
-ghost use Rattle.tool_commands.specs.Form.{file, remove, replace, tell};
+ghost use Rattle.tool_commands.specs.Form.{of_one, of_program, of_two};
+ghost use Rattle.tool_commands.specs.Form.{bindings, executable, file, remove, replace, tell};
 
 use program_parts::parse_base;
 
@@ -34,6 +34,13 @@ pub enum Action<'a> {
     Remove(&'a str),
     /// Gives the executable file of a bound program.
     Executable {
+        /// The path of the program's file.
+        program: &'a str,
+        /// The address at which it is bound.
+        base: u64,
+    },
+    /// Tells what the symbols of a program are bound to.
+    Bindings {
         /// The path of the program's file.
         program: &'a str,
         /// The address at which it is bound.
@@ -109,12 +116,27 @@ fn read_remove(words: &[String]) -> Option<Asked<'_>>
 /// `executable` of DISK PROGRAM BASE.
 fn read_executable(words: &[String]) -> Option<Asked<'_>>
     ensures { option_map line_of result
-        ≡ executable_behind (map (λ word. string_bytes word) words.now) }
+        ≡ of_program executable (map (λ word. string_bytes word) words.now) }
 {
     match words {
         [disk, program, base] => {
             let base = parse_base(base)?;
             let action = Action::Executable { program, base };
+            Some(Asked { disk, action })
+        }
+        _ => None,
+    }
+}
+
+/// `bindings` of DISK PROGRAM BASE.
+fn read_bindings(words: &[String]) -> Option<Asked<'_>>
+    ensures { option_map line_of result
+        ≡ of_program bindings (map (λ word. string_bytes word) words.now) }
+{
+    match words {
+        [disk, program, base] => {
+            let base = parse_base(base)?;
+            let action = Action::Bindings { program, base };
             Some(Asked { disk, action })
         }
         _ => None,
@@ -135,6 +157,7 @@ fn read_form<'a>(name: &str, words: &'a [String]) -> Option<Asked<'a>>
         "replace" => read_replace(words),
         "remove" => read_remove(words),
         "executable" => read_executable(words),
+        "bindings" => read_bindings(words),
         _ => None,
     }
 }

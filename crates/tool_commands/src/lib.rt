@@ -4,7 +4,8 @@
 //! of it is free, whether its libraries are libraries, their digests, the bytes of one, and the
 //! script that makes them all anew.
 //! `run_form` opens a disk, whatever it is, and does one of these; `run_request` applies a command
-//! to its registry, whatever its libraries are, and tells the reply as `Telling` says. `run_words`
+//! to its registry, whatever its libraries are, and tells the reply as `Telling` says;
+//! `run_bindings` tells what the symbols of a program are bound to. `run_words`
 //! reads the words of a command line and opens the file that is the disk, and `run_arguments` does
 //! the same with the words of the process.
 #![tactic(auto)]
@@ -27,6 +28,7 @@ mod run;
 mod said;
 mod sound;
 mod stream;
+mod symbols;
 mod telling;
 mod with_file;
 
@@ -41,4 +43,5 @@ pub use info::run_info;
 pub use request::run_request;
 pub use run::run_form;
 pub use said::cannot_hold;
+pub use symbols::run_bindings;
 pub use telling::Telling;

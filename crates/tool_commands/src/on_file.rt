@@ -4,14 +4,15 @@ ghost use Rattle.std.specs.Prelude.{◌≡◌, IfOk};
 ghost use Rattle.requests.specs.Request.{request_of};
 ghost use Rattle.file_disk.specs.FileDisk.{IsNew};
 ghost use Rattle.tool_commands.specs.Form.{deed_of, question_of};
-ghost use Rattle.tool_commands.specs.Outcome.{AskEnds, DeedEnds, ReadEnds, TellEnds};
+ghost use Rattle.tool_commands.specs.Outcome.{AskEnds, BindingsAskEnds, DeedEnds, TellEnds};
 ghost use Rattle.tool_commands.specs.Outcome.{SaysFault, SaysUnread, open_status, read_status};
-ghost use Rattle.tool_commands.specs.inside.WithFile.{request_with, telling_of};
+ghost use Rattle.tool_commands.specs.inside.WithFile.{AskEndsWith, BindingsEndWith};
 
 use crate::form::{Action, Asked, Form};
 use crate::request::run_request;
 use crate::run::{end_unopened, run_form};
 use crate::said::{cannot_read, say_refusal};
+use crate::symbols::run_bindings;
 use crate::telling::Telling;
 use crate::with_file::WithFile;
 use file_disk::{DiskFile, FileDisk, OpenFault};
@@ -131,13 +132,12 @@ fn ask_with<R: Files<File = File> + Clock, O: Write, E: Write>(
     output: &mut O,
     errors: &mut E,
 ) -> Status
-    ensures { ReadEnds (request_with asking) (telling_of asking)
-        (record {
-          before = O.contents output.old;
-          after = O.contents output.new;
-          errors_before = E.contents errors.old;
-          errors_after = E.contents errors.new;
-        }) result }
+    ensures { AskEndsWith asking (record {
+      before = O.contents output.old;
+      after = O.contents output.new;
+      errors_before = E.contents errors.old;
+      errors_after = E.contents errors.new;
+    }) result }
 {
     match read_file(rt, alloc, file) {
         Ok(bytes) => {
@@ -145,6 +145,57 @@ fn ask_with<R: Files<File = File> + Clock, O: Write, E: Write>(
             ask(rt, alloc, path, &command, asking.telling(), output, errors)
         }
         Err(fault) => not_read(alloc, file, fault, errors),
+    }
+}
+
+/// Opens the disk for reading alone, and tells what the symbols of a program are bound to. Its lock
+/// is held until the output is written.
+fn tell_bindings<R: Files<File = File> + Clock, O: Write, E: Write>(
+    rt: &R,
+    alloc: Global,
+    path: &str,
+    program: &[u8],
+    base: u64,
+    output: &mut O,
+    errors: &mut E,
+) -> Status
+    ensures { BindingsAskEnds program.now base (record {
+      before = O.contents output.old;
+      after = O.contents output.new;
+      errors_before = E.contents errors.old;
+      errors_after = E.contents errors.new;
+    }) result }
+{
+    match FileDisk::open_read_only(rt, alloc, path) {
+        Ok(disk) => {
+            let (status, disk) = run_bindings(alloc, disk, program, base, output, errors);
+            drop(disk);
+            status
+        }
+        Err(fault) => not_opened(alloc, path, fault, errors),
+    }
+}
+
+/// Reads a program, and then opens the disk and tells what its symbols are bound to.
+fn tell_file_bindings<R: Files<File = File> + Clock, O: Write, E: Write>(
+    rt: &R,
+    alloc: Global,
+    path: &str,
+    program: &str,
+    base: u64,
+    output: &mut O,
+    errors: &mut E,
+) -> Status
+    ensures { BindingsEndWith base (record {
+      before = O.contents output.old;
+      after = O.contents output.new;
+      errors_before = E.contents errors.old;
+      errors_after = E.contents errors.new;
+    }) result }
+{
+    match read_file(rt, alloc, program) {
+        Ok(bytes) => tell_bindings(rt, alloc, path, &bytes, base, output, errors),
+        Err(fault) => not_read(alloc, program, fault, errors),
     }
 }
 
@@ -177,6 +228,9 @@ pub(crate) fn run_asked<R: Files<File = File> + Clock, O: Write, E: Write>(
         Action::Executable { program, base } => {
             let asking = WithFile::Executable { base };
             ask_with(rt, alloc, disk, asking, program, output, errors)
+        }
+        Action::Bindings { program, base } => {
+            tell_file_bindings(rt, alloc, disk, program, base, output, errors)
         }
     }
 }

@@ -64,7 +64,7 @@ pub(crate) fn bad_words<E: Write>(errors: &mut E) -> Status
     say(
         errors,
         b"usage: rlibreg-tool info|check|digest|dump DISK, file|remove DISK NAME, \
-          replace DISK FILE or executable DISK PROGRAM BASE\n",
+          replace DISK FILE or executable|bindings DISK PROGRAM BASE\n",
     );
     Status::BadWords
 }

@@ -52,7 +52,7 @@ fn spell_reply(line: &mut Vec<u8>, reply: &Reply) -> Result<(), WriteFault>
 }
 
 /// Says what came in the place of an image, where there is memory for the line.
-fn say_reply<E: Write>(alloc: Global, reply: &Reply, errors: &mut E) -> Status
+pub(crate) fn say_reply<E: Write>(alloc: Global, reply: &Reply, errors: &mut E) -> Status
     ensures status { result ≡ reply_status reply.now }
     ensures said { AppendsFront (E.contents errors.old) (E.contents errors.new)
         (said_line (reply_text reply.now)) }

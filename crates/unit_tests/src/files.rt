@@ -4,4 +4,5 @@ mod each_call;
 mod executables;
 mod images;
 mod searches;
+mod symbols;
 mod texts;

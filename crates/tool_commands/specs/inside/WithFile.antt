@@ -1,6 +1,9 @@
 -- What is asked of a registry with the bytes of a file.
 use Rattle.std.specs.Prelude.{ℕ, List}
+use Rattle.program_parts.specs.declared.status.Status.{Status}
 use Rattle.requests.specs.Request.{Request, replace, bind}
+use Rattle.tool_commands.specs.Outcome.{AskEnds, BindingsAskEnds, ReadEnds}
+use Rattle.tool_commands.specs.Streams.{Streams}
 use Rattle.tool_commands.specs.declared.telling.Telling.{Telling}
 use Rattle.tool_commands.specs.declared.telling.Telling.TheVariants as telling
 use Rattle.tool_commands.specs.declared.with_file.WithFile.{WithFile}
@@ -15,3 +18,11 @@ request_with (with.Executable base) bytes = bind bytes base
 abbrev pub telling_of : WithFile → Telling
 telling_of with.Replace = telling.Text
 telling_of (with.Executable base) = telling.Executable
+
+-- how it ends
+abbrev pub AskEndsWith : WithFile → Streams → Status → Type 0
+AskEndsWith asking io status = ReadEnds (λ bytes. AskEnds (request_with asking bytes) (telling_of asking) io status) io status
+
+-- how telling of a file's program at a base ends
+abbrev pub BindingsEndWith : ℕ → Streams → Status → Type 0
+BindingsEndWith base io status = ReadEnds (λ bytes. BindingsAskEnds bytes base io status) io status

@@ -46,3 +46,13 @@ returns-in-Executable g c =
       errors_after = g.E.Write.contents c.ask_with-in-Executable.new.errors;
     } in
     subst (λ a. DeedEnds (deed_of a) io c.ask_with-in-Executable.result) (sym c.in-Executable.is) c.ask_with-in-Executable.ensures
+
+pub returns-in-Bindings : goal.returns-in-Bindings
+returns-in-Bindings g c =
+    let io : Streams = record {
+      before = g.O.Write.contents c.args.output.now;
+      after = g.O.Write.contents c.tell_file_bindings.new.output;
+      errors_before = g.E.Write.contents c.args.errors.now;
+      errors_after = g.E.Write.contents c.tell_file_bindings.new.errors;
+    } in
+    subst (λ a. DeedEnds (deed_of a) io c.tell_file_bindings.result) (sym c.in-Bindings.is) c.tell_file_bindings.ensures

@@ -1,0 +1,4 @@
+pub mod Flags
+pub mod Naming
+pub mod Texts
+pub mod Undefined

@@ -1,0 +1,4 @@
+pub mod Named
+pub mod Bindings
+pub mod Dependencies
+pub mod inside

@@ -1,0 +1,3 @@
+-- What the code keeps to be fast: nothing here has to be believed.
+pub mod Flags
+pub mod Names

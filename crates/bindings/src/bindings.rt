@@ -1,0 +1,101 @@
+// What the symbols of objects in their places are bound to.
+
+ghost use Rattle.std.specs.Prelude.{◌≡◌, ◌<◌, length, is_none, IfOk, IfErr, OnOk, true, false};
+ghost use Rattle.std.specs.Io.KnownBytes.{Appends};
+ghost use Rattle.image.specs.Placement.{is_good_base, lacks_room, place};
+ghost use Rattle.image.specs.Refusal.{IsPlaceAnswer, undefined_in, undefined_refusal};
+ghost use Rattle.image.specs.Relocating.{file_at};
+ghost use Rattle.scope.specs.Objects as ordered;
+ghost use Rattle.text_output.specs.Sends.{Sends};
+ghost use Rattle.bindings.specs.Bindings.{bindings_text, object_text};
+ghost use Rattle.bindings.specs.inside.Flags.{FileFlags};
+
+use crate::lines::{TextBuffer, put_object_line};
+use crate::named::all_flags;
+use crate::needs::put_needs;
+use crate::symbols::put_symbols;
+use image::{BindRefusal, PlacedOrder};
+use scope::Order;
+use std::alloc::Global;
+use std::io::Write;
+use std::marker::Model;
+use text_output::WriteFault;
+
+/// A program and its libraries in their places, and which of their symbols relocations name.
+/// Contracts see the objects.
+#[derive(Drop)]
+pub struct Bindings<'a> {
+    objects: PlacedOrder<'a>,
+    named: Vec<Vec<bool>>,
+}
+
+impl<'a> Model for Bindings<'a> {
+    ghost use Rattle.std.specs.Prelude.{List, map};
+    ghost use Rattle.image.specs.Placement.{Placed};
+    ghost use Rattle.bindings.specs.inside.Flags.{AllFlags};
+
+    ghost Value = { List Placed };
+
+    ghost view = { λ b. b.objects };
+
+    ghost invariant = { λ b. AllFlags b.objects (map (λ f. f.items) b.named.items) };
+}
+
+/// The lines of the object at a place, whose symbols that its relocations name are flagged. Gives
+/// whether all of these are bound to something.
+#[tactic(auto, unfolding(crate::specs::Bindings::object_text))]
+fn put_object<W: Write>(
+    out: &mut W,
+    buffer: &mut TextBuffer,
+    objects: &PlacedOrder<'_>,
+    own: usize,
+    named: &[bool],
+) -> Result<bool, WriteFault>
+    requires own { own < length objects.now }
+    requires named { FileFlags (file_at objects.now own) named.now }
+    ensures text { OnOk result (Sends (W.contents out.old) buffer.old
+        (W.contents out.new) buffer.new (object_text objects.now own)) }
+    ensures bound { IfOk result (λ bound. bound ≡ is_none (undefined_in objects.now own)) }
+{
+    put_object_line(out, buffer, objects.base(own), objects.name(own))?;
+    put_needs(out, buffer, objects.object(own))?;
+    put_symbols(out, buffer, objects, own, named)
+}
+
+impl<'a> Bindings<'a> {
+    /// Places the objects of an order, the program at a good base, and finds which symbols their
+    /// relocations name. One pass over the relocations, and a byte a symbol.
+    pub fn of(alloc: Global, order: &'a Order<'a>, base: u64) -> Result<Bindings<'a>, BindRefusal>
+        requires { is_good_base (ordered.file_at order.now 0) base ≡ true }
+        ensures ok { IfOk result (λ bindings. bindings ≡ place base order.now) }
+
+        // Where the memory of one would end above 2^47 - 4,096 that is answered, or want of memory
+        // where the program's own doesn't.
+        ensures room { OnOk result (lacks_room (place base order.now) ≡ false) }
+        ensures refused { IfErr result (IsPlaceAnswer (place base order.now)) }
+    {
+        let objects = PlacedOrder::of(alloc, order, base)?;
+        let named = all_flags(alloc, &objects)?;
+        Ok(Bindings { objects, named })
+    }
+
+    /// Writes the text, and gives whether every symbol is bound to something: a bind would find
+    /// none that is undefined. It takes 64 KiB of stack and no memory, and gives the writer pieces
+    /// of that size. It costs a search for each symbol that relocations name, and what it writes.
+    /// At a fault what the writer holds is open.
+    #[tactic(auto, unfolding(crate::specs::Bindings::bindings_text))]
+    pub fn write_text<W: Write>(&self, out: &mut W) -> Result<bool, WriteFault>
+        ensures text { OnOk result
+            (Appends (W.contents out.old) (W.contents out.new) (bindings_text self.now)) }
+        ensures bound { IfOk result (λ bound. bound ≡ is_none (undefined_refusal self.now)) }
+    {
+        let mut buffer = TextBuffer::new();
+        let mut bound = true;
+        for own in 0..self.objects.count() {
+            bound &= put_object(out, &mut buffer, &self.objects, own, &self.named[own])?;
+        }
+        buffer.put(out, b"end\n")?;
+        buffer.send(out)?;
+        Ok(bound)
+    }
+}

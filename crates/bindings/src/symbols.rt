@@ -1,0 +1,104 @@
+// What the symbols of an object are bound to.
+
+ghost use Rattle.std.specs.Prelude.{◌≡◌, ◌<◌, ◌||◌, [], length, not, is_some, is_none, IfOk, OnOk};
+ghost use Rattle.std.specs.Prelude.{if◌then◌else◌};
+ghost use Rattle.std.specs.List.{flat_map};
+ghost use Rattle.elf_dynamic.specs.Symbol.{symbols};
+ghost use Rattle.image.specs.Refusal.{undefined_in};
+ghost use Rattle.image.specs.Relocating.{file_at};
+ghost use Rattle.text_output.specs.Sends.{Sends};
+ghost use Rattle.bindings.specs.Bindings.{symbol_line, target_at};
+ghost use Rattle.bindings.specs.Named.{named_symbols};
+ghost use Rattle.bindings.specs.inside.Flags.{FileFlags};
+
+use crate::lines::{TextBuffer, put_binds_line, put_name_line, put_names_line};
+use image::PlacedOrder;
+use scope::{Target, Undefined};
+use std::io::Write;
+use text_output::WriteFault;
+
+/// The line of a symbol of the object at a place. Gives whether it is bound to something.
+#[tactic(auto, unfolding(crate::specs::Bindings::symbol_line))]
+fn put_symbol<W: Write>(
+    out: &mut W,
+    buffer: &mut TextBuffer,
+    objects: &PlacedOrder<'_>,
+    own: usize,
+    symbol: u32,
+) -> Result<bool, WriteFault>
+    requires own { own < length objects.now }
+    requires symbol { symbol < length (symbols (file_at objects.now own)) }
+    ensures text { OnOk result (Sends (W.contents out.old) buffer.old
+        (W.contents out.new) buffer.new (symbol_line objects.now own symbol)) }
+    ensures bound { IfOk result (λ bound. bound ≡ is_some (target_at objects.now own symbol)) }
+{
+    let name = objects.object(own).name_of(symbol);
+    match objects.target(own, symbol) {
+        Ok(
+            Target::At {
+                object,
+                symbol: found,
+            },
+        ) => {
+            let value = objects.own_address(object, found);
+            put_binds_line(out, buffer, name, value, objects.name(object))?;
+            Ok(true)
+        }
+        Ok(Target::Zero) => {
+            put_name_line(out, buffer, b"unresolved ", name)?;
+            Ok(true)
+        }
+        Err(Undefined) => {
+            put_names_line(out, buffer, b"undefined ", name, objects.name(own))?;
+            Ok(false)
+        }
+    }
+}
+
+/// The same where a relocation names the symbol, and else nothing.
+fn put_if_named<W: Write>(
+    out: &mut W,
+    buffer: &mut TextBuffer,
+    objects: &PlacedOrder<'_>,
+    own: usize,
+    symbol: u32,
+    named: bool,
+) -> Result<bool, WriteFault>
+    requires own { own < length objects.now }
+    requires symbol { symbol < length (symbols (file_at objects.now own)) }
+    ensures text { OnOk result (Sends (W.contents out.old) buffer.old
+        (W.contents out.new) buffer.new
+        (if named then symbol_line objects.now own symbol else [])) }
+    ensures bound { IfOk result (λ bound. bound
+        ≡ (not named || is_some (target_at objects.now own symbol))) }
+{
+    if named {
+        put_symbol(out, buffer, objects, own, symbol)
+    } else {
+        Ok(true)
+    }
+}
+
+/// The lines of the symbols of the object at a place that are flagged. Gives whether all of them
+/// are bound to something: a bind finds none that is undefined.
+pub(crate) fn put_symbols<W: Write>(
+    out: &mut W,
+    buffer: &mut TextBuffer,
+    objects: &PlacedOrder<'_>,
+    own: usize,
+    named: &[bool],
+) -> Result<bool, WriteFault>
+    requires own { own < length objects.now }
+    requires named { FileFlags (file_at objects.now own) named.now }
+    ensures text { OnOk result (Sends (W.contents out.old) buffer.old
+        (W.contents out.new) buffer.new
+        (flat_map (symbol_line objects.now own) (named_symbols (file_at objects.now own)))) }
+    ensures bound { IfOk result (λ bound. bound ≡ is_none (undefined_in objects.now own)) }
+{
+    let mut bound = true;
+    for symbol in 1..objects.object(own).symbol_count() {
+        let flag = named[symbol as usize];
+        bound &= put_if_named(out, buffer, objects, own, symbol, flag)?;
+    }
+    Ok(bound)
+}

@@ -1,0 +1,35 @@
+-- What is found for a program (own).
+use Rattle.std.specs.Prelude.{◌≡◌, ◌<◌, ℕ, List, All, map, Option, IsTrue}
+use Rattle.sector_disk.specs.Disk.{DiskFacts}
+use Rattle.scope.specs.LoadOrder.{Need, available, is_missing, load_order, missing, names_of, needed_by}
+use Rattle.states.specs.State.{Library, State}
+use Rattle.store.specs.Opened.{Opened}
+use Rattle.requests.specs.Binding.{object_of, objects, preload_numbers}
+use Rattle.requests.specs.declared.refusal.Refusal.{Refusal}
+use Rattle.requests.specs.declared.refusal.Refusal.TheVariants.{Device, Reopen, Damaged, OutOfMemory}
+use Rattle.registry.specs.Untested.{ReadsLibraries}
+
+-- libraries, and a needed name that isn't installed
+pub record Found : Type 0 where
+  pub libraries : List Library
+  pub missing : Option Need
+
+-- a need is missing among those that are installed exactly where it is among these
+abbrev pub IsKnown : State → List Library → Need → Type 0
+IsKnown s libraries need = is_missing (names_of (objects s)) need ≡ is_missing (names_of (map object_of libraries)) need
+
+-- The program and these libraries are its load order, the name is the first that is missing, each of
+-- them is a library, and what they need is missing exactly where none of them goes by its name.
+pub record IsFoundFor (s : State) (program : List ℕ) (found : Found) : Type 0 where
+  pub order : load_order program (objects s) (preload_numbers s) ≡ available program (map object_of found.libraries)
+  pub lacks : missing program (objects s) (preload_numbers s) ≡ found.missing
+  pub are : ReadsLibraries s program
+  pub known : All (λ object. All (IsKnown s found.libraries) (needed_by object)) (load_order program (objects s) (preload_numbers s))
+
+-- why none are given: a call failed, the disk has to be opened again, one is damaged, or want of memory
+abbrev pub IsFindRefusal : {D : Type 0} → (D → DiskFacts) → Opened D → Opened D → Refusal → Type 0
+IsFindRefusal facts old new Device = (facts old.disk).failures < (facts new.disk).failures
+IsFindRefusal facts old new Reopen = IsTrue old.failed
+IsFindRefusal facts old new Damaged = Unit
+IsFindRefusal facts old new OutOfMemory = Unit
+IsFindRefusal facts old new other = ⊥

@@ -1,0 +1,87 @@
+// Finding the libraries of a program.
+ghost use Rattle.std.specs.Prelude.{◌≡◌, is_some, map, IfOk};
+ghost use Rattle.requests.specs.Binding.{object_of};
+
+use crate::bind::refusal_of_read;
+use crate::bound::libraries_of;
+use crate::library_file::LibraryFile;
+use crate::needed::read_needed;
+use crate::needs::Needs;
+use crate::registry::Registry;
+use crate::walk::Walk;
+use hash_check::Admitted;
+use requests::Refusal;
+use scope::{Library, NeededName};
+use sector_disk::Disk;
+use std::alloc::{AllocError, Global};
+use std::marker::Model;
+
+/// What was found for a program: the libraries that it needs, in load order, as far as they are
+/// installed. Contracts see these, and the first needed name that isn't.
+#[derive(Drop)]
+pub struct FoundLibraries {
+    files: Vec<LibraryFile>,
+    missing: Option<NeededName>,
+}
+
+impl Model for FoundLibraries {
+    ghost use Rattle.registry.specs.Found.{Found};
+
+    ghost Value = { Found };
+
+    ghost view = { λ f. record { libraries = f.files.items; missing = f.missing } };
+}
+
+impl FoundLibraries {
+    /// What a walk has found at its end.
+    fn of(walk: Walk) -> FoundLibraries
+        ensures { result ≡ record { libraries = walk.files.items; missing = walk.needs.missing } }
+    {
+        let Walk { needs, files } = walk;
+        let Needs { places: _, missing } = needs;
+        FoundLibraries { files, missing }
+    }
+
+    /// The libraries. Each costs what `Object::of_accepted` costs.
+    pub fn libraries(&self, alloc: Global) -> Result<Vec<Library<'_>>, AllocError>
+        ensures { IfOk result (λ libraries.
+            libraries.items ≡ map object_of self.now.libraries) }
+    {
+        libraries_of(alloc, &self.files)
+    }
+
+    /// Whether a needed name isn't installed.
+    pub fn lacks_some(&self) -> bool
+        ensures { result ≡ is_some self.now.missing }
+    {
+        self.missing.is_some()
+    }
+}
+
+impl<D: Disk> Registry<D> {
+    ghost use Rattle.std.specs.Prelude.{◌≡◌, OnOk, IfOk, IfErr};
+    ghost use Rattle.states.specs.State.{State};
+    ghost use Rattle.store.specs.IsRead.{IsRead};
+    ghost use Rattle.store.specs.Opened.{IsAt};
+    ghost use Rattle.registry.specs.Found.{IsFindRefusal, IsFoundFor};
+    ghost use Rattle.registry.specs.Untested.{ReadsLibraries};
+
+    /// Finds the libraries of a program that is admitted: it reads the files of its load order as
+    /// `bind` does, and goes on where a name is missing. A refusal is S1, S2, S5 or S11.
+    pub fn find_libraries(&mut self, program: &Admitted<'_>) -> Result<FoundLibraries, Refusal>
+        ensures read { IsRead D.facts self.old self.new }
+        ensures ok { (s : State) → IsAt D.facts self.old s
+            → IfOk result (IsFoundFor s program.now) }
+        ensures damaged { (s : State) → IsAt D.facts self.old s → IfErr result (λ e.
+            e ≡ Refusal.Damaged → ReadsLibraries s program.now → ⊥) }
+
+        // On any disk
+        ensures refusals { IfErr result (IsFindRefusal D.facts self.old self.new) }
+    {
+        let walk = match read_needed(self.alloc, &mut self.store, program) {
+            Ok(walk) => walk,
+            Err(refusal) => return Err(refusal_of_read(refusal)),
+        };
+        Ok(FoundLibraries::of(walk))
+    }
+}
