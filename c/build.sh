@@ -75,7 +75,8 @@ linked() {
 }
 
 # What the loader does before its C library is set up: it may call nothing of it, and have no address
-# in its data, since nothing is relocated.
+# in its data, since nothing is relocated. A start takes as long as it touches pages: so its constants
+# are in its code, headers and code in one segment, and where `.bss` begins none is filled up.
 early='early kernel words key kept kept_file folder start debugger'
 alone='-fPIE -ffreestanding -fno-stack-protector -fno-tree-loop-distribute-patterns'
 (
@@ -83,8 +84,10 @@ alone='-fPIE -ffreestanding -fno-stack-protector -fno-tree-loop-distribute-patte
         $cc $flags $alone -c -o "$folder/early_$part.o" "c/rlibreg_run_$part.c"
     done
     cd "$folder"
-    ld -r -o early.o $(printf 'early_%s.o ' $early)
-    rm $(printf 'early_%s.o ' $early)
+    echo 'SECTIONS { .text : { *(.text .text.* .rodata .rodata.*) } }' > early.ld
+    ld -r -T early.ld -o early.o $(printf 'early_%s.o ' $early)
+    echo 'SECTIONS { .filled : { BYTE(0) . = ALIGN(0x1000); } } INSERT BEFORE .bss;' > filled.ld
+    rm early.ld $(printf 'early_%s.o ' $early)
     wrong=$(nm -u early.o | grep -vw -e __ehdr_start -e _DYNAMIC
         readelf -rW early.o | awk '/^Relocation section/ {is_debug = /debug/}
             / R_X86_64_(64|.*GOT)/ && !is_debug')
@@ -94,9 +97,10 @@ alone='-fPIE -ffreestanding -fno-stack-protector -fno-tree-loop-distribute-patte
     fi
 )
 linked 126 'memory: Cannot allocate memory' rlibreg-run -DSTARTS_EARLY -Wl,--build-id=sha1 \
+    -Wl,-z,noseparate-code -T "$folder/filled.ld" \
     c/rlibreg_run.c c/rlibreg_run_{base,calls,image,keep,named,objects,order,program}.c \
     "$folder/early.o" "$folder/librlibreg.a"
-rm "$folder/early.o"
+rm "$folder/early.o" "$folder/filled.ld"
 
 # program NAME OBJECT CRATE WORD..: a program, with what its language can't ask of the system. OBJECT
 # is what `rt run` links, by which it is made where it is empty; the words are those of a run.

@@ -121,7 +121,7 @@ static size_t pointers_in(char **words, char **environment) {
 
 int main(int argc, char **argv, char **environment) {
     struct program program = { 0 };
-    struct keeping keeping = { .folder = -1, .say = say };
+    struct keeping keeping = { .folder = -1, .user = geteuid(), .say = say };
     int disk = read_words(&program, &keeping, argc, argv), is_taken = 0;
     char **words = argv + disk + 1;
     rlibreg_grow_stack(STACK + pointers_in(words, environment), FAILED,

@@ -50,6 +50,9 @@ _Noreturn void give_up(int status, const char *what, const char *why);
 void open_program(struct program *it);
 void read_program(struct program *it);
 
+/* The program header of a number; gives whether its bytes have it. */
+int header_at(const struct program *it, size_t number, Elf64_Phdr *one);
+
 /* Of what the base has to be a multiple. Before the program is bound its bytes may be any, and what
  * this gives of them is good for nothing but to bind it: that says what is wrong with them. */
 uint64_t unit_of(const struct program *it);
@@ -124,9 +127,14 @@ void find_calls(struct program *it);
 
 /* ---- The start (rlibreg_run_debugger.c, rlibreg_run_start.c) */
 
-/* Tells a debugger of the objects, in a list that stays where it is; and how much room it takes. */
+/* Gives the length of the program's whole path, which its open file has: it is 0 where it isn't
+ * told, and that of the room where there may be more of it. Behind it comes a byte 0. */
+size_t read_path(const struct program *it, char *to, size_t room);
+
+/* Tells a debugger of the objects, in a list that stays where it is, as the program's path does, and
+ * nothing where that is null; and how much room the list takes. */
 size_t room_of_list(const struct program *it);
-void tell_debugger(const struct program *it, void *room, size_t length);
+void tell_debugger(const struct program *it, void *room, char *path);
 
 /* Starts the program, whose file is still open. The environment is the one that it gets; the
  * kernel's, behind which the auxiliary vector stands, is where the kernel put it: what is linked

@@ -4,14 +4,12 @@
 #include "rlibreg_run_kernel.h"
 #include "rlibreg_run.h"
 
-#include <limits.h>
 #include <link.h>
 
 /* musl's header doesn't name it. */
 extern ElfW(Dyn) _DYNAMIC[] __attribute__((visibility("hidden")));
 
-/* What a debugger is told. The first three are used as long as no C library has a list. Behind the
- * objects is the path of the program. */
+/* What a debugger is told. The first three are used as long as no C library has a list. */
 struct told {
     struct r_debug list;
     struct link_map loader;
@@ -19,22 +17,20 @@ struct told {
     struct link_map objects[];
 };
 
-/* Gives the length of the program's whole path, which its open file has: it is 0 where it isn't
- * told, or there isn't so much room. */
-static size_t read_path(const struct program *it, char *to, size_t room) {
+size_t read_path(const struct program *it, char *to, size_t room) {
     char link[32] = "/proc/self/fd/", *at = link + strlen(link);
     int unit = 1;
     while (it->fd / unit >= 10) unit *= 10;
     for (; unit; unit /= 10) *at++ = (char)('0' + it->fd / unit % 10);
     *at = 0;
     int64_t length = kernel_link(link, to, room);
-    return length < 0 || (size_t)length == room ? 0 : (size_t)length;
+    if (length < 0) return 0;
+    if ((size_t)length < room) to[length] = 0;
+    return (size_t)length;
 }
 
 size_t room_of_list(const struct program *it) {
-    char path[PATH_MAX];
-    return sizeof(struct told) + it->image.object_count * sizeof(struct link_map) +
-           read_path(it, path, sizeof path) + 1;
+    return sizeof(struct told) + it->image.object_count * sizeof(struct link_map);
 }
 
 /* A debugger has a breakpoint at this address, and looks at the list there. It finds it by its name
@@ -83,13 +79,10 @@ static void put_objects(const struct program *it, struct told *room, char *path,
     }
 }
 
-void tell_debugger(const struct program *it, void *room, size_t length) {
+void tell_debugger(const struct program *it, void *room, char *path) {
     struct told *told = room;
     struct r_debug *list = list_of_objects(it, told);
-    char *path = (char *)&told->objects[it->image.object_count], *end = (char *)room + length;
-    size_t whole = read_path(it, path, (size_t)(end - path));
-    if (!list || !list->r_map || !list->r_brk || !whole) return;
-    path[whole] = 0;
+    if (!list || !list->r_map || !list->r_brk || !path) return;
     struct link_map *last = list->r_map;
     while (last->l_next) last = last->l_next;
     put_objects(it, told, path, last);

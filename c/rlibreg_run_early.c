@@ -19,17 +19,12 @@ static size_t pointers_in(char **words, char **environment) {
     return count * sizeof *words;
 }
 
-static int are_streams_open(void) {
-    for (int number = 0; number < STREAMS; number++)
-        if (kernel_flags(number) < 0) return 0;
-    return 1;
-}
-
-/* Opens the program, where it is a regular file that the user may execute. */
+/* Opens the program, where it is a regular file that the user may execute, and the standard streams
+ * are open: else it would be one of them. */
 static int open_program_early(struct program *it) {
     it->fd = kernel_open(AT_FDCWD, it->path, O_RDONLY | O_CLOEXEC | O_NOCTTY | O_NONBLOCK);
     if (it->fd < 0) return -1;
-    if (!kernel_fstat(it->fd, &it->found) && S_ISREG(it->found.st_mode) &&
+    if (it->fd >= STREAMS && !kernel_fstat(it->fd, &it->found) && S_ISREG(it->found.st_mode) &&
         !kernel_may_execute(it->fd))
         return 0;
     kernel_close(it->fd);
@@ -45,7 +40,8 @@ void rlibreg_run_early(int argc, char **argv) {
     if (!keeping.path || keeping.says_more || auxiliary_value(kernels, AT_SECURE)) return;
     if (kernel_stack_limit() < STACK || pointers_in(argv, kernels) > LITTLE) return;
     program.path = argv[next + 1];
-    if (!are_streams_open() || open_program_early(&program)) return;
+    keeping.user = (uid_t)auxiliary_value(kernels, AT_EUID);
+    if (open_program_early(&program)) return;
     if (take_kept(&keeping, &program, argv[next])) {
         close_folder(&keeping);
         start(&program, argv + next + 1, kernels, kernels);

@@ -9,15 +9,15 @@
 
 /* ---- Whose it is */
 
-static int is_ours_alone(const struct stat *it) {
-    return (it->st_uid == kernel_user() || !it->st_uid) && !(it->st_mode & (S_IWGRP | S_IWOTH));
+static int is_ours_alone(const struct keeping *it, const struct stat *file) {
+    return (file->st_uid == it->user || !file->st_uid) && !(file->st_mode & (S_IWGRP | S_IWOTH));
 }
 
 int open_folder(struct keeping *it) {
     struct stat found;
     it->folder = kernel_open(AT_FDCWD, it->path, O_RDONLY | O_DIRECTORY | O_NOFOLLOW | O_CLOEXEC);
     if (it->folder < 0) return it->folder;
-    if (!kernel_fstat(it->folder, &found) && is_ours_alone(&found)) {
+    if (!kernel_fstat(it->folder, &found) && is_ours_alone(it, &found)) {
         it->others = found.st_mode;
         return 0;
     }
@@ -35,7 +35,7 @@ int open_kept(const struct keeping *it, const char *name, uint64_t *length) {
     int fd = kernel_open(it->folder, name,
                          O_RDONLY | O_NOFOLLOW | O_CLOEXEC | O_NOCTTY | O_NONBLOCK);
     if (fd < 0) return fd;
-    if (!kernel_fstat(fd, &found) && S_ISREG(found.st_mode) && is_ours_alone(&found) &&
+    if (!kernel_fstat(fd, &found) && S_ISREG(found.st_mode) && is_ours_alone(it, &found) &&
         found.st_nlink <= 1) {
         *length = (uint64_t)found.st_size;
         return fd;
@@ -63,6 +63,7 @@ void give_name(struct keeping *it, const struct program *program) {
     const uint64_t told[] = { disk->kind, disk->device, disk->number, program->found.st_dev,
                               program->found.st_ino };
     uint64_t number = mixed(number_of_options(&it->key), told, sizeof told);
+    number = mixed(number, it->key.build, BUILD);
     for (int i = NAME_ROOM - 2; i >= 0; i--, number /= 16)
         it->name[i] = "0123456789abcdef"[number % 16];
     it->name[NAME_ROOM - 1] = 0;

@@ -75,11 +75,83 @@ static uint64_t place_pieces(struct pieces *it, uint64_t at) {
     return at;
 }
 
+/* ---- The program's bytes, where its file is compared: most are equal to pages of the image, which
+ * stand in the kept file once */
+
+/* The stretches of the program's file, while they are found: each from an address, or from 0 where it
+ * isn't in a page that is kept. */
+struct stretches {
+    struct stretch at[MOST_STRETCHES];
+    size_t count;
+    uint64_t others; /* the bytes from 0 */
+};
+
+static const struct piece *piece_with(const struct pieces *it, uint64_t address) {
+    for (size_t i = 0; i < it->count; i++)
+        if (it->at[i].from && it->at[i].address <= address &&
+            address - it->at[i].address < it->at[i].length)
+            return &it->at[i];
+    return NULL;
+}
+
+/* The address of a page with the bytes that the program's file has at a place, or 0. */
+static uint64_t page_of(const struct program *it, const struct pieces *pieces, uint64_t at) {
+    Elf64_Phdr one;
+    for (size_t i = 0; header_at(it, i, &one); i++) {
+        if (one.p_type != PT_LOAD || at < one.p_offset || one.p_filesz < PAGE ||
+            at - one.p_offset > one.p_filesz - PAGE)
+            continue;
+        uint64_t address = it->object.base + one.p_vaddr + (at - one.p_offset);
+        if (!(address % PAGE) && piece_with(pieces, address) &&
+            !memcmp((const void *)address, it->bytes + at, PAGE))
+            return address;
+    }
+    return 0;
+}
+
+static void add_stretch(struct stretches *it, uint64_t length, uint64_t address,
+                        const struct pieces *pieces) {
+    struct stretch *last = it->count ? &it->at[it->count - 1] : NULL;
+    if (!address) it->others += length;
+    int goes_on = last && !address && !last->from;
+    if (last && address && last->from && last->from + last->length == address)
+        goes_on = piece_with(pieces, last->from) == piece_with(pieces, address);
+    if (goes_on)
+        last->length += length;
+    else
+        it->at[it->count++] = (struct stretch){ length, address };
+}
+
+static void find_stretches(struct stretches *it, const struct program *program,
+                           const struct pieces *pieces) {
+    for (uint64_t at = 0, step; at < program->length; at += step) {
+        step = program->length - at < PAGE ? program->length - at : PAGE;
+        add_stretch(it, step, step == PAGE ? page_of(program, pieces, at) : 0, pieces);
+    }
+}
+
+/* Gives the stretches their places in the file, once the pieces have theirs. */
+static void place_stretches(struct stretches *it, const struct pieces *pieces, uint64_t others) {
+    for (size_t i = 0; i < it->count; i++) {
+        struct stretch *one = &it->at[i];
+        const struct piece *piece = piece_with(pieces, one->from);
+        if (one->from) {
+            one->from = piece->from + (one->from - piece->address);
+        } else {
+            one->from = others;
+            others += one->length;
+        }
+    }
+}
+
 /* ---- The file */
 
 static struct counts counts_of(const struct keeping *it, const struct program *program,
-                               const struct pieces *pieces) {
+                               const struct pieces *pieces,
+                               const struct stretches *stretches) {
     struct counts counts = { .pieces = pieces->count, .objects = program->image.object_count };
+    counts.stretches = stretches->count;
+    counts.others = stretches->others;
     counts.initializers = program->initializers.count;
     counts.finalizers = program->finalizers.count;
     for (uint64_t i = 1; i < counts.objects; i++)
@@ -106,19 +178,24 @@ static void put_objects(const struct program *program, const struct kept_file *f
     }
 }
 
-/* The beginning of a file, up to the program: to be freed, or null. */
+/* The beginning of a file, up to the program's other bytes: to be freed, or null. */
 static void *make_beginning(const struct keeping *it, const struct program *program,
                             struct pieces *pieces, const char *disk) {
-    struct counts counts = counts_of(it, program, pieces);
+    struct stretches stretches = { .count = 0 };
+    if (it->key.program.kind == OF_BYTES && program->length <= MOST_COMPARED)
+        find_stretches(&stretches, program, pieces);
+    struct counts counts = counts_of(it, program, pieces, &stretches);
     struct head head = { .key = it->key, .counts = counts };
     memcpy(head.form, kept_form, sizeof head.form);
     head.place = number_of_paths(it, program, disk);
     head.length = place_pieces(pieces, place_of_pages(&counts));
-    void *beginning = is_head(&head, head.length) ? calloc(1, place_of_program(&counts)) : NULL;
+    place_stretches(&stretches, pieces, place_of_others(&counts));
+    void *beginning = is_head(&head, head.length) ? calloc(1, place_of_others(&counts)) : NULL;
     if (!beginning) return NULL;
     memcpy(beginning, &head, sizeof head);
     struct kept_file file = parts_of(beginning);
     memcpy(file.pieces, pieces->at, pieces->count * sizeof *pieces->at);
+    memcpy(file.stretches, stretches.at, stretches.count * sizeof *stretches.at);
     put_objects(program, &file);
     put_calls(file.calls, &program->initializers);
     put_calls(file.calls + counts.initializers, &program->finalizers);
@@ -141,9 +218,13 @@ static int write_all(int fd, const void *bytes, uint64_t length, uint64_t at) {
 
 static int write_file(int fd, const struct program *program, const struct kept_file *file) {
     const struct counts *counts = &file->head->counts;
-    uint64_t end = place_of_program(counts);
-    if (write_all(fd, file->head, end, 0) || write_all(fd, program->bytes, counts->program, end))
-        return -1;
+    const uint8_t *bytes = program->bytes;
+    if (write_all(fd, file->head, place_of_others(counts), 0)) return -1;
+    for (uint64_t i = 0; i < counts->stretches; bytes += file->stretches[i++].length) {
+        const struct stretch *it = &file->stretches[i];
+        if (it->from >= place_of_pages(counts)) continue;
+        if (write_all(fd, bytes, it->length, it->from)) return -1;
+    }
     for (uint64_t i = 0; i < counts->pieces; i++) {
         const struct piece *it = &file->pieces[i];
         if (it->from && write_all(fd, (const void *)it->address, it->length, it->from)) return -1;

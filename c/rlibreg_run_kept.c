@@ -21,16 +21,26 @@ void say_error(const struct keeping *it, int error) {
 
 /* ---- Which image */
 
-/* Whether the program's file still has these bytes. It is read, since others may cut it. */
-static int has_bytes(const struct program *program, const uint8_t *bytes, uint64_t length) {
+/* Whether the program's file still has these bytes at a place. It is read, since others may cut it. */
+static int has_bytes(const struct program *program, uint64_t at, const uint8_t *bytes,
+                     uint64_t length) {
     uint8_t piece[AT_ONCE];
     uint64_t step;
-    for (uint64_t at = 0; at < length; at += step) {
-        step = length - at < AT_ONCE ? length - at : AT_ONCE;
+    for (uint64_t end = at + length; at < end; at += step, bytes += step) {
+        step = end - at < AT_ONCE ? end - at : AT_ONCE;
         if (kernel_read(program->fd, piece, step, at) != (int64_t)step ||
-            memcmp(piece, bytes + at, step))
+            memcmp(piece, bytes, step))
             return 0;
     }
+    return 1;
+}
+
+static int has_all_bytes(const struct program *program, const struct kept_file *it) {
+    uint64_t at = 0;
+    for (uint64_t i = 0; i < it->head->counts.stretches; at += it->stretches[i++].length)
+        if (!has_bytes(program, at, (const uint8_t *)it->head + it->stretches[i].from,
+                       it->stretches[i].length))
+            return 0;
     return 1;
 }
 
@@ -39,7 +49,7 @@ static int fits(const struct kept_file *it, const struct program *program, const
     const struct counts *counts = &it->head->counts;
     uint64_t compared = key->program.kind == OF_BYTES ? key->program.length : 0;
     return is_same_key(&it->head->key, key) && counts->program == compared && is_whole(it) &&
-           has_bytes(program, (const uint8_t *)it->head + place_of_program(counts), compared);
+           has_all_bytes(program, it);
 }
 
 /* ---- Its pages */
@@ -66,8 +76,8 @@ static int map_pieces(const struct kept_file *it, int fd) {
     return 0;
 }
 
-/* What the rest of the loader asks of an image, but for the segments: in the file's beginning, which
- * stays mapped. */
+/* What the rest of the loader asks of an image, but for the segments: in the file's beginning. All of
+ * that stays mapped, which costs no memory, and a call less. */
 static void take_objects(struct program *program, const struct kept_file *it) {
     const struct counts *counts = &it->head->counts;
     program->image.objects = it->objects;
@@ -93,12 +103,6 @@ static int take_mapped(struct keeping *it, struct program *program, int fd,
     return 1;
 }
 
-/* Gives back what is mapped of a file behind so many bytes. */
-static void unmap_behind(uint64_t map, uint64_t length, uint64_t bytes) {
-    bytes = (bytes + PAGE - 1) / PAGE * PAGE;
-    if (bytes < length) kernel_unmap(map + bytes, length - bytes);
-}
-
 static int take_file(struct keeping *it, struct program *program, int fd, uint64_t length) {
     int64_t map = -ENODATA;
     int is_taken = 0;
@@ -109,41 +113,34 @@ static int take_file(struct keeping *it, struct program *program, int fd, uint64
         is_taken = take_mapped(it, program, fd, &file);
     else
         say_more(it, "the image there is another one");
-    if (map >= 0)
-        unmap_behind((uint64_t)map, length, is_taken ? place_of_program(&file.head->counts) : 0);
+    if (map >= 0 && !is_taken) kernel_unmap((uint64_t)map, length);
     return is_taken;
 }
 
 /* ---- */
 
-static int is_same(const struct stat *one, const struct stat *other) {
-    if (S_ISBLK(one->st_mode) && S_ISBLK(other->st_mode)) return one->st_rdev == other->st_rdev;
-    return one->st_dev == other->st_dev && one->st_ino == other->st_ino;
+static int is_of(const struct stat *file, const struct state *disk) {
+    if (disk->kind == OF_DEVICE) return S_ISBLK(file->st_mode) && file->st_rdev == disk->device;
+    return file->st_dev == disk->device && file->st_ino == disk->number;
 }
 
-/* Whether what is written to a standard stream may go into a file, or that can't be asked. */
-static int is_stream(const struct stat *file) {
+/* Whether what is written to a standard stream may go into a disk, or that can't be asked. */
+static int is_stream(const struct state *disk) {
     struct stat found;
     for (int number = 0; number < STREAMS; number++) {
+        int error = kernel_fstat(number, &found);
+        if (error == -EBADF || (!error && !is_of(&found, disk))) continue;
         int how = kernel_flags(number);
-        if (how < 0 ? how == -EBADF : (how & O_ACCMODE) == O_RDONLY) continue;
-        if (how < 0 || kernel_fstat(number, &found) || is_same(&found, file)) return 1;
+        if (error || how < 0 || (how & O_ACCMODE) != O_RDONLY) return 1;
     }
     return 0;
 }
 
-/* Opens a disk to read its roots, as they are. Nothing is started whose output goes into it. */
-static int open_disk(const char *disk) {
-    struct stat found;
-    int fd = kernel_open(AT_FDCWD, disk, O_RDONLY | O_CLOEXEC | O_NOCTTY | O_NONBLOCK);
-    if (fd < 0 || (!kernel_fstat(fd, &found) && !is_stream(&found))) return fd;
-    kernel_close(fd);
-    return -1;
-}
-
+/* Reads a disk's roots as they are. Nothing is started whose output goes into it. */
 static int find_key(struct keeping *it, const struct program *program, const char *disk) {
-    int fd = open_disk(disk);
-    int is_found = fd >= 0 && !key_of_loader(&it->key) && !key_of_disk(fd, &it->key);
+    int fd = kernel_open(AT_FDCWD, disk, O_RDONLY | O_CLOEXEC | O_NOCTTY | O_NONBLOCK);
+    int is_found = fd >= 0 && !key_of_loader(&it->key) && !key_of_disk(fd, &it->key) &&
+                   !is_stream(&it->key.disk);
     if (fd >= 0) kernel_close(fd);
     if (!is_found || key_of_program(program, &it->key)) {
         say_more(it, "nothing is kept by what is told of the disk, the program or the loader");

@@ -47,7 +47,8 @@ int is_settled(const struct state *it);
 
 /* ---- The file of an image (rlibreg_run_kept_file.c) */
 
-enum { MOST_PIECES = 1 << 14, MOST_OBJECTS = 1 << 12, MOST_CALLS = 1 << 20, MOST_NAMES = 1 << 22 };
+enum { MOST_PIECES = 1 << 14, MOST_STRETCHES = 1 << 10, MOST_OBJECTS = 1 << 12 };
+enum { MOST_CALLS = 1 << 20, MOST_NAMES = 1 << 22 };
 
 /* Pages in a row that lie in the file one behind the other, or are zeros and lie nowhere. */
 struct piece {
@@ -56,19 +57,26 @@ struct piece {
     uint64_t how;  /* PROT_READ and so on */
 };
 
+/* Bytes of the program's file in a row, which stand in the kept file at a place. */
+struct stretch {
+    uint64_t length, from;
+};
+
 struct counts {
-    uint64_t pieces, objects, initializers, finalizers;
+    uint64_t pieces, stretches, objects, initializers, finalizers;
     uint64_t names, program; /* bytes */
+    uint64_t others;         /* those of the program that stand in no page of the image */
 };
 
 /* What the file of each image begins with. */
 extern const char kept_form[16];
 
-/* The file begins with this: behind the form with the key, and that with the loader's build, so
- * nothing further is read of a file of another build, which may be of another form. Behind it are,
- * in this order, the pieces, the objects, the addresses of the initializers and the finalizers, the
- * objects' names, each with a byte 0 behind it, and the program's file, if it is compared. Then,
- * from the next page on, the pieces' pages. */
+/* The file begins with this. A build of the loader reads the heads of others of this form, so whoever
+ * changes it, or the key, changes the form too. Behind it are,
+ * in this order, the pieces, the stretches of the program's file, if it is compared, the objects, the
+ * addresses of the initializers and the finalizers, the objects' names, each with a byte 0 behind it,
+ * and the stretches that aren't equal to pages of the image. Then, from the next page on, the pieces'
+ * pages. */
 struct head {
     char form[16];
     struct key key;
@@ -81,13 +89,14 @@ struct head {
 struct kept_file {
     struct head *head;
     struct piece *pieces;
+    struct stretch *stretches;
     rlibreg_object *objects;
     uint64_t *calls;
     char *names;
 };
 
-/* Where the program's file begins in a kept one, and where the pages do. */
-uint64_t place_of_program(const struct counts *counts);
+/* Where the program's other bytes begin in a kept file, and where the pages do. */
+uint64_t place_of_others(const struct counts *counts);
 uint64_t place_of_pages(const struct counts *counts);
 
 /* The parts of a file in whose beginning there are so many of each. */
@@ -109,11 +118,12 @@ struct keeping {
     /* Tells it: these words, or where they are null, those of an error. Null until there is a C
      * library. */
     void (*say)(const struct keeping *it, const char *what, int error);
+    uid_t user;       /* the effective one */
     int folder;       /* -1 where it isn't one in which images are kept */
     mode_t others;    /* the rights that the folder, the disk and the program have in common */
     int may_keep;     /* whether an image that is bound now may be kept */
     int file;         /* of an image that is whole, and has no name yet; or 0 */
-    void *beginning;  /* of that file: all but pages and program; or null */
+    void *beginning;  /* of that file: all but pages and the program's bytes; or null */
     struct key key;
     char name[NAME_ROOM]; /* of an image of such a key */
 };
@@ -146,7 +156,8 @@ int read_options(struct program *it, struct keeping *keeping, int argc, char **a
 int make_file(const struct keeping *it);
 int name_file(const struct keeping *it, int fd);
 
-/* Takes away the images of older keys than one's that is to be kept. */
+/* Takes away the images of older keys than one's that is to be kept, and of other builds of the loader
+ * but one. */
 void drop_older(const struct keeping *it, const struct head *head);
 
 /* A number for what tells images that replace each other by their paths. */

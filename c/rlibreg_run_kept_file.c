@@ -6,23 +6,24 @@
 
 #include <sys/mman.h>
 
-const char kept_form[16] = "rlibreg kept\n";
+const char kept_form[16] = "rlibreg kept 2\n";
 
-uint64_t place_of_program(const struct counts *it) {
+uint64_t place_of_others(const struct counts *it) {
     return sizeof(struct head) + it->pieces * sizeof(struct piece) +
-           it->objects * sizeof(rlibreg_object) +
+           it->stretches * sizeof(struct stretch) + it->objects * sizeof(rlibreg_object) +
            (it->initializers + it->finalizers) * sizeof(uint64_t) + it->names;
 }
 
 uint64_t place_of_pages(const struct counts *it) {
-    return (place_of_program(it) + it->program + PAGE - 1) / PAGE * PAGE;
+    return (place_of_others(it) + it->others + PAGE - 1) / PAGE * PAGE;
 }
 
 struct kept_file parts_of(void *beginning) {
     struct kept_file it = { .head = beginning };
     const struct counts *counts = &it.head->counts;
     it.pieces = (struct piece *)(it.head + 1);
-    it.objects = (rlibreg_object *)(it.pieces + counts->pieces);
+    it.stretches = (struct stretch *)(it.pieces + counts->pieces);
+    it.objects = (rlibreg_object *)(it.stretches + counts->stretches);
     it.calls = (uint64_t *)(it.objects + counts->objects);
     it.names = (char *)(it.calls + counts->initializers + counts->finalizers);
     return it;
@@ -32,10 +33,11 @@ struct kept_file parts_of(void *beginning) {
 int is_head(const struct head *it, uint64_t length) {
     const struct counts *counts = &it->counts;
     return !memcmp(it->form, kept_form, sizeof it->form) && it->length == length &&
-           counts->pieces <= MOST_PIECES && counts->objects && counts->objects <= MOST_OBJECTS &&
+           counts->pieces <= MOST_PIECES && counts->stretches <= MOST_STRETCHES &&
+           counts->objects && counts->objects <= MOST_OBJECTS &&
            counts->initializers <= MOST_CALLS && counts->finalizers <= MOST_CALLS &&
            counts->names <= MOST_NAMES && counts->program <= MOST_COMPARED &&
-           place_of_pages(counts) <= length;
+           counts->others <= MOST_COMPARED && place_of_pages(counts) <= length;
 }
 
 /* Whether a piece lies behind the end of the one before, and its pages in the file. */
@@ -48,6 +50,17 @@ static int is_piece(const struct piece *it, uint64_t end, const struct head *hea
     if (!it->from) return 1;
     return it->from >= place_of_pages(&head->counts) && it->from <= head->length &&
            it->length <= head->length - it->from;
+}
+
+/* Whether the stretches lie in the file, and are the whole program together. */
+static int are_whole(const struct kept_file *it) {
+    uint64_t left = it->head->counts.program, length = it->head->length;
+    for (uint64_t i = 0; i < it->head->counts.stretches; i++) {
+        const struct stretch *one = &it->stretches[i];
+        if (one->length > left || one->length > length || one->from > length - one->length) return 0;
+        left -= one->length;
+    }
+    return !left;
 }
 
 /* Whether an address is one of code: the last piece that begins there or below has it. */
@@ -70,6 +83,7 @@ int is_whole(const struct kept_file *it) {
         if (!is_piece(&it->pieces[i], end, it->head)) return 0;
         end = it->pieces[i].address + it->pieces[i].length;
     }
+    if (!are_whole(it)) return 0;
     if (counts->names && it->names[counts->names - 1]) return 0;
     for (uint64_t i = 1; i < counts->objects; i++)
         if (it->objects[i].name >= counts->names) return 0;

@@ -94,10 +94,6 @@ int kernel_clock(struct timespec *now) {
     return (int)ASK(SYS_clock_gettime, CLOCK_REALTIME, PLACE(now));
 }
 
-uid_t kernel_user(void) {
-    return (uid_t)ASK(SYS_geteuid, 0);
-}
-
 int64_t kernel_stack_limit(void) {
     struct rlimit limit;
     int64_t error = ASK(SYS_prlimit64, 0, RLIMIT_STACK, 0, PLACE(&limit));

@@ -34,7 +34,6 @@ int64_t kernel_link(const char *path, char *to, size_t room); /* where a symboli
 int64_t kernel_map(uint64_t at, uint64_t length, int how, int kind, int fd, uint64_t from);
 int kernel_unmap(uint64_t at, uint64_t length);
 int kernel_clock(struct timespec *now);
-uid_t kernel_user(void); /* the effective one */
 int64_t kernel_stack_limit(void); /* in bytes; the greatest number where there is none */
 void kernel_take_name(const char *name);
 void kernel_take_thread(void *block);

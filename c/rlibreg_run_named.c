@@ -54,36 +54,73 @@ int name_file(const struct keeping *it, int fd) {
     return -1;
 }
 
-/* Whether a kept image has an older key than one, or replaces it by the paths. */
+/* ---- Which of them go */
+
+/* Those of two builds of the loader stay: of its own, and of that which kept one last of all others. */
+struct builds {
+    const uint8_t *own;
+    uint8_t other[BUILD];
+    struct timespec time; /* of its image; 0 where there is no other build */
+};
+
+static int is_of(const struct head *it, const uint8_t *build) {
+    return !memcmp(it->key.build, build, BUILD);
+}
+
+/* Whether a kept image has an older key than one, or is replaced by it, as the paths say. */
 static int is_older(const struct head *it, const struct head *than) {
     const struct state *disk = &it->key.disk, *own = &than->key.disk;
-    if (memcmp(it->form, kept_form, sizeof it->form)) return 0; /* it is none of ours */
-    if (memcmp(it->key.build, than->key.build, BUILD) ||
-        memcmp(it->key.boot, than->key.boot, sizeof it->key.boot) || it->place == than->place)
-        return 1;
+    if (memcmp(it->key.boot, than->key.boot, sizeof it->key.boot)) return 1;
+    if (it->place == than->place && is_of(it, than->key.build)) return 1;
     return disk->kind == own->kind && disk->device == own->device && disk->number == own->number &&
            (memcmp(disk, own, sizeof *disk) || memcmp(it->key.roots, than->key.roots, ROOTS));
 }
 
-static void drop_if_older(const struct keeping *it, const struct head *head, const char *name) {
-    struct head other;
+/* Reads what another image of the folder begins with, and when it was kept. Gives whether it is one.
+ */
+static int read_head(const struct keeping *it, const char *name, struct head *head,
+                     struct timespec *time) {
+    struct stat found;
     uint64_t length;
-    if (!is_name(name) || !strcmp(name, it->name)) return;
+    if (!is_name(name) || !strcmp(name, it->name)) return 0;
     int fd = open_kept(it, name, &length);
-    if (fd < 0) return;
-    if (pread(fd, &other, sizeof other, 0) == sizeof other && is_older(&other, head))
-        unlinkat(it->folder, name, 0);
+    if (fd < 0) return 0;
+    int is = !fstat(fd, &found) && pread(fd, head, sizeof *head, 0) == sizeof *head &&
+             !memcmp(head->form, kept_form, sizeof head->form);
     close(fd);
+    if (is) *time = found.st_mtim;
+    return is;
+}
+
+static void see_build(struct builds *it, const struct head *head, struct timespec time) {
+    if (is_of(head, it->own) || time.tv_sec < it->time.tv_sec ||
+        (time.tv_sec == it->time.tv_sec && time.tv_nsec < it->time.tv_nsec))
+        return;
+    memcpy(it->other, head->key.build, BUILD);
+    it->time = time;
+}
+
+static void drop_all_older(const struct keeping *it, const struct head *than, DIR *all) {
+    struct builds builds = { .own = than->key.build };
+    struct timespec time;
+    struct dirent *one;
+    struct head head;
+    while ((one = readdir(all)))
+        if (read_head(it, one->d_name, &head, &time)) see_build(&builds, &head, time);
+    rewinddir(all);
+    while ((one = readdir(all)))
+        if (read_head(it, one->d_name, &head, &time) &&
+            (is_older(&head, than) || !(is_of(&head, builds.own) || is_of(&head, builds.other))))
+            unlinkat(it->folder, one->d_name, 0);
 }
 
 void drop_older(const struct keeping *it, const struct head *head) {
     int fd = openat(it->folder, ".", O_RDONLY | O_DIRECTORY | O_CLOEXEC);
     DIR *all = fd < 0 ? NULL : fdopendir(fd);
-    struct dirent *one;
     if (!all) {
         if (fd >= 0) close(fd);
         return;
     }
-    while ((one = readdir(all))) drop_if_older(it, head, one->d_name);
+    drop_all_older(it, head, all);
     closedir(all);
 }

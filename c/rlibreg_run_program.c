@@ -48,8 +48,7 @@ static Elf64_Ehdr file_header(const struct program *it) {
     return header;
 }
 
-/* The program header of a number, where the file has it. */
-static int header_at(const struct program *it, size_t number, Elf64_Phdr *one) {
+int header_at(const struct program *it, size_t number, Elf64_Phdr *one) {
     Elf64_Ehdr header = file_header(it);
     if (number >= header.e_phnum || header.e_phoff > it->length) return 0;
     if (number >= (it->length - header.e_phoff) / sizeof *one) return 0;

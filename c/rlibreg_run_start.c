@@ -4,6 +4,7 @@
 #include "rlibreg_run.h"
 
 #include <alloca.h>
+#include <limits.h>
 #include <sys/mman.h>
 
 static size_t words_in(char **list) {
@@ -122,10 +123,21 @@ static void *room_for(size_t bytes) {
     return (void *)map;
 }
 
+/* The program's whole path, where it is told: in this room, where it is so short. */
+static char *path_of(const struct program *it, char *room, size_t length) {
+    size_t found = read_path(it, room, length);
+    if (found == length) {
+        room = room_for(PATH_MAX);
+        found = read_path(it, room, length = PATH_MAX);
+    }
+    return found && found < length ? room : NULL;
+}
+
 /* The stack lies below what this process has on its own stack, which goes on growing down from
  * there. */
 void start(struct program *it, char **words, char **environment, char **kernels) {
-    enum { LITTLE = 8 << 10 };
+    enum { LITTLE = 8 << 10, SHORT = 256 };
+    char few[SHORT];
     uint64_t thread[THREAD];
     const Elf64_auxv_t *vector = vector_behind(kernels);
     size_t told = room_of_list(it), pointers = words_in(words) + 1 + words_in(environment) + 1;
@@ -133,7 +145,7 @@ void start(struct program *it, char **words, char **environment, char **kernels)
     size_t room = 8 * (1 + pointers) + sizeof *vector * entries_in(vector);
     uint64_t *stack = (uint64_t *)(((uint64_t)alloca(room + 16) + 15) & ~(uint64_t)15);
     take_name(it->path);
-    tell_debugger(it, list, told);
+    tell_debugger(it, list, path_of(it, few, sizeof few));
     kernel_close(it->fd);
     fill_stack(it, stack, words, environment, vector);
     if (it->finalizers.count) at_the_end = it->finalizers;

@@ -177,10 +177,12 @@ static void try_bytes(void) {
 
 /* ---- The file */
 
-enum { PIECES = 3, OBJECTS = 2, CALLS = 3, NAMES = 6, PROGRAM = 5000, PAGES = 2 };
+enum { PIECES = 3, STRETCHES = 2, OBJECTS = 2, CALLS = 3, NAMES = 6, OTHERS = 5000, PAGES = 2 };
 
 static uint64_t sound_file(uint8_t *bytes, size_t room) {
-    struct counts counts = { PIECES, OBJECTS, 1, CALLS - 1, NAMES, PROGRAM };
+    struct counts counts = {
+        PIECES, STRETCHES, OBJECTS, 1, CALLS - 1, NAMES, PAGE + OTHERS, OTHERS
+    };
     struct head head = { .counts = counts };
     memcpy(head.form, kept_form, sizeof head.form);
     uint64_t pages = place_of_pages(&counts);
@@ -191,6 +193,8 @@ static uint64_t sound_file(uint8_t *bytes, size_t room) {
     file.pieces[0] = (struct piece){ 0x10000, PAGE, pages, PROT_READ | PROT_EXEC };
     file.pieces[1] = (struct piece){ 0x11000, PAGE, pages + PAGE, PROT_READ | PROT_WRITE };
     file.pieces[2] = (struct piece){ 0x12000, 4 * PAGE, 0, PROT_READ };
+    file.stretches[0] = (struct stretch){ PAGE, pages };
+    file.stretches[1] = (struct stretch){ OTHERS, place_of_others(&counts) };
     file.objects[0] = (rlibreg_object){ .base = 0x10000, .entry = 0x10010 };
     file.objects[1] = (rlibreg_object){ .base = 0x11000, .name = 2, .name_length = 3 };
     for (int i = 0; i < CALLS; i++) file.calls[i] = 0x10000 + (uint64_t)i * (PAGE - 1) / 2;
@@ -205,7 +209,7 @@ static int is_used(const uint8_t *bytes, uint64_t length) {
     if (length < sizeof head) return 0;
     memcpy(&head, bytes, sizeof head);
     if (!is_head(&head, length)) return 0;
-    uint64_t end = place_of_program(&head.counts);
+    uint64_t end = place_of_others(&head.counts);
     WANT(end <= length);
     uint8_t *beginning = malloc(end);
     WANT(beginning);
@@ -217,6 +221,12 @@ static int is_used(const uint8_t *bytes, uint64_t length) {
         WANT(it->address >= PAGE && it->length && it->address + it->length <= (uint64_t)1 << 47);
         WANT(!it->from || it->from + it->length <= length);
     }
+    uint64_t compared = 0;
+    for (uint64_t i = 0; is && i < head.counts.stretches; i++) {
+        WANT(file.stretches[i].from + file.stretches[i].length <= length);
+        compared += file.stretches[i].length;
+    }
+    WANT(!is || compared == head.counts.program);
     free(beginning);
     return is;
 }
@@ -242,6 +252,11 @@ static void try_changes(const uint8_t *sound, uint64_t length) {
         { AT(head->counts.objects), all / 72 }, { AT(head->counts.initializers), all / 8 },
         { AT(head->counts.finalizers), all / 8 + 1 }, { AT(head->counts.names), all },
         { AT(head->counts.program), all }, { AT(head->counts.program), MOST_COMPARED },
+        { AT(head->counts.program), PAGE }, { AT(head->counts.others), all },
+        { AT(head->counts.others), MOST_COMPARED }, { AT(head->counts.stretches), all / 16 },
+        { AT(head->counts.stretches), STRETCHES - 1 }, { AT(file.stretches[0].length), all },
+        { AT(file.stretches[0].length), PAGE - 1 }, { AT(file.stretches[1].length), OTHERS + 1 },
+        { AT(file.stretches[0].from), all }, { AT(file.stretches[0].from), length - PAGE + 1 },
         { AT(file.pieces[0].address), 0 }, { AT(file.pieces[0].address), 0x10008 },
         { AT(file.pieces[0].address), 0x11000 }, { AT(file.pieces[1].address), 0x10000 },
         { AT(file.pieces[1].address), far }, { AT(file.pieces[2].address), all - PAGE + 1 },
@@ -275,7 +290,7 @@ static void try_changes(const uint8_t *sound, uint64_t length) {
 static void try_damage(const uint8_t *sound, uint64_t length) {
     uint8_t *bytes = malloc(length);
     uint32_t random = 1;
-    size_t end = place_of_program(&((const struct head *)sound)->counts);
+    size_t end = place_of_others(&((const struct head *)sound)->counts);
     WANT(bytes);
     for (int round = 0; round < 200000; round++) {
         memcpy(bytes, sound, length);

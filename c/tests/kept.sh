@@ -210,18 +210,31 @@ done
 head -c "$(stat -c %s "$image")" /dev/zero > zeros
 cat zeros > "$image"
 replaced 'a file of zeros' "$other"
+# another_byte FILE PLACE: writes it there.
+another_byte() {
+    local byte=$(od -An -tu1 -j "$2" -N 1 "$1")
+    printf "\\$(printf %o $((byte ^ 7)))" | dd of="$1" bs=1 seek="$2" conv=notrunc 2> lost
+}
 for at in 13 16 47 48 83 88 600 1111 1112; do
-    printf '\x7' | dd of="$image" bs=1 seek=$at conv=notrunc 2> lost
+    another_byte "$image" $at
     replaced "another byte $at" "$other"
 done
 
-# Another build of the loader, which may bind otherwise, and one that doesn't tell which it is.
-by=./run-kept-other start 'the image of another build' "$other$keeps" "$changed" disk ./chain
-by=./run-kept-other start 'its own image' "$taken" "$changed" disk ./chain
-replaced 'the image of a build after it' "$other"
+# Another build of the loader, which may bind otherwise, beside the first; a third; and one that
+# doesn't tell which it is.
+by=./run-kept-other start 'another build' "$none$keeps" "$changed" disk ./chain
+for _ in 1 2; do
+    start 'the image of the first build' "$taken" "$changed" disk ./chain
+    by=./run-kept-other start 'that of the other build' "$taken" "$changed" disk ./chain
+done
+cp "$image" kept/0123456789abcdef
+another_byte kept/0123456789abcdef 16
+touch -d '1 hour ago' kept/0123456789abcdef
 ./run-kept -c kept disk ./place > lost
-./run-kept-other -c kept disk ./words > lost || true
-want 'images behind a start by another build' 1 "$(ls -A kept | wc -l)"
+want 'images behind those of three builds' '3 missing' \
+    "$(ls -A kept | wc -l) $([ -e kept/0123456789abcdef ] || echo missing)"
+start 'an image beside them' "$taken" "$changed" disk ./chain
+by=./run-kept-other start 'that of the other build still' "$taken" "$changed" disk ./chain
 rm kept/*
 untold='nothing is kept by what is told of the disk, the program or the loader'
 by=./run-kept-none nothing 'a loader that tells of no build' "$untold"
