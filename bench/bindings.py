@@ -1,14 +1,14 @@
 #!/usr/bin/env python3
 """Tries `rlibreg-tool bindings` beside the system's loader.
 
-    python3 bench/bindings.py RLIBREG RLIBREG_TOOL FOLDER [--count 200] [--seed 1]
+    python3 bench/bindings.py RLIBREG RLIBREG_TOOL FOLDER [--count 200] [--first FIRST]
 
-Random programs with up to 8 libraries by gcc: functions and data of few names, so that most are
-defined often; weak definitions and references, protected ones, symbolic objects, references that
-nothing defines, and up to 3 preloads. The load order, what each symbol is bound to, and what is
-undefined are those of ld.so (LD_TRACE_LOADED_OBJECTS, LD_DEBUG=bindings, LD_WARN), a value that of
-`readelf`. Then up to 3 libraries are removed: what each object needs, and what is missing, as a walk by
-levels over what `readelf` tells. What differs is told, and ends it with 1.
+Random programs, COUNT from number FIRST on, with up to 8 libraries by gcc: functions and data of few
+names, so that most are defined often; weak definitions and references, protected ones, symbolic objects,
+references that nothing defines, and up to 3 preloads. The load order, what each symbol is bound to, and
+what is undefined are those of ld.so (LD_TRACE_LOADED_OBJECTS, LD_DEBUG=bindings, LD_WARN), a value that
+of `readelf`. Then up to 3 libraries are removed: what each object needs, and what is missing, as a walk
+by levels over what `readelf` tells. What differs is told, and ends it with 1.
 """
 
 import argparse
@@ -207,12 +207,12 @@ def main():
     words.add_argument('tool', type=Path)
     words.add_argument('folder', type=Path)
     words.add_argument('--count', type=int, default=200)
-    words.add_argument('--seed', type=int, default=1)
+    words.add_argument('--first', type=int, default=0)
     asked = words.parse_args()
     rlibreg, tool = asked.rlibreg.resolve(), asked.tool.resolve()
     differ, counts = 0, defaultdict(int)
-    for n in range(asked.count):
-        rng = random.Random(asked.seed * 100_000 + n)
+    for n in range(asked.first, asked.first + asked.count):
+        rng = random.Random(n)
         folder = asked.folder / str(n)
         folder.mkdir(parents=True)
         names, preloads = make(rng, folder)
